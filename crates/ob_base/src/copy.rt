@@ -1,0 +1,23 @@
+//! Copies of plain data.
+ghost use Rattle.std.specs.Prelude.{◌≡◌, IfOk};
+
+use crate::{Items, Memory};
+use std::alloc::Global;
+
+/// Plain data that can be copied, though a copy takes memory.
+pub trait Duplicate {
+    /// An equal value.
+    fn copy(&self, alloc: Global) -> Result<Self, Memory>
+        ensures { IfOk result (λ copy. copy ≡ self.now) };
+}
+
+/// A list of copies, in the same order.
+pub fn copy_items<T: Duplicate + Drop>(alloc: Global, items: &Items<T>) -> Result<Items<T>, Memory>
+    ensures { IfOk result (λ copies. copies ≡ items.now) }
+{
+    let mut copies = Items::new(alloc);
+    for item in items.as_slice() {
+        copies.push(item.copy(alloc)?)?;
+    }
+    Ok(copies)
+}

@@ -1,0 +1,12 @@
+//! The answer to one line.
+#![tactic(auto)]
+
+mod answering;
+mod find;
+mod store;
+
+pub use answering::{FUEL, LONGEST_LINE, MOST_HANDLES, answer, changes_nothing, refused};
+pub use store::{Handle, Store};
+
+#[cfg(test)]
+mod tests;

@@ -1,0 +1,76 @@
+-- A text has one tree at most, and one program.
+use Rattle.std.proofs.Common.{ℕ, ◌≡◌, false, List, Option, Some, None, option_map, map, Result, Ok, Err, IsTrue, IfOk, refl, sym, ap, ◌∙◌}
+use Rattle.ob_lexer.specs.Lexis.{HasTokens}
+use Rattle.ob_lexer.specs.declared.token.Token.{Token}
+use Rattle.ob_lexer.proofs.Readings.{one_reading_lem}
+use Rattle.ob_machine.specs.declared.plain.Plain.{Plain}
+use Rattle.ob_machine.specs.Closed.{is_closed_program}
+use Rattle.ob_front.specs.Grammar.{seen, program}
+use Rattle.ob_front.specs.Parsing.{program_of}
+use Rattle.ob_front.specs.Resolved.{plain_of}
+use Rattle.ob_front.specs.Form.{is_valid, HasProgram, IsOfForm}
+use Rattle.ob_front.specs.Compiling.{IsTreeOf, of_parsing}
+use Rattle.ob_front.specs.declared.compiling.CompileError.{CompileError}
+use Rattle.ob_front.specs.declared.compiling.CompileError.TheVariants.{NotOfForm}
+use Rattle.ob_front.specs.declared.parser.ParseError.{ParseError}
+use Rattle.ob_front.specs.declared.parser.ParseError.TheVariants.{NoProgram, Memory}
+use Rattle.ob_front.specs.declared.tree.ProgramTree.{ProgramTree}
+use Rattle.ob_front.proofs.ParsingLaws.{program_again}
+use Rattle.ob_front.proofs.ResolvedLaws.{resolved_is_closed}
+
+some_injective : {A : Type 0} (a b : A) → Some a ≡ Some b → a ≡ b
+some_injective a b e = cc
+
+same_tree : (a b : Option ProgramTree) → program a ≡ program b → a ≡ b
+same_tree a b e = some_injective a b (sym (program_again a) ∙ ap program_of e ∙ program_again b)
+
+pub one_tree : (text : List ℕ) (a b : Option ProgramTree) → IsTreeOf text a → IsTreeOf text b → a ≡ b
+one_tree text a b one other =
+    let same = one_reading_lem text one.tokens other.tokens one.spelled other.spelled in
+    same_tree a b (sym one.written ∙ ap (λ tokens. map seen tokens) same ∙ other.written)
+
+-- where some tokens of the text spell no tree, it has none
+pub no_tree : (text : List ℕ) (tokens slice : List Token) → HasTokens text tokens → slice ≡ tokens → ((tree : Option ProgramTree) → ¬ (map seen slice ≡ program tree)) → (tree : Option ProgramTree) → ¬ (IsTreeOf text tree)
+no_tree text tokens slice spelled whole none tree is =
+    none tree (ap (λ ts. map seen ts) (whole ∙ one_reading_lem text tokens is.tokens spelled is.spelled) ∙ is.written)
+
+pub tree_of_program : (text : List ℕ) (is : Option Plain) (h : HasProgram text is) → IsTreeOf text h.tree
+tree_of_program text is h = record { tokens = h.tokens; spelled = h.spelled; written = h.written }
+
+pub program_of_tree : (text : List ℕ) (tree : Option ProgramTree) (is : Option Plain) → IsTreeOf text tree → IsTrue (is_valid tree) → is ≡ option_map plain_of tree → HasProgram text is
+program_of_tree text tree is of valid resolved = record { tokens = of.tokens; spelled = of.spelled; tree = tree; written = of.written; valid = valid; resolved = resolved }
+
+closed_tree : (tree : Option ProgramTree) → IsTrue (is_valid tree) → IsTrue (is_closed_program (option_map plain_of tree))
+closed_tree None valid = refl
+closed_tree (Some tree) valid = resolved_is_closed tree valid
+
+pub closed_program : (tree : Option ProgramTree) (is : Option Plain) → IsTrue (is_valid tree) → is ≡ option_map plain_of tree → IsTrue (is_closed_program is)
+closed_program tree is valid resolved = ap is_closed_program resolved ∙ closed_tree tree valid
+
+-- a text with no tree is of no form of a program
+pub no_form_without_tree : (text : List ℕ) → ((tree : Option ProgramTree) → ¬ (IsTreeOf text tree)) → ¬ (IsOfForm text)
+no_form_without_tree text none of = none of.1.tree (tree_of_program text of.0 of.1)
+
+-- nor is one whose tree doesn't meet the conditions
+pub no_form_of_invalid : (text : List ℕ) (tree : Option ProgramTree) → IsTreeOf text tree → is_valid tree ≡ false → ¬ (IsOfForm text)
+no_form_of_invalid text tree is invalid of =
+    let same = one_tree text tree of.1.tree is (tree_of_program text of.0 of.1) in
+    let valid = ap is_valid same ∙ of.1.valid in
+    cc
+
+pub one_program_lem : (text : List ℕ) (a b : Option Plain) → HasProgram text a → HasProgram text b → a ≡ b
+one_program_lem text a b one other =
+    let same = one_tree text one.tree other.tree (tree_of_program text a one) (tree_of_program text b other) in
+    one.resolved ∙ ap (option_map plain_of) same ∙ sym other.resolved
+
+pub closed_result : (tree : Option ProgramTree) (r : Result (Option Plain) CompileError) → IfOk r (λ _. IsTrue (is_valid tree)) → IfOk r (λ is. is ≡ option_map plain_of tree) → IfOk r (λ is. IsTrue (is_closed_program is))
+closed_result tree (Ok is) valid resolved = closed_program tree is valid resolved
+closed_result tree (Err e) valid resolved = tt
+
+-- only where there is no program did the parser refuse the form
+pub parser_refused : {T : Type 0} (cause : ParseError) (r : Result T CompileError) (found : CompileError) → r ≡ Err found → found ≡ of_parsing cause → r ≡ Err NotOfForm → cause ≡ NoProgram
+parser_refused NoProgram r found gave was refused = refl
+parser_refused Memory r found gave was refused = absurd (cc)
+
+pub same_refusal : {T : Type 0} (cause : CompileError) (r : Result T CompileError) (found : CompileError) → r ≡ Err found → found ≡ cause → r ≡ Err NotOfForm → cause ≡ NotOfForm
+same_refusal cause r found gave was refused = cc

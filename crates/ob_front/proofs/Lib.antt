@@ -1,0 +1,4 @@
+pub mod ParsingLoop
+pub mod ParsingLaws
+pub mod ResolvedLaws
+pub mod FormLaws

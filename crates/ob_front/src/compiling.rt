@@ -1,0 +1,105 @@
+//! From a program's text to the program.
+ghost use Rattle.std.specs.Prelude.{◌≡◌, ℕ, List, Option, option_map, false, IsTrue, IfOk, IsErrOf};
+ghost use Rattle.ob_machine.specs.Closed.{is_closed_program};
+ghost use Rattle.ob_machine.specs.declared.plain.Plain.{Plain};
+ghost use Rattle.ob_front.specs.declared.tree.ProgramTree.{ProgramTree};
+ghost use Rattle.ob_front.specs.Resolved.{plain_of};
+ghost use Rattle.ob_front.specs.Form.{is_valid, HasProgram, IsOfForm};
+ghost use Rattle.ob_front.specs.Compiling.{IsTreeOf};
+
+use crate::conditions::meets_conditions;
+use crate::parser::{ParseError, parse};
+use crate::resolver::resolve;
+use crate::tree::ProgramTree;
+use ob_base::Memory;
+use ob_lexer::{LexError, lex};
+use ob_machine::Plain;
+use std::alloc::Global;
+use thiserror::Error;
+
+/// Why a text has no program.
+#[derive(Clone, Copy, PartialEq, Eq, Debug, Error)]
+pub enum CompileError {
+    /// The text is none of a program.
+    #[error("not of the form of a program")]
+    NotOfForm,
+    #[error("out of memory")]
+    Memory,
+}
+
+impl From<Memory> for CompileError {
+    ghost use Rattle.std.specs.Prelude.{◌≡◌};
+    ghost use Rattle.ob_front.specs.declared.compiling.CompileError.TheVariants.{Memory};
+
+    ghost from_gives = { λ _ e. e ≡ Memory };
+
+    fn from(_: Memory) -> CompileError {
+        CompileError::Memory
+    }
+}
+
+impl From<LexError> for CompileError {
+    ghost use Rattle.std.specs.Prelude.{◌≡◌};
+    ghost use Rattle.ob_front.specs.Compiling.{of_lexing};
+
+    ghost from_gives = { λ cause e. e ≡ of_lexing cause };
+
+    fn from(cause: LexError) -> CompileError {
+        match cause {
+            LexError::NoTokens => CompileError::NotOfForm,
+            LexError::Memory => CompileError::Memory,
+        }
+    }
+}
+
+impl From<ParseError> for CompileError {
+    ghost use Rattle.std.specs.Prelude.{◌≡◌};
+    ghost use Rattle.ob_front.specs.Compiling.{of_parsing};
+
+    ghost from_gives = { λ cause e. e ≡ of_parsing cause };
+
+    fn from(cause: ParseError) -> CompileError {
+        match cause {
+            ParseError::NoProgram => CompileError::NotOfForm,
+            ParseError::Memory => CompileError::Memory,
+        }
+    }
+}
+
+fn tree_of(alloc: Global, text: &[u8]) -> Result<Option<ProgramTree>, CompileError>
+    ensures tree { IfOk result (λ tree. IsTreeOf text.now tree) }
+    ensures none { IsErrOf result CompileError.NotOfForm
+        → (tree : Option ProgramTree) → ¬ (IsTreeOf text.now tree) }
+{
+    let tokens = lex(alloc, text)?;
+    Ok(parse(alloc, tokens.as_slice())?)
+}
+
+fn program_of(alloc: Global, tree: Option<ProgramTree>) -> Result<Option<Plain>, CompileError>
+    ensures valid { IfOk result (λ _. IsTrue (is_valid tree)) }
+    ensures resolved { IfOk result (λ program. program ≡ option_map plain_of tree) }
+    ensures invalid { IsErrOf result CompileError.NotOfForm → is_valid tree ≡ false }
+{
+    let Some(tree) = tree else {
+        return Ok(None);
+    };
+    if !meets_conditions(&tree) {
+        return Err(CompileError::NotOfForm);
+    }
+    Ok(Some(resolve(alloc, &tree)?))
+}
+
+/// The program of a text; None is the empty program.
+pub fn compile_plain(alloc: Global, text: &[u8]) -> Result<Option<Plain>, CompileError>
+    ensures program { IfOk result (λ program. HasProgram text.now program) }
+    ensures closed { IfOk result (λ program. IsTrue (is_closed_program program)) }
+    ensures refused { IsErrOf result CompileError.NotOfForm → ¬ (IsOfForm text.now) }
+{
+    let tree = tree_of(alloc, text)?;
+    program_of(alloc, tree)
+}
+
+/// A text is one program at most.
+pub fn one_program()
+    ensures { (text : List ℕ) (a b : Option Plain) → HasProgram text a → HasProgram text b → a ≡ b }
+{}

@@ -1,0 +1,13 @@
+//! From a program's text to the program.
+#![tactic(auto)]
+
+mod compiling;
+mod conditions;
+mod parser;
+mod resolver;
+mod tree;
+
+pub use compiling::{CompileError, compile_plain, one_program};
+
+#[cfg(test)]
+mod tests;

@@ -1,0 +1,9 @@
+use Rattle.std.proofs.Common.{length, arith}
+use Rattle.ob_io.proofs.SureLemmas.{front_taken, nothing_left}
+use Rattle.ob_io.proofs.sure.SureSourceSource.read.Goals as goal
+
+pub returns-clause-bytes : goal.returns-clause-bytes
+returns-clause-bytes c =
+    let bytes = c.args.self.now.bytes.items in
+    let got = rw c.rest.ensures at c.copy_front-count.ensures in
+    (front_taken bytes _ _ _ got.front, λ none some. nothing_left bytes _ _ (length c.args.into.now) got.count none (omega (arith, some, got.len)))

@@ -1,0 +1,10 @@
+pub mod Causes
+pub mod Files
+pub mod FilesInMemory
+pub mod Lines
+pub mod LinesOfText
+pub mod Memory
+pub mod Real
+pub mod Sure
+pub mod Told
+pub mod Views

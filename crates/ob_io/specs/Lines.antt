@@ -1,0 +1,63 @@
+-- What a reader of lines holds, and what comes next.
+use Rattle.std.specs.Prelude.{ℕ, ◌≡◌, ◌+◌, ◌-◌, ◌<◌, ◌≤◌, Bool, true, false, ◌==◌, List, [], ◌∷◌, ◌++◌, length, slice_range, ⊤, Option}
+use Rattle.std.specs.List.{list_any}
+use Rattle.std.specs.Io.KnownBytes.{prepend_known}
+use Rattle.ob_io.specs.Told.{Takes, IsEnd}
+use Rattle.ob_io.specs.declared.lines.Lines.{Lines}
+use Rattle.ob_io.specs.declared.lines.Next.{Next}
+use Rattle.ob_io.specs.declared.lines.Next.TheVariants.{Line, LongLine, End, Fault, Limit}
+
+-- the bytes that were taken and not yet handed on
+abbrev pub held : Lines → List ℕ
+held lines = slice_range lines.buffer.items lines.start lines.end
+
+-- how many bytes were handed on
+abbrev pub handed : Lines → ℕ
+handed lines = lines.taken - (lines.end - lines.start)
+
+-- all that is still to come, where the source tells it
+abbrev pub pending : Lines → Option (List ℕ) → Option (List ℕ)
+pending lines left = prepend_known (held lines) left
+
+-- whether the end was reached
+abbrev pub has_ended : Lines → Bool
+has_ended lines = lines.ended
+
+-- whether a newline is among the bytes
+abbrev pub has_newline : List ℕ → Bool
+has_newline bytes = list_any (λ b. b == 10) bytes
+
+-- the bytes of a line with its newline, or of the last line, which has none
+abbrev pub IsLine : Bool → List ℕ → List ℕ → Type 0
+IsLine false line bytes = bytes ≡ line ++ 10 ∷ []
+IsLine true line bytes = (bytes ≡ line) × (0 < length line)
+
+-- what `next` answers, whether the text has ended, the line, and the bytes that were handed on
+abbrev pub IsNext : Next → Bool → List ℕ → List ℕ → Type 0
+IsNext Line ended line bytes = (has_newline line ≡ false) × (length line ≤ 65536) × IsLine ended line bytes
+IsNext LongLine ended line bytes =
+    (line ≡ []) × (long : List ℕ) × (has_newline long ≡ false) × (65536 < length long) × IsLine ended long bytes
+IsNext End ended line bytes = (line ≡ []) × (ended ≡ true) × (bytes ≡ [])
+IsNext Fault ended line bytes = (line ≡ []) × (ended ≡ false) × (has_newline bytes ≡ false)
+IsNext Limit ended line bytes = (line ≡ []) × (ended ≡ false) × (has_newline bytes ≡ false)
+
+-- some bytes were handed on, and they are these
+abbrev pub HandsOn : Lines → Lines → Option (List ℕ) → Option (List ℕ) → (List ℕ → Type 0) → Type 0
+HandsOn old new left now P = (bytes : List ℕ) × Takes (pending old left) (pending new now) bytes × (handed new ≡ handed old + length bytes) × P bytes
+
+-- a text that is said to have ended has
+abbrev pub EndIsTold : Lines → Option (List ℕ) → Type 0
+EndIsTold lines left = has_ended lines ≡ true → IsEnd (pending lines left)
+
+-- a line so far, of which part has come: it is dropped once it is too long
+abbrev pub IsSoFar : Bool → List ℕ → List ℕ → Type 0
+IsSoFar true line part = (line ≡ []) × (65536 < length part)
+IsSoFar false line part = (line ≡ part) × (length part ≤ 65536)
+
+-- at a stop nothing is held
+abbrev pub HoldsAtStop : Next → List ℕ → Type 0
+HoldsAtStop Line bytes = ⊤
+HoldsAtStop LongLine bytes = ⊤
+HoldsAtStop End bytes = bytes ≡ []
+HoldsAtStop Fault bytes = bytes ≡ []
+HoldsAtStop Limit bytes = bytes ≡ []

@@ -1,0 +1,52 @@
+-- What the forms in memory tell, and which of their calls fail.
+use Rattle.std.specs.Prelude.{◌≡◌, ℕ, ◌+◌, ◌-◌, ◌^◌, ◌==◌, min, Bool, List, length, Some}
+use Rattle.std.specs.List.{list_any}
+use Rattle.ob_io.specs.declared.memory.Plan.{Plan}
+use Rattle.ob_io.specs.declared.memory.MemorySource.{MemorySource}
+use Rattle.ob_io.specs.declared.memory.MemorySink.{MemorySink}
+use Rattle.ob_io.specs.declared.memory.MemoryFiles.{MemoryFiles}
+use Rattle.ob_io.specs.FilesInMemory.{content_of}
+use Rattle.ob_io.specs.Sure.{source_left}
+use Rattle.ob_io.specs.Views.{SourceView, SinkView, FilesView}
+
+-- a source tells all that no read took
+abbrev pub source_view : MemorySource → SourceView
+source_view s = record { left = Some (source_left s.inner); faults = s.plan.faults }
+
+-- a sink tells all that was written
+abbrev pub sink_view : MemorySink → SinkView
+sink_view s = record { written = Some s.bytes.items; faults = s.plan.faults }
+
+-- the bytes of the file of this name. For a name that is lacking nothing is told
+abbrev pub files_view : MemoryFiles → FilesView
+files_view f = record { content = content_of f.files.items; faults = f.plan.faults }
+
+-- which calls of a source are to fail, and how many there were
+abbrev pub source_plan : MemorySource → Plan
+source_plan s = s.plan
+
+-- the same of a sink
+abbrev pub sink_plan : MemorySink → Plan
+sink_plan s = s.plan
+
+-- the same of files
+abbrev pub files_plan : MemoryFiles → Plan
+files_plan f = f.plan
+
+-- how many bytes more the sink takes
+abbrev pub sink_room : MemorySink → ℕ
+sink_room s = s.room - length s.bytes.items
+
+-- whether the next call is to fail
+abbrev pub is_to_fail : Plan → Bool
+is_to_fail plan = list_any (λ n. n == plan.calls) plan.fails.items
+
+-- no call was made yet, and these are to fail
+pub record IsNewPlan (plan : Plan) (fails : List ℕ) : Type 0 where
+  pub calls : plan.calls ≡ 0
+  pub fails_same : plan.fails.items ≡ fails
+
+-- one call more was made, up to the end of 64 bits
+pub record CountsCall (old new : Plan) : Type 0 where
+  pub calls : new.calls ≡ min (old.calls + 1) (2 ^ 64 - 1)
+  pub fails_same : new.fails.items ≡ old.fails.items

@@ -1,0 +1,193 @@
+//! The lines of what a source has left.
+ghost use Rattle.std.specs.Prelude.{◌≡◌, ◌+◌, ◌-◌, ◌<◌, ◌≤◌, ◌*◌, ◌^◌, ◌==◌, ℕ, List, true, false, [], ◌∷◌, ◌++◌, length, vec_len, MatchBool, IsTrue, IfOk, OnOk, OnErr, if◌then◌else◌};
+ghost use Rattle.ob_io.specs.Causes.{HasCause, Rose};
+
+use crate::Source;
+use ob_base::{Failed, Memory};
+use std::alloc::Global;
+
+/// The most bytes of a line that is answered, without its newline.
+pub const LONGEST: usize = 65536;
+
+/// Where as many bytes were taken, no more are.
+pub const LIMIT: u64 = 1 << 40;
+
+// How many bytes are asked of the source at once.
+const PIECE: usize = 4096;
+
+/// What comes next.
+#[derive(Clone, Copy, PartialEq, Eq, Debug)]
+pub enum Next {
+    /// A line of at most `LONGEST` bytes.
+    Line,
+    /// A line of more bytes, which was read to its end.
+    LongLine,
+    /// The text has ended, and no line is left.
+    End,
+    /// The source failed. The part of a line that was read is lost.
+    Fault,
+    /// `LIMIT` bytes were taken and no newline is among those that are left of them.
+    Limit,
+}
+
+/// A reader of lines. It keeps the bytes that it took from the source and hasn't handed on.
+#[derive(Drop)]
+pub struct Lines {
+    buffer: Vec<u8>,
+    start: usize,
+    end: usize,
+    taken: u64,
+    ended: bool,
+    ghost in_order: { start ≤ end },
+    ghost within: { end ≤ vec_len buffer },
+    ghost room: { 0 < vec_len buffer },
+    ghost small: { vec_len buffer ≤ 4096 },
+    ghost few: { taken < 2 ^ 40 + 4096 },
+    ghost counted: { end - start ≤ taken },
+    ghost ended_empty: { IsTrue ended → start ≡ end },
+}
+
+impl Lines {
+    ghost use Rattle.std.specs.List.{position};
+    ghost use Rattle.ob_io.specs.Told.{Takes};
+    ghost use Rattle.ob_io.specs.Lines.{held, handed, pending, has_ended, has_newline, IsSoFar, IsNext, HandsOn, EndIsTold, HoldsAtStop};
+
+    /// A reader that has taken no byte yet.
+    pub fn new(alloc: Global) -> Result<Lines, Memory>
+        ensures held { IfOk result (λ lines. held lines ≡ []) }
+        ensures handed { IfOk result (λ lines. handed lines ≡ 0) }
+        ensures goes_on { IfOk result (λ lines. has_ended lines ≡ false) }
+    {
+        Ok(Lines {
+            buffer: vec![in alloc; 0; PIECE]?,
+            start: 0,
+            end: 0,
+            taken: 0,
+            ended: false,
+        })
+    }
+
+    // The first line of the bytes, where a newline ends it, and how many bytes it takes.
+    fn newline_in(bytes: &[u8]) -> Option<usize>
+        ensures { result ≡ position (λ b. b == 10) bytes.now }
+    {
+        bytes.iter().position(|b| *b == b'\n')
+    }
+
+    // Adds a piece of a line, and says whether the line is too long by now.
+    fn add(line: &mut Vec<u8>, is_long: bool, piece: &[u8]) -> Result<bool, Memory>
+        requires { length line.old.items ≤ 65536 }
+        ensures { IfOk result (λ long. (part : List ℕ) →
+            IsSoFar is_long line.old.items part → IsSoFar long line.new.items (part ++ piece.now)) }
+    {
+        if is_long || piece.len() > LONGEST - line.len() {
+            line.clear();
+            return Ok(true);
+        }
+        line.extend_from_slice(piece)?;
+        Ok(false)
+    }
+
+    // Hands on what is held, up to the first newline, and says whether it was there, and whether the line is
+    // too long.
+    fn hand_on(&mut self, line: &mut Vec<u8>, is_long: bool) -> Result<(bool, bool), Memory>
+        requires { length line.old.items ≤ 65536 }
+        ensures piece { IfOk result (λ got. (piece : List ℕ)
+            × (has_newline piece ≡ false)
+            × (handed self.new ≡ handed self.old + length piece + (if got.0 then 1 else 0))
+            × MatchBool got.0 (held self.old ≡ piece ++ 10 ∷ held self.new)
+            ((held self.old ≡ piece) × (held self.new ≡ []))
+            × ((part : List ℕ) → IsSoFar is_long line.old.items part →
+            IsSoFar got.1 line.new.items (part ++ piece))) }
+        ensures same { (self.new.taken ≡ self.old.taken) × (self.new.ended ≡ self.old.ended) }
+    {
+        let bytes = &self.buffer[self.start..self.end];
+        match Lines::newline_in(bytes) {
+            Some(at) => {
+                let is_long = Lines::add(line, is_long, &bytes[..at])?;
+                self.start += at + 1;
+                Ok((true, is_long))
+            }
+            None => {
+                let is_long = Lines::add(line, is_long, bytes)?;
+                self.start = self.end;
+                Ok((false, is_long))
+            }
+        }
+    }
+
+    // Takes the next bytes of the source.
+    fn refill<S: Source>(&mut self, source: &mut S) -> Result<(), Failed>
+        requires few { self.old.taken < 2 ^ 40 }
+        requires empty { held self.old ≡ [] }
+        requires goes_on { self.old.ended ≡ false }
+        ensures bytes { Takes (S.view source.old).left (pending self.new (S.view source.new).left) [] }
+        ensures count { handed self.new ≡ handed self.old }
+        ensures end { EndIsTold self.new (S.view source.new).left }
+        ensures more { OnOk result (self.new.ended ≡ false → self.old.taken < self.new.taken) }
+        ensures err { OnErr result ((self.new.ended ≡ false) × (held self.new ≡ [])) }
+        ensures empty { self.new.ended ≡ true → held self.new ≡ [] }
+        ensures cause { HasCause (S.view source.old).faults (S.view source.new).faults result }
+    {
+        self.start = 0;
+        self.end = 0;
+        let count = source.read(&mut self.buffer)?;
+        self.end = count;
+        self.taken += count as u64;
+        self.ended = count == 0;
+        Ok(())
+    }
+
+    /// The next line, without its newline. A last line that no newline ends is a line where it isn't empty.
+    /// For every other answer than `Line`, `line` is empty. After `Memory` the reader is dropped.
+    pub fn next<S: Source>(&mut self, source: &mut S, line: &mut Vec<u8>) -> Result<Next, Memory>
+        // Which line comes next: the bytes that it hands on are the next of those that are to come.
+        ensures next { IfOk result (λ next. HandsOn self.old self.new
+            (S.view source.old).left (S.view source.new).left
+            (IsNext next (has_ended self.new) line.new.items)) }
+
+        // After the end it reads no more.
+        ensures goes_on { has_ended self.old ≡ true → result ≡ Ok Next.End }
+        ensures idle { has_ended self.old ≡ true → source.new ≡ source.old }
+
+        // The end is one.
+        ensures end { EndIsTold self.old (S.view source.old).left → EndIsTold self.new (S.view source.new).left }
+        ensures stop { IfOk result (λ next. HoldsAtStop next (held self.new)) }
+
+        // What else it stops at.
+        ensures fault { result ≡ Ok Next.Fault → Rose (S.view source.old).faults (S.view source.new).faults }
+        ensures limit { result ≡ Ok Next.Limit → 2 ^ 40 ≤ handed self.new }
+        ensures bound { handed self.new < 2 ^ 40 + 4096 }
+        ensures later { (S.view source.old).faults ≤ (S.view source.new).faults }
+    {
+        line.clear();
+        if self.ended {
+            return Ok(Next::End);
+        }
+        let mut is_long = false;
+        'pieces: loop {
+            let (is_whole, long) = self.hand_on(line, is_long)?;
+            is_long = long;
+            if is_whole {
+                return Ok(if is_long { Next::LongLine } else { Next::Line });
+            }
+            if self.taken >= LIMIT {
+                line.clear();
+                return Ok(Next::Limit);
+            }
+            if self.refill(source).is_err() {
+                line.clear();
+                return Ok(Next::Fault);
+            }
+            if self.ended {
+                return Ok(if is_long {
+                    Next::LongLine
+                } else if line.is_empty() {
+                    Next::End
+                } else {
+                    Next::Line
+                });
+            }
+        }
+    }
+}

@@ -1,0 +1,256 @@
+-- How a session goes on.
+use Rattle.std.proofs.Common.{◌≡◌, Vec, ℕ, ◌+◌, ◌<◌, ◌≤◌, ◌^◌, Bool, true, false, not, cond, List, [], ◌∷◌, ◌++◌, length, take, Option, None, Some, refl, sym, ◌∙◌, ap, subst, arith, append_assoc, length-append}
+use Rattle.std.specs.declared.alloc.Global.{Global}
+use Rattle.std.proofs.lemmas.List.{append-nil, take_at}
+use Rattle.ob_io.specs.Causes.{Rose}
+use Rattle.ob_io.specs.Told.{Takes, Gives, GivesFront, IsEnd}
+use Rattle.ob_io.specs.LinesOfText.{lines_of, whole_lines, IsSplit}
+use Rattle.ob_io.specs.Lines.{has_newline, IsLine}
+use Rattle.ob_io.specs.Views.{SourceView, SinkView}
+use Rattle.ob_io.proofs.TextLemmas.{split_none, split_more, split_end, split_part}
+use Rattle.ob_io.proofs.ToldLemmas.{gives_none, gives_then, takes_none, takes_then}
+use Rattle.ob_machine.specs.declared.plain.Plain.{Plain}
+use Rattle.ob_exec.specs.Sound.{IsSound}
+use Rattle.ob_exec.specs.declared.store.Store.{Store}
+use Rattle.ob_serve.specs.Session.{Item, session, state_after, requests_in, replies, is_blank}
+use Rattle.ob_serve.specs.Replies.{answer_of, blank, items_of, replies_to}
+use Rattle.ob_serve.specs.Served.{Streams, IsAll, Finishes, BreaksOff, FailsToRead, IsTooLong, StopsIn, FailsToWrite, GivesUp, Serves}
+use Rattle.ob_serve.specs.Stops.{Reader, ReadsLine, ReadsPart, IsStop, Replied}
+use Rattle.ob_serve.specs.declared.serving.Served.{Served}
+use Rattle.ob_serve.specs.declared.serving.Served.TheVariants.{Done, ReadFault, WriteFault, Memory, Long}
+
+module _ {S : Type 0} (answer : S → List ℕ → Item S) where
+  pub session-append : (s : S) (xs ys : List (List ℕ)) → session answer s (xs ++ ys) ≡ session answer s xs ++ session answer (state_after answer s xs) ys
+  session-append s [] ys = refl
+  session-append s (x ∷ xs) ys = ap (λ (is : List (Item S)). answer s x ∷ is) (session-append (answer s x).after xs ys)
+
+  pub state_after-append : (s : S) (xs ys : List (List ℕ)) → state_after answer s (xs ++ ys) ≡ state_after answer (state_after answer s xs) ys
+  state_after-append s [] ys = refl
+  state_after-append s (x ∷ xs) ys = state_after-append (answer s x).after xs ys
+
+  pub length-session : (s : S) (xs : List (List ℕ)) → length (session answer s xs) ≡ length xs
+  length-session s [] = refl
+  length-session s (x ∷ xs) = omega (arith, length-session (answer s x).after xs)
+
+pub replies-append : {S : Type 0} (xs ys : List (Item S)) → replies (xs ++ ys) ≡ replies xs ++ replies ys
+replies-append [] ys = refl
+replies-append (x ∷ xs) ys = ap (λ (l : List ℕ). x.reply ++ l) (replies-append xs ys) ∙ sym (append_assoc x.reply (replies xs) (replies ys))
+
+cond-append : (b : Bool) (x : List ℕ) (xs ys : List (List ℕ)) → cond b (x ∷ (xs ++ ys)) (xs ++ ys) ≡ cond b (x ∷ xs) xs ++ ys
+cond-append true x xs ys = refl
+cond-append false x xs ys = refl
+
+pub requests_in-append : (xs ys : List (List ℕ)) → requests_in (xs ++ ys) ≡ requests_in xs ++ requests_in ys
+requests_in-append [] ys = refl
+requests_in-append (x ∷ xs) ys =
+    ap (λ (l : List (List ℕ)). cond (not (is_blank x)) (x ∷ l) l) (requests_in-append xs ys) ∙ cond-append (not (is_blank x)) x (requests_in xs) (requests_in ys)
+
+-- a session so far: what of the input was handed on, which lines it is, what was written, and the store
+pub record Progress {S : Type 0} (answer : S → List ℕ → Item S) (start : S) (first pending written gave : Option (List ℕ)) (ended : Bool) (handed : ℕ) (store : S) : Type 0 where
+  pub taken : List ℕ
+  pub lines : List (List ℕ)
+  pub took : Takes first pending taken
+  pub counted : handed ≡ length taken
+  pub split : IsSplit ended taken lines
+  pub ends : ended ≡ true → IsEnd pending
+  pub given : Gives written gave (replies (session answer start (requests_in lines)))
+  pub stands : store ≡ state_after answer start (requests_in lines)
+
+module _ {S : Type 0} (answer : S → List ℕ → Item S) (start : S) (first written : Option (List ℕ)) where
+  -- no line has come
+  pub begun : (pending : Option (List ℕ)) (ended : Bool) (handed : ℕ) → pending ≡ first → ended ≡ false → handed ≡ 0 → Progress answer start first pending written written ended handed start
+  begun pending ended handed same goes_on none = record {
+    taken = [];
+    lines = [];
+    took = rw same (takes_none first);
+    counted = none;
+    split = rw goes_on split_none;
+    ends = λ is. absurd (cc (is, goes_on));
+    given = gives_none written;
+    stands = refl;
+  }
+
+  items_more : (lines : List (List ℕ)) (line : List ℕ) → session answer start (requests_in (lines ++ line ∷ [])) ≡ session answer start (requests_in lines) ++ session answer (state_after answer start (requests_in lines)) (requests_in (line ∷ []))
+  items_more lines line = ap (session answer start) (requests_in-append lines (line ∷ [])) ∙ session-append answer start (requests_in lines) (requests_in (line ∷ []))
+
+  -- one line more
+  pub one_more : {pending pending' gave gave' : Option (List ℕ)} {ended ended' : Bool} {handed handed' : ℕ} {store store' : S} (line bytes reply : List ℕ)
+      → Progress answer start first pending written gave ended handed store → ended ≡ false → Takes pending pending' bytes → handed' ≡ handed + length bytes → (ended' ≡ true → IsEnd pending')
+      → has_newline line ≡ false → IsLine ended' line bytes
+      → reply ≡ replies (session answer store (requests_in (line ∷ []))) → store' ≡ state_after answer store (requests_in (line ∷ [])) → Gives gave gave' reply
+      → Progress answer start first pending' written gave' ended' handed' store'
+  one_more {ended'} {store} line bytes reply was goes_on took counted ends none is reply_is store_is gives = record {
+    taken = was.taken ++ bytes;
+    lines = was.lines ++ line ∷ [];
+    took = takes_then _ _ _ was.taken bytes was.took took;
+    counted = omega (arith, counted, was.counted, length-append was.taken bytes);
+    split = split_more ended' was.taken line bytes was.lines (rw goes_on at was.split) none is;
+    ends = ends;
+    given = rw (items_more was.lines line, replies-append (session answer start (requests_in was.lines)) (session answer (state_after answer start (requests_in was.lines)) (requests_in (line ∷ [])))) (gives_then _ _ _ _ _ was.given (rw (reply_is, was.stands) at gives));
+    stands = store_is ∙ ap (λ (s : S). state_after answer s (requests_in (line ∷ []))) was.stands ∙ sym (state_after-append answer start (requests_in was.lines) (requests_in (line ∷ []))) ∙ ap (state_after answer start) (sym (requests_in-append was.lines (line ∷ [])));
+  }
+
+-- the whole input, and its lines from those that were answered on
+pub record Reaches (first : Option (List ℕ)) (lines : List (List ℕ)) : Type 0 where
+  pub input : List ℕ
+  pub is : IsAll first input
+  pub rest : List (List ℕ)
+  pub all : lines_of input ≡ lines ++ rest
+
+pub reached : (first pending : Option (List ℕ)) (taken : List ℕ) (ended : Bool) (lines : List (List ℕ)) → Takes first pending taken → IsSplit ended taken lines → (ended ≡ true → IsEnd pending) → Reaches first lines
+reached None None taken ended lines took split ends = record { input = taken; is = tt; rest = []; all = split_end ended taken lines split ∙ sym (append-nil lines) }
+reached None (Some ys) taken ended lines took split ends = absurd took
+reached (Some xs) None taken ended lines took split ends = absurd took
+reached (Some xs) (Some ys) taken true lines took split ends = record {
+  input = xs;
+  is = refl;
+  rest = [];
+  all = ap lines_of (took ∙ ap (λ (l : List ℕ). taken ++ l) (ends refl) ∙ append-nil taken) ∙ split ∙ sym (append-nil lines);
+}
+reached (Some xs) (Some ys) taken false lines took split ends = record { input = xs; is = refl; rest = lines_of ys; all = ap lines_of took ∙ (split ys).0 }
+
+-- at the end of a told input all of it was taken
+pub input_taken : (first pending : Option (List ℕ)) (taken : List ℕ) → Takes first pending taken → IsEnd pending → IsAll first taken
+input_taken None None taken took end = tt
+input_taken None (Some ys) taken took end = absurd took
+input_taken (Some xs) None taken took end = absurd took
+input_taken (Some xs) (Some ys) taken took end = sym (took ∙ ap (λ (l : List ℕ). taken ++ l) end ∙ append-nil taken)
+
+module _ {S : Type 0} (answer : S → List ℕ → Item S) (start : S) where
+  -- the items of the first lines
+  pub front_items : (lines rest : List (List ℕ)) → take (length (requests_in lines)) (session answer start (requests_in (lines ++ rest))) ≡ session answer start (requests_in lines)
+  front_items lines rest =
+      ap (λ (ls : List (List ℕ)). take (length (requests_in lines)) (session answer start ls)) (requests_in-append lines rest)
+      ∙ ap (λ (is : List (Item S)). take (length (requests_in lines)) is) (session-append answer start (requests_in lines) (requests_in rest))
+      ∙ take_at (session answer start (requests_in lines)) _ (length (requests_in lines)) (length-session answer start (requests_in lines))
+
+-- ---- the session of a program
+
+-- what a session that has come so far keeps
+abbrev pub SoFar : Option Plain → Option (List ℕ) → Option (List ℕ) → Option (List ℕ) → Option (List ℕ) → Bool → ℕ → Store → Type 0
+SoFar program first pending written gave ended handed store = Progress (answer_of program) blank first pending written gave ended handed store
+
+-- memory runs out before a reply
+pub gives_up : (program : Option Plain) (old new : Streams) (pending : Option (List ℕ)) (ended : Bool) (handed : ℕ) (store : Store)
+    → SoFar program old.input.left pending old.output.written new.output.written ended handed store → GivesUp program old new
+gives_up program old new pending ended handed store was =
+    let at = reached old.input.left pending was.taken ended was.lines was.took was.split was.ends in
+    let k = length (requests_in was.lines) in
+    let same : replies (session (answer_of program) blank (requests_in was.lines)) ≡ replies (take k (items_of program (lines_of at.input))) =
+    sym (ap (λ (ls : List (List ℕ)). replies (take k (items_of program ls))) at.all ∙ ap replies (front_items (answer_of program) blank was.lines at.rest)) in
+    record { input = at.input; is = at.is; k = k; written = subst (λ (given : List ℕ). Gives old.output.written new.output.written given) same was.given }
+
+-- the input ends
+finished : (program : Option Plain) (old new : Streams) (pending : Option (List ℕ)) (ended : Bool) (handed : ℕ) (store : Store)
+    → SoFar program old.input.left pending old.output.written new.output.written ended handed store → Takes pending new.input.left [] → IsEnd new.input.left → Finishes program old new
+finished program old new pending ended handed store was took end = record {
+  input = was.taken;
+  is = input_taken old.input.left new.input.left was.taken (subst (Takes old.input.left new.input.left) (append-nil was.taken) (takes_then old.input.left pending new.input.left was.taken [] was.took took)) end;
+  read = end;
+  written = subst (λ (lines : List (List ℕ)). Gives old.output.written new.output.written (replies_to program lines)) (sym (split_end ended was.taken was.lines was.split)) was.given;
+}
+
+-- the input stops within a line
+cut_off : (program : Option Plain) (old new : Streams) (from now : Reader) (store : Store)
+    → SoFar program old.input.left from.pending old.output.written new.output.written from.ended from.handed store → (part : ReadsPart from now) → now.left ≡ new.input.left
+    → (so_far : BreaksOff program old new) × (length so_far.taken ≡ now.handed)
+cut_off program old new from now store was part left = (
+  record {
+    taken = was.taken ++ part.bytes;
+    took = subst (λ (l : Option (List ℕ)). Takes old.input.left l (was.taken ++ part.bytes)) left (takes_then _ _ _ was.taken part.bytes was.took part.took);
+    written = subst (λ (lines : List (List ℕ)). Gives old.output.written new.output.written (replies_to program lines)) (sym (split_part was.taken part.bytes was.lines (rw part.goes_on at was.split) part.one_line)) was.given;
+  },
+  omega (arith, was.counted, part.counted, length-append was.taken part.bytes),
+)
+
+pub rose_later : (a b c : ℕ) → a ≤ b → Rose b c → Rose a c
+rose_later a b c le rose = omega arith
+
+-- what a session that ends before a reply says
+pub serves_stop : (program : Option Plain) (served : Served) (old new : Streams) (from now : Reader) (store : Store)
+    → SoFar program old.input.left from.pending old.output.written new.output.written from.ended from.handed store → IsStop from now served → old.input.faults ≤ from.faults → now.left ≡ new.input.left → now.faults ≡ new.input.faults
+    → Serves program old new served
+serves_stop program Done old new from now store was stop later left faults = finished program old new from.pending from.ended from.handed store was (rw left at stop.0) (rw left at stop.1)
+serves_stop program ReadFault old new from now store was stop later left faults = record {
+  cause = rose_later old.input.faults from.faults new.input.faults later (rw faults at stop.0);
+  so_far = (cut_off program old new from now store was stop.1 left).0;
+}
+serves_stop program Long old new from now store was stop later left faults =
+    let cut = cut_off program old new from now store was stop.1 left in
+    record { so_far = cut.0; many = omega (arith, cut.1, stop.0) }
+serves_stop program Memory old new from now store was stop later left faults = gives_up program old new from.pending from.ended from.handed store was
+serves_stop program WriteFault old new from now store was stop later left faults = absurd stop
+
+one_reply : (program : Option Plain) (store : Store) (line : List ℕ) → is_blank line ≡ false → replies (session (answer_of program) store (requests_in (line ∷ []))) ≡ (answer_of program store line).reply
+one_reply program store line shows = rw shows (append-nil (answer_of program store line).reply)
+
+one_after : (program : Option Plain) (store : Store) (line : List ℕ) → is_blank line ≡ false → state_after (answer_of program) store (requests_in (line ∷ [])) ≡ (answer_of program store line).after
+one_after program store line shows = rw shows refl
+
+no_reply : (program : Option Plain) (store : Store) (line : List ℕ) → is_blank line ≡ true → replies (session (answer_of program) store (requests_in (line ∷ []))) ≡ []
+no_reply program store line is = rw is refl
+
+same_after : (program : Option Plain) (store : Store) (line : List ℕ) → is_blank line ≡ true → state_after (answer_of program) store (requests_in (line ∷ [])) ≡ store
+same_after program store line is = rw is refl
+
+-- a blank line goes by
+pub passes : (program : Option Plain) (from now : Reader) (first written gave : Option (List ℕ)) (store store' : Store) (is_long : Bool) (line : List ℕ)
+    → SoFar program first from.pending written gave from.ended from.handed store → (read : ReadsLine from now is_long line) → Replied program store store' read.full None → SoFar program first now.pending written gave now.ended now.handed store'
+passes program from now first written gave store store' is_long line was read replied =
+    one_more (answer_of program) blank first written read.full read.bytes [] was read.goes_on read.took read.counted read.ends read.one_line read.is
+    (sym (no_reply program store read.full replied.0)) (replied.1 ∙ sym (same_after program store read.full replied.0)) (gives_none gave)
+
+-- a line is answered
+pub goes_on : (program : Option Plain) (from now : Reader) (first written gave gave' : Option (List ℕ)) (store store' : Store) (is_long : Bool) (line : List ℕ) (reply : Vec ℕ Global)
+    → SoFar program first from.pending written gave from.ended from.handed store → (read : ReadsLine from now is_long line) → Replied program store store' read.full (Some reply) → Gives gave gave' reply.items
+    → SoFar program first now.pending written gave' now.ended now.handed store'
+goes_on program from now first written gave gave' store store' is_long line reply was read replied gives =
+    one_more (answer_of program) blank first written read.full read.bytes reply.items was read.goes_on read.took read.counted read.ends read.one_line read.is
+    (replied.1 ∙ sym (one_reply program store read.full replied.0)) (replied.2 ∙ sym (one_after program store read.full replied.0)) gives
+
+-- the reply to the line after these is written in part
+stops_in : (program : Option Plain) (lines rest all : List (List ℕ)) (full reply front back : List ℕ) → all ≡ (lines ++ full ∷ []) ++ rest → is_blank full ≡ false
+    → reply ≡ replies (session (answer_of program) (state_after (answer_of program) blank (requests_in lines)) (requests_in (full ∷ []))) → reply ≡ front ++ back
+    → StopsIn (items_of program all) (replies (session (answer_of program) blank (requests_in lines)) ++ front)
+stops_in program lines rest all full reply front back is shows replied split =
+    let answer = answer_of program in
+    let k = length (requests_in lines) in
+    let so_far = session answer blank (requests_in lines) in
+    let more = session answer (state_after answer blank (requests_in lines)) (requests_in (full ∷ [])) in
+    let one : requests_in (full ∷ []) ≡ full ∷ [] = rw shows refl in
+    let many : length (requests_in (lines ++ full ∷ [])) ≡ k + 1 = omega (arith, ap length (requests_in-append lines (full ∷ []) ∙ ap (λ (ls : List (List ℕ)). requests_in lines ++ ls) one), length-append (requests_in lines) (full ∷ [])) in
+    let before : take k (items_of program all) ≡ so_far = ap (λ (ls : List (List ℕ)). take k (items_of program ls)) (is ∙ append_assoc lines (full ∷ []) rest) ∙ front_items answer blank lines ((full ∷ []) ++ rest) in
+    let after : take (k + 1) (items_of program all) ≡ so_far ++ more = ap (λ (n : ℕ). take n (items_of program all)) (sym many) ∙ ap (λ (ls : List (List ℕ)). take (length (requests_in (lines ++ full ∷ []))) (items_of program ls)) is ∙ front_items answer blank (lines ++ full ∷ []) rest ∙ items_more answer blank None None lines full in
+    record {
+      k = k;
+      front = front;
+      rest = back;
+      some = omega (arith, many, length-session answer blank (requests_in all), ap (λ (ls : List (List ℕ)). length (requests_in ls)) is, ap length (requests_in-append (lines ++ full ∷ []) rest), length-append (requests_in (lines ++ full ∷ [])) (requests_in rest));
+      given_is = ap (λ (is : List (Item Store)). replies is ++ front) (sym before);
+      next = ap replies after ∙ replies-append so_far more ∙ ap (λ (l : List ℕ). replies so_far ++ l) (sym replied ∙ split) ∙ ap (λ (is : List (Item Store)). replies is ++ (front ++ back)) (sym before);
+    }
+
+-- a reply was written in part
+pub write_stops : (program : Option Plain) (old new : Streams) (from now : Reader) (gave : SinkView) (store store' : Store) (is_long : Bool) (line : List ℕ) (reply : Vec ℕ Global)
+    → SoFar program old.input.left from.pending old.output.written gave.written from.ended from.handed store → (read : ReadsLine from now is_long line) → Replied program store store' read.full (Some reply) → GivesFront gave.written new.output.written reply.items
+    → old.output.faults ≤ gave.faults → Rose gave.faults new.output.faults
+    → FailsToWrite program old new
+write_stops program old new from now gave store store' is_long line reply was read replied front later rose =
+    let lines = was.lines ++ read.full ∷ [] in
+    let at = reached old.input.left now.pending (was.taken ++ read.bytes) now.ended lines (takes_then old.input.left from.pending now.pending was.taken read.bytes was.took read.took) (split_more now.ended was.taken read.full read.bytes was.lines (rw read.goes_on at was.split) read.one_line read.is) read.ends in
+    let so_far = replies (session (answer_of program) blank (requests_in was.lines)) in
+    let whole : reply.items ≡ replies (session (answer_of program) store (requests_in (read.full ∷ []))) = replied.1 ∙ sym (one_reply program store read.full replied.0) in
+    record {
+      cause = rose_later old.output.faults gave.faults new.output.faults later rose;
+      input = at.input;
+      is = at.is;
+      given = so_far ++ front.0;
+      written = gives_then old.output.written gave.written new.output.written so_far front.0 was.given front.3;
+      stops = stops_in program was.lines at.rest (lines_of at.input) read.full reply.items front.0 front.1 at.all replied.0 (rw was.stands at whole) front.2;
+    }
+
+pub blank_is : (store : Store) → store.objects ≡ [] → store.handles ≡ [] → store ≡ blank
+blank_is store p q = let same : store ≡ record { objects = store.objects; handles = store.handles } = refl in same ∙ rw (p, q) refl
+
+pub blank_sound : (program : Option Plain) → IsSound program blank
+blank_sound program = record { wide = refl; counted = refl; few = omega arith }

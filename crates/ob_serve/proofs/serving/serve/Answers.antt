@@ -1,0 +1,64 @@
+use Rattle.std.proofs.Common.{false, refl, arith}
+use Rattle.ob_io.proofs.LinesLemmas.{nothing_held}
+use Rattle.ob_serve.proofs.Progress.{begun, blank_is, blank_sound, gives_up, serves_stop, passes, goes_on, write_stops}
+use Rattle.ob_serve.specs.Replies.{answer_of, blank}
+use Rattle.ob_serve.specs.Stops.{reader}
+use Rattle.ob_serve.proofs.serving.serve.Goals as goal
+
+pub returns-in_default-clause-serves : goal.returns-in_default-clause-serves
+returns-in_default-clause-serves g c =
+    let left = (g.S.Source.view c.args.input.now).left in
+    gives_up _ _ _ left false 0 blank (begun (answer_of c.args.program.now) blank left (g.K.Sink.view c.args.output.now).written left false 0 refl refl refl)
+
+pub lines-init : goal.lines-init
+lines-init g c =
+    let left = (g.S.Source.view c.args.input.now).left in
+    let written = (g.K.Sink.view c.args.output.now).written in
+    let is = blank_is c.blank-store.result c.blank-store.ensures.objects c.blank-store.ensures.handles in
+    record {
+      so_far = rw is (begun (answer_of c.args.program.now) blank left written _ _ _ (nothing_held left _ c.in-Ok.ensures.held) c.in-Ok.ensures.goes_on c.in-Ok.ensures.handed);
+      sound = rw is (blank_sound c.args.program.now);
+      later_read = omega arith;
+      later_write = omega arith;
+    }
+
+pub returns-in-Err-clause-serves : goal.returns-in-Err-clause-serves
+returns-in-Err-clause-serves g c =
+    serves_stop c.args.program.now c.in-Err.served _ _ (reader c.lines.lines (g.S.Source.view c.lines.input)) (reader c.next_line.new.lines (g.S.Source.view c.next_line.new.input)) c.lines.store
+    c.lines.invariant.so_far c.in-Err.ensures.err c.lines.invariant.later_read refl refl
+
+pub lines-preserved-in-Ok-None : goal.lines-preserved-in-Ok-None
+lines-preserved-in-Ok-None g c =
+    let read = c.in-Ok-next_line.ensures.ok in
+    let replied = rw (c.in-Ok-None.field-0-is, c.deref.ensures.value) at c.in-Ok-None.ensures.replied in
+    record {
+      so_far = passes c.args.program.now (reader c.lines.lines (g.S.Source.view c.lines.input)) (reader c.next_line.new.lines (g.S.Source.view c.next_line.new.input)) _ _ _ c.lines.store c.reply_to.new.store _ _
+          c.lines.invariant.so_far read (replied read.full read.is_full);
+      sound = c.reply_to.ensures.sound;
+      later_read = omega (arith, c.lines.invariant.later_read, c.next_line.ensures.later);
+      later_write = c.lines.invariant.later_write;
+    }
+
+pub returns-in-Err-reply_to-clause-serves : goal.returns-in-Err-reply_to-clause-serves
+returns-in-Err-reply_to-clause-serves g c = gives_up _ _ _ _ _ _ c.lines.store c.lines.invariant.so_far
+
+pub returns-in-Err-write_all-clause-serves : goal.returns-in-Err-write_all-clause-serves
+returns-in-Err-write_all-clause-serves g c =
+    let read = c.in-Ok-next_line.ensures.ok in
+    let replied = rw (c.in-Ok-Some.field-0-is, c.deref.ensures.value) at c.in-Ok-Some.ensures.replied in
+    let front = rw c.deref-in-lines.ensures.value at c.in-Err-write_all.ensures.err in
+    write_stops c.args.program.now _ _ (reader c.lines.lines (g.S.Source.view c.lines.input)) (reader c.next_line.new.lines (g.S.Source.view c.next_line.new.input)) (g.K.Sink.view c.lines.output) c.lines.store c.reply_to.new.store _ _ c.in-Ok-Some.reply
+    c.lines.invariant.so_far read (replied read.full read.is_full) front c.lines.invariant.later_write c.in-Err-write_all.ensures.cause.failed
+
+pub lines-preserved : goal.lines-preserved
+lines-preserved g c =
+    let read = c.in-Ok-next_line.ensures.ok in
+    let replied = rw (c.in-Ok-Some.field-0-is, c.deref.ensures.value) at c.in-Ok-Some.ensures.replied in
+    let gives = rw c.deref-in-lines.ensures.value at c.in-Ok-write_all.ensures.ok in
+    record {
+      so_far = goes_on c.args.program.now (reader c.lines.lines (g.S.Source.view c.lines.input)) (reader c.next_line.new.lines (g.S.Source.view c.next_line.new.input)) _ _ _ _ c.lines.store c.reply_to.new.store _ _ c.in-Ok-Some.reply
+          c.lines.invariant.so_far read (replied read.full read.is_full) gives;
+      sound = c.reply_to.ensures.sound;
+      later_read = omega (arith, c.lines.invariant.later_read, c.next_line.ensures.later);
+      later_write = omega (arith, c.lines.invariant.later_write, c.in-Ok-write_all.ensures.cause.later);
+    }

@@ -1,0 +1,4 @@
+pub mod Session
+pub mod Replies
+pub mod Served
+pub mod Stops

@@ -1,0 +1,78 @@
+-- What each end of a session says of the two streams.
+use Rattle.std.specs.Prelude.{ℕ, ◌≡◌, ◌+◌, ◌<◌, ◌≤◌, ◌^◌, ⊤, List, ◌++◌, length, take, Option, None, Some}
+use Rattle.ob_io.specs.Causes.{Rose}
+use Rattle.ob_io.specs.Told.{Takes, Gives, IsEnd}
+use Rattle.ob_io.specs.LinesOfText.{lines_of, whole_lines}
+use Rattle.ob_io.specs.Views.{SourceView, SinkView}
+use Rattle.ob_machine.specs.declared.plain.Plain.{Plain}
+use Rattle.ob_exec.specs.declared.store.Store.{Store}
+use Rattle.ob_serve.specs.Session.{Item, replies}
+use Rattle.ob_serve.specs.Replies.{items_of, replies_to}
+use Rattle.ob_serve.specs.declared.serving.Served.{Served}
+use Rattle.ob_serve.specs.declared.serving.Served.TheVariants.{Done, ReadFault, WriteFault, Memory, Long}
+
+-- the two streams at a moment
+pub record Streams : Type 0 where
+  pub input : SourceView
+  pub output : SinkView
+
+-- the bytes are all that is told, where it is told
+abbrev pub IsAll : Option (List ℕ) → List ℕ → Type 0
+IsAll None bytes = ⊤
+IsAll (Some all) bytes = bytes ≡ all
+
+-- The input was read to its end, and the replies to its lines were written.
+pub record Finishes (program : Option Plain) (old new : Streams) : Type 0 where
+  pub input : List ℕ
+  pub is : IsAll old.input.left input
+  pub read : IsEnd new.input.left
+  pub written : Gives old.output.written new.output.written (replies_to program (lines_of input))
+
+-- Some bytes were taken, and the replies to the lines that they hold whole were written.
+pub record BreaksOff (program : Option Plain) (old new : Streams) : Type 0 where
+  pub taken : List ℕ
+  pub took : Takes old.input.left new.input.left taken
+  pub written : Gives old.output.written new.output.written (replies_to program (whole_lines taken))
+
+-- A read failed.
+pub record FailsToRead (program : Option Plain) (old new : Streams) : Type 0 where
+  pub cause : Rose old.input.faults new.input.faults
+  pub so_far : BreaksOff program old new
+
+-- Too many bytes were taken.
+pub record IsTooLong (program : Option Plain) (old new : Streams) : Type 0 where
+  pub so_far : BreaksOff program old new
+  pub many : 2 ^ 40 ≤ length so_far.taken
+
+-- the replies of k items, and a front of the next
+pub record StopsIn (items : List (Item Store)) (given : List ℕ) : Type 0 where
+  pub k : ℕ
+  pub front : List ℕ
+  pub rest : List ℕ
+  pub some : k < length items
+  pub given_is : given ≡ replies (take k items) ++ front
+  pub next : replies (take (k + 1) items) ≡ replies (take k items) ++ (front ++ rest)
+
+-- A write failed, within a reply.
+pub record FailsToWrite (program : Option Plain) (old new : Streams) : Type 0 where
+  pub cause : Rose old.output.faults new.output.faults
+  pub input : List ℕ
+  pub is : IsAll old.input.left input
+  pub given : List ℕ
+  pub written : Gives old.output.written new.output.written given
+  pub stops : StopsIn (items_of program (lines_of input)) given
+
+-- Memory ran out before a reply: those of k items were written.
+pub record GivesUp (program : Option Plain) (old new : Streams) : Type 0 where
+  pub input : List ℕ
+  pub is : IsAll old.input.left input
+  pub k : ℕ
+  pub written : Gives old.output.written new.output.written (replies (take k (items_of program (lines_of input))))
+
+-- each end says its own
+abbrev pub Serves : Option Plain → Streams → Streams → Served → Type 0
+Serves program old new Done = Finishes program old new
+Serves program old new ReadFault = FailsToRead program old new
+Serves program old new WriteFault = FailsToWrite program old new
+Serves program old new Memory = GivesUp program old new
+Serves program old new Long = IsTooLong program old new

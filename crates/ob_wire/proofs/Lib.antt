@@ -1,0 +1,3 @@
+pub mod ReplyTexts
+pub mod ReadingLemmas
+pub mod RequestLaws

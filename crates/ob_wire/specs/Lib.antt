@@ -1,0 +1,4 @@
+pub mod Requests
+pub mod Reading
+pub mod Replies
+pub mod Errors

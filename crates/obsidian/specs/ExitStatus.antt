@@ -1,0 +1,15 @@
+-- The status of the process, by how a run ended.
+use Rattle.std.specs.Prelude.{ℕ}
+use Rattle.obsidian.specs.declared.exit.Exit.{Exit}
+use Rattle.obsidian.specs.declared.exit.Exit.TheVariants.{Done, Refused, Usage, ReadFault, WriteFault, FileFault, Memory, Long}
+
+-- the number of each status
+abbrev pub status_of : Exit → ℕ
+status_of Done = 0
+status_of Refused = 1
+status_of Usage = 2
+status_of ReadFault = 3
+status_of WriteFault = 4
+status_of Memory = 7
+status_of FileFault = 8
+status_of Long = 9

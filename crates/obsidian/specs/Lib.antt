@@ -1,0 +1,5 @@
+pub mod Commands
+pub mod Outside
+pub mod Statuses
+pub mod ExitStatus
+pub mod TextRead

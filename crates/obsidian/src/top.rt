@@ -1,0 +1,161 @@
+//! The top call.
+ghost use Rattle.std.specs.Prelude.{◌≡◌, ◌≤◌, ◌⊎◌, ◌↔◌, None, Some, List, ℕ, map, length, vec_len, string_bytes, option_map, IfOk, IfErr, IsErrOf, IsTrue, OnErr};
+ghost use Rattle.std.specs.Option.{option_copied};
+ghost use Rattle.ob_machine.specs.Closed.{is_closed_program};
+ghost use Rattle.ob_front.specs.Form.{HasProgram, IsOfForm};
+ghost use Rattle.obsidian.specs.Commands.{Command, serve, command_of};
+ghost use Rattle.obsidian.specs.Outside.{outside};
+ghost use Rattle.obsidian.specs.Statuses.{refusal_line, Meets, IsDone, IsRefused, IsUsage, IsReadFault, IsWriteFault, IsFileFault, IsMemory, IsLong, IsSmooth};
+ghost use Rattle.obsidian.specs.TextRead.{IsReadOf, Treats};
+ghost use Rattle.ob_io.specs.Causes.{Rose};
+ghost use Rattle.ob_io.specs.Told.{Gives, GivesFront};
+
+use crate::exit::Exit;
+use ob_front::{CompileError, compile_plain};
+use ob_io::{FileError, Files, Sink, Source, write_all};
+use ob_machine::Plain;
+use ob_serve::{Served, serve};
+use std::alloc::Global;
+
+/// The most bytes of a program's file that are read: one more than a program may have.
+const MOST_READ: usize = 1_048_577;
+
+/// The line that is written for a text that isn't of the form of a program.
+const REFUSAL: &str = "1:1: 201 Expected\n";
+
+// The file of the program, where the words are `serve P`.
+fn program_file(words: &[String]) -> Option<&str>
+    ensures { option_map (λ name. serve name.now) result ≡ command_of (map string_bytes words.now) }
+{
+    match words {
+        [word, name] if word.as_str() == "serve" => Some(name.as_str()),
+        _ => None,
+    }
+}
+
+// The text of a program's file, as far as it is read.
+fn read_text<F: Files>(alloc: Global, files: &mut F, name: &str) -> Result<Vec<u8>, FileError>
+    ensures text { IfOk result (λ text. IsReadOf ((F.view files.old).content name.now) text.items) }
+    ensures cause { IsErrOf result FileError.Failed → Rose (F.view files.old).faults (F.view files.new).faults }
+    ensures later { (F.view files.old).faults ≤ (F.view files.new).faults }
+{
+    let mut text = Vec::new(alloc);
+    files.read(name, MOST_READ, &mut text)?;
+    Ok(text)
+}
+
+// Writes the line of a text that isn't of the form of a program.
+fn refuse<K: Sink>(output: &mut K) -> Exit
+    ensures line { result ≡ Exit.Refused → Gives (K.view output.old).written (K.view output.new).written refusal_line }
+    ensures front { result ≡ Exit.WriteFault → GivesFront (K.view output.old).written (K.view output.new).written refusal_line }
+    ensures cause { result ≡ Exit.WriteFault → Rose (K.view output.old).faults (K.view output.new).faults }
+    ensures one { (result ≡ Exit.Refused) ⊎ (result ≡ Exit.WriteFault) }
+    ensures later { (K.view output.old).faults ≤ (K.view output.new).faults }
+{
+    match write_all(output, REFUSAL.as_bytes()) {
+        Ok(()) => Exit::Refused,
+        Err(_) => Exit::WriteFault,
+    }
+}
+
+// Serves the program of a text, or refuses the text.
+fn treat<S: Source, K: Sink>(alloc: Global, text: &[u8], input: &mut S, output: &mut K) -> Exit
+    ensures treats { Treats text.now
+        (record { input = S.view input.old; output = K.view output.old })
+        (record { input = S.view input.new; output = K.view output.new })
+        result }
+    ensures later_read { (S.view input.old).faults ≤ (S.view input.new).faults }
+    ensures later_write { (K.view output.old).faults ≤ (K.view output.new).faults }
+{
+    let program = match compile_plain(alloc, text) {
+        Ok(program) => program,
+        Err(CompileError::NotOfForm) => return refuse(output),
+        Err(CompileError::Memory) => return Exit::Memory,
+    };
+    match serve(alloc, &program, input, output) {
+        Served::Done => Exit::Done,
+        Served::ReadFault => Exit::ReadFault,
+        Served::WriteFault => Exit::WriteFault,
+        Served::Memory => Exit::Memory,
+        Served::Long => Exit::Long,
+    }
+}
+
+fn run_words<F: Files, S: Source, K: Sink>(
+    alloc: Global,
+    words: &[String],
+    files: &mut F,
+    input: &mut S,
+    output: &mut K,
+) -> Exit
+    ensures meets { Meets (map string_bytes words.now)
+        (outside (F.view files.old) (S.view input.old) (K.view output.old))
+        (outside (F.view files.new) (S.view input.new) (K.view output.new))
+        result }
+    ensures later_files { (F.view files.old).faults ≤ (F.view files.new).faults }
+    ensures later_read { (S.view input.old).faults ≤ (S.view input.new).faults }
+    ensures later_write { (K.view output.old).faults ≤ (K.view output.new).faults }
+{
+    let Some(name) = program_file(words) else {
+        return Exit::Usage;
+    };
+    match read_text(alloc, files, name) {
+        Ok(text) => treat(alloc, &text, input, output),
+        Err(FileError::Failed) => Exit::FileFault,
+        Err(FileError::Memory) => Exit::Memory,
+    }
+}
+
+/// Does what the words say, and answers how it ended. The words leave out the program's own name. Each status says
+/// what was read and written, where the objects handed in tell their bytes.
+pub fn run<F: Files, S: Source, K: Sink>(
+    alloc: Global,
+    words: &[String],
+    files: &mut F,
+    input: &mut S,
+    output: &mut K,
+) -> Exit
+    // What each status says.
+    ensures done { result ≡ Exit.Done → IsDone (map string_bytes words.now)
+        (outside (F.view files.old) (S.view input.old) (K.view output.old))
+        (outside (F.view files.new) (S.view input.new) (K.view output.new)) }
+    ensures refused { result ≡ Exit.Refused → IsRefused (map string_bytes words.now)
+        (outside (F.view files.old) (S.view input.old) (K.view output.old))
+        (outside (F.view files.new) (S.view input.new) (K.view output.new)) }
+    ensures usage { result ≡ Exit.Usage → IsUsage (map string_bytes words.now)
+        (outside (F.view files.old) (S.view input.old) (K.view output.old))
+        (outside (F.view files.new) (S.view input.new) (K.view output.new)) }
+    ensures read_fault { result ≡ Exit.ReadFault → IsReadFault (map string_bytes words.now)
+        (outside (F.view files.old) (S.view input.old) (K.view output.old))
+        (outside (F.view files.new) (S.view input.new) (K.view output.new)) }
+    ensures write_fault { result ≡ Exit.WriteFault → IsWriteFault (map string_bytes words.now)
+        (outside (F.view files.old) (S.view input.old) (K.view output.old))
+        (outside (F.view files.new) (S.view input.new) (K.view output.new)) }
+    ensures file_fault { result ≡ Exit.FileFault → IsFileFault (map string_bytes words.now)
+        (outside (F.view files.old) (S.view input.old) (K.view output.old))
+        (outside (F.view files.new) (S.view input.new) (K.view output.new)) }
+    ensures memory { result ≡ Exit.Memory → IsMemory (map string_bytes words.now)
+        (outside (F.view files.old) (S.view input.old) (K.view output.old))
+        (outside (F.view files.new) (S.view input.new) (K.view output.new)) }
+    ensures long { result ≡ Exit.Long → IsLong (map string_bytes words.now)
+        (outside (F.view files.old) (S.view input.old) (K.view output.old))
+        (outside (F.view files.new) (S.view input.new) (K.view output.new)) }
+
+    // Nothing is refused without reason.
+    ensures unknown { command_of (map string_bytes words.now) ≡ None → result ≡ Exit.Usage }
+    ensures served { (smooth : IsSmooth (map string_bytes words.now)
+        (outside (F.view files.old) (S.view input.old) (K.view output.old))
+        (outside (F.view files.new) (S.view input.new) (K.view output.new)))
+        → IsOfForm smooth.text → (result ≡ Exit.Done) ⊎ (result ≡ Exit.Memory) }
+    ensures faulty { (smooth : IsSmooth (map string_bytes words.now)
+        (outside (F.view files.old) (S.view input.old) (K.view output.old))
+        (outside (F.view files.new) (S.view input.new) (K.view output.new)))
+        → ¬ (IsOfForm smooth.text) → (result ≡ Exit.Refused) ⊎ (result ≡ Exit.Memory) }
+
+    // No count of faults falls.
+    ensures later_files { (F.view files.old).faults ≤ (F.view files.new).faults }
+    ensures later_read { (S.view input.old).faults ≤ (S.view input.new).faults }
+    ensures later_write { (K.view output.old).faults ≤ (K.view output.new).faults }
+{
+    run_words(alloc, words, files, input, output)
+}
