@@ -8,6 +8,7 @@ use Rattle.std.proofs.lemmas.Bool.Decides.{nat_tests}
 use Rattle.std.proofs.lemmas.List.{length-set}
 use Rattle.std.proofs.lemmas.List.Folds.{list_all-append}
 use Rattle.ob_base.specs.Optional.{◌>>=◌, where_true}
+use Rattle.ob_base.proofs.OptionalLemmas.{bind_some, where_some, both_true, by_cases}
 use Rattle.ob_base.specs.declared.cause.Memory.{Memory}
 use Rattle.ob_base.specs.declared.id.ObjectId.{ObjectId}
 use Rattle.ob_machine.specs.Closed.{names_exist, is_closed_program}
@@ -26,27 +27,11 @@ use Rattle.ob_exec.specs.Answers.{Steps, fuel, is_new, starts, made, Target, tar
 use Rattle.ob_exec.specs.Sound.{IsSound, width}
 use Rattle.ob_exec.specs.declared.store.Store.{Store}
 
-bind_some : {A B : Type 0} (o : Option A) (f : A → Option B) (y : B) → (o >>= f) ≡ Some y → (x : A) × (o ≡ Some x) × (f x ≡ Some y)
-bind_some None f y e = absurd cc
-bind_some (Some x) f y e = (x, refl, e)
-
-where_some : {A : Type 0} (b : Bool) (x y : A) → where_true b x ≡ Some y → (b ≡ true) × (x ≡ y)
-where_some true x y e = (refl, cc)
-where_some false x y e = absurd cc
-
-both : (a b : Bool) → (a && b) ≡ true → (a ≡ true) × (b ≡ true)
-both true b e = (refl, e)
-both false b e = absurd cc
-
-by_cases : (b : Bool) → (b ≡ true) ⊎ (b ≡ false)
-by_cases true = inl refl
-by_cases false = inr refl
-
 -- what is found passes each test that all pass
 find_passes : {X : Type 0} (p q : X → Bool) (xs : List X) (x : X) → list_all q xs ≡ true → find p xs ≡ Some x → q x ≡ true
 find_passes p q [] x all is = absurd cc
 find_passes p q (y ∷ xs) x all is =
-    let h = both (q y) (list_all q xs) all in
+    let h = both_true (q y) (list_all q xs) all in
     elim (by_cases (p y)) [
       | inl found ↦ let same = rw found at is in let e : y ≡ x = cc in rw (← e) h.0
       | inr other ↦ find_passes p q xs x h.1 (rw other at is)
@@ -54,13 +39,13 @@ find_passes p q (y ∷ xs) x all is =
 
 at_passes : {X : Type 0} (q : X → Bool) (xs : List X) (i : ℕ) (x : X) → list_all q xs ≡ true → slice_get xs i ≡ Some x → q x ≡ true
 at_passes q [] i x all is = absurd cc
-at_passes q (y ∷ xs) zero x all is = let h = both (q y) (list_all q xs) all in let e : y ≡ x = cc in rw (← e) h.0
-at_passes q (y ∷ xs) (suc i) x all is = at_passes q xs i x (both (q y) (list_all q xs) all).1 is
+at_passes q (y ∷ xs) zero x all is = let h = both_true (q y) (list_all q xs) all in let e : y ≡ x = cc in rw (← e) h.0
+at_passes q (y ∷ xs) (suc i) x all is = at_passes q xs i x (both_true (q y) (list_all q xs) all).1 is
 
 set_passes : {X : Type 0} (q : X → Bool) (xs : List X) (i : ℕ) (x : X) → list_all q xs ≡ true → q x ≡ true → list_all q (slice_set xs i x) ≡ true
 set_passes q [] i x all is = refl
-set_passes q (y ∷ xs) zero x all is = let h = both (q y) (list_all q xs) all in rw (is, h.1) refl
-set_passes q (y ∷ xs) (suc i) x all is = let h = both (q y) (list_all q xs) all in rw (h.0, set_passes q xs i x h.1 is) refl
+set_passes q (y ∷ xs) zero x all is = let h = both_true (q y) (list_all q xs) all in rw (is, h.1) refl
+set_passes q (y ∷ xs) (suc i) x all is = let h = both_true (q y) (list_all q xs) all in rw (h.0, set_passes q xs i x h.1 is) refl
 
 exist_at : (a b m n : ℕ) (t : PlainTx) → a ≡ b → m ≡ n → IsTrue (names_exist b n t) → IsTrue (names_exist a m t)
 exist_at a b m n t p q h = rw (p, q) h
@@ -75,7 +60,7 @@ target_closed (Some program) store who on tx args target sound closed is =
     let d = bind_some (transaction_of program.transactions tx) (λ t. where_true (length args == length t.params) (record { object = a.0; fields = b.0; tx = t })) target b.2 in
     let made : Target = record { object = a.0; fields = b.0; tx = d.0 } in
     let w = where_some (length args == length d.0.params) made target d.2 in
-    let open_ = both (length program.start == length program.fields) (list_all (λ t. names_exist (length program.fields) (length t.params) t) program.transactions) closed in
+    let open_ = both_true (length program.start == length program.fields) (list_all (λ t. names_exist (length program.fields) (length t.params) t) program.transactions) closed in
     let wide : length b.0 ≡ length program.fields = eqb-true _ _ (at_passes (λ fields. length fields == length program.fields) store.objects a.0.0 b.0 sound.wide b.1) in
     let many : length args ≡ length d.0.params = eqb-true _ _ w.0 in
     let exist : IsTrue (names_exist (length program.fields) (length d.0.params) d.0) = find_passes (λ t. bytes_eq tx t.name) (λ t. names_exist (length program.fields) (length t.params) t) program.transactions d.0 open_.1 d.1 in
@@ -136,8 +121,8 @@ new_sound : (program : Option Plain) (store : Store) (id : ℤ) (who contract in
 new_sound program store id who contract into false sound closed is = rw is sound
 new_sound None store id who contract into true sound closed is = absurd cc
 new_sound (Some program) store id who contract into true sound closed is =
-    let open_ = both (length program.start == length program.fields) (list_all (λ t. names_exist (length program.fields) (length t.params) t) program.transactions) closed in
-    let room = both (bytes_eq contract program.name && is_none (handled store.handles who into)) (nat_lt (length store.handles) 65536) is in
+    let open_ = both_true (length program.start == length program.fields) (list_all (λ t. names_exist (length program.fields) (length t.params) t) program.transactions) closed in
+    let room = both_true (bytes_eq contract program.name && is_none (handled store.handles who into)) (nat_lt (length store.handles) 65536) is in
     rw is (made_sound (Some program) store id who into _ sound (eqb-true _ _ open_.0) (grind (arith, nat_tests, room.1)) refl)
 
 op_sound : (program : Option Plain) (store : Store) (id : ℤ) (who : List ℕ) (op : Op) → IsSound program store → IsTrue (is_closed_program program) → IsSound program (op_step program store id who op).after

@@ -12,15 +12,10 @@ use std::test::*;
 #[derive(Clone, Copy)]
 struct Sum<'a>(PlainTerm, &'a [(u32, PlainTerm)]);
 
-/// A transaction on the fields 10 and 20 with the arguments 3 and 4, and what comes of it.
+/// A transaction's assignments and return, its fuel, and what comes of it on the fields 10 and 20 with the
+/// arguments 3 and 4: the answer, and the fields after it.
 #[derive(Clone, Copy)]
-struct Case<'a> {
-    sets: &'a [(u8, Sum<'a>)],
-    gives: Sum<'a>,
-    fuel: u32,
-    ran: Ran,
-    fields: [i64; 2],
-}
+struct Case<'a>(&'a [(u8, Sum<'a>)], Sum<'a>, u32, Ran, [i64; 2]);
 
 const A: PlainTerm = PlainTerm::Field(FieldId(0));
 
@@ -96,9 +91,9 @@ fn sum_of(alloc: Global, sum: Sum) -> Result<PlainSum, Fail> {
     Ok(PlainSum { first: sum.0, more })
 }
 
-fn tx_of(alloc: Global, case: Case) -> Result<PlainTx, Fail> {
+fn tx_of(alloc: Global, assigned: &[(u8, Sum)], gives: Sum) -> Result<PlainTx, Fail> {
     let mut sets = Items::new(alloc);
-    for (field, sum) in case.sets {
+    for (field, sum) in assigned {
         let sum = sum_of(alloc, *sum)?;
         sets.push(PlainSet {
             field: FieldId(*field),
@@ -109,26 +104,20 @@ fn tx_of(alloc: Global, case: Case) -> Result<PlainTx, Fail> {
         name: Name::of(alloc, b"t")?,
         params: Items::new(alloc),
         sets,
-        gives: sum_of(alloc, case.gives)?,
+        gives: sum_of(alloc, gives)?,
     })
 }
 
 fn check(rt: &impl Abort, alloc: Global, cases: &[Case]) -> Result<(), Fail> {
     let args = [3, 4];
     for (at, case) in cases.iter().enumerate() {
-        let tx = tx_of(alloc, *case)?;
+        let Case(sets, gives, fuel, ran, after) = *case;
+        let tx = tx_of(alloc, sets, gives)?;
         let mut fields = Vec::from_slice(alloc, &BEFORE)?;
-        assert!(rt;
-            is_closed(&tx, fields.len(), args.len()),
-            "names in case {at}"
-        );
-        let ran = run_plain(alloc, &tx, &mut fields, &args, case.fuel)?;
-        assert_eq!(rt; ran, case.ran, "answer of case {at}");
-        assert_eq!(rt;
-            fields.as_slice(),
-            case.fields.as_slice(),
-            "fields of case {at}"
-        );
+        assert!(rt; is_closed(&tx, fields.len(), args.len()), "case {at}");
+        let answer = run_plain(alloc, &tx, &mut fields, &args, fuel)?;
+        assert_eq!(rt; answer, ran, "case {at}");
+        assert_eq!(rt; fields.as_slice(), after.as_slice(), "case {at}");
     }
     Ok(())
 }
@@ -140,86 +129,36 @@ fn alone<'a>(term: PlainTerm) -> Sum<'a> {
 #[test]
 fn returns_and_assigns(rt: HostRuntime) -> Result<(), Fail> {
     let steps: &[(u8, Sum)] = &[(0, Sum(A, &[(2, P)])), (1, Sum(A, &[(3, ONE)]))];
-    let moves: &[(u8, Sum)] = &[(0, Sum(B, &[])), (1, Sum(A, &[]))];
+    let moves: &[(u8, Sum)] = &[(0, alone(B)), (1, alone(A))];
     let cases = [
-        Case {
-            sets: &[],
-            gives: alone(number(7)),
-            fuel: 2,
-            ran: Ran::Value(7),
-            fields: BEFORE,
-        },
-        Case {
-            sets: &[],
-            gives: alone(A),
-            fuel: 2,
-            ran: Ran::Value(10),
-            fields: BEFORE,
-        },
-        Case {
-            sets: &[],
-            gives: alone(B),
-            fuel: 2,
-            ran: Ran::Value(20),
-            fields: BEFORE,
-        },
-        Case {
-            sets: &[],
-            gives: alone(P),
-            fuel: 2,
-            ran: Ran::Value(3),
-            fields: BEFORE,
-        },
-        Case {
-            sets: &[],
-            gives: alone(Q),
-            fuel: 2,
-            ran: Ran::Value(4),
-            fields: BEFORE,
-        },
-        Case {
-            sets: steps,
-            gives: Sum(A, &[(4, B)]),
-            fuel: 4,
-            ran: Ran::Value(27),
-            fields: [13, 14],
-        },
-        Case {
-            sets: moves,
-            gives: Sum(A, &[(4, Q)]),
-            fuel: 4,
-            ran: Ran::Value(24),
-            fields: [20, 20],
-        },
+        Case(&[], alone(number(7)), 2, Ran::Value(7), BEFORE),
+        Case(&[], alone(A), 2, Ran::Value(10), BEFORE),
+        Case(&[], alone(B), 2, Ran::Value(20), BEFORE),
+        Case(&[], alone(P), 2, Ran::Value(3), BEFORE),
+        Case(&[], alone(Q), 2, Ran::Value(4), BEFORE),
+        Case(steps, Sum(A, &[(4, B)]), 4, Ran::Value(27), [13, 14]),
+        Case(moves, Sum(A, &[(4, Q)]), 4, Ran::Value(24), [20, 20]),
     ];
     check(&rt, rt.alloc(), &cases)
 }
 
 #[test]
+fn adds_seventeen_terms(rt: HostRuntime) -> Result<(), Fail> {
+    let mut more = Vec::new(rt.alloc());
+    for z in 2..18 {
+        more.push((1, number(z)))?;
+    }
+    let sum = Sum(ONE, more.as_slice());
+    check(
+        &rt,
+        rt.alloc(),
+        &[Case(&[], sum, 2, Ran::Value(153), BEFORE)],
+    )
+}
+
+#[test]
 fn adds_from_left_to_right(rt: HostRuntime) -> Result<(), Fail> {
-    let seventeen = Sum(
-        number(1),
-        &[
-            (1, number(2)),
-            (1, number(3)),
-            (1, number(4)),
-            (1, number(5)),
-            (1, number(6)),
-            (1, number(7)),
-            (1, number(8)),
-            (1, number(9)),
-            (1, A),
-            (1, number(11)),
-            (1, number(12)),
-            (1, number(13)),
-            (1, number(14)),
-            (1, number(15)),
-            (1, number(16)),
-            (1, number(17)),
-        ],
-    );
     let table = [
-        (seventeen, Ran::Value(153)),
         (Sum(MOST, &[(5, ONE)]), Ran::Overflow(5)),
         (Sum(LEAST, &[(6, MINUS_ONE)]), Ran::Overflow(6)),
         (
@@ -240,147 +179,47 @@ fn adds_from_left_to_right(rt: HostRuntime) -> Result<(), Fail> {
         (
             Sum(
                 MINUS_ONE,
-                &[(9, ONE), (9, LEAST), (10, MINUS_ONE), (11, ONE)],
+                &[(8, ONE), (9, LEAST), (10, MINUS_ONE), (11, ONE)],
             ),
             Ran::Overflow(10),
         ),
     ];
     for (sum, ran) in table {
-        check(
-            &rt,
-            rt.alloc(),
-            &[Case {
-                sets: &[],
-                gives: sum,
-                fuel: 2,
-                ran,
-                fields: BEFORE,
-            }],
-        )?;
+        check(&rt, rt.alloc(), &[Case(&[], sum, 2, ran, BEFORE)])?;
     }
     Ok(())
 }
 
 #[test]
 fn an_overflow_leaves_the_fields(rt: HostRuntime) -> Result<(), Fail> {
-    let second: &[(u8, Sum)] = &[(0, Sum(ONE, &[])), (1, Sum(MOST, &[(8, P)]))];
+    let second: &[(u8, Sum)] = &[(0, alone(ONE)), (1, Sum(MOST, &[(8, P)]))];
     let first: &[(u8, Sum)] = &[(1, Sum(A, &[(2, LEAST), (3, MOST), (4, MOST)]))];
-    let none: &[(u8, Sum)] = &[(0, Sum(LEAST, &[])), (1, Sum(A, &[(2, Q)]))];
+    let last: &[(u8, Sum)] = &[(0, alone(LEAST)), (1, Sum(A, &[(2, Q)]))];
     let cases = [
-        Case {
-            sets: second,
-            gives: alone(A),
-            fuel: 4,
-            ran: Ran::Overflow(8),
-            fields: BEFORE,
-        },
-        Case {
-            sets: first,
-            gives: alone(A),
-            fuel: 3,
-            ran: Ran::Overflow(4),
-            fields: BEFORE,
-        },
-        Case {
-            sets: none,
-            gives: Sum(A, &[(9, MINUS_ONE)]),
-            fuel: 4,
-            ran: Ran::Overflow(9),
-            fields: BEFORE,
-        },
+        Case(second, alone(A), 4, Ran::Overflow(8), BEFORE),
+        Case(first, alone(A), 3, Ran::Overflow(4), BEFORE),
+        Case(last, Sum(A, &[(9, MINUS_ONE)]), 4, Ran::Overflow(9), BEFORE),
     ];
     check(&rt, rt.alloc(), &cases)
 }
 
 #[test]
 fn takes_a_unit_for_each_step(rt: HostRuntime) -> Result<(), Fail> {
-    let two: &[(u8, Sum)] = &[(0, Sum(ONE, &[])), (1, Sum(A, &[(3, ONE)]))];
-    let fails: &[(u8, Sum)] = &[(0, Sum(MOST, &[(7, ONE)]))];
+    let two: &[(u8, Sum)] = &[(0, alone(ONE)), (1, Sum(A, &[(3, ONE)]))];
+    let bad: &[(u8, Sum)] = &[(0, Sum(MOST, &[(7, ONE)]))];
     let cases = [
-        Case {
-            sets: two,
-            gives: alone(B),
-            fuel: 5,
-            ran: Ran::Value(2),
-            fields: [1, 2],
-        },
-        Case {
-            sets: two,
-            gives: alone(B),
-            fuel: 4,
-            ran: Ran::Value(2),
-            fields: [1, 2],
-        },
-        Case {
-            sets: two,
-            gives: alone(B),
-            fuel: 3,
-            ran: Ran::Fuel,
-            fields: BEFORE,
-        },
-        Case {
-            sets: two,
-            gives: alone(B),
-            fuel: 2,
-            ran: Ran::Fuel,
-            fields: BEFORE,
-        },
-        Case {
-            sets: two,
-            gives: alone(B),
-            fuel: 1,
-            ran: Ran::Fuel,
-            fields: BEFORE,
-        },
-        Case {
-            sets: two,
-            gives: alone(B),
-            fuel: 0,
-            ran: Ran::Fuel,
-            fields: BEFORE,
-        },
-        Case {
-            sets: &[],
-            gives: alone(A),
-            fuel: 4294967295,
-            ran: Ran::Value(10),
-            fields: BEFORE,
-        },
-        Case {
-            sets: &[],
-            gives: alone(A),
-            fuel: 1,
-            ran: Ran::Fuel,
-            fields: BEFORE,
-        },
-        Case {
-            sets: &[],
-            gives: alone(A),
-            fuel: 0,
-            ran: Ran::Fuel,
-            fields: BEFORE,
-        },
-        Case {
-            sets: fails,
-            gives: alone(A),
-            fuel: 2,
-            ran: Ran::Overflow(7),
-            fields: BEFORE,
-        },
-        Case {
-            sets: fails,
-            gives: alone(A),
-            fuel: 1,
-            ran: Ran::Fuel,
-            fields: BEFORE,
-        },
-        Case {
-            sets: &[],
-            gives: Sum(MOST, &[(7, ONE)]),
-            fuel: 1,
-            ran: Ran::Fuel,
-            fields: BEFORE,
-        },
+        Case(two, alone(B), 5, Ran::Value(2), [1, 2]),
+        Case(two, alone(B), 4, Ran::Value(2), [1, 2]),
+        Case(two, alone(B), 3, Ran::Fuel, BEFORE),
+        Case(two, alone(B), 2, Ran::Fuel, BEFORE),
+        Case(two, alone(B), 1, Ran::Fuel, BEFORE),
+        Case(two, alone(B), 0, Ran::Fuel, BEFORE),
+        Case(&[], alone(A), 4294967295, Ran::Value(10), BEFORE),
+        Case(&[], alone(A), 1, Ran::Fuel, BEFORE),
+        Case(&[], alone(A), 0, Ran::Fuel, BEFORE),
+        Case(bad, alone(A), 2, Ran::Overflow(7), BEFORE),
+        Case(bad, alone(A), 1, Ran::Fuel, BEFORE),
+        Case(&[], Sum(MOST, &[(7, ONE)]), 1, Ran::Fuel, BEFORE),
     ];
     check(&rt, rt.alloc(), &cases)
 }

@@ -1,12 +1,12 @@
 -- How a session goes on.
-use Rattle.std.proofs.Common.{◌≡◌, Vec, ℕ, ◌+◌, ◌<◌, ◌≤◌, ◌^◌, Bool, true, false, not, cond, List, [], ◌∷◌, ◌++◌, length, take, Option, None, Some, refl, sym, ◌∙◌, ap, subst, arith, append_assoc, length-append}
+use Rattle.std.proofs.Common.{◌≡◌, Vec, ℕ, ◌+◌, ◌≤◌, Bool, true, false, not, cond, List, [], ◌∷◌, ◌++◌, length, take, Option, None, Some, refl, sym, ◌∙◌, ap, subst, arith, append_assoc, length-append}
 use Rattle.std.specs.declared.alloc.Global.{Global}
 use Rattle.std.proofs.lemmas.List.{append-nil, take_at}
 use Rattle.ob_io.specs.Causes.{Rose}
 use Rattle.ob_io.specs.Told.{Takes, Gives, GivesFront, IsEnd}
-use Rattle.ob_io.specs.LinesOfText.{lines_of, whole_lines, IsSplit}
+use Rattle.ob_io.specs.LinesOfText.{lines_of, IsSplit}
 use Rattle.ob_io.specs.Lines.{has_newline, IsLine}
-use Rattle.ob_io.specs.Views.{SourceView, SinkView}
+use Rattle.ob_io.specs.Views.{SinkView}
 use Rattle.ob_io.proofs.TextLemmas.{split_none, split_more, split_end, split_part}
 use Rattle.ob_io.proofs.ToldLemmas.{gives_none, gives_then, takes_none, takes_then}
 use Rattle.ob_machine.specs.declared.plain.Plain.{Plain}
@@ -14,7 +14,7 @@ use Rattle.ob_exec.specs.Sound.{IsSound}
 use Rattle.ob_exec.specs.declared.store.Store.{Store}
 use Rattle.ob_serve.specs.Session.{Item, session, state_after, requests_in, replies, is_blank}
 use Rattle.ob_serve.specs.Replies.{answer_of, blank, items_of, replies_to}
-use Rattle.ob_serve.specs.Served.{Streams, IsAll, Finishes, BreaksOff, FailsToRead, IsTooLong, StopsIn, FailsToWrite, GivesUp, Serves}
+use Rattle.ob_serve.specs.Served.{Streams, IsAll, Finishes, BreaksOff, StopsIn, FailsToWrite, GivesUp, Serves}
 use Rattle.ob_serve.specs.Stops.{Reader, ReadsLine, ReadsPart, IsStop, Replied}
 use Rattle.ob_serve.specs.declared.serving.Served.{Served}
 use Rattle.ob_serve.specs.declared.serving.Served.TheVariants.{Done, ReadFault, WriteFault, Memory, Long}

@@ -4,3 +4,6 @@
 mod serving;
 
 pub use serving::{Served, serve};
+
+#[cfg(test)]
+mod tests;

@@ -15,6 +15,7 @@ use Rattle.serde_json.specs.Read.{read}
 use Rattle.ob_base.specs.Names.{is_label}
 use Rattle.ob_wire.specs.Requests.{HasKeys, LabelAt, IdAt, IsWhole, AreWhole, ArgsAt, keys_of_new, keys_of_call, AsksNew, AsksCall, AsksOp, IsRequest, Asks}
 use Rattle.ob_base.specs.Optional.{◌>>=◌, where_true}
+use Rattle.ob_base.proofs.OptionalLemmas.{bind_some, where_some, both_true, by_cases}
 use Rattle.ob_wire.specs.Reading.{only_keys, has_only, label_at, from_zero, whole, id_at, all_whole, args_at, new_in, call_in, op_named, op_in, request_in, request_of, Gives}
 use Rattle.ob_wire.specs.declared.reading.WireError.{WireError}
 use Rattle.ob_wire.specs.declared.reading.WireError.TheVariants.{NoRequest, Memory}
@@ -22,21 +23,9 @@ use Rattle.ob_wire.specs.declared.request.Request.{Request}
 use Rattle.ob_wire.specs.declared.request.Op.{Op}
 use Rattle.ob_wire.specs.declared.request.Op.TheVariants.{New, Call}
 
-bind_some : {A B : Type 0} (o : Option A) (f : A → Option B) (y : B) → (o >>= f) ≡ Some y → (x : A) × (o ≡ Some x) × (f x ≡ Some y)
-bind_some None f y e = absurd cc
-bind_some (Some x) f y e = (x, refl, e)
-
-where_some : {A : Type 0} (b : Bool) (x y : A) → where_true b x ≡ Some y → (b ≡ true) × (x ≡ y)
-where_some true x y e = (refl, cc)
-where_some false x y e = absurd cc
-
 cond_some : {A : Type 0} (b : Bool) (o : Option A) (y : A) → cond b o None ≡ Some y → (b ≡ true) × (o ≡ Some y)
 cond_some true o y e = (refl, e)
 cond_some false o y e = absurd cc
-
-by_cases : (b : Bool) → (b ≡ true) ⊎ (b ≡ false)
-by_cases true = inl refl
-by_cases false = inr refl
 
 -- ---- keys
 
@@ -61,14 +50,10 @@ there (k ∷ keys) value key all is =
       | inr other ↦ there keys value key all.1 (rw other at is)
     ]
 
-both : (a b : Bool) → (a && b) ≡ true → (a ≡ true) × (b ≡ true)
-both true b e = (refl, e)
-both false b e = absurd cc
-
 no_other : (keys : List (List ℕ)) (ms : Members) (key : List ℕ) → only_keys keys ms ≡ true → list_any (bytes_eq key) keys ≡ false → get_member key ms ≡ None
 no_other keys no_members key only isnt = refl
 no_other keys (member l value ms) key only isnt =
-    let h = both (list_any (bytes_eq l) keys) (only_keys keys ms) only in
+    let h = both_true (list_any (bytes_eq l) keys) (only_keys keys ms) only in
     elim (by_cases (bytes_eq key l)) [
       | inl same ↦ let e : key ≡ l = (bytes_eq-Decides key l).0 same in absurd (let t = rw e at isnt in cc)
       | inr other ↦ get_member-more key l value ms ∙ rw other (no_other keys ms key h.1 isnt)

@@ -1,6 +1,7 @@
 use super::*;
 use ob_base::ObjectId;
 use std::alloc::Global;
+use std::process::Abort;
 use std::test::*;
 
 fn is_line(alloc: Global, reply: Reply, line: &[u8]) -> Result<bool, Fail> {
@@ -8,9 +9,25 @@ fn is_line(alloc: Global, reply: Reply, line: &[u8]) -> Result<bool, Fail> {
     Ok(bytes.as_slice() == line)
 }
 
+fn check_replies(
+    rt: &impl Abort,
+    alloc: Global,
+    table: &[(Option<i64>, Answer, &[u8])],
+) -> Result<(), Fail> {
+    for (at, (id, answer, line)) in table.iter().enumerate() {
+        let reply = Reply {
+            id: *id,
+            answer: *answer,
+        };
+        let same = is_line(alloc, reply, line)?;
+        assert!(rt; same, "reply {at}");
+    }
+    Ok(())
+}
+
 #[test]
-fn writes_each_reply(rt: HostRuntime) -> Result<(), Fail> {
-    let table: [(Option<i64>, Answer, &[u8]); 14] = [
+fn writes_results(rt: HostRuntime) -> Result<(), Fail> {
+    let table: [(Option<i64>, Answer, &[u8]); 7] = [
         (
             Some(1),
             Answer::Ok(Outcome::Object(ObjectId(0))),
@@ -46,6 +63,13 @@ fn writes_each_reply(rt: HostRuntime) -> Result<(), Fail> {
             Answer::Ok(Outcome::Int(-9223372036854775808)),
             b"{\"id\":9223372036854775807,\"ok\":-9223372036854775808}\n",
         ),
+    ];
+    check_replies(&rt, rt.alloc(), &table)
+}
+
+#[test]
+fn writes_aborts_and_refusals(rt: HostRuntime) -> Result<(), Fail> {
+    let table: [(Option<i64>, Answer, &[u8]); 7] = [
         (
             Some(3),
             Answer::Abort(Cause::Overflow(4)),
@@ -82,11 +106,7 @@ fn writes_each_reply(rt: HostRuntime) -> Result<(), Fail> {
             b"{\"abort\":\"fuel\",\"id\":null}\n",
         ),
     ];
-    for (at, (id, answer, line)) in table.into_iter().enumerate() {
-        let same = is_line(rt.alloc(), Reply { id, answer }, line)?;
-        assert!(rt; same, "reply {at}");
-    }
-    Ok(())
+    check_replies(&rt, rt.alloc(), &table)
 }
 
 /// What a test wants of a line's operation.
@@ -116,10 +136,22 @@ fn asks_nothing(alloc: Global, line: &[u8]) -> bool {
     matches!(read_request(alloc, line), Err(WireError::NoRequest))
 }
 
+fn check_requests(
+    rt: &impl Abort,
+    alloc: Global,
+    table: &[(&[u8], i64, &[u8], Want)],
+) -> Result<(), Fail> {
+    for (at, (line, id, who, want)) in table.iter().enumerate() {
+        let as_wanted = asks(alloc, line, *id, who, *want)?;
+        assert!(rt; as_wanted, "line {at}");
+    }
+    Ok(())
+}
+
 #[test]
-fn reads_requests_field_by_field(rt: HostRuntime) -> Result<(), Fail> {
+fn reads_what_to_make(rt: HostRuntime) -> Result<(), Fail> {
     let fresh = Want::New(b"Counter", b"c");
-    let table: [(&[u8], i64, &[u8], Want); 12] = [
+    let table: [(&[u8], i64, &[u8], Want); 7] = [
         (
             b"{\"op\":\"new\",\"id\":1,\"who\":\"ann\",\"contract\":\"Counter\",\"into\":\"c\"}",
             1,
@@ -162,6 +194,13 @@ fn reads_requests_field_by_field(rt: HostRuntime) -> Result<(), Fail> {
             b"\xc3\xa9",
             fresh,
         ),
+    ];
+    check_requests(&rt, rt.alloc(), &table)
+}
+
+#[test]
+fn reads_what_to_call(rt: HostRuntime) -> Result<(), Fail> {
+    let table: [(&[u8], i64, &[u8], Want); 5] = [
         (
             b"{\"op\":\"call\",\"id\":3,\"who\":\"ann\",\"on\":\"c\",\"tx\":\"add\",\"args\":[5]}",
             3,
@@ -193,11 +232,7 @@ fn reads_requests_field_by_field(rt: HostRuntime) -> Result<(), Fail> {
             Want::Call(b"new", b"1 x", &[0]),
         ),
     ];
-    for (at, (line, id, who, want)) in table.into_iter().enumerate() {
-        let as_wanted = asks(rt.alloc(), line, id, who, want)?;
-        assert!(rt; as_wanted, "line {at}");
-    }
-    Ok(())
+    check_requests(&rt, rt.alloc(), &table)
 }
 
 #[test]
@@ -246,7 +281,7 @@ fn finds_no_request(rt: HostRuntime) {
     }
 }
 
-// A line with this client, its other parts in order.
+// A line with this client.
 fn line_of(alloc: Global, who: &[u8]) -> Result<Vec<u8>, Fail> {
     let mut line = Vec::from_slice(alloc, b"{\"op\":\"new\",\"id\":1,\"who\":\"")?;
     line.extend_from_slice(who)?;
