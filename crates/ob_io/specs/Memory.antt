@@ -19,7 +19,7 @@ sink_view s = record { written = Some s.bytes.items; faults = s.plan.faults }
 
 -- the bytes of the file of this name. For a name that is lacking nothing is told
 abbrev pub files_view : MemoryFiles → FilesView
-files_view f = record { content = content_of f.files.items; faults = f.plan.faults }
+files_view f = record { content = content_of f.files.items; faults = f.plan.faults; asked = f.asked }
 
 -- which calls of a source are to fail, and how many there were
 abbrev pub source_plan : MemorySource → Plan

@@ -23,4 +23,4 @@ sink_inner s = s.inner
 
 -- what a file of std contains isn't told
 abbrev pub files_view : {R : Type 0} → StdFiles R → FilesView
-files_view f = record { content = λ _. None; faults = f.faults }
+files_view f = record { content = λ _. None; faults = f.faults; asked = f.asked }

@@ -32,4 +32,4 @@ sure_content f name = unwrap_or (content_of f.files.items name) []
 
 -- files tell the content of every name
 abbrev pub files_view : SureFiles → FilesView
-files_view f = record { content = λ name. Some (sure_content f name); faults = 0 }
+files_view f = record { content = λ name. Some (sure_content f name); faults = 0; asked = f.asked }

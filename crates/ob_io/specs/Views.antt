@@ -11,7 +11,9 @@ pub record SinkView : Type 0 where
   pub written : Option (List ℕ)
   pub faults : ℕ
 
--- files: what the file of each name contains, where they tell it, and how often a read failed
+-- files: what the file of each name contains, where they tell it, how often a read failed, and how many bytes all
+-- reads together were asked for at most
 pub record FilesView : Type 0 where
   pub content : List ℕ → Option (List ℕ)
   pub faults : ℕ
+  pub asked : ℕ

@@ -1,5 +1,5 @@
 //! The files that are read whole.
-ghost use Rattle.std.specs.Prelude.{◌≡◌, ◌≤◌, ℕ, List, OnOk, OnErr, IsErrOf};
+ghost use Rattle.std.specs.Prelude.{◌≡◌, ◌+◌, ◌≤◌, ℕ, List, OnOk, OnErr, IsErrOf};
 ghost use Rattle.ob_io.specs.Causes.{Rose};
 ghost use Rattle.ob_io.specs.Files.{AppendsContent};
 ghost use Rattle.ob_io.specs.Views.{FilesView};
@@ -31,7 +31,8 @@ impl From<AllocError> for FileError {
 
 /// Files by name.
 pub trait Files {
-    /// What the file of each name contains, where it is told, and how often a read failed.
+    /// What the file of each name contains, where it is told, how often a read failed, and how many bytes all
+    /// reads were asked for at most.
     ghost view: { Self → FilesView };
 
     /// Appends what the file contains, cut after `limit` bytes. An error leaves `into` as it was.
@@ -40,6 +41,7 @@ pub trait Files {
         ensures ok { OnOk result
             (AppendsContent ((view self.old).content name.now) limit into.old.items into.new.items) }
         ensures err { OnErr result (into.new.items ≡ into.old.items) }
+        ensures asked { (view self.new).asked ≤ (view self.old).asked + limit }
         ensures same { (other : List ℕ) → (view self.new).content other ≡ (view self.old).content other }
         ensures later { (view self.old).faults ≤ (view self.new).faults }
         ensures cause { IsErrOf result FileError.Failed → Rose (view self.old).faults (view self.new).faults };

@@ -176,6 +176,7 @@ impl Sink for MemorySink {
 pub struct MemoryFiles {
     files: Vec<(String, Vec<u8>)>,
     plan: Plan,
+    asked: u64,
 }
 
 impl MemoryFiles {
@@ -186,11 +187,13 @@ impl MemoryFiles {
     pub fn new(files: Vec<(String, Vec<u8>)>, fails: Vec<u64>) -> Self
         ensures content { (name : List ℕ) → (files_view result).content name ≡ content_of files.items name }
         ensures faults { (files_view result).faults ≡ 0 }
+        ensures asked { (files_view result).asked ≡ 0 }
         ensures plan { IsNewPlan (files_plan result) fails.items }
     {
         MemoryFiles {
             files,
             plan: Plan::new(fails),
+            asked: 0,
         }
     }
 
@@ -211,6 +214,7 @@ impl Files for MemoryFiles {
         ensures ok { OnOk result
             (AppendsContent ((files_view self.old).content name.now) limit into.old.items into.new.items) }
         ensures err { OnErr result (into.new.items ≡ into.old.items) }
+        ensures asked { (files_view self.new).asked ≤ (files_view self.old).asked + limit }
         ensures same { (other : List ℕ) →
             (files_view self.new).content other ≡ (files_view self.old).content other }
         ensures later { (files_view self.old).faults ≤ (files_view self.new).faults }
@@ -220,6 +224,7 @@ impl Files for MemoryFiles {
         ensures lacking { (files_view self.old).content name.now ≡ None → IsErrOf result FileError.Failed }
         ensures counts { CountsCall (files_plan self.old) (files_plan self.new) }
     {
+        self.asked = self.asked.saturating_add(limit as u64);
         if self.plan.next_fails() {
             self.plan.fault();
             return Err(FileError::Failed);

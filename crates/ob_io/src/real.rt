@@ -148,6 +148,7 @@ fn append_file<R: fs::Files>(
 pub struct StdFiles<R> {
     host: R,
     faults: u64,
+    asked: u64,
 }
 
 impl<R: fs::Files> StdFiles<R> {
@@ -155,9 +156,14 @@ impl<R: fs::Files> StdFiles<R> {
 
     /// The files that a runtime opens, as `&HostRuntime`. Nothing has failed yet.
     pub fn new(host: R) -> Self
-        ensures { (files_view result).faults ≡ 0 }
+        ensures faults { (files_view result).faults ≡ 0 }
+        ensures asked { (files_view result).asked ≡ 0 }
     {
-        StdFiles { host, faults: 0 }
+        StdFiles {
+            host,
+            faults: 0,
+            asked: 0,
+        }
     }
 
     /// How often a call failed.
@@ -174,6 +180,7 @@ impl<R: fs::Files> Files for StdFiles<R> {
     ghost view = { files_view };
 
     fn read(&mut self, name: &str, limit: usize, into: &mut Vec<u8>) -> Result<(), FileError> {
+        self.asked = self.asked.saturating_add(limit as u64);
         let start = into.len();
         let result = append_file(&self.host, name, limit, into);
         if result.is_err() {

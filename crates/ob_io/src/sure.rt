@@ -142,6 +142,7 @@ pub(crate) fn contents_of<'a>(files: &'a [(String, Vec<u8>)], name: &str) -> Opt
 #[derive(Drop)]
 pub struct SureFiles {
     files: Vec<(String, Vec<u8>)>,
+    asked: u64,
 }
 
 impl SureFiles {
@@ -152,8 +153,9 @@ impl SureFiles {
         ensures content { (name : List ℕ) →
             (files_view result).content name ≡ Some (unwrap_or (content_of files.items name) []) }
         ensures faults { (files_view result).faults ≡ 0 }
+        ensures asked { (files_view result).asked ≡ 0 }
     {
-        SureFiles { files }
+        SureFiles { files, asked: 0 }
     }
 }
 
@@ -163,6 +165,7 @@ impl Files for SureFiles {
     ghost view = { files_view };
 
     fn read(&mut self, name: &str, limit: usize, into: &mut Vec<u8>) -> Result<(), FileError> {
+        self.asked = self.asked.saturating_add(limit as u64);
         match contents_of(&self.files, name) {
             Some(bytes) => append_front(bytes, limit, into),
             None => Ok(()),

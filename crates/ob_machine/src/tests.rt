@@ -129,7 +129,7 @@ fn alone<'a>(term: PlainTerm) -> Sum<'a> {
 #[test]
 fn returns_and_assigns(rt: HostRuntime) -> Result<(), Fail> {
     let steps: &[(u8, Sum)] = &[(0, Sum(A, &[(2, P)])), (1, Sum(A, &[(3, ONE)]))];
-    let moves: &[(u8, Sum)] = &[(0, alone(B)), (1, alone(A))];
+    let moves: &[(u8, Sum)] = &[(0, Sum(B, &[])), (1, Sum(A, &[]))];
     let cases = [
         Case(&[], alone(number(7)), 2, Ran::Value(7), BEFORE),
         Case(&[], alone(A), 2, Ran::Value(10), BEFORE),

@@ -1,6 +1,5 @@
 -- The text of a reply is that of its JSON value.
-use Rattle.std.proofs.Common.{◌≡◌, ℕ, ℤ, pos, negsuc, false, ◌||◌, List, [], ◌∷◌, ◌++◌, Option, Some, None, refl, sym, ◌∙◌, ap, append_assoc}
-use Rattle.std.specs.Prelude.{codes}
+use Rattle.std.proofs.Common.{◌≡◌, ℕ, ℤ, pos, negsuc, false, List, [], ◌∷◌, ◌++◌, Option, Some, None, refl, ap, append_assoc}
 use Rattle.serde_json.specs.Written.{has_float, compact_text}
 use Rattle.serde_json.proofs.OnLiterals.{serde_json_on_literals}
 use Rattle.ob_wire.specs.Replies.{id_json, id_text, outcome_json, outcome_text, answer_json, answer_text, reply_json, reply_text}

@@ -1,19 +1,19 @@
 -- The request that is worked out is the one that the line asks.
-use Rattle.std.proofs.Common.{rules, subst, ◌≡◌, ℕ, ℤ, pos, negsuc, Bool, true, false, cond, ◌&&◌, ◌||◌, List, [], ◌∷◌, Option, Some, None, refl, sym, ◌∙◌, ap, IsTrue, ◌⊎◌, inl, inr}
-use Rattle.std.specs.Prelude.{codes, is_some, option_and_then, ◌≤ℤ◌, Result, Ok, Err, IfOk, IsErrOf}
+use Rattle.std.proofs.Common.{rules, subst, ◌≡◌, ℕ, ℤ, pos, negsuc, Bool, true, false, cond, ◌&&◌, List, [], ◌∷◌, Option, Some, None, refl, sym, ◌∙◌, ap, ◌⊎◌, inl, inr}
+use Rattle.std.specs.Prelude.{codes, is_some, ◌≤ℤ◌, Result, Ok, Err, IfOk, IsErrOf}
 use Rattle.std.proofs.Common.{Ordering, Less, Equal, Greater}
 use Rattle.std.specs.Ordering.{is_eq, nat_cmp, match_ordering}
 use Rattle.std.specs.Cmp.Lexicographic.{slice_cmp}
 use Rattle.std.specs.List.{list_any}
-use Rattle.std.specs.Str.{IsUtf8, is_utf8, bytes_eq}
+use Rattle.std.specs.Str.{is_utf8, bytes_eq}
 use Rattle.std.proofs.lemmas.Str.{is_utf8-from_IsUtf8, IsUtf8-from_is_utf8}
 use Rattle.std.proofs.lemmas.Slice.Eq.{bytes_eq-Decides}
 use Rattle.std.proofs.lemmas.Map.Text.{is_eq-slice_cmp}
 use Rattle.serde_json.specs.Data.{Data, null, boolean, number, string, array, object, Members, no_members, member, Items, no_items, item}
-use Rattle.serde_json.specs.Find.{get, get_member, as_number, as_str, as_array, as_object}
+use Rattle.serde_json.specs.Find.{get, get_member, as_str, as_array}
 use Rattle.serde_json.specs.Read.{read}
 use Rattle.ob_base.specs.Names.{is_label}
-use Rattle.ob_wire.specs.Requests.{HasKeys, LabelAt, IdAt, IsWhole, AreWhole, ArgsAt, keys_of_new, keys_of_call, AsksNew, AsksCall, AsksOp, IsRequest, Asks}
+use Rattle.ob_wire.specs.Requests.{HasKeys, LabelAt, IdAt, AreWhole, ArgsAt, keys_of_new, keys_of_call, AsksOp, IsRequest, Asks}
 use Rattle.ob_base.specs.Optional.{◌>>=◌, where_true}
 use Rattle.ob_base.proofs.OptionalLemmas.{bind_some, where_some, both_true, by_cases}
 use Rattle.ob_wire.specs.Reading.{only_keys, has_only, label_at, from_zero, whole, id_at, all_whole, args_at, new_in, call_in, op_named, op_in, request_in, request_of, Gives}

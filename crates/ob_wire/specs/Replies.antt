@@ -1,9 +1,8 @@
 -- The line of a reply: a JSON object (RFC 8259) with its keys in byte order and no space, and a newline.
-use Rattle.std.specs.Prelude.{ℕ, ℤ, List, [], ◌∷◌, ◌++◌, Option, Some, None, codes, decimal}
+use Rattle.std.specs.Prelude.{ℕ, ℤ, List, ◌++◌, Option, Some, None, codes, decimal}
 use Rattle.std.specs.Fmt.{signed_decimal}
 use Rattle.serde_json.specs.Data.{Data, null, number, unsigned, string, object, member, no_members}
 use Rattle.serde_json.specs.Find.{of_integer}
-use Rattle.ob_base.specs.declared.id.ObjectId.{ObjectId}
 use Rattle.ob_wire.specs.declared.reply.Reply.{Reply}
 use Rattle.ob_wire.specs.declared.reply.Answer.{Answer}
 use Rattle.ob_wire.specs.declared.reply.Answer.TheVariants as answer

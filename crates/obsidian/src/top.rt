@@ -1,5 +1,5 @@
 //! The top call.
-ghost use Rattle.std.specs.Prelude.{◌≡◌, ◌≤◌, ◌⊎◌, ◌↔◌, None, Some, List, ℕ, map, length, vec_len, string_bytes, option_map, IfOk, IfErr, IsErrOf, IsTrue, OnErr};
+ghost use Rattle.std.specs.Prelude.{◌≡◌, ◌+◌, ◌≤◌, ◌⊎◌, None, Some, List, ℕ, map, string_bytes, option_map, IfOk, IsErrOf};
 ghost use Rattle.std.specs.Option.{option_copied};
 ghost use Rattle.ob_machine.specs.Closed.{is_closed_program};
 ghost use Rattle.ob_front.specs.Form.{HasProgram, IsOfForm};
@@ -38,6 +38,7 @@ fn read_text<F: Files>(alloc: Global, files: &mut F, name: &str) -> Result<Vec<u
     ensures text { IfOk result (λ text. IsReadOf ((F.view files.old).content name.now) text.items) }
     ensures cause { IsErrOf result FileError.Failed → Rose (F.view files.old).faults (F.view files.new).faults }
     ensures later { (F.view files.old).faults ≤ (F.view files.new).faults }
+    ensures few { (F.view files.new).asked ≤ (F.view files.old).asked + 1048577 }
 {
     let mut text = Vec::new(alloc);
     files.read(name, MOST_READ, &mut text)?;
@@ -92,6 +93,7 @@ fn run_words<F: Files, S: Source, K: Sink>(
         (outside (F.view files.old) (S.view input.old) (K.view output.old))
         (outside (F.view files.new) (S.view input.new) (K.view output.new))
         result }
+    ensures few { (F.view files.new).asked ≤ (F.view files.old).asked + 1048577 }
     ensures later_files { (F.view files.old).faults ≤ (F.view files.new).faults }
     ensures later_read { (S.view input.old).faults ≤ (S.view input.new).faults }
     ensures later_write { (K.view output.old).faults ≤ (K.view output.new).faults }
@@ -151,6 +153,9 @@ pub fn run<F: Files, S: Source, K: Sink>(
         (outside (F.view files.old) (S.view input.old) (K.view output.old))
         (outside (F.view files.new) (S.view input.new) (K.view output.new)))
         → ¬ (IsOfForm smooth.text) → (result ≡ Exit.Refused) ⊎ (result ≡ Exit.Memory) }
+
+    // At most 1,048,577 bytes of the program's file are read.
+    ensures few { (F.view files.new).asked ≤ (F.view files.old).asked + 1048577 }
 
     // No count of faults falls.
     ensures later_files { (F.view files.old).faults ≤ (F.view files.new).faults }

@@ -1,4 +1,3 @@
-use Rattle.std.proofs.Common.{false}
 use Rattle.ob_wire.proofs.ReadingLemmas.{gives_read, reads_none}
 use Rattle.ob_wire.proofs.reading.find_request.Goals as goal
 

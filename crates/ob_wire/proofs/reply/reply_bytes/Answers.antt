@@ -1,5 +1,5 @@
 use lib.Utf8.{encode}
-use Rattle.std.proofs.Common.{◌≡◌, ◌∙◌, ap, List, ℕ, ◌++◌, ◌∷◌, []}
+use Rattle.std.proofs.Common.{◌∙◌, ap, List, ℕ, ◌++◌, ◌∷◌, []}
 use Rattle.ob_wire.proofs.ReplyTexts.{is_whole, text_is}
 use Rattle.ob_wire.proofs.reply.reply_bytes.Goals as goal
 
