@@ -1,4 +1,5 @@
--- What a name, a label and a text are.
+-- What a name, a label and a text are (the Obsidian language documentation, "Identifiers"; the limits are this
+-- project's own).
 use Rattle.std.specs.Prelude.{ℕ, Bool, false, ◌==◌, ◌&&◌, ◌||◌, nat_le, List, [], ◌∷◌, length}
 use Rattle.std.specs.List.{list_all}
 use Rattle.std.specs.Str.{is_utf8}

@@ -1,4 +1,4 @@
--- The numbers of the language: whole numbers of 64 bits with a sign.
+-- The numbers of the language (the Obsidian language documentation, "int"): whole numbers of 64 bits with a sign.
 use Rattle.std.specs.Prelude.{ℤ, pos, negsuc, ◌^◌, nat_lt, Bool}
 
 -- from -2^63 to 2^63 - 1 (`negsuc n` is -(n + 1))

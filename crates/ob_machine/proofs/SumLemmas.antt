@@ -1,5 +1,5 @@
 -- What is added up from left to right is the sum, as long as each sum on the way is a number of the language.
-use Rattle.std.proofs.Common.{ℕ, zero, suc, ◌≡◌, ◌<◌, ℤ, ◌+ℤ◌, Bool, true, false, List, [], ◌∷◌, length, take, Result, Ok, Err, Some, refl, sym, ap, ◌∙◌, ◌⊎◌, inl, inr, add-one, arith}
+use Rattle.std.proofs.Common.{ℕ, zero, suc, ◌≡◌, ◌<◌, ℤ, ◌+ℤ◌, true, false, List, [], ◌∷◌, length, take, Result, Ok, Err, Some, refl, sym, ap, ◌∙◌, inl, inr, add-one, arith}
 use Rattle.std.specs.Prelude.{slice_get}
 use Rattle.std.proofs.Math.IntN.{+ℤ_assoc, +ℤ_idr}
 use Rattle.ob_base.specs.Numbers.{is_int}

@@ -1,4 +1,5 @@
--- What a transaction over whole numbers means: its expressions and statements, the range of its numbers and its fuel.
+-- What a transaction over whole numbers means (Coblenz et al., Obsidian, TOPLAS 42(3), 2020, on expressions and
+-- statements; the range of its numbers and its fuel are this project's own).
 use Rattle.std.specs.Prelude.{ℕ, ◌-◌, ◌==◌, ℤ, pos, ◌+ℤ◌, List, [], ◌∷◌, slice_index_or, slice_set, Result, Ok, Err, if◌then◌else◌}
 use Rattle.ob_base.specs.Numbers.{is_int}
 use Rattle.ob_machine.specs.declared.plain.PlainTx.{PlainTx}

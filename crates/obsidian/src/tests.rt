@@ -112,6 +112,63 @@ fn lines_are_answered(rt: HostRuntime) -> Result<(), Fail> {
     Ok(())
 }
 
+// A contract A whose transaction t has this many parts between a front and a back.
+fn repeated(alloc: Global, part: &str, count: usize, back: &str) -> Result<String, Fail> {
+    let mut text = String::from_str(
+        alloc,
+        "main contract A { int n; A@Shared() { n = 1; } transaction t(A@Shared this) returns int { ",
+    )?;
+    for _ in 0..count {
+        text.push_str(part)?;
+    }
+    text.push_str(back)?;
+    Ok(text)
+}
+
+const CALL: &str =
+    "{\"op\":\"new\",\"id\":1,\"who\":\"a\",\"contract\":\"A\",\"into\":\"o\"}\n{\"op\":\"call\",\"id\":2,\"who\":\"a\",\"on\":\"o\",\"tx\":\"t\",\"args\":[]}\n";
+
+#[test]
+fn long_sums_and_fuel(rt: HostRuntime) -> Result<(), Fail> {
+    let alloc = rt.alloc();
+    let seventeen = repeated(
+        alloc,
+        "return n+n+n+n+n+n+n+n+n+n+n+n+n+n+n+n+n;",
+        1,
+        " } }",
+    )?;
+    let eighteen = repeated(
+        alloc,
+        "return n+n+n+n+n+n+n+n+n+n+n+n+n+n+n+n+n+n;",
+        1,
+        " } }",
+    )?;
+    // The call, the assignments and the return take a unit each, of 100,000.
+    let enough = repeated(alloc, "n=n;", 99_998, "return n; } }")?;
+    let one_more = repeated(alloc, "n=n;", 99_999, "return n; } }")?;
+    for (program, replies) in [
+        (
+            seventeen.as_str(),
+            "{\"id\":1,\"ok\":{\"object\":0}}\n{\"id\":2,\"ok\":17}\n",
+        ),
+        (
+            enough.as_str(),
+            "{\"id\":1,\"ok\":{\"object\":0}}\n{\"id\":2,\"ok\":1}\n",
+        ),
+        (
+            one_more.as_str(),
+            "{\"id\":1,\"ok\":{\"object\":0}}\n{\"abort\":\"fuel\",\"id\":2}\n",
+        ),
+    ] {
+        assert!(rt;
+            is_answered(alloc, program, CALL.as_bytes(), replies.as_bytes())?,
+            "{replies}"
+        );
+    }
+    assert!(rt; is_refused(alloc, eighteen.as_str())?);
+    Ok(())
+}
+
 #[test]
 fn long_lines_are_refused(rt: HostRuntime) -> Result<(), Fail> {
     let alloc = rt.alloc();
