@@ -167,3 +167,27 @@ fn says_what_failed(rt: HostRuntime) -> Result<(), Fail> {
     );
     Ok(())
 }
+
+#[test]
+fn names_the_faults(rt: HostRuntime) {
+    for (number, name) in [
+        (0, ""),
+        (100, ""),
+        (101, "NotUtf8"),
+        (102, "BadCharacter"),
+        (103, "OpenComment"),
+        (104, "OpenString"),
+        (105, "BigNumber"),
+        (106, "LongName"),
+        (107, "LongString"),
+        (108, "BadEscape"),
+        (109, "LongProgram"),
+        (110, ""),
+        (201, "Expected"),
+        (202, "TooDeep"),
+        (901, "NotBuilt"),
+        (u16::MAX, ""),
+    ] {
+        assert_eq!(rt; fault_name(number), name, "at {number}");
+    }
+}
