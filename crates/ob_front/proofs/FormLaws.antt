@@ -2,14 +2,19 @@
 use Rattle.std.proofs.Common.{ℕ, ◌≡◌, false, List, Option, Some, None, option_map, map, Result, Ok, Err, IsTrue, IfOk, refl, sym, ap, ◌∙◌}
 use Rattle.ob_lexer.specs.Lexis.{HasTokens}
 use Rattle.ob_lexer.specs.declared.token.Token.{Token}
-use Rattle.ob_lexer.proofs.Readings.{one_reading_lem}
+use Rattle.ob_lexer.specs.declared.lexer.Lexed.{Lexed}
+use Rattle.ob_lexer.specs.declared.lexer.LexError.{LexError}
+use Rattle.ob_lexer.specs.declared.lexer.LexError.TheVariants.{Fault, Memory as OutOfMemory}
+use Rattle.ob_lexer.specs.Flaws.{HasFault}
+use Rattle.ob_lexer.specs.Reading.{OnFault}
+use Rattle.ob_lexer.proofs.Readings.{one_reading_lem, tokens_or_fault_lem}
 use Rattle.ob_machine.specs.declared.plain.Plain.{Plain}
 use Rattle.ob_machine.specs.Closed.{is_closed_program}
 use Rattle.ob_front.specs.Grammar.{seen, program}
 use Rattle.ob_front.specs.Parsing.{program_of}
 use Rattle.ob_front.specs.Resolved.{plain_of}
 use Rattle.ob_front.specs.Form.{is_valid, HasProgram, IsOfForm}
-use Rattle.ob_front.specs.Compiling.{IsTreeOf, of_parsing}
+use Rattle.ob_front.specs.Compiling.{IsTreeOf, of_lexing, of_parsing}
 use Rattle.ob_front.specs.declared.compiling.CompileError.{CompileError}
 use Rattle.ob_front.specs.declared.compiling.CompileError.TheVariants.{NotOfForm}
 use Rattle.ob_front.specs.declared.parser.ParseError.{ParseError}
@@ -26,19 +31,24 @@ same_tree a b e = some_injective a b (sym (program_again a) ∙ ap program_of e 
 
 pub one_tree : (text : List ℕ) (a b : Option ProgramTree) → IsTreeOf text a → IsTreeOf text b → a ≡ b
 one_tree text a b one other =
-    let same = one_reading_lem text one.tokens other.tokens one.spelled other.spelled in
-    same_tree a b (sym one.written ∙ ap (λ tokens. map seen tokens) same ∙ other.written)
+    let same = one_reading_lem text one.lexed other.lexed one.spelled other.spelled in
+    same_tree a b (sym one.written ∙ ap (λ (l : Lexed). map seen l.tokens) same ∙ other.written)
 
 -- where some tokens of the text spell no tree, it has none
-pub no_tree : (text : List ℕ) (tokens slice : List Token) → HasTokens text tokens → slice ≡ tokens → ((tree : Option ProgramTree) → ¬ (map seen slice ≡ program tree)) → (tree : Option ProgramTree) → ¬ (IsTreeOf text tree)
-no_tree text tokens slice spelled whole none tree is =
-    none tree (ap (λ ts. map seen ts) (whole ∙ one_reading_lem text tokens is.tokens spelled is.spelled) ∙ is.written)
+pub no_tree : (text : List ℕ) (lexed : Lexed) (slice : List Token) → HasTokens text lexed → slice ≡ lexed.tokens → ((tree : Option ProgramTree) → ¬ (map seen slice ≡ program tree)) → (tree : Option ProgramTree) → ¬ (IsTreeOf text tree)
+no_tree text lexed slice spelled whole none tree is =
+    none tree (ap (λ ts. map seen ts) (whole ∙ ap (λ (l : Lexed). l.tokens) (one_reading_lem text lexed is.lexed spelled is.spelled)) ∙ is.written)
+
+-- a text with a fault has none
+pub no_tree_at_fault : {T : Type 0} (text : List ℕ) (cause : LexError) (r : Result T CompileError) (found : CompileError) → OnFault cause (HasFault text) → r ≡ Err found → found ≡ of_lexing cause → r ≡ Err NotOfForm → (tree : Option ProgramTree) → ¬ (IsTreeOf text tree)
+no_tree_at_fault text (Fault fault) r found has gave was refused tree of = tokens_or_fault_lem text of.lexed fault of.spelled has
+no_tree_at_fault text OutOfMemory r found has gave was refused tree of = absurd cc
 
 pub tree_of_program : (text : List ℕ) (is : Option Plain) (h : HasProgram text is) → IsTreeOf text h.tree
-tree_of_program text is h = record { tokens = h.tokens; spelled = h.spelled; written = h.written }
+tree_of_program text is h = record { lexed = h.lexed; spelled = h.spelled; written = h.written }
 
 pub program_of_tree : (text : List ℕ) (tree : Option ProgramTree) (is : Option Plain) → IsTreeOf text tree → IsTrue (is_valid tree) → is ≡ option_map plain_of tree → HasProgram text is
-program_of_tree text tree is of valid resolved = record { tokens = of.tokens; spelled = of.spelled; tree = tree; written = of.written; valid = valid; resolved = resolved }
+program_of_tree text tree is of valid resolved = record { lexed = of.lexed; spelled = of.spelled; tree = tree; written = of.written; valid = valid; resolved = resolved }
 
 closed_tree : (tree : Option ProgramTree) → IsTrue (is_valid tree) → IsTrue (is_closed_program (option_map plain_of tree))
 closed_tree None valid = refl

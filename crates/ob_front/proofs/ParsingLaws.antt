@@ -59,6 +59,7 @@ one_takes {A = A} {of = of} {spelled = spelled} one (seen ∷ seens) x e =
 name_taken : (seen : Seen) (n : List ℕ) → name_of seen ≡ Some n → seen ≡ name n
 name_taken (kind_of (kind.Name m)) n e = ap name (some_is m n e)
 name_taken (kind_of (kind.Number z)) n e = absurd cc
+name_taken (kind_of (kind.Text t)) n e = absurd cc
 name_taken (kind_of (kind.Word w)) n e = absurd cc
 name_taken (kind_of (kind.Sign s)) n e = absurd cc
 name_taken (plus_on line) n e = absurd cc
@@ -69,6 +70,7 @@ names = record { takes = name_taken }
 number_taken : (seen : Seen) (z : ℤ) → number_of seen ≡ Some z → seen ≡ number z
 number_taken (kind_of (kind.Name n)) z e = absurd cc
 number_taken (kind_of (kind.Number y)) z e = ap number (some_is y z e)
+number_taken (kind_of (kind.Text t)) z e = absurd cc
 number_taken (kind_of (kind.Word w)) z e = absurd cc
 number_taken (kind_of (kind.Sign s)) z e = absurd cc
 number_taken (plus_on line) z e = absurd cc
@@ -79,6 +81,7 @@ numbers = record { takes = number_taken }
 term_taken : (seen : Seen) (t : TermTree) → term_of seen ≡ Some t → seen ≡ term t
 term_taken (kind_of (kind.Name n)) t e = ap term (some_is (tree.Name n) t e)
 term_taken (kind_of (kind.Number z)) t e = ap term (some_is (tree.Number z) t e)
+term_taken (kind_of (kind.Text text)) t e = absurd cc
 term_taken (kind_of (kind.Word w)) t e = absurd cc
 term_taken (kind_of (kind.Sign s)) t e = absurd cc
 term_taken (plus_on line) t e = absurd cc
@@ -120,11 +123,13 @@ symbol_taken (Word w) (kind_of (kind.Word v)) plain e = ap word (same_true words
 symbol_taken (Word w) (kind_of (kind.Sign t)) plain e = absurd cc
 symbol_taken (Word w) (kind_of (kind.Name n)) plain e = absurd cc
 symbol_taken (Word w) (kind_of (kind.Number z)) plain e = absurd cc
+symbol_taken (Word w) (kind_of (kind.Text t)) plain e = absurd cc
 symbol_taken (Word w) (plus_on line) plain e = absurd cc
 symbol_taken (Sign s) (kind_of (kind.Sign t)) plain e = ap sign (same_true signs tt t s e)
 symbol_taken (Sign s) (kind_of (kind.Word v)) plain e = absurd cc
 symbol_taken (Sign s) (kind_of (kind.Name n)) plain e = absurd cc
 symbol_taken (Sign s) (kind_of (kind.Number z)) plain e = absurd cc
+symbol_taken (Sign s) (kind_of (kind.Text t)) plain e = absurd cc
 symbol_taken (Sign s) (plus_on line) plain e = absurd (not_plus s plain (same_true signs tt Plus s e))
 
 test_held : {A : Type 0} (b : Bool) (r : Option A) (x : A) → cond b r None ≡ Some x → (b ≡ true) × (r ≡ Some x)

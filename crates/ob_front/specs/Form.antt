@@ -1,7 +1,7 @@
 -- Which program a text is: a relation between the two.
 use Rattle.std.specs.Prelude.{ℕ, ◌≡◌, Bool, true, List, map, Option, Some, None, option_map, IsTrue}
 use Rattle.ob_lexer.specs.Lexis.{HasTokens}
-use Rattle.ob_lexer.specs.declared.token.Token.{Token}
+use Rattle.ob_lexer.specs.declared.lexer.Lexed.{Lexed}
 use Rattle.ob_machine.specs.declared.plain.Plain.{Plain}
 use Rattle.ob_front.specs.Grammar.{seen, program}
 use Rattle.ob_front.specs.Conditions.{meets_conditions}
@@ -15,10 +15,10 @@ is_valid (Some p) = meets_conditions p
 
 -- The text spells tokens, they spell a tree, and the tree meets the conditions and is this program.
 pub record HasProgram (text : List ℕ) (is : Option Plain) : Type 0 where
-  pub tokens : List Token
-  pub spelled : HasTokens text tokens
+  pub lexed : Lexed
+  pub spelled : HasTokens text lexed
   pub tree : Option ProgramTree
-  pub written : map seen tokens ≡ program tree
+  pub written : map seen lexed.tokens ≡ program tree
   pub valid : IsTrue (is_valid tree)
   pub resolved : is ≡ option_map plain_of tree
 

@@ -34,10 +34,11 @@ seen_kind (kind.Sign sign) line = seen_sign sign line
 seen_kind (kind.Word word) line = kind_of (kind.Word word)
 seen_kind (kind.Name name) line = kind_of (kind.Name name)
 seen_kind (kind.Number number) line = kind_of (kind.Number number)
+seen_kind (kind.Text text) line = kind_of (kind.Text text)
 
 -- what is seen of a token
 abbrev pub seen : Token → Seen
-seen token = seen_kind token.kind token.line
+seen token = seen_kind token.kind token.span.line
 
 -- a reserved word
 abbrev pub word : Word → Seen

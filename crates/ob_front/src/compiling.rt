@@ -46,7 +46,7 @@ impl From<LexError> for CompileError {
 
     fn from(cause: LexError) -> CompileError {
         match cause {
-            LexError::NoTokens => CompileError::NotOfForm,
+            LexError::Fault(_) => CompileError::NotOfForm,
             LexError::Memory => CompileError::Memory,
         }
     }
@@ -71,8 +71,8 @@ fn tree_of(alloc: Global, text: &[u8]) -> Result<Option<ProgramTree>, CompileErr
     ensures none { IsErrOf result CompileError.NotOfForm
         → (tree : Option ProgramTree) → ¬ (IsTreeOf text.now tree) }
 {
-    let tokens = lex(alloc, text)?;
-    Ok(parse(alloc, tokens.as_slice())?)
+    let lexed = lex(alloc, text)?;
+    Ok(parse(alloc, lexed.tokens.as_slice())?)
 }
 
 fn program_of(alloc: Global, tree: Option<ProgramTree>) -> Result<Option<Plain>, CompileError>

@@ -194,12 +194,18 @@ fn addend_at(alloc: Global, tokens: &[Token]) -> Result<(AddendTree, &[Token]), 
         [
             Token {
                 kind: TokenKind::Sign(Sign::Plus),
-                line,
+                span,
             },
             rest @ ..,
         ] => {
             let (term, rest) = term_at(alloc, rest)?;
-            Ok((AddendTree { line: *line, term }, rest))
+            Ok((
+                AddendTree {
+                    line: span.line,
+                    term,
+                },
+                rest,
+            ))
         }
         _ => Err(ParseError::NoProgram),
     }

@@ -1,95 +1,144 @@
--- The tokens of a text, one after the other.
-use Rattle.std.proofs.Common.{ℕ, ◌≡◌, ◌≢◌, ◌+◌, ◌<◌, ◌≤◌, ◌==◌, List, [], ◌∷◌, ◌++◌, length, IsTrue, refl, sym, ap, subst, ◌∙◌, arith, append_assoc, length-append}
-use Rattle.std.specs.List.{list_all}
-use Rattle.std.proofs.lemmas.List.{append-nil}
-use Rattle.std.proofs.lemmas.List.Sums.{count_by-le-length}
+-- The pieces of a text, one after the other.
+use Rattle.std.proofs.Common.{ℕ, ◌≡◌, ◌+◌, ◌≤◌, List, [], ◌∷◌, ◌++◌, length, take, drop, fold, refl, sym, ap, subst, ◌∙◌, arith, append_assoc, append-nil, length-append, length-drop, take-append-drop}
+use Rattle.std.specs.Str.{IsUtf8, IsValidUpTo}
+use Rattle.std.proofs.lemmas.List.{length-take-le}
+use Rattle.std.proofs.lemmas.Grind.{flat_map-append}
+use Rattle.ob_base.specs.Faults as faults
+use Rattle.ob_base.specs.declared.fault.ProgramFault.{ProgramFault}
 use Rattle.ob_lexer.specs.declared.token.Token.{Token}
-use Rattle.ob_lexer.specs.Lexis.{is_gap, newlines, Begins, Spells, HasTokens}
-use Rattle.ob_lexer.specs.Lexing.{Stops, IsBehind, IsFirst, HasNoFirst}
-use Rattle.ob_lexer.proofs.Lexemes.{IsSolid, lexeme_solid, spelled_lexeme}
-use Rattle.ob_lexer.proofs.Readings.{begins_solid, begins_parts, begins_no_gap, begins_once, gap_once, no_gap}
+use Rattle.ob_lexer.specs.declared.place.Place.{Place}
+use Rattle.ob_lexer.specs.declared.lexer.Lexed.{Lexed}
+use Rattle.ob_lexer.specs.declared.lexer.LexError.{LexError}
+use Rattle.ob_lexer.specs.declared.lexer.LexError.TheVariants.{Fault, Memory}
+use Rattle.ob_lexer.specs.Lexis.{Element, space, comment, token, IsElement, IsLongest, Piece, text_of, ArePieces, token_in, tokens_of, HasTokens}
+use Rattle.ob_lexer.specs.Flaws.{IsFlawed, HasFault, no_utf8, flawed}
+use Rattle.ob_lexer.specs.Lexing.{past, place_of}
+use Rattle.ob_lexer.specs.Reading.{IsUtf8Behind, span_at, fault_behind, token_at, TakesUp, BeginsWith, OnFault}
+use Rattle.ob_lexer.proofs.PlaceLemmas.{fold-past, line_within, column_within}
+use Rattle.ob_lexer.proofs.StringTexts.{behind_quote}
 
--- ---- the next token
+-- ---- a piece more
 
-solid_from_stops : (front : List ℕ) → Stops is_gap front → front ≢ [] → IsSolid front
-solid_from_stops [] stops some = some refl
-solid_from_stops (b ∷ front) stops some = stops
+text_of-more : (pieces : List Piece) (p : Piece) → text_of (pieces ++ p ∷ []) ≡ text_of pieces ++ p.bytes
+text_of-more pieces p = flat_map-append (λ q. q.bytes) pieces (p ∷ []) ∙ ap (λ (l : List ℕ). text_of pieces ++ l) (append-nil p.bytes)
 
-pub next_end : (text gap front : List ℕ) → IsBehind text gap front → front ≡ [] → IsTrue (list_all is_gap text)
-next_end text gap front b none =
-    let all : text ≡ gap = b.parts ∙ ap (λ (l : List ℕ). gap ++ l) none ∙ append-nil gap in
-    rw all b.blank
+pieces_more : (pieces : List Piece) (p : Piece) (rest : List ℕ) → ArePieces pieces (p.bytes ++ rest) → IsElement p.element p.bytes → IsLongest p.bytes rest → ArePieces (pieces ++ p ∷ []) rest
+pieces_more [] p rest are is longest = (is, longest, tt)
+pieces_more (q ∷ pieces) p rest are is longest =
+    let same : text_of pieces ++ (p.bytes ++ rest) ≡ text_of (pieces ++ p ∷ []) ++ rest = sym (append_assoc (text_of pieces) p.bytes rest) ∙ ap (λ (l : List ℕ). l ++ rest) (sym (text_of-more pieces p)) in
+    (are.0, subst (IsLongest q.bytes) same are.1, pieces_more pieces p rest are.2 is longest)
 
-pub next_begins : (line : ℕ) (text gap front : List ℕ) (token : Token) (rest : List ℕ) → IsBehind text gap front → IsFirst front token.kind rest → token.line ≡ line + newlines gap → Begins line text token rest
-next_begins line text gap front token rest b first on = record {
-  gap = gap;
-  bytes = first.bytes;
-  parts = b.parts ∙ ap (λ (l : List ℕ). gap ++ l) first.parts ∙ sym (append_assoc gap first.bytes rest);
-  blank = b.blank;
-  spelled = first.spelled;
-  longest = first.longest;
-  on = on;
-}
+tokens_of-more : (before : List ℕ) (pieces : List Piece) (p : Piece) → tokens_of before (pieces ++ p ∷ []) ≡ tokens_of before pieces ++ token_in (before ++ text_of pieces) p.element p.bytes
+tokens_of-more before [] p =
+    append-nil (token_in before p.element p.bytes) ∙ ap (λ (l : List ℕ). token_in l p.element p.bytes) (sym (append-nil before))
+tokens_of-more before (q ∷ pieces) p =
+    ap (λ (l : List Token). token_in before q.element q.bytes ++ l) (tokens_of-more (before ++ q.bytes) pieces p)
+    ∙ sym (append_assoc (token_in before q.element q.bytes) (tokens_of (before ++ q.bytes) pieces) (token_in ((before ++ q.bytes) ++ text_of pieces) p.element p.bytes))
+    ∙ ap (λ (l : List ℕ). (token_in before q.element q.bytes ++ tokens_of (before ++ q.bytes) pieces) ++ token_in l p.element p.bytes) (append_assoc before q.bytes (text_of pieces))
 
-pub next_none : (line : ℕ) (text gap front : List ℕ) → IsBehind text gap front → front ≢ [] → HasNoFirst front → (tokens : List Token) → ¬ (Spells line text tokens)
-next_none line text gap front b some none [] spells =
-    no_gap gap front (solid_from_stops front b.stops some) (rw (← b.parts) spells)
-next_none line text gap front b some none (token ∷ tokens) spells =
-    let t = spells.1 in
-    let same = gap_once gap t.gap front (t.bytes ++ spells.0) b.blank t.blank (solid_from_stops front b.stops some) (begins_solid line text token spells.0 t) (sym b.parts ∙ begins_parts line text token spells.0 t) in
-    none token.kind spells.0 (record { bytes = t.bytes; parts = same.1; spelled = t.spelled; longest = t.longest })
-
--- ---- the room for the number of a line
-
-newlines_within : (gap : List ℕ) → newlines gap ≤ length gap
-newlines_within gap = count_by-le-length (λ b. b == 10) gap
-
-pub begins_room : (line : ℕ) (text : List ℕ) (token : Token) (rest : List ℕ) → Begins line text token rest → token.line + length rest ≤ line + length text
-begins_room line text token rest b =
-    omega (arith, b.on, ap length (begins_parts line text token rest b), length-append b.gap (b.bytes ++ rest), length-append b.bytes rest, newlines_within b.gap)
-
-solid_some : (bytes : List ℕ) → IsSolid bytes → 0 < length bytes
-solid_some [] solid = absurd solid
-solid_some (b ∷ bytes) solid = omega arith
+token_at-place : (before : List ℕ) (e : Element) (bytes : List ℕ) (count : ℕ) → length bytes ≡ count → token_at (place_of before) e count ≡ token_in before e bytes
+token_at-place before space bytes count same = refl
+token_at-place before comment bytes count same = refl
+token_at-place before (token kind) bytes count same =
+    ap (λ (n : ℕ). record { kind = kind; span = span_at (place_of before) n } ∷ []) (sym same)
 
 -- ---- what was read so far
 
--- Whatever the rest spells, the text spells the tokens and then that, and the text spells nothing else.
-pub record IsProgress (text : List ℕ) (line : ℕ) (rest : List ℕ) (tokens : List Token) : Type 0 where
-  pub short : length text ≤ 1048576
-  pub room : line + length rest ≤ 1 + length text
-  pub sound : (more : List Token) → Spells line rest more → Spells 1 text (tokens ++ more)
-  pub complete : (all : List Token) → Spells 1 text all → (more : List Token) × (all ≡ tokens ++ more) × Spells line rest more
+-- The text is pieces and then the rest, these are the tokens among them, and this is the place behind them.
+pub record IsProgress (text : List ℕ) (place : Place) (rest : List ℕ) (tokens : List Token) : Type 0 where
+  pub pieces : List Piece
+  pub whole : text ≡ text_of pieces ++ rest
+  pub are : ArePieces pieces rest
+  pub tokens_are : tokens ≡ tokens_of [] pieces
+  pub place_is : place ≡ place_of (text_of pieces)
 
-pub starts : (text : List ℕ) → length text ≤ 1048576 → IsProgress text 1 text []
-starts text short = record { short = short; room = omega arith; sound = λ more spells. spells; complete = λ all spells. (all, refl, spells) }
+pub starts : (text : List ℕ) → IsProgress text (place_of []) text []
+starts text = record { pieces = []; whole = refl; are = tt; tokens_are = refl; place_is = refl }
 
-after_first : (line : ℕ) (rest : List ℕ) (token : Token) (after : List ℕ) (tokens more : List Token) → Begins line rest token after → Spells line rest more
-    → (others : List Token) × (tokens ++ more ≡ (tokens ++ token ∷ []) ++ others) × Spells token.line after others
-after_first line rest token after tokens [] b spells = absurd (begins_no_gap line rest token after b spells)
-after_first line rest token after tokens (u ∷ others) b spells =
-    let same = begins_once line rest token u after spells.0 b spells.1 in
-    let whole : tokens ++ u ∷ others ≡ (tokens ++ token ∷ []) ++ others = ap (λ (v : Token). tokens ++ v ∷ others) (sym same.0) ∙ sym (append_assoc tokens (token ∷ []) others) in
-    (others, whole, subst (λ (v : Token). Spells v.line after others) (sym same.0) (subst (λ (l : List ℕ). Spells u.line l others) (sym same.1) spells.2))
+-- The room at a place.
+pub record HasRoom (text : List ℕ) (place : Place) (rest : List ℕ) : Type 0 where
+  pub offset : place.offset + length rest ≡ length text
+  pub line : place.line ≤ place.offset + 1
+  pub column : place.column ≤ place.offset + 1
 
-pub steps : (text : List ℕ) (line : ℕ) (rest : List ℕ) (tokens : List Token) (token : Token) (after : List ℕ) → IsProgress text line rest tokens → Begins line rest token after → IsProgress text token.line after (tokens ++ token ∷ [])
-steps text line rest tokens token after p b = record {
-  short = p.short;
-  room = omega (arith, p.room, begins_room line rest token after b);
-  sound = λ more spells. subst (Spells 1 text) (sym (append_assoc tokens (token ∷ []) more)) (p.sound (token ∷ more) (after, b, spells));
-  complete = λ all spells.
-      let m = p.complete all spells in
-      let n = after_first line rest token after tokens m.0 b m.2 in
-      (n.0, m.1 ∙ n.1, n.2);
+room_at : (before rest : List ℕ) → HasRoom (before ++ rest) (place_of before) rest
+room_at before rest = record {
+  offset = sym (length-append before rest);
+  line = line_within before;
+  column = column_within before;
 }
 
-pub shrinks : (line : ℕ) (rest : List ℕ) (token : Token) (after : List ℕ) → Begins line rest token after → length after < length rest
-shrinks line rest token after b =
-    let some = solid_some b.bytes (lexeme_solid b.bytes (spelled_lexeme token.kind b.bytes b.spelled)) in
-    omega (arith, some, ap length (begins_parts line rest token after b), length-append b.gap (b.bytes ++ after), length-append b.bytes after)
+pub has_room : (text : List ℕ) (place : Place) (rest : List ℕ) (tokens : List Token) → IsProgress text place rest tokens → HasRoom text place rest
+has_room text place rest tokens p = rw (p.whole, p.place_is) (room_at (text_of p.pieces) rest)
 
-pub ends : (text : List ℕ) (line : ℕ) (rest : List ℕ) (tokens : List Token) → IsProgress text line rest tokens → IsTrue (list_all is_gap rest) → HasTokens text tokens
-ends text line rest tokens p blank = record { short = p.short; spelled = subst (Spells 1 text) (append-nil tokens) (p.sound [] blank) }
+pub utf8_rest : (before rest : List ℕ) → IsUtf8 (before ++ rest) → IsUtf8Behind rest
+utf8_rest before [] utf8 = tt
+utf8_rest before (b ∷ rest) utf8 = λ is. behind_quote before rest (subst (λ (x : ℕ). IsUtf8 (before ++ x ∷ rest)) is utf8)
 
-pub fails : (text : List ℕ) (line : ℕ) (rest : List ℕ) (tokens : List Token) → IsProgress text line rest tokens → ((more : List Token) → ¬ (Spells line rest more)) → (all : List Token) → ¬ (HasTokens text all)
-fails text line rest tokens p none all has = let m = p.complete all has.spelled in none m.0 m.2
+pub utf8_so_far : (text : List ℕ) (place : Place) (rest : List ℕ) (tokens : List Token) → IsUtf8 text → IsProgress text place rest tokens → IsUtf8Behind rest
+utf8_so_far text place rest tokens utf8 p = utf8_rest (text_of p.pieces) rest (subst IsUtf8 p.whole utf8)
+
+pub steps : (text : List ℕ) (place : Place) (rest : List ℕ) (tokens new : List Token) (count : ℕ) → IsProgress text place rest tokens → TakesUp place rest tokens new count
+    → IsProgress text (fold past place (take count rest)) (drop count rest) new
+steps text place rest tokens new count p t =
+    let bytes = take count rest in
+    let piece : Piece = record { element = t.element; bytes = bytes } in
+    let split : rest ≡ bytes ++ drop count rest = sym (take-append-drop count rest) in
+    let many : length bytes ≡ count = length-take-le count rest t.piece.within in
+    record {
+      pieces = p.pieces ++ piece ∷ [];
+      whole = p.whole ∙ ap (λ (l : List ℕ). text_of p.pieces ++ l) split ∙ sym (append_assoc (text_of p.pieces) bytes (drop count rest)) ∙ ap (λ (l : List ℕ). l ++ drop count rest) (sym (text_of-more p.pieces piece));
+      are = pieces_more p.pieces piece (drop count rest) (subst (ArePieces p.pieces) split p.are) t.piece.is t.piece.longest;
+      tokens_are =
+          t.added ∙ ap (λ (l : List Token). l ++ token_at place t.element count) p.tokens_are ∙ ap (λ (q : Place). tokens_of [] p.pieces ++ token_at q t.element count) p.place_is
+          ∙ ap (λ (l : List Token). tokens_of [] p.pieces ++ l) (token_at-place (text_of p.pieces) t.element bytes count many) ∙ sym (tokens_of-more [] p.pieces piece);
+      place_is = ap (λ (q : Place). fold past q bytes) p.place_is ∙ fold-past (text_of p.pieces) bytes ∙ ap place_of (sym (text_of-more p.pieces piece));
+    }
+
+pub shrinks : (place : Place) (rest : List ℕ) (old new : List Token) (count : ℕ) → TakesUp place rest old new count → length rest ≡ count + length (drop count rest)
+shrinks place rest old new count t =
+    omega (arith, ap length (take-append-drop count rest), length-append (take count rest) (drop count rest), length-take-le count rest t.piece.within)
+
+pub ends : (text : List ℕ) (place : Place) (rest : List ℕ) (lexed : Lexed) → length text ≤ 1048576 → IsUtf8 text → IsProgress text place rest lexed.tokens → rest ≡ [] → lexed.end ≡ span_at place 0 → HasTokens text lexed
+ends text place rest lexed short utf8 p none end =
+    let whole : text ≡ text_of p.pieces = p.whole ∙ ap (λ (l : List ℕ). text_of p.pieces ++ l) none ∙ append-nil (text_of p.pieces) in
+    record {
+      short = short;
+      utf8 = utf8;
+      pieces = p.pieces;
+      whole = whole;
+      spelled = subst (ArePieces p.pieces) none p.are;
+      tokens = p.tokens_are;
+      end = end ∙ ap (λ (q : Place). span_at q 0) (p.place_is ∙ ap place_of (sym whole));
+    }
+
+pub flawed_at : (text : List ℕ) (place : Place) (rest : List ℕ) (tokens : List Token) (fault : ProgramFault) → length text ≤ 1048576 → IsUtf8 text → IsProgress text place rest tokens → BeginsWith place rest fault → IsFlawed text fault
+flawed_at text place rest tokens fault short utf8 p b =
+    let at : fold past place b.flaw.before ≡ place_of (text_of p.pieces ++ b.flaw.before) = ap (λ (q : Place). fold past q b.flaw.before) p.place_is ∙ fold-past (text_of p.pieces) b.flaw.before in
+    record {
+      short = short;
+      utf8 = utf8;
+      pieces = p.pieces;
+      rest = rest;
+      whole = p.whole;
+      spelled = p.are;
+      flaw = b.flaw;
+      begins = b.begins;
+      is = b.is ∙ ap (λ (q : Place). record { number = b.flaw.number; span = span_at q (length b.flaw.bytes) }) at;
+    }
+
+pub broken_at : (text : List ℕ) (valid : ℕ) (fault : ProgramFault) → length text ≤ 1048576 → IsValidUpTo text valid → fault ≡ fault_behind faults.not_utf8 (place_of []) (take valid text) 1 → HasFault text fault
+broken_at text valid fault short up_to is =
+    let some : 1 ≤ length (drop valid text) = omega (arith, up_to.short, length-drop valid text) in
+    let one : length (take 1 (drop valid text)) ≡ 1 = length-take-le 1 (drop valid text) some in
+    no_utf8 (record {
+      short = short;
+      valid = valid;
+      up_to = up_to;
+      is = is ∙ ap (λ (q : Place). record { number = faults.not_utf8; span = span_at q 1 }) (fold-past [] (take valid text)) ∙ ap (λ (n : ℕ). record { number = faults.not_utf8; span = span_at (place_of (take valid text)) n }) (sym one);
+    })
+
+-- an error handed on
+pub handed_on : (text : List ℕ) (place : Place) (rest : List ℕ) (tokens : List Token) (e : LexError) → length text ≤ 1048576 → IsUtf8 text → IsProgress text place rest tokens → OnFault e (BeginsWith place rest) → OnFault e (HasFault text)
+handed_on text place rest tokens (Fault fault) short utf8 p b = flawed (flawed_at text place rest tokens fault short utf8 p b)
+handed_on text place rest tokens Memory short utf8 p b = tt

@@ -1,78 +1,179 @@
--- A text spells one list of tokens at most.
-use Rattle.std.proofs.Common.{ℕ, ◌≡◌, ◌+◌, true, List, [], ◌∷◌, ◌++◌, refl, sym, ap, subst, ◌∙◌, append_assoc}
-use Rattle.std.specs.List.{list_all}
-use Rattle.std.proofs.lemmas.Bool.{and_parts, both_ways}
+-- A text has one list of tokens at most, or one fault at most.
+use Rattle.std.proofs.Common.{ℕ, ◌≡◌, ◌<◌, ◌≤◌, nat_le, List, [], ◌∷◌, ◌++◌, length, take, drop, refl, sym, ap, subst, ◌∙◌, arith, append_assoc, append-nil}
+use Rattle.std.specs.Str.{IsUtf8, IsValidUpTo}
+use Rattle.std.proofs.lemmas.Str.{utf8_valid_len-IsUtf8, utf8_valid_len-IsValidUpTo}
+use Rattle.std.proofs.Math.Seq.{take-append_seam, drop-append_seam}
+use Rattle.std.proofs.lemmas.Bool.{and_parts}
+use Rattle.ob_base.specs.Names.{is_word}
+use Rattle.ob_base.specs.Faults as faults
+use Rattle.ob_base.specs.declared.fault.ProgramFault.{ProgramFault}
 use Rattle.ob_lexer.specs.declared.token.Token.{Token}
-use Rattle.ob_lexer.specs.Spelling.{IsSpelling}
-use Rattle.ob_lexer.specs.Lexis.{is_gap, newlines, Begins, Spells, HasTokens}
-use Rattle.ob_lexer.specs.Lexing.{IsCut}
-use Rattle.ob_lexer.proofs.Lexemes.{IsSolid, lexeme_solid, cut_once, spelled_lexeme, spelled_once}
+use Rattle.ob_lexer.specs.declared.token.TokenKind.TheVariants as kind
+use Rattle.ob_lexer.specs.declared.lexer.Lexed.{Lexed}
+use Rattle.ob_lexer.specs.declared.step.Step.TheVariants as step
+use Rattle.ob_lexer.specs.Places.{span_of, fault_at}
+use Rattle.ob_lexer.specs.Lexis.{IsLexeme, word, digits, quoted, sign, blank, line_comment, block_comment, of_line, of_block, Element, space, comment, token, IsElement, IsLongest, Piece, text_of, ArePieces, token_in, tokens_of, HasTokens}
+use Rattle.ob_lexer.specs.Flaws.{Flaw, Begins, IsFlawed, HasFault, too_long, no_utf8, flawed}
+use Rattle.ob_lexer.specs.Lexing.{place_of}
+use Rattle.ob_lexer.specs.Reading.{span_at}
+use Rattle.ob_lexer.proofs.Reserved.{word_is_word}
+use Rattle.ob_lexer.proofs.FirstBytes.{lexeme_some}
+use Rattle.ob_lexer.proofs.Progress.{utf8_rest}
+use Rattle.ob_lexer.proofs.Found.{step_at, step_of, piece_found, FindsFlaw, flaw_found}
 
-solid_goes_on : (bytes rest : List ℕ) → IsSolid bytes → IsSolid (bytes ++ rest)
-solid_goes_on [] rest solid = absurd solid
-solid_goes_on (b ∷ bytes) rest solid = solid
+-- ---- what stands at the text's front is one thing
 
--- a gap ends where something solid begins
-pub gap_once : (f g a b : List ℕ) → list_all is_gap f ≡ true → list_all is_gap g ≡ true → IsSolid a → IsSolid b → f ++ a ≡ g ++ b → (f ≡ g) × (a ≡ b)
-gap_once [] [] a b p q solid_a solid_b e = (refl, e)
-gap_once [] (y ∷ g) [] b p q solid_a solid_b e = absurd solid_a
-gap_once [] (y ∷ g) (x ∷ a) b p q solid_a solid_b e =
-    let same : x ≡ y = cc in
-    absurd (both_ways (is_gap x) solid_a (rw same (and_parts (is_gap y) (list_all is_gap g) q).0))
-gap_once (x ∷ f) [] a [] p q solid_a solid_b e = absurd solid_b
-gap_once (x ∷ f) [] a (y ∷ b) p q solid_a solid_b e =
-    let same : y ≡ x = cc in
-    absurd (both_ways (is_gap y) solid_b (rw same (and_parts (is_gap x) (list_all is_gap f) p).0))
-gap_once (x ∷ f) (y ∷ g) a b p q solid_a solid_b e =
-    let same : x ≡ y = cc in
-    let others : f ++ a ≡ g ++ b = cc in
-    let rest = gap_once f g a b (and_parts (is_gap x) (list_all is_gap f) p).1 (and_parts (is_gap y) (list_all is_gap g) q).1 solid_a solid_b others in
-    let f-is : f ≡ g = rest.0 in
-    (cc, rest.1)
+same_step : (before : List ℕ) (d e : Element) (a b : List ℕ) → step_of d (length a) ≡ step_of e (length b) → a ≡ b → token_in before d a ≡ token_in before e b
+same_step before space space a b s same = refl
+same_step before space comment a b s same = refl
+same_step before space (token k) a b s same = absurd cc
+same_step before comment space a b s same = refl
+same_step before comment comment a b s same = refl
+same_step before comment (token k) a b s same = absurd cc
+same_step before (token j) space a b s same = absurd cc
+same_step before (token j) comment a b s same = absurd cc
+same_step before (token j) (token k) a b s same =
+    let kinds : j ≡ k = cc in
+    λ i. record { kind = kinds i; span = span_of before (same i) } ∷ []
 
--- what is solid behind a gap makes no gap
-pub no_gap : (gap bytes : List ℕ) → IsSolid bytes → list_all is_gap (gap ++ bytes) ≡ true → ⊥
-no_gap [] [] solid all = solid
-no_gap [] (b ∷ bytes) solid all = both_ways (is_gap b) solid (and_parts (is_gap b) (list_all is_gap bytes) all).0
-no_gap (b ∷ gap) bytes solid all = no_gap gap bytes solid (and_parts (is_gap b) (list_all is_gap (gap ++ bytes)) all).1
+same_count : (d e : Element) (m n : ℕ) → step_of d m ≡ step_of e n → m ≡ n
+same_count space space m n s = cc
+same_count space comment m n s = cc
+same_count space (token k) m n s = absurd cc
+same_count comment space m n s = cc
+same_count comment comment m n s = cc
+same_count comment (token k) m n s = absurd cc
+same_count (token j) space m n s = absurd cc
+same_count (token j) comment m n s = absurd cc
+same_count (token j) (token k) m n s = cc
 
-module _ (line : ℕ) (text : List ℕ) (token : Token) (rest : List ℕ) (b : Begins line text token rest) where
-  pub begins_solid : IsSolid (b.bytes ++ rest)
-  begins_solid = solid_goes_on b.bytes rest (lexeme_solid b.bytes (spelled_lexeme token.kind b.bytes b.spelled))
+no_flaw_step : (e : Element) (count number before many : ℕ) → step_of e count ≡ step.Flaw number before many → ⊥
+no_flaw_step space count number before many s = cc
+no_flaw_step comment count number before many s = cc
+no_flaw_step (token k) count number before many s = cc
 
-  pub begins_parts : text ≡ b.gap ++ (b.bytes ++ rest)
-  begins_parts = b.parts ∙ append_assoc b.gap b.bytes rest
+same_fronts : (a x b y : List ℕ) → a ++ x ≡ b ++ y → length a ≡ length b → (a ≡ b) × (x ≡ y)
+same_fronts a x b y e count = (
+  sym (take-append_seam a x) ∙ ap (λ (n : ℕ). take n (a ++ x)) count ∙ ap (take (length b)) e ∙ take-append_seam b y,
+  sym (drop-append_seam a x) ∙ ap (λ (n : ℕ). drop n (a ++ x)) count ∙ ap (drop (length b)) e ∙ drop-append_seam b y,
+)
 
-  begins_cut : IsCut (b.bytes ++ rest) b.bytes rest
-  begins_cut = record { parts = refl; lexeme = spelled_lexeme token.kind b.bytes b.spelled; longest = b.longest }
+-- ---- the pieces of a text
 
-  -- a text that begins with a token is no gap
-  pub begins_no_gap : list_all is_gap text ≡ true → ⊥
-  begins_no_gap blank = no_gap b.gap (b.bytes ++ rest) begins_solid (rw begins_parts at blank)
+-- Nothing more is read: the text ends, or begins with a fault.
+data IsEnd (rest : List ℕ) : Type 0 where
+  at_end : rest ≡ [] → IsEnd rest
+  at_flaw : (flaw : Flaw) → Begins rest flaw → IsEnd rest
 
-token_same : (t u : Token) → t.kind ≡ u.kind → t.line ≡ u.line → t ≡ u
-token_same t u p q = λ i. record { kind = p i; line = q i }
+element_lexeme : (e : Element) (bytes : List ℕ) → IsElement e bytes → IsLexeme bytes
+element_lexeme space bytes is = blank is
+element_lexeme comment bytes (of_line is) = line_comment is
+element_lexeme comment bytes (of_block is) = block_comment is
+element_lexeme (token (kind.Name name)) bytes is = word (and_parts (nat_le (length bytes) 64) (is_word bytes) is.1).1
+element_lexeme (token (kind.Number number)) bytes is = digits is.0
+element_lexeme (token (kind.Text content)) bytes is = quoted content is.0
+element_lexeme (token (kind.Word w)) bytes is = word (rw is (word_is_word w))
+element_lexeme (token (kind.Sign s)) bytes is = sign s is
 
--- a text begins with one token at most
-pub begins_once : (line : ℕ) (text : List ℕ) (t u : Token) (rest others : List ℕ) → Begins line text t rest → Begins line text u others → (t ≡ u) × (rest ≡ others)
-begins_once line text t u rest others p q =
-    let e = sym (begins_parts line text t rest p) ∙ begins_parts line text u others q in
-    let same = gap_once p.gap q.gap (p.bytes ++ rest) (q.bytes ++ others) p.blank q.blank (begins_solid line text t rest p) (begins_solid line text u others q) e in
-    let cut = subst (λ (l : List ℕ). IsCut l q.bytes others) (sym same.1) (begins_cut line text u others q) in
-    let ends = cut_once (p.bytes ++ rest) p.bytes rest q.bytes others (begins_cut line text t rest p) cut in
-    let kind = spelled_once t.kind u.kind q.bytes (subst (IsSpelling t.kind) ends.0 p.spelled) q.spelled in
-    (token_same t u kind (p.on ∙ ap (λ (g : List ℕ). line + newlines g) same.0 ∙ sym q.on), ends.1)
+no_front : (bytes rest : List ℕ) → bytes ++ rest ≡ [] → bytes ≡ []
+no_front [] rest none = refl
+no_front (b ∷ bytes) rest none = absurd cc
 
-spells_once : (line : ℕ) (text : List ℕ) (a b : List Token) → Spells line text a → Spells line text b → a ≡ b
-spells_once line text [] [] p q = refl
-spells_once line text [] (u ∷ b) p q = absurd (begins_no_gap line text u q.0 q.1 p)
-spells_once line text (t ∷ a) [] p q = absurd (begins_no_gap line text t p.0 p.1 q)
-spells_once line text (t ∷ a) (u ∷ b) p q =
-    let same = begins_once line text t u p.0 q.0 p.1 q.1 in
-    let moved : Spells t.line p.0 b = subst (λ (v : Token). Spells v.line p.0 b) (sym same.0) (subst (λ (l : List ℕ). Spells u.line l b) (sym same.1) q.2) in
-    let rest = spells_once t.line p.0 a b p.2 moved in
-    let token : t ≡ u = same.0 in
+-- no piece stands at the end
+no_piece : (e : Element) (bytes rest all : List ℕ) → IsElement e bytes → IsLongest bytes rest → IsUtf8 all → (before : List ℕ) → all ≡ before ++ (bytes ++ rest) → IsEnd (bytes ++ rest) → ⊥
+no_piece e bytes rest all is longest utf8 before whole (at_end none) = lexeme_some bytes (element_lexeme e bytes is) (no_front bytes rest none)
+no_piece e bytes rest all is longest utf8 before whole (at_flaw flaw begins) =
+    let found = piece_found e bytes rest is longest (utf8_rest before (bytes ++ rest) (subst IsUtf8 whole utf8)) in
+    no_flaw_step e (length bytes) flaw.number (length flaw.before) (length flaw.bytes) (sym found ∙ (flaw_found (bytes ++ rest) flaw begins).step)
+
+-- Two ways to read what follows some bytes agree.
+record Agrees (before : List ℕ) (ps qs : List Piece) (r s : List ℕ) : Type 0 where
+  texts : text_of ps ≡ text_of qs
+  rests : r ≡ s
+  tokens : tokens_of before ps ≡ tokens_of before qs
+
+agree : (all before : List ℕ) (ps qs : List Piece) (r s : List ℕ) → IsUtf8 all → all ≡ before ++ (text_of ps ++ r) → text_of ps ++ r ≡ text_of qs ++ s → ArePieces ps r → ArePieces qs s → IsEnd r → IsEnd s → Agrees before ps qs r s
+agree all before [] [] r s utf8 whole same p q end_r end_s = record { texts = refl; rests = same; tokens = refl }
+agree all before [] (q ∷ qs) r s utf8 whole same p are end_r end_s =
+    let parts : r ≡ q.bytes ++ (text_of qs ++ s) = same ∙ append_assoc q.bytes (text_of qs) s in
+    absurd (no_piece q.element q.bytes (text_of qs ++ s) all are.0 are.1 utf8 before (whole ∙ ap (λ (l : List ℕ). before ++ l) parts) (subst IsEnd parts end_r))
+agree all before (p ∷ ps) [] r s utf8 whole same are q end_r end_s =
+    let parts : s ≡ p.bytes ++ (text_of ps ++ r) = sym same ∙ append_assoc p.bytes (text_of ps) r in
+    absurd (no_piece p.element p.bytes (text_of ps ++ r) all are.0 are.1 utf8 before (whole ∙ ap (λ (l : List ℕ). before ++ l) (append_assoc p.bytes (text_of ps) r)) (subst IsEnd parts end_s))
+agree all before (p ∷ ps) (q ∷ qs) r s utf8 whole same p_are q_are end_r end_s =
+    let p_rest = text_of ps ++ r in
+    let q_rest = text_of qs ++ s in
+    let p_whole : all ≡ before ++ (p.bytes ++ p_rest) = whole ∙ ap (λ (l : List ℕ). before ++ l) (append_assoc p.bytes (text_of ps) r) in
+    let one : p.bytes ++ p_rest ≡ q.bytes ++ q_rest = sym (append_assoc p.bytes (text_of ps) r) ∙ same ∙ append_assoc q.bytes (text_of qs) s in
+    let q_whole : all ≡ before ++ (q.bytes ++ q_rest) = p_whole ∙ ap (λ (l : List ℕ). before ++ l) one in
+    let p_found = piece_found p.element p.bytes p_rest p_are.0 p_are.1 (utf8_rest before (p.bytes ++ p_rest) (subst IsUtf8 p_whole utf8)) in
+    let q_found = piece_found q.element q.bytes q_rest q_are.0 q_are.1 (utf8_rest before (q.bytes ++ q_rest) (subst IsUtf8 q_whole utf8)) in
+    let steps : step_of p.element (length p.bytes) ≡ step_of q.element (length q.bytes) = sym p_found ∙ ap step_at one ∙ q_found in
+    let fronts = same_fronts p.bytes p_rest q.bytes q_rest one (same_count p.element q.element (length p.bytes) (length q.bytes) steps) in
+    let next_whole : all ≡ (before ++ p.bytes) ++ p_rest = p_whole ∙ sym (append_assoc before p.bytes p_rest) in
+    let others = agree all (before ++ p.bytes) ps qs r s utf8 next_whole fronts.1 p_are.2 q_are.2 end_r end_s in
+    let here : token_in before p.element p.bytes ≡ token_in before q.element q.bytes = same_step before p.element q.element p.bytes q.bytes steps fronts.0 in
+    let bytes : p.bytes ≡ q.bytes = fronts.0 in
+    record {
+      texts = λ i. bytes i ++ others.texts i;
+      rests = others.rests;
+      tokens = ap (λ (l : List Token). token_in before p.element p.bytes ++ l) others.tokens ∙ ap (λ (l : List Token). l ++ tokens_of (before ++ p.bytes) qs) here ∙ ap (λ (l : List ℕ). token_in before q.element q.bytes ++ tokens_of (before ++ l) qs) bytes;
+    }
+
+-- ---- the laws
+
+lexed_same : (a b : Lexed) → a.tokens ≡ b.tokens → a.end ≡ b.end → a ≡ b
+lexed_same a b p q = λ i. record { tokens = p i; end = q i }
+
+pub one_reading_lem : (text : List ℕ) (a b : Lexed) → HasTokens text a → HasTokens text b → a ≡ b
+one_reading_lem text a b p q =
+    let p_whole : text ≡ text_of p.pieces ++ [] = p.whole ∙ sym (append-nil (text_of p.pieces)) in
+    let q_whole : text ≡ text_of q.pieces ++ [] = q.whole ∙ sym (append-nil (text_of q.pieces)) in
+    let r = agree text [] p.pieces q.pieces [] [] p.utf8 p_whole (sym p_whole ∙ q_whole) p.spelled q.spelled (at_end refl) (at_end refl) in
+    lexed_same a b (p.tokens ∙ r.tokens ∙ sym q.tokens) (p.end ∙ sym q.end)
+
+no_utf8_twice : (text : List ℕ) (valid : ℕ) → IsUtf8 text → IsValidUpTo text valid → ⊥
+no_utf8_twice text valid utf8 up_to = omega (arith, up_to.short, utf8_valid_len-IsUtf8 text utf8, utf8_valid_len-IsValidUpTo text valid up_to)
+
+flawed_same : (text : List ℕ) (a b : ProgramFault) → IsFlawed text a → IsFlawed text b → a ≡ b
+flawed_same text a b p q =
+    let r = agree text [] p.pieces q.pieces p.rest q.rest p.utf8 p.whole (sym p.whole ∙ q.whole) p.spelled q.spelled (at_flaw p.flaw p.begins) (at_flaw q.flaw q.begins) in
+    let m = flaw_found p.rest p.flaw p.begins in
+    let n = subst (λ (l : List ℕ). FindsFlaw l q.flaw) (sym r.rests) (flaw_found q.rest q.flaw q.begins) in
+    let steps : step.Flaw p.flaw.number (length p.flaw.before) (length p.flaw.bytes) ≡ step.Flaw q.flaw.number (length q.flaw.before) (length q.flaw.bytes) = sym m.step ∙ n.step in
+    let number : p.flaw.number ≡ q.flaw.number = cc in
+    let count : length p.flaw.before ≡ length q.flaw.before = cc in
+    let many : length p.flaw.bytes ≡ length q.flaw.bytes = cc in
+    let before : p.flaw.before ≡ q.flaw.before = m.front ∙ ap (λ (k : ℕ). take k p.rest) count ∙ sym n.front in
+    let texts : text_of p.pieces ≡ text_of q.pieces = r.texts in
+    let place : text_of p.pieces ++ p.flaw.before ≡ text_of q.pieces ++ q.flaw.before = λ i. texts i ++ before i in
+    p.is ∙ (λ i. record { number = number i; span = span_at (place_of (place i)) (many i) }) ∙ sym q.is
+
+long_and_short : (text : List ℕ) → 1048576 < length text → length text ≤ 1048576 → ⊥
+long_and_short text long short = omega arith
+
+pub one_fault_lem : (text : List ℕ) (a b : ProgramFault) → HasFault text a → HasFault text b → a ≡ b
+one_fault_lem text a b (too_long p) (too_long q) = p.is ∙ sym q.is
+one_fault_lem text a b (too_long p) (no_utf8 q) = absurd (long_and_short text p.long q.short)
+one_fault_lem text a b (too_long p) (flawed q) = absurd (long_and_short text p.long q.short)
+one_fault_lem text a b (no_utf8 p) (too_long q) = absurd (long_and_short text q.long p.short)
+one_fault_lem text a b (no_utf8 p) (no_utf8 q) =
+    let same : p.valid ≡ q.valid = sym (utf8_valid_len-IsValidUpTo text p.valid p.up_to) ∙ utf8_valid_len-IsValidUpTo text q.valid q.up_to in
+    p.is ∙ ap (λ (n : ℕ). fault_at faults.not_utf8 (take n text) (take 1 (drop n text))) same ∙ sym q.is
+one_fault_lem text a b (no_utf8 p) (flawed q) = absurd (no_utf8_twice text p.valid q.utf8 p.up_to)
+one_fault_lem text a b (flawed p) (too_long q) = absurd (long_and_short text q.long p.short)
+one_fault_lem text a b (flawed p) (no_utf8 q) = absurd (no_utf8_twice text q.valid p.utf8 q.up_to)
+one_fault_lem text a b (flawed p) (flawed q) = flawed_same text a b p q
+
+no_flaw_at_end : (flaw : Flaw) → ¬ (Begins [] flaw)
+no_flaw_at_end flaw begins =
+    let s : step.Gap 0 ≡ step.Flaw flaw.number (length flaw.before) (length flaw.bytes) = (flaw_found [] flaw begins).step in
     cc
 
-pub one_reading_lem : (text : List ℕ) (a b : List Token) → HasTokens text a → HasTokens text b → a ≡ b
-one_reading_lem text a b p q = spells_once 1 text a b p.spelled q.spelled
+pub tokens_or_fault_lem : (text : List ℕ) (lexed : Lexed) (fault : ProgramFault) → HasTokens text lexed → ¬ (HasFault text fault)
+tokens_or_fault_lem text lexed fault t (too_long f) = long_and_short text f.long t.short
+tokens_or_fault_lem text lexed fault t (no_utf8 f) = no_utf8_twice text f.valid t.utf8 f.up_to
+tokens_or_fault_lem text lexed fault t (flawed f) =
+    let whole : text ≡ text_of t.pieces ++ [] = t.whole ∙ sym (append-nil (text_of t.pieces)) in
+    let r = agree text [] t.pieces f.pieces [] f.rest t.utf8 whole (sym whole ∙ f.whole) t.spelled f.spelled (at_end refl) (at_flaw f.flaw f.begins) in
+    no_flaw_at_end f.flaw (subst (λ (l : List ℕ). Begins l f.flaw) (sym r.rests) f.begins)

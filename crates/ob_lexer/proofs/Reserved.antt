@@ -1,5 +1,5 @@
 -- Each reserved word has a spelling of its own.
-use Rattle.std.proofs.Common.{ℕ, ◌≡◌, List, [], ◌∷◌, Some, None, inl, inr, refl, sym, ap, ◌∙◌, IsTrue}
+use Rattle.std.proofs.Common.{ℕ, ◌≡◌, ◌≤◌, List, length, arith, [], ◌∷◌, Some, None, inl, inr, refl, sym, ap, ◌∙◌, IsTrue}
 use Rattle.std.proofs.lemmas.Bool.{cases_Bool}
 use Rattle.std.proofs.lemmas.Slice.Eq.{bytes_eq-Decides}
 use Rattle.std.specs.Str.{bytes_eq}
@@ -96,3 +96,35 @@ word_is_word word.Unowned = refl
 word_is_word word.Shared = refl
 word_is_word word.Where = refl
 word_is_word word.Is = refl
+
+-- no reserved word is long
+pub word_is_short : (w : Word) → length (spelling_of_word w) ≤ 64
+word_is_short word.Contract = omega arith
+word_is_short word.Asset = omega arith
+word_is_short word.Main = omega arith
+word_is_short word.Interface = omega arith
+word_is_short word.Implements = omega arith
+word_is_short word.State = omega arith
+word_is_short word.Transaction = omega arith
+word_is_short word.Private = omega arith
+word_is_short word.Returns = omega arith
+word_is_short word.Available = omega arith
+word_is_short word.In = omega arith
+word_is_short word.If = omega arith
+word_is_short word.Else = omega arith
+word_is_short word.While = omega arith
+word_is_short word.Return = omega arith
+word_is_short word.Revert = omega arith
+word_is_short word.Disown = omega arith
+word_is_short word.New = omega arith
+word_is_short word.This = omega arith
+word_is_short word.True = omega arith
+word_is_short word.False = omega arith
+word_is_short word.Int = omega arith
+word_is_short word.Bool = omega arith
+word_is_short word.String = omega arith
+word_is_short word.Owned = omega arith
+word_is_short word.Unowned = omega arith
+word_is_short word.Shared = omega arith
+word_is_short word.Where = omega arith
+word_is_short word.Is = omega arith

@@ -1,29 +1,36 @@
-//! The tokens of a text, from left to right.
-ghost use Rattle.std.specs.Prelude.{◌≡◌, ℕ, ◌+◌, ◌<◌, ◌^◌, List, length, IsTrue, IfOk, MatchOption};
-ghost use Rattle.std.specs.List.{list_all};
-ghost use Rattle.ob_base.specs.Names.{is_word};
-ghost use Rattle.ob_lexer.specs.declared.token.Token.{Token};
-ghost use Rattle.ob_lexer.specs.Spelling.{IsSpelling, is_digits};
-ghost use Rattle.ob_lexer.specs.Lexis.{is_gap, Begins, Spells, HasTokens};
-ghost use Rattle.ob_lexer.specs.Lexing.{Gives, IsFirst, HasNoFirst, IsUnspelled, number_of};
+//! The tokens of a text.
+ghost use Rattle.std.specs.Prelude.{◌≡◌, ℕ, ◌+◌, ◌<◌, ◌≤◌, ◌^◌, List, length, take, drop, IfOk, IfErr, MatchOption};
+ghost use Rattle.std.specs.Str.{IsUtf8, IsValidUpTo};
+ghost use Rattle.ob_base.specs.declared.fault.ProgramFault.{ProgramFault};
+ghost use Rattle.ob_lexer.specs.declared.lexer.Lexed.{Lexed};
+ghost use Rattle.ob_lexer.specs.Lexis.{HasTokens};
+ghost use Rattle.ob_lexer.specs.Flaws.{HasFault};
+ghost use Rattle.ob_lexer.specs.Reading.{IsUtf8Behind, fault_behind, TakesUp, BeginsWith, OnFault};
 
-use crate::bytes::{cut_digits, cut_gap, cut_word, newlines};
-use crate::words::{sign_of, word_of};
-use crate::{Token, TokenKind};
-use ob_base::{Items, Name, NameError, is_digit, is_letter};
+use crate::Token;
+use crate::place::Place;
+use crate::step::{Step, first_step};
+use ob_base::{Items, LONG_PROGRAM, Memory, NOT_UTF8, ProgramFault, Span};
 use std::alloc::{AllocError, Global};
 use thiserror::Error;
 
 /// The most bytes that a program's text has.
 const LONGEST_TEXT: usize = 1_048_576;
 
+/// What a text is made of, but for blanks and comments.
+#[derive(Debug, Drop)]
+pub struct Lexed {
+    pub tokens: Items<Token>,
+    /// The place just behind the last character, which has no bytes.
+    pub end: Span,
+}
+
 /// Why a text has no tokens.
 #[derive(Clone, Copy, PartialEq, Eq, Debug, Error)]
 pub enum LexError {
-    /// The text is too long, or at some place no token stands: a byte begins none, a name has more
-    /// than 64 bytes, or a number is above 2^63 - 1.
+    /// The first fault in the text.
     #[error("the text has no tokens")]
-    NoTokens,
+    Fault(ProgramFault),
     #[error("out of memory")]
     Memory,
 }
@@ -39,116 +46,114 @@ impl From<AllocError> for LexError {
     }
 }
 
-impl From<NameError> for LexError {
-    ghost use Rattle.ob_lexer.specs.Lexing.{IsCauseOf};
+impl From<Memory> for LexError {
+    ghost use Rattle.std.specs.Prelude.{◌≡◌};
+    ghost use Rattle.ob_lexer.specs.declared.lexer.LexError.TheVariants.{Memory};
 
-    ghost from_gives = { λ cause e. IsCauseOf cause e };
+    ghost from_gives = { λ _ e. e ≡ Memory };
 
-    fn from(cause: NameError) -> LexError {
-        match cause {
-            NameError::Bad => LexError::NoTokens,
-            NameError::Memory => LexError::Memory,
+    fn from(_: Memory) -> LexError {
+        LexError::Memory
+    }
+}
+
+/// How many bytes of a text that is no UTF-8 are.
+fn valid_len(text: &[u8]) -> Option<usize>
+    ensures { MatchOption result (IsUtf8 text.now) (λ valid. IsValidUpTo text.now valid) }
+{
+    match str::from_utf8(text) {
+        Ok(_) => None,
+        Err(error) => Some(error.valid_up_to()),
+    }
+}
+
+/// The fault of so many bytes, behind others at a place.
+fn fault_behind(number: u16, place: Place, before: &[u8], count: usize) -> ProgramFault
+    requires room { place.offset + length before.now + count < 2 ^ 31 }
+    requires line { place.line ≤ place.offset + 1 }
+    requires column { place.column ≤ place.offset + 1 }
+    ensures { result ≡ fault_behind number place before.now count }
+{
+    let span = place.after(before).span(count);
+    ProgramFault { number, span }
+}
+
+/// Takes up the piece of the text at this place: adds its token, if it is one, and answers how many bytes it has.
+fn take_up(
+    alloc: Global,
+    place: Place,
+    text: &[u8],
+    tokens: &mut Items<Token>,
+) -> Result<usize, LexError>
+    requires some { 0 < length text.now }
+    requires utf8 { IsUtf8Behind text.now }
+    requires room { place.offset + length text.now < 2 ^ 31 }
+    requires line { place.line ≤ place.offset + 1 }
+    requires column { place.column ≤ place.offset + 1 }
+    ensures ok { IfOk result (λ count. TakesUp place text.now tokens.old tokens.new count) }
+    ensures err { IfErr result (λ e. OnFault e (BeginsWith place text.now)) }
+{
+    match first_step(alloc, text)? {
+        Step::Gap { length } => Ok(length),
+        Step::Token { kind, length } => {
+            let span = place.span(length);
+            tokens.push(Token { kind, span })?;
+            Ok(length)
         }
+        Step::Flaw {
+            number,
+            before,
+            length,
+        } => Err(LexError::Fault(fault_behind(number, place, &text[..before], length))),
     }
 }
 
-/// The number that digits stand for, if it is below 2^63.
-fn number_of(digits: &[u8]) -> Option<i64>
-    ensures { result ≡ number_of digits.now }
+/// The tokens of a text of UTF-8.
+fn tokens_in(alloc: Global, text: &[u8]) -> Result<Lexed, LexError>
+    requires short { length text.now ≤ 1048576 }
+    requires utf8 { IsUtf8 text.now }
+    ensures tokens { IfOk result (λ lexed. HasTokens text.now lexed) }
+    ensures fault { IfErr result (λ e. OnFault e (HasFault text.now)) }
 {
-    let mut value: u64 = 0;
-    for digit in digits {
-        // What passes 64 bits on the way is above 2^63 at the end.
-        let units = u64::from(digit.saturating_sub(b'0'));
-        value = value.checked_mul(10)?.checked_add(units)?;
-    }
-    i64::try_from(value).ok()
-}
-
-/// The number as a token.
-fn number(digits: &[u8]) -> Result<TokenKind, LexError>
-    requires { IsTrue (is_digits digits.now) }
-    ensures { Gives result (λ kind. IsSpelling kind digits.now) (IsUnspelled digits.now) }
-{
-    match number_of(digits) {
-        Some(number) => Ok(TokenKind::Number(number)),
-        None => Err(LexError::NoTokens),
-    }
-}
-
-/// The reserved word as a token, or the name.
-fn word_or_name(alloc: Global, bytes: &[u8]) -> Result<TokenKind, LexError>
-    requires { IsTrue (is_word bytes.now) }
-    ensures { Gives result (λ kind. IsSpelling kind bytes.now) (IsUnspelled bytes.now) }
-{
-    match word_of(bytes) {
-        Some(word) => Ok(TokenKind::Word(word)),
-        None => Ok(TokenKind::Name(Name::of(alloc, bytes)?)),
-    }
-}
-
-/// The token that the text begins with, and what follows it.
-fn token_at(alloc: Global, text: &[u8]) -> Result<(TokenKind, &[u8]), LexError>
-    ensures { Gives result (λ x. IsFirst text.now x.0 x.1.now) (HasNoFirst text.now) }
-{
-    let Some((first, after)) = text.split_first() else {
-        return Err(LexError::NoTokens);
-    };
-    if is_letter(*first) {
-        let (bytes, rest) = cut_word(text);
-        return Ok((word_or_name(alloc, bytes)?, rest));
-    }
-    if is_digit(*first) {
-        let (bytes, rest) = cut_digits(text);
-        return Ok((number(bytes)?, rest));
-    }
-    match sign_of(*first) {
-        Some(sign) => Ok((TokenKind::Sign(sign), after)),
-        None => Err(LexError::NoTokens),
-    }
-}
-
-/// The first token of a text that begins on this line, behind a gap, and what follows it. None if
-/// the text is a gap.
-fn next_token(alloc: Global, line: u32, text: &[u8]) -> Result<Option<(Token, &[u8])>, LexError>
-    requires { line + length text.now < 2 ^ 32 }
-    ensures { Gives result
-        (λ next. MatchOption next
-        (IsTrue (list_all is_gap text.now))
-        (λ x. Begins line text.now x.0 x.1.now))
-        ((tokens : List Token) → ¬ (Spells line text.now tokens)) }
-{
-    let (gap, front) = cut_gap(text);
-    if front.is_empty() {
-        return Ok(None);
-    }
-    // No more newlines than bytes, which the number of a line has room for.
-    let line = line + newlines(gap) as u32;
-    let (kind, rest) = token_at(alloc, front)?;
-    Ok(Some((Token { kind, line }, rest)))
-}
-
-/// The tokens of a program's text.
-pub fn lex(alloc: Global, text: &[u8]) -> Result<Items<Token>, LexError>
-    ensures tokens { IfOk result (λ tokens. HasTokens text.now tokens) }
-    ensures none { result ≡ Err LexError.NoTokens
-        → (tokens : List Token) → ¬ (HasTokens text.now tokens) }
-{
-    if text.len() > LONGEST_TEXT {
-        return Err(LexError::NoTokens);
-    }
     let mut tokens = Items::new(alloc);
     let mut rest = text;
-    let mut line = 1;
-    while let Some((token, after)) = next_token(alloc, line, rest)? {
-        line = token.line;
-        tokens.push(token)?;
+    let mut place = Place::START;
+    'pieces: while !rest.is_empty() {
+        let count = take_up(alloc, place, rest, &mut tokens)?;
+        let (piece, after) = rest.split_at(count);
+        place = place.after(piece);
         rest = after;
     }
-    Ok(tokens)
+    let end = place.span(0);
+    Ok(Lexed { tokens, end })
+}
+
+/// The tokens of a program's text, or the first fault in it.
+pub fn lex(alloc: Global, text: &[u8]) -> Result<Lexed, LexError>
+    ensures tokens { IfOk result (λ lexed. HasTokens text.now lexed) }
+    ensures fault { IfErr result (λ e. OnFault e (HasFault text.now)) }
+{
+    if text.len() > LONGEST_TEXT {
+        return Err(LexError::Fault(fault_behind(LONG_PROGRAM, Place::START, &[], 0)));
+    }
+    if let Some(valid) = valid_len(text) {
+        let fault = fault_behind(NOT_UTF8, Place::START, &text[..valid], 1);
+        return Err(LexError::Fault(fault));
+    }
+    tokens_in(alloc, text)
 }
 
 /// A text spells one list of tokens at most.
 pub fn one_reading()
-    ensures { (text : List ℕ) (a b : List Token) → HasTokens text a → HasTokens text b → a ≡ b }
+    ensures { (text : List ℕ) (a b : Lexed) → HasTokens text a → HasTokens text b → a ≡ b }
+{}
+
+/// A text has one fault at most.
+pub fn one_fault()
+    ensures { (text : List ℕ) (a b : ProgramFault) → HasFault text a → HasFault text b → a ≡ b }
+{}
+
+/// A text that spells tokens has no fault.
+pub fn tokens_or_fault()
+    ensures { (text : List ℕ) (lexed : Lexed) (fault : ProgramFault) → HasTokens text lexed → ¬ (HasFault text fault) }
 {}

@@ -3,10 +3,14 @@
 
 mod bytes;
 mod lexer;
+mod place;
+mod signs;
+mod step;
+mod strings;
 mod token;
 mod words;
 
-pub use lexer::{LexError, lex, one_reading};
+pub use lexer::{LexError, Lexed, lex, one_fault, one_reading, tokens_or_fault};
 pub use token::{Sign, Token, TokenKind, Word};
 
 #[cfg(test)]

@@ -1,11 +1,11 @@
 //! What a token is.
-use ob_base::Name;
+use ob_base::{Name, Span, Text};
 
-/// A token of a program, with the line on which it begins, from 1.
+/// A token of a program, with the place where it stands.
 #[derive(Debug, Drop)]
 pub struct Token {
     pub kind: TokenKind,
-    pub line: u32,
+    pub span: Span,
 }
 
 /// The kinds of tokens (the Obsidian language documentation, "Lexical structure").
@@ -15,6 +15,8 @@ pub enum TokenKind {
     Name(Name),
     /// A whole number from 0 to 2^63 - 1.
     Number(i64),
+    /// A string, with its escapes read.
+    Text(Text),
     /// A reserved word.
     Word(Word),
     /// A sign.
@@ -55,7 +57,7 @@ pub enum Word {
     Is,
 }
 
-/// The signs that the language has so far.
+/// The signs.
 #[derive(Clone, Copy, PartialEq, Eq, Debug)]
 pub enum Sign {
     /// `{`
@@ -66,14 +68,54 @@ pub enum Sign {
     OpenParen,
     /// `)`
     CloseParen,
+    /// `[`
+    OpenBracket,
+    /// `]`
+    CloseBracket,
     /// `;`
     Semicolon,
     /// `,`
     Comma,
+    /// `.`
+    Dot,
     /// `@`
     At,
+    /// `|`
+    Bar,
+    /// `::`
+    DoubleColon,
+    /// `->`
+    Arrow,
+    /// `>>`
+    DoubleGreater,
     /// `=`
     Equals,
+    /// `==`
+    DoubleEquals,
+    /// `!=`
+    NotEquals,
+    /// `<`
+    Less,
+    /// `<=`
+    LessEquals,
+    /// `>`
+    Greater,
+    /// `>=`
+    GreaterEquals,
     /// `+`
     Plus,
+    /// `-`
+    Minus,
+    /// `*`
+    Star,
+    /// `/`
+    Slash,
+    /// `%`
+    Percent,
+    /// `!`
+    Not,
+    /// `&&`
+    DoubleAmpersand,
+    /// `||`
+    DoubleBar,
 }

@@ -1,9 +1,9 @@
-//! The reserved words and the signs, by their spellings.
+//! The reserved words, by their spellings.
 ghost use Rattle.std.specs.Prelude.{◌≡◌};
 ghost use Rattle.ob_lexer.specs.Spelling.{spelling_of_word};
-ghost use Rattle.ob_lexer.specs.Lexing.{word_among, word_of, sign_of};
+ghost use Rattle.ob_lexer.specs.Lexing.{word_among, word_of};
 
-use crate::{Sign, Word};
+use crate::Word;
 
 const WORDS: [Word; 29] = [
     Word::Contract,
@@ -90,22 +90,4 @@ pub fn word_of(bytes: &[u8]) -> Option<Word>
     ensures { result ≡ word_of bytes.now }
 {
     word_among(&WORDS, bytes)
-}
-
-/// The sign that is this byte.
-pub fn sign_of(byte: u8) -> Option<Sign>
-    ensures { result ≡ sign_of byte }
-{
-    match byte {
-        b'{' => Some(Sign::OpenBrace),
-        b'}' => Some(Sign::CloseBrace),
-        b'(' => Some(Sign::OpenParen),
-        b')' => Some(Sign::CloseParen),
-        b';' => Some(Sign::Semicolon),
-        b',' => Some(Sign::Comma),
-        b'@' => Some(Sign::At),
-        b'=' => Some(Sign::Equals),
-        b'+' => Some(Sign::Plus),
-        _ => None,
-    }
 }

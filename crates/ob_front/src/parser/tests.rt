@@ -1,5 +1,5 @@
 use super::*;
-use ob_base::NameError;
+use ob_base::{NameError, Span};
 use std::test::*;
 
 const PROGRAM: &str = "main contract Counter { int n ; Counter @ Shared ( ) { n = 1 ; } \
@@ -35,7 +35,13 @@ fn tokens_of(alloc: Global, text: &str) -> Result<Items<Token>, NameError> {
     let mut tokens = Items::new(alloc);
     for piece in text.split_ascii_whitespace() {
         let kind = kind_of(alloc, piece)?;
-        tokens.push(Token { kind, line: 7 })?;
+        let span = Span {
+            start: 0,
+            end: 0,
+            line: 7,
+            column: 1,
+        };
+        tokens.push(Token { kind, span })?;
     }
     Ok(tokens)
 }
