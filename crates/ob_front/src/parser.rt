@@ -198,14 +198,9 @@ fn addend_at(alloc: Global, tokens: &[Token]) -> Result<(AddendTree, &[Token]), 
             },
             rest @ ..,
         ] => {
+            let line = span.line;
             let (term, rest) = term_at(alloc, rest)?;
-            Ok((
-                AddendTree {
-                    line: span.line,
-                    term,
-                },
-                rest,
-            ))
+            Ok((AddendTree { line, term }, rest))
         }
         _ => Err(ParseError::NoProgram),
     }

@@ -112,18 +112,25 @@ fn finds_places(rt: HostRuntime) -> Result<(), Fail> {
 
 #[test]
 fn reads_empty_programs(rt: HostRuntime) {
-    let texts: [&[u8]; 2] = [b"", b" \t\r\n\n"];
+    let texts: [&[u8]; 4] = [b"", b" \t\r\n\n", b"// none", b"/* none\n */ "];
     for text in texts {
         let is_empty = matches!(compile_plain(rt.alloc(), text), Ok(None));
         assert!(rt; is_empty, "at {text:?}");
     }
     assert!(rt; is_program(rt.alloc(), b"main contract A{A@Shared(){}}"));
+    assert!(rt;
+        is_program(
+            rt.alloc(),
+            b"main/* it */contract A{// has\nA@Shared(){}}// none"
+        )
+    );
 }
 
 #[test]
 fn refuses_other_forms(rt: HostRuntime) {
     let texts = [
-        "main contract A{A@Shared(){}}// comment",
+        "main contract A{A@Shared(){}}/* comment",
+        "main contract A{A@Shared(){}}// comment\n}",
         "main contract A{int x A@Shared(){x=0;}}",
         "main contract A{B@Shared(){}}",
         "contract A{A@Shared(){}}",
