@@ -1,5 +1,5 @@
 //! The files that are read whole.
-ghost use Rattle.std.specs.Prelude.{◌≡◌, ◌+◌, ◌≤◌, ℕ, List, OnOk, OnErr, IsErrOf};
+ghost use Rattle.std.specs.Prelude.{◌≡◌, ◌≢◌, ◌+◌, ◌≤◌, ℕ, List, OnOk, OnErr, IsErrOf};
 ghost use Rattle.ob_io.specs.Causes.{Rose};
 ghost use Rattle.ob_io.specs.Files.{AppendsContent};
 ghost use Rattle.ob_io.specs.Views.{FilesView};
@@ -36,7 +36,7 @@ pub trait Files {
     ghost view: { Self → FilesView };
 
     /// Appends what the file contains, cut after `limit` bytes. An error leaves `into` as it was.
-    /// `Failed` comes only where the count of faults rose.
+    /// `Failed` comes only where the count of faults rose, by one at most. `Ok` and `Memory` leave the count.
     fn read(&mut self, name: &str, limit: usize, into: &mut Vec<u8>) -> Result<(), FileError>
         ensures ok { OnOk result
             (AppendsContent ((view self.old).content name.now) limit into.old.items into.new.items) }
@@ -44,5 +44,7 @@ pub trait Files {
         ensures asked { (view self.new).asked ≤ (view self.old).asked + limit }
         ensures same { (other : List ℕ) → (view self.new).content other ≡ (view self.old).content other }
         ensures later { (view self.old).faults ≤ (view self.new).faults }
-        ensures cause { IsErrOf result FileError.Failed → Rose (view self.old).faults (view self.new).faults };
+        ensures cause { IsErrOf result FileError.Failed → Rose (view self.old).faults (view self.new).faults }
+        ensures calm { result ≢ Err FileError.Failed → (view self.new).faults ≡ (view self.old).faults }
+        ensures once { (view self.new).faults ≤ (view self.old).faults + 1 };
 }

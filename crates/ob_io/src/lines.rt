@@ -1,5 +1,5 @@
 //! The lines of what a source has left.
-ghost use Rattle.std.specs.Prelude.{◌≡◌, ◌+◌, ◌-◌, ◌<◌, ◌≤◌, ◌*◌, ◌^◌, ◌==◌, ℕ, List, true, false, [], ◌∷◌, ◌++◌, length, vec_len, MatchBool, IsTrue, IfOk, OnOk, OnErr, if◌then◌else◌};
+ghost use Rattle.std.specs.Prelude.{◌≡◌, ◌≢◌, ◌+◌, ◌-◌, ◌<◌, ◌≤◌, ◌*◌, ◌^◌, ◌==◌, ℕ, List, true, false, [], ◌∷◌, ◌++◌, length, vec_len, MatchBool, IsTrue, IfOk, OnOk, OnErr, if◌then◌else◌};
 ghost use Rattle.ob_io.specs.Causes.{HasCause, Rose};
 
 use crate::Source;
@@ -158,7 +158,11 @@ impl Lines {
         ensures fault { result ≡ Ok Next.Fault → Rose (S.view source.old).faults (S.view source.new).faults }
         ensures limit { result ≡ Ok Next.Limit → 2 ^ 40 ≤ handed self.new }
         ensures bound { handed self.new < 2 ^ 40 + 4096 }
+
+        // At the first fault it stops: no read follows.
         ensures later { (S.view source.old).faults ≤ (S.view source.new).faults }
+        ensures calm { result ≢ Ok Next.Fault → (S.view source.new).faults ≡ (S.view source.old).faults }
+        ensures once { (S.view source.new).faults ≤ (S.view source.old).faults + 1 }
     {
         line.clear();
         if self.ended {

@@ -1,5 +1,5 @@
 //! The outside in memory, whose calls fail where they are told to.
-ghost use Rattle.std.specs.Prelude.{◌≡◌, ◌<◌, ◌≤◌, ◌+◌, ◌-◌, ◌^◌, ◌↔◌, ℕ, List, Some, None, [], min, length, vec_len, IsTrue, IfOk, OnOk, OnErr, IsErr, IsErrOf};
+ghost use Rattle.std.specs.Prelude.{◌≡◌, ◌≢◌, ◌<◌, ◌≤◌, ◌+◌, ◌-◌, ◌^◌, ◌↔◌, ℕ, List, Some, None, [], min, length, vec_len, IsTrue, IfOk, OnOk, OnErr, IsErr, IsErrOf};
 ghost use Rattle.ob_io.specs.Causes.{HasCause, Rose};
 ghost use Rattle.ob_io.specs.Files.{AppendsContent};
 ghost use Rattle.ob_io.specs.FilesInMemory.{content_of};
@@ -47,6 +47,7 @@ impl Plan {
     fn fault(&mut self)
         ensures rose { Rose self.old.faults self.new.faults }
         ensures later { self.old.faults ≤ self.new.faults }
+        ensures once { self.new.faults ≤ self.old.faults + 1 }
         ensures same { (self.new.fails.items ≡ self.old.fails.items) × (self.new.calls ≡ self.old.calls) }
     {
         self.faults = self.faults.saturating_add(1);
@@ -220,6 +221,9 @@ impl Files for MemoryFiles {
         ensures later { (files_view self.old).faults ≤ (files_view self.new).faults }
         ensures cause { IsErrOf result FileError.Failed →
             Rose (files_view self.old).faults (files_view self.new).faults }
+        ensures calm { result ≢ Err FileError.Failed →
+            (files_view self.new).faults ≡ (files_view self.old).faults }
+        ensures once { (files_view self.new).faults ≤ (files_view self.old).faults + 1 }
         ensures planned { IsTrue (is_to_fail (files_plan self.old)) → IsErrOf result FileError.Failed }
         ensures lacking { (files_view self.old).content name.now ≡ None → IsErrOf result FileError.Failed }
         ensures counts { CountsCall (files_plan self.old) (files_plan self.new) }

@@ -12,7 +12,8 @@ pub trait Sink {
     ghost view: { Self → SinkView };
 
     /// Writes a front of `bytes`, and answers how many they are: at least one, unless `bytes` is empty.
-    /// `Failed` writes no byte, and comes only where the count of faults rose.
+    /// `Failed` writes no byte, and comes only where the count of faults rose, by one at most. `Ok` leaves the
+    /// count as it was.
     fn write(&mut self, bytes: &[u8]) -> Result<usize, Failed>
         ensures bound { IfOk result (λ n. n ≤ length bytes.now) }
         ensures some { 0 < length bytes.now → IfOk result (λ n. 0 < n) }
@@ -20,7 +21,8 @@ pub trait Sink {
         ensures cause { HasCause (view self.old).faults (view self.new).faults result };
 }
 
-/// Writes all the bytes. Where it fails, a front of them was written. It takes no memory.
+/// Writes all the bytes. At the first write that fails it stops, and a front of them was written. It takes no
+/// memory.
 pub fn write_all<K: Sink>(sink: &mut K, bytes: &[u8]) -> Result<(), Failed>
     ensures ok { OnOk result (Gives (K.view sink.old).written (K.view sink.new).written bytes.now) }
     ensures err { OnErr result (GivesFront (K.view sink.old).written (K.view sink.new).written bytes.now) }

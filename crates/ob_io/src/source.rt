@@ -12,7 +12,8 @@ pub trait Source {
     ghost view: { Self → SourceView };
 
     /// Fills a front of `into` with the next bytes, and answers how many they are. 0 is the end, where
-    /// `into` isn't empty. `Failed` takes no byte, and comes only where the count of faults rose.
+    /// `into` isn't empty. `Failed` takes no byte, and comes only where the count of faults rose, by one at
+    /// most. `Ok` leaves the count as it was.
     fn read(&mut self, into: &mut [u8]) -> Result<usize, Failed>
         ensures bound { IfOk result (λ n. n ≤ length into.new) }
         ensures bytes { ReadTakes (view self.old).left (view self.new).left result into.new }

@@ -1,5 +1,5 @@
 //! The session.
-ghost use Rattle.std.specs.Prelude.{◌≡◌, ◌<◌, ◌≤◌, List, ℕ, length, IsTrue, IfOk, IfErr};
+ghost use Rattle.std.specs.Prelude.{◌≡◌, ◌≢◌, ◌+◌, ◌<◌, ◌≤◌, List, ℕ, length, IsTrue, IfOk, IfErr};
 ghost use Rattle.std.specs.List.{list_all};
 ghost use Rattle.ob_io.specs.Lines.{EndIsTold};
 ghost use Rattle.ob_exec.specs.Sound.{IsSound};
@@ -84,6 +84,8 @@ fn next_line<S: Source>(
     ensures ok { IfOk result (λ is_long. ReadsLine (reader lines.old (S.view input.old)) (reader lines.new (S.view input.new)) is_long line.new.items) }
     ensures err { IfErr result (IsStop (reader lines.old (S.view input.old)) (reader lines.new (S.view input.new))) }
     ensures later { (S.view input.old).faults ≤ (S.view input.new).faults }
+    ensures calm { result ≢ Err Served.ReadFault → (S.view input.new).faults ≡ (S.view input.old).faults }
+    ensures once { (S.view input.new).faults ≤ (S.view input.old).faults + 1 }
 {
     match lines.next(input, line) {
         Err(Memory) => Err(Served::Memory),
@@ -109,6 +111,13 @@ pub fn serve<S: Source, K: Sink>(
         result }
     ensures later_read { (S.view input.old).faults ≤ (S.view input.new).faults }
     ensures later_write { (K.view output.old).faults ≤ (K.view output.new).faults }
+
+    // It ends at the first fault: no call of a stream follows.
+    ensures calm { result ≢ Served.ReadFault → result ≢ Served.WriteFault →
+        ((S.view input.new).faults ≡ (S.view input.old).faults)
+        × ((K.view output.new).faults ≡ (K.view output.old).faults) }
+    ensures once { (S.view input.new).faults + (K.view output.new).faults
+        ≤ (S.view input.old).faults + (K.view output.old).faults + 1 }
 {
     let Ok(mut lines) = Lines::new(alloc) else {
         return Served::Memory;

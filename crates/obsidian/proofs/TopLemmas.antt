@@ -1,17 +1,14 @@
 -- From what is done with a text to what a run says.
-use Rattle.std.proofs.Common.{◌≡◌, ◌⊎◌, ◌↔◌, inl, inr, ℕ, ◌+◌, ◌-◌, ◌<◌, ◌≤◌, ◌^◌, List, [], ◌++◌, length, take, Option, None, Some, refl, sym, ◌∙◌, ap, subst, arith, length-append, length-take}
+use Rattle.std.proofs.Common.{◌≡◌, ◌⊎◌, inl, inr, ℕ, ◌<◌, ◌≤◌, ◌^◌, List, length, take, Option, None, Some, refl, sym, ◌∙◌, ap, subst, arith, length-append, length-take}
 use Rattle.std.proofs.lemmas.List.{take_all}
-use Rattle.ob_io.specs.Causes.{Rose}
-use Rattle.ob_io.specs.Told.{Takes, Gives, GivesFront}
-use Rattle.ob_io.specs.Views.{SourceView, SinkView, FilesView}
+use Rattle.ob_io.specs.Told.{Takes}
 use Rattle.ob_machine.specs.declared.plain.Plain.{Plain}
-use Rattle.ob_lexer.specs.Lexis.{HasTokens}
 use Rattle.ob_front.specs.Form.{HasProgram, IsOfForm}
-use Rattle.ob_serve.specs.Served.{Streams, IsAll, Finishes, FailsToRead, FailsToWrite, GivesUp, IsTooLong, BreaksOff}
-use Rattle.obsidian.specs.Commands.{Command, serve, command_of}
-use Rattle.obsidian.specs.Outside.{Outside, outside, streams, KeepsStreams}
-use Rattle.obsidian.specs.Statuses.{Serves, RefusesText, IsDone, IsRefused, IsUsage, IsFileFault, IsReadFault, IsWriteFault, CutsRefusal, RunsOutEarly, IsMemory, IsLong, Meets, IsSmooth}
-use Rattle.obsidian.specs.TextRead.{IsReadOf, HasServed, WritesRefusal, BreaksRefusal, Treats}
+use Rattle.ob_serve.specs.Served.{Streams, IsAll, Finishes, FailsToRead, FailsToWrite, GivesUp, IsTooLong}
+use Rattle.obsidian.specs.Commands.{serve, command_of}
+use Rattle.obsidian.specs.Outside.{Outside, streams}
+use Rattle.obsidian.specs.Statuses.{Serves, RefusesText, IsDone, IsRefused, IsUsage, IsFileFault, IsReadFault, IsWriteFault, IsMemory, IsLong, Meets, IsSmooth}
+use Rattle.obsidian.specs.TextRead.{IsReadOf, HasServed, Treats}
 use Rattle.obsidian.specs.declared.exit.Exit.{Exit}
 use Rattle.obsidian.specs.declared.exit.Exit.TheVariants.{Done, Refused, Usage, ReadFault, WriteFault, FileFault, Memory, Long}
 

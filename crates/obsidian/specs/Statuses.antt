@@ -5,7 +5,7 @@ use Rattle.ob_io.specs.Told.{Gives, GivesFront}
 use Rattle.ob_machine.specs.declared.plain.Plain.{Plain}
 use Rattle.ob_front.specs.Form.{HasProgram, IsOfForm}
 use Rattle.ob_serve.specs.Served.{IsAll, Finishes, FailsToRead, FailsToWrite, GivesUp, IsTooLong}
-use Rattle.obsidian.specs.Commands.{Command, serve, command_of}
+use Rattle.obsidian.specs.Commands.{serve, command_of}
 use Rattle.obsidian.specs.Outside.{Outside, streams, KeepsStreams}
 use Rattle.obsidian.specs.declared.exit.Exit.{Exit}
 use Rattle.obsidian.specs.declared.exit.Exit.TheVariants.{Done, Refused, Usage, ReadFault, WriteFault, FileFault, Memory, Long}

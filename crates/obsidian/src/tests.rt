@@ -22,14 +22,25 @@ fn file(alloc: Global, name: &str, text: &[u8]) -> Result<Vec<(String, Vec<u8>)>
     Ok(files)
 }
 
-// Serves these lines for this program, over forms that never fail.
-fn serve(alloc: Global, program: &str, lines: &[u8]) -> Result<(Exit, SureSink), Fail> {
-    let words = words(alloc, &["serve", "p"])?;
+// A run over forms that never fail, with the program in the file `p` and a sink of this room.
+fn run_sure(
+    alloc: Global,
+    all: &[&str],
+    program: &str,
+    lines: &[u8],
+    room: usize,
+) -> Result<(Exit, SureSink), Fail> {
+    let words = words(alloc, all)?;
     let mut files = SureFiles::new(file(alloc, "p", program.as_bytes())?);
     let mut input = SureSource::new(lines.to_vec(alloc)?);
-    let mut output = SureSink::new(alloc, 1 << 20);
+    let mut output = SureSink::new(alloc, room);
     let exit = run(alloc, &words, &mut files, &mut input, &mut output);
     Ok((exit, output))
+}
+
+// Serves these lines for this program, over forms that never fail.
+fn serve(alloc: Global, program: &str, lines: &[u8]) -> Result<(Exit, SureSink), Fail> {
+    run_sure(alloc, &["serve", "p"], program, lines, 1 << 20)
 }
 
 // Whether these lines are answered so, by a run that is done.
@@ -54,6 +65,8 @@ fn is_usage(alloc: Global, all: &[&str]) -> Result<bool, Fail> {
     Ok(exit == Exit::Usage && output.bytes().is_empty() && files.faults() == 0)
 }
 
+// With ample memory a run ends well. No clause says so: a `run` that answered Memory to every `serve P` would meet
+// them all.
 #[test]
 fn empty_program_and_empty_input(rt: HostRuntime) -> Result<(), Fail> {
     let (exit, output) = serve(rt.alloc(), "", b"")?;
@@ -202,53 +215,167 @@ fn other_words_are_usage(rt: HostRuntime) -> Result<(), Fail> {
     Ok(())
 }
 
-// A run of three lines, of which no newline ends the last, where one call of one object fails.
+#[test]
+fn nothing_fails_over_sure_forms(rt: HostRuntime) -> Result<(), Fail> {
+    let alloc = rt.alloc();
+    // An answer, a refusal and an abort.
+    let lines =
+        "{\"op\":\"new\",\"id\":1,\"who\":\"a\",\"contract\":\"Tally\",\"into\":\"t\"}\n{\n{\"op\":\"call\",\"id\":2,\"who\":\"a\",\"on\":\"t\",\"tx\":\"add\",\"args\":[9223372036854775807]}\n{\"op\":\"call\",\"id\":3,\"who\":\"a\",\"on\":\"t\",\"tx\":\"add\",\"args\":[1]}";
+    let served: &[&str] = &["serve", "p"];
+    // The file `q` is lacking, and a room of 3 bytes or none is too little.
+    let runs: [(&[&str], &str, usize, Exit); 9] = [
+        (served, TALLY, 1000, Exit::Done),
+        (served, TALLY, 3, Exit::Done),
+        (served, TALLY, 0, Exit::Done),
+        (served, "", 1000, Exit::Done),
+        (&["serve", "q"], TALLY, 1000, Exit::Done),
+        (served, "contract A { }", 1000, Exit::Refused),
+        (served, "contract A { }", 3, Exit::Refused),
+        (&["serve"], TALLY, 1000, Exit::Usage),
+        (&["paint", "p"], TALLY, 0, Exit::Usage),
+    ];
+    for (words, program, room, exit) in runs {
+        let (ended, _) = run_sure(alloc, words, program, lines.as_bytes(), room)?;
+        assert_eq!(rt; ended, exit, "{words:?}, {program}, {room}");
+    }
+    Ok(())
+}
+
+// Three lines, of which no newline ends the last, and what is written of their replies.
+const LINES: &str =
+    "{\"op\":\"new\",\"id\":1,\"who\":\"a\",\"contract\":\"Tally\",\"into\":\"t\"}\n{\n{";
+
+const FIRST: &str = "{\"id\":1,\"ok\":{\"object\":0}}\n";
+
+const TWO: &str = "{\"id\":1,\"ok\":{\"object\":0}}\n{\"id\":null,\"refused\":3}\n";
+
+const ALL: &str =
+    "{\"id\":1,\"ok\":{\"object\":0}}\n{\"id\":null,\"refused\":3}\n{\"id\":null,\"refused\":3}\n";
+
+// A run of the three lines, where these calls of the three objects fail: how it ends, what is written, and how
+// many calls failed.
 fn run_failing(
     alloc: Global,
-    source: &[u64],
-    sink: &[u64],
-    files: &[u64],
-) -> Result<(Exit, MemorySink), Fail> {
-    let lines =
-        b"{\"op\":\"new\",\"id\":1,\"who\":\"a\",\"contract\":\"Tally\",\"into\":\"t\"}\n{\n{";
+    program: &str,
+    files: Vec<u64>,
+    source: Vec<u64>,
+    sink: Vec<u64>,
+) -> Result<(Exit, MemorySink, u64), Fail> {
     let words = words(alloc, &["serve", "p"])?;
-    let mut files = MemoryFiles::new(file(alloc, "p", TALLY.as_bytes())?, files.to_vec(alloc)?);
-    let mut input = MemorySource::new(lines.to_vec(alloc)?, source.to_vec(alloc)?);
-    let mut output = MemorySink::new(alloc, 1000, sink.to_vec(alloc)?);
+    let mut files = MemoryFiles::new(file(alloc, "p", program.as_bytes())?, files);
+    let mut input = MemorySource::new(LINES.as_bytes().to_vec(alloc)?, source);
+    let mut output = MemorySink::new(alloc, 1000, sink);
     let exit = run(alloc, &words, &mut files, &mut input, &mut output);
-    Ok((exit, output))
+    let faults = files
+        .faults()
+        .saturating_add(input.faults())
+        .saturating_add(output.faults());
+    Ok((exit, output, faults))
+}
+
+// The numbers of this call and of all later ones: a run of the three lines has fewer than nine of each object.
+fn from_call(alloc: Global, call: u64) -> Result<Vec<u64>, Fail> {
+    let mut calls = Vec::new(alloc);
+    for later in call..9 {
+        calls.push(later)?;
+    }
+    Ok(calls)
+}
+
+// An object that a run is handed.
+#[derive(Clone, Copy, Debug)]
+enum Object {
+    Files,
+    Source,
+    Sink,
+}
+
+// A run where these calls of one object fail.
+fn run_failing_one(
+    alloc: Global,
+    object: Object,
+    calls: Vec<u64>,
+) -> Result<(Exit, MemorySink, u64), Fail> {
+    let none = Vec::new(alloc);
+    let nothing = Vec::new(alloc);
+    match object {
+        Object::Files => run_failing(alloc, TALLY, calls, none, nothing),
+        Object::Source => run_failing(alloc, TALLY, none, calls, nothing),
+        Object::Sink => run_failing(alloc, TALLY, none, nothing, calls),
+    }
 }
 
 #[test]
 fn each_fault_ends_the_run(rt: HostRuntime) -> Result<(), Fail> {
     let alloc = rt.alloc();
-    let first = "{\"id\":1,\"ok\":{\"object\":0}}\n";
-    let two = "{\"id\":1,\"ok\":{\"object\":0}}\n{\"id\":null,\"refused\":3}\n";
-    let all =
-        "{\"id\":1,\"ok\":{\"object\":0}}\n{\"id\":null,\"refused\":3}\n{\"id\":null,\"refused\":3}\n";
-    for (call, exit, text) in [
-        (0, Exit::ReadFault, ""),
-        (1, Exit::ReadFault, two),
-        (2, Exit::Done, all),
-    ] {
-        let (ended, output) = run_failing(alloc, &[call], &[], &[])?;
-        assert_eq!(rt; ended, exit, "read {call}");
-        assert_eq!(rt; output.bytes(), text.as_bytes(), "read {call}");
+    // How a run ends where call 0 of an object fails, call 1 and so on. The last has no such call.
+    let tables: [(Object, &[(Exit, &str)]); 3] = [
+        (Object::Files, &[(Exit::FileFault, ""), (Exit::Done, ALL)]),
+        (
+            Object::Source,
+            &[
+                (Exit::ReadFault, ""),
+                (Exit::ReadFault, TWO),
+                (Exit::Done, ALL),
+            ],
+        ),
+        (
+            Object::Sink,
+            &[
+                (Exit::WriteFault, ""),
+                (Exit::WriteFault, FIRST),
+                (Exit::WriteFault, TWO),
+                (Exit::Done, ALL),
+            ],
+        ),
+    ];
+    for (object, table) in tables {
+        for (call, (exit, text)) in table.iter().enumerate() {
+            let alone = [call as u64].to_vec(alloc)?;
+            let and_later = from_call(alloc, call as u64)?;
+            for calls in [alone, and_later] {
+                let (ended, output, faults) = run_failing_one(alloc, object, calls)?;
+                assert_eq!(rt; ended, *exit, "{object:?} {call}");
+                assert_eq!(rt; output.bytes(), text.as_bytes(), "{object:?} {call}");
+                assert_eq!(rt; faults, u64::from(*exit != Exit::Done), "{object:?} {call}");
+            }
+        }
     }
-    for (call, exit, text) in [
-        (0, Exit::WriteFault, ""),
-        (1, Exit::WriteFault, first),
-        (2, Exit::WriteFault, two),
-        (3, Exit::Done, all),
-    ] {
-        let (ended, output) = run_failing(alloc, &[], &[call], &[])?;
-        assert_eq!(rt; ended, exit, "write {call}");
-        assert_eq!(rt; output.bytes(), text.as_bytes(), "write {call}");
-    }
-    for (call, exit, text) in [(0, Exit::FileFault, ""), (1, Exit::Done, all)] {
-        let (ended, output) = run_failing(alloc, &[], &[], &[call])?;
-        assert_eq!(rt; ended, exit, "file {call}");
-        assert_eq!(rt; output.bytes(), text.as_bytes(), "file {call}");
+    Ok(())
+}
+
+#[test]
+fn no_call_follows_a_fault(rt: HostRuntime) -> Result<(), Fail> {
+    let alloc = rt.alloc();
+    let other = "contract A { }";
+    // From which call on the files, the source and the sink fail: in each row the first that fails is the run's next.
+    let rows: [(&str, u64, u64, u64, Exit, &str); 9] = [
+        (TALLY, 0, 0, 0, Exit::FileFault, ""),
+        (TALLY, 1, 0, 0, Exit::ReadFault, ""),
+        (TALLY, 1, 1, 0, Exit::WriteFault, ""),
+        (TALLY, 1, 1, 1, Exit::WriteFault, FIRST),
+        (TALLY, 1, 1, 2, Exit::ReadFault, TWO),
+        (TALLY, 1, 2, 2, Exit::WriteFault, TWO),
+        (TALLY, 1, 2, 3, Exit::Done, ALL),
+        (other, 1, 0, 0, Exit::WriteFault, ""),
+        (other, 1, 0, 1, Exit::Refused, "1:1: 201 Expected\n"),
+    ];
+    for (program, files, reads, writes, exit, text) in rows {
+        let (ended, output, faults) = run_failing(
+            alloc,
+            program,
+            from_call(alloc, files)?,
+            from_call(alloc, reads)?,
+            from_call(alloc, writes)?,
+        )?;
+        let is_well = exit == Exit::Done || exit == Exit::Refused;
+        assert_eq!(rt; ended, exit, "{files}, {reads}, {writes}");
+        assert_eq!(rt;
+            output.bytes(),
+            text.as_bytes(),
+            "{files}, {reads}, {writes}"
+        );
+        assert_eq!(rt; faults, u64::from(!is_well), "{files}, {reads}, {writes}");
     }
     Ok(())
 }

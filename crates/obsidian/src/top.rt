@@ -1,10 +1,10 @@
 //! The top call.
-ghost use Rattle.std.specs.Prelude.{◌≡◌, ◌+◌, ◌≤◌, ◌⊎◌, None, Some, List, ℕ, map, string_bytes, option_map, IfOk, IsErrOf};
+ghost use Rattle.std.specs.Prelude.{◌≡◌, ◌≢◌, ◌+◌, ◌≤◌, ◌⊎◌, None, Some, List, ℕ, map, string_bytes, option_map, IfOk, IsErrOf};
 ghost use Rattle.std.specs.Option.{option_copied};
 ghost use Rattle.ob_machine.specs.Closed.{is_closed_program};
 ghost use Rattle.ob_front.specs.Form.{HasProgram, IsOfForm};
 ghost use Rattle.obsidian.specs.Commands.{Command, serve, command_of};
-ghost use Rattle.obsidian.specs.Outside.{outside};
+ghost use Rattle.obsidian.specs.Outside.{outside, faults_of, IsCalm};
 ghost use Rattle.obsidian.specs.Statuses.{refusal_line, Meets, IsDone, IsRefused, IsUsage, IsReadFault, IsWriteFault, IsFileFault, IsMemory, IsLong, IsSmooth};
 ghost use Rattle.obsidian.specs.TextRead.{IsReadOf, Treats};
 ghost use Rattle.ob_io.specs.Causes.{Rose};
@@ -38,6 +38,8 @@ fn read_text<F: Files>(alloc: Global, files: &mut F, name: &str) -> Result<Vec<u
     ensures text { IfOk result (λ text. IsReadOf ((F.view files.old).content name.now) text.items) }
     ensures cause { IsErrOf result FileError.Failed → Rose (F.view files.old).faults (F.view files.new).faults }
     ensures later { (F.view files.old).faults ≤ (F.view files.new).faults }
+    ensures calm { result ≢ Err FileError.Failed → (F.view files.new).faults ≡ (F.view files.old).faults }
+    ensures once { (F.view files.new).faults ≤ (F.view files.old).faults + 1 }
     ensures few { (F.view files.new).asked ≤ (F.view files.old).asked + 1048577 }
 {
     let mut text = Vec::new(alloc);
@@ -52,6 +54,8 @@ fn refuse<K: Sink>(output: &mut K) -> Exit
     ensures cause { result ≡ Exit.WriteFault → Rose (K.view output.old).faults (K.view output.new).faults }
     ensures one { (result ≡ Exit.Refused) ⊎ (result ≡ Exit.WriteFault) }
     ensures later { (K.view output.old).faults ≤ (K.view output.new).faults }
+    ensures calm { result ≢ Exit.WriteFault → (K.view output.new).faults ≡ (K.view output.old).faults }
+    ensures once { (K.view output.new).faults ≤ (K.view output.old).faults + 1 }
 {
     match write_all(output, REFUSAL.as_bytes()) {
         Ok(()) => Exit::Refused,
@@ -67,6 +71,11 @@ fn treat<S: Source, K: Sink>(alloc: Global, text: &[u8], input: &mut S, output: 
         result }
     ensures later_read { (S.view input.old).faults ≤ (S.view input.new).faults }
     ensures later_write { (K.view output.old).faults ≤ (K.view output.new).faults }
+    ensures calm { result ≢ Exit.ReadFault → result ≢ Exit.WriteFault →
+        ((S.view input.new).faults ≡ (S.view input.old).faults)
+        × ((K.view output.new).faults ≡ (K.view output.old).faults) }
+    ensures once { (S.view input.new).faults + (K.view output.new).faults
+        ≤ (S.view input.old).faults + (K.view output.old).faults + 1 }
 {
     let program = match compile_plain(alloc, text) {
         Ok(program) => program,
@@ -97,6 +106,11 @@ fn run_words<F: Files, S: Source, K: Sink>(
     ensures later_files { (F.view files.old).faults ≤ (F.view files.new).faults }
     ensures later_read { (S.view input.old).faults ≤ (S.view input.new).faults }
     ensures later_write { (K.view output.old).faults ≤ (K.view output.new).faults }
+    ensures calm { result ≢ Exit.ReadFault → result ≢ Exit.WriteFault → result ≢ Exit.FileFault → IsCalm
+        (outside (F.view files.old) (S.view input.old) (K.view output.old))
+        (outside (F.view files.new) (S.view input.new) (K.view output.new)) }
+    ensures once { faults_of (outside (F.view files.new) (S.view input.new) (K.view output.new))
+        ≤ faults_of (outside (F.view files.old) (S.view input.old) (K.view output.old)) + 1 }
 {
     let Some(name) = program_file(words) else {
         return Exit::Usage;
@@ -161,6 +175,13 @@ pub fn run<F: Files, S: Source, K: Sink>(
     ensures later_files { (F.view files.old).faults ≤ (F.view files.new).faults }
     ensures later_read { (S.view input.old).faults ≤ (S.view input.new).faults }
     ensures later_write { (K.view output.old).faults ≤ (K.view output.new).faults }
+
+    // The run ends at the first fault: a call after it might fail too, and would be counted.
+    ensures calm { result ≢ Exit.ReadFault → result ≢ Exit.WriteFault → result ≢ Exit.FileFault → IsCalm
+        (outside (F.view files.old) (S.view input.old) (K.view output.old))
+        (outside (F.view files.new) (S.view input.new) (K.view output.new)) }
+    ensures once { faults_of (outside (F.view files.new) (S.view input.new) (K.view output.new))
+        ≤ faults_of (outside (F.view files.old) (S.view input.old) (K.view output.old)) + 1 }
 {
     run_words(alloc, words, files, input, output)
 }

@@ -1,4 +1,4 @@
-use Rattle.std.proofs.Common.{◌≤◌, ◌≡◌, ◌++◌, List, ℕ, length}
+use Rattle.std.proofs.Common.{◌≡◌, ◌++◌, List, ℕ, length}
 use Rattle.ob_io.specs.Told.{Gives}
 use Rattle.ob_io.proofs.sink.write_all.Given as goal
 
@@ -8,7 +8,7 @@ invariant-loop-rest g l = record {
   front : List ℕ;
   split : l.bytes ≡ front ++ l.rest;
   given : Gives (g.K.Sink.view l.fn.sink).written (g.K.Sink.view l.sink).written front;
-  later : (g.K.Sink.view l.fn.sink).faults ≤ (g.K.Sink.view l.sink).faults;
+  calm : (g.K.Sink.view l.sink).faults ≡ (g.K.Sink.view l.fn.sink).faults;
 }
 
 abbrev pub decreases-loop-rest : goal.decreases-loop-rest

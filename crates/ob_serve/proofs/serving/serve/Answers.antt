@@ -1,4 +1,4 @@
-use Rattle.std.proofs.Common.{false, refl, arith}
+use Rattle.std.proofs.Common.{false, refl, ◌∙◌, arith}
 use Rattle.ob_io.proofs.LinesLemmas.{nothing_held}
 use Rattle.ob_serve.proofs.Progress.{begun, blank_is, blank_sound, gives_up, serves_stop, passes, goes_on, write_stops}
 use Rattle.ob_serve.specs.Replies.{answer_of, blank}
@@ -18,14 +18,14 @@ lines-init g c =
     record {
       so_far = rw is (begun (answer_of c.args.program.now) blank left written _ _ _ (nothing_held left _ c.in-Ok.ensures.held) c.in-Ok.ensures.goes_on c.in-Ok.ensures.handed);
       sound = rw is (blank_sound c.args.program.now);
-      later_read = omega arith;
-      later_write = omega arith;
+      calm_read = refl;
+      calm_write = refl;
     }
 
 pub returns-in-Err-clause-serves : goal.returns-in-Err-clause-serves
 returns-in-Err-clause-serves g c =
     serves_stop c.args.program.now c.in-Err.served _ _ (reader c.lines.lines (g.S.Source.view c.lines.input)) (reader c.next_line.new.lines (g.S.Source.view c.next_line.new.input)) c.lines.store
-    c.lines.invariant.so_far c.in-Err.ensures.err c.lines.invariant.later_read refl refl
+    c.lines.invariant.so_far c.in-Err.ensures.err (omega (arith, c.lines.invariant.calm_read)) refl refl
 
 pub lines-preserved-in-Ok-None : goal.lines-preserved-in-Ok-None
 lines-preserved-in-Ok-None g c =
@@ -35,8 +35,8 @@ lines-preserved-in-Ok-None g c =
       so_far = passes c.args.program.now (reader c.lines.lines (g.S.Source.view c.lines.input)) (reader c.next_line.new.lines (g.S.Source.view c.next_line.new.input)) _ _ _ c.lines.store c.reply_to.new.store _ _
           c.lines.invariant.so_far read (replied read.full read.is_full);
       sound = c.reply_to.ensures.sound;
-      later_read = omega (arith, c.lines.invariant.later_read, c.next_line.ensures.later);
-      later_write = c.lines.invariant.later_write;
+      calm_read = c.in-Ok-next_line.ensures.calm (λ is. cc) ∙ c.lines.invariant.calm_read;
+      calm_write = c.lines.invariant.calm_write;
     }
 
 pub returns-in-Err-reply_to-clause-serves : goal.returns-in-Err-reply_to-clause-serves
@@ -48,7 +48,7 @@ returns-in-Err-write_all-clause-serves g c =
     let replied = rw (c.in-Ok-Some.field-0-is, c.deref.ensures.value) at c.in-Ok-Some.ensures.replied in
     let front = rw c.deref-in-lines.ensures.value at c.in-Err-write_all.ensures.err in
     write_stops c.args.program.now _ _ (reader c.lines.lines (g.S.Source.view c.lines.input)) (reader c.next_line.new.lines (g.S.Source.view c.next_line.new.input)) (g.K.Sink.view c.lines.output) c.lines.store c.reply_to.new.store _ _ c.in-Ok-Some.reply
-    c.lines.invariant.so_far read (replied read.full read.is_full) front c.lines.invariant.later_write c.in-Err-write_all.ensures.cause.failed
+    c.lines.invariant.so_far read (replied read.full read.is_full) front (omega (arith, c.lines.invariant.calm_write)) c.in-Err-write_all.ensures.cause.failed
 
 pub lines-preserved : goal.lines-preserved
 lines-preserved g c =
@@ -59,6 +59,6 @@ lines-preserved g c =
       so_far = goes_on c.args.program.now (reader c.lines.lines (g.S.Source.view c.lines.input)) (reader c.next_line.new.lines (g.S.Source.view c.next_line.new.input)) _ _ _ _ c.lines.store c.reply_to.new.store _ _ c.in-Ok-Some.reply
           c.lines.invariant.so_far read (replied read.full read.is_full) gives;
       sound = c.reply_to.ensures.sound;
-      later_read = omega (arith, c.lines.invariant.later_read, c.next_line.ensures.later);
-      later_write = omega (arith, c.lines.invariant.later_write, c.in-Ok-write_all.ensures.cause.later);
+      calm_read = c.in-Ok-next_line.ensures.calm (λ is. cc) ∙ c.lines.invariant.calm_read;
+      calm_write = c.in-Ok-write_all.ensures.cause.calm ∙ c.lines.invariant.calm_write;
     }

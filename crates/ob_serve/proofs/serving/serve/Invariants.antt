@@ -1,4 +1,4 @@
-use Rattle.std.proofs.Common.{◌≤◌, ◌-◌, ◌^◌}
+use Rattle.std.proofs.Common.{◌≡◌, ◌-◌, ◌^◌}
 use Rattle.ob_io.specs.Lines.{pending, handed, has_ended}
 use Rattle.ob_exec.specs.Sound.{IsSound}
 use Rattle.ob_serve.proofs.Progress.{SoFar}
@@ -9,8 +9,8 @@ abbrev pub invariant-lines : goal.invariant-lines
 invariant-lines g l = record {
   so_far : SoFar l.program (g.S.Source.view l.fn.input).left (pending l.lines (g.S.Source.view l.input).left) (g.K.Sink.view l.fn.output).written (g.K.Sink.view l.output).written (has_ended l.lines) (handed l.lines) l.store;
   sound : IsSound l.program l.store;
-  later_read : (g.S.Source.view l.fn.input).faults ≤ (g.S.Source.view l.input).faults;
-  later_write : (g.K.Sink.view l.fn.output).faults ≤ (g.K.Sink.view l.output).faults;
+  calm_read : (g.S.Source.view l.input).faults ≡ (g.S.Source.view l.fn.input).faults;
+  calm_write : (g.K.Sink.view l.output).faults ≡ (g.K.Sink.view l.fn.output).faults;
 }
 
 abbrev pub decreases-lines : goal.decreases-lines

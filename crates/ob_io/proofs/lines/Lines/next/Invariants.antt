@@ -13,7 +13,7 @@ invariant-pieces g l = record {
   took : Takes (pending l.fn.self (g.S.Source.view l.fn.source).left) (pending l.self (g.S.Source.view l.source).left) part;
   counted : handed l.self ≡ handed l.fn.self + length part;
   goes_on : l.self.ended ≡ false;
-  later : (g.S.Source.view l.fn.source).faults ≤ (g.S.Source.view l.source).faults;
+  calm : (g.S.Source.view l.source).faults ≡ (g.S.Source.view l.fn.source).faults;
 }
 
 abbrev pub decreases-pieces : goal.decreases-pieces
