@@ -15,6 +15,7 @@ pub record Flaw : Type 0 where
   pub before : List ℕ
   pub bytes : List ℕ
 
+-- a fault of this number
 abbrev pub flaw_at : ℕ → List ℕ → List ℕ → Flaw
 flaw_at number before bytes = record { number = number; before = before; bytes = bytes }
 

@@ -50,8 +50,7 @@ single_of b =
 abbrev pub number_of : List ℕ → Option ℤ
 number_of digits = if nat_lt (value_of_digits digits) (2 ^ 63) then Some (pos (value_of_digits digits)) else None
 
--- ---- what a first byte begins
-
+-- what a byte begins
 abbrev pub class_of : ℕ → Class
 class_of b =
     if is_blank b then class.Blank else (if is_letter b then class.Letter else (if is_digit b then class.Digit else (if b == 34 then class.Quote else (if b == 47 then class.Slash else class.Other))))
@@ -66,18 +65,21 @@ abbrev pub word_step : List ℕ → Step
 word_step bytes =
     or_else (word_of bytes) (if is_name bytes then Token (kind.Name bytes) (length bytes) else Flaw long_name 0 1) (λ w. Token (kind.Word w) (length bytes))
 
+-- the number that digits stand for
 abbrev pub number_step : List ℕ → Step
 number_step bytes = or_else (number_of bytes) (Flaw big_number 0 1) (λ n. Token (kind.Number n) (length bytes))
 
--- where the first `*/` stands, where so many bytes stand before
+-- where the first `*/` stands in a text, of which so many bytes stand before these
 abbrev pub close_from : ℕ → List ℕ → Option ℕ
 close_from at [] = None
 close_from at (a ∷ []) = None
 close_from at (a ∷ b ∷ rest) = if a == 42 && b == 47 then Some at else close_from (at + 1) (b ∷ rest)
 
+-- where the first `*/` stands
 abbrev pub close_of : List ℕ → Option ℕ
 close_of bytes = close_from 0 bytes
 
+-- any byte but a newline
 abbrev pub is_no_newline : ℕ → Bool
 is_no_newline b = not (is_newline b)
 
@@ -87,6 +89,7 @@ slash_step [] = Token (kind.Sign sign.Slash) 1
 slash_step (b ∷ rest) =
     if b == 47 then Gap (prefix_len is_no_newline rest + 2) else (if b == 42 then or_else (close_of rest) (Flaw open_comment 0 2) (λ n. Gap (n + 4)) else Token (kind.Sign sign.Slash) 1)
 
+-- a byte that goes on with a character
 abbrev pub goes_on : ℕ → Bool
 goes_on b = not (begins_character b)
 
@@ -125,6 +128,7 @@ string_from backslash content taken (b ∷ rest) = elim (heard_of backslash b) [
 
 -- ---- the first step
 
+-- what a text begins with, by the class of its first byte
 abbrev pub step_in : Class → ℕ → List ℕ → Step
 step_in class.Blank b rest = Gap 1
 step_in class.Letter b rest = word_step (take_while is_letter_or_digit (b ∷ rest))

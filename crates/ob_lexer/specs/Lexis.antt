@@ -15,6 +15,7 @@ use Rattle.ob_lexer.specs.declared.lexer.Lexed.{Lexed}
 abbrev pub is_blank : ℕ → Bool
 is_blank b = b == 32 || b == 9 || b == 13 || b == 10
 
+-- one blank
 pub record IsBlank (bytes : List ℕ) : Type 0 where
   pub byte : ℕ
   pub one : bytes ≡ byte ∷ []
@@ -61,6 +62,7 @@ pub data Element : Type 0 where
   comment : Element
   token : TokenKind → Element
 
+-- a comment of either kind
 pub data IsComment (bytes : List ℕ) : Type 0 where
   of_line : IsLineComment bytes → IsComment bytes
   of_block : IsBlockComment bytes → IsComment bytes
@@ -76,6 +78,7 @@ pub record Piece : Type 0 where
   pub element : Element
   pub bytes : List ℕ
 
+-- the bytes of pieces, one after the other
 abbrev pub text_of : List Piece → List ℕ
 text_of pieces = flat_map (λ p. p.bytes) pieces
 

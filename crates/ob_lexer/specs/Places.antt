@@ -4,6 +4,7 @@ use Rattle.std.specs.List.{take_while}
 use Rattle.ob_base.specs.declared.fault.Span.{Span}
 use Rattle.ob_base.specs.declared.fault.ProgramFault.{ProgramFault}
 
+-- a newline
 abbrev pub is_newline : ℕ → Bool
 is_newline b = b == 10
 

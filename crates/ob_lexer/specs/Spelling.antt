@@ -102,6 +102,7 @@ abbrev pub IsPart : StringPart → Type 0
 IsPart (itself b) = IsTrue (not (b == 34 || b == 92 || b == 10))
 IsPart (escape letter value) = escaped letter ≡ Some value
 
+-- each is such a part
 abbrev pub AreParts : List StringPart → Type 0
 AreParts [] = ⊤
 AreParts (p ∷ parts) = IsPart p × AreParts parts

@@ -30,6 +30,17 @@ pub enum Step {
     },
 }
 
+/// A fault of so many bytes at the text's front.
+pub fn flaw(number: u16, length: usize) -> Step
+    ensures { result ≡ Step.Flaw number 0 length }
+{
+    Step::Flaw {
+        number,
+        before: 0,
+        length,
+    }
+}
+
 /// The number that digits stand for, if it is below 2^63.
 fn number_of(digits: &[u8]) -> Option<i64>
     ensures { result ≡ number_of digits.now }
@@ -52,11 +63,7 @@ fn number_step(digits: &[u8]) -> Step
             kind: TokenKind::Number(number),
             length,
         },
-        None => Step::Flaw {
-            number: BIG_NUMBER,
-            before: 0,
-            length: 1,
-        },
+        None => flaw(BIG_NUMBER, 1),
     }
 }
 
@@ -73,11 +80,7 @@ fn word_step(alloc: Global, bytes: &[u8]) -> Result<Step, Memory>
             kind: TokenKind::Name(name),
             length,
         }),
-        Err(NameError::Bad) => Ok(Step::Flaw {
-            number: LONG_NAME,
-            before: 0,
-            length: 1,
-        }),
+        Err(NameError::Bad) => Ok(flaw(LONG_NAME, 1)),
         Err(NameError::Memory) => Err(Memory),
     }
 }
@@ -102,11 +105,7 @@ fn slash_step(rest: &[u8]) -> Step
         },
         [b'*', inside @ ..] => match close_of(inside) {
             Some(at) => Step::Gap { length: at + 4 },
-            None => Step::Flaw {
-                number: OPEN_COMMENT,
-                before: 0,
-                length: 2,
-            },
+            None => flaw(OPEN_COMMENT, 2),
         },
         _ => sign(Sign::Slash, 1),
     }
@@ -123,11 +122,7 @@ fn sign_step(first: u8, rest: &[u8]) -> Step
     }
     match single_of(first) {
         Some(single) => sign(single, 1),
-        None => Step::Flaw {
-            number: BAD_CHARACTER,
-            before: 0,
-            length: going_on(rest) + 1,
-        },
+        None => flaw(BAD_CHARACTER, going_on(rest) + 1),
     }
 }
 

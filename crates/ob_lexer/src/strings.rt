@@ -4,7 +4,7 @@ ghost use Rattle.ob_lexer.specs.Spelling.{escaped};
 ghost use Rattle.ob_lexer.specs.Lexing.{heard_of, text_step, string_from, Gives};
 
 use crate::TokenKind;
-use crate::step::Step;
+use crate::step::{Step, flaw};
 use ob_base::{BAD_ESCAPE, LONG_STRING, Memory, NameError, OPEN_STRING, Text};
 use std::alloc::Global;
 
@@ -64,19 +64,8 @@ fn text_step(alloc: Global, content: &[u8], length: usize) -> Result<Step, Memor
             kind: TokenKind::Text(text),
             length,
         }),
-        Err(NameError::Bad) => Ok(flaw(LONG_STRING)),
+        Err(NameError::Bad) => Ok(flaw(LONG_STRING, 1)),
         Err(NameError::Memory) => Err(Memory),
-    }
-}
-
-/// A fault at the opening quote.
-fn flaw(number: u16) -> Step
-    ensures { result ≡ Step.Flaw number 0 1 }
-{
-    Step::Flaw {
-        number,
-        before: 0,
-        length: 1,
     }
 }
 
@@ -91,14 +80,14 @@ pub fn string_step(alloc: Global, text: &[u8]) -> Result<Step, Memory>
         match heard_of(backslash, *byte) {
             Heard::Value(value) => {
                 if content.len() >= LONGEST_STRING {
-                    return Ok(flaw(LONG_STRING));
+                    return Ok(flaw(LONG_STRING, 1));
                 }
                 content.push(value)?;
                 backslash = false;
             }
             Heard::Backslash => backslash = true,
             Heard::Quote => return text_step(alloc, &content, taken + 2),
-            Heard::Newline => return Ok(flaw(OPEN_STRING)),
+            Heard::Newline => return Ok(flaw(OPEN_STRING, 1)),
             Heard::NoEscape => {
                 return Ok(Step::Flaw {
                     number: BAD_ESCAPE,
@@ -108,5 +97,5 @@ pub fn string_step(alloc: Global, text: &[u8]) -> Result<Step, Memory>
             }
         }
     }
-    Ok(flaw(OPEN_STRING))
+    Ok(flaw(OPEN_STRING, 1))
 }

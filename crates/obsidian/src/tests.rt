@@ -200,7 +200,7 @@ fn long_lines_are_refused(rt: HostRuntime) -> Result<(), Fail> {
 fn texts_that_are_no_program_are_refused(rt: HostRuntime) -> Result<(), Fail> {
     let alloc = rt.alloc();
     assert!(rt; is_refused(alloc, "contract A { }")?);
-    assert!(rt; is_refused(alloc, "main contract A { A@Shared() { } } // no")?);
+    assert!(rt; is_refused(alloc, "main contract A { A@Shared() { } } /* open")?);
     assert!(rt; is_refused(alloc, "main contract A { A@Shared() { } } x")?);
     Ok(())
 }
