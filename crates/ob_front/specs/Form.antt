@@ -1,6 +1,10 @@
 -- Which program a text is: a relation between the two.
-use Rattle.std.specs.Prelude.{ℕ, ◌≡◌, Bool, true, List, map, Option, Some, None, option_map, IsTrue}
+use Rattle.std.specs.Prelude.{ℕ, ◌≡◌, Bool, true, List, [], map, Option, Some, None, option_map, IsTrue}
+use Rattle.ob_base.specs.Faults.{expected}
+use Rattle.ob_base.specs.declared.fault.ProgramFault.{ProgramFault}
+use Rattle.ob_lexer.specs.Places.{fault_at}
 use Rattle.ob_lexer.specs.Lexis.{HasTokens}
+use Rattle.ob_lexer.specs.Flaws.{HasFault}
 use Rattle.ob_lexer.specs.declared.lexer.Lexed.{Lexed}
 use Rattle.ob_machine.specs.declared.plain.Plain.{Plain}
 use Rattle.ob_front.specs.Grammar.{seen, program}
@@ -25,3 +29,9 @@ pub record HasProgram (text : List ℕ) (is : Option Plain) : Type 0 where
 -- the text is of the form of a program
 abbrev pub IsOfForm : List ℕ → Type 0
 IsOfForm text = (is : Option Plain) × HasProgram text is
+
+-- What is told of a text that isn't of the form: the fault of its tokens, or, where it has tokens, that others were
+-- expected, at the text's start.
+pub data IsFaulty (text : List ℕ) (fault : ProgramFault) : Type 0 where
+  in_tokens : HasFault text fault → IsFaulty text fault
+  in_form : (lexed : Lexed) → HasTokens text lexed → ¬ (IsOfForm text) → fault ≡ fault_at expected [] [] → IsFaulty text fault

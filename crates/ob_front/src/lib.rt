@@ -7,7 +7,7 @@ mod parser;
 mod resolver;
 mod tree;
 
-pub use compiling::{CompileError, compile_plain, one_program};
+pub use compiling::{CompileError, compile_plain, form_or_fault, one_fault, one_program};
 
 #[cfg(test)]
 mod tests;

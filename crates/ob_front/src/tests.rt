@@ -1,5 +1,5 @@
 use super::*;
-use ob_base::FieldId;
+use ob_base::{FieldId, ProgramFault};
 use ob_machine::{PlainSum, PlainTerm};
 use std::alloc::{AllocError, Global};
 use std::fmt::Write;
@@ -17,8 +17,19 @@ fn is_program(alloc: Global, text: &[u8]) -> bool {
     matches!(compile_plain(alloc, text), Ok(Some(_)))
 }
 
+// The number, line and column of the fault that is told of a text.
+fn fault_of(alloc: Global, text: &[u8]) -> Option<(u16, u32, u32)> {
+    match compile_plain(alloc, text) {
+        Err(CompileError::Fault(fault)) => {
+            let ProgramFault { number, span } = fault;
+            Some((number, span.line, span.column))
+        }
+        _ => None,
+    }
+}
+
 fn is_refused(alloc: Global, text: &[u8]) -> bool {
-    matches!(compile_plain(alloc, text), Err(CompileError::NotOfForm))
+    fault_of(alloc, text) == Some((201, 1, 1))
 }
 
 /// Whether a sum is this term and then these, with their lines.
@@ -129,7 +140,6 @@ fn reads_empty_programs(rt: HostRuntime) {
 #[test]
 fn refuses_other_forms(rt: HostRuntime) {
     let texts = [
-        "main contract A{A@Shared(){}}/* comment",
         "main contract A{A@Shared(){}}// comment\n}",
         "main contract A{int x A@Shared(){x=0;}}",
         "main contract A{B@Shared(){}}",
@@ -144,11 +154,27 @@ fn refuses_other_forms(rt: HostRuntime) {
         "main contract A{int x;int x;A@Shared(){x=1;x=1;}}",
         "main contract A{int if;A@Shared(){if=1;}}",
         "main contract Shared{Shared@Shared(){}}",
-        "main contract A{int x;A@Shared(){x=9223372036854775808;}}",
     ];
     for text in texts {
         let refused = is_refused(rt.alloc(), text.as_bytes());
         assert!(rt; refused, "at {text:?}");
+    }
+}
+
+#[test]
+fn tells_the_faults_of_tokens(rt: HostRuntime) {
+    let rows = [
+        ("main contract A{A@Shared(){}}/* comment", (103, 1, 30)),
+        (
+            "main contract A{int x;\nA@Shared(){x=9223372036854775808;}}",
+            (105, 2, 14),
+        ),
+        ("contract A # { }", (102, 1, 12)),
+        ("contract A { } \"", (104, 1, 16)),
+    ];
+    for (text, fault) in rows {
+        let told = fault_of(rt.alloc(), text.as_bytes());
+        assert_eq!(rt; told, Some(fault), "at {text:?}");
     }
 }
 
@@ -207,7 +233,7 @@ fn keeps_to_the_limits(rt: HostRuntime) -> Result<(), Fail> {
     let mut text = vec![in alloc; b' '; 1_048_576]?;
     assert!(rt; matches!(compile_plain(alloc, &text), Ok(None)));
     text.push(b' ')?;
-    assert!(rt; is_refused(alloc, &text));
+    assert_eq!(rt; fault_of(alloc, &text), Some((109, 1, 1)));
     Ok(())
 }
 

@@ -1,4 +1,5 @@
 pub mod Commands
+pub mod FaultLine
 pub mod Outside
 pub mod Statuses
 pub mod ExitStatus

@@ -1,18 +1,16 @@
 -- What each status of a run says of the words, the files and the two streams, before and after.
-use Rattle.std.specs.Prelude.{ℕ, ◌≡◌, ◌<◌, ◌^◌, ◌⊎◌, List, length, Option, None, Some, codes}
+use Rattle.std.specs.Prelude.{ℕ, ◌≡◌, ◌<◌, ◌^◌, ◌⊎◌, List, length, Option, None, Some}
+use Rattle.ob_base.specs.declared.fault.ProgramFault.{ProgramFault}
 use Rattle.ob_io.specs.Causes.{Rose}
 use Rattle.ob_io.specs.Told.{Gives, GivesFront}
 use Rattle.ob_machine.specs.declared.plain.Plain.{Plain}
-use Rattle.ob_front.specs.Form.{HasProgram, IsOfForm}
+use Rattle.ob_front.specs.Form.{HasProgram, IsFaulty}
 use Rattle.ob_serve.specs.Served.{IsAll, Finishes, FailsToRead, FailsToWrite, GivesUp, IsTooLong}
 use Rattle.obsidian.specs.Commands.{serve, command_of}
+use Rattle.obsidian.specs.FaultLine.{fault_line}
 use Rattle.obsidian.specs.Outside.{Outside, streams, KeepsStreams}
 use Rattle.obsidian.specs.declared.exit.Exit.{Exit}
 use Rattle.obsidian.specs.declared.exit.Exit.TheVariants.{Done, Refused, Usage, ReadFault, WriteFault, FileFault, Memory, Long}
-
--- the line that is written for a text that isn't of the form of a program
-abbrev pub refusal_line : List ℕ
-refusal_line = codes "1:1: 201 Expected\n"
 
 -- The words are `serve P`, the text of P is a program, and what is said of the program holds.
 pub record Serves (words : List (List ℕ)) (old : Outside) (says : Option Plain → Type 0) : Type 0 where
@@ -24,22 +22,23 @@ pub record Serves (words : List (List ℕ)) (old : Outside) (says : Option Plain
   pub has : HasProgram text program
   pub holds : says program
 
--- The words are `serve P`, and the text of P isn't of the form of a program.
-pub record RefusesText (words : List (List ℕ)) (old : Outside) : Type 0 where
+-- The words are `serve P`, and this fault is told of the text of P.
+pub record RefusesText (words : List (List ℕ)) (old : Outside) (fault : ProgramFault) : Type 0 where
   pub name : List ℕ
   pub command : command_of words ≡ Some (serve name)
   pub text : List ℕ
   pub told : IsAll (old.files.content name) text
-  pub fault : ¬ (IsOfForm text)
+  pub faulty : IsFaulty text fault
 
 -- Done: the replies to all lines of the input were written.
 abbrev pub IsDone : List (List ℕ) → Outside → Outside → Type 0
 IsDone words old new = Serves words old (λ program. Finishes program (streams old) (streams new))
 
--- Refused: the text of P isn't of the form, the line that says so was written, and no input was taken.
+-- Refused: the text of P has a fault, its line was written, and no input was taken.
 pub record IsRefused (words : List (List ℕ)) (old new : Outside) : Type 0 where
-  pub refuses : RefusesText words old
-  pub line : Gives old.output.written new.output.written refusal_line
+  pub fault : ProgramFault
+  pub refuses : RefusesText words old fault
+  pub line : Gives old.output.written new.output.written (fault_line fault)
   pub input : new.input ≡ old.input
 
 -- Usage: the words are no command, and nothing was touched.
@@ -60,9 +59,10 @@ IsReadFault words old new = Serves words old (λ program. FailsToRead program (s
 
 -- The line of a refused text wasn't written whole.
 pub record CutsRefusal (words : List (List ℕ)) (old new : Outside) : Type 0 where
-  pub refuses : RefusesText words old
+  pub fault : ProgramFault
+  pub refuses : RefusesText words old fault
   pub cause : Rose old.output.faults new.output.faults
-  pub front : GivesFront old.output.written new.output.written refusal_line
+  pub front : GivesFront old.output.written new.output.written (fault_line fault)
   pub input : new.input ≡ old.input
 
 -- WriteFault: a write failed, within a reply or within the line of a refused text.

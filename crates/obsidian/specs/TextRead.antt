@@ -3,9 +3,10 @@ use Rattle.std.specs.Prelude.{ℕ, ◌≡◌, ◌≤◌, ◌⊎◌, List, length
 use Rattle.ob_io.specs.Causes.{Rose}
 use Rattle.ob_io.specs.Told.{Gives, GivesFront}
 use Rattle.ob_machine.specs.declared.plain.Plain.{Plain}
-use Rattle.ob_front.specs.Form.{HasProgram, IsOfForm}
+use Rattle.ob_base.specs.declared.fault.ProgramFault.{ProgramFault}
+use Rattle.ob_front.specs.Form.{HasProgram, IsFaulty}
 use Rattle.ob_serve.specs.Served.{Streams, Finishes, FailsToRead, FailsToWrite, GivesUp, IsTooLong}
-use Rattle.obsidian.specs.Statuses.{refusal_line}
+use Rattle.obsidian.specs.FaultLine.{fault_line}
 use Rattle.obsidian.specs.declared.exit.Exit.{Exit}
 use Rattle.obsidian.specs.declared.exit.Exit.TheVariants.{Done, Refused, Usage, ReadFault, WriteFault, FileFault, Memory, Long}
 
@@ -20,17 +21,19 @@ pub record HasServed (text : List ℕ) (says : Option Plain → Type 0) : Type 0
   pub has : HasProgram text program
   pub holds : says program
 
--- the text isn't of the form, and the line that says so was written
+-- this fault is told of the text, and its line was written
 pub record WritesRefusal (text : List ℕ) (old new : Streams) : Type 0 where
-  pub fault : ¬ (IsOfForm text)
-  pub line : Gives old.output.written new.output.written refusal_line
+  pub fault : ProgramFault
+  pub faulty : IsFaulty text fault
+  pub line : Gives old.output.written new.output.written (fault_line fault)
   pub input : new.input ≡ old.input
 
--- the text isn't of the form, and the line that says so was cut off
+-- this fault is told of the text, and its line was cut off
 pub record BreaksRefusal (text : List ℕ) (old new : Streams) : Type 0 where
-  pub fault : ¬ (IsOfForm text)
+  pub fault : ProgramFault
+  pub faulty : IsFaulty text fault
   pub cause : Rose old.output.faults new.output.faults
-  pub front : GivesFront old.output.written new.output.written refusal_line
+  pub front : GivesFront old.output.written new.output.written (fault_line fault)
   pub input : new.input ≡ old.input
 
 -- what each status says of a text that was read

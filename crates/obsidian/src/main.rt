@@ -2,6 +2,7 @@
 #![tactic(auto)]
 
 mod exit;
+mod fault_line;
 #[cfg(test)]
 mod tests;
 mod top;

@@ -200,8 +200,34 @@ fn long_lines_are_refused(rt: HostRuntime) -> Result<(), Fail> {
 fn texts_that_are_no_program_are_refused(rt: HostRuntime) -> Result<(), Fail> {
     let alloc = rt.alloc();
     assert!(rt; is_refused(alloc, "contract A { }")?);
-    assert!(rt; is_refused(alloc, "main contract A { A@Shared() { } } /* open")?);
     assert!(rt; is_refused(alloc, "main contract A { A@Shared() { } } x")?);
+    Ok(())
+}
+
+#[test]
+fn faults_of_tokens_are_told(rt: HostRuntime) -> Result<(), Fail> {
+    let alloc = rt.alloc();
+    for (text, line) in [
+        ("contract A # { }", "1:12: 102 BadCharacter\n"),
+        ("9223372036854775808", "1:1: 105 BigNumber\n"),
+        (
+            "main contract A { A@Shared() { } }\n  /* open",
+            "2:3: 103 OpenComment\n",
+        ),
+        ("// \u{e9}\n\"\\q\"", "2:2: 108 BadEscape\n"),
+    ] {
+        let (exit, output) = serve(alloc, text, b"{\n")?;
+        assert_eq!(rt; exit, Exit::Refused, "{text}");
+        assert_eq!(rt; output.bytes(), Some(line.as_bytes()), "{text}");
+    }
+    Ok(())
+}
+
+#[test]
+fn comments_are_passed_over(rt: HostRuntime) -> Result<(), Fail> {
+    let alloc = rt.alloc();
+    let program = "/* it */ main contract A { // none\nA@Shared() { } } // end";
+    assert!(rt; is_answered(alloc, program, b"", b"")?);
     Ok(())
 }
 

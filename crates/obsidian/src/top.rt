@@ -4,13 +4,16 @@ ghost use Rattle.std.specs.Option.{option_copied};
 ghost use Rattle.ob_machine.specs.Closed.{is_closed_program};
 ghost use Rattle.ob_front.specs.Form.{HasProgram, IsOfForm};
 ghost use Rattle.obsidian.specs.Commands.{Command, serve, command_of};
+ghost use Rattle.obsidian.specs.FaultLine.{fault_line};
 ghost use Rattle.obsidian.specs.Outside.{outside, faults_of, IsCalm};
-ghost use Rattle.obsidian.specs.Statuses.{refusal_line, Meets, IsDone, IsRefused, IsUsage, IsReadFault, IsWriteFault, IsFileFault, IsMemory, IsLong, IsSmooth};
+ghost use Rattle.obsidian.specs.Statuses.{Meets, IsDone, IsRefused, IsUsage, IsReadFault, IsWriteFault, IsFileFault, IsMemory, IsLong, IsSmooth};
 ghost use Rattle.obsidian.specs.TextRead.{IsReadOf, Treats};
 ghost use Rattle.ob_io.specs.Causes.{Rose};
 ghost use Rattle.ob_io.specs.Told.{Gives, GivesFront};
 
 use crate::exit::Exit;
+use crate::fault_line::fault_line;
+use ob_base::ProgramFault;
 use ob_front::{CompileError, compile_plain};
 use ob_io::{FileError, Files, Sink, Source, write_all};
 use ob_machine::Plain;
@@ -19,9 +22,6 @@ use std::alloc::Global;
 
 /// The most bytes of a program's file that are read: one more than a program may have.
 const MOST_READ: usize = 1_048_577;
-
-/// The line that is written for a text that isn't of the form of a program.
-const REFUSAL: &str = "1:1: 201 Expected\n";
 
 // The file of the program, where the words are `serve P`.
 fn program_file(words: &[String]) -> Option<&str>
@@ -47,17 +47,21 @@ fn read_text<F: Files>(alloc: Global, files: &mut F, name: &str) -> Result<Vec<u
     Ok(text)
 }
 
-// Writes the line of a text that isn't of the form of a program.
-fn refuse<K: Sink>(output: &mut K) -> Exit
-    ensures line { result ≡ Exit.Refused → Gives (K.view output.old).written (K.view output.new).written refusal_line }
-    ensures front { result ≡ Exit.WriteFault → GivesFront (K.view output.old).written (K.view output.new).written refusal_line }
+// Writes the line of a fault that is told of a program's text.
+fn refuse<K: Sink>(alloc: Global, fault: ProgramFault, output: &mut K) -> Exit
+    ensures line { result ≡ Exit.Refused → Gives (K.view output.old).written (K.view output.new).written (fault_line fault) }
+    ensures front { result ≡ Exit.WriteFault → GivesFront (K.view output.old).written (K.view output.new).written (fault_line fault) }
+    ensures memory { result ≡ Exit.Memory → K.view output.new ≡ K.view output.old }
     ensures cause { result ≡ Exit.WriteFault → Rose (K.view output.old).faults (K.view output.new).faults }
-    ensures one { (result ≡ Exit.Refused) ⊎ (result ≡ Exit.WriteFault) }
+    ensures one { (result ≡ Exit.Refused) ⊎ ((result ≡ Exit.WriteFault) ⊎ (result ≡ Exit.Memory)) }
     ensures later { (K.view output.old).faults ≤ (K.view output.new).faults }
     ensures calm { result ≢ Exit.WriteFault → (K.view output.new).faults ≡ (K.view output.old).faults }
     ensures once { (K.view output.new).faults ≤ (K.view output.old).faults + 1 }
 {
-    match write_all(output, REFUSAL.as_bytes()) {
+    let Ok(line) = fault_line(alloc, fault) else {
+        return Exit::Memory;
+    };
+    match write_all(output, line.as_bytes()) {
         Ok(()) => Exit::Refused,
         Err(_) => Exit::WriteFault,
     }
@@ -79,7 +83,7 @@ fn treat<S: Source, K: Sink>(alloc: Global, text: &[u8], input: &mut S, output: 
 {
     let program = match compile_plain(alloc, text) {
         Ok(program) => program,
-        Err(CompileError::NotOfForm) => return refuse(output),
+        Err(CompileError::Fault(fault)) => return refuse(alloc, fault, output),
         Err(CompileError::Memory) => return Exit::Memory,
     };
     match serve(alloc, &program, input, output) {
