@@ -1,0 +1,108 @@
+//! Contracts, interfaces and whole programs as they are written (the Obsidian language documentation; Coblenz et al.,
+//! TOPLAS 42(3), 2020):
+//!
+//! ```text
+//! contract  = ["main"] ["asset"] "contract" NAME [generic] ["implements" named] "{" {member} "}"
+//! interface = ["asset"] "interface" NAME [generic] "{" { "state" NAME ";" | head ";" } "}"
+//! generic   = "[" ["asset"] NAME "@" NAME ["where" NAME "is" mode] "]"
+//! ```
+//!
+//! A head is a transaction up to its block.
+ghost use Rattle.std.specs.Prelude.{◌≡◌, IfOk};
+ghost use Rattle.ob_tree.specs.MembersView.{tree_of};
+ghost use Rattle.ob_tree.specs.declared.contract.Tree.{Tree};
+
+use crate::copy::copy_option;
+use crate::member::Member;
+use crate::name::{NamePart, NamedNode};
+use ob_base::{Duplicate, Items, Memory, Mode, Span, Text, copy_items};
+use std::alloc::Global;
+
+/// The type parameter of a contract, in brackets behind its name.
+#[derive(Debug, Drop)]
+pub struct ParamNode {
+    pub asset: bool,
+    pub name: NamePart,
+    /// The name behind `@`.
+    pub perm: NamePart,
+    /// The name behind `where`, and the mode behind `is`.
+    pub bound: Option<(NamePart, Mode)>,
+    /// From its first token to its last.
+    pub span: Span,
+}
+
+fn copy_bound(
+    alloc: Global,
+    bound: &Option<(NamePart, Mode)>,
+) -> Result<Option<(NamePart, Mode)>, Memory>
+    ensures { IfOk result (λ copy. copy ≡ bound.now) }
+{
+    match bound {
+        None => Ok(None),
+        Some((name, mode)) => Ok(Some((name.copy(alloc)?, *mode))),
+    }
+}
+
+impl Duplicate for ParamNode {
+    fn copy(&self, alloc: Global) -> Result<ParamNode, Memory> {
+        Ok(ParamNode {
+            asset: self.asset,
+            name: self.name.copy(alloc)?,
+            perm: self.perm.copy(alloc)?,
+            bound: copy_bound(alloc, &self.bound)?,
+            span: self.span,
+        })
+    }
+}
+
+/// A contract, or an interface.
+#[derive(Debug, Drop)]
+pub struct ContractNode {
+    pub main: bool,
+    pub asset: bool,
+    pub interface: bool,
+    pub name: Text,
+    pub param: Option<ParamNode>,
+    /// The interface behind `implements`.
+    pub implements: Option<NamedNode>,
+    pub members: Items<Member>,
+    /// The place of the name alone.
+    pub span: Span,
+    /// The place of the closing brace.
+    pub end: Span,
+}
+
+impl Duplicate for ContractNode {
+    fn copy(&self, alloc: Global) -> Result<ContractNode, Memory> {
+        Ok(ContractNode {
+            main: self.main,
+            asset: self.asset,
+            interface: self.interface,
+            name: self.name.copy(alloc)?,
+            param: copy_option(alloc, &self.param)?,
+            implements: copy_option(alloc, &self.implements)?,
+            members: copy_items(alloc, &self.members)?,
+            span: self.span,
+            end: self.end,
+        })
+    }
+}
+
+/// A program: its contracts and interfaces, in their order.
+#[derive(Debug, Drop)]
+pub struct Tree {
+    pub contracts: Items<ContractNode>,
+}
+
+impl Duplicate for Tree {
+    fn copy(&self, alloc: Global) -> Result<Tree, Memory> {
+        Ok(Tree {
+            contracts: copy_items(alloc, &self.contracts)?,
+        })
+    }
+}
+
+/// Two programs whose plain data are the same are the same: no part and no place is lost on the way.
+pub fn view_loses_nothing()
+    ensures { (a b : Tree) → tree_of a ≡ tree_of b → a ≡ b }
+{}

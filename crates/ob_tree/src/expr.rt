@@ -1,0 +1,157 @@
+//! Expressions as they are written (the Obsidian language documentation, "Expressions").
+ghost use Rattle.std.specs.Prelude.{◌≡◌, IfOk};
+
+use crate::copy::copy_option;
+use crate::name::{NamePart, NamedNode, Subject};
+use ob_base::{Boxed, Duplicate, Items, Memory, Operator, Span, Text};
+use std::alloc::Global;
+
+/// An expression. Its `span` runs from its first token to its last, the parentheses around it included.
+#[derive(Debug, Drop)]
+#[cycle(expr)]
+pub enum Expr {
+    Number {
+        value: i64,
+        span: Span,
+    },
+    Text {
+        value: Text,
+        span: Span,
+    },
+    Bool {
+        value: bool,
+        span: Span,
+    },
+    Name {
+        name: NamePart,
+        span: Span,
+    },
+    This {
+        /// The place of the word `this` alone.
+        token: Span,
+        span: Span,
+    },
+    Unary {
+        operator: Operator,
+        /// The place of the operator.
+        sign: Span,
+        operand: Boxed<Expr>,
+        span: Span,
+    },
+    Binary {
+        operator: Operator,
+        /// The place of the operator.
+        sign: Span,
+        left: Boxed<Expr>,
+        right: Boxed<Expr>,
+        span: Span,
+    },
+    Call {
+        call: CallNode,
+        span: Span,
+    },
+    New {
+        of: NamedNode,
+        args: Items<Expr>,
+        span: Span,
+    },
+}
+
+/// A call of a transaction, `x.t(args)` or `t(args)`.
+#[derive(Debug, Drop)]
+#[cycle(expr)]
+pub struct CallNode {
+    pub receiver: Option<Subject>,
+    pub name: NamePart,
+    pub args: Items<Expr>,
+}
+
+#[cycle(copy_expr)]
+fn copy_args(args: &[Expr], alloc: Global) -> Result<Items<Expr>, Memory>
+    ensures { IfOk result (λ copies. copies ≡ args.now) }
+{
+    let mut copies = Items::new(alloc);
+    for arg in args {
+        copies.push(arg.copy(alloc)?)?;
+    }
+    Ok(copies)
+}
+
+#[cycle(copy_expr)]
+fn copy_boxed(expr: &Boxed<Expr>, alloc: Global) -> Result<Boxed<Expr>, Memory>
+    ensures { IfOk result (λ copy. copy ≡ expr.now) }
+{
+    Ok(Boxed::new(alloc, expr.get().copy(alloc)?)?)
+}
+
+impl Duplicate for CallNode {
+    #[cycle(copy_expr)]
+    fn copy(&self, alloc: Global) -> Result<CallNode, Memory> {
+        Ok(CallNode {
+            receiver: copy_option(alloc, &self.receiver)?,
+            name: self.name.copy(alloc)?,
+            args: copy_args(self.args.as_slice(), alloc)?,
+        })
+    }
+}
+
+impl Duplicate for Expr {
+    #[cycle(copy_expr)]
+    fn copy(&self, alloc: Global) -> Result<Expr, Memory> {
+        match self {
+            Expr::Number { value, span } => Ok(Expr::Number {
+                value: *value,
+                span: *span,
+            }),
+            Expr::Text { value, span } => Ok(Expr::Text {
+                value: value.copy(alloc)?,
+                span: *span,
+            }),
+            Expr::Bool { value, span } => Ok(Expr::Bool {
+                value: *value,
+                span: *span,
+            }),
+            Expr::Name { name, span } => Ok(Expr::Name {
+                name: name.copy(alloc)?,
+                span: *span,
+            }),
+            Expr::This { token, span } => Ok(Expr::This {
+                token: *token,
+                span: *span,
+            }),
+            Expr::Unary {
+                operator,
+                sign,
+                operand,
+                span,
+            } => Ok(Expr::Unary {
+                operator: *operator,
+                sign: *sign,
+                operand: copy_boxed(operand, alloc)?,
+                span: *span,
+            }),
+            Expr::Binary {
+                operator,
+                sign,
+                left,
+                right,
+                span,
+            } => Ok(Expr::Binary {
+                operator: *operator,
+                sign: *sign,
+                left: copy_boxed(left, alloc)?,
+                right: copy_boxed(right, alloc)?,
+                span: *span,
+            }),
+            Expr::Call { call, span } => Ok(Expr::Call {
+                call: call.copy(alloc)?,
+                span: *span,
+            }),
+            Expr::New { of, args, span } => Ok(Expr::New {
+                of: of.copy(alloc)?,
+                args: copy_args(args.as_slice(), alloc)?,
+                span: *span,
+            }),
+        }
+    }
+}

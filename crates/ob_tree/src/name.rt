@@ -1,0 +1,127 @@
+//! Names, permissions and types as they are written (the Obsidian language documentation; Coblenz et al., TOPLAS 42(3),
+//! 2020):
+//!
+//! ```text
+//! named = NAME ["[" ref "]"]
+//! ref   = named "@" perm
+//! perm  = mode | NAME {"|" NAME}
+//! type  = "int" | "bool" | "string" | ref
+//! ```
+ghost use Rattle.std.specs.Prelude.{◌≡◌, IfOk};
+
+use ob_base::{Boxed, Duplicate, Items, Memory, Mode, Span, Text, copy_items};
+use std::alloc::Global;
+
+/// A name, and where it stands.
+#[derive(Debug, Drop)]
+pub struct NamePart {
+    pub name: Text,
+    /// The place of the name alone.
+    pub span: Span,
+}
+
+impl Duplicate for NamePart {
+    fn copy(&self, alloc: Global) -> Result<NamePart, Memory> {
+        Ok(NamePart {
+            name: self.name.copy(alloc)?,
+            span: self.span,
+        })
+    }
+}
+
+/// What is spoken of: `this`, or a name.
+#[derive(Debug, Drop)]
+pub enum Subject {
+    This(Span),
+    Name(NamePart),
+}
+
+impl Duplicate for Subject {
+    fn copy(&self, alloc: Global) -> Result<Subject, Memory> {
+        match self {
+            Subject::This(span) => Ok(Subject::This(*span)),
+            Subject::Name(name) => Ok(Subject::Name(name.copy(alloc)?)),
+        }
+    }
+}
+
+/// A permission.
+#[derive(Debug, Drop)]
+pub enum PermNode {
+    Mode(Mode, Span),
+    /// One of these states, of which there is at least one.
+    States(Items<NamePart>),
+}
+
+impl Duplicate for PermNode {
+    fn copy(&self, alloc: Global) -> Result<PermNode, Memory> {
+        match self {
+            PermNode::Mode(mode, span) => Ok(PermNode::Mode(*mode, *span)),
+            PermNode::States(states) => Ok(PermNode::States(copy_items(alloc, states)?)),
+        }
+    }
+}
+
+/// The name of a contract, an interface or a type parameter, and the argument in brackets behind it.
+#[derive(Debug, Drop)]
+#[cycle(named)]
+pub struct NamedNode {
+    pub name: Text,
+    pub argument: Option<Boxed<RefNode>>,
+    /// The place of the name alone.
+    pub span: Span,
+}
+
+/// The type of a reference: a name and the permission that comes with it.
+#[derive(Debug, Drop)]
+#[cycle(named)]
+pub struct RefNode {
+    pub of: NamedNode,
+    pub perm: PermNode,
+}
+
+impl Duplicate for NamedNode {
+    #[cycle(copy_named)]
+    fn copy(&self, alloc: Global) -> Result<NamedNode, Memory> {
+        let argument = match &self.argument {
+            None => None,
+            Some(argument) => Some(Boxed::new(alloc, argument.get().copy(alloc)?)?),
+        };
+        Ok(NamedNode {
+            name: self.name.copy(alloc)?,
+            argument,
+            span: self.span,
+        })
+    }
+}
+
+impl Duplicate for RefNode {
+    #[cycle(copy_named)]
+    fn copy(&self, alloc: Global) -> Result<RefNode, Memory> {
+        Ok(RefNode {
+            of: self.of.copy(alloc)?,
+            perm: self.perm.copy(alloc)?,
+        })
+    }
+}
+
+/// A type as it is written.
+#[derive(Debug, Drop)]
+pub enum TypeNode {
+    Int(Span),
+    Bool(Span),
+    /// `string`
+    Text(Span),
+    Reference(RefNode),
+}
+
+impl Duplicate for TypeNode {
+    fn copy(&self, alloc: Global) -> Result<TypeNode, Memory> {
+        match self {
+            TypeNode::Int(span) => Ok(TypeNode::Int(*span)),
+            TypeNode::Bool(span) => Ok(TypeNode::Bool(*span)),
+            TypeNode::Text(span) => Ok(TypeNode::Text(*span)),
+            TypeNode::Reference(of) => Ok(TypeNode::Reference(of.copy(alloc)?)),
+        }
+    }
+}

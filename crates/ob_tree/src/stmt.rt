@@ -1,0 +1,358 @@
+//! Statements as they are written (the Obsidian language documentation, "Statements").
+ghost use Rattle.std.specs.Prelude.{◌≡◌, IfOk};
+
+use crate::copy::copy_option;
+use crate::expr::Expr;
+use crate::name::{NamePart, NamedNode, PermNode, Subject};
+use ob_base::{Duplicate, Items, Memory, Span, copy_items};
+use std::alloc::Global;
+
+/// `{ statements }`.
+#[derive(Debug, Drop)]
+#[cycle(stmt)]
+pub struct Block {
+    pub statements: Items<Stmt>,
+    /// The place of the closing brace. Where `else if` stands for a block, the `end` of the last block of its `if`.
+    pub end: Span,
+}
+
+/// `f = value`, in the parentheses of a change of state.
+#[derive(Debug, Drop)]
+pub struct GivenNode {
+    pub field: NamePart,
+    pub value: Expr,
+}
+
+impl Duplicate for GivenNode {
+    fn copy(&self, alloc: Global) -> Result<GivenNode, Memory> {
+        Ok(GivenNode {
+            field: self.field.copy(alloc)?,
+            value: self.value.copy(alloc)?,
+        })
+    }
+}
+
+/// The type of a local variable, which is written with no permission.
+#[derive(Debug, Drop)]
+pub enum LocalType {
+    Int(Span),
+    Bool(Span),
+    /// `string`
+    Text(Span),
+    Named(NamedNode),
+}
+
+impl Duplicate for LocalType {
+    fn copy(&self, alloc: Global) -> Result<LocalType, Memory> {
+        match self {
+            LocalType::Int(span) => Ok(LocalType::Int(*span)),
+            LocalType::Bool(span) => Ok(LocalType::Bool(*span)),
+            LocalType::Text(span) => Ok(LocalType::Text(*span)),
+            LocalType::Named(of) => Ok(LocalType::Named(of.copy(alloc)?)),
+        }
+    }
+}
+
+/// A statement: its `span` runs from its first token to its last.
+#[derive(Debug, Drop)]
+#[cycle(stmt)]
+pub enum Stmt {
+    /// `T x = value;`
+    Declare {
+        of: LocalType,
+        name: NamePart,
+        value: Expr,
+        span: Span,
+    },
+    /// `x = value;`
+    Assign {
+        name: NamePart,
+        value: Expr,
+        span: Span,
+    },
+    /// `S::f = value;`
+    Stage {
+        state: NamePart,
+        field: NamePart,
+        value: Expr,
+        span: Span,
+    },
+    /// `->S(f = value, ..);`
+    Change {
+        state: NamePart,
+        given: Items<GivenNode>,
+        span: Span,
+    },
+    /// A call or a `new`, with `;` behind it.
+    Call {
+        value: Expr,
+        span: Span,
+    },
+    /// `if (x in S) { .. } else { .. }`
+    Test {
+        subject: Subject,
+        state: NamePart,
+        then: Block,
+        otherwise: Option<Block>,
+        span: Span,
+    },
+    /// `if (condition) { .. } else { .. }`
+    If {
+        condition: Expr,
+        then: Block,
+        otherwise: Option<Block>,
+        span: Span,
+    },
+    /// `return value;`
+    Return {
+        value: Option<Expr>,
+        span: Span,
+    },
+    /// `revert text;`
+    Revert {
+        text: Option<Expr>,
+        span: Span,
+    },
+    /// `disown x;`
+    Disown {
+        name: NamePart,
+        span: Span,
+    },
+    /// `[x @ perm];`
+    Assert {
+        subject: Subject,
+        perm: PermNode,
+        span: Span,
+    },
+}
+
+fn copy_declare(
+    alloc: Global,
+    of: &LocalType,
+    name: &NamePart,
+    value: &Expr,
+    span: Span,
+) -> Result<Stmt, Memory>
+    ensures { IfOk result (λ copy. copy ≡ Stmt.Declare of.now name.now value.now span) }
+{
+    Ok(Stmt::Declare {
+        of: of.copy(alloc)?,
+        name: name.copy(alloc)?,
+        value: value.copy(alloc)?,
+        span,
+    })
+}
+
+fn copy_assign(alloc: Global, name: &NamePart, value: &Expr, span: Span) -> Result<Stmt, Memory>
+    ensures { IfOk result (λ copy. copy ≡ Stmt.Assign name.now value.now span) }
+{
+    Ok(Stmt::Assign {
+        name: name.copy(alloc)?,
+        value: value.copy(alloc)?,
+        span,
+    })
+}
+
+fn copy_stage(
+    alloc: Global,
+    state: &NamePart,
+    field: &NamePart,
+    value: &Expr,
+    span: Span,
+) -> Result<Stmt, Memory>
+    ensures { IfOk result (λ copy. copy ≡ Stmt.Stage state.now field.now value.now span) }
+{
+    Ok(Stmt::Stage {
+        state: state.copy(alloc)?,
+        field: field.copy(alloc)?,
+        value: value.copy(alloc)?,
+        span,
+    })
+}
+
+fn copy_change(
+    alloc: Global,
+    state: &NamePart,
+    given: &Items<GivenNode>,
+    span: Span,
+) -> Result<Stmt, Memory>
+    ensures { IfOk result (λ copy. copy ≡ Stmt.Change state.now given.now span) }
+{
+    Ok(Stmt::Change {
+        state: state.copy(alloc)?,
+        given: copy_items(alloc, given)?,
+        span,
+    })
+}
+
+fn copy_call(alloc: Global, value: &Expr, span: Span) -> Result<Stmt, Memory>
+    ensures { IfOk result (λ copy. copy ≡ Stmt.Call value.now span) }
+{
+    Ok(Stmt::Call {
+        value: value.copy(alloc)?,
+        span,
+    })
+}
+
+// Only the parts before the blocks are copied.
+fn copy_test(
+    alloc: Global,
+    subject: &Subject,
+    state: &NamePart,
+    then: Block,
+    otherwise: Option<Block>,
+    span: Span,
+) -> Result<Stmt, Memory>
+    ensures { IfOk result (λ copy. copy ≡ Stmt.Test subject.now state.now then otherwise span) }
+{
+    Ok(Stmt::Test {
+        subject: subject.copy(alloc)?,
+        state: state.copy(alloc)?,
+        then,
+        otherwise,
+        span,
+    })
+}
+
+// Only the condition is copied.
+fn copy_if(
+    alloc: Global,
+    condition: &Expr,
+    then: Block,
+    otherwise: Option<Block>,
+    span: Span,
+) -> Result<Stmt, Memory>
+    ensures { IfOk result (λ copy. copy ≡ Stmt.If condition.now then otherwise span) }
+{
+    Ok(Stmt::If {
+        condition: condition.copy(alloc)?,
+        then,
+        otherwise,
+        span,
+    })
+}
+
+fn copy_return(alloc: Global, value: &Option<Expr>, span: Span) -> Result<Stmt, Memory>
+    ensures { IfOk result (λ copy. copy ≡ Stmt.Return value.now span) }
+{
+    Ok(Stmt::Return {
+        value: copy_option(alloc, value)?,
+        span,
+    })
+}
+
+fn copy_revert(alloc: Global, text: &Option<Expr>, span: Span) -> Result<Stmt, Memory>
+    ensures { IfOk result (λ copy. copy ≡ Stmt.Revert text.now span) }
+{
+    Ok(Stmt::Revert {
+        text: copy_option(alloc, text)?,
+        span,
+    })
+}
+
+fn copy_disown(alloc: Global, name: &NamePart, span: Span) -> Result<Stmt, Memory>
+    ensures { IfOk result (λ copy. copy ≡ Stmt.Disown name.now span) }
+{
+    Ok(Stmt::Disown {
+        name: name.copy(alloc)?,
+        span,
+    })
+}
+
+fn copy_assert(
+    alloc: Global,
+    subject: &Subject,
+    perm: &PermNode,
+    span: Span,
+) -> Result<Stmt, Memory>
+    ensures { IfOk result (λ copy. copy ≡ Stmt.Assert subject.now perm.now span) }
+{
+    Ok(Stmt::Assert {
+        subject: subject.copy(alloc)?,
+        perm: perm.copy(alloc)?,
+        span,
+    })
+}
+
+#[cycle(copy_stmt)]
+fn copy_statements(statements: &[Stmt], alloc: Global) -> Result<Items<Stmt>, Memory>
+    ensures { IfOk result (λ copies. copies ≡ statements.now) }
+{
+    let mut copies = Items::new(alloc);
+    for statement in statements {
+        copies.push(statement.copy(alloc)?)?;
+    }
+    Ok(copies)
+}
+
+#[cycle(copy_stmt)]
+fn copy_otherwise(block: &Option<Block>, alloc: Global) -> Result<Option<Block>, Memory>
+    ensures { IfOk result (λ copy. copy ≡ block.now) }
+{
+    match block {
+        None => Ok(None),
+        Some(block) => Ok(Some(block.copy(alloc)?)),
+    }
+}
+
+impl Duplicate for Block {
+    #[cycle(copy_stmt)]
+    fn copy(&self, alloc: Global) -> Result<Block, Memory> {
+        Ok(Block {
+            statements: copy_statements(self.statements.as_slice(), alloc)?,
+            end: self.end,
+        })
+    }
+}
+
+impl Duplicate for Stmt {
+    #[cycle(copy_stmt)]
+    fn copy(&self, alloc: Global) -> Result<Stmt, Memory> {
+        match self {
+            Stmt::Declare {
+                of,
+                name,
+                value,
+                span,
+            } => copy_declare(alloc, of, name, value, *span),
+            Stmt::Assign { name, value, span } => copy_assign(alloc, name, value, *span),
+            Stmt::Stage {
+                state,
+                field,
+                value,
+                span,
+            } => copy_stage(alloc, state, field, value, *span),
+            Stmt::Change { state, given, span } => copy_change(alloc, state, given, *span),
+            Stmt::Call { value, span } => copy_call(alloc, value, *span),
+            Stmt::Test {
+                subject,
+                state,
+                then,
+                otherwise,
+                span,
+            } => {
+                let then = then.copy(alloc)?;
+                let otherwise = copy_otherwise(otherwise, alloc)?;
+                copy_test(alloc, subject, state, then, otherwise, *span)
+            }
+            Stmt::If {
+                condition,
+                then,
+                otherwise,
+                span,
+            } => {
+                let then = then.copy(alloc)?;
+                let otherwise = copy_otherwise(otherwise, alloc)?;
+                copy_if(alloc, condition, then, otherwise, *span)
+            }
+            Stmt::Return { value, span } => copy_return(alloc, value, *span),
+            Stmt::Revert { text, span } => copy_revert(alloc, text, *span),
+            Stmt::Disown { name, span } => copy_disown(alloc, name, *span),
+            Stmt::Assert {
+                subject,
+                perm,
+                span,
+            } => copy_assert(alloc, subject, perm, *span),
+        }
+    }
+}
