@@ -68,7 +68,7 @@ impl Duplicate for PermNode {
 pub struct NamedNode {
     pub name: Text,
     pub argument: Option<Boxed<RefNode>>,
-    /// The place of the name alone.
+    /// From its first token to its last.
     pub span: Span,
 }
 
