@@ -467,3 +467,79 @@ fn keeps_sides_of_operators(rt: HostRuntime) -> Result<(), Fail> {
     assert!(rt; kept);
     Ok(())
 }
+
+/// The lines of the program below, one by one.
+fn line(at: u32) -> &'static str {
+    match at {
+        0 => "main asset contract Bank [ asset T @ p where p is Owned ] implements Vault {",
+        1 => "state Full {",
+        2 => "int f available in Full ;",
+        3 => "bool f available in Full ;",
+        4 => "string f available in Full ;",
+        5 => "Coin @ Owned f available in Full ;",
+        6 => "}",
+        7 => "Coin @ Owned f available in Full ;",
+        8 =>
+            "Box [ Coin @ Owned ] @ Full | Empty ( Coin @ Owned >> Full | Empty this , Coin @ Owned x ) {",
+        9 => "return 5 ;",
+        10 => "return ;",
+        11 => "revert 6 ;",
+        12 => "revert ;",
+        13 => "disown x ;",
+        14 => "[ x @ Full | Empty ] ;",
+        15 => "}",
+        16 =>
+            "private ( Coin @ Owned >> Full | Empty f ) transaction swap ( Coin @ Owned >> Full | Empty this , Coin @ Owned x ) returns string {",
+        17 => "if ( x in Full ) {",
+        18 => "int local = new Box [ Coin @ Owned ] ( 7 - - 1 ) ;",
+        19 => "bool local = new Box [ Coin @ Owned ] ( 7 - - 1 ) ;",
+        20 => "string local = new Box [ Coin @ Owned ] ( 7 - - 1 ) ;",
+        21 => "Box [ Coin @ Owned ] local = new Box [ Coin @ Owned ] ( 7 - - 1 ) ;",
+        22 => "if ( 7 - - 1 ) {",
+        23 => "-> Full ( f = 3 ) ;",
+        24 => "x = 7 - - 1 ;",
+        25 => "Full :: f = 4 ;",
+        26 => "this . pay ( \"hi\" , true , x , this ) ;",
+        27 => "}",
+        28 => "}",
+        29 => "else {",
+        30 => "return 5 ;",
+        31 => "return ;",
+        32 => "revert 6 ;",
+        33 => "revert ;",
+        34 => "disown x ;",
+        35 => "[ x @ Full | Empty ] ;",
+        36 => "}",
+        37 => "}",
+        38 => "transaction peek ( Coin @ Owned >> Full | Empty this , Coin @ Owned x ) ;",
+        39 => "}",
+        40 => "interface Vault {",
+        41 => "}",
+        42 => "contract A {",
+        _ => "}",
+    }
+}
+
+#[test]
+fn prints_every_part(rt: HostRuntime) -> Result<(), Fail> {
+    let alloc = rt.alloc();
+    let mut tree = tree(alloc)?;
+    tree.contracts.push(ContractNode {
+        main: false,
+        asset: false,
+        interface: false,
+        name: Text::of(alloc, b"A")?,
+        param: None,
+        implements: None,
+        members: Items::new(alloc),
+        span: at(94),
+        end: at(95),
+    })?;
+    let mut wanted = String::new(alloc);
+    for at in 0..44 {
+        wanted.push_str(line(at))?;
+        wanted.push_str("\n")?;
+    }
+    assert!(rt; print(alloc, &tree)?.as_str() == wanted.as_str());
+    Ok(())
+}
