@@ -1,4 +1,6 @@
-pub mod ParsingLoop
-pub mod ParsingLaws
+pub mod EachLoop
+pub mod BodyLaws
+pub mod MemberLaws
+pub mod PartsLoop
 pub mod ResolvedLaws
 pub mod FormLaws

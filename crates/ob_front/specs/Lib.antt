@@ -1,6 +1,6 @@
-pub mod Grammar
 pub mod Conditions
 pub mod Resolved
+pub mod BuiltForm
+pub mod Building
 pub mod Form
-pub mod Parsing
 pub mod Compiling

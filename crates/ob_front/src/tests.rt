@@ -28,8 +28,9 @@ fn fault_of(alloc: Global, text: &[u8]) -> Option<(u16, u32, u32)> {
     }
 }
 
-fn is_refused(alloc: Global, text: &[u8]) -> bool {
-    fault_of(alloc, text) == Some((201, 1, 1))
+// Whether a text has a tree, but isn't of the form that is built.
+fn is_not_built(alloc: Global, text: &[u8]) -> bool {
+    fault_of(alloc, text) == Some((901, 1, 1))
 }
 
 /// Whether a sum is this term and then these, with their lines.
@@ -140,24 +141,54 @@ fn reads_empty_programs(rt: HostRuntime) {
 #[test]
 fn refuses_other_forms(rt: HostRuntime) {
     let texts = [
-        "main contract A{A@Shared(){}}// comment\n}",
-        "main contract A{int x A@Shared(){x=0;}}",
+        "contract A { }",
+        "main contract A { }",
         "main contract A{B@Shared(){}}",
         "contract A{A@Shared(){}}",
         "main contract A{A@Shared(){}}main contract A{A@Shared(){}}",
-        "main contract A{A@Shared(){}}}",
-        "main contract A{A@Shared(){}",
+        "main contract A{A@Shared(){}}interface I{}",
+        "main asset contract A{A@Shared(){}}",
+        "main contract A[T@s]{A@Shared(){}}",
+        "main contract A implements I{A@Shared(){}}",
+        "main contract A{state S;A@Shared(){}}",
+        "main contract A{A@Shared(){}A@Shared(){}}",
+        "main contract A{A@Owned(){}}",
+        "main contract A{A@S(){}}",
+        "main contract A{A@Shared(int x){}}",
+        "main contract A{A@Shared(){}int x;}",
+        "main contract A{bool x;A@Shared(){x=1;}}",
+        "main contract A{B@Shared x;A@Shared(){x=1;}}",
+        "main contract A{int x available in S;A@Shared(){x=1;}}",
+        "main contract A{int x;A@Shared(){x=-1;}}",
+        "main contract A{int x;A@Shared(){x=1+1;}}",
+        "main contract A{int x;A@Shared(){x=1;return;}}",
         "main contract A{int x;int y;A@Shared(){x=1;x=1;y=2;}}",
         "main contract A{int x;int y;A@Shared(){y=2;x=1;}}",
         "main contract A{int x;int y;A@Shared(){x=1;}}",
         "main contract A{int x;A@Shared(){x=1;y=2;}}",
         "main contract A{int x;int x;A@Shared(){x=1;x=1;}}",
-        "main contract A{int if;A@Shared(){if=1;}}",
-        "main contract Shared{Shared@Shared(){}}",
     ];
     for text in texts {
-        let refused = is_refused(rt.alloc(), text.as_bytes());
+        let refused = is_not_built(rt.alloc(), text.as_bytes());
         assert!(rt; refused, "at {text:?}");
+    }
+}
+
+#[test]
+fn tells_the_faults_of_the_grammar(rt: HostRuntime) {
+    let rows = [
+        ("main contract A{A@Shared(){}}// comment\n}", (201, 2, 1)),
+        ("main contract A{A@Shared(){}}}", (201, 1, 30)),
+        ("main contract A{A@Shared(){}", (201, 1, 29)),
+        ("main contract A { int x }", (201, 1, 25)),
+        ("main contract A{int x A@Shared(){x=0;}}", (201, 1, 23)),
+        ("main contract A{int if;A@Shared(){if=1;}}", (201, 1, 21)),
+        ("main contract Shared{Shared@Shared(){}}", (201, 1, 15)),
+        ("main contract A{A@Shared(){}\n x=1;}", (201, 2, 3)),
+    ];
+    for (text, fault) in rows {
+        let told = fault_of(rt.alloc(), text.as_bytes());
+        assert_eq!(rt; told, Some(fault), "at {text:?}");
     }
 }
 
@@ -178,13 +209,40 @@ fn tells_the_faults_of_tokens(rt: HostRuntime) {
     }
 }
 
+// A contract with a field and this transaction, which begins in column 39.
+fn with_text(alloc: Global, transaction: &str) -> Result<String, AllocError> {
+    format!(in alloc; "main contract A{{int x;A@Shared(){{x=1;}}{transaction}}}")
+}
+
 #[test]
 fn refuses_other_transactions(rt: HostRuntime) -> Result<(), Fail> {
     let transactions = [
         "transaction t(B@Shared this)returns int{return 0;}",
+        "transaction t(A@Owned this)returns int{return 0;}",
+        "transaction t(A@Shared>>Owned this)returns int{return 0;}",
+        "transaction t(A@Shared a)returns int{return 0;}",
+        "transaction t(int this)returns int{return 0;}",
+        "transaction t()returns int{return 0;}",
+        "transaction t(int p)returns int{return 0;}",
+        "transaction t(int p,A@Shared this)returns int{return 0;}",
+        "transaction t(A@Shared this,bool p)returns int{return 0;}",
+        "transaction t(A@Shared this,B@Shared p)returns int{return 0;}",
+        "private transaction t(A@Shared this)returns int{return 0;}",
+        "private(A@Shared>>Owned x)transaction t(A@Shared this)returns int{return 0;}",
+        "transaction t(A@Shared this){return 0;}",
+        "transaction t(A@Shared this)returns bool{return 0;}",
+        "transaction t(A@Shared this)returns int{}",
         "transaction t(A@Shared this)returns int{x=0;}",
-        "transaction t(A@Shared this)returns int{return 0}",
+        "transaction t(A@Shared this)returns int{return;}",
+        "transaction t(A@Shared this)returns int{return 0;x=0;}",
+        "transaction t(A@Shared this)returns int{return 0;return 0;}",
+        "transaction t(A@Shared this)returns int{int y=0;return 0;}",
+        "transaction t(A@Shared this)returns int{if(true){x=0;}return 0;}",
         "transaction t(A@Shared this)returns int{return 1-1;}",
+        "transaction t(A@Shared this)returns int{return 1*1;}",
+        "transaction t(A@Shared this)returns int{return 1+(1+1);}",
+        "transaction t(A@Shared this)returns int{return true;}",
+        "transaction t(A@Shared this)returns int{return t();}",
         "transaction t(A@Shared this)returns int{return z;}",
         "transaction t(A@Shared this)returns int{return 1+z;}",
         "transaction t(A@Shared this)returns int{x=z;return 0;}",
@@ -192,18 +250,49 @@ fn refuses_other_transactions(rt: HostRuntime) -> Result<(), Fail> {
         "transaction t(A@Shared this,int p)returns int{p=1;return 0;}",
         "transaction t(A@Shared this,int p,int p)returns int{return 0;}",
         "transaction t(A@Shared this,int x)returns int{return 0;}",
-        "transaction t(A@Shared this,int p,)returns int{return 0;}",
         "transaction t(A@Shared this,int p)returns int{return 0;}\
             transaction u(A@Shared this)returns int{return p;}",
         "transaction t(A@Shared this)returns int{return 0;}\
             transaction t(A@Shared this)returns int{return 1;}",
     ];
     for transaction in transactions {
-        let text = format!(in rt.alloc();
-            "main contract A{{int x;A@Shared(){{x=1;}}{transaction}}}"
-        )?;
-        let refused = is_refused(rt.alloc(), text.as_bytes());
+        let text = with_text(rt.alloc(), transaction)?;
+        let refused = is_not_built(rt.alloc(), text.as_bytes());
         assert!(rt; refused, "at {text:?}");
+    }
+    Ok(())
+}
+
+#[test]
+fn tells_the_faults_of_transactions(rt: HostRuntime) -> Result<(), Fail> {
+    let rows = [
+        (
+            "transaction t(A@Shared this)returns int{return 0}",
+            (201, 1, 87),
+        ),
+        (
+            "transaction t(A@Shared this,int p,)returns int{return 0;}",
+            (201, 1, 73),
+        ),
+    ];
+    for (transaction, fault) in rows {
+        let text = with_text(rt.alloc(), transaction)?;
+        let told = fault_of(rt.alloc(), text.as_bytes());
+        assert_eq!(rt; told, Some(fault), "at {text:?}");
+    }
+    Ok(())
+}
+
+// Parentheses don't stand in the tree: they matter only where they group other than from left to right.
+#[test]
+fn takes_parentheses(rt: HostRuntime) -> Result<(), Fail> {
+    let sums = ["(1)", "((x)+1)", "(1+x)+1", "(1)+((x))"];
+    for sum in sums {
+        let transaction = format!(in rt.alloc();
+            "transaction t(A@Shared this)returns int{{x={sum};return {sum};}}"
+        )?;
+        let text = with_text(rt.alloc(), &transaction)?;
+        assert!(rt; is_program(rt.alloc(), text.as_bytes()), "at {text:?}");
     }
     Ok(())
 }
@@ -228,7 +317,7 @@ fn keeps_to_the_limits(rt: HostRuntime) -> Result<(), Fail> {
     ];
     for (most, more) in &table {
         assert!(rt; is_program(alloc, most.as_bytes()), "at {most:?}");
-        assert!(rt; is_refused(alloc, more.as_bytes()), "at {more:?}");
+        assert!(rt; is_not_built(alloc, more.as_bytes()), "at {more:?}");
     }
     let mut text = vec![in alloc; b' '; 1_048_576]?;
     assert!(rt; matches!(compile_plain(alloc, &text), Ok(None)));
@@ -237,19 +326,22 @@ fn keeps_to_the_limits(rt: HostRuntime) -> Result<(), Fail> {
     Ok(())
 }
 
-// Each would take minutes, if its names were compared with one another.
+// Each would take minutes, if its names were compared with one another. Of the last, the 64th `+` stands too deep: in
+// the braces of its transaction, and behind 63 others.
 #[test]
 fn refuses_long_texts_at_once(rt: HostRuntime) -> Result<(), Fail> {
     let alloc = rt.alloc();
     let texts = [
-        with_fields(alloc, 48_000)?,
-        with_transactions(alloc, 18_000)?,
-        with_transaction(alloc, 90_000, 0)?,
-        with_transaction(alloc, 1, 145_000)?,
+        (with_fields(alloc, 48_000)?, (901, 1, 1)),
+        (with_transactions(alloc, 18_000)?, (901, 1, 1)),
+        (with_transaction(alloc, 90_000, 0)?, (901, 1, 1)),
+        (with_transaction(alloc, 1, 63)?, (901, 1, 1)),
+        (with_transaction(alloc, 1, 64)?, (202, 1, 263)),
+        (with_transaction(alloc, 1, 145_000)?, (202, 1, 263)),
     ];
-    for text in &texts {
-        assert!(rt; text.len() > 900_000 && text.len() <= 1_048_576);
-        assert!(rt; is_refused(alloc, text.as_bytes()));
+    for (text, fault) in &texts {
+        assert!(rt; text.len() <= 1_048_576);
+        assert_eq!(rt; fault_of(alloc, text.as_bytes()), Some(*fault));
     }
     Ok(())
 }

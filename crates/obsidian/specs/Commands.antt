@@ -2,13 +2,20 @@
 use Rattle.std.specs.Prelude.{ℕ, List, [], ◌∷◌, Option, None, Some, codes, if◌then◌else◌}
 use Rattle.std.specs.Str.{bytes_eq}
 
--- the commands: `serve P` serves lines over a store in memory, for the program in the file P
+-- The commands: `serve P` serves lines over a store in memory, for the program in the file P; `check P` says whether the
+-- text in the file P has a fault.
 pub data Command : Type 0 where
   serve : List ℕ → Command
+  check : List ℕ → Command
+
+-- the file P
+abbrev pub file_of : Command → List ℕ
+file_of (serve name) = name
+file_of (check name) = name
 
 -- the command that the words are, without the program's own name
 abbrev pub command_of : List (List ℕ) → Option Command
 command_of [] = None
 command_of (word ∷ []) = None
-command_of (word ∷ name ∷ []) = if bytes_eq word (codes "serve") then Some (serve name) else None
+command_of (word ∷ name ∷ []) = if bytes_eq word (codes "serve") then Some (serve name) else (if bytes_eq word (codes "check") then Some (check name) else None)
 command_of (word ∷ name ∷ more ∷ words) = None

@@ -1,12 +1,12 @@
 -- What each status of a run says of the words, the files and the two streams, before and after.
-use Rattle.std.specs.Prelude.{ℕ, ◌≡◌, ◌<◌, ◌^◌, ◌⊎◌, List, length, Option, None, Some}
+use Rattle.std.specs.Prelude.{ℕ, ◌≡◌, ◌<◌, ◌^◌, ◌⊎◌, ◌++◌, List, [], ◌∷◌, length, codes, Option, None, Some}
 use Rattle.ob_base.specs.declared.fault.ProgramFault.{ProgramFault}
 use Rattle.ob_io.specs.Causes.{Rose}
 use Rattle.ob_io.specs.Told.{Gives, GivesFront}
 use Rattle.ob_machine.specs.declared.plain.Plain.{Plain}
-use Rattle.ob_front.specs.Form.{HasProgram, IsFaulty}
+use Rattle.ob_front.specs.Form.{IsAccepted, HasTextFault, HasProgram, IsFaulty}
 use Rattle.ob_serve.specs.Served.{IsAll, Finishes, FailsToRead, FailsToWrite, GivesUp, IsTooLong}
-use Rattle.obsidian.specs.Commands.{serve, command_of}
+use Rattle.obsidian.specs.Commands.{Command, serve, check, file_of, command_of}
 use Rattle.obsidian.specs.FaultLine.{fault_line}
 use Rattle.obsidian.specs.Outside.{Outside, streams, KeepsStreams}
 use Rattle.obsidian.specs.declared.exit.Exit.{Exit}
@@ -22,17 +22,40 @@ pub record Serves (words : List (List ℕ)) (old : Outside) (says : Option Plain
   pub has : HasProgram text program
   pub holds : says program
 
--- The words are `serve P`, and this fault is told of the text of P.
+-- what a command tells of a text that it refuses
+abbrev pub IsToldBy : Command → List ℕ → ProgramFault → Type 0
+IsToldBy (serve name) = IsFaulty
+IsToldBy (check name) = HasTextFault
+
+-- The words are a command, and by it this fault is told of the text of P.
 pub record RefusesText (words : List (List ℕ)) (old : Outside) (fault : ProgramFault) : Type 0 where
+  pub command : Command
+  pub is : command_of words ≡ Some command
+  pub text : List ℕ
+  pub told : IsAll (old.files.content (file_of command)) text
+  pub faulty : IsToldBy command text fault
+
+-- The words are `check P`, and the text of P is accepted.
+pub record AcceptsText (words : List (List ℕ)) (old : Outside) : Type 0 where
   pub name : List ℕ
-  pub command : command_of words ≡ Some (serve name)
+  pub command : command_of words ≡ Some (check name)
   pub text : List ℕ
   pub told : IsAll (old.files.content name) text
-  pub faulty : IsFaulty text fault
+  pub accepted : IsAccepted text
 
--- Done: the replies to all lines of the input were written.
+-- what is written of a text that is accepted
+abbrev pub accepted_line : List ℕ
+accepted_line = codes "accepted" ++ 10 ∷ []
+
+-- The text of P is accepted, its line was written, and no input was taken.
+pub record Accepts (words : List (List ℕ)) (old new : Outside) : Type 0 where
+  pub accepts : AcceptsText words old
+  pub line : Gives old.output.written new.output.written accepted_line
+  pub input : new.input ≡ old.input
+
+-- Done: the replies to all lines of the input were written, or that the text is accepted.
 abbrev pub IsDone : List (List ℕ) → Outside → Outside → Type 0
-IsDone words old new = Serves words old (λ program. Finishes program (streams old) (streams new))
+IsDone words old new = Serves words old (λ program. Finishes program (streams old) (streams new)) ⊎ Accepts words old new
 
 -- Refused: the text of P has a fault, its line was written, and no input was taken.
 pub record IsRefused (words : List (List ℕ)) (old new : Outside) : Type 0 where
@@ -48,8 +71,8 @@ pub record IsUsage (words : List (List ℕ)) (old new : Outside) : Type 0 where
 
 -- FileFault: P wasn't read, and the streams weren't touched.
 pub record IsFileFault (words : List (List ℕ)) (old new : Outside) : Type 0 where
-  pub name : List ℕ
-  pub command : command_of words ≡ Some (serve name)
+  pub command : Command
+  pub is : command_of words ≡ Some command
   pub cause : Rose old.files.faults new.files.faults
   pub streams : KeepsStreams old new
 
@@ -65,17 +88,24 @@ pub record CutsRefusal (words : List (List ℕ)) (old new : Outside) : Type 0 wh
   pub front : GivesFront old.output.written new.output.written (fault_line fault)
   pub input : new.input ≡ old.input
 
--- WriteFault: a write failed, within a reply or within the line of a refused text.
-abbrev pub IsWriteFault : List (List ℕ) → Outside → Outside → Type 0
-IsWriteFault words old new = Serves words old (λ program. FailsToWrite program (streams old) (streams new)) ⊎ CutsRefusal words old new
+-- The line of an accepted text wasn't written whole.
+pub record CutsAcceptance (words : List (List ℕ)) (old new : Outside) : Type 0 where
+  pub accepts : AcceptsText words old
+  pub cause : Rose old.output.faults new.output.faults
+  pub front : GivesFront old.output.written new.output.written accepted_line
+  pub input : new.input ≡ old.input
 
--- Memory ran out before the first line: the streams weren't touched.
+-- WriteFault: a write failed, within a reply or within the line of a text that is refused or accepted.
+abbrev pub IsWriteFault : List (List ℕ) → Outside → Outside → Type 0
+IsWriteFault words old new = Serves words old (λ program. FailsToWrite program (streams old) (streams new)) ⊎ (CutsRefusal words old new ⊎ CutsAcceptance words old new)
+
+-- Memory ran out before anything was read or written: the streams weren't touched.
 pub record RunsOutEarly (words : List (List ℕ)) (old new : Outside) : Type 0 where
-  pub name : List ℕ
-  pub command : command_of words ≡ Some (serve name)
+  pub command : Command
+  pub is : command_of words ≡ Some command
   pub streams : KeepsStreams old new
 
--- Memory: it ran out before the first line, or before a reply.
+-- Memory: it ran out before anything was read or written, or before a reply.
 abbrev pub IsMemory : List (List ℕ) → Outside → Outside → Type 0
 IsMemory words old new = RunsOutEarly words old new ⊎ Serves words old (λ program. GivesUp program (streams old) (streams new))
 
@@ -104,5 +134,14 @@ pub record IsSmooth (words : List (List ℕ)) (old new : Outside) : Type 0 where
   pub input_told : old.input.left ≡ Some input
   pub few : length input < 2 ^ 40
   pub reads : ¬ (Rose old.input.faults new.input.faults)
+  pub writes : ¬ (Rose old.output.faults new.output.faults)
+  pub files : ¬ (Rose old.files.faults new.files.faults)
+
+-- The words are `check P`, and no count of faults rises.
+pub record IsSmoothCheck (words : List (List ℕ)) (old new : Outside) : Type 0 where
+  pub name : List ℕ
+  pub command : command_of words ≡ Some (check name)
+  pub text : List ℕ
+  pub told : old.files.content name ≡ Some text
   pub writes : ¬ (Rose old.output.faults new.output.faults)
   pub files : ¬ (Rose old.files.faults new.files.faults)

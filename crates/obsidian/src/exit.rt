@@ -4,7 +4,7 @@ ghost use Rattle.std.specs.Prelude.{◌≡◌};
 /// How a run ended.
 #[derive(Clone, Copy, PartialEq, Eq, Debug)]
 pub enum Exit {
-    /// The input was read to its end, and every line was answered.
+    /// The input was read to its end, and every line was answered; or the text is accepted, and its line was written.
     Done,
     /// The program's text has a fault; its line was written.
     Refused,

@@ -1,4 +1,4 @@
-//! Serves a program of the Obsidian language: request lines in, replies out.
+//! Serves a program of the Obsidian language, request lines in and replies out; or checks its text.
 #![tactic(auto)]
 
 mod exit;

@@ -30,7 +30,13 @@ pub returns-clause-unknown : goal.returns-clause-unknown
 returns-clause-unknown g c = top.unknown _ (outside (g.F.Files.view c.args.files.now) (g.S.Source.view c.args.input.now) (g.K.Sink.view c.args.output.now)) (outside (g.F.Files.view c.run_words.new.files) (g.S.Source.view c.run_words.new.input) (g.K.Sink.view c.run_words.new.output)) c.run_words.result c.run_words.ensures.meets
 
 pub returns-clause-served : goal.returns-clause-served
-returns-clause-served g c = top.served _ (outside (g.F.Files.view c.args.files.now) (g.S.Source.view c.args.input.now) (g.K.Sink.view c.args.output.now)) (outside (g.F.Files.view c.run_words.new.files) (g.S.Source.view c.run_words.new.input) (g.K.Sink.view c.run_words.new.output)) c.run_words.result c.run_words.ensures.meets
+returns-clause-served g c = λ smooth. top.served _ (outside (g.F.Files.view c.args.files.now) (g.S.Source.view c.args.input.now) (g.K.Sink.view c.args.output.now)) (outside (g.F.Files.view c.run_words.new.files) (g.S.Source.view c.run_words.new.input) (g.K.Sink.view c.run_words.new.output)) smooth c.run_words.result c.run_words.ensures.meets
 
 pub returns-clause-faulty : goal.returns-clause-faulty
-returns-clause-faulty g c = top.refused _ (outside (g.F.Files.view c.args.files.now) (g.S.Source.view c.args.input.now) (g.K.Sink.view c.args.output.now)) (outside (g.F.Files.view c.run_words.new.files) (g.S.Source.view c.run_words.new.input) (g.K.Sink.view c.run_words.new.output)) c.run_words.result c.run_words.ensures.meets
+returns-clause-faulty g c = λ smooth. top.refused _ (outside (g.F.Files.view c.args.files.now) (g.S.Source.view c.args.input.now) (g.K.Sink.view c.args.output.now)) (outside (g.F.Files.view c.run_words.new.files) (g.S.Source.view c.run_words.new.input) (g.K.Sink.view c.run_words.new.output)) smooth c.run_words.result c.run_words.ensures.meets
+
+pub returns-clause-checked : goal.returns-clause-checked
+returns-clause-checked g c = λ smooth. top.checked _ (outside (g.F.Files.view c.args.files.now) (g.S.Source.view c.args.input.now) (g.K.Sink.view c.args.output.now)) (outside (g.F.Files.view c.run_words.new.files) (g.S.Source.view c.run_words.new.input) (g.K.Sink.view c.run_words.new.output)) smooth c.run_words.result c.run_words.ensures.meets
+
+pub returns-clause-unaccepted : goal.returns-clause-unaccepted
+returns-clause-unaccepted g c = λ smooth. top.unaccepted _ (outside (g.F.Files.view c.args.files.now) (g.S.Source.view c.args.input.now) (g.K.Sink.view c.args.output.now)) (outside (g.F.Files.view c.run_words.new.files) (g.S.Source.view c.run_words.new.input) (g.K.Sink.view c.run_words.new.output)) smooth c.run_words.result c.run_words.ensures.meets

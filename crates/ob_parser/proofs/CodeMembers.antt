@@ -1,0 +1,35 @@
+-- That the rows of the loops over parameters, fields, members and contracts have tokens.
+use Rattle.std.proofs.Common.{ℕ, ◌<◌, refl, [], ◌∷◌}
+use Rattle.ob_lexer.specs.declared.token.Sign.TheVariants.{Comma}
+use Rattle.ob_parser.specs.MemberRows.{param, listed, field, member, interface_member, contract}
+use Rattle.ob_parser.specs.Symbols.{a_name, number}
+use Rattle.ob_parser.specs.NameReaders.{on, read_item, read_named}
+use Rattle.ob_parser.specs.MemberReaders.{types, read_param, read_listed, read_field}
+use Rattle.ob_parser.specs.ContractReaders.{member_first, read_member, promise_first, read_interface_member, contract_first, read_contract}
+use Rattle.ob_parser.specs.AllReaders.{all_refs, all_blocks}
+use Rattle.ob_parser.proofs.Lists.{behind_sign, item_laws}
+use Rattle.ob_parser.proofs.ParamLaws.{param_laws, listed_laws}
+use Rattle.ob_parser.proofs.FieldLaws.{field_laws}
+use Rattle.ob_parser.proofs.MemberLaws.{member_laws, interface_member_laws}
+use Rattle.ob_parser.proofs.ContractLaws.{contract_laws}
+use Rattle.ob_parser.proofs.BlockLaws.{all_refs_laws, all_named_laws, all_blocks_laws}
+use Rattle.ob_parser.proofs.Loops.{Consumes, consumes}
+
+module _ (room : ℕ) (less : room < 256) where
+  pub param_item : Consumes (read_item Comma (read_param (all_refs room)))
+  param_item = consumes room (behind_sign Comma param) (read_item Comma (read_param (all_refs room))) (on Comma) [] (item_laws Comma room param (read_param (all_refs room)) types [] (param_laws room (all_refs room) (all_refs_laws room less)) refl)
+
+  pub listed_item : Consumes (read_item Comma (read_listed (all_refs room)))
+  listed_item = consumes room (behind_sign Comma listed) (read_item Comma (read_listed (all_refs room))) (on Comma) [] (item_laws Comma room listed (read_listed (all_refs room)) (number a_name ∷ []) [] (listed_laws room (all_refs room) (all_refs_laws room less)) refl)
+
+  pub field_item : Consumes (read_field (all_refs room))
+  field_item = consumes room field (read_field (all_refs room)) types [] (field_laws room (all_refs room) (all_refs_laws room less))
+
+  pub member_item : Consumes (read_member (all_refs room) (all_blocks room))
+  member_item = consumes room member (read_member (all_refs room) (all_blocks room)) member_first [] (member_laws room (all_refs room) (all_blocks room) (all_refs_laws room less) (all_blocks_laws room less))
+
+  pub interface_item : Consumes (read_interface_member (all_refs room))
+  interface_item = consumes room interface_member (read_interface_member (all_refs room)) promise_first [] (interface_member_laws room (all_refs room) (all_refs_laws room less))
+
+  pub contract_item : Consumes (read_contract (read_named all_refs room) (all_refs room) (all_blocks room))
+  contract_item = consumes room contract (read_contract (read_named all_refs room) (all_refs room) (all_blocks room)) contract_first [] (contract_laws room (read_named all_refs room) (all_refs room) (all_blocks room) (all_named_laws room less) (all_refs_laws room less) (all_blocks_laws room less))

@@ -1,0 +1,23 @@
+use Rattle.std.proofs.Common.{◌∙◌, sym, map, rules}
+use Rattle.ob_tree.specs.MembersView.{member_of}
+use Rattle.ob_parser.specs.Readers.{read_many}
+use Rattle.ob_parser.specs.ContractReaders.{member_first, read_member}
+use Rattle.ob_parser.specs.AllReaders.{all_refs, all_blocks}
+use Rattle.ob_parser.proofs.Loops.{kept_as}
+use Rattle.ob_parser.proofs.Tails.{halts_in, begun_as}
+use Rattle.ob_parser.proofs.CodeMembers.{member_item}
+use Rattle.ob_parser.proofs.contracts.member_list.Goals as goal
+
+pub members-init : goal.members-init
+members-init c = begun_as member_of c.new-members.result (read_many member_first (read_member (all_refs c.args.room) (all_blocks c.args.room)) c.args.tokens.now) c.new-members.ensures
+
+pub returns-in_err-member : goal.returns-in_err-member
+returns-in_err-member c =
+    let why = halts_in member_first (read_member (all_refs c.args.room) (all_blocks c.args.room)) (map member_of c.members.members) c.members.rest.now c.in_err-member.field-0.0 (read_many member_first (read_member (all_refs c.args.room) (all_blocks c.args.room)) c.args.tokens.now) c.members.invariant (sym c.starts_with_one_of.ensures ∙ c.members-test.true) c.in_err-member.ensures in
+    search rules
+
+pub members-smaller : goal.members-smaller
+members-smaller c = (member_item c.args.room c.ranges.room.fits).fewer _ _ _ c.in_ok-member.ensures
+
+pub members-preserved : goal.members-preserved
+members-preserved c = kept_as member_first (read_member (all_refs c.args.room) (all_blocks c.args.room)) member_of c.members.members c.push.new.self c.members.rest.now c.in_ok-member.after.now c.in_ok-member.member _ (member_item c.args.room c.ranges.room.fits) c.members.invariant c.in_ok-push.ensures.ok (sym c.starts_with_one_of.ensures ∙ c.members-test.true) c.in_ok-member.ensures

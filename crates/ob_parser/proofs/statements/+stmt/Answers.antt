@@ -1,0 +1,52 @@
+use Rattle.std.proofs.Common.{rules, ◌∙◌, sym}
+use Rattle.ob_lexer.specs.declared.token.Word.TheVariants.{If}
+use Rattle.ob_lexer.specs.declared.token.Sign.TheVariants.{OpenBrace}
+use Rattle.ob_tree.specs.StmtsView.{stmt_of, stmt_views}
+use Rattle.ob_parser.specs.Symbols.{a_word, a_sign}
+use Rattle.ob_parser.specs.Readers.{place_if, read_many}
+use Rattle.ob_parser.specs.StmtReaders.{stmt_first, read_stmt}
+use Rattle.ob_parser.specs.AllReaders.{all_refs, all_counted, all_branches, all_stmts}
+use Rattle.ob_parser.proofs.Loops.{halts_bind, none_before, kept_as}
+use Rattle.ob_parser.proofs.Deeper.{branches_step}
+use Rattle.ob_parser.proofs.CodeTokens.{opened_is}
+use Rattle.ob_parser.proofs.CodeStatements.{stmt_consumes}
+use Rattle.ob_parser.proofs.statements.+stmt.Goals as goal
+
+pub block-returns-in_err-statements : goal.block-returns-in_err-statements
+block-returns-in_err-statements t c = rw (opened_is (place_if (a_sign OpenBrace)) 1 c.args.room all_stmts c.args.tokens.now) (search (rules, halts_bind))
+
+pub block-returns-in_err-end : goal.block-returns-in_err-end
+block-returns-in_err-end t c = rw (opened_is (place_if (a_sign OpenBrace)) 1 c.args.room all_stmts c.args.tokens.now) (search (rules, halts_bind))
+
+pub block-returns : goal.block-returns
+block-returns t c = rw (opened_is (place_if (a_sign OpenBrace)) 1 c.args.room all_stmts c.args.tokens.now) (search (rules, stmt_views))
+
+pub statement_list-statements-init : goal.statement_list-statements-init
+statement_list-statements-init t c = rw c.new-statements.ensures (none_before (read_many stmt_first (read_stmt all_refs all_counted all_branches c.args.room) c.args.tokens.now))
+
+pub statement_list-statements-smaller : goal.statement_list-statements-smaller
+statement_list-statements-smaller t c = (stmt_consumes c.args.room c.ranges.room.fits).fewer c.statements.rest.now (stmt_of c.in_ok-statement.statement) c.in_ok-statement.after.now c.in_ok-statement.ensures
+
+pub statement_list-statements-preserved : goal.statement_list-statements-preserved
+statement_list-statements-preserved t c = kept_as stmt_first (read_stmt all_refs all_counted all_branches c.args.room) stmt_of c.statements.statements c.push.new.self c.statements.rest.now c.in_ok-statement.after.now c.in_ok-statement.statement _ (stmt_consumes c.args.room c.ranges.room.fits) c.statements.invariant c.in_ok-push.ensures.ok (sym c.starts_with_one_of.ensures ∙ c.statements-test.true) c.in_ok-statement.ensures
+
+pub behind_if-returns-in_err-rest : goal.behind_if-returns-in_err-rest
+behind_if-returns-in_err-rest t c = rw (branches_step c.args.room c.ranges.room.fits c.args.tokens.now) (search rules)
+
+pub behind_if-returns-in_err-question : goal.behind_if-returns-in_err-question
+behind_if-returns-in_err-question t c = rw (branches_step c.args.room c.ranges.room.fits c.args.tokens.now) (search (rules, halts_bind))
+
+pub behind_if-returns-in_err-rest-2 : goal.behind_if-returns-in_err-rest-2
+behind_if-returns-in_err-rest-2 t c = rw (branches_step c.args.room c.ranges.room.fits c.args.tokens.now) (search (rules, halts_bind))
+
+pub behind_if-returns-in_err-then : goal.behind_if-returns-in_err-then
+behind_if-returns-in_err-then t c = rw (branches_step c.args.room c.ranges.room.fits c.args.tokens.now) (search (rules, halts_bind))
+
+pub behind_if-returns-in_err-otherwise : goal.behind_if-returns-in_err-otherwise
+behind_if-returns-in_err-otherwise t c = rw (branches_step c.args.room c.ranges.room.fits c.args.tokens.now) (search (rules, halts_bind))
+
+pub behind_if-returns : goal.behind_if-returns
+behind_if-returns t c = rw (branches_step c.args.room c.ranges.room.fits c.args.tokens.now) (search rules)
+
+pub chained-returns : goal.chained-returns
+chained-returns t c = rw (opened_is (place_if (a_word If)) 1 c.args.room all_branches c.args.tokens.now) (search rules)
