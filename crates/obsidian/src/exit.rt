@@ -23,7 +23,7 @@ pub enum Exit {
 }
 
 impl Exit {
-    ghost use Rattle.obsidian.specs.ExitStatus.{status_of};
+    ghost use Rattle.obsidian.specs.ExitStatus.{status_of, word_of};
 
     /// The status of the process.
     pub fn status(self) -> u8
@@ -42,7 +42,9 @@ impl Exit {
     }
 
     /// The word for it on standard error.
-    pub fn word(self) -> &'static str {
+    pub fn word(self) -> &'static str
+        ensures { result.now ≡ word_of self }
+    {
         match self {
             Exit::Done => "Done",
             Exit::Refused => "Refused",
