@@ -1,14 +1,8 @@
 //! Serves a program of the Obsidian language, request lines in and replies out; or checks its text.
 #![tactic(auto)]
 
-mod exit;
-mod fault_line;
-#[cfg(test)]
-mod tests;
-mod top;
-
-use exit::Exit;
 use ob_io::{StdFiles, StdSink, StdSource};
+use ob_run::{Exit, run};
 use std::io::writer;
 use std::process::ExitCode;
 use std::{env, io};
@@ -29,7 +23,7 @@ fn run_host(rt: &HostRuntime) -> Exit {
     let mut files = StdFiles::new(rt);
     let mut input = StdSource::new(rt.reader());
     let mut output = StdSink::new(writer(rt));
-    top::run(rt.alloc(), &words, &mut files, &mut input, &mut output)
+    run(rt.alloc(), &words, &mut files, &mut input, &mut output)
 }
 
 fn main(rt: HostRuntime) -> ExitCode {

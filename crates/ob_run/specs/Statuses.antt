@@ -6,11 +6,11 @@ use Rattle.ob_io.specs.Told.{Gives, GivesFront}
 use Rattle.ob_machine.specs.declared.plain.Plain.{Plain}
 use Rattle.ob_front.specs.Form.{IsAccepted, HasTextFault, HasProgram, IsFaulty}
 use Rattle.ob_serve.specs.Served.{IsAll, Finishes, FailsToRead, FailsToWrite, GivesUp, IsTooLong}
-use Rattle.obsidian.specs.Commands.{Command, serve, check, file_of, command_of}
-use Rattle.obsidian.specs.FaultLine.{fault_line}
-use Rattle.obsidian.specs.Outside.{Outside, streams, KeepsStreams}
-use Rattle.obsidian.specs.declared.exit.Exit.{Exit}
-use Rattle.obsidian.specs.declared.exit.Exit.TheVariants.{Done, Refused, Usage, ReadFault, WriteFault, FileFault, Memory, Long}
+use Rattle.ob_run.specs.Commands.{Command, serve, check, file_of, command_of}
+use Rattle.ob_run.specs.FaultLine.{fault_line}
+use Rattle.ob_run.specs.Outside.{Outside, streams, KeepsStreams}
+use Rattle.ob_run.specs.declared.exit.Exit.{Exit}
+use Rattle.ob_run.specs.declared.exit.Exit.TheVariants.{Done, Refused, Usage, ReadFault, WriteFault, FileFault, Memory, Long}
 
 -- The words are `serve P`, the text of P is a program, and what is said of the program holds.
 pub record Serves (words : List (List ℕ)) (old : Outside) (says : Option Plain → Type 0) : Type 0 where

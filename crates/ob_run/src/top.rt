@@ -3,11 +3,11 @@ ghost use Rattle.std.specs.Prelude.{◌≡◌, ◌≢◌, ◌+◌, ◌≤◌, �
 ghost use Rattle.std.specs.Option.{option_copied};
 ghost use Rattle.ob_machine.specs.Closed.{is_closed_program};
 ghost use Rattle.ob_front.specs.Form.{IsAccepted, HasProgram, IsOfForm};
-ghost use Rattle.obsidian.specs.Commands.{Command, command_of};
-ghost use Rattle.obsidian.specs.FaultLine.{fault_line};
-ghost use Rattle.obsidian.specs.Outside.{outside, faults_of, IsCalm};
-ghost use Rattle.obsidian.specs.Statuses.{Meets, IsDone, IsRefused, IsUsage, IsReadFault, IsWriteFault, IsFileFault, IsMemory, IsLong, IsSmooth, IsSmoothCheck, accepted_line};
-ghost use Rattle.obsidian.specs.TextRead.{command_on, IsReadOf, TreatsServe, TreatsCheck, Treats};
+ghost use Rattle.ob_run.specs.Commands.{Command, command_of};
+ghost use Rattle.ob_run.specs.FaultLine.{fault_line};
+ghost use Rattle.ob_run.specs.Outside.{outside, faults_of, IsCalm};
+ghost use Rattle.ob_run.specs.Statuses.{Meets, IsDone, IsRefused, IsUsage, IsReadFault, IsWriteFault, IsFileFault, IsMemory, IsLong, IsSmooth, IsSmoothCheck, accepted_line};
+ghost use Rattle.ob_run.specs.TextRead.{command_on, IsReadOf, TreatsServe, TreatsCheck, Treats};
 ghost use Rattle.ob_io.specs.Causes.{Rose};
 ghost use Rattle.ob_io.specs.Told.{Gives, GivesFront};
 ghost use Rattle.ob_io.specs.Views.{SourceView};

@@ -9,14 +9,14 @@ use Rattle.ob_lexer.specs.Flaws.{HasFault, too_long, no_utf8, flawed}
 use Rattle.ob_front.specs.Form.{IsAccepted, HasTextFault, at_token, at_row, HasProgram, IsOfForm, IsFaulty, in_tokens, in_grammar, in_form}
 use Rattle.ob_front.proofs.FormLaws.{accepted_or_fault_lem, form_or_fault_lem}
 use Rattle.ob_serve.specs.Served.{Streams, IsAll, Finishes, FailsToRead, FailsToWrite, GivesUp, IsTooLong}
-use Rattle.obsidian.specs.Commands.{Command, serve, check, file_of, command_of}
-use Rattle.obsidian.specs.Outside.{Outside, streams}
-use Rattle.obsidian.specs.Statuses.{Serves, IsToldBy, RefusesText, AcceptsText, IsDone, IsRefused, CutsRefusal, IsUsage, IsFileFault, IsReadFault, IsWriteFault, IsMemory, IsLong, Meets, IsSmooth, IsSmoothCheck}
-use Rattle.obsidian.specs.TextRead.{command_on, IsReadOf, HasServed, WritesRefusal, BreaksRefusal, TreatsServe, TreatsCheck, Treats}
-use Rattle.obsidian.specs.declared.exit.Exit.{Exit}
-use Rattle.obsidian.specs.declared.exit.Exit.TheVariants.{Done, Refused, Usage, ReadFault, WriteFault, FileFault, Memory, Long}
-use Rattle.obsidian.specs.declared.top.Verb.{Verb}
-use Rattle.obsidian.specs.declared.top.Verb.TheVariants.{Serve, Check}
+use Rattle.ob_run.specs.Commands.{Command, serve, check, file_of, command_of}
+use Rattle.ob_run.specs.Outside.{Outside, streams}
+use Rattle.ob_run.specs.Statuses.{Serves, IsToldBy, RefusesText, AcceptsText, IsDone, IsRefused, CutsRefusal, IsUsage, IsFileFault, IsReadFault, IsWriteFault, IsMemory, IsLong, Meets, IsSmooth, IsSmoothCheck}
+use Rattle.ob_run.specs.TextRead.{command_on, IsReadOf, HasServed, WritesRefusal, BreaksRefusal, TreatsServe, TreatsCheck, Treats}
+use Rattle.ob_run.specs.declared.exit.Exit.{Exit}
+use Rattle.ob_run.specs.declared.exit.Exit.TheVariants.{Done, Refused, Usage, ReadFault, WriteFault, FileFault, Memory, Long}
+use Rattle.ob_run.specs.declared.top.Verb.{Verb}
+use Rattle.ob_run.specs.declared.top.Verb.TheVariants.{Serve, Check}
 
 -- a text that isn't too long was read whole
 whole : (content : List ℕ) → length (take 1048577 content) ≤ 1048576 → take 1048577 content ≡ content

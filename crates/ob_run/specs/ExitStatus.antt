@@ -1,7 +1,7 @@
 -- The status of the process and its word, by how a run ended.
 use Rattle.std.specs.Prelude.{ℕ, List, codes}
-use Rattle.obsidian.specs.declared.exit.Exit.{Exit}
-use Rattle.obsidian.specs.declared.exit.Exit.TheVariants.{Done, Refused, Usage, ReadFault, WriteFault, FileFault, Memory, Long}
+use Rattle.ob_run.specs.declared.exit.Exit.{Exit}
+use Rattle.ob_run.specs.declared.exit.Exit.TheVariants.{Done, Refused, Usage, ReadFault, WriteFault, FileFault, Memory, Long}
 
 -- the number of each status
 abbrev pub status_of : Exit → ℕ

@@ -1,6 +1,6 @@
 //! The line that is written for a program that is refused.
 ghost use Rattle.std.specs.Prelude.{◌≡◌, IfOk, string_bytes};
-ghost use Rattle.obsidian.specs.FaultLine.{fault_line};
+ghost use Rattle.ob_run.specs.FaultLine.{fault_line};
 
 use ob_base::{Memory, ProgramFault, Span, fault_name};
 use std::alloc::Global;

@@ -23,7 +23,7 @@ pub enum Exit {
 }
 
 impl Exit {
-    ghost use Rattle.obsidian.specs.ExitStatus.{status_of, word_of};
+    ghost use Rattle.ob_run.specs.ExitStatus.{status_of, word_of};
 
     /// The status of the process.
     pub fn status(self) -> u8

@@ -1,6 +1,6 @@
-use Rattle.obsidian.specs.Outside.{outside}
-use Rattle.obsidian.proofs.TopLemmas as top
-use Rattle.obsidian.proofs.top.run.Goals as goal
+use Rattle.ob_run.specs.Outside.{outside}
+use Rattle.ob_run.proofs.TopLemmas as top
+use Rattle.ob_run.proofs.top.run.Goals as goal
 
 pub returns-clause-done : goal.returns-clause-done
 returns-clause-done g c = top.when_done _ (outside (g.F.Files.view c.args.files.now) (g.S.Source.view c.args.input.now) (g.K.Sink.view c.args.output.now)) (outside (g.F.Files.view c.run_words.new.files) (g.S.Source.view c.run_words.new.input) (g.K.Sink.view c.run_words.new.output)) c.run_words.result c.run_words.ensures.meets

@@ -6,13 +6,13 @@ use Rattle.ob_machine.specs.declared.plain.Plain.{Plain}
 use Rattle.ob_base.specs.declared.fault.ProgramFault.{ProgramFault}
 use Rattle.ob_front.specs.Form.{IsAccepted, HasTextFault, HasProgram, IsFaulty}
 use Rattle.ob_serve.specs.Served.{Streams, Finishes, FailsToRead, FailsToWrite, GivesUp, IsTooLong}
-use Rattle.obsidian.specs.Commands.{Command, serve, check}
-use Rattle.obsidian.specs.FaultLine.{fault_line}
-use Rattle.obsidian.specs.Statuses.{accepted_line}
-use Rattle.obsidian.specs.declared.exit.Exit.{Exit}
-use Rattle.obsidian.specs.declared.exit.Exit.TheVariants.{Done, Refused, Usage, ReadFault, WriteFault, FileFault, Memory, Long}
-use Rattle.obsidian.specs.declared.top.Verb.{Verb}
-use Rattle.obsidian.specs.declared.top.Verb.TheVariants.{Serve, Check}
+use Rattle.ob_run.specs.Commands.{Command, serve, check}
+use Rattle.ob_run.specs.FaultLine.{fault_line}
+use Rattle.ob_run.specs.Statuses.{accepted_line}
+use Rattle.ob_run.specs.declared.exit.Exit.{Exit}
+use Rattle.ob_run.specs.declared.exit.Exit.TheVariants.{Done, Refused, Usage, ReadFault, WriteFault, FileFault, Memory, Long}
+use Rattle.ob_run.specs.declared.top.Verb.{Verb}
+use Rattle.ob_run.specs.declared.top.Verb.TheVariants.{Serve, Check}
 
 -- the command that does this, with this file
 abbrev pub command_on : Verb → List ℕ → Command

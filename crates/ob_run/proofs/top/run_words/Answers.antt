@@ -1,7 +1,7 @@
 use Rattle.std.proofs.Common.{sym}
-use Rattle.obsidian.specs.Outside.{outside}
-use Rattle.obsidian.proofs.TopLemmas.{treated}
-use Rattle.obsidian.proofs.top.run_words.Goals as goal
+use Rattle.ob_run.specs.Outside.{outside}
+use Rattle.ob_run.proofs.TopLemmas.{treated}
+use Rattle.ob_run.proofs.top.run_words.Goals as goal
 
 pub returns-in-Ok-clause-meets : goal.returns-in-Ok-clause-meets
 returns-in-Ok-clause-meets g c =
