@@ -1,0 +1,145 @@
+//! A file of cases, line by line.
+use crate::case::Case;
+use crate::kind::Kind;
+use crate::pieces::put_text;
+use crate::programs::Programs;
+use crate::report::Report;
+use anyhow::{Context, Result, bail};
+use std::alloc::Global;
+
+/// What was read so far of a file of cases.
+#[derive(Drop)]
+pub struct Sheet<'a> {
+    alloc: Global,
+    programs: &'a Programs,
+    case: Option<Case>,
+    /// The name of the part that the next line goes on with.
+    part: String,
+    /// Whether the case is a table, whose rows were judged.
+    is_table: bool,
+    report: Report,
+}
+
+// What stands behind the mark of a line, and a blank.
+fn marked<'a>(line: &'a str, mark: &str) -> Option<&'a str> {
+    let rest = line.strip_prefix(mark)?;
+    if rest.is_empty() {
+        Some(rest)
+    } else {
+        rest.strip_prefix(' ')
+    }
+}
+
+impl<'a> Sheet<'a> {
+    /// Nothing was read yet.
+    pub fn new(alloc: Global, programs: &'a Programs, report: Report) -> Sheet<'a> {
+        Sheet {
+            alloc,
+            programs,
+            case: None,
+            part: String::new(alloc),
+            is_table: false,
+            report,
+        }
+    }
+
+    /// Reads the next line.
+    pub fn take(&mut self, line: &str) -> Result<()> {
+        if line.is_empty() || line.starts_with('#') {
+            return Ok(());
+        }
+        if let Some(row) = marked(line, "-") {
+            return self.take_row(row);
+        }
+        if let Some(text) = marked(line, ">") {
+            return self.add_line("input", text);
+        }
+        if let Some(text) = marked(line, "<") {
+            return self.add_line("output", text);
+        }
+        if let Some(text) = marked(line, "|") {
+            let part = self.part.clone()?;
+            return self.add_line(part.as_str(), text);
+        }
+        self.take_word(line)
+    }
+
+    // A line that begins with a word: the kind of a new case, or the name of a part.
+    fn take_word(&mut self, line: &str) -> Result<()> {
+        let (word, rest) = line.split_once(' ').unwrap_or((line, ""));
+        match Kind::of(word) {
+            Some(kind) => {
+                self.end_case()?;
+                self.case = Some(Case::new(self.alloc, kind, rest)?);
+                Ok(())
+            }
+            None => {
+                self.part = String::from_str(self.alloc, word)?;
+                self.add_text(word, rest)
+            }
+        }
+    }
+
+    fn add_text(&mut self, part: &str, text: &str) -> Result<()> {
+        let Some(case) = &mut self.case else {
+            bail!("no case was begun");
+        };
+        if !case.kind.has_part(part) {
+            bail!("an unknown word");
+        }
+        let mut bytes = Vec::new(self.alloc);
+        put_text(self.programs, text, &mut bytes)?;
+        case.add(self.alloc, part, &bytes)?;
+        Ok(())
+    }
+
+    // A line of a part. Its newline is left out where `unended` stands at its end.
+    fn add_line(&mut self, part: &str, line: &str) -> Result<()> {
+        match line.strip_suffix("`unended`") {
+            Some(text) => self.add_text(part, text),
+            None => {
+                self.add_text(part, line)?;
+                self.add_text(part, "`newline`")
+            }
+        }
+    }
+
+    // A row of a table: what is asked, ` => `, and what is expected.
+    fn take_row(&mut self, row: &str) -> Result<()> {
+        let (text, answer) = row.split_once(" => ").context("a row without =>")?;
+        let Some(case) = &mut self.case else {
+            bail!("no case was begun");
+        };
+        let (asked, wanted) = case.kind.sides();
+        let mut bytes = case.part("front").to_vec(self.alloc)?;
+        put_text(self.programs, text, &mut bytes)?;
+        bytes.extend_from_slice(case.part("back"))?;
+        case.clear(asked);
+        case.add(self.alloc, asked, &bytes)?;
+        let mut bytes = case.part("answer-front").to_vec(self.alloc)?;
+        put_text(self.programs, answer, &mut bytes)?;
+        bytes.extend_from_slice(case.part("answer-back"))?;
+        bytes.push(b'\n')?;
+        case.clear(wanted);
+        case.add(self.alloc, wanted, &bytes)?;
+        self.is_table = true;
+        self.report.judge(self.alloc, case, row)
+    }
+
+    // The case ends where the next one begins.
+    fn end_case(&mut self) -> Result<()> {
+        if let Some(case) = self.case.take() {
+            if !self.is_table {
+                self.report.judge(self.alloc, &case, "")?;
+            }
+        }
+        self.is_table = false;
+        Ok(())
+    }
+
+    /// The report at the end of the file.
+    pub fn end(mut self) -> Result<Report> {
+        self.end_case()?;
+        Ok(self.report)
+    }
+}
