@@ -55,12 +55,16 @@ impl Case {
         Ok(())
     }
 
-    /// Leaves out the part of this name.
-    pub fn clear(&mut self, name: &str) {
+    /// Puts these bytes in the place of those of the part of this name.
+    pub fn set(&mut self, alloc: Global, name: &str, bytes: Vec<u8>) -> Result<(), AllocError> {
         for part in self.parts.iter_mut() {
             if part.name.as_str() == name {
-                part.bytes.clear();
+                part.bytes = bytes;
+                return Ok(());
             }
         }
+        let name = String::from_str(alloc, name)?;
+        self.parts.push(Part { name, bytes })?;
+        Ok(())
     }
 }

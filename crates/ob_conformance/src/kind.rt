@@ -1,36 +1,44 @@
-//! The kinds of cases. A new kind is a variant, its word in `of`, and its answer in `answer`.
+//! The kinds of cases. A new one is a variant, its word in `of`, the names of its parts, and what it answers.
 use crate::case::Case;
-use crate::kinds;
+use crate::kinds::{base, fronts, run, tokens, tree, wire};
 use anyhow::Result;
 use std::alloc::Global;
 
-/// What a case asks of its text.
+/// What is asked of a text.
 #[derive(Clone, Copy, PartialEq, Eq)]
 pub enum Kind {
-    /// What `check` writes of a program.
+    /// What `check` writes of it.
     Check,
-    /// What `serve` says of a program, over no lines.
+    /// The fault that `serve` tells of it.
     Serve,
-    /// A whole run: its words, its request lines, which calls fail.
+    /// A whole run: what is written, line by line, and the status.
     Run,
-    /// The canonical layout of a program.
+    /// How a run ends, and how far it comes, where the outside fails.
+    Outside,
+    /// Its canonical layout.
     Layout,
-    /// The tokens of a program.
+    /// Whether its layout is laid out as itself.
+    Again,
+    /// Its tokens with their places.
     Tokens,
-    /// A part that the tree of a program shows, with its places.
+    /// Whether its tree shows a part.
     Tree,
-    /// A part that the resolved program shows.
+    /// Whether the program that `serve` makes of it shows a part.
     Plain,
-    /// Whether each token of a program counts.
+    /// Whether each of its tokens counts.
     Whole,
-    /// Which fronts of a program's tokens are programs.
+    /// Which fronts of its tokens are programs.
     Fronts,
-    /// The request that a line asks.
+    /// The request that it is, as a line.
     Request,
     /// The line of a reply.
     Reply,
-    /// Whether bytes are a name, a label, a text.
+    /// Which of a name, a label and a text it is.
     Form,
+    /// The bytes of fields.
+    Bytes,
+    /// The fields of bytes.
+    Fields,
     /// The message of an error.
     Message,
 }
@@ -42,7 +50,9 @@ impl Kind {
             "check" => Some(Kind::Check),
             "serve" => Some(Kind::Serve),
             "run" => Some(Kind::Run),
+            "outside" => Some(Kind::Outside),
             "layout" => Some(Kind::Layout),
+            "again" => Some(Kind::Again),
             "tokens" => Some(Kind::Tokens),
             "tree" => Some(Kind::Tree),
             "plain" => Some(Kind::Plain),
@@ -51,6 +61,8 @@ impl Kind {
             "request" => Some(Kind::Request),
             "reply" => Some(Kind::Reply),
             "form" => Some(Kind::Form),
+            "bytes" => Some(Kind::Bytes),
+            "fields" => Some(Kind::Fields),
             "message" => Some(Kind::Message),
             _ => None,
         }
@@ -59,10 +71,11 @@ impl Kind {
     /// Whether its cases have a part of this name.
     pub fn has_part(self, name: &str) -> bool {
         match name {
-            "front" | "back" | "answer-front" | "answer-back" | "text" => true,
+            "text" | "front" | "back" | "every" | "answer-front" | "answer-back" => true,
             "answer" => self != Kind::Run,
-            "words" | "input" | "output" | "status" | "over" | "room" => self == Kind::Run,
-            "files-fail" | "input-fails" | "output-fails" => self == Kind::Run,
+            "words" | "input" | "given" => matches!(self, Kind::Run | Kind::Outside),
+            "output" | "status" => self == Kind::Run,
+            "kinds" => self == Kind::Fields,
             _ => false,
         }
     }
@@ -71,6 +84,8 @@ impl Kind {
     pub fn sides(self) -> (&'static str, &'static str) {
         match self {
             Kind::Run => ("input", "output"),
+            Kind::Outside => ("given", "answer"),
+            Kind::Tree | Kind::Plain => ("part", "answer"),
             _ => ("text", "answer"),
         }
     }
@@ -78,7 +93,7 @@ impl Kind {
     /// What is expected.
     pub fn wanted(self, alloc: Global, case: &Case) -> Result<Vec<u8>> {
         match self {
-            Kind::Run => kinds::run::wanted(alloc, case),
+            Kind::Run => run::wanted(alloc, case),
             _ => Ok(case.part("answer").to_vec(alloc)?),
         }
     }
@@ -87,19 +102,23 @@ impl Kind {
     pub fn answer(self, alloc: Global, case: &Case) -> Result<Vec<u8>> {
         let text = case.part("text");
         match self {
-            Kind::Check => kinds::run::check(alloc, text),
-            Kind::Serve => kinds::run::serve(alloc, text),
-            Kind::Run => kinds::run::run_case(alloc, case),
-            Kind::Layout => kinds::tree::layout(alloc, text),
-            Kind::Tokens => kinds::tokens::tokens(alloc, text),
-            Kind::Tree => kinds::tree::tree(alloc, text, case.part("answer")),
-            Kind::Plain => kinds::tree::plain(alloc, text, case.part("answer")),
-            Kind::Whole => kinds::fronts::whole(alloc, text),
-            Kind::Fronts => kinds::fronts::fronts(alloc, text),
-            Kind::Request => kinds::wire::request(alloc, text),
-            Kind::Reply => kinds::wire::reply(alloc, text),
-            Kind::Form => kinds::base::form(alloc, text),
-            Kind::Message => kinds::base::message(alloc, text),
+            Kind::Check => run::check(alloc, text),
+            Kind::Serve => run::serve(alloc, text),
+            Kind::Run => run::whole_run(alloc, case),
+            Kind::Outside => run::cut_run(alloc, case),
+            Kind::Layout => tree::layout(alloc, text),
+            Kind::Again => tree::again(alloc, text),
+            Kind::Tokens => tokens::tokens(alloc, text),
+            Kind::Tree => tree::tree(alloc, text, case.part("part")),
+            Kind::Plain => tree::plain(alloc, text, case.part("part")),
+            Kind::Whole => fronts::whole(alloc, text),
+            Kind::Fronts => fronts::fronts(alloc, text),
+            Kind::Request => wire::request(alloc, text),
+            Kind::Reply => wire::reply(alloc, text),
+            Kind::Form => base::form(alloc, text),
+            Kind::Bytes => base::bytes(alloc, text),
+            Kind::Fields => base::fields(alloc, text, case.part("kinds")),
+            Kind::Message => base::message(alloc, text),
         }
     }
 }

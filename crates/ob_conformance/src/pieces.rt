@@ -23,6 +23,7 @@ pub fn put_text(programs: &Programs, text: &str, into: &mut Vec<u8>) -> Result<(
 fn put_piece(programs: &Programs, piece: &str, into: &mut Vec<u8>) -> Result<()> {
     match piece {
         "" => into.push(b'`')?,
+        "nothing" => {}
         "newline" => into.push(b'\n')?,
         "return" => into.push(b'\r')?,
         "tab" => into.push(b'\t')?,
@@ -62,7 +63,11 @@ fn put_hex(digits: &str, into: &mut Vec<u8>) -> Result<()> {
 // A part so many times. Each `#` in it is the number of the part, from 0.
 fn put_times(count: u32, part: &str, into: &mut Vec<u8>) -> Result<()> {
     for number in 0..count {
-        put_numbered(number, part, into)?;
+        if part.contains('#') {
+            put_numbered(number, part, into)?;
+        } else {
+            into.extend_from_slice(part.as_bytes())?;
+        }
     }
     Ok(())
 }

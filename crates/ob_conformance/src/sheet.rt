@@ -13,7 +13,7 @@ pub struct Sheet<'a> {
     alloc: Global,
     programs: &'a Programs,
     case: Option<Case>,
-    /// The name of the part that the next line goes on with.
+    /// The name of the part that a line of text goes on with.
     part: String,
     /// Whether the case is a table, whose rows were judged.
     is_table: bool,
@@ -28,6 +28,38 @@ fn marked<'a>(line: &'a str, mark: &str) -> Option<&'a str> {
     } else {
         rest.strip_prefix(' ')
     }
+}
+
+// A side of a row: the text between the parts of these names.
+fn side_of(
+    alloc: Global,
+    programs: &Programs,
+    case: &Case,
+    front: &str,
+    text: &str,
+    back: &str,
+) -> Result<Vec<u8>> {
+    let mut bytes = case.part(front).to_vec(alloc)?;
+    put_text(programs, text, &mut bytes)?;
+    bytes.extend_from_slice(case.part(back))?;
+    Ok(bytes)
+}
+
+// A row of a table: what is asked, ` => ` and what is expected, unless that is the same of every row.
+fn set_row(alloc: Global, programs: &Programs, case: &mut Case, row: &str) -> Result<()> {
+    let (text, answer) = match row.split_once(" => ") {
+        Some((text, answer)) => (
+            text,
+            side_of(alloc, programs, case, "answer-front", answer, "answer-back")?,
+        ),
+        None => (row, case.find("every").context("no answer")?.to_vec(alloc)?),
+    };
+    let text = side_of(alloc, programs, case, "front", text, "back")?;
+    let (asked, wanted) = case.kind.sides();
+    case.set(alloc, asked, text)?;
+    case.set(alloc, wanted, answer)?;
+    case.add(alloc, wanted, b"\n")?;
+    Ok(())
 }
 
 impl<'a> Sheet<'a> {
@@ -62,6 +94,15 @@ impl<'a> Sheet<'a> {
             return self.add_line(part.as_str(), text);
         }
         self.take_word(line)
+    }
+
+    fn take_row(&mut self, row: &str) -> Result<()> {
+        let Some(case) = &mut self.case else {
+            bail!("no case was begun");
+        };
+        set_row(self.alloc, self.programs, case, row)?;
+        self.is_table = true;
+        self.report.judge(self.alloc, case, row)
     }
 
     // A line that begins with a word: the kind of a new case, or the name of a part.
@@ -102,28 +143,6 @@ impl<'a> Sheet<'a> {
                 self.add_text(part, "`newline`")
             }
         }
-    }
-
-    // A row of a table: what is asked, ` => `, and what is expected.
-    fn take_row(&mut self, row: &str) -> Result<()> {
-        let (text, answer) = row.split_once(" => ").context("a row without =>")?;
-        let Some(case) = &mut self.case else {
-            bail!("no case was begun");
-        };
-        let (asked, wanted) = case.kind.sides();
-        let mut bytes = case.part("front").to_vec(self.alloc)?;
-        put_text(self.programs, text, &mut bytes)?;
-        bytes.extend_from_slice(case.part("back"))?;
-        case.clear(asked);
-        case.add(self.alloc, asked, &bytes)?;
-        let mut bytes = case.part("answer-front").to_vec(self.alloc)?;
-        put_text(self.programs, answer, &mut bytes)?;
-        bytes.extend_from_slice(case.part("answer-back"))?;
-        bytes.push(b'\n')?;
-        case.clear(wanted);
-        case.add(self.alloc, wanted, &bytes)?;
-        self.is_table = true;
-        self.report.judge(self.alloc, case, row)
     }
 
     // The case ends where the next one begins.

@@ -80,8 +80,10 @@ pub fn fronts(alloc: Global, text: &[u8]) -> Result<Vec<u8>> {
     let mut said = Vec::new(alloc);
     for count in 0..=lexed.tokens.len() {
         if !is_refused_front(alloc, &lexed, count) {
-            write!(said, "{count} ")?;
+            let gap = if said.is_empty() { "" } else { " " };
+            write!(said, "{gap}{count}")?;
         }
     }
+    said.push(b'\n')?;
     Ok(said)
 }

@@ -1,10 +1,19 @@
 //! Whole runs, over the forms in memory.
 use crate::case::Case;
+use crate::kinds::outside::Outside;
 use anyhow::{Context, Result};
 use ob_io::{MemoryFiles, MemorySink, MemorySource, Source, SureFiles, SureSink, SureSource};
 use ob_run::{Exit, run};
 use std::alloc::{AllocError, Global};
 use std::io::Write;
+
+/// What a run is handed: its words, the file `p`, and the input.
+#[derive(Drop)]
+struct Given {
+    words: Vec<String>,
+    files: Vec<(String, Vec<u8>)>,
+    input: Vec<u8>,
+}
 
 /// How a run ended, and what it left.
 #[derive(Drop)]
@@ -14,25 +23,12 @@ struct Ended {
     output: Option<Vec<u8>>,
     /// How many calls failed.
     faults: u64,
-    /// How many bytes of the input weren't taken.
+    /// How many bytes of the input weren't taken, and how many it had.
     unread: usize,
-    /// How many bytes the input had.
     length: usize,
     /// Whether the words ask to serve.
     serves: bool,
 }
-
-/// What a run is handed: the program stands in the file `p`.
-#[derive(Drop)]
-struct Given {
-    words: Vec<String>,
-    files: Vec<(String, Vec<u8>)>,
-    input: Vec<u8>,
-    room: usize,
-}
-
-/// The room of a sink where a case names none.
-const ROOM: usize = 1 << 30;
 
 fn words_of(alloc: Global, text: &str) -> Result<Vec<String>, AllocError> {
     let mut words = Vec::new(alloc);
@@ -51,76 +47,29 @@ fn given_of(alloc: Global, words: &str, text: &[u8], input: &[u8]) -> Result<Giv
         words: words_of(alloc, words)?,
         files,
         input: input.to_vec(alloc)?,
-        room: ROOM,
     })
 }
 
-fn text_in<'a>(case: &'a Case, name: &str) -> Result<&'a str> {
-    str::from_utf8(case.part(name)).ok().context("no text")
+fn asks_to_serve(words: &[String]) -> bool {
+    words.first().is_some_and(|word| word.as_str() == "serve")
 }
 
-// How many bytes a source gives at once, of so many.
+// How many bytes a source has left, of so many.
 fn left_in<S: Source>(alloc: Global, source: &mut S, most: usize) -> Result<usize, AllocError> {
     let mut left = vec![in alloc; 0; most]?;
     Ok(source.read(&mut left).unwrap_or(0))
 }
 
-// The calls of the files, the input and the output that fail.
-#[derive(Drop)]
-struct Failing {
-    files: Vec<u64>,
-    input: Vec<u64>,
-    output: Vec<u64>,
-}
-
-impl Failing {
-    fn none(alloc: Global) -> Failing {
-        Failing {
-            files: Vec::new(alloc),
-            input: Vec::new(alloc),
-            output: Vec::new(alloc),
-        }
-    }
-
-    fn of(alloc: Global, case: &Case) -> Result<Failing> {
-        Ok(Failing {
-            files: calls_of(alloc, text_in(case, "files-fail")?)?,
-            input: calls_of(alloc, text_in(case, "input-fails")?)?,
-            output: calls_of(alloc, text_in(case, "output-fails")?)?,
-        })
-    }
-}
-
-// How many calls fail at least, where all from one on do.
-const LATER: u64 = 100;
-
-// The numbers of calls, from 0; or `from` a number on.
-fn calls_of(alloc: Global, text: &str) -> Result<Vec<u64>> {
-    let mut calls = Vec::new(alloc);
-    if let Some(first) = text.strip_prefix("from ") {
-        let first = first.parse::<u64>()?;
-        for later in 0..LATER {
-            calls.push(first.saturating_add(later))?;
-        }
-        return Ok(calls);
-    }
-    for call in text.split_whitespace() {
-        calls.push(call.parse::<u64>()?)?;
-    }
-    Ok(calls)
-}
-
-fn run_failing(alloc: Global, given: Given, failing: Failing) -> Result<Ended> {
+fn run_failing(alloc: Global, given: Given, outside: Outside) -> Result<Ended> {
     let Given {
         words,
         files,
         input,
-        room,
     } = given;
     let length = input.len();
-    let mut files = MemoryFiles::new(files, failing.files);
-    let mut input = MemorySource::new(input, failing.input);
-    let mut output = MemorySink::new(alloc, room, failing.output);
+    let mut files = MemoryFiles::new(alloc, files, outside.files);
+    let mut input = MemorySource::new(input, outside.input);
+    let mut output = MemorySink::new(alloc, outside.room, outside.output);
     let exit = run(alloc, &words, &mut files, &mut input, &mut output);
     let faults = files
         .faults()
@@ -132,33 +81,32 @@ fn run_failing(alloc: Global, given: Given, failing: Failing) -> Result<Ended> {
         faults,
         unread: left_in(alloc, &mut input, length)?,
         length,
-        serves: words.first().is_some_and(|word| word.as_str() == "serve"),
+        serves: asks_to_serve(&words),
     })
 }
 
-fn run_sure(alloc: Global, given: Given) -> Result<Ended> {
+fn run_sure(alloc: Global, given: Given, room: usize) -> Result<Ended> {
     let Given {
         words,
         files,
         input,
-        room,
     } = given;
     let length = input.len();
-    let mut files = SureFiles::new(files);
+    let mut files = SureFiles::new(alloc, files);
     let mut input = SureSource::new(input);
     let mut output = SureSink::new(alloc, room);
     let exit = run(alloc, &words, &mut files, &mut input, &mut output);
-    let told = match output.bytes() {
+    let output = match output.bytes() {
         Some(bytes) => Some(bytes.to_vec(alloc)?),
         None => None,
     };
     Ok(Ended {
         exit,
-        output: told,
+        output,
         faults: 0,
         unread: left_in(alloc, &mut input, length)?,
         length,
-        serves: words.first().is_some_and(|word| word.as_str() == "serve"),
+        serves: asks_to_serve(&words),
     })
 }
 
@@ -174,20 +122,27 @@ fn is_well(ended: &Ended) -> bool {
     ended.faults == faults && ended.unread == unread
 }
 
-// The status, the counts where they aren't well, and what was written.
-fn show(alloc: Global, ended: Ended) -> Result<Vec<u8>> {
-    let mut shown = Vec::new(alloc);
+// The status, and the counts where they aren't well.
+fn put_end(ended: &Ended, into: &mut Vec<u8>) -> Result<()> {
     let exit = ended.exit;
     let status = exit.status();
-    writeln!(shown, "status {status} {exit:?}")?;
-    if !is_well(&ended) {
+    write!(into, "{status} {exit:?}")?;
+    if !is_well(ended) {
         let faults = ended.faults;
         let unread = ended.unread;
-        writeln!(
-            shown,
-            "calls that failed: {faults}, bytes that weren't read: {unread}"
+        write!(
+            into,
+            ", with {faults} calls that failed and {unread} bytes that weren't read"
         )?;
     }
+    Ok(())
+}
+
+// The end, and then what was written.
+fn show(alloc: Global, ended: Ended) -> Result<Vec<u8>> {
+    let mut shown = Vec::new(alloc);
+    put_end(&ended, &mut shown)?;
+    shown.push(b'\n')?;
     match ended.output {
         Some(bytes) => shown.extend_from_slice(&bytes)?,
         None => shown.extend_from_slice(b"untold\n")?,
@@ -195,27 +150,64 @@ fn show(alloc: Global, ended: Ended) -> Result<Vec<u8>> {
     Ok(shown)
 }
 
-/// What a whole run comes to: a line with its status, and what it writes.
-pub fn run_case(alloc: Global, case: &Case) -> Result<Vec<u8>> {
-    let words = text_in(case, "words")?;
-    let mut given = given_of(alloc, words, case.part("text"), case.part("input"))?;
-    if case.find("room").is_some() {
-        given.room = text_in(case, "room")?.parse()?;
-    }
-    let ended = match case.part("over") {
-        b"sure" => run_sure(alloc, given)?,
-        _ => run_failing(alloc, given, Failing::of(alloc, case)?)?,
-    };
-    show(alloc, ended)
+fn text_in<'a>(case: &'a Case, part: &str) -> Result<&'a str> {
+    str::from_utf8(case.part(part)).ok().context("no text")
 }
 
-/// What is expected of a whole run: the status, 0 where none is named, and the output.
+fn given_in(alloc: Global, case: &Case) -> Result<Given> {
+    let words = text_in(case, "words")?;
+    Ok(given_of(alloc, words, case.part("text"), case.part("input"))?)
+}
+
+fn run_given(alloc: Global, case: &Case) -> Result<Ended> {
+    let given = given_in(alloc, case)?;
+    let outside = Outside::of(alloc, text_in(case, "given")?)?;
+    if outside.is_sure {
+        run_sure(alloc, given, outside.room)
+    } else {
+        run_failing(alloc, given, outside)
+    }
+}
+
+/// What a whole run comes to: a line with its status, and then what it writes.
+pub fn whole_run(alloc: Global, case: &Case) -> Result<Vec<u8>> {
+    show(alloc, run_given(alloc, case)?)
+}
+
+/// What is expected of a whole run: the status, `0 Done` where none is named, and then the output.
 pub fn wanted(alloc: Global, case: &Case) -> Result<Vec<u8>> {
-    let mut wanted = b"status ".to_vec(alloc)?;
-    wanted.extend_from_slice(case.find("status").unwrap_or(b"0 Done"))?;
+    let mut wanted = case.find("status").unwrap_or(b"0 Done").to_vec(alloc)?;
     wanted.push(b'\n')?;
     wanted.extend_from_slice(case.part("output"))?;
     Ok(wanted)
+}
+
+// How many lines there are, where they are the first ones of a text.
+fn lines_in(front: &[u8], whole: &[u8]) -> Option<usize> {
+    if !whole.starts_with(front) || !(front.is_empty() || front.ends_with(b"\n")) {
+        return None;
+    }
+    Some(front.iter().filter(|byte| **byte == b'\n').count())
+}
+
+/// How a run ends where the outside does this, and how many lines it writes of those that it writes where nothing fails.
+pub fn cut_run(alloc: Global, case: &Case) -> Result<Vec<u8>> {
+    let whole = run_sure(alloc, given_in(alloc, case)?, Outside::new(alloc).room)?;
+    let ended = run_given(alloc, case)?;
+    let mut said = Vec::new(alloc);
+    put_end(&ended, &mut said)?;
+    let (Some(front), Some(whole)) = (&ended.output, &whole.output) else {
+        said.extend_from_slice(b", untold\n")?;
+        return Ok(said);
+    };
+    match lines_in(front, whole) {
+        Some(count) => writeln!(said, ", lines: {count}")?,
+        None => {
+            said.extend_from_slice(b" after\n")?;
+            said.extend_from_slice(front)?;
+        }
+    }
+    Ok(said)
 }
 
 // What a run writes that is done, where it writes this, or else refuses; or all that it comes to.
@@ -223,12 +215,12 @@ fn said(alloc: Global, ended: Ended, done: &[u8]) -> Result<Vec<u8>> {
     let Some(bytes) = &ended.output else {
         return show(alloc, ended);
     };
-    let natural = if bytes.as_slice() == done {
+    let exit = if bytes.as_slice() == done {
         Exit::Done
     } else {
         Exit::Refused
     };
-    if ended.exit != natural || !is_well(&ended) {
+    if ended.exit != exit || !is_well(&ended) {
         return show(alloc, ended);
     }
     Ok(bytes.as_slice().to_vec(alloc)?)
@@ -237,14 +229,14 @@ fn said(alloc: Global, ended: Ended, done: &[u8]) -> Result<Vec<u8>> {
 /// What `check` writes of a text.
 pub fn check(alloc: Global, text: &[u8]) -> Result<Vec<u8>> {
     let given = given_of(alloc, "check p", text, b"{\n")?;
-    let ended = run_failing(alloc, given, Failing::none(alloc))?;
+    let ended = run_failing(alloc, given, Outside::new(alloc))?;
     said(alloc, ended, b"accepted\n")
 }
 
 /// The line of the fault that `serve` tells of a text, or `served`.
 pub fn serve(alloc: Global, text: &[u8]) -> Result<Vec<u8>> {
     let given = given_of(alloc, "serve p", text, b"")?;
-    let ended = run_failing(alloc, given, Failing::none(alloc))?;
+    let ended = run_failing(alloc, given, Outside::new(alloc))?;
     let mut said = said(alloc, ended, b"")?;
     if said.is_empty() {
         said.extend_from_slice(b"served\n")?;

@@ -33,7 +33,7 @@ fn put_kind(into: &mut Vec<u8>, kind: &TokenKind) -> Result<()> {
         TokenKind::Number(number) => write!(into, "Number {number}; ")?,
         TokenKind::Text(text) => {
             let text = str::from_utf8(text.as_bytes()).ok().context("a text")?;
-            write!(into, "Text {text}; ")?;
+            write!(into, "Text {text:?}; ")?;
         }
         TokenKind::Word(word) => write!(into, "Word {word:?}; ")?,
         TokenKind::Sign(sign) => write!(into, "Sign {sign:?}; ")?,
