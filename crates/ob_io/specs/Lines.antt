@@ -63,13 +63,17 @@ abbrev pub IsSoFar : Bool → List ℕ → List ℕ → Type 0
 IsSoFar true line part = (line ≡ []) × (65536 < length part)
 IsSoFar false line part = (line ≡ part) × (length part ≤ 65536)
 
+-- nothing is held: all that was taken was handed on
+abbrev pub HoldsNothing : Lines → Type 0
+HoldsNothing lines = (held lines ≡ []) × (handed lines ≡ taken lines)
+
 -- at a stop nothing is held
-abbrev pub HoldsAtStop : Next → List ℕ → Type 0
-HoldsAtStop Line bytes = ⊤
-HoldsAtStop LongLine bytes = ⊤
-HoldsAtStop End bytes = bytes ≡ []
-HoldsAtStop Fault bytes = bytes ≡ []
-HoldsAtStop Limit bytes = bytes ≡ []
+abbrev pub HoldsAtStop : Next → Lines → Type 0
+HoldsAtStop Line lines = ⊤
+HoldsAtStop LongLine lines = ⊤
+HoldsAtStop End lines = HoldsNothing lines
+HoldsAtStop Fault lines = HoldsNothing lines
+HoldsAtStop Limit lines = HoldsNothing lines
 
 -- how many bytes were handed on, at each answer
 abbrev pub IsWithin : Next → ℕ → Type 0

@@ -50,7 +50,7 @@ pub struct Lines {
 impl Lines {
     ghost use Rattle.std.specs.List.{position};
     ghost use Rattle.ob_io.specs.Told.{Takes, TakesFrom, IsEnd};
-    ghost use Rattle.ob_io.specs.Lines.{held, taken, handed, pending, has_ended, has_newline, IsSoFar, IsNext, HandsOn, CountsTaken, EndIsTold, HoldsAtStop, IsWithin};
+    ghost use Rattle.ob_io.specs.Lines.{held, taken, handed, pending, has_ended, has_newline, IsSoFar, IsNext, HandsOn, CountsTaken, EndIsTold, HoldsNothing, HoldsAtStop, IsWithin};
 
     /// A reader that has taken no byte yet.
     pub fn new(alloc: Global) -> Result<Lines, Memory>
@@ -101,7 +101,7 @@ impl Lines {
             × (has_newline piece ≡ false)
             × (handed self.new ≡ handed self.old + length piece + (if got.0 then 1 else 0))
             × MatchBool got.0 (held self.old ≡ piece ++ 10 ∷ held self.new)
-            ((held self.old ≡ piece) × (held self.new ≡ []))
+            ((held self.old ≡ piece) × HoldsNothing self.new)
             × ((part : List ℕ) → IsSoFar is_long line.old.items part →
             IsSoFar got.1 line.new.items (part ++ piece))) }
         ensures lost { OnErr result (line.new.items ≡ []) }
@@ -145,8 +145,8 @@ impl Lines {
         ensures taken { CountsTaken self.old self.new (S.view source.old) (S.view source.new) }
         ensures end { EndIsTold self.new (S.view source.new).left }
         ensures more { OnOk result (self.new.ended ≡ false → self.old.taken < self.new.taken) }
-        ensures err { OnErr result ((self.new.ended ≡ false) × (held self.new ≡ [])) }
-        ensures empty { self.new.ended ≡ true → held self.new ≡ [] }
+        ensures err { OnErr result ((self.new.ended ≡ false) × HoldsNothing self.new) }
+        ensures empty { self.new.ended ≡ true → HoldsNothing self.new }
         ensures cause { HasCause (S.view source.old).faults (S.view source.new).faults result }
     {
         self.start = 0;
@@ -174,7 +174,7 @@ impl Lines {
 
         // The end is one.
         ensures end { EndIsTold self.old (S.view source.old).left → EndIsTold self.new (S.view source.new).left }
-        ensures stop { IfOk result (λ next. HoldsAtStop next (held self.new)) }
+        ensures stop { IfOk result (λ next. HoldsAtStop next self.new) }
 
         // It takes no more than the limit, and stops where as much was taken and no line is left of it.
         ensures taken { CountsTaken self.old self.new (S.view source.old) (S.view source.new) }

@@ -13,4 +13,4 @@ returns-in_ok-is_long-in-Some-clause-piece c =
 pub returns-in_ok-is_long-in-None-clause-piece : goal.returns-in_ok-is_long-in-None-clause-piece
 returns-in_ok-is_long-in-None-clause-piece c =
     let bytes = held c.args.self.now in
-    (bytes, no_newline bytes (sym (rw c.deref.ensures.value at c.in-None.ensures)), omega (arith, length-held c.args.self.now.buffer.items c.args.self.now.start c.args.self.now.end (omega arith)), (refl, range_nil c.args.self.now.buffer.items c.args.self.now.end), rw c.deref.ensures.value at c.in_ok-is_long-in-None.ensures.so_far)
+    (bytes, no_newline bytes (sym (rw c.deref.ensures.value at c.in-None.ensures)), omega (arith, length-held c.args.self.now.buffer.items c.args.self.now.start c.args.self.now.end (omega arith)), (refl, (range_nil c.args.self.now.buffer.items c.args.self.now.end, omega arith)), rw c.deref.ensures.value at c.in_ok-is_long-in-None.ensures.so_far)
