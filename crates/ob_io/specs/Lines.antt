@@ -48,11 +48,13 @@ IsNext Limit ended line bytes = (ended ≡ false) × (has_newline bytes ≡ fals
 
 -- some bytes were handed on, and they are these
 abbrev pub HandsOn : Lines → Lines → Option (List ℕ) → Option (List ℕ) → (List ℕ → Type 0) → Type 0
-HandsOn old new left now P = (bytes : List ℕ) × Takes (pending old left) (pending new now) bytes × (handed new ≡ handed old + length bytes) × P bytes
+HandsOn old new left now P =
+    (bytes : List ℕ) × Takes (pending old left) (pending new now) bytes × (handed new ≡ handed old + length bytes) × P bytes
 
 -- what a reader took of its source, it counts
 abbrev pub CountsTaken : Lines → Lines → SourceView → SourceView → Type 0
-CountsTaken old new source now = (bytes : List ℕ) × TakesFrom source now bytes × (taken new ≡ taken old + length bytes)
+CountsTaken old new source now =
+    (bytes : List ℕ) × TakesFrom source now bytes × (taken new ≡ taken old + length bytes)
 
 -- a text that is said to have ended has
 abbrev pub EndIsTold : Lines → Option (List ℕ) → Type 0

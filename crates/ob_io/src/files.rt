@@ -42,7 +42,8 @@ pub trait Files {
         ensures ok { OnOk result
             (AppendsContent ((view self.old).content name.now) limit into.old.items into.new.items) }
         ensures err { OnErr result (into.new.items ≡ into.old.items) }
-        ensures asks { NotesAsk (view self.old).asks (view self.new).asks (record { name = name.now; limit = limit }) result }
+        ensures asks { NotesAsk (view self.old).asks (view self.new).asks
+            (record { name = name.now; limit = limit }) result }
         ensures same { (other : List ℕ) → (view self.new).content other ≡ (view self.old).content other }
         ensures later { (view self.old).faults ≤ (view self.new).faults }
         ensures cause { IsErrOf result FileError.Failed → Rose (view self.old).faults (view self.new).faults }

@@ -157,7 +157,8 @@ impl Sink for MemorySink {
     fn write(&mut self, bytes: &[u8]) -> Result<usize, Failed>
         ensures bound { IfOk result (λ n. n ≤ length bytes.now) }
         ensures some { 0 < length bytes.now → IfOk result (λ n. 0 < n) }
-        ensures bytes { WriteGives (memory_sink_view self.old).written (memory_sink_view self.new).written result bytes.now }
+        ensures bytes { WriteGives (memory_sink_view self.old).written (memory_sink_view self.new).written
+            result bytes.now }
         ensures cause { HasCause (memory_sink_view self.old).faults (memory_sink_view self.new).faults result }
         ensures planned { IsTrue (is_to_fail (sink_plan self.old)) → IsErr result }
         ensures full { memory_sink_room self.old < length bytes.now → IsErr result }
@@ -221,7 +222,8 @@ impl Files for MemoryFiles {
         ensures ok { OnOk result
             (AppendsContent ((memory_files_view self.old).content name.now) limit into.old.items into.new.items) }
         ensures err { OnErr result (into.new.items ≡ into.old.items) }
-        ensures asks { NotesAsk (memory_files_view self.old).asks (memory_files_view self.new).asks (record { name = name.now; limit = limit }) result }
+        ensures asks { NotesAsk (memory_files_view self.old).asks (memory_files_view self.new).asks
+            (record { name = name.now; limit = limit }) result }
         ensures same { (other : List ℕ) →
             (memory_files_view self.new).content other ≡ (memory_files_view self.old).content other }
         ensures later { (memory_files_view self.old).faults ≤ (memory_files_view self.new).faults }
@@ -231,8 +233,10 @@ impl Files for MemoryFiles {
             (memory_files_view self.new).faults ≡ (memory_files_view self.old).faults }
         ensures once { (memory_files_view self.new).faults ≤ (memory_files_view self.old).faults + 1 }
         ensures failed { IsErrOf result FileError.Failed ↔
-            (IsAsked (memory_files_view self.old).asks (memory_files_view self.new).asks (record { name = name.now; limit = limit })
-            × (IsTrue (is_to_fail (files_plan self.old)) ⊎ ((memory_files_view self.old).content name.now ≡ None))) }
+            (IsAsked (memory_files_view self.old).asks (memory_files_view self.new).asks
+            (record { name = name.now; limit = limit })
+            × (IsTrue (is_to_fail (files_plan self.old))
+            ⊎ ((memory_files_view self.old).content name.now ≡ None))) }
         ensures counts { CountsCall (files_plan self.old) (files_plan self.new) }
     {
         let is_to_fail = self.plan.next_fails();

@@ -103,11 +103,13 @@ impl Sink for SureSink {
     fn write(&mut self, bytes: &[u8]) -> Result<usize, Failed>
         ensures bound { IfOk result (λ n. n ≤ length bytes.now) }
         ensures some { 0 < length bytes.now → IfOk result (λ n. 0 < n) }
-        ensures bytes { WriteGives (sure_sink_view self.old).written (sure_sink_view self.new).written result bytes.now }
+        ensures bytes { WriteGives (sure_sink_view self.old).written (sure_sink_view self.new).written
+            result bytes.now }
         ensures cause { HasCause (sure_sink_view self.old).faults (sure_sink_view self.new).faults result }
         ensures takes_all { result ≡ Ok (length bytes.now) }
         ensures full { sure_sink_room self.old < length bytes.now → (sure_sink_view self.new).written ≡ None }
-        ensures room { MatchOption (sure_sink_view self.new).written (sure_sink_room self.new ≡ sure_sink_room self.old)
+        ensures room { MatchOption (sure_sink_view self.new).written
+            (sure_sink_room self.new ≡ sure_sink_room self.old)
             (λ _. sure_sink_room self.old ≡ sure_sink_room self.new + length bytes.now) }
     {
         if self.tells {
