@@ -9,27 +9,27 @@ use Rattle.ob_lexer.specs.declared.token.Sign.TheVariants.{OpenParen, CloseParen
 use Rattle.ob_tree.specs.Exprs.{Expr, binary_expr}
 use Rattle.ob_tree.specs.ExprsView.{expr_of, exprs_of}
 use Rattle.ob_tree.specs.declared.expr.Expr as made
-use Rattle.ob_parser.specs.Rows.{joined}
-use Rattle.ob_parser.specs.ExprRows.{place_of, expr}
-use Rattle.ob_parser.specs.Readers.{Read, done, stop, deep, Reader, ◌>>=◌, begin_with, behind, open_if, read_opened, read_maybe, read_many_from, place_between}
-use Rattle.ob_parser.specs.NameReaders.{on, read_item, read_parted, read_counted}
-use Rattle.ob_parser.specs.Operators.{operator_if, signs_of_row}
-use Rattle.ob_parser.specs.Chains.{Counted, Step, count_after, with_step, with_steps, steps_of, maybe_of, read_step, read_chain, read_single}
-use Rattle.ob_parser.specs.ExprReaders.{unary_if, unary_signs, negated}
-use Rattle.ob_parser.specs.Primaries.{expr_first, grouped, read_group, arguments_of, read_arguments, read_primary}
-use Rattle.ob_parser.specs.AllReaders.{all_refs, all_unary, all_counted, all_exprs}
+use Rattle.ob_grammar.specs.Rows.{joined}
+use Rattle.ob_grammar.specs.ExprRows.{place_of, expr}
+use Rattle.ob_grammar.specs.Readers.{Read, done, stop, deep, Reader, ◌>>=◌, begin_with, behind, open_if, read_opened, read_maybe, read_many_from, place_between}
+use Rattle.ob_grammar.specs.NameReaders.{on, read_item, read_parted, read_counted}
+use Rattle.ob_grammar.specs.Operators.{operator_if, signs_of_row}
+use Rattle.ob_grammar.specs.Chains.{Counted, Step, count_after, with_step, with_steps, steps_of, maybe_of, read_step, read_chain, read_single}
+use Rattle.ob_grammar.specs.ExprReaders.{unary_if, unary_signs, negated}
+use Rattle.ob_grammar.specs.Primaries.{expr_first, grouped, read_group, arguments_of, read_arguments, read_primary}
+use Rattle.ob_grammar.specs.AllReaders.{all_refs, all_unary, all_counted, all_exprs}
 use Rattle.ob_parser.specs.declared.levels.Level.{Level}
 use Rattle.ob_parser.specs.declared.levels.Level.TheVariants.{Or, And, Equality, Relation, Sum, Product}
 use Rattle.ob_parser.specs.declared.halt.Halt.{Halt}
 use Rattle.ob_parser.specs.Levels.{number_of_row, repeats, read_row, read_operand, read_further}
 use Rattle.ob_parser.specs.Answering.{Halts, Answers, prefixed}
-use Rattle.ob_parser.proofs.Laws.{Laws, Case, is_done, is_stop, is_deep, case_of}
-use Rattle.ob_parser.proofs.Lists.{behind_sign, item_laws}
-use Rattle.ob_parser.proofs.Chains.{at_row}
-use Rattle.ob_parser.proofs.ExprLaws.{after_operand, row_1, row_2, row_3, row_4, row_5, row_6}
-use Rattle.ob_parser.proofs.DepthLaws.{unary_all, after_expr}
-use Rattle.ob_parser.proofs.Arguments.{expr_laws}
-use Rattle.ob_parser.proofs.Deeper.{unary_step}
+use Rattle.ob_grammar.proofs.Laws.{Laws, Case, is_done, is_stop, is_deep, case_of}
+use Rattle.ob_grammar.proofs.Lists.{behind_sign, item_laws}
+use Rattle.ob_grammar.proofs.Chains.{at_row}
+use Rattle.ob_grammar.proofs.ExprLaws.{after_operand, row_1, row_2, row_3, row_4, row_5, row_6}
+use Rattle.ob_grammar.proofs.DepthLaws.{unary_all, after_expr}
+use Rattle.ob_grammar.proofs.Arguments.{expr_laws}
+use Rattle.ob_grammar.proofs.Deeper.{unary_step}
 use Rattle.ob_parser.proofs.Loops.{Consumes, consumes, halts_bind, one_more_from, halts_from}
 
 -- ---- operands have tokens

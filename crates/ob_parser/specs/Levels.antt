@@ -2,11 +2,11 @@
 use Rattle.std.specs.Prelude.{ℕ, Bool, true, false, Option, Some, None}
 use Rattle.ob_base.specs.declared.fault.Span.{Span}
 use Rattle.ob_base.specs.declared.operator.Operator.{Operator}
-use Rattle.ob_parser.specs.Readers.{Reader, read_as, read_many_from}
-use Rattle.ob_parser.specs.Operators.{operator_if, signs_of_row}
-use Rattle.ob_parser.specs.Chains.{Counted, count_after, with_steps, read_step}
-use Rattle.ob_parser.specs.ExprReaders.{read_row_1, read_row_2, read_row_3, read_row_4, read_row_5, read_row_6}
-use Rattle.ob_parser.specs.AllReaders.{all_unary}
+use Rattle.ob_grammar.specs.Readers.{Reader, read_as, read_many_from}
+use Rattle.ob_grammar.specs.Operators.{operator_if, signs_of_row}
+use Rattle.ob_grammar.specs.Chains.{Counted, count_after, with_steps, read_step}
+use Rattle.ob_grammar.specs.ExprReaders.{read_row_1, read_row_2, read_row_3, read_row_4, read_row_5, read_row_6}
+use Rattle.ob_grammar.specs.AllReaders.{all_unary}
 use Rattle.ob_parser.specs.declared.levels.Level.{Level}
 use Rattle.ob_parser.specs.declared.levels.Level.TheVariants.{Or, And, Equality, Relation, Sum, Product}
 

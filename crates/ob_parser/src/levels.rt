@@ -11,10 +11,10 @@
 //! ```
 
 ghost use Rattle.std.specs.Prelude.{◌≡◌, ◌<◌, ◌≤◌, IfOk, IfSome};
-ghost use Rattle.ob_parser.specs.ExprRows.{row_of};
-ghost use Rattle.ob_parser.specs.Readers.{begin_with, read_token};
-ghost use Rattle.ob_parser.specs.Operators.{operator_of, operator_if, signs_of_row};
-ghost use Rattle.ob_parser.specs.ExprReaders.{unary_if};
+ghost use Rattle.ob_grammar.specs.ExprRows.{row_of};
+ghost use Rattle.ob_grammar.specs.Readers.{begin_with, read_token};
+ghost use Rattle.ob_grammar.specs.Operators.{operator_of, operator_if, signs_of_row};
+ghost use Rattle.ob_grammar.specs.ExprReaders.{unary_if};
 ghost use Rattle.ob_parser.specs.Levels.{number_of_row, rows_from, tighter, repeats, operator_with_place};
 ghost use Rattle.ob_parser.specs.Answering.{AnswersBoth, read_open};
 

@@ -1,11 +1,11 @@
 use Rattle.std.proofs.Common.{rules, ◌∙◌, sym, refl, arith}
 use Rattle.ob_tree.specs.ExprsView.{expr_of}
 use Rattle.ob_lexer.specs.declared.token.Sign.TheVariants.{OpenParen, CloseParen, Comma}
-use Rattle.ob_parser.specs.Operators.{operator_if}
-use Rattle.ob_parser.specs.ExprReaders.{unary_if}
-use Rattle.ob_parser.specs.Primaries.{read_arguments}
-use Rattle.ob_parser.specs.NameReaders.{on, read_item, read_parted}
-use Rattle.ob_parser.specs.AllReaders.{all_unary, all_counted, all_exprs}
+use Rattle.ob_grammar.specs.Operators.{operator_if}
+use Rattle.ob_grammar.specs.ExprReaders.{unary_if}
+use Rattle.ob_grammar.specs.Primaries.{read_arguments}
+use Rattle.ob_grammar.specs.NameReaders.{on, read_item, read_parted}
+use Rattle.ob_grammar.specs.AllReaders.{all_unary, all_counted, all_exprs}
 use Rattle.ob_parser.specs.Levels.{number_of_row, read_operand}
 use Rattle.ob_parser.specs.Answering.{Halts}
 use Rattle.ob_parser.proofs.Loops.{halts_bind, kept_as, halts_more}
