@@ -13,14 +13,14 @@ use Rattle.ob_grammar.proofs.Mapped.{Makes}
 use Rattle.ob_grammar.proofs.TokenRows.{grouped, ungrouped}
 use Rattle.ob_grammar.proofs.RowLaws.{option_laws, made, makes_laws}
 use Rattle.ob_grammar.proofs.Lists.{in_signs, counted_laws, behind_sign, parted_laws}
-use Rattle.ob_grammar.proofs.Chains.{at_row}
+use Rattle.ob_grammar.proofs.Chains.{at_level}
 
 -- ---- an expression, without the count of its operators
 
-expr_makes : Makes uncounted (at_row 1) expr
+expr_makes : Makes uncounted (at_level 1) expr
 expr_makes = record { to = λ c read is. (c.1, is); from = λ e read is. ((e, is.0), refl, is.1) }
 
-pub expr_laws : (room : ℕ) (inner : Reader Counted) (first more : List ℕ) → Laws room (at_row 1) inner first more false → Laws room expr (read_as uncounted inner) first more false
+pub expr_laws : (room : ℕ) (inner : Reader Counted) (first more : List ℕ) → Laws room (at_level 1) inner first more false → Laws room expr (read_as uncounted inner) first more false
 expr_laws room inner first more a = makes_laws expr_makes a
 
 -- ---- arguments
@@ -54,14 +54,14 @@ args_from (and_expr e es) read is = (Some (e ∷ list_of es), ap (and_expr e) (l
 args_makes : Makes arguments_of (maybe (parted sign'.Comma expr)) arguments
 args_makes = record { to = args_to; from = args_from }
 
-module _ (room : ℕ) (inner : Reader Counted) (more : List ℕ) (a : Laws room (at_row 1) inner expr_first more false) (apart : disjoint (on sign'.Comma) more ≡ true) where
+module _ (room : ℕ) (inner : Reader Counted) (more : List ℕ) (a : Laws room (at_level 1) inner expr_first more false) (apart : disjoint (on sign'.Comma) more ≡ true) where
   pub args_laws : Laws room arguments (read_arguments inner) expr_first ((more ++ on sign'.Comma) ++ expr_first) true
   args_laws = makes_laws args_makes (option_laws (parted_laws sign'.Comma room expr (read_as uncounted inner) expr_first more (makes_laws expr_makes a) apart))
 
 arguments_sample : Sample arguments
 arguments_sample = record { value = no_exprs; read = []; spelled = refl }
 
-module _ (room : ℕ) (inner : ℕ → Reader Counted) (more : List ℕ) (a : 1 ≤ room → Laws (room - 1) (at_row 1) (inner (room - 1)) expr_first more false)
+module _ (room : ℕ) (inner : ℕ → Reader Counted) (more : List ℕ) (a : 1 ≤ room → Laws (room - 1) (at_level 1) (inner (room - 1)) expr_first more false)
     (apart : disjoint (on sign'.Comma) more ≡ true) (closes : disjoint (on sign'.CloseParen) ((more ++ on sign'.Comma) ++ expr_first) ≡ true) where
   pub applied_laws : Laws room (in_signs sign'.OpenParen arguments sign'.CloseParen) (read_applied inner room) (on sign'.OpenParen) [] false
   applied_laws =

@@ -20,7 +20,7 @@ use Rattle.ob_grammar.proofs.Either.{one_of}
 use Rattle.ob_grammar.proofs.RowLaws.{at_name, choice_laws, makes_laws, alike_laws}
 use Rattle.ob_grammar.proofs.Each.{many_laws}
 use Rattle.ob_grammar.proofs.NameLaws.{InnerRefs, named_laws, ref_laws}
-use Rattle.ob_grammar.proofs.Chains.{at_row}
+use Rattle.ob_grammar.proofs.Chains.{at_level}
 use Rattle.ob_grammar.proofs.ExprLaws.{after_operand, row_1}
 use Rattle.ob_grammar.proofs.Arguments.{expr_laws}
 use Rattle.ob_grammar.proofs.PrimaryLaws.{Inner}
@@ -76,7 +76,7 @@ abbrev pub RefLaws : ℕ → (ℕ → Reader Ref) → Type 0
 RefLaws most refs = (n : ℕ) → n < most → Laws n ref (refs n) at_name (on sign'.Bar) false
 
 abbrev pub CountedLaws : ℕ → (ℕ → Reader Counted) → Type 0
-CountedLaws most exprs = (n : ℕ) → n < most → Laws n (at_row 1) (exprs n) expr_first after_expr false
+CountedLaws most exprs = (n : ℕ) → n < most → Laws n (at_level 1) (exprs n) expr_first after_expr false
 
 module _ (most : ℕ) (refs : ℕ → Reader Ref) (exprs : ℕ → Reader Counted) (r : RefLaws most refs) (c : CountedLaws most exprs) where
   abbrev value : ℕ → Reader Expr
@@ -123,11 +123,11 @@ all_refs_laws room less = ref_laws 256 room less
 pub all_named_laws : (room : ℕ) → room < 256 → Laws room named (read_named all_refs room) at_name (on sign'.OpenBracket) false
 all_named_laws room less = named_laws room all_refs (λ some. all_refs_laws (room - 1) (omega (arith, some, less)))
 
-all_unary_laws : (room : ℕ) → room < 256 → Laws room (at_row 7) (all_unary room) expr_first after_operand false
+all_unary_laws : (room : ℕ) → room < 256 → Laws room (at_level 7) (all_unary room) expr_first after_operand false
 unfolding all_unary
 all_unary_laws room less = unary_all 256 room less
 
-pub all_counted_laws : (room : ℕ) → room < 256 → Laws room (at_row 1) (all_counted room) expr_first after_expr false
+pub all_counted_laws : (room : ℕ) → room < 256 → Laws room (at_level 1) (all_counted room) expr_first after_expr false
 all_counted_laws room less = row_1 expr_first all_unary room (λ n few. all_unary_laws n (omega (arith, few, less))) room (omega arith)
 
 pub all_exprs_laws : (room : ℕ) → room < 256 → Laws room expr (all_exprs room) expr_first after_expr false

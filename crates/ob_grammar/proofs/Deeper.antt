@@ -12,7 +12,7 @@ use Rattle.ob_grammar.specs.Symbols.{a_name, a_word, a_sign, number}
 use Rattle.ob_grammar.specs.Readers.{Reader, place_if, name_if, read_token, read_as, read_either, read_opened, read_spanned}
 use Rattle.ob_grammar.specs.NameReaders.{on, second, named_parts, read_named, ref_parts, read_ref_with, read_ref}
 use Rattle.ob_grammar.specs.Chains.{Counted, count_after, steps_of, maybe_of, read_step, read_chain, read_single}
-use Rattle.ob_grammar.specs.Operators.{operator_if, signs_of_row}
+use Rattle.ob_grammar.specs.Operators.{operator_if, signs_of_level}
 use Rattle.ob_grammar.specs.ExprReaders.{unary_if, unary_signs, negated, read_row_6, read_row_5, read_row_4, read_row_3, read_row_2, read_row_1}
 use Rattle.ob_grammar.specs.Primaries.{expr_first, uncounted, grouped, read_group, arguments_of, read_arguments, read_applied, new_of, read_new, read_method, this_of, read_this, method_of, applied, read_tail, name_with_tail, read_name, read_primary}
 use Rattle.ob_grammar.specs.Expressions.{read_unary}
@@ -56,22 +56,22 @@ single_same kinds operator u v room same = as_same maybe_of (then_same (same roo
 
 module _ (u v : ℕ → Reader Counted) where
   pub row_6_same : (room : ℕ) → ((r : ℕ) → r ≤ room → Same (u r) (v r)) → Same (read_row_6 u room) (read_row_6 v room)
-  row_6_same room same = chain_same (signs_of_row 6) (operator_if 6) u v room same
+  row_6_same room same = chain_same (signs_of_level 6) (operator_if 6) u v room same
 
   pub row_5_same : (room : ℕ) → ((r : ℕ) → r ≤ room → Same (u r) (v r)) → Same (read_row_5 u room) (read_row_5 v room)
-  row_5_same room same = chain_same (signs_of_row 5) (operator_if 5) (read_row_6 u) (read_row_6 v) room (λ r few. row_6_same r (λ n less. same n (omega (arith, less, few))))
+  row_5_same room same = chain_same (signs_of_level 5) (operator_if 5) (read_row_6 u) (read_row_6 v) room (λ r few. row_6_same r (λ n less. same n (omega (arith, less, few))))
 
   pub row_4_same : (room : ℕ) → ((r : ℕ) → r ≤ room → Same (u r) (v r)) → Same (read_row_4 u room) (read_row_4 v room)
-  row_4_same room same = single_same (signs_of_row 4) (operator_if 4) (read_row_5 u) (read_row_5 v) room (λ r few. row_5_same r (λ n less. same n (omega (arith, less, few))))
+  row_4_same room same = single_same (signs_of_level 4) (operator_if 4) (read_row_5 u) (read_row_5 v) room (λ r few. row_5_same r (λ n less. same n (omega (arith, less, few))))
 
   pub row_3_same : (room : ℕ) → ((r : ℕ) → r ≤ room → Same (u r) (v r)) → Same (read_row_3 u room) (read_row_3 v room)
-  row_3_same room same = single_same (signs_of_row 3) (operator_if 3) (read_row_4 u) (read_row_4 v) room (λ r few. row_4_same r (λ n less. same n (omega (arith, less, few))))
+  row_3_same room same = single_same (signs_of_level 3) (operator_if 3) (read_row_4 u) (read_row_4 v) room (λ r few. row_4_same r (λ n less. same n (omega (arith, less, few))))
 
   pub row_2_same : (room : ℕ) → ((r : ℕ) → r ≤ room → Same (u r) (v r)) → Same (read_row_2 u room) (read_row_2 v room)
-  row_2_same room same = chain_same (signs_of_row 2) (operator_if 2) (read_row_3 u) (read_row_3 v) room (λ r few. row_3_same r (λ n less. same n (omega (arith, less, few))))
+  row_2_same room same = chain_same (signs_of_level 2) (operator_if 2) (read_row_3 u) (read_row_3 v) room (λ r few. row_3_same r (λ n less. same n (omega (arith, less, few))))
 
   pub row_1_same : (room : ℕ) → ((r : ℕ) → r ≤ room → Same (u r) (v r)) → Same (read_row_1 u room) (read_row_1 v room)
-  row_1_same room same = chain_same (signs_of_row 1) (operator_if 1) (read_row_2 u) (read_row_2 v) room (λ r few. row_2_same r (λ n less. same n (omega (arith, less, few))))
+  row_1_same room same = chain_same (signs_of_level 1) (operator_if 1) (read_row_2 u) (read_row_2 v) room (λ r few. row_2_same r (λ n less. same n (omega (arith, less, few))))
 
 -- ---- operands
 

@@ -6,12 +6,11 @@ use Rattle.ob_lexer.specs.declared.token.Word.TheVariants as word'
 use Rattle.ob_lexer.specs.declared.token.Sign.TheVariants as sign'
 use Rattle.ob_tree.specs.Exprs.{bool_expr}
 use Rattle.ob_grammar.specs.Rows.{Loaded}
-use Rattle.ob_grammar.specs.ExprRows.{expr}
-use Rattle.ob_grammar.specs.Readers.{Reader, read_as}
+use Rattle.ob_grammar.specs.Readers.{Reader}
 use Rattle.ob_grammar.specs.NameReaders.{on, read_ref}
 use Rattle.ob_grammar.specs.Chains.{Counted}
 use Rattle.ob_grammar.specs.ExprReaders.{read_row_1}
-use Rattle.ob_grammar.specs.Primaries.{expr_first, uncounted, read_primary}
+use Rattle.ob_grammar.specs.Primaries.{expr_first, read_primary}
 use Rattle.ob_grammar.specs.StmtReaders.{call_signs}
 use Rattle.ob_grammar.specs.Expressions.{read_unary, read_expr}
 use Rattle.ob_grammar.proofs.Laws.{Ends, Sample, Laws, ends-append, ends-both}
@@ -19,10 +18,9 @@ use Rattle.ob_grammar.proofs.One.{token_of, somewhere, free}
 use Rattle.ob_grammar.proofs.Spanned.{covers}
 use Rattle.ob_grammar.proofs.RowLaws.{ends_laws}
 use Rattle.ob_grammar.proofs.NameLaws.{InnerRefs, ref_laws}
-use Rattle.ob_grammar.proofs.Chains.{at_row}
+use Rattle.ob_grammar.proofs.Chains.{at_level}
 use Rattle.ob_grammar.proofs.ExprLaws.{after_operand, after_row_1, row_1}
 use Rattle.ob_grammar.proofs.Unary.{unary_laws}
-use Rattle.ob_grammar.proofs.Arguments.{expr_laws}
 use Rattle.ob_grammar.proofs.PrimaryLaws.{Inner}
 use Rattle.ob_grammar.proofs.Literals.{primary_first, primary_laws}
 
@@ -31,7 +29,7 @@ use Rattle.ob_grammar.proofs.Literals.{primary_first, primary_laws}
 abbrev shortest : Loaded
 shortest = free (token_of (kind.Word word'.True) somewhere)
 
-sample_at : (row : ℕ) → IsTrue (nat_le row 8) → Sample (at_row row)
+sample_at : (row : ℕ) → IsTrue (nat_le row 8) → Sample (at_level row)
 sample_at row few = record { value = (bool_expr true somewhere, 0); read = shortest ∷ []; spelled = (covers shortest [], inl (few, (refl, (somewhere, refl)))) }
 
 -- ---- what an expression goes on with
@@ -46,7 +44,7 @@ fewer ts ends =
 
 -- ---- operands, one operator or one pair of parentheses deeper
 
-module _ (depth room : ℕ) (less : room < suc depth) (a : (n : ℕ) → n < depth → Laws n (at_row 7) (read_unary depth n) expr_first after_operand false) where
+module _ (depth room : ℕ) (less : room < suc depth) (a : (n : ℕ) → n < depth → Laws n (at_level 7) (read_unary depth n) expr_first after_operand false) where
   refs : InnerRefs room (read_ref depth)
   refs some = ref_laws depth (room - 1) (omega (arith, some, less))
 
@@ -56,22 +54,19 @@ module _ (depth room : ℕ) (less : room < suc depth) (a : (n : ℕ) → n < dep
   abbrev primary : Reader Counted
   primary = read_primary (read_ref depth) (read_row_1 (read_unary depth)) room
 
-  primary_all : Laws room (at_row 8) primary primary_first after_operand false
+  primary_all : Laws room (at_level 8) primary primary_first after_operand false
   primary_all = ends_laws fewer (primary_laws room (read_ref depth) (read_row_1 (read_unary depth)) after_expr (sample_at 1 refl) refs inner refl refl refl)
 
-  one_deeper : Laws room (at_row 7) (read_unary (suc depth) room) expr_first after_operand false
+  one_deeper : Laws room (at_level 7) (read_unary (suc depth) room) expr_first after_operand false
   one_deeper =
-      let operand : 1 ≤ room → Laws (room - 1) (at_row 7) (read_unary depth (room - 1)) expr_first after_operand false = λ some. a (room - 1) (omega (arith, some, less)) in
+      let operand : 1 ≤ room → Laws (room - 1) (at_level 7) (read_unary depth (room - 1)) expr_first after_operand false = λ some. a (room - 1) (omega (arith, some, less)) in
       unary_laws expr_first primary_first after_operand room (read_unary depth) primary (sample_at 7 refl) operand primary_all refl
 
-pub unary_all : (depth room : ℕ) → room < depth → Laws room (at_row 7) (read_unary depth room) expr_first after_operand false
+pub unary_all : (depth room : ℕ) → room < depth → Laws room (at_level 7) (read_unary depth room) expr_first after_operand false
 unary_all zero room less = absurd (omega (arith, less))
 unary_all (suc depth) room less = one_deeper depth room less (unary_all depth)
 
 -- ---- expressions with the count of their operators, and without
 
-pub counted_expr_laws : (depth room : ℕ) → room < depth → Laws room (at_row 1) (read_expr depth room) expr_first after_expr false
+pub counted_expr_laws : (depth room : ℕ) → room < depth → Laws room (at_level 1) (read_expr depth room) expr_first after_expr false
 counted_expr_laws depth room less = row_1 expr_first (read_unary depth) room (λ n few. unary_all depth n (omega (arith, few, less))) room (omega arith)
-
-pub all_expr_laws : (depth room : ℕ) → room < depth → Laws room expr (read_as uncounted (read_expr depth room)) expr_first after_expr false
-all_expr_laws depth room less = expr_laws room (read_expr depth room) expr_first after_expr (counted_expr_laws depth room less)

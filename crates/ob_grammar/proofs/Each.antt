@@ -5,7 +5,7 @@ use Rattle.std.proofs.lemmas.List.{append_cancel_right, length-map}
 use Rattle.ob_lexer.specs.declared.token.Token.{Token}
 use Rattle.ob_grammar.specs.Rows.{Row, Loaded, never, nothing, ◌⨟◌, each}
 use Rattle.ob_grammar.specs.Grammar.{tokens_of}
-use Rattle.ob_grammar.specs.Readers.{Read, done, stop, deep, Reader, ◌>>=◌, begin_with, behind, read_then, put_before, read_each, read_many_from, read_many}
+use Rattle.ob_grammar.specs.Readers.{Read, done, stop, deep, Reader, ◌>>=◌, begin_with, behind, put_before, read_each, read_many_from, read_many}
 use Rattle.ob_grammar.proofs.Laws.{Gives, first_token, deep_part, answered, Begin, Ends, Sound, Stopped, Deepened, Laws, starting_for, disjoint, ends-append, ends-both, Case, case_of, is_done, is_stop, is_deep}
 use Rattle.ob_grammar.proofs.Both.{then, then_laws}
 use Rattle.ob_grammar.proofs.Mapped.{Makes}
@@ -37,9 +37,6 @@ module _ {A S : Type 0} (room : ℕ) (reads : S → A → Row) (p : S → Reader
 
   abbrev run : ℕ → S → Reader (List A)
   run n s = read_each first p next n s
-
-  abbrev one_run : ℕ → S → Reader (A × List A)
-  one_run n s = read_then (p s) (λ x. read_each first p next n (next s x))
 
   some_from : (n : ℕ) (s : S) → Gives (some_few reads next n s) (made put_before (one_few n s))
   some_from n s [] read is = elim is [ ]

@@ -8,9 +8,10 @@ use Rattle.ob_lexer.specs.declared.token.Word.TheVariants as word'
 use Rattle.ob_lexer.specs.declared.token.Sign.TheVariants as sign'
 use Rattle.ob_tree.specs.Names.{Named}
 use Rattle.ob_tree.specs.Members.{Member}
+use Rattle.ob_tree.specs.Words.{word_of_mode}
 use Rattle.ob_tree.specs.declared.name.NamePart.{NamePart}
 use Rattle.ob_grammar.specs.Rows.{Row, Loaded, ◌⨟◌, word, sign, name, flag, maybe, each}
-use Rattle.ob_grammar.specs.NameRows.{word_of_mode, named as named_row}
+use Rattle.ob_grammar.specs.NameRows.{named as named_row}
 use Rattle.ob_grammar.specs.MemberRows.{bound, generic}
 use Rattle.ob_grammar.specs.Readers.{Reader}
 use Rattle.ob_grammar.specs.NameReaders.{on}

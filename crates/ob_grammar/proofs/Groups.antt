@@ -6,11 +6,12 @@ use Rattle.ob_base.specs.declared.operator.Operator.TheVariants as op
 use Rattle.ob_lexer.specs.declared.token.TokenKind.{TokenKind}
 use Rattle.ob_lexer.specs.declared.token.Sign.TheVariants as sign'
 use Rattle.ob_tree.specs.Exprs.{Expr, number_expr, text_expr, bool_expr, name_expr, this_expr, unary_expr, binary_expr, call_expr, new_expr, Call, call_with}
+use Rattle.ob_tree.specs.Operators.{level_of, level}
 use Rattle.ob_tree.specs.declared.name.Subject.{Subject}
 use Rattle.ob_tree.specs.declared.name.Subject.TheVariants as subject'
 use Rattle.ob_grammar.specs.Rows.{Row, Loaded, Covers, ◌⨟◌, token, raise}
 use Rattle.ob_grammar.specs.Grammar.{tokens_of}
-use Rattle.ob_grammar.specs.ExprRows.{row_of, level, place_of, spelled, call, enclosed}
+use Rattle.ob_grammar.specs.ExprRows.{place_of, spelled, call, enclosed}
 use Rattle.ob_grammar.specs.Readers.{Reader, place_of_tokens}
 use Rattle.ob_grammar.specs.NameReaders.{on}
 use Rattle.ob_grammar.specs.Chains.{Counted}
@@ -21,16 +22,16 @@ use Rattle.ob_grammar.proofs.Mapped.{Makes}
 use Rattle.ob_grammar.proofs.Spanned.{covers, with_place}
 use Rattle.ob_grammar.proofs.RowLaws.{place_laws, made, makes_laws, nothing_before}
 use Rattle.ob_grammar.proofs.Lists.{in_signs, counted_laws}
-use Rattle.ob_grammar.proofs.Chains.{at_row}
+use Rattle.ob_grammar.proofs.Chains.{at_level}
 
 -- ---- an expression at another place
 
 -- (a clause for one kind of expression has the next one checked for each of the others)
-moved_place : (span : Span) (e : Expr) → place_of (moved span e) ≡ span
+pub moved_place : (span : Span) (e : Expr) → place_of (moved span e) ≡ span
 moved_place span (number_expr value place) = refl
 moved_place span e = refl
 
-moved_spelled : (span : Span) (e : Expr) → spelled (moved span e) ≡ spelled e
+pub moved_spelled : (span : Span) (e : Expr) → spelled (moved span e) ≡ spelled e
 moved_spelled span (number_expr value place) = refl
 moved_spelled span e = refl
 
@@ -95,13 +96,13 @@ only_group c read = Covers (place_of c.0) read × (c.1 ≡ 0) × (depth : ℕ) �
 data Deep (e : Expr) (low : List Loaded) : Type 0 where
   deep_by : (depth m : ℕ) → enclosed depth (spelled e m) low → Deep e low
 
-deep_of : (e : Expr) (n : ℕ) (low : List Loaded) → at_row 1 (e, n) low → Deep e low
+deep_of : (e : Expr) (n : ℕ) (low : List Loaded) → at_level 1 (e, n) low → Deep e low
 deep_of e n low (cov, inl is) = deep_by zero n is.1
 deep_of e n low (cov, inr is) = deep_by (suc is.1) is.2 is.3
 
 -- an expression in one pair of parentheses
 abbrev in_parens : Counted → Row
-in_parens = in_signs sign'.OpenParen (at_row 1) sign'.CloseParen
+in_parens = in_signs sign'.OpenParen (at_level 1) sign'.CloseParen
 
 closed : (e : Expr) (n : ℕ) (span : Span) (read : List Loaded) → Covers span read → (is : in_parens (e, n) read) → Deep e is.4.3.0 → only_group (moved span e, 0) read
 closed e n span read cov is (deep_by depth m enc) = (
@@ -115,17 +116,17 @@ closed e n span read cov is (deep_by depth m enc) = (
 group_to : (parts : Counted × Span) (read : List Loaded) → with_place in_parens parts read → only_group (grouped parts) read
 group_to ((e, n), span) read (cov, is) = closed e n span read cov is (deep_of e n is.4.3.0 is.4.3.2)
 
-some_row : (o : Operator) → IsTrue (nat_le 1 (row_of o))
+some_row : (o : Operator) → IsTrue (nat_le 1 (level_of o))
 some_row op.Add = refl
 some_row o = refl
 
-some_level : (e : Expr) → IsTrue (nat_le 1 (level e))
+pub some_level : (e : Expr) → IsTrue (nat_le 1 (level e))
 some_level (unary_expr o sign operand place) = some_row o
 some_level (binary_expr o sign left right place) = some_row o
 some_level e = refl
 
 -- the expression in one pair of parentheses less, at its own place there
-opened_up : (e : Expr) (depth m : ℕ) (low : List Loaded) → enclosed depth (spelled e m) low → (n : ℕ) × at_row 1 (moved (place_of_tokens (tokens_of low)) e, n) low
+opened_up : (e : Expr) (depth m : ℕ) (low : List Loaded) → enclosed depth (spelled e m) low → (n : ℕ) × at_level 1 (moved (place_of_tokens (tokens_of low)) e, n) low
 opened_up e zero m low is =
     let place : Span = place_of_tokens (tokens_of low) in
     (m, (rw (moved_place place e) (covers_read low (spelled_some e m low is)), inl (rw (moved_level place e) (some_level e), rw (moved_spelled place e) is)))
@@ -146,7 +147,7 @@ group_from (e, n) read is =
 group_makes : Makes grouped (with_place in_parens) only_group
 group_makes = record { to = group_to; from = group_from }
 
-module _ (room : ℕ) (inner : ℕ → Reader Counted) (first more : List ℕ) (sample : Sample (at_row 1))
-    (a : 1 ≤ room → Laws (room - 1) (at_row 1) (inner (room - 1)) first more false) (apart : disjoint (on sign'.CloseParen) more ≡ true) where
+module _ (room : ℕ) (inner : ℕ → Reader Counted) (first more : List ℕ) (sample : Sample (at_level 1))
+    (a : 1 ≤ room → Laws (room - 1) (at_level 1) (inner (room - 1)) first more false) (apart : disjoint (on sign'.CloseParen) more ≡ true) where
   pub group_laws : Laws room only_group (read_group inner room) (on sign'.OpenParen) [] false
-  group_laws = makes_laws group_makes (place_laws (counted_laws sign'.OpenParen sign'.CloseParen room (at_row 1) inner first more false sample a apart))
+  group_laws = makes_laws group_makes (place_laws (counted_laws sign'.OpenParen sign'.CloseParen room (at_level 1) inner first more false sample a apart))

@@ -207,13 +207,6 @@ ends-twice a ts e = ends-both a a ts e e
 pub ends-again : (a b : List ℕ) (ts : List Token) → Ends (a ++ b) ts → Ends ((a ++ b) ++ a) ts
 ends-again a b ts e = ends-both (a ++ b) a ts e (ends-append a b ts e).0
 
--- the first token alone decides
-pub ends-first : (more : List ℕ) (a b : List Token) → first_token a ≡ first_token b → Ends more b → Ends more a
-ends-first more [] [] e ends = refl
-ends-first more [] (t ∷ ts) e ends = absurd cc
-ends-first more (t ∷ ts) [] e ends = absurd cc
-ends-first more (t ∷ ts) (u ∷ us) e ends = let same : t ≡ u = cc in rw same ends
-
 -- ---- the cases of an answer
 
 pub data Case {A : Type 0} (r : Read A) : Type 0 where

@@ -16,7 +16,7 @@ pub mod Chains
 mod Operators
 pub mod ExprLaws
 mod Unary
-mod Groups
+pub mod Groups
 pub mod Arguments
 mod PrimaryLaws
 mod Literals

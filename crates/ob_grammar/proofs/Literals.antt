@@ -10,9 +10,11 @@ use Rattle.ob_lexer.specs.declared.token.Word.TheVariants as word'
 use Rattle.ob_lexer.specs.declared.token.Sign.TheVariants as sign'
 use Rattle.ob_tree.specs.Names.{Ref}
 use Rattle.ob_tree.specs.Exprs.{Expr, number_expr, text_expr, bool_expr, name_expr, this_expr, unary_expr, binary_expr, call_expr, new_expr, call_with}
+use Rattle.ob_tree.specs.Operators.{level_of, level}
+use Rattle.ob_tree.specs.Words.{word_of_bool}
 use Rattle.ob_tree.specs.declared.name.Subject.TheVariants as subject'
 use Rattle.ob_grammar.specs.Rows.{Row, Loaded, Covers, never, token}
-use Rattle.ob_grammar.specs.ExprRows.{word_of_bool, row_of, level, spelled}
+use Rattle.ob_grammar.specs.ExprRows.{spelled}
 use Rattle.ob_grammar.specs.Symbols.{a_name, a_word, a_sign, number}
 use Rattle.ob_grammar.specs.Readers.{Reader, is_of, read_token}
 use Rattle.ob_grammar.specs.NameReaders.{on}
@@ -25,7 +27,7 @@ use Rattle.ob_grammar.proofs.Either.{one_of}
 use Rattle.ob_grammar.proofs.Spanned.{covers_one, one_covers}
 use Rattle.ob_grammar.proofs.RowLaws.{token_laws, choice_laws, alike_laws}
 use Rattle.ob_grammar.proofs.NameLaws.{InnerRefs}
-use Rattle.ob_grammar.proofs.Chains.{at_row}
+use Rattle.ob_grammar.proofs.Chains.{at_level}
 use Rattle.ob_grammar.proofs.Groups.{only_group, group_laws}
 use Rattle.ob_grammar.proofs.PrimaryLaws.{plain, only_new, only_this, only_name, Inner, new_laws, this_laws, name_tail_laws}
 
@@ -96,32 +98,32 @@ literal_laws room = token_laws room only_literal literal_to literal_from takes_l
 abbrev all : Counted → Row
 all = one_of only_group (one_of only_new (one_of only_name (one_of only_this only_literal)))
 
--- an expression of the last row
-settled : (e : Expr) (n : ℕ) (read : List Loaded) → IsTrue (nat_le 8 (level e)) → plain (e, n) read → at_row 8 (e, n) read
+-- an expression of the tightest level
+settled : (e : Expr) (n : ℕ) (read : List Loaded) → IsTrue (nat_le 8 (level e)) → plain (e, n) read → at_level 8 (e, n) read
 settled e n read high is = (is.0, inl (high, subst (λ k. spelled e k read) (sym is.1) is.2))
 
-new_in : Gives only_new (at_row 8)
+new_in : Gives only_new (at_level 8)
 new_in (new_expr of args span, n) read is = settled (new_expr of args span) n read refl is
 new_in c read is = elim is [ ]
 
-name_in : Gives only_name (at_row 8)
+name_in : Gives only_name (at_level 8)
 name_in (name_expr part span, n) read is = settled (name_expr part span) n read refl is
 name_in (call_expr (call_with None part args) span, n) read is = settled (call_expr (call_with None part args) span) n read refl is
 name_in (call_expr (call_with (Some (subject'.Name x)) part args) span, n) read is = settled (call_expr (call_with (Some (subject'.Name x)) part args) span) n read refl is
 name_in c read is = elim is [ ]
 
-this_in : Gives only_this (at_row 8)
+this_in : Gives only_this (at_level 8)
 this_in (this_expr place span, n) read is = settled (this_expr place span) n read refl is
 this_in (call_expr (call_with (Some (subject'.This x)) part args) span, n) read is = settled (call_expr (call_with (Some (subject'.This x)) part args) span) n read refl is
 this_in c read is = elim is [ ]
 
-literal_settled : Gives only_literal (at_row 8)
+literal_settled : Gives only_literal (at_level 8)
 literal_settled (number_expr value span, n) read is = settled (number_expr value span) n read refl is
 literal_settled (text_expr value span, n) read is = settled (text_expr value span) n read refl is
 literal_settled (bool_expr value span, n) read is = settled (bool_expr value span) n read refl is
 literal_settled c read is = elim is [ ]
 
-all_to : Gives all (at_row 8)
+all_to : Gives all (at_level 8)
 all_to c read (inl is) = (is.0, inr (is.1, is.2, is.3, is.4))
 all_to c read (inr (inl is)) = new_in c read is
 all_to c read (inr (inr (inl is))) = name_in c read is
@@ -129,11 +131,11 @@ all_to c read (inr (inr (inr (inl is)))) = this_in c read is
 all_to c read (inr (inr (inr (inr is)))) = literal_settled c read is
 
 -- (a clause for one operator has the next one checked for each of the others)
-too_low : (o : Operator) → ¬ (IsTrue (nat_le 8 (row_of o)))
+too_low : (o : Operator) → ¬ (IsTrue (nat_le 8 (level_of o)))
 too_low op.Add is = false≢true is
 too_low o is = false≢true is
 
-all_from : (e : Expr) (n : ℕ) (read : List Loaded) → at_row 8 (e, n) read → all (e, n) read
+all_from : (e : Expr) (n : ℕ) (read : List Loaded) → at_level 8 (e, n) read → all (e, n) read
 all_from e n read (cov, inr is) = inl (cov, is.0, is.1, is.2, is.3)
 all_from (number_expr value span) n read (cov, inl is) = inr (inr (inr (inr (cov, is.1.0, (refl, is.1.1)))))
 all_from (text_expr value span) n read (cov, inl is) = inr (inr (inr (inr (cov, is.1.0, (refl, is.1.1)))))
@@ -151,13 +153,13 @@ all_from (new_expr of args span) n read (cov, inl is) = inr (inl (cov, is.1.0, (
 abbrev pub primary_first : List ℕ
 primary_first = number (a_sign sign'.OpenParen) ∷ number (a_word word'.New) ∷ number a_name ∷ number (a_word word'.This) ∷ literals
 
-module _ (room : ℕ) (refs : ℕ → Reader Ref) (inner : ℕ → Reader Counted) (more : List ℕ) (sample : Sample (at_row 1))
+module _ (room : ℕ) (refs : ℕ → Reader Ref) (inner : ℕ → Reader Counted) (more : List ℕ) (sample : Sample (at_level 1))
     (r : InnerRefs room refs) (a : Inner room inner more) (apart : disjoint (on sign'.Comma) more ≡ true)
     (closes : disjoint (on sign'.CloseParen) ((more ++ on sign'.Comma) ++ expr_first) ≡ true) (shut : disjoint (on sign'.CloseParen) more ≡ true) where
-  pub primary_laws : Laws room (at_row 8) (read_primary refs inner room) primary_first (call_signs ++ on sign'.Dot) false
+  pub primary_laws : Laws room (at_level 8) (read_primary refs inner room) primary_first (call_signs ++ on sign'.Dot) false
   primary_laws =
       let this' = choice_laws (this_laws room refs inner more r a apart closes) (literal_laws room) refl in
       let named = choice_laws (name_tail_laws room refs inner more r a apart closes) this' refl in
       let new = choice_laws (new_laws room refs inner more r a apart closes) named refl in
       let group = choice_laws (group_laws room inner expr_first more sample a shut) new refl in
-      alike_laws (at_row 8) all_to (λ c. all_from c.0 c.1) group
+      alike_laws (at_level 8) all_to (λ c. all_from c.0 c.1) group

@@ -9,11 +9,12 @@ use Rattle.ob_lexer.specs.declared.token.TokenKind.TheVariants as kind
 use Rattle.ob_lexer.specs.declared.token.Word.TheVariants as word'
 use Rattle.ob_lexer.specs.declared.token.Sign.TheVariants.{OpenBracket, CloseBracket, At, Bar}
 use Rattle.ob_tree.specs.Names.{Named, bare_name, name_with, Ref, ref_with}
+use Rattle.ob_tree.specs.Words.{word_of_mode}
 use Rattle.ob_tree.specs.declared.name.NamePart.{NamePart}
 use Rattle.ob_tree.specs.declared.name.PermNode.{PermNode}
 use Rattle.ob_tree.specs.declared.name.PermNode.TheVariants as perm'
 use Rattle.ob_grammar.specs.Rows.{Row, Loaded, never, token_at, name, maybe, parted}
-use Rattle.ob_grammar.specs.NameRows.{word_of_mode, perm, named, ref}
+use Rattle.ob_grammar.specs.NameRows.{perm, named, ref}
 use Rattle.ob_grammar.specs.Readers.{Reader, is_of, name_if, read_token}
 use Rattle.ob_grammar.specs.NameReaders.{on, named_parts, read_named, mode_of, mode_if, modes, mode_perm, read_perm, ref_parts, read_ref_with, read_ref}
 use Rattle.ob_grammar.proofs.Laws.{Gives, Sample, Laws}

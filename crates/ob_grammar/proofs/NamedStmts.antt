@@ -27,7 +27,7 @@ use Rattle.ob_grammar.proofs.Spanned.{covers, with_place}
 use Rattle.ob_grammar.proofs.TokenRows.{name_to, takes_name}
 use Rattle.ob_grammar.proofs.RowLaws.{sign_at, at_name, sign_laws, behind_laws, made, made_laws}
 use Rattle.ob_grammar.proofs.NameLaws.{InnerRefs, named_laws}
-use Rattle.ob_grammar.proofs.Chains.{at_row}
+use Rattle.ob_grammar.proofs.Chains.{at_level}
 use Rattle.ob_grammar.proofs.Arguments.{expr_laws}
 use Rattle.ob_grammar.proofs.PrimaryLaws.{tail_row, Inner, tail_laws}
 use Rattle.ob_grammar.proofs.DepthLaws.{after_expr}
@@ -94,7 +94,7 @@ abbrev pub seconds : List ℕ
 seconds = (call_signs ++ on sign'.DoubleColon) ++ on sign'.Equals
 
 module _ (room : ℕ) (refs : ℕ → Reader Ref) (exprs : ℕ → Reader Counted) (r : InnerRefs room refs) (a : Inner room exprs after_expr)
-    (c : Laws room (at_row 1) (exprs room) expr_first after_expr false) where
+    (c : Laws room (at_level 1) (exprs room) expr_first after_expr false) where
   abbrev value : Reader Expr
   value = read_as uncounted (exprs room)
 

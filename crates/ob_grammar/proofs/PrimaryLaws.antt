@@ -25,7 +25,7 @@ use Rattle.ob_grammar.proofs.TokenRows.{grouped, ungrouped}
 use Rattle.ob_grammar.proofs.RowLaws.{sign_at, word_at, at_word, at_name, sign_laws, word_laws, behind_laws, choice_laws, place_laws, option_laws, made, makes_laws, alike_laws, nothing_before, nothing_behind, with_nothing_before, with_nothing_behind}
 use Rattle.ob_grammar.proofs.Lists.{in_signs}
 use Rattle.ob_grammar.proofs.NameLaws.{name_laws, InnerRefs, named_laws}
-use Rattle.ob_grammar.proofs.Chains.{at_row}
+use Rattle.ob_grammar.proofs.Chains.{at_level}
 use Rattle.ob_grammar.proofs.Arguments.{applied_laws}
 
 -- what stands in an expression's place and is spelled so, with no operator read
@@ -178,7 +178,7 @@ name_tail_makes = record { to = name_tail_to; from = name_tail_from }
 
 -- expressions are read in the room that is left under one token that counts, and go on so
 abbrev pub Inner : ℕ → (ℕ → Reader Counted) → List ℕ → Type 0
-Inner room inner more = 1 ≤ room → Laws (room - 1) (at_row 1) (inner (room - 1)) expr_first more false
+Inner room inner more = 1 ≤ room → Laws (room - 1) (at_level 1) (inner (room - 1)) expr_first more false
 
 module _ (room : ℕ) (refs : ℕ → Reader Ref) (inner : ℕ → Reader Counted) (more : List ℕ) (r : InnerRefs room refs) (a : Inner room inner more)
     (apart : disjoint (on sign'.Comma) more ≡ true) (closes : disjoint (on sign'.CloseParen) ((more ++ on sign'.Comma) ++ expr_first) ≡ true) where

@@ -4,7 +4,7 @@ use Rattle.std.proofs.lemmas.Bool.{cases_Bool, leb-true}
 use Rattle.ob_lexer.specs.declared.token.Token.{Token}
 use Rattle.ob_lexer.specs.declared.token.Sign.{Sign}
 use Rattle.ob_grammar.specs.Symbols.{a_sign}
-use Rattle.ob_grammar.specs.Readers.{Read, done, stop, deep, Reader, ◌>>=◌, begin_with, begin_with_both, place_if, behind, read_then, read_both, read_either, read_ahead, read_as, open_if, read_opened, read_maybe, place_between, read_spanned, put_before, read_each, read_many_from, read_many}
+use Rattle.ob_grammar.specs.Readers.{Read, done, stop, deep, Reader, ◌>>=◌, begin_with, place_if, behind, read_then, read_both, read_either, read_as, open_if, read_opened, read_maybe, place_between, read_spanned, put_before, read_each, read_many_from, read_many}
 use Rattle.ob_grammar.specs.NameReaders.{on, second, read_parted, inner, read_counted}
 
 abbrev pub Same : {A : Type 0} → Reader A → Reader A → Type 0
@@ -39,9 +39,6 @@ both_same front back = then_same front (λ x. back)
 
 pub either_same : {A : Type 0} (kinds : List ℕ) {p q u v : Reader A} → Same p q → Same u v → Same (read_either kinds p u) (read_either kinds q v)
 either_same kinds {p = p} {q = q} {u = u} {v = v} one other ts = cond_same (begin_with kinds ts) (p ts) (u ts) (q ts) (v ts) (one ts) (other ts)
-
-pub ahead_same : {A : Type 0} (kinds others : List ℕ) {p q u v : Reader A} → Same p q → Same u v → Same (read_ahead kinds others p u) (read_ahead kinds others q v)
-ahead_same kinds others {p = p} {q = q} {u = u} {v = v} one other ts = cond_same (begin_with_both kinds others ts) (p ts) (u ts) (q ts) (v ts) (one ts) (other ts)
 
 pub maybe_same : {A : Type 0} (kinds : List ℕ) {p q : Reader A} → Same p q → Same (read_maybe kinds p) (read_maybe kinds q)
 maybe_same kinds same ts = ap (λ r. cond (begin_with kinds ts) (r >>= (λ x rest. done (Some x) rest)) (done None ts)) (same ts)

@@ -17,7 +17,7 @@ use Rattle.ob_grammar.proofs.Laws.{Gives, Laws}
 use Rattle.ob_grammar.proofs.Either.{one_of}
 use Rattle.ob_grammar.proofs.RowLaws.{choice_laws, alike_laws}
 use Rattle.ob_grammar.proofs.NameLaws.{InnerRefs}
-use Rattle.ob_grammar.proofs.Chains.{at_row}
+use Rattle.ob_grammar.proofs.Chains.{at_level}
 use Rattle.ob_grammar.proofs.Arguments.{expr_laws}
 use Rattle.ob_grammar.proofs.PrimaryLaws.{Inner}
 use Rattle.ob_grammar.proofs.DepthLaws.{after_expr}
@@ -170,7 +170,7 @@ all_from (assert_stmt of with span) read is =
 all_from s read is = elim is [ ]
 
 module _ (room : ℕ) (refs : ℕ → Reader Ref) (exprs : ℕ → Reader Counted) (r : InnerRefs room refs) (a : Inner room exprs after_expr)
-    (c : Laws room (at_row 1) (exprs room) expr_first after_expr false) where
+    (c : Laws room (at_level 1) (exprs room) expr_first after_expr false) where
   abbrev value : Reader Expr
   value = read_as uncounted (exprs room)
 

@@ -1,4 +1,4 @@
--- What the parser computes of operands with operators of one row between them.
+-- What the parser computes of operands with operators of one level between them.
 use Rattle.std.specs.Prelude.{ℕ, ◌+◌, Option, Some, None, List, [], ◌∷◌}
 use Rattle.ob_base.specs.declared.fault.Span.{Span}
 use Rattle.ob_base.specs.declared.operator.Operator.{Operator}

@@ -10,7 +10,7 @@ use Rattle.ob_lexer.specs.declared.token.Sign.TheVariants as sign'
 use Rattle.ob_tree.specs.Exprs.{unary_expr}
 use Rattle.ob_grammar.specs.Symbols.{a_sign, number}
 use Rattle.ob_grammar.specs.Readers.{Reader}
-use Rattle.ob_grammar.specs.Operators.{operator_if, signs_of_row}
+use Rattle.ob_grammar.specs.Operators.{operator_if, signs_of_level}
 use Rattle.ob_grammar.specs.Chains.{Counted, read_chain, read_single}
 
 -- the operator with one operand that a token is
@@ -32,19 +32,19 @@ negated parts = (unary_expr parts.0.0.0 parts.0.0.1 parts.0.1.0 parts.1, parts.0
 
 -- the rows of operators with two operands, over that of operators with one
 abbrev pub read_row_6 : (ℕ → Reader Counted) → ℕ → Reader Counted
-read_row_6 unary = read_chain (signs_of_row 6) (operator_if 6) unary
+read_row_6 unary = read_chain (signs_of_level 6) (operator_if 6) unary
 
 abbrev pub read_row_5 : (ℕ → Reader Counted) → ℕ → Reader Counted
-read_row_5 unary = read_chain (signs_of_row 5) (operator_if 5) (read_row_6 unary)
+read_row_5 unary = read_chain (signs_of_level 5) (operator_if 5) (read_row_6 unary)
 
 abbrev pub read_row_4 : (ℕ → Reader Counted) → ℕ → Reader Counted
-read_row_4 unary = read_single (signs_of_row 4) (operator_if 4) (read_row_5 unary)
+read_row_4 unary = read_single (signs_of_level 4) (operator_if 4) (read_row_5 unary)
 
 abbrev pub read_row_3 : (ℕ → Reader Counted) → ℕ → Reader Counted
-read_row_3 unary = read_single (signs_of_row 3) (operator_if 3) (read_row_4 unary)
+read_row_3 unary = read_single (signs_of_level 3) (operator_if 3) (read_row_4 unary)
 
 abbrev pub read_row_2 : (ℕ → Reader Counted) → ℕ → Reader Counted
-read_row_2 unary = read_chain (signs_of_row 2) (operator_if 2) (read_row_3 unary)
+read_row_2 unary = read_chain (signs_of_level 2) (operator_if 2) (read_row_3 unary)
 
 abbrev pub read_row_1 : (ℕ → Reader Counted) → ℕ → Reader Counted
-read_row_1 unary = read_chain (signs_of_row 1) (operator_if 1) (read_row_2 unary)
+read_row_1 unary = read_chain (signs_of_level 1) (operator_if 1) (read_row_2 unary)

@@ -7,11 +7,12 @@ use Rattle.ob_lexer.specs.declared.token.Word.TheVariants as word'
 use Rattle.ob_lexer.specs.declared.token.Sign.TheVariants.{OpenBrace, CloseBrace, OpenParen, CloseParen, OpenBracket, CloseBracket, Semicolon, Comma, At, DoubleGreater}
 use Rattle.ob_tree.specs.Names.{Named, TypeExpr}
 use Rattle.ob_tree.specs.Members.{Field, Formal, Listed, Member, state_member, field_member, constructor_member, transaction_member, Contract}
+use Rattle.ob_tree.specs.Words.{word_of_mode}
 use Rattle.ob_tree.specs.declared.name.NamePart.{NamePart}
 use Rattle.ob_tree.specs.declared.name.PermNode.{PermNode}
 use Rattle.ob_tree.specs.declared.contract.ParamNode.{ParamNode}
 use Rattle.ob_grammar.specs.Rows.{Row, never, nothing, either, ◌⨟◌, token_at, word, sign, name, flag, maybe, each, parted, maybe_parted, spanning}
-use Rattle.ob_grammar.specs.NameRows.{subject, word_of_mode, perm, named, ref, type}
+use Rattle.ob_grammar.specs.NameRows.{subject, perm, named, ref, type}
 use Rattle.ob_grammar.specs.StmtRows.{block}
 
 -- ["available" "in" NAME {"," NAME}]

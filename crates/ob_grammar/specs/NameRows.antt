@@ -1,12 +1,10 @@
 -- Which tokens spell names, permissions and types (Coblenz et al., TOPLAS 42(3), 2020; the Obsidian language
 -- documentation, "Types" and "Permissions").
-use Rattle.ob_base.specs.declared.permission.Mode.{Mode}
-use Rattle.ob_base.specs.declared.permission.Mode.TheVariants as mode
 use Rattle.ob_lexer.specs.declared.token.TokenKind.TheVariants as kind
-use Rattle.ob_lexer.specs.declared.token.Word.{Word}
 use Rattle.ob_lexer.specs.declared.token.Word.TheVariants as word'
 use Rattle.ob_lexer.specs.declared.token.Sign.TheVariants.{OpenBracket, CloseBracket, At, Bar}
 use Rattle.ob_tree.specs.Names.{Named, bare_name, name_with, Ref, ref_with, TypeExpr, int_type, bool_type, text_type, ref_type}
+use Rattle.ob_tree.specs.Words.{word_of_mode}
 use Rattle.ob_tree.specs.declared.name.PermNode.{PermNode}
 use Rattle.ob_tree.specs.declared.name.PermNode.TheVariants as perm'
 use Rattle.ob_tree.specs.declared.name.Subject.{Subject}
@@ -17,12 +15,6 @@ use Rattle.ob_grammar.specs.Rows.{Row, ◌⨟◌, token, token_at, sign, name, c
 abbrev pub subject : Subject → Row
 subject (subject'.This span) = token_at (kind.Word word'.This) span
 subject (subject'.Name part) = name part
-
--- "Owned" | "Unowned" | "Shared"
-abbrev pub word_of_mode : Mode → Word
-word_of_mode mode.Owned = word'.Owned
-word_of_mode mode.Shared = word'.Shared
-word_of_mode mode.Unowned = word'.Unowned
 
 -- mode | NAME {"|" NAME}
 abbrev pub perm : PermNode → Row

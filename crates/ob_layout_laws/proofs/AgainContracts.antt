@@ -9,8 +9,9 @@ use Rattle.ob_lexer.specs.declared.token.Sign.{Sign}
 use Rattle.ob_lexer.specs.declared.token.Sign.TheVariants.{OpenBrace, CloseBrace, OpenBracket, CloseBracket, At}
 use Rattle.ob_tree.specs.Names.{Named}
 use Rattle.ob_tree.specs.Members.{Contract}
-use Rattle.ob_tree.specs.NameTokens.{tokens_of_named}
-use Rattle.ob_tree.specs.MemberTokens.{tokens_of_member, tokens_of_bound, tokens_of_parameter, tokens_of_generic, tokens_of_implements, tokens_of_kinds, tokens_of_members, tokens_of_contract, tokens_of as kinds_of}
+use Rattle.ob_tree.specs.Words.{word_of_mode}
+use Rattle.ob_layout.specs.NameTokens.{tokens_of_named}
+use Rattle.ob_layout.specs.MemberTokens.{tokens_of_member, tokens_of_bound, tokens_of_parameter, tokens_of_generic, tokens_of_implements, tokens_of_kinds, tokens_of_members, tokens_of_contract, tokens_of as kinds_of}
 use Rattle.ob_tree.specs.declared.name.NamePart.{NamePart}
 use Rattle.ob_tree.specs.declared.contract.ParamNode.{ParamNode}
 use Rattle.ob_grammar.specs.Rows.{Row, Loaded, ◌⨟◌, token, word, sign, flag, maybe, each}
@@ -19,14 +20,14 @@ use Rattle.ob_grammar.specs.MemberRows.{member, interface_member, bound, generic
 use Rattle.ob_grammar.specs.Grammar.{tokens_of}
 use Rattle.ob_layout_laws.specs.Unplaced.{nowhere, unplaced_named, unplaced_member, unplaced_bound, unplaced_param, unplaced_contract, unplaced}
 use Rattle.ob_layout_laws.proofs.AgainRows.{AllKinds, Laid, alike, Again, option_kinds, ◌before◌, place_laid, word_laid, sign_laid, nothing_laid, never_laid, said_laid, layout_laid, spanned_laid, flag_laid, maybe_laid, each_laid}
-use Rattle.ob_layout_laws.proofs.AgainNames.{mode_laid, name_again, named_again}
+use Rattle.ob_layout_laws.proofs.AgainNames.{name_again, named_again}
 use Rattle.ob_layout_laws.proofs.AgainMembers.{member_again, interface_member_again}
 
 -- ---- generic parameters
 
 bound_again : Again bound (option_map unplaced_bound) tokens_of_bound
 bound_again None = said_laid (λ read is. (None, is, refl)) nothing_laid
-bound_again (Some x) = said_laid (λ read (f, b, e, where', (f₁, b₁, e₁, (p, is, same), (f₂, b₂, e₂, is', m))). (Some (p, x.1), (f, b, e, where', (f₁, b₁, e₁, is, (f₂, b₂, e₂, is', m))), ap (λ (q : NamePart). Some (q, x.1)) same)) (word_laid word'.Where before name_again x.0 before word_laid word'.Is before mode_laid x.1)
+bound_again (Some x) = said_laid (λ read (f, b, e, where', (f₁, b₁, e₁, (p, is, same), (f₂, b₂, e₂, is', m))). (Some (p, x.1), (f, b, e, where', (f₁, b₁, e₁, is, (f₂, b₂, e₂, is', m))), ap (λ (q : NamePart). Some (q, x.1)) same)) (word_laid word'.Where before name_again x.0 before word_laid word'.Is before word_laid (word_of_mode x.1))
 
 -- the layout of a generic parameter
 abbrev kinds_of_generic : ParamNode → List TokenKind

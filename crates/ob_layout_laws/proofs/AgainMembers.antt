@@ -5,8 +5,8 @@ use Rattle.ob_lexer.specs.declared.token.Word.TheVariants as word'
 use Rattle.ob_lexer.specs.declared.token.Sign.TheVariants.{OpenBrace, CloseBrace, OpenParen, CloseParen, Semicolon, Comma, At, DoubleGreater}
 use Rattle.ob_tree.specs.Names.{TypeExpr}
 use Rattle.ob_tree.specs.Members.{Field, Formal, Listed, state_member, field_member, constructor_member, transaction_member}
-use Rattle.ob_tree.specs.NameTokens.{if_empty, tokens_of_perm, tokens_of_exit, tokens_of_type}
-use Rattle.ob_tree.specs.MemberTokens.{tokens_of_available, tokens_of_field, tokens_of_fields, tokens_of_formal, tokens_of_formals, tokens_of_listed, tokens_of_list, tokens_of_result, tokens_of_constructor, tokens_of_access, tokens_of_head, tokens_of_member}
+use Rattle.ob_layout.specs.NameTokens.{if_empty, tokens_of_perm, tokens_of_exit, tokens_of_type}
+use Rattle.ob_layout.specs.MemberTokens.{tokens_of_available, tokens_of_field, tokens_of_fields, tokens_of_formal, tokens_of_formals, tokens_of_listed, tokens_of_list, tokens_of_result, tokens_of_constructor, tokens_of_access, tokens_of_head, tokens_of_member}
 use Rattle.ob_tree.specs.declared.name.NamePart.{NamePart}
 use Rattle.ob_tree.specs.declared.name.PermNode.{PermNode}
 use Rattle.ob_grammar.specs.Rows.{Row, Loaded, ◌⨟◌, word, sign, name, maybe, each, parted, maybe_parted}

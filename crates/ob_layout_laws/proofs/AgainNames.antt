@@ -1,22 +1,21 @@
 -- The layouts of names, permissions and types are read again.
 use Rattle.std.proofs.Common.{◌≡◌, true, false, List, [], ◌∷◌, flat_map, map, refl, ap, ap₂}
-use Rattle.ob_base.specs.declared.permission.Mode.{Mode}
-use Rattle.ob_base.specs.declared.permission.Mode.TheVariants as mode
 use Rattle.ob_lexer.specs.declared.token.TokenKind.{TokenKind}
 use Rattle.ob_lexer.specs.declared.token.TokenKind.TheVariants as kind
 use Rattle.ob_lexer.specs.declared.token.Word.TheVariants as word'
 use Rattle.ob_lexer.specs.declared.token.Sign.{Sign}
 use Rattle.ob_lexer.specs.declared.token.Sign.TheVariants as sign'
 use Rattle.ob_tree.specs.Names.{bare_name, name_with, ref_with, int_type, bool_type, text_type, ref_type}
-use Rattle.ob_tree.specs.NameTokens.{token_of_name, token_of_subject, tokens_of_names, word_of_mode as word_laid_out, tokens_of_perm, tokens_of_named, tokens_of_ref, tokens_of_type}
+use Rattle.ob_tree.specs.Words.{word_of_mode}
+use Rattle.ob_layout.specs.NameTokens.{token_of_name, token_of_subject, tokens_of_names, tokens_of_perm, tokens_of_named, tokens_of_ref, tokens_of_type}
 use Rattle.ob_tree.specs.declared.name.NamePart.{NamePart}
 use Rattle.ob_tree.specs.declared.name.PermNode.TheVariants as perm'
 use Rattle.ob_tree.specs.declared.name.Subject.{Subject}
 use Rattle.ob_tree.specs.declared.name.Subject.TheVariants as subject'
-use Rattle.ob_grammar.specs.Rows.{word, name, parted}
-use Rattle.ob_grammar.specs.NameRows.{subject, word_of_mode, perm, named, ref, type}
+use Rattle.ob_grammar.specs.Rows.{name, parted}
+use Rattle.ob_grammar.specs.NameRows.{subject, perm, named, ref, type}
 use Rattle.ob_layout_laws.specs.Unplaced.{nowhere, unplaced_name, unplaced_subject, unplaced_perm, unplaced_named, unplaced_ref, unplaced_type}
-use Rattle.ob_layout_laws.proofs.AgainRows.{Laid, alike, Again, ◌before◌, token_laid, place_laid, word_laid, sign_laid, said_laid, layout_laid, counted_laid, spanned_laid, separated, parted_laid}
+use Rattle.ob_layout_laws.proofs.AgainRows.{Again, ◌before◌, token_laid, place_laid, sign_laid, said_laid, layout_laid, counted_laid, spanned_laid, separated, parted_laid}
 
 -- the layout of a name
 abbrev pub kinds_of_name : NamePart → List TokenKind
@@ -48,17 +47,8 @@ names_again s parts = layout_laid (all_names s parts) (parted_laid s name unplac
 
 -- ---- permissions
 
-same_word : (m : Mode) → word_of_mode m ≡ word_laid_out m
-same_word mode.Owned = refl
-same_word mode.Shared = refl
-same_word mode.Unowned = refl
-
--- the word of a mode
-pub mode_laid : (m : Mode) → Laid (word (word_of_mode m)) (word (word_of_mode m)) (kind.Word (word_laid_out m) ∷ [])
-mode_laid m = layout_laid (ap (λ w. kind.Word w ∷ []) (same_word m)) (word_laid (word_of_mode m))
-
 pub perm_again : Again perm unplaced_perm tokens_of_perm
-perm_again (perm'.Mode m span) = layout_laid (ap (λ w. kind.Word w ∷ []) (same_word m)) (said_laid (λ read is. (perm'.Mode m is.0, is.1, refl)) (place_laid (kind.Word (word_of_mode m)) span 0))
+perm_again (perm'.Mode m span) = said_laid (λ read is. (perm'.Mode m is.0, is.1, refl)) (place_laid (kind.Word (word_of_mode m)) span 0)
 perm_again (perm'.States states) = said_laid (λ read is. (perm'.States is.0, is.1, ap perm'.States is.2)) (names_again sign'.Bar states)
 
 -- ---- names with their arguments, and types

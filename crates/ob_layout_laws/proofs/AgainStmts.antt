@@ -1,7 +1,6 @@
 -- The layouts of statements are read again.
-use Rattle.std.proofs.Common.{ℕ, ◌≡◌, true, false, List, [], ◌∷◌, ◌++◌, Some, None, option_map, flat_map, map, inl, inr, refl, sym, ap, ap₂, subst, ◌∙◌, append-nil, append_assoc}
+use Rattle.std.proofs.Common.{ℕ, ◌≡◌, true, false, List, [], ◌∷◌, ◌++◌, Some, None, option_map, flat_map, map, inl, refl, sym, ap, ap₂, ◌∙◌, append-nil, append_assoc}
 use Rattle.std.specs.Prelude.{⊤}
-use Rattle.std.proofs.lemmas.Bool.{cases_Bool, false≢true}
 use Rattle.ob_base.specs.declared.fault.Span.{Span}
 use Rattle.ob_lexer.specs.declared.token.TokenKind.{TokenKind}
 use Rattle.ob_lexer.specs.declared.token.TokenKind.TheVariants as kind
@@ -9,16 +8,17 @@ use Rattle.ob_lexer.specs.declared.token.Word.TheVariants as word'
 use Rattle.ob_lexer.specs.declared.token.Sign.TheVariants as sign'
 use Rattle.ob_tree.specs.Exprs.{Expr, call_expr, new_expr}
 use Rattle.ob_tree.specs.Stmts.{int_local, bool_local, text_local, named_local, Given, Stmt, declare_stmt, assign_stmt, stage_stmt, change_stmt, call_stmt, test_stmt, if_stmt, return_stmt, revert_stmt, disown_stmt, assert_stmt, block_with, no_else, else_with, Stmts, no_stmts, and_stmt}
-use Rattle.ob_tree.specs.NameTokens.{if_empty, token_of_name, token_of_subject, tokens_of_perm}
-use Rattle.ob_tree.specs.ExprTokens.{tokens_of_expr}
-use Rattle.ob_tree.specs.StmtTokens.{tokens_of_local, tokens_of_value, tokens_of_given, tokens_of_change, is_chained, tokens_of_membership, tokens_of_test, tokens_of_condition, tokens_of_claim, tokens_of_stmt, tokens_of_block, tokens_of_else, tokens_of_stmts}
-use Rattle.ob_grammar.specs.Rows.{Loaded, Covers, either, ◌⨟◌, word, sign, raise, raised, counted, maybe, parted}
+use Rattle.ob_layout.specs.NameTokens.{if_empty, token_of_name, token_of_subject, tokens_of_perm}
+use Rattle.ob_layout.specs.ExprTokens.{tokens_of_expr}
+use Rattle.ob_layout.specs.StmtTokens.{tokens_of_local, tokens_of_value, tokens_of_given, tokens_of_change, tokens_of_membership, tokens_of_test, tokens_of_condition, tokens_of_claim, tokens_of_stmt, tokens_of_block, tokens_of_else, tokens_of_stmts}
+use Rattle.ob_grammar.specs.Rows.{Loaded, Covers, either, ◌⨟◌, word, sign, raised, counted, maybe, parted}
 use Rattle.ob_grammar.specs.ExprRows.{spelled, expr}
-use Rattle.ob_grammar.specs.StmtRows.{local, given, all_given, called, end_of_else, braced, stmt, stmts, block, alternative, chained}
+use Rattle.ob_grammar.specs.StmtRows.{local, given, all_given, called, braced, stmt, stmts, block, alternative, chained}
+use Rattle.ob_grammar.specs.Primaries.{moved}
 use Rattle.ob_layout_laws.specs.Unplaced.{nowhere, unplaced_expr, unplaced_local, unplaced_given, unplaced_stmt, unplaced_block, unplaced_else, unplaced_stmts}
-use Rattle.ob_layout_laws.proofs.AgainRows.{Laid, alike, Again, Around, around_itself, around_raised, around_middle, ◌before◌, token_laid, place_laid, word_laid, sign_laid, nothing_laid, none_laid, never_laid, said_laid, known_laid, layout_laid, raised_laid, more_laid, enclosed_laid, around_laid, either_laid, filled_behind, some_place, some_place_laid, spanned_laid, separated, maybe_laid, parted_laid}
+use Rattle.ob_layout_laws.proofs.AgainRows.{Laid, alike, Again, Around, around_itself, around_raised, around_middle, ◌before◌, token_laid, place_laid, word_laid, sign_laid, nothing_laid, none_laid, never_laid, said_laid, known_laid, layout_laid, raised_laid, enclosed_laid, around_laid, either_laid, filled_behind, some_place, some_place_laid, spanned_laid, separated, maybe_laid, parted_laid}
 use Rattle.ob_layout_laws.proofs.AgainNames.{name_again, subject_again, perm_again, named_again}
-use Rattle.ob_layout_laws.proofs.AgainExprs.{moved, moves, bare, bare_again, filled_expr, expr_again}
+use Rattle.ob_layout_laws.proofs.AgainExprs.{moved_unplaced, bare, bare_again, filled_expr, expr_again}
 
 -- ---- the parts of statements
 
@@ -84,7 +84,7 @@ call_laid : (e : Expr) → Calls e → ((read : List Loaded) → called e read �
 call_laid e calls knows = said_laid says (some_place_laid (filled_expr e) (known_laid knows (bare_again e)))
   where
     says : (read : List Loaded) → some_place (λ s. alike bare unplaced_expr e) read → alike called unplaced_expr e read
-    says read (s, (c, (y, (n, is), same))) = (moved s y, called_moved s y n read c is (calls_alike e y same calls), (moves s y).plain ∙ same)
+    says read (s, (c, (y, (n, is), same))) = (moved s y, called_moved s y n read c is (calls_alike e y same calls), moved_unplaced s y ∙ same)
 
 called_again : Again called unplaced_expr tokens_of_expr
 called_again (call_expr c span) = call_laid (call_expr c span) tt (λ read is. (0, is.1))
@@ -92,33 +92,6 @@ called_again (new_expr of args span) = call_laid (new_expr of args span) tt (λ 
 called_again e = never_laid
 
 -- ---- what stands behind `else`
-
--- one `if`
-abbrev IsIf : Stmts → Type 0
-IsIf (and_stmt (test_stmt of state then otherwise span) no_stmts) = ⊤
-IsIf (and_stmt (if_stmt condition then otherwise span) no_stmts) = ⊤
-IsIf body = ⊥
-
-if_unplaced : (body : Stmts) → IsIf (unplaced_stmts body) ≡ IsIf body
-if_unplaced (and_stmt (test_stmt of state then otherwise span) no_stmts) = refl
-if_unplaced (and_stmt (if_stmt condition then otherwise span) no_stmts) = refl
-if_unplaced body = refl
-
-if_alike : (body other : Stmts) → unplaced_stmts other ≡ unplaced_stmts body → IsIf body → IsIf other
-if_alike body other same is = rw (sym (if_unplaced other) ∙ ap IsIf same ∙ if_unplaced body) is
-
-if_chained : (body : Stmts) (end : Span) → is_chained (block_with body end) ≡ true → IsIf body
-if_chained (and_stmt (test_stmt of state then otherwise span) no_stmts) end is = tt
-if_chained (and_stmt (if_stmt condition then otherwise span) no_stmts) end is = tt
-if_chained (and_stmt s no_stmts) end is = absurd (false≢true is)
-if_chained (and_stmt s (and_stmt t ss)) end is = absurd (false≢true is)
-if_chained no_stmts end is = absurd (false≢true is)
-
--- an `if` is spelled with no braces around it, up to its own last one
-chained_if : (body : Stmts) (low : List Loaded) → IsIf body → stmts body low → (end : Span) × chained body end (map (raise 1) low)
-chained_if (and_stmt (test_stmt of state then otherwise span) no_stmts) low is (f, b, e, held, none) = (end_of_else then otherwise, (refl, (low, refl, rw (e, none, append-nil f) held)))
-chained_if (and_stmt (if_stmt condition then otherwise span) no_stmts) low is (f, b, e, held, none) = (end_of_else then otherwise, (refl, (low, refl, rw (e, none, append-nil f) held)))
-chained_if body low is held = absurd is
 
 in_braces : (body : Stmts) (end : Span) (read : List Loaded) → braced end (stmts body) read → Around (stmts body) read
 in_braces body end read (f, b, e, left, (f₁, b₁, e₁, (low, up, is), right)) = around_middle read f b f₁ b₁ e e₁ (around_raised 1 f₁ low up (around_itself is))
@@ -132,23 +105,15 @@ in_chained (and_stmt (test_stmt of state then otherwise span) no_stmts) end read
 in_chained (and_stmt (if_stmt condition then otherwise span) no_stmts) end read is = in_only (if_stmt condition then otherwise span) read is.1
 in_chained body end read is = elim is [ ]
 
--- braces stand where a block wasn't written as `else if`
+-- a block behind `else` stands in braces, also where one `if` was written without them
 alternative_laid : (body : Stmts) (end : Span) → Laid (stmts body) (alike stmts unplaced_stmts body) (tokens_of_stmts body) → Laid (alternative (else_with (block_with body end))) (alike alternative unplaced_else (else_with (block_with body end))) (tokens_of_else (else_with (block_with body end)))
-alternative_laid body end a = elim (cases_Bool (is_chained (block_with body end))) [
-  | inl is ↦ rw is (said_laid (without (if_chained body end is)) (word_laid word'.Else before layout_laid (sym (append-nil (tokens_of_stmts body))) (more_laid 1 inner)))
-  | inr isnt ↦ rw isnt (said_laid within (word_laid word'.Else before enclosed_laid sign'.OpenBrace sign'.CloseBrace inner))
-]
+alternative_laid body end a = said_laid says (word_laid word'.Else before enclosed_laid sign'.OpenBrace sign'.CloseBrace inner)
   where
     inner : Laid (either (braced end (stmts body)) (chained body end)) (alike stmts unplaced_stmts body) (tokens_of_stmts body)
     inner = either_laid (around_laid (in_braces body end) a) (around_laid (in_chained body end) a)
 
-    without : IsIf body → (read : List Loaded) → (word word'.Else ⨟ raised 1 (alike stmts unplaced_stmts body)) read → alike alternative unplaced_else (else_with (block_with body end)) read
-    without is read (f, b, e, else, (low, up, (body', held, same))) =
-        let r = chained_if body' low (if_alike body body' same is) held in
-        (else_with (block_with body' r.0), (f, b, e, else, inr (subst (chained body' r.0) (sym up) r.1)), ap (λ ss. else_with (block_with ss nowhere)) same)
-
-    within : (read : List Loaded) → (word word'.Else ⨟ counted sign'.OpenBrace (alike stmts unplaced_stmts body) sign'.CloseBrace) read → alike alternative unplaced_else (else_with (block_with body end)) read
-    within read (f, b, e, else, (f₁, b₁, e₁, left, (f₂, b₂, e₂, (low, up, (body', held, same)), (s, right)))) =
+    says : (read : List Loaded) → (word word'.Else ⨟ counted sign'.OpenBrace (alike stmts unplaced_stmts body) sign'.CloseBrace) read → alike alternative unplaced_else (else_with (block_with body end)) read
+    says read (f, b, e, else, (f₁, b₁, e₁, left, (f₂, b₂, e₂, (low, up, (body', held, same)), (s, right)))) =
         (else_with (block_with body' s), (f, b, e, else, inl (f₁, b₁, e₁, left, (f₂, b₂, e₂, (low, up, held), right))), ap (λ ss. else_with (block_with ss nowhere)) same)
 
 -- ---- statements

@@ -5,7 +5,7 @@ use Rattle.ob_lexer.specs.declared.lexer.Lexed.{Lexed}
 use Rattle.ob_lexer.specs.declared.token.Token.{Token}
 use Rattle.ob_lexer.specs.declared.token.TokenKind.{TokenKind}
 use Rattle.ob_tree.specs.Members.{Contract}
-use Rattle.ob_tree.specs.MemberTokens.{tokens_of as kinds_of}
+use Rattle.ob_layout.specs.MemberTokens.{tokens_of as kinds_of}
 use Rattle.ob_grammar.specs.Grammar.{HasTree}
 use Rattle.ob_layout_laws.specs.Again.{layout_of, IsShallow, IsReadAs}
 use Rattle.ob_layout_laws.proofs.AgainRows.{AllKinds}

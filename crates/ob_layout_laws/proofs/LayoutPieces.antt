@@ -16,7 +16,7 @@ use Rattle.ob_lexer.proofs.FirstBytes.{class-letter, class-digit, word_first, di
 use Rattle.ob_lexer.proofs.Longest.{blank_longest, word_longest, digits_longest, pair_longest, single_longest}
 use Rattle.ob_lexer.proofs.Pieces.{slash_step_at}
 use Rattle.ob_lexer.proofs.StringSteps.{string_longest}
-use Rattle.ob_tree.specs.Layout.{escape_of, spelling_of, gap_of_sign, gap_behind, laid_out, layout}
+use Rattle.ob_layout.specs.Layout.{escape_of, spelling_of, gap_of_sign, gap_behind, laid_out, layout}
 use Rattle.ob_layout_laws.proofs.LayoutSpelling.{escapes_stand, low_utf8}
 
 -- ---- the blank behind a token

@@ -19,8 +19,8 @@ use Rattle.ob_lexer.specs.declared.token.Sign.{Sign}
 use Rattle.ob_lexer.specs.declared.token.Sign.TheVariants as sign
 use Rattle.ob_lexer.specs.Spelling.{spelling_of_word, spelling_of_sign, is_digits, value_of_digits, StringPart, itself, escape, IsPart, AreParts, spelling_of_part, value_of_part, StandsFor, IsString, IsSpelling}
 use Rattle.ob_lexer.proofs.Reserved.{word_is_word}
-use Rattle.ob_tree.specs.Layout.{escape_of, quoted, spelling_of}
-use Rattle.ob_tree.proofs.Escapes.{escaped_plain}
+use Rattle.ob_layout.specs.Layout.{escape_of, quoted, spelling_of}
+use Rattle.ob_layout.proofs.Escapes.{escaped_plain}
 
 -- ---- a string
 

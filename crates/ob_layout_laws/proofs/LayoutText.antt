@@ -1,9 +1,7 @@
 -- The canonical layout of tokens that some bytes spell is lexed to these tokens.
 use Rattle.std.proofs.Common.{ℕ, ◌≡◌, ◌≤◌, nat_le, true, List, [], ◌∷◌, ◌++◌, length, map, refl, sym, ap, subst, ◌∙◌, append_assoc}
-use Rattle.std.specs.List.{All, Contains}
 use Rattle.std.specs.Str.{IsUtf8, is_utf8}
 use Rattle.std.proofs.lemmas.Bool.{and_parts}
-use Rattle.std.proofs.lemmas.List.Elements.{All-nil, All-cons, All-contains}
 use Rattle.std.proofs.lemmas.List.{map-append}
 use Rattle.std.proofs.lemmas.Str.{IsUtf8-from_is_utf8}
 use Rattle.ob_base.specs.Names.{is_text}
@@ -17,7 +15,7 @@ use Rattle.ob_lexer.specs.Spelling.{spelling_of_word, spelling_of_sign, IsString
 use Rattle.ob_lexer.specs.Places.{span_of}
 use Rattle.ob_lexer.specs.Lexis.{Element, space, comment, token, IsElement, Piece, text_of, ArePieces, token_in, tokens_of, HasTokens}
 use Rattle.ob_lexer.proofs.StringTexts.{behind_quote, content_is_text}
-use Rattle.ob_tree.specs.Layout.{layout}
+use Rattle.ob_layout.specs.Layout.{layout}
 use Rattle.ob_layout_laws.proofs.LayoutSpelling.{HasUtf8, spelled_again, spelling_utf8}
 use Rattle.ob_layout_laws.proofs.LayoutPieces.{pieces_of, layout_pieces, AreSpelled, pieces_are, pieces_tokens, AreUtf8, layout_utf8}
 
@@ -89,14 +87,6 @@ pub tokens_spellable : (text : List ℕ) (lexed : Lexed) → HasTokens text lexe
 tokens_spellable text lexed has =
     let all : AllSpellable (kinds (tokens_of [] has.pieces)) = pieces_spellable [] has.pieces (subst IsUtf8 has.whole has.utf8) has.spelled in
     subst (λ (ts : List Token). AllSpellable (kinds ts)) (sym has.tokens) all
-
-each_spellable : (tokens : List Token) → AllSpellable (kinds tokens) → All (λ t. Spellable t.kind) tokens
-each_spellable [] all = All-nil (λ t. Spellable t.kind)
-each_spellable (t ∷ tokens) all = All-cons (λ t. Spellable t.kind) t tokens all.0 (each_spellable tokens all.1)
-
-pub token_spellable : (text : List ℕ) (lexed : Lexed) → HasTokens text lexed → (t : Token) → Contains lexed.tokens t → Spellable t.kind
-token_spellable text lexed has t there =
-    All-contains (λ t. Spellable t.kind) lexed.tokens t (each_spellable lexed.tokens (tokens_spellable text lexed has)) there
 
 -- ---- the layout of such kinds
 

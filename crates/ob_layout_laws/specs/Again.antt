@@ -3,8 +3,8 @@ use Rattle.std.specs.Prelude.{ℕ, ◌≡◌, List}
 use Rattle.ob_lexer.specs.Lexis.{HasTokens}
 use Rattle.ob_lexer.specs.declared.lexer.Lexed.{Lexed}
 use Rattle.ob_tree.specs.Members.{Contract}
-use Rattle.ob_tree.specs.MemberTokens.{tokens_of as kinds_of}
-use Rattle.ob_tree.specs.Layout.{layout}
+use Rattle.ob_layout.specs.MemberTokens.{tokens_of as kinds_of}
+use Rattle.ob_layout.specs.Layout.{layout}
 use Rattle.ob_grammar.specs.Rows.{Loaded}
 use Rattle.ob_grammar.specs.MemberRows.{program}
 use Rattle.ob_grammar.specs.Grammar.{tokens_of, IsWithin, HasTree}
