@@ -2,3 +2,5 @@ pub mod Names
 pub mod Numbers
 pub mod Faults
 pub mod Optional
+pub mod Bytes
+pub mod Fields

@@ -21,3 +21,16 @@ pub fn copy_items<T: Duplicate + Drop>(alloc: Global, items: &Items<T>) -> Resul
     }
     Ok(copies)
 }
+
+/// A copy of a value that may be missing.
+pub fn copy_option<T: Duplicate + Drop>(
+    alloc: Global,
+    value: &Option<T>,
+) -> Result<Option<T>, Memory>
+    ensures { IfOk result (λ copy. copy ≡ value.now) }
+{
+    match value {
+        None => Ok(None),
+        Some(value) => Ok(Some(value.copy(alloc)?)),
+    }
+}

@@ -2,24 +2,34 @@
 //! words.
 #![tactic(auto)]
 
+mod bytes;
 mod cause;
 mod copy;
 mod fault;
+mod fields;
 mod id;
+mod laws;
 mod name;
 mod operator;
 mod permission;
-#[cfg(test)]
-mod tests;
 
+pub use bytes::{put_i64, put_text, put_u8, put_u32};
 pub use cause::{Failed, Memory};
-pub use copy::{Duplicate, copy_items};
+pub use copy::{Duplicate, copy_items, copy_option};
 pub use fault::{
-    BAD_CHARACTER, BAD_ESCAPE, BIG_NUMBER, EXPECTED, LONG_NAME, LONG_PROGRAM, LONG_STRING,
-    NOT_BUILT, NOT_UTF8, OPEN_COMMENT, OPEN_STRING, ProgramFault, Span, TOO_DEEP, fault_name,
+    ARG_COUNT, ASSERT_FAILS, ASSET_LOST, ASSET_OVERWRITTEN, ASSIGN_PARAMETER, BAD_CHARACTER,
+    BAD_ESCAPE, BAD_EXIT, BAD_TRANSITION, BIG_NUMBER, BOUND, BRANCH_LOSES, DUPLICATE,
+    EXIT_MISMATCH, EXPECTED, FIELD_MISMATCH, INTERFACE_MISMATCH, LIMIT, LONG_NAME, LONG_PROGRAM,
+    LONG_STRING, LOOP_CHANGES, MISSING_RETURN, NO_STATE, NON_ASSET_OWNER, NOT_ACCESSIBLE,
+    NOT_BUILT, NOT_FIELD, NOT_OWNING, NOT_SHARED, NOT_UTF8, OPEN_COMMENT, OPEN_STRING, PARAM_COUNT,
+    ProgramFault, Span, TEST_TWICE, TEST_UNOWNED, THIS_DIFFERS, THIS_IN_CONSTRUCTOR, TOO_DEEP,
+    TOO_MANY_INSTANCES, TWO_MAINS, TYPE_MISMATCH, UNDER_TEST, UNKNOWN_NAME, UNREACHABLE, UNSET,
+    USED_TWICE, VIEW_CHANGES, WRONG_KIND, WRONG_STATE, fault_name,
 };
-pub use id::{FieldId, ObjectId};
+pub use fields::{FieldFault, Fields};
+pub use id::{ContractId, FieldId, ObjectId, StateId, TxId};
+pub use laws::one_field;
 pub use name::{Label, Name, NameError, Text, is_digit, is_letter, is_letter_or_digit};
 pub use operator::Operator;
-pub use permission::Mode;
+pub use permission::{Mode, NO_STATE_BIT, OTHER_STATE_BIT, Perm};
 pub use sqlite_items::{Boxed, Items};
