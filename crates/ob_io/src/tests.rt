@@ -98,7 +98,7 @@ fn sinks_of_std(rt: HostRuntime) -> Result<(), Fail> {
 #[test]
 fn files_of_std(rt: HostRuntime) -> Result<(), Fail> {
     let alloc = rt.alloc();
-    let name = "/tmp/ob_io_files_of_std";
+    let name = "ob_io_files_of_std";
     let bytes = vec![in alloc; b'x'; 9000]?;
     fs::write(&rt, name, bytes.as_slice())?;
     let mut files = StdFiles::new(alloc, &rt);

@@ -1,14 +1,16 @@
 use Rattle.std.proofs.Common.{false, refl, ◌∙◌, arith}
+use Rattle.ob_io.specs.Views.{SourceView}
 use Rattle.ob_io.proofs.LinesLemmas.{nothing_held}
 use Rattle.ob_serve.proofs.Progress.{begun, blank_is, blank_sound, none_taken, more_taken, few_taken, gives_up, stopped, passes, goes_on, write_stops}
 use Rattle.ob_serve.specs.Replies.{answer_of, blank}
+use Rattle.ob_serve.specs.Served.{Streams}
 use Rattle.ob_serve.specs.Stops.{reader}
 use Rattle.ob_serve.proofs.serving.serve.Goals as goal
 
 pub returns-in_default-clause-ends : goal.returns-in_default-clause-ends
 returns-in_default-clause-ends g c =
-    let left = (g.S.Source.view c.args.input.now).left in
-    gives_up _ _ _ left false 0 blank (begun (answer_of c.args.program.now) blank left (g.K.Sink.view c.args.output.now).written left false 0 refl refl refl)
+    let start : Streams = record { input = g.S.Source.view c.args.input.now; output = g.K.Sink.view c.args.output.now } in
+    gives_up c.args.program.now start start start.input.left false 0 blank (begun (answer_of c.args.program.now) blank start.input.left start.output.written start.input.left false 0 refl refl refl)
 
 pub lines-init : goal.lines-init
 lines-init g c =
@@ -67,7 +69,8 @@ lines-preserved g c =
     }
 
 pub returns-in_default-clause-few : goal.returns-in_default-clause-few
-returns-in_default-clause-few g c = few_taken (g.S.Source.view c.args.input.now) _ 0 (none_taken _ 0 refl) (omega arith)
+returns-in_default-clause-few g c =
+    let start : SourceView = g.S.Source.view c.args.input.now in few_taken start start 0 (none_taken start 0 refl) (omega arith)
 
 pub returns-in-Err-clause-few : goal.returns-in-Err-clause-few
 returns-in-Err-clause-few g c = few_taken _ _ _ (more_taken _ _ _ _ _ c.lines.invariant.drawn c.next_line.ensures.taken) c.next_line.ensures.bound
