@@ -1,0 +1,4 @@
+pub mod Expressions
+pub mod ExpressionsView
+pub mod Statements
+pub mod StatementsView
