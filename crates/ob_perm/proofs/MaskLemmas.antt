@@ -1,14 +1,14 @@
 -- The set that a number stands for, after each operation on its bits.
-use Rattle.std.proofs.Common.{◌≡◌, ◌≢◌, ℕ, zero, suc, ◌+◌, ◌-◌, ◌*◌, ◌/◌, ◌%◌, ◌^◌, ◌<◌, ◌≤◌, min, max, ◌⊎◌, ⊎_elim, Bool, true, false, not, ◌&&◌, ◌||◌, nat_lt, refl, sym, ap, ap₂, ◌∙◌, arith, lt-ltb, le-ltb, ne_eqb, eq-eqb, eqb-true, w64, bit_and, bit_or}
+use Rattle.std.proofs.Common.{◌≡◌, ℕ, zero, suc, ◌-◌, ◌*◌, ◌/◌, ◌%◌, ◌^◌, ◌<◌, ◌≤◌, min, max, ⊎_elim, Bool, true, false, not, ◌&&◌, ◌||◌, nat_lt, refl, sym, ap, ◌∙◌, arith, lt-ltb, le-ltb, ne_eqb, eq-eqb, eqb-true, w64, bit_and, bit_or}
 use Rattle.std.specs.Bool.{◌==◌}
 use Rattle.std.specs.Int.{bit_at, bit_not}
 use Rattle.std.proofs.Math.Path.{fun_ext}
 use Rattle.std.specs.Cmp.{both_ways}
 use Rattle.std.proofs.Math.Bool.{and-true}
 use Rattle.std.proofs.lemmas.Bool.{cases_lt, cases_eq, and_left, and_right, not-true, not_from_false}
-use Rattle.std.proofs.lemmas.Nat.{one_shl, pow_below}
+use Rattle.std.proofs.lemmas.Nat.{one_shl}
 use Rattle.std.proofs.lemmas.Nat.Bits.{bit_at_and, bit_at_or, bit_at-lt, bit_at_not, bit_at_above, bit_at-zero, bit_at-pow_same, bit_at-pow_other, bit_at_ones, bit_at_ones_above, same_from_bits, shr_and_one}
-use Rattle.ob_perm.specs.States.{States, states_max, no_states, any_below, all_below, only, union, intersection, difference, subset, meets}
+use Rattle.ob_perm.specs.States.{states_max, no_states, any_below, all_below, only, union, intersection, difference, subset, meets}
 use Rattle.ob_perm.specs.Masks.{states_of}
 use Rattle.ob_perm.proofs.SetLemmas.{all_below_at, all_below_from, all_below_same, not-all_below}
 
@@ -61,13 +61,16 @@ pub states_of-zero : states_of 0 ≡ no_states
 unfolding states_of
 states_of-zero = fun_ext (λ i. ap (λ x. x == 1) (bit_at-zero i))
 
--- `1 << k`
-pub states_of-bit : (k : ℕ) → k < 64 → states_of (1 * 2 ^ k % 2 ^ 64) ≡ only k
+pub states_of-pow : (k : ℕ) → states_of (2 ^ k) ≡ only k
 unfolding states_of
-states_of-bit k h = fun_ext (λ i. ap (λ x. bit_at x i == 1) (one_shl k 64 h) ∙ ⊎_elim
+states_of-pow k = fun_ext (λ i. ⊎_elim
     (λ same. ap (λ j. bit_at (2 ^ k) j == 1) same ∙ ap (λ x. x == 1) (bit_at-pow_same k) ∙ sym (eq-eqb i k same))
     (λ other. ap (λ x. x == 1) (bit_at-pow_other k i other) ∙ sym (ne_eqb i k other))
     (cases_eq i k))
+
+-- `1 << k`
+pub states_of-bit : (k : ℕ) → k < 64 → states_of (1 * 2 ^ k % 2 ^ 64) ≡ only k
+states_of-bit k h = ap states_of (one_shl k 64 h) ∙ states_of-pow k
 
 -- `(1 << n) - 1`
 pub states_of-below : (n : ℕ) → states_of (2 ^ n - 1) ≡ (λ (i : ℕ). nat_lt i n)
@@ -77,10 +80,10 @@ states_of-below n = fun_ext (λ i. ⊎_elim
     (λ above. ap (λ x. x == 1) (bit_at_ones_above n i above) ∙ sym (le-ltb i n above))
     (cases_lt i n))
 
--- A number of 64 bits has no state from 64 on.
-pub states_of-above : (a i : ℕ) → a < 2 ^ 64 → 64 ≤ i → states_of a i ≡ false
+-- A number of k bits has no state from k on.
+pub states_of-above : (a k i : ℕ) → a < 2 ^ k → k ≤ i → states_of a i ≡ false
 unfolding states_of
-states_of-above a i small h = ap (λ x. x == 1) (bit_at_above a 64 i small h)
+states_of-above a k i small h = ap (λ x. x == 1) (bit_at_above a k i small h)
 
 -- Two numbers that stand for one set are equal.
 pub same_mask : (a b : ℕ) → states_of a ≡ states_of b → a ≡ b
@@ -96,8 +99,8 @@ states_of_bit a k = ap (λ x. x == 1) (shr_and_one a k)
 pub states_of-minus : (a b : ℕ) → a < 2 ^ 64 → b < 2 ^ 64 → states_of (bit_and a (bit_not w64 b)) ≡ difference (states_of a) (states_of b)
 states_of-minus a b small_a small_b = states_of-and a (bit_not w64 b) ∙ fun_ext (λ i. ⊎_elim
     (λ below. ap (λ c. states_of a i && c) (states_of-not b i small_b below))
-    (λ above. and_left (states_of a i) (states_of (bit_not w64 b) i) (states_of-above a i small_a above)
-    ∙ sym (and_left (states_of a i) (not (states_of b i)) (states_of-above a i small_a above)))
+    (λ above. and_left (states_of a i) (states_of (bit_not w64 b) i) (states_of-above a 64 i small_a above)
+    ∙ sym (and_left (states_of a i) (not (states_of b i)) (states_of-above a 64 i small_a above)))
     (cases_lt i 64))
 
 -- `a & ALL_BITS == 0`

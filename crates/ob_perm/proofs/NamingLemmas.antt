@@ -1,5 +1,5 @@
 -- One turn of the loops that say a set of states for an interface, and for a contract.
-use Rattle.std.proofs.Common.{◌≡◌, ℕ, ◌+◌, ◌<◌, ◌≤◌, ◌⊎◌, inl, inr, Bool, true, false, ◌&&◌, ◌||◌, nat_lt, sym, ap, ◌∙◌, arith, le-ltb, add-one}
+use Rattle.std.proofs.Common.{◌≡◌, ℕ, ◌+◌, ◌<◌, ◌≤◌, ◌⊎◌, inl, inr, true, false, ◌&&◌, ◌||◌, nat_lt, sym, ap, ◌∙◌, arith, le-ltb, add-one}
 use Rattle.std.specs.Bool.{◌==◌}
 use Rattle.std.proofs.Math.Path.{fun_ext}
 use Rattle.std.proofs.Math.Bool.{or_comm}

@@ -1,9 +1,9 @@
 -- Tests below a bound, and the sets that `Owned` stands for.
-use Rattle.std.proofs.Common.{◌≡◌, ◌≢◌, ℕ, zero, suc, ◌<◌, ◌≤◌, ◌⊎◌, ⊎_elim, Bool, true, false, not, ◌&&◌, ◌||◌, nat_lt, refl, sym, ap, ap₂, ◌∙◌, arith, lt-ltb, le-ltb, ne_eqb, le-leb}
+use Rattle.std.proofs.Common.{◌≡◌, ℕ, zero, suc, ◌<◌, ⊎_elim, Bool, true, false, not, ◌&&◌, ◌||◌, nat_lt, refl, sym, ap, ap₂, ◌∙◌, arith, lt-ltb, le-ltb, ne_eqb, le-leb}
 use Rattle.std.specs.Bool.{◌==◌}
 use Rattle.std.proofs.Math.Path.{fun_ext}
-use Rattle.std.proofs.lemmas.Bool.{cases_lt, lt-leb, and_parts, or_cases, or_left, or_right, and_from, or_parts, or_from}
-use Rattle.ob_perm.specs.States.{any_below, all_below, States, stateless, unnamed, only, all_states, anywhere}
+use Rattle.std.proofs.lemmas.Bool.{cases_lt, lt-leb, and_parts, or_cases, or_left, or_right, and_from}
+use Rattle.ob_perm.specs.States.{any_below, all_below, stateless, unnamed, only, all_states, anywhere}
 
 -- a test at the last number or below it
 last_or_below : {P : Type 0} (n i : ℕ) → i < suc n → (i ≡ n → P) → (i < n → P) → P

@@ -1,13 +1,7 @@
 //! States by name between a contract and its interface.
 ghost use Rattle.std.specs.Prelude.{◌≡◌, ◌<◌};
-ghost use Rattle.ob_perm.specs.Naming.{
-  IsNaming,
-  seen,
-  states_for_interface,
-  states_for_contract,
-  for_interface,
-  for_contract,
-};
+ghost use Rattle.ob_perm.specs.Naming.{IsNaming, seen, states_for_interface, states_for_contract};
+ghost use Rattle.ob_perm.specs.Naming.{for_interface, for_contract};
 ghost use Rattle.ob_perm.specs.Masks.{states_of, permission_of, IsCanonical};
 
 use crate::permission::owned;

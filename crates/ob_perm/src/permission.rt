@@ -1,23 +1,13 @@
 //! What a reference may do with its object.
 ghost use Rattle.std.specs.Prelude.{◌≡◌, ◌<◌, ◌≤◌, ◌↔◌, ◌&&◌, IfOk, IsErr, IsTrue};
 ghost use Rattle.std.specs.Result.{result_err};
-ghost use Rattle.ob_perm.specs.Permissions.{
-  owned,
-  shared,
-  unowned,
-  fit_fault,
-  matches,
-  kept,
-  joined,
-  loses_owner,
-  permission_within,
-  permission_without,
-  possible,
-};
+ghost use Rattle.ob_perm.specs.Permissions.{owned, shared, unowned, fit_fault, fault_number, matches};
+ghost use Rattle.ob_perm.specs.Permissions.{kept, joined, loses_owner, permission_within};
+ghost use Rattle.ob_perm.specs.Permissions.{permission_without, possible};
 ghost use Rattle.ob_perm.specs.Masks.{states_of, permission_of, IsCanonical};
 
 use crate::states::{all_states, bit, difference, intersection, subset, union};
-use ob_base::{Mode, Perm, StateId};
+use ob_base::{Mode, NOT_OWNING, NOT_SHARED, Perm, StateId, WRONG_STATE};
 use thiserror::Error;
 
 /// Why a reference doesn't serve where another permission is wanted.
@@ -32,6 +22,19 @@ pub enum FitFault {
     /// A shared reference is wanted, and this one has no say.
     #[error("the reference isn't shared")]
     NotShared,
+}
+
+impl FitFault {
+    /// The number of the fault of a program's text.
+    pub fn number(self) -> u16
+        ensures { result ≡ fault_number self }
+    {
+        match self {
+            FitFault::NotOwning => NOT_OWNING,
+            FitFault::WrongState => WRONG_STATE,
+            FitFault::NotShared => NOT_SHARED,
+        }
+    }
 }
 
 /// One branch holds the object as its owner and the other doesn't, so an asset would be lost behind them.

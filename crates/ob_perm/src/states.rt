@@ -1,26 +1,15 @@
 //! Sets of states, each as a number whose bit i says whether state i is in it.
 ghost use Rattle.std.specs.Prelude.{◌≡◌, ◌<◌, ◌≤◌, nat_lt};
-ghost use Rattle.ob_perm.specs.States.{
-  only,
-  union,
-  intersection,
-  difference,
-  subset,
-  meets,
-  all_states,
-  interface_states,
-  anywhere,
-  stateless,
-  unnamed,
-};
+ghost use Rattle.ob_perm.specs.States.{only, union, intersection, difference, subset, meets};
+ghost use Rattle.ob_perm.specs.States.{all_states, interface_states, anywhere};
 ghost use Rattle.ob_perm.specs.Masks.{states_of};
 
 use ob_base::{NO_STATE_BIT, OTHER_STATE_BIT, StateId};
 
-// How many numbers states have, with those of no state and of any other state.
+// How many numbers there are for states, with those of no state and of any state that an interface doesn't name.
 pub(crate) const NUMBERS: u8 = OTHER_STATE_BIT + 1;
 
-// The bits of all these numbers.
+// The bits of these numbers.
 const ALL_BITS: u64 = (1 << NUMBERS) - 1;
 
 // The set of what has this number.

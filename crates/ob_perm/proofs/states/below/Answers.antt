@@ -1,4 +1,4 @@
-use Rattle.std.proofs.Common.{◌≡◌, ◌∙◌, ℕ, ◌-◌, ap}
+use Rattle.std.proofs.Common.{◌∙◌, ◌-◌, ap}
 use Rattle.std.proofs.lemmas.Nat.{one_shl}
 use Rattle.ob_perm.specs.Masks.{states_of}
 use Rattle.ob_perm.proofs.MaskLemmas.{states_of-below}
