@@ -26,7 +26,7 @@ pub struct ParamNode {
     pub perm: NamePart,
     /// The name behind `where`, and the mode behind `is`.
     pub bound: Option<(NamePart, Mode)>,
-    /// From its first token to its last.
+    /// From the opening bracket to the closing one.
     pub span: Span,
 }
 
