@@ -1,0 +1,8 @@
+pub mod Expressions
+pub mod ExpressionsView
+pub mod ExpressionsBack
+pub mod Statements
+pub mod StatementsView
+pub mod StatementsBack
+pub mod Tables
+pub mod Index
