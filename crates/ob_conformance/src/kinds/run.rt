@@ -210,21 +210,29 @@ pub fn cut_run(alloc: Global, case: &Case, outside: &[u8]) -> Result<Vec<u8>, Tr
     Ok(said.into_bytes())
 }
 
-// What a run writes that is done, where it writes this, or else refuses; or all that it comes to.
-fn said(alloc: Global, ended: Ended, done: &[u8]) -> Result<Vec<u8>, Trouble> {
-    let Some(bytes) = &ended.output else {
-        return show(alloc, ended);
+// Whether a run is done and wrote this, or refused and wrote another.
+fn ends_so(ended: &Ended, done: &[u8]) -> bool {
+    let exit = ended.exit;
+    let is_done = match &ended.output {
+        Some(bytes) => bytes.as_slice() == done,
+        None => return false,
     };
-    let is_done = bytes.as_slice() == done;
-    let ends_so = match ended.exit {
+    match exit {
         Exit::Done => is_done,
         Exit::Refused => !is_done,
         _ => false,
-    };
-    if !ends_so || !is_well(&ended) {
+    }
+}
+
+// What a run writes that is done, where it writes this, or else refuses; or all that it comes to.
+fn said(alloc: Global, ended: Ended, done: &[u8]) -> Result<Vec<u8>, Trouble> {
+    if !ends_so(&ended, done) || !is_well(&ended) {
         return show(alloc, ended);
     }
-    Ok(bytes.as_slice().to_vec(alloc)?)
+    match ended.output {
+        Some(bytes) => Ok(bytes),
+        None => Ok(Vec::new(alloc)),
+    }
 }
 
 /// What `check` writes of a text.
