@@ -1,8 +1,8 @@
 -- What a reference may do with its object (Coblenz et al., TOPLAS 42(3), 2020, "Permissions"; what the giver keeps, and what
 -- is held behind two branches, is this project's own).
-use Rattle.std.specs.Prelude.{ℕ, Bool, true, false, not, Option, Some, None, is_none, if◌then◌else◌}
+use Rattle.std.specs.Prelude.{ℕ, Bool, true, false, not, Option, Some, None, is_none, if◌then◌else◌, ⊤}
 use Rattle.ob_base.specs.Faults.{not_owning, wrong_state, not_shared}
-use Rattle.ob_perm.specs.States.{States, union, within, without, subset, all_states}
+use Rattle.ob_perm.specs.States.{States, IsNumbered, union, within, without, subset, all_states}
 use Rattle.ob_perm.specs.declared.permission.FitFault.{FitFault}
 use Rattle.ob_perm.specs.declared.permission.FitFault.TheVariants.{NotOwning, WrongState, NotShared}
 
@@ -30,6 +30,12 @@ abbrev pub is_unowned : Permission → Bool
 is_unowned (owned a) = false
 is_unowned shared = false
 is_unowned unowned = true
+
+-- Each state that it speaks of has one of the numbers of states.
+abbrev pub IsNumberedPermission : Permission → Type 0
+IsNumberedPermission (owned a) = IsNumbered a
+IsNumberedPermission shared = ⊤
+IsNumberedPermission unowned = ⊤
 
 -- Why a reference doesn't serve where another permission is wanted, if it doesn't: an owner is wanted and it is none, or its
 -- object may be in another state; one that shares is wanted and it has no say.
@@ -108,6 +114,6 @@ possible n (owned a) = a
 possible n shared = all_states n
 possible n unowned = all_states n
 
--- whether a permission is one on a contract of n states: where its object may be, an object of the contract may be
+-- whether a permission is one on a contract of n states: it lets its object be in states of that contract alone
 abbrev pub is_on : ℕ → Permission → Bool
 is_on n p = subset (possible n p) (all_states n)

@@ -1,6 +1,6 @@
 -- Sets of the states in which an object may be (Coblenz et al., TOPLAS 42(3), 2020, "Permissions"; how a set is given is
 -- this project's own).
-use Rattle.std.specs.Prelude.{ℕ, zero, suc, Bool, true, false, not, ◌&&◌, ◌||◌, ◌==◌, nat_lt, nat_le}
+use Rattle.std.specs.Prelude.{◌≡◌, ◌<◌, ℕ, zero, suc, Bool, true, false, not, ◌&&◌, ◌||◌, ◌==◌, nat_lt, nat_le}
 
 -- A set of states, by number. The states of a contract or interface have the numbers 0 to 31.
 abbrev pub States : Type 0
@@ -17,6 +17,10 @@ unnamed = 33
 -- how many numbers there are
 unfoldable pub states_max : ℕ
 states_max = 34
+
+-- Each state of the set has one of these numbers.
+abbrev pub IsNumbered : States → Type 0
+IsNumbered a = (i : ℕ) → a i ≡ true → i < states_max
 
 -- whether a test holds of some number below a bound
 abbrev pub any_below : ℕ → (ℕ → Bool) → Bool

@@ -1,9 +1,9 @@
 //! What holds of permissions, whichever they are.
-ghost use Rattle.std.specs.Prelude.{◌≡◌, ◌<◌, ◌^◌, ◌&&◌, ℕ, length, IsTrue, IsFalse};
+ghost use Rattle.std.specs.Prelude.{◌≡◌, ◌&&◌, ℕ, length, IsTrue, IsFalse};
 ghost use Rattle.ob_base.specs.declared.permission.Perm.{Perm};
-ghost use Rattle.ob_perm.specs.States.{States, states_max, no_states, intersection, within, without};
+ghost use Rattle.ob_perm.specs.States.{States, IsNumbered, no_states, intersection, within, without};
 ghost use Rattle.ob_perm.specs.Permissions.{Permission, owns, is_on, fits, matches, kept, joined};
-ghost use Rattle.ob_perm.specs.Permissions.{permission_within, permission_without};
+ghost use Rattle.ob_perm.specs.Permissions.{IsNumberedPermission, permission_within, permission_without};
 ghost use Rattle.ob_perm.specs.Naming.{Names, IsNaming, for_interface, for_contract};
 ghost use Rattle.ob_perm.specs.Masks.{states_of, permission_of, IsCanonical, mask_of, perm_of};
 
@@ -40,11 +40,11 @@ pub fn naming_laws()
         → IsTrue (matches p (for_contract names (for_interface names p))) }
 {}
 
-/// Two numbers that stand for one set are equal, and so are two permissions in canonical form that stand for one. Each set
-/// and each permission has what stands for it.
+/// Each set of states has exactly one number that stands for it, and each permission exactly one in canonical form.
 pub fn mask_laws()
     ensures one_mask { (a b : ℕ) → states_of a ≡ states_of b → a ≡ b }
+    ensures mask { (a : States) → IsNumbered a → states_of (mask_of a) ≡ a }
     ensures one_perm { (p q : Perm) → IsCanonical p → IsCanonical q → permission_of p ≡ permission_of q → p ≡ q }
-    ensures mask { (a : States) (i : ℕ) → i < states_max → states_of (mask_of a) i ≡ a i }
-    ensures perm { (p : Perm) → IsCanonical p → p.states < 2 ^ 34 → perm_of (permission_of p) ≡ p }
+    ensures perm { (p : Permission) → IsNumberedPermission p → permission_of (perm_of p) ≡ p }
+    ensures canonical { (p : Permission) → IsCanonical (perm_of p) }
 {}
