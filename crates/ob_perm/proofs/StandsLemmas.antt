@@ -27,7 +27,8 @@ mask_below-lt (suc n) a = more (a n) (mask_below n a) (mask_below-lt n a)
     more false x small = omega (arith, pow-suc 2 n)
 
 -- One more state of a set in its number.
-add_state : (n : ℕ) (a : States) (x : ℕ) → x < 2 ^ n → states_of x ≡ below_passing n a → states_of (x + cond (a n) (2 ^ n) 0) ≡ below_passing (n + 1) a
+add_state : (n : ℕ) (a : States) (x : ℕ) → x < 2 ^ n → states_of x ≡ below_passing n a
+    → states_of (x + cond (a n) (2 ^ n) 0) ≡ below_passing (n + 1) a
 add_state n a x small is = ⊎_elim
     (λ in_a. ap (λ b. states_of (x + cond b (2 ^ n) 0)) in_a
     ∙ ap states_of (add-bit n x small)
@@ -62,14 +63,18 @@ perm_of_canonical (owned a) h = absurd (h refl)
 perm_of_canonical shared h = refl
 perm_of_canonical unowned h = refl
 
+-- a permission of the code
+abbrev in_code : Mode → ℕ → Perm
+in_code m s = record { mode = m; states = s }
+
 pub same_perm : (p q : Perm) → IsCanonical p → IsCanonical q → permission_of p ≡ permission_of q → p ≡ q
 same_perm p q canonical_p canonical_q e = at p.mode p.states canonical_p q.mode q.states canonical_q e
   where
-    at : (m : Mode) (s : ℕ) → (m ≢ Owned → s ≡ 0) → (n : Mode) (t : ℕ) → (n ≢ Owned → t ≡ 0) → held m (states_of s) ≡ held n (states_of t)
-        → (let p : Perm = record { mode = m; states = s } in p) ≡ record { mode = n; states = t }
-    at Owned s h Owned t k e = ap (λ (x : ℕ). let p : Perm = record { mode = Owned; states = x } in p) (same_mask s t cc)
-    at Shared s h Shared t k e = ap (λ (x : ℕ). let p : Perm = record { mode = Shared; states = x } in p) (h (λ o. cc) ∙ sym (k (λ o. cc)))
-    at Unowned s h Unowned t k e = ap (λ (x : ℕ). let p : Perm = record { mode = Unowned; states = x } in p) (h (λ o. cc) ∙ sym (k (λ o. cc)))
+    at : (m : Mode) (s : ℕ) → (m ≢ Owned → s ≡ 0) → (n : Mode) (t : ℕ) → (n ≢ Owned → t ≡ 0)
+        → held m (states_of s) ≡ held n (states_of t) → in_code m s ≡ in_code n t
+    at Owned s h Owned t k e = ap (in_code Owned) (same_mask s t cc)
+    at Shared s h Shared t k e = ap (in_code Shared) (h (λ o. cc) ∙ sym (k (λ o. cc)))
+    at Unowned s h Unowned t k e = ap (in_code Unowned) (h (λ o. cc) ∙ sym (k (λ o. cc)))
     at Owned s h Shared t k e = absurd cc
     at Owned s h Unowned t k e = absurd cc
     at Shared s h Owned t k e = absurd cc
@@ -81,11 +86,12 @@ same_perm p q canonical_p canonical_q e = at p.mode p.states canonical_p q.mode 
 pub mask_is : (m : ℕ) (a : States) → IsNumbered a → states_of m ≡ a → m ≡ mask_of a
 mask_is m a numbered e = same_mask m (mask_of a) (e ∙ sym (states_of-mask_of a numbered))
 
--- What stands for a permission is what the permission has, if it is in canonical form.
+-- What stands for a permission in canonical form is the permission's.
 pub perm_is : (p : Perm) (q : Permission) → IsCanonical p → IsNumberedPermission q → permission_of p ≡ q → p ≡ perm_of q
 perm_is p q canonical numbered e =
     same_perm p (perm_of q) canonical (perm_of_canonical q) (e ∙ sym (permission_of-perm_of q numbered))
 
+-- Sets whose states have numbers.
 pub states_of_numbered : (m : ℕ) → m < 2 ^ 34 → IsNumbered (states_of m)
 unfolding states_max
 states_of_numbered m small i e = ⊎_elim

@@ -7,8 +7,8 @@ ghost use Rattle.ob_perm.specs.Permissions.{IsNumberedPermission, permission_wit
 ghost use Rattle.ob_perm.specs.Naming.{Names, IsNaming, for_interface, for_contract};
 ghost use Rattle.ob_perm.specs.Masks.{states_of, permission_of, IsCanonical, mask_of, perm_of};
 
-/// Each permission fits itself, what fits one that fits a third fits the third, and what matches fits. Of the giver and the
-/// taker of a reference at most one is the owner afterwards.
+/// Each permission fits itself, what fits one that fits a third fits the third, and what matches fits. Of the giver and
+/// the taker of a reference at most one is the owner afterwards.
 pub fn fitting_laws()
     ensures itself { (p : Permission) → IsTrue (fits p p) }
     ensures onward { (p q r : Permission) → IsTrue (fits p q) → IsTrue (fits q r) → IsTrue (fits p r) }
@@ -17,8 +17,8 @@ pub fn fitting_laws()
 {}
 
 /// A join doesn't depend on the order of the branches, and a permission joined with itself is itself. What each branch
-/// holds fits their join, and the join matches whatever both match. The two branches of a test of a state join to what was
-/// held before it, and no state is in both.
+/// holds fits their join, and the join matches whatever both match. The two branches of a test of a state join to what
+/// was held before it, and no state is in both.
 pub fn joining_laws()
     ensures order { (p q : Permission) → joined p q ≡ joined q p }
     ensures same { (p : Permission) → joined p p ≡ p }
