@@ -1,0 +1,4 @@
+pub mod States
+pub mod Permissions
+pub mod Naming
+pub mod Masks
