@@ -1,0 +1,17 @@
+//! The class table of a program: its contracts with their fields, states and signatures, and the bodies of their
+//! transactions with numbers in place of names; copies of all of it, and look-ups.
+#![tactic(auto)]
+
+mod body;
+mod contract;
+mod expr;
+mod seen;
+mod stmt;
+
+
+pub use body::Body;
+pub use contract::{Contract, Field, Kind, Listed, Param, Signature};
+pub use expr::{ResolvedCall, ResolvedExpr};
+pub use seen::{LocalKind, Seen, SeenAt};
+pub use stmt::{ResolvedBlock, ResolvedGiven, ResolvedStmt};
+

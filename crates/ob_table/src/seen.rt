@@ -1,0 +1,34 @@
+//! What the names of a body stand for.
+use ob_base::{ContractId, FieldId, Span};
+
+/// What a name in a body stands for (the Obsidian language documentation, "Fields" and "Local variables").
+#[derive(Clone, Copy, PartialEq, Eq, Debug)]
+pub enum Seen {
+    /// `this`
+    This,
+    /// A parameter or a local variable, by its number, from 1: first the parameters beside `this` in their order, then
+    /// the local variables in the order in which the text declares them.
+    Local(u32),
+    /// A field of `this`.
+    Field(FieldId),
+}
+
+/// What a name stands for, and where the name is.
+#[derive(Clone, Copy, PartialEq, Eq, Debug)]
+pub struct SeenAt {
+    pub of: Seen,
+    /// The place of the name, or of the word `this`.
+    pub span: Span,
+}
+
+/// The type of a local variable, which has no permission of its own (Coblenz et al., TOPLAS 42(3), 2020, where the
+/// permission of a variable follows from its use).
+#[derive(Clone, Copy, PartialEq, Eq, Debug)]
+pub enum LocalKind {
+    Int,
+    Bool,
+    /// `string`
+    Text,
+    /// A reference to an object of this contract, or of one that implements this interface.
+    Reference(ContractId),
+}
