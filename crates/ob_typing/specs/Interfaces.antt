@@ -11,7 +11,7 @@ use Rattle.ob_tree.specs.declared.name.Subject.{Subject}
 use Rattle.ob_tree.specs.declared.name.Subject.TheVariants.{This, Name as NameSubject}
 use Rattle.ob_typing.specs.Names.{Name, same, is_among, firsts}
 use Rattle.ob_typing.specs.Declared.{Program, part_of_named, contract_at, state_names, Param, params_of, Transaction, transactions_of, transaction_named}
-use Rattle.ob_typing.specs.Permissions.{Permission, unowned, is_of, known_permission, known_exit, agree, agree_if_known}
+use Rattle.ob_typing.specs.Permissions.{WrittenPermission, as_unowned, is_of, known_permission, known_exit, agree, agree_if_known}
 use Rattle.ob_typing.specs.Kinds.{Kind, a_reference, kind_of_type, permission_in, same_kind}
 
 -- What is held of `this`.
@@ -25,8 +25,8 @@ is_this formal = is_this_subject formal.name
 
 -- the permission at the start and the one at the end, each if it is known
 pub record Held : Type 0 where
-  pub entry : Option Permission
-  pub exit : Option Permission
+  pub entry : Option WrittenPermission
+  pub exit : Option WrittenPermission
 
 abbrev pub held_unknown : Held
 held_unknown = record { entry = None; exit = None }
@@ -44,11 +44,11 @@ held_by_type own type exit = held_unknown
 
 -- what is held of `this`: where it isn't written it is Unowned, and it is written as the first parameter alone
 abbrev pub held_of_this : Contract → List Formal → Held
-held_of_this own [] = record { entry = Some unowned; exit = Some unowned }
+held_of_this own [] = record { entry = Some as_unowned; exit = Some as_unowned }
 held_of_this own (formal ∷ formals) =
     if list_any is_this formals then held_unknown
     else if is_this formal then held_by_type own formal.of formal.exit
-    else record { entry = Some unowned; exit = Some unowned }
+    else record { entry = Some as_unowned; exit = Some as_unowned }
 
 -- The same type, parameter and transaction, as far as they are known: what has a fault of its own differs from nothing.
 
@@ -64,7 +64,7 @@ same_type program s t =
     same_kind a b && where_both_refer program a b (λ c. agree c (permission_in s) (permission_in t))
 
 -- the permission at the end of a parameter of this type
-abbrev pub exit_in : Contract → TypeExpr → Option PermNode → Option Permission
+abbrev pub exit_in : Contract → TypeExpr → Option PermNode → Option WrittenPermission
 exit_in c (ref_type (ref_with of perm)) exit = known_exit c perm exit
 exit_in c type exit = None
 

@@ -9,7 +9,7 @@ use Rattle.ob_tree.specs.Members.{Contract, Formal}
 use Rattle.ob_tree.specs.declared.name.PermNode.{PermNode}
 use Rattle.ob_typing.specs.Names.{Name}
 use Rattle.ob_typing.specs.Declared.{Program, part_of_named, contract_named, contract_at, params_of}
-use Rattle.ob_typing.specs.Permissions.{Permission, unowned, permission_of, is_of}
+use Rattle.ob_typing.specs.Permissions.{WrittenPermission, as_unowned, written_permission, is_of}
 
 -- the kind of a value
 pub data Kind : Type 0 where
@@ -66,9 +66,9 @@ abbrev pub kinds_of_params : Program → List Formal → List Kind
 kinds_of_params program formals = map (λ p. kind_of_type program p.of) (params_of formals)
 
 -- the permission in a type
-abbrev pub permission_in : TypeExpr → Permission
-permission_in (ref_type (ref_with of perm)) = permission_of perm
-permission_in type = unowned
+abbrev pub permission_in : TypeExpr → WrittenPermission
+permission_in (ref_type (ref_with of perm)) = written_permission perm
+permission_in type = as_unowned
 
 -- whether a type is `int`, `bool` or `string`
 abbrev pub is_value_type : TypeExpr → Bool

@@ -6,3 +6,9 @@ pub mod Interfaces
 pub mod Visible
 pub mod Scopes
 pub mod Reached
+pub mod Sites
+pub mod TypeSites
+pub mod ExpressionSites
+pub mod StatementSites
+pub mod MemberSites
+pub mod Faults
