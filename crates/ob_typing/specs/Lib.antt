@@ -6,9 +6,15 @@ pub mod Interfaces
 pub mod Visible
 pub mod Scopes
 pub mod Reached
+pub mod Limits
 pub mod Sites
 pub mod TypeSites
 pub mod ExpressionSites
 pub mod StatementSites
 pub mod MemberSites
 pub mod Faults
+pub mod Numbers
+pub mod Bodies
+pub mod TableOf
+pub mod Conditions
+pub mod Shape

@@ -13,30 +13,12 @@ use Rattle.ob_typing.specs.Names.{in_order, firsts}
 use Rattle.ob_typing.specs.Declared.{Program, contract_name, part_of_named, contract_at, states_of, field_names, fields_of, params_of, transactions_of, constructors_of}
 use Rattle.ob_typing.specs.Permissions.{known_permission}
 use Rattle.ob_typing.specs.Kinds.{Kind, nothing, contract_of_name, kind_of_ref, kind_of_result, interface_of}
+use Rattle.ob_typing.specs.Limits.{contracts_most, states_most, fields_most, transactions_most, params_most}
 use Rattle.ob_typing.specs.Visible.{an_interface, itself, Visible, visible_in}
 use Rattle.ob_typing.specs.Scopes.{Around, scope_of_params, kind_of_field}
 use Rattle.ob_typing.specs.Sites.{Site, is_main, names, names_state, names_field, is_inside_state, exits, takes_this, types_this, lists, gives, holds, implements_one}
 use Rattle.ob_typing.specs.TypeSites.{declared_sites, limit_sites, perm_sites, place_of_perm, ref_sites, type_sites, result_sites}
 use Rattle.ob_typing.specs.StatementSites.{place_of_subject, body_sites}
-
--- Limits.
-
-abbrev pub contracts_most : ℕ
-contracts_most = 1024
-
-abbrev pub states_most : ℕ
-states_most = 32
-
-abbrev pub fields_most : ℕ
-fields_most = 64
-
--- without the constructor
-abbrev pub transactions_most : ℕ
-transactions_most = 256
-
--- beside `this`
-abbrev pub params_most : ℕ
-params_most = 16
 
 -- Fields.
 
