@@ -1,5 +1,5 @@
 -- Which sets and permissions the numbers of the code stand for: bit i of a set's number is 1 where state i is in it.
-use Rattle.std.specs.Prelude.{ℕ, zero, suc, ◌≡◌, ◌+◌, ◌^◌, ◌≢◌, ◌==◌, Bool, if◌then◌else◌}
+use Rattle.std.specs.Prelude.{ℕ, zero, suc, ◌≡◌, ◌+◌, ◌^◌, ◌≢◌, ◌==◌, if◌then◌else◌}
 use Rattle.std.specs.Int.{bit_at}
 use Rattle.ob_base.specs.declared.permission.Mode.{Mode}
 use Rattle.ob_base.specs.declared.permission.Mode.TheVariants.{Owned, Shared, Unowned}

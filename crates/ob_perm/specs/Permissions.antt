@@ -1,6 +1,7 @@
 -- What a reference may do with its object (Coblenz et al., TOPLAS 42(3), 2020, "Permissions"; what the giver keeps, and what
 -- is held behind two branches, is this project's own).
 use Rattle.std.specs.Prelude.{ℕ, Bool, true, false, not, Option, Some, None, is_none, if◌then◌else◌}
+use Rattle.ob_base.specs.Faults.{not_owning, wrong_state, not_shared}
 use Rattle.ob_perm.specs.States.{States, union, within, without, subset, all_states}
 use Rattle.ob_perm.specs.declared.permission.FitFault.{FitFault}
 use Rattle.ob_perm.specs.declared.permission.FitFault.TheVariants.{NotOwning, WrongState, NotShared}
@@ -40,6 +41,12 @@ fit_fault unowned shared = Some NotShared
 fit_fault (owned a) (owned b) = if subset a b then None else Some WrongState
 fit_fault shared (owned b) = Some NotOwning
 fit_fault unowned (owned b) = Some NotOwning
+
+-- the number of such a fault
+abbrev pub fault_number : FitFault → ℕ
+fault_number NotOwning = not_owning
+fault_number WrongState = wrong_state
+fault_number NotShared = not_shared
 
 -- whether a reference serves where the second permission is wanted
 abbrev pub fits : Permission → Permission → Bool
@@ -100,3 +107,7 @@ abbrev pub possible : ℕ → Permission → States
 possible n (owned a) = a
 possible n shared = all_states n
 possible n unowned = all_states n
+
+-- whether a permission is one on a contract of n states: where its object may be, an object of the contract may be
+abbrev pub is_on : ℕ → Permission → Bool
+is_on n p = subset (possible n p) (all_states n)

@@ -44,6 +44,10 @@ union a b = λ i. a i || b i
 abbrev pub intersection : States → States → States
 intersection a b = λ i. a i && b i
 
+-- what is in the first set and not in the second
+abbrev pub difference : States → States → States
+difference a b = λ i. a i && not (b i)
+
 -- a set cut to one state
 abbrev pub within : States → ℕ → States
 within a s = λ i. a i && i == s
@@ -74,7 +78,7 @@ anywhere = λ i. nat_le i stateless
 
 -- what the states of a set are called elsewhere
 abbrev pub image : (ℕ → ℕ) → States → States
-image f a = λ i. any_below states_max (λ s. a s && f s == i)
+image f a = λ i. any_below states_max (λ s. a s && i == f s)
 
 -- the states that are called by a name of a set
 abbrev pub preimage : (ℕ → ℕ) → States → States

@@ -1,0 +1,7 @@
+pub mod SetLemmas
+pub mod MaskLemmas
+pub mod NamingLemmas
+pub mod FitLemmas
+mod JoinLemmas
+mod SaidLemmas
+mod StandsLemmas
