@@ -1,0 +1,3 @@
+pub mod ExpressionsLost
+pub mod StatementsLost
+pub mod IndexLemmas

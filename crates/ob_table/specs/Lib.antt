@@ -5,3 +5,4 @@ pub mod Statements
 pub mod StatementsView
 pub mod StatementsBack
 pub mod Tables
+pub mod Index

@@ -2,7 +2,7 @@
 -- contracts, fields and transactions up in the program).
 use Rattle.std.specs.Prelude.{ℕ, Bool, ◌&&◌, nat_eq, List, Option, Some, None, option_map, map, find, position, slice_get}
 use Rattle.std.specs.Option.{option_and_then}
-use Rattle.std.specs.Cmp.Lexicographic.{pointwise}
+use Rattle.std.specs.Str.{bytes_eq}
 use Rattle.ob_base.specs.declared.id.ContractId.{ContractId}
 use Rattle.ob_base.specs.declared.id.FieldId.{FieldId}
 use Rattle.ob_base.specs.declared.id.StateId.{StateId}
@@ -21,13 +21,13 @@ pub record ClassTable : Type 0 where
 abbrev pub contract_at : ClassTable → ContractId → Option Contract
 contract_at table id = slice_get table.contracts id.0
 
--- whether two names are the same
-abbrev pub same_name : List ℕ → List ℕ → Bool
-same_name = pointwise nat_eq
+-- a number as that of a contract or interface
+abbrev pub contract_id : ℕ → ContractId
+contract_id n = record { 0 = n }
 
 -- the number of the first contract or interface of a name
 abbrev pub contract_named : List Contract → List ℕ → Option ContractId
-contract_named contracts name = option_map (λ n. record { 0 = n }) (position (λ c. same_name name c.name) contracts)
+contract_named contracts name = option_map contract_id (position (λ c. bytes_eq name c.name) contracts)
 
 -- the name of the state of a number
 abbrev pub state_at : Contract → StateId → Option (List ℕ)

@@ -1,6 +1,11 @@
 //! The bodies of transactions and constructors.
+ghost use Rattle.std.specs.Prelude.{◌≡◌};
+ghost use Rattle.ob_table.specs.StatementsView.{resolved_body_of};
+ghost use Rattle.ob_table.specs.declared.body.Body.{Body};
+
 use crate::stmt::ResolvedStmt;
-use ob_base::{ContractId, Items, Span, TxId};
+use ob_base::{ContractId, Duplicate, Items, Memory, Span, TxId, copy_items};
+use std::alloc::Global;
 
 /// The body of a transaction or a constructor. That of a default constructor has no statement.
 #[derive(Debug, Drop)]
@@ -11,3 +16,19 @@ pub struct Body {
     /// The place of the closing brace; of a default constructor, that of the contract's name.
     pub end: Span,
 }
+
+impl Duplicate for Body {
+    fn copy(&self, alloc: Global) -> Result<Body, Memory> {
+        Ok(Body {
+            contract: self.contract,
+            tx: self.tx,
+            statements: copy_items(alloc, &self.statements)?,
+            end: self.end,
+        })
+    }
+}
+
+/// Two bodies whose plain data are the same are the same: no part and no place is lost on the way.
+pub fn body_loses_nothing()
+    ensures { (a b : Body) → resolved_body_of a ≡ resolved_body_of b → a ≡ b }
+{}

@@ -1,5 +1,10 @@
 //! What a contract declares (Coblenz et al., TOPLAS 42(3), 2020; the Obsidian language documentation, "Contracts").
-use ob_base::{ContractId, FieldId, Items, Name, Perm, Text, TxId};
+ghost use Rattle.std.specs.Prelude.{◌≡◌};
+ghost use Rattle.std.specs.Option.{option_copied};
+ghost use Rattle.ob_table.specs.Tables.{field_at, signature_at};
+
+use ob_base::{ContractId, Duplicate, FieldId, Items, Memory, Name, Perm, Text, TxId, copy_items};
+use std::alloc::Global;
 
 /// The type of a field, a parameter or a result.
 #[derive(Clone, Copy, PartialEq, Eq, Debug)]
@@ -21,6 +26,16 @@ pub struct Field {
     pub available: u64,
 }
 
+impl Duplicate for Field {
+    fn copy(&self, alloc: Global) -> Result<Field, Memory> {
+        Ok(Field {
+            name: self.name.copy(alloc)?,
+            of: self.of,
+            available: self.available,
+        })
+    }
+}
+
 /// A parameter of a transaction or a constructor, other than `this`.
 #[derive(Debug, Drop)]
 pub struct Param {
@@ -29,6 +44,16 @@ pub struct Param {
     pub of: Kind,
     /// The permission at the exit; `Unowned` for a value.
     pub exit: Perm,
+}
+
+impl Duplicate for Param {
+    fn copy(&self, alloc: Global) -> Result<Param, Memory> {
+        Ok(Param {
+            name: self.name.copy(alloc)?,
+            of: self.of,
+            exit: self.exit,
+        })
+    }
 }
 
 /// A field that a private transaction lists, since it isn't as declared there.
@@ -54,6 +79,20 @@ pub struct Signature {
     pub listed: Items<Listed>,
 }
 
+impl Duplicate for Signature {
+    fn copy(&self, alloc: Global) -> Result<Signature, Memory> {
+        Ok(Signature {
+            name: self.name.copy(alloc)?,
+            private: self.private,
+            entry: self.entry,
+            exit: self.exit,
+            params: copy_items(alloc, &self.params)?,
+            result: self.result,
+            listed: Items::from_slice(alloc, self.listed.as_slice())?,
+        })
+    }
+}
+
 /// A contract, or an interface.
 #[derive(Debug, Drop)]
 pub struct Contract {
@@ -73,4 +112,36 @@ pub struct Contract {
     /// The constructor, if there is one, and then the transactions in the order of the text, so that the place of each is
     /// its number.
     pub transactions: Items<Signature>,
+}
+
+impl Contract {
+    /// The field of this number.
+    pub fn field(&self, id: FieldId) -> Option<&Field>
+        ensures { option_copied result ≡ field_at self.now id }
+    {
+        self.fields.get(id.0 as usize)
+    }
+
+    /// The constructor or transaction of this number.
+    pub fn signature(&self, id: TxId) -> Option<&Signature>
+        ensures { option_copied result ≡ signature_at self.now id }
+    {
+        self.transactions.get(id.0 as usize)
+    }
+}
+
+impl Duplicate for Contract {
+    fn copy(&self, alloc: Global) -> Result<Contract, Memory> {
+        Ok(Contract {
+            name: self.name.copy(alloc)?,
+            asset: self.asset,
+            main: self.main,
+            interface: self.interface,
+            implements: self.implements,
+            states: copy_items(alloc, &self.states)?,
+            fields: copy_items(alloc, &self.fields)?,
+            constructor: self.constructor,
+            transactions: copy_items(alloc, &self.transactions)?,
+        })
+    }
 }

@@ -1,6 +1,9 @@
 //! Expressions with numbers in place of names (the Obsidian language documentation, "Expressions").
+ghost use Rattle.std.specs.Prelude.{◌≡◌, IfOk};
+
 use crate::seen::SeenAt;
-use ob_base::{Boxed, ContractId, Items, Operator, Span, Text, TxId};
+use ob_base::{Boxed, ContractId, Duplicate, Items, Memory, Operator, Span, Text, TxId};
+use std::alloc::Global;
 
 /// An expression. Its `span` runs from its first token to its last, the parentheses around it included.
 #[derive(Debug, Drop)]
@@ -62,4 +65,96 @@ pub struct ResolvedCall {
     /// The place of the transaction's name.
     pub name: Span,
     pub args: Items<ResolvedExpr>,
+}
+
+#[cycle(copy_expr)]
+fn copy_args(args: &[ResolvedExpr], alloc: Global) -> Result<Items<ResolvedExpr>, Memory>
+    ensures { IfOk result (λ copies. copies ≡ args.now) }
+{
+    let mut copies = Items::new(alloc);
+    for arg in args {
+        copies.push(arg.copy(alloc)?)?;
+    }
+    Ok(copies)
+}
+
+#[cycle(copy_expr)]
+fn copy_boxed(expr: &Boxed<ResolvedExpr>, alloc: Global) -> Result<Boxed<ResolvedExpr>, Memory>
+    ensures { IfOk result (λ copy. copy ≡ expr.now) }
+{
+    Ok(Boxed::new(alloc, expr.get().copy(alloc)?)?)
+}
+
+impl Duplicate for ResolvedCall {
+    #[cycle(copy_expr)]
+    fn copy(&self, alloc: Global) -> Result<ResolvedCall, Memory> {
+        Ok(ResolvedCall {
+            receiver: self.receiver,
+            contract: self.contract,
+            tx: self.tx,
+            name: self.name,
+            args: copy_args(self.args.as_slice(), alloc)?,
+        })
+    }
+}
+
+impl Duplicate for ResolvedExpr {
+    #[cycle(copy_expr)]
+    fn copy(&self, alloc: Global) -> Result<ResolvedExpr, Memory> {
+        match self {
+            ResolvedExpr::Number { value, span } => Ok(ResolvedExpr::Number {
+                value: *value,
+                span: *span,
+            }),
+            ResolvedExpr::Text { value, span } => Ok(ResolvedExpr::Text {
+                value: value.copy(alloc)?,
+                span: *span,
+            }),
+            ResolvedExpr::Bool { value, span } => Ok(ResolvedExpr::Bool {
+                value: *value,
+                span: *span,
+            }),
+            ResolvedExpr::Seen { seen, span } => Ok(ResolvedExpr::Seen {
+                seen: *seen,
+                span: *span,
+            }),
+            ResolvedExpr::Unary {
+                operator,
+                sign,
+                operand,
+                span,
+            } => Ok(ResolvedExpr::Unary {
+                operator: *operator,
+                sign: *sign,
+                operand: copy_boxed(operand, alloc)?,
+                span: *span,
+            }),
+            ResolvedExpr::Binary {
+                operator,
+                sign,
+                left,
+                right,
+                span,
+            } => Ok(ResolvedExpr::Binary {
+                operator: *operator,
+                sign: *sign,
+                left: copy_boxed(left, alloc)?,
+                right: copy_boxed(right, alloc)?,
+                span: *span,
+            }),
+            ResolvedExpr::Call { call, span } => Ok(ResolvedExpr::Call {
+                call: call.copy(alloc)?,
+                span: *span,
+            }),
+            ResolvedExpr::New {
+                contract,
+                args,
+                span,
+            } => Ok(ResolvedExpr::New {
+                contract: *contract,
+                args: copy_args(args.as_slice(), alloc)?,
+                span: *span,
+            }),
+        }
+    }
 }

@@ -7,11 +7,11 @@ mod contract;
 mod expr;
 mod seen;
 mod stmt;
+mod table;
 
-
-pub use body::Body;
+pub use body::{Body, body_loses_nothing};
 pub use contract::{Contract, Field, Kind, Listed, Param, Signature};
 pub use expr::{ResolvedCall, ResolvedExpr};
 pub use seen::{LocalKind, Seen, SeenAt};
 pub use stmt::{ResolvedBlock, ResolvedGiven, ResolvedStmt};
-
+pub use table::Table;

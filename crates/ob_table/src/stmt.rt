@@ -1,7 +1,10 @@
 //! Statements with numbers in place of names (the Obsidian language documentation, "Statements").
+ghost use Rattle.std.specs.Prelude.{◌≡◌, IfOk};
+
 use crate::expr::ResolvedExpr;
 use crate::seen::{LocalKind, SeenAt};
-use ob_base::{FieldId, Items, Perm, Span, StateId};
+use ob_base::{Duplicate, FieldId, Items, Memory, Perm, Span, StateId, copy_items, copy_option};
+use std::alloc::Global;
 
 /// `{ statements }`.
 #[derive(Debug, Drop)]
@@ -19,6 +22,16 @@ pub struct ResolvedGiven {
     /// The place of the field's name.
     pub span: Span,
     pub value: ResolvedExpr,
+}
+
+impl Duplicate for ResolvedGiven {
+    fn copy(&self, alloc: Global) -> Result<ResolvedGiven, Memory> {
+        Ok(ResolvedGiven {
+            field: self.field,
+            span: self.span,
+            value: self.value.copy(alloc)?,
+        })
+    }
 }
 
 /// A statement: its `span` runs from its first token to its last.
@@ -85,11 +98,140 @@ pub enum ResolvedStmt {
         span: Span,
     },
     /// `disown x;`
-    Disown { subject: SeenAt, span: Span },
+    Disown {
+        subject: SeenAt,
+        span: Span,
+    },
     /// `[x @ perm];`
     Assert {
         subject: SeenAt,
         perm: Perm,
         span: Span,
     },
+}
+
+#[cycle(copy_stmt)]
+fn copy_statements(
+    statements: &[ResolvedStmt],
+    alloc: Global,
+) -> Result<Items<ResolvedStmt>, Memory>
+    ensures { IfOk result (λ copies. copies ≡ statements.now) }
+{
+    let mut copies = Items::new(alloc);
+    for statement in statements {
+        copies.push(statement.copy(alloc)?)?;
+    }
+    Ok(copies)
+}
+
+#[cycle(copy_stmt)]
+fn copy_otherwise(
+    block: &Option<ResolvedBlock>,
+    alloc: Global,
+) -> Result<Option<ResolvedBlock>, Memory>
+    ensures { IfOk result (λ copy. copy ≡ block.now) }
+{
+    match block {
+        None => Ok(None),
+        Some(block) => Ok(Some(block.copy(alloc)?)),
+    }
+}
+
+impl Duplicate for ResolvedBlock {
+    #[cycle(copy_stmt)]
+    fn copy(&self, alloc: Global) -> Result<ResolvedBlock, Memory> {
+        Ok(ResolvedBlock {
+            statements: copy_statements(self.statements.as_slice(), alloc)?,
+            end: self.end,
+        })
+    }
+}
+
+impl Duplicate for ResolvedStmt {
+    #[cycle(copy_stmt)]
+    fn copy(&self, alloc: Global) -> Result<ResolvedStmt, Memory> {
+        match self {
+            ResolvedStmt::Declare {
+                local,
+                name,
+                of,
+                value,
+                span,
+            } => Ok(ResolvedStmt::Declare {
+                local: *local,
+                name: *name,
+                of: *of,
+                value: value.copy(alloc)?,
+                span: *span,
+            }),
+            ResolvedStmt::Assign {
+                target,
+                value,
+                span,
+            } => Ok(ResolvedStmt::Assign {
+                target: *target,
+                value: value.copy(alloc)?,
+                span: *span,
+            }),
+            ResolvedStmt::Stage { state, given, span } => Ok(ResolvedStmt::Stage {
+                state: *state,
+                given: given.copy(alloc)?,
+                span: *span,
+            }),
+            ResolvedStmt::Change { state, given, span } => Ok(ResolvedStmt::Change {
+                state: *state,
+                given: copy_items(alloc, given)?,
+                span: *span,
+            }),
+            ResolvedStmt::Call { value, span } => Ok(ResolvedStmt::Call {
+                value: value.copy(alloc)?,
+                span: *span,
+            }),
+            ResolvedStmt::Test {
+                subject,
+                state,
+                then,
+                otherwise,
+                span,
+            } => Ok(ResolvedStmt::Test {
+                subject: *subject,
+                state: *state,
+                then: then.copy(alloc)?,
+                otherwise: copy_otherwise(otherwise, alloc)?,
+                span: *span,
+            }),
+            ResolvedStmt::If {
+                condition,
+                then,
+                otherwise,
+                span,
+            } => Ok(ResolvedStmt::If {
+                condition: condition.copy(alloc)?,
+                then: then.copy(alloc)?,
+                otherwise: copy_otherwise(otherwise, alloc)?,
+                span: *span,
+            }),
+            ResolvedStmt::Return { value, span } => Ok(ResolvedStmt::Return {
+                value: copy_option(alloc, value)?,
+                span: *span,
+            }),
+            ResolvedStmt::Revert { text, span } => Ok(ResolvedStmt::Revert {
+                text: copy_option(alloc, text)?,
+                span: *span,
+            }),
+            ResolvedStmt::Disown { subject, span } => Ok(ResolvedStmt::Disown {
+                subject: *subject,
+                span: *span,
+            }),
+            ResolvedStmt::Assert {
+                subject,
+                perm,
+                span,
+            } => Ok(ResolvedStmt::Assert {
+                subject: *subject,
+                perm: *perm,
+                span: *span,
+            }),
+        }
+    }
 }
