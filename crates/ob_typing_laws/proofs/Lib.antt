@@ -1,0 +1,6 @@
+pub mod Each
+pub mod Clean
+pub mod NameFacts
+pub mod PermFacts
+pub mod LookUps
+pub mod TypeFacts
