@@ -9,6 +9,8 @@ use std::alloc::Global;
 pub enum Kind {
     /// What `check` writes of it.
     Check,
+    /// Whether `check` writes one line of each front of its bytes.
+    Cuts,
     /// The fault that `serve` tells of it.
     Serve,
     /// A whole run: what is written, line by line, and the status.
@@ -48,6 +50,7 @@ impl Kind {
     pub fn of(word: &str) -> Option<Kind> {
         match word {
             "check" => Some(Kind::Check),
+            "cuts" => Some(Kind::Cuts),
             "serve" => Some(Kind::Serve),
             "run" => Some(Kind::Run),
             "outside" => Some(Kind::Outside),
@@ -103,6 +106,7 @@ impl Kind {
         let text = case.part("text");
         match self {
             Kind::Check => run::check(alloc, text),
+            Kind::Cuts => run::cuts(alloc, text),
             Kind::Serve => run::serve(alloc, text),
             Kind::Run => run::whole_run(alloc, case),
             Kind::Outside => run::cut_run(alloc, case),

@@ -243,3 +243,21 @@ pub fn serve(alloc: Global, text: &[u8]) -> Result<Vec<u8>> {
     }
     Ok(said)
 }
+
+// Whether a newline ends the bytes, and none stands before it.
+fn is_one_line(bytes: &[u8]) -> bool {
+    bytes.ends_with(b"\n") && bytes.iter().filter(|byte| **byte == b'\n').count() == 1
+}
+
+/// `one line each`, where `check` writes one line of each front of a text's bytes; or else what it writes of the first other.
+pub fn cuts(alloc: Global, text: &[u8]) -> Result<Vec<u8>> {
+    let mut cut = Vec::new(alloc);
+    for byte in text {
+        cut.push(*byte)?;
+        let said = check(alloc, &cut)?;
+        if !is_one_line(&said) {
+            return Ok(said);
+        }
+    }
+    Ok(b"one line each\n".to_vec(alloc)?)
+}

@@ -1,6 +1,6 @@
 //! The tokens of a text.
 use anyhow::{Context, Result};
-use ob_base::{Memory, ProgramFault, Span, fault_name};
+use ob_base::{Duplicate, Memory, ProgramFault, Span, fault_name};
 use ob_lexer::{LexError, Lexed, TokenKind, lex};
 use std::alloc::Global;
 use std::io::Write;
@@ -52,10 +52,15 @@ fn tokens_line(alloc: Global, lexed: &Lexed) -> Result<Vec<u8>> {
     Ok(line)
 }
 
-/// The tokens of a text, or its fault: `LINE:COLUMN START..END KIND`, and between two `; `. The end stands behind them.
+/// The tokens of a text, from a copy of them, or its fault: `LINE:COLUMN START..END KIND`, and between two `; `. The end stands
+/// behind them.
 pub fn tokens(alloc: Global, text: &[u8]) -> Result<Vec<u8>> {
     match lex(alloc, text) {
-        Ok(lexed) => tokens_line(alloc, &lexed),
+        Ok(lexed) => {
+            let copy = lexed.copy(alloc)?;
+            drop(lexed);
+            tokens_line(alloc, &copy)
+        }
         Err(LexError::Fault(fault)) => fault_line(alloc, fault),
         Err(LexError::Memory) => Err(Memory.into()),
     }
