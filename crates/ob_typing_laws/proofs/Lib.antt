@@ -4,3 +4,4 @@ pub mod NameFacts
 pub mod PermFacts
 pub mod LookUps
 pub mod TypeFacts
+pub mod FieldFacts

@@ -21,7 +21,7 @@ use Rattle.ob_typing.specs.Numbers.{whole, numbers_of_states, permission_on}
 use Rattle.ob_typing.specs.TableOf.{contract_in_table}
 use Rattle.ob_typing.specs.Conditions.{IsPermOn, MayLeave}
 
-mask_below_bound : (n : ℕ) (a : States) → mask_below n a < 2 ^ n
+pub mask_below_bound : (n : ℕ) (a : States) → mask_below n a < 2 ^ n
 mask_below_bound zero a = omega arith
 mask_below_bound (suc n) a = at (a n) (mask_below_bound n a)
   where

@@ -29,7 +29,7 @@ use Rattle.ob_typing_laws.proofs.Clean.{Clean}
 use Rattle.ob_typing_laws.proofs.LookUps.{some_value, slice_get-map, contract_found}
 use Rattle.ob_typing_laws.proofs.PermFacts.{perm_is_on, may_leave_in_table}
 
-true_from_not : (b : Bool) → not b ≡ false → b ≡ true
+pub true_from_not : (b : Bool) → not b ≡ false → b ≡ true
 true_from_not true h = refl
 true_from_not false h = absurd cc
 
