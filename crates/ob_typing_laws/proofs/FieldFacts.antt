@@ -162,3 +162,17 @@ fields_are program own few shape h =
             (each_of_both (λ m. HasMemberShape own.interface m × Each (λ (s : NamePart). is_among s.name (state_names own) ≡ true) (states_of_member m)) (λ m. Each Clean (member_sites program own m)) _
                 (λ m a c. fields_of_member_are program own m few a.1 a.0 c)
                 own.members (each_of_both _ _ _ (λ m a b. (a, b)) own.members shape (states_of_members own)) (each_of_flat_map Clean (member_sites program own) own.members h)))
+
+field_types_of_member : (program : Program) (own : Contract) (m : Member) → Each Clean (member_sites program own m) → Each (λ f. Each Clean (type_sites (visible_in program own) f.field.of)) (fields_of_member m)
+field_types_of_member program own (state_member name fields span) h =
+    each_map _ (field_inside name.name) fields
+        (each_weaker _ _ (λ f c. each_left Clean (type_sites (visible_in program own) f.of) (holder_sites program own f.of f.name.span) c.1) fields
+            (each_of_flat_map Clean (λ f. is_inside_state f.available f.name.span ∷ field_sites program own f) fields h))
+field_types_of_member program own (field_member field) h =
+    (each_left Clean (type_sites (visible_in program own) field.of) (holder_sites program own field.of field.name.span) (each_right Clean (map (names_state own) field.available) (field_sites program own field) h), tt)
+field_types_of_member program own (constructor_member of perm params body span) h = tt
+field_types_of_member program own (transaction_member private listed name params result body span) h = tt
+
+-- the types of a contract's fields
+pub field_types : (program : Program) (own : Contract) → Each Clean (flat_map (member_sites program own) own.members) → Each (λ f. Each Clean (type_sites (visible_in program own) f.field.of)) (fields_of own)
+field_types program own h = each_flat_map _ fields_of_member own.members (each_weaker _ _ (field_types_of_member program own) own.members (each_of_flat_map Clean (member_sites program own) own.members h))

@@ -5,3 +5,4 @@ pub mod PermFacts
 pub mod LookUps
 pub mod TypeFacts
 pub mod FieldFacts
+pub mod SignatureFacts
