@@ -6,3 +6,4 @@ pub mod LookUps
 pub mod TypeFacts
 pub mod FieldFacts
 pub mod SignatureFacts
+pub mod TransactionFacts
