@@ -7,3 +7,4 @@ pub mod TypeFacts
 pub mod FieldFacts
 pub mod SignatureFacts
 pub mod TransactionFacts
+pub mod AgreeFacts
