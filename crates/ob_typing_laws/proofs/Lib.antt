@@ -8,3 +8,4 @@ pub mod FieldFacts
 pub mod SignatureFacts
 pub mod TransactionFacts
 pub mod AgreeFacts
+pub mod SaidFacts

@@ -91,7 +91,7 @@ get_some [] i f e = absurd cc
 get_some (x ∷ xs) zero f e = omega arith
 get_some (x ∷ xs) (suc i) f e = let r = get_some xs i f e in omega (arith, r)
 
-below_all : (n i : ℕ) → i < n → all_states n i ≡ true
+pub below_all : (n i : ℕ) → i < n → all_states n i ≡ true
 below_all n i l = grind arith
 
 below_whole : (interface : Bool) (n i : ℕ) → i < n → (if interface then interface_states n else all_states n) i ≡ true
