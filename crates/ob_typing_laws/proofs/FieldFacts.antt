@@ -41,7 +41,7 @@ among_more name x xs h = at (same name x)
     at true = refl
     at false = h
 
-self_among : (xs : List Name) → Each (λ x. is_among x xs ≡ true) xs
+pub self_among : (xs : List Name) → Each (λ x. is_among x xs ≡ true) xs
 self_among [] = tt
 self_among (x ∷ xs) = (ap (λ b. b || is_among x xs) (same-refl x), each_weaker (λ y. is_among y xs ≡ true) (λ y. is_among y (x ∷ xs) ≡ true) (λ y h. among_more y x xs h) xs (self_among xs))
 

@@ -9,3 +9,4 @@ pub mod SignatureFacts
 pub mod TransactionFacts
 pub mod AgreeFacts
 pub mod SaidFacts
+pub mod HeldFacts
