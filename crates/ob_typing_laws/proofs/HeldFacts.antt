@@ -120,11 +120,11 @@ names_of own (States states) h = list_all-map (λ n. is_among n (state_names own
 known_is : (own : Contract) (perm : PermNode) → is_of own perm ≡ true → known_permission own perm ≡ Some (written_permission perm)
 known_is own perm h = rw h refl
 
-known_exit_is : (own : Contract) (perm : PermNode) (exit : Option PermNode) → is_of own (written_at_end perm exit) ≡ true → known_exit own perm exit ≡ Some (written_permission (written_at_end perm exit))
+pub known_exit_is : (own : Contract) (perm : PermNode) (exit : Option PermNode) → is_of own (written_at_end perm exit) ≡ true → known_exit own perm exit ≡ Some (written_permission (written_at_end perm exit))
 known_exit_is own perm None h = known_is own perm h
 known_exit_is own perm (Some exit) h = known_is own exit h
 
-some_same : {A : Type 0} (x y : A) → Some x ≡ Some y → x ≡ y
+pub some_same : {A : Type 0} (x y : A) → Some x ≡ Some y → x ≡ y
 some_same x y e = cc
 
 -- a type that is known and isn't another contract's is the contract's own

@@ -10,3 +10,4 @@ pub mod TransactionFacts
 pub mod AgreeFacts
 pub mod SaidFacts
 pub mod HeldFacts
+pub mod MeetsFacts

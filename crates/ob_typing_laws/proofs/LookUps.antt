@@ -86,3 +86,13 @@ pub get_or_at : {A : Type 0} (xs : List A) (i : ℕ) (x d : A) → slice_get xs 
 get_or_at [] i x d e = absurd cc
 get_or_at (y ∷ xs) zero x d e = cc
 get_or_at (y ∷ xs) (suc i) x d e = get_or_at xs i x d e
+
+-- the first thing of a name stands somewhere, and has that name
+pub named_at : {A : Type 0} (name_of : A → Name) (name : Name) (xs : List A) (x : A) → first_named name_of name xs ≡ Some x → (n : ℕ) × (slice_get xs n ≡ Some x) × (name_of x ≡ name)
+named_at name_of name [] x e = absurd cc
+named_at {A} name_of name (y ∷ xs) x e = at (same name (name_of y)) refl (named_at name_of name xs x) e
+  where
+    at : (b : Bool) → same name (name_of y) ≡ b → (first_named name_of name xs ≡ Some x → (n : ℕ) × (slice_get xs n ≡ Some x) × (name_of x ≡ name)) → cond b (Some y) (first_named name_of name xs) ≡ Some x
+        → (n : ℕ) × (slice_get (y ∷ xs) n ≡ Some x) × (name_of x ≡ name)
+    at true s rest e = let z : y ≡ x = cc in (0, e, ap name_of (sym z) ∙ sym (same_is name (name_of y) s))
+    at false s rest e = let r = rest e in (suc r.0, r.1, r.2)

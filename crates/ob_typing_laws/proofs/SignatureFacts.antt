@@ -55,7 +55,7 @@ param_of_subject_is v t exit (NameSubject name) h = (param_is v t exit name name
 pub formals_first : (program : Program) (own : Contract) (constructor : Bool) (formals : List Formal) → Each Clean (formals_sites program own constructor formals) → Each Clean (in_order (formal_sites (visible_in program own) constructor) formals)
 formals_first program own constructor formals h = each_left Clean (in_order (formal_sites (visible_in program own) constructor) formals) _ (each_left Clean _ (limit_sites (λ p. p.name) params_most (params_of formals)) h)
 
-formal_types : (program : Program) (own : Contract) (constructor : Bool) (formals : List Formal) → Each Clean (formals_sites program own constructor formals)
+pub formal_types : (program : Program) (own : Contract) (constructor : Bool) (formals : List Formal) → Each Clean (formals_sites program own constructor formals)
     → Each (λ f. Each Clean (formal_type_sites (visible_in program own) f.of f.exit (place_of_subject f.name))) formals
 formal_types program own constructor formals h =
     each_weaker _ _ (λ f w. each_left Clean (formal_type_sites (visible_in program own) f.of f.exit (place_of_subject f.name)) _ w.1) formals
@@ -143,7 +143,7 @@ field_found program own name h =
     let f = first_at (λ f. f.field.name.name) name (fields_of own) n.0 n.1 in
     record { number = n.0; field = f.0; numbered = n.1; at = f.1; kind = ap (λ o. option_map_or (λ f. kind_of_type program f.of) o unknown) (first_field name (fields_of own) f.0 f.2) }
 
-same_number : (m n : ℕ) → same_kind (a_reference m) (a_reference n) ≡ true → m ≡ n
+pub same_number : (m n : ℕ) → same_kind (a_reference m) (a_reference n) ≡ true → m ≡ n
 same_number m n h = grind (arith, h)
 
 listed_as : (program : Program) (own : Contract) (of : Named) (perm last : PermNode) (k : Known program of perm) (t : TypeExpr) → Each Clean (type_sites (visible_in program own) t)

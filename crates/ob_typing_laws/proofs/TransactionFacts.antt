@@ -149,6 +149,25 @@ transactions_are program own shape h =
         (each_flat_map _ transactions_of_member own.members
             (each_of_both _ _ _ (transaction_of_member_is program own (field_types program own h)) own.members shape (each_of_flat_map Clean (member_sites program own) own.members h)))
 
+-- the sites of a transaction's parameters and result
+pub record HeadSites (program : Program) (own : Contract) (t : Transaction) : Type 0 where
+  pub formals : Each Clean (formals_sites program own false t.params)
+  pub result : Each Clean (result_sites (visible_in program own) t.result)
+
+heads_of_member : (program : Program) (own : Contract) (m : Member) → Each Clean (member_sites program own m) → Each (HeadSites program own) (transactions_of_member m)
+heads_of_member program own (state_member name fields span) h = tt
+heads_of_member program own (field_member field) h = tt
+heads_of_member program own (constructor_member of perm params body span) h = tt
+heads_of_member program own (transaction_member private listed name params result body span) h =
+    let L = listed_sites program own listed in
+    let F = formals_sites program own false params in
+    let R = result_sites (visible_in program own) result in
+    let lfr = each_left Clean (L ++ F ++ R) _ h in
+    (record { formals = each_right Clean L F (each_left Clean (L ++ F) R lfr); result = each_right Clean (L ++ F) R lfr }, tt)
+
+pub heads_are : (program : Program) (own : Contract) → Each Clean (flat_map (member_sites program own) own.members) → Each (HeadSites program own) (transactions_of own)
+heads_are program own h = each_flat_map _ transactions_of_member own.members (each_weaker _ _ (heads_of_member program own) own.members (each_of_flat_map Clean (member_sites program own) own.members h))
+
 -- the transactions of a contract in the table
 pub in_contract : (program : Program) (own : Contract) → transactions_in (contract_in_table program own) ≡ map (transaction_in_table program own) (transactions_of own)
 in_contract program own = at own.interface
