@@ -11,3 +11,4 @@ pub mod AgreeFacts
 pub mod SaidFacts
 pub mod HeldFacts
 pub mod MeetsFacts
+pub mod TableFacts

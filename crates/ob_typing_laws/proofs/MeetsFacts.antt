@@ -3,10 +3,12 @@ use Rattle.std.proofs.Common.{◌≡◌, ◌≢◌, ℕ, zero, suc, ◌+◌, ◌
 use Rattle.std.specs.Prelude.{◌||◌, ◌&&◌, not, nat_eq, option_map, option_and_then, slice_get, is_some, if◌then◌else◌}
 use Rattle.std.specs.Option.{option_map_or}
 use Rattle.std.specs.List.{list_all, flat_map, All, Contains}
+use Rattle.std.proofs.lemmas.List.Elements.{All-from_recursion}
 use Rattle.std.specs.Cmp.Lexicographic.{pointwise}
 use Rattle.ob_base.specs.declared.fault.Span.{Span}
 use Rattle.ob_base.specs.declared.permission.Perm.{Perm}
-use Rattle.ob_perm.specs.Masks.{perm_of}
+use Rattle.ob_perm.specs.Masks.{permission_of, perm_of}
+use Rattle.ob_perm.specs.Naming.{for_contract}
 use Rattle.ob_table.specs.declared.contract.Kind.{Kind as TableKind}
 use Rattle.ob_table.specs.declared.contract.Kind.TheVariants.{Reference}
 use Rattle.ob_table.specs.declared.contract.Signature.{Signature}
@@ -15,9 +17,9 @@ use Rattle.ob_tree.specs.Members.{Formal, Contract}
 use Rattle.ob_tree.specs.declared.name.PermNode.{PermNode}
 use Rattle.ob_tree.specs.declared.name.Subject.{Subject}
 use Rattle.ob_tree.specs.declared.name.Subject.TheVariants.{This, Name as NameSubject}
-use Rattle.ob_typing.specs.Names.{Name, same, is_among}
+use Rattle.ob_typing.specs.Names.{Name, same, is_among, firsts}
 use Rattle.ob_typing.specs.Declared.{Program, part_of_named, contract_named, contract_at, state_names, Param, param_named, params_of, Transaction, transactions_of, transaction_named}
-use Rattle.ob_typing.specs.Permissions.{written_permission, is_of, known_exit, agree, agree_if_known}
+use Rattle.ob_typing.specs.Permissions.{WrittenPermission, written_permission, is_of, known_exit, agree, agree_if_known}
 use Rattle.ob_typing.specs.Kinds.{Kind, an_int, a_bool, a_text, a_reference, nothing, unknown, is_value_type, contract_of_name, kind_of_ref, kind_of_type, same_kind, permission_in}
 use Rattle.ob_typing.specs.Interfaces.{Held, where_both_refer, same_type, exit_in, same_param, same_result, same_held, answers, meets}
 use Rattle.ob_typing.specs.Visible.{Visible, visible_in}
@@ -28,12 +30,14 @@ use Rattle.ob_typing.specs.StatementSites.{place_of_subject}
 use Rattle.ob_typing.specs.Numbers.{contract_id, perm_on, permission_on}
 use Rattle.ob_typing.specs.TableOf.{table_kind, reference_of, exit_of_type, written_at_end, param_in_table, transaction_in_table, contract_in_table, table_of}
 use Rattle.ob_typing.specs.Conditions.{asked_of, IsSaidAs, Answers, transactions_in, Meets}
-use Rattle.ob_typing_laws.proofs.Each.{Each, each_left, each_right, each_weaker, each_flat_map}
+use Rattle.ob_typing_laws.proofs.Each.{Each, each_left, each_right, each_weaker, each_flat_map, each_at}
 use Rattle.ob_typing_laws.proofs.Clean.{Clean}
 use Rattle.ob_typing_laws.proofs.TypeFacts.{and_left, and_right, Known, KnownExit, ref_known, known_kind}
+use Rattle.ob_typing_laws.proofs.LookUps.{slice_get-map, slice_get_bound, among_number, number_at, get_or_at, named_at}
+use Rattle.ob_typing_laws.proofs.TransactionFacts.{HeadSites, in_contract}
 use Rattle.ob_typing_laws.proofs.SignatureFacts.{formal_types, same_number}
 use Rattle.ob_typing_laws.proofs.AgreeFacts.{agree_same}
-use Rattle.ob_typing_laws.proofs.SaidFacts.{Between, said_same}
+use Rattle.ob_typing_laws.proofs.SaidFacts.{names_between, Between, said_same}
 use Rattle.ob_typing_laws.proofs.HeldFacts.{IsFirst, KnownHeld, held_known, some_same, known_exit_is}
 
 -- Types.
@@ -210,3 +214,95 @@ same_results program own other (Some s) (Some t) h k same =
     let span = own.span in
     ap Some (typed_same program own other s t None None span span (as_formal (visible_in program own) s span h) (as_formal (visible_in program other) t span k) kinds perms
         (exits_agree program own other s t h k kinds perms)).kinds
+
+-- Transactions.
+
+held_agrees : (own : Contract) (a b : Held) (p q x y : WrittenPermission) → a ≡ record { entry = Some p; exit = Some x } → b ≡ record { entry = Some q; exit = Some y } → same_held own a b ≡ true → (agree own p q ≡ true) × (agree own x y ≡ true)
+held_agrees own a b p q x y e f h =
+    let g : (agree own p q && agree own x y) ≡ true = rw (e, f) at h in
+    (and_left (agree own p q) _ g, and_right (agree own p q) _ g)
+
+and_parts : (a b c d : Bool) → (a && b && c && d) ≡ true → (a ≡ true) × (b ≡ true) × (c ≡ true) × (d ≡ true)
+and_parts true true true true h = (refl, refl, refl, refl)
+and_parts false b c d h = absurd cc
+and_parts true false c d h = absurd cc
+and_parts true true false d h = absurd cc
+and_parts true true true false h = absurd cc
+
+not_true : (b : Bool) → not b ≡ true → b ≡ false
+not_true true h = absurd cc
+not_true false h = refl
+
+pub answers_in_table : (program : Program) (interface own : Contract) (asked t : Transaction) → IsFirst program interface → IsFirst program own → Between interface own
+    → HeadSites program interface asked → HeadSites program own t → t.name.name ≡ asked.name.name → answers program interface own asked t ≡ true
+    → Answers (contract_in_table program interface) (contract_in_table program own) (transaction_in_table program interface asked) (transaction_in_table program own t)
+answers_in_table program interface own asked t first_i first_o between heads_i heads_o name h =
+    let parts = and_parts (not t.private) (pointwise (same_param program) (params_of t.params) (params_of asked.params)) (same_result program t.result asked.result) _ h in
+    let k = held_known program own t.params first_o heads_o.formals in
+    let k' = held_known program interface asked.params first_i heads_i.formals in
+    let a = held_agrees own _ _ k.entry k'.entry k.exit k'.exit k.held k'.held parts.3 in
+    record {
+      name = name;
+      public = not_true t.private parts.0;
+      params = same_params_in_table program own interface (params_of t.params) (params_of asked.params) (params_sound program own t.params heads_o.formals) (params_sound program interface asked.params heads_i.formals) parts.1;
+      result = same_results program own interface t.result asked.result heads_o.result heads_i.result parts.2;
+      entry = k.entry_perm ∙ said_same interface own k.entry k'.entry between k'.entry_states a.0 ∙ sym (ap (λ p. perm_of (for_contract (names_between (state_names interface) (state_names own)) (permission_of p))) k'.entry_perm);
+      exit = k.exit_perm ∙ said_same interface own k.exit k'.exit between k'.exit_states a.1 ∙ sym (ap (λ p. perm_of (for_contract (names_between (state_names interface) (state_names own)) (permission_of p))) k'.exit_perm);
+    }
+
+-- Contracts.
+
+among_contains : (xs : List Name) (x : Name) → is_among x xs ≡ true → Contains xs x
+among_contains xs x h =
+    let n = among_number x xs h in
+    let at = number_at x xs n.0 n.1 in
+    (n.0, slice_get_bound xs n.0 x at, get_or_at xs n.0 x x at)
+
+each_named : (xs ys : List Name) → list_all (λ y. is_among y xs) ys ≡ true → Each (Contains xs) ys
+each_named xs [] h = tt
+each_named xs (y ∷ ys) h = (among_contains xs y (and_left (is_among y xs) _ h), each_named xs ys (and_right (is_among y xs) _ h))
+
+some_of : {A : Type 0} (o : Option A) (test : A → Bool) → option_map_or test o false ≡ true → (x : A) × (o ≡ Some x) × (test x ≡ true)
+some_of None test h = absurd cc
+some_of (Some x) test h = (x, refl, h)
+
+answered : (program : Program) (interface own : Contract) → IsFirst program interface → IsFirst program own → Between interface own → Each (HeadSites program own) (transactions_of own)
+    → (ts : List Transaction) → Each (HeadSites program interface) ts → list_all (λ asked. option_map_or (answers program interface own asked) (transaction_named own asked.name.name) false) ts ≡ true
+    → Each (λ asked. (s : Signature) × Contains (transactions_in (contract_in_table program own)) s × Answers (contract_in_table program interface) (contract_in_table program own) asked s) (map (transaction_in_table program interface) ts)
+answered program interface own first_i first_o between heads [] heads_i h = tt
+answered program interface own first_i first_o between heads (asked ∷ ts) heads_i h =
+    let one = some_of (transaction_named own asked.name.name) (answers program interface own asked) (and_left (option_map_or (answers program interface own asked) (transaction_named own asked.name.name) false) _ h) in
+    let at = named_at (λ (t : Transaction). t.name.name) asked.name.name (transactions_of own) one.0 one.1 in
+    let there : slice_get (transactions_in (contract_in_table program own)) at.0 ≡ Some (transaction_in_table program own one.0) =
+        ap (λ ts. slice_get ts at.0) (in_contract program own) ∙ slice_get-map (transaction_in_table program own) (transactions_of own) at.0 ∙ ap (option_map (transaction_in_table program own)) at.1 in
+    ((transaction_in_table program own one.0,
+      (at.0, slice_get_bound _ at.0 _ there, get_or_at _ at.0 _ _ there),
+      answers_in_table program interface own asked one.0 first_i first_o between heads_i.0 (each_at _ (transactions_of own) at.0 one.0 heads at.1) at.2 one.2),
+     answered program interface own first_i first_o between heads ts heads_i.1 (and_right (option_map_or (answers program interface own asked) (transaction_named own asked.name.name) false) _ h))
+
+imply : (a b : Bool) → (not a || b) ≡ true → a ≡ true → b ≡ true
+imply true b h e = h
+imply false b h e = absurd cc
+
+three_parts : (a b c : Bool) → (a && b && c) ≡ true → (a ≡ true) × (b ≡ true) × (c ≡ true)
+three_parts true true true h = (refl, refl, refl)
+three_parts false b c h = absurd cc
+three_parts true false c h = absurd cc
+three_parts true true false h = absurd cc
+
+pub meets_in_table : (program : Program) (interface own : Contract) → IsFirst program interface → IsFirst program own → interface.interface ≡ true → own.interface ≡ false
+    → length (state_names own) ≤ 32 → length (state_names interface) ≤ 32
+    → firsts (λ t. t.name.name) (transactions_of interface) ≡ transactions_of interface
+    → Each (HeadSites program interface) (transactions_of interface) → Each (HeadSites program own) (transactions_of own)
+    → meets program interface own ≡ true → Meets (contract_in_table program interface) (contract_in_table program own)
+meets_in_table program interface own first_i first_o is_i is_o few few_i all heads_i heads_o h =
+    let parts = three_parts (not own.asset || interface.asset) (list_all (λ state. is_among state (state_names own)) (state_names interface)) _ h in
+    let between : Between interface own = record { is_interface = is_i; is_contract = is_o; few = few; few_theirs = few_i; states = parts.1 } in
+    let test = subst (λ (ts : List Transaction). list_all (λ asked. option_map_or (answers program interface own asked) (transaction_named own asked.name.name) false) ts ≡ true) all parts.2 in
+    let no_constructor : (contract_in_table program interface).transactions ≡ map (transaction_in_table program interface) (transactions_of interface) = rw is_i refl in
+    let P = λ (asked : Signature). (s : Signature) × Contains (transactions_in (contract_in_table program own)) s × Answers (contract_in_table program interface) (contract_in_table program own) asked s in
+    record {
+      asset = imply own.asset interface.asset parts.0;
+      states = All-from_recursion _ (state_names interface) (each_named (state_names own) (state_names interface) parts.1);
+      transactions = subst (All P) (sym no_constructor) (All-from_recursion P (map (transaction_in_table program interface) (transactions_of interface)) (answered program interface own first_i first_o between heads_o (transactions_of interface) heads_i test));
+    }
