@@ -12,3 +12,4 @@ pub mod SaidFacts
 pub mod HeldFacts
 pub mod MeetsFacts
 pub mod TableFacts
+pub mod LeastFacts
