@@ -7,6 +7,3 @@ mod store;
 
 pub use answering::{FUEL, LONGEST_LINE, MOST_HANDLES, answer, changes_nothing, refused};
 pub use store::{Handle, Store};
-
-#[cfg(test)]
-mod tests;

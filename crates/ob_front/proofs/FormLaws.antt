@@ -12,11 +12,11 @@ use Rattle.ob_base.specs.Faults.{not_built}
 use Rattle.ob_base.specs.declared.fault.ProgramFault.{ProgramFault}
 use Rattle.ob_lexer.proofs.Readings as lexed'
 use Rattle.ob_tree.specs.Members.{Contract}
-use Rattle.ob_parser.specs.Grammar.{HasTree, HasSyntaxFault}
+use Rattle.ob_grammar.specs.Grammar.{HasTree, HasSyntaxFault}
 use Rattle.ob_parser.specs.Parsing.{OnFault as OnParseFault}
 use Rattle.ob_parser.specs.declared.parsing.ParseError.{ParseError}
 use Rattle.ob_parser.specs.declared.parsing.ParseError.TheVariants as parsing
-use Rattle.ob_parser.proofs.ParserLaws as parsed'
+use Rattle.ob_grammar.proofs.ParserLaws as parsed'
 use Rattle.ob_machine.specs.declared.plain.Plain.{Plain}
 use Rattle.ob_machine.specs.Closed.{is_closed_program}
 use Rattle.ob_front.specs.BuiltForm.{program_of}

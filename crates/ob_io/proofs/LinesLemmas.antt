@@ -8,8 +8,9 @@ use Rattle.std.proofs.lemmas.Bool.Decides.{nat_tests}
 use Rattle.std.proofs.lemmas.List.Sums.{prefix_len-le-length}
 use Rattle.std.specs.Io.KnownBytes.{prepend_known}
 use Rattle.ob_base.proofs.OptionalLemmas.{by_cases}
-use Rattle.ob_io.specs.Told.{Takes}
-use Rattle.ob_io.proofs.ToldLemmas.{takes_then}
+use Rattle.ob_io.specs.Told.{Takes, TakesFrom}
+use Rattle.ob_io.specs.Views.{SourceView}
+use Rattle.ob_io.proofs.ToldLemmas.{takes_then, takes_from_none, takes_from_then}
 use Rattle.ob_io.specs.Lines.{has_newline, IsSoFar}
 
 none_below : (xs : List ℕ) (n : ℕ) → ((k : ℕ) → k < n → (get_or xs k 0 == 10) ≡ false) → has_newline (take n xs) ≡ false
@@ -90,6 +91,18 @@ pub refilled : (told left after : Option (List ℕ)) (held held' part piece : Li
 refilled told left after held held' part piece took is none next =
     let here : Takes told left (part ++ piece) = subst (λ (l : Option (List ℕ)). Takes told l (part ++ piece)) (nothing_held left held' none) (part_step told left held held' part piece took is none) in
     subst (λ (l : List ℕ). Takes told after l) (append-nil (part ++ piece)) (takes_then told left after (part ++ piece) [] here next)
+
+-- a reader that took nothing more
+pub drawn_same : (from now : SourceView) (a b c : ℕ) → (bytes : List ℕ) × TakesFrom from now bytes × (b ≡ a + length bytes) → c ≡ b → (bytes : List ℕ) × TakesFrom from now bytes × (c ≡ a + length bytes)
+drawn_same from now a b c was same = (was.0, was.1, same ∙ was.2)
+
+-- and one that did
+pub drawn_then : (from mid now : SourceView) (a b c d : ℕ) → (bytes : List ℕ) × TakesFrom from mid bytes × (b ≡ a + length bytes) → c ≡ b → (bytes : List ℕ) × TakesFrom mid now bytes × (d ≡ c + length bytes)
+    → (bytes : List ℕ) × TakesFrom from now bytes × (d ≡ a + length bytes)
+drawn_then from mid now a b c d was same more = (was.0 ++ more.0, takes_from_then from mid now was.0 more.0 was.1 more.1, omega (arith, was.2, same, more.2, length-append was.0 more.0))
+
+pub drawn_none : (from : SourceView) (a : ℕ) → (bytes : List ℕ) × TakesFrom from from bytes × (a ≡ a + length bytes)
+drawn_none from a = ([], takes_from_none from, omega arith)
 
 pub joined_length : (part piece rest : List ℕ) (old mid new : ℕ) → mid ≡ old + length part → new ≡ mid + length piece + length rest → new ≡ old + length ((part ++ piece) ++ rest)
 joined_length part piece rest old mid new p q = omega (arith, length-append (part ++ piece) rest, length-append part piece)

@@ -1,7 +1,8 @@
 -- What two calls after one another do to what is told.
-use Rattle.std.proofs.Common.{ℕ, List, [], ◌++◌, Option, None, Some, refl, sym, ◌∙◌, ap, append_assoc}
+use Rattle.std.proofs.Common.{ℕ, List, [], ◌++◌, Option, None, Some, refl, sym, ◌∙◌, ap, arith, append_assoc, length-append}
 use Rattle.std.proofs.lemmas.List.{append-nil}
-use Rattle.ob_io.specs.Told.{Gives, Takes}
+use Rattle.ob_io.specs.Told.{Gives, Takes, TakesFrom}
+use Rattle.ob_io.specs.Views.{SourceView}
 
 pub gives_none : (a : Option (List ℕ)) → Gives a a []
 gives_none None = tt
@@ -25,3 +26,12 @@ takes_then (Some xs) None c x y p q = absurd p
 takes_then None (Some ys) c x y p q = absurd p
 takes_then (Some xs) (Some ys) None x y p q = absurd q
 takes_then (Some xs) (Some ys) (Some zs) x y p q = p ∙ ap (λ (l : List ℕ). x ++ l) q ∙ sym (append_assoc x y zs)
+
+pub takes_from_none : (a : SourceView) → TakesFrom a a []
+takes_from_none a = record { told = takes_none a.left; counted = omega arith }
+
+pub takes_from_then : (a b c : SourceView) (x y : List ℕ) → TakesFrom a b x → TakesFrom b c y → TakesFrom a c (x ++ y)
+takes_from_then a b c x y p q = record {
+  told = takes_then a.left b.left c.left x y p.told q.told;
+  counted = omega (arith, p.counted, q.counted, length-append x y);
+}

@@ -1,8 +1,9 @@
 -- What a reader of lines holds, and what comes next.
-use Rattle.std.specs.Prelude.{ℕ, ◌≡◌, ◌+◌, ◌-◌, ◌<◌, ◌≤◌, Bool, true, false, ◌==◌, List, [], ◌∷◌, ◌++◌, length, slice_range, ⊤, Option}
+use Rattle.std.specs.Prelude.{ℕ, ◌≡◌, ◌+◌, ◌-◌, ◌^◌, ◌<◌, ◌≤◌, Bool, true, false, ◌==◌, List, [], ◌∷◌, ◌++◌, length, slice_range, ⊤, Option}
 use Rattle.std.specs.List.{list_any}
 use Rattle.std.specs.Io.KnownBytes.{prepend_known}
-use Rattle.ob_io.specs.Told.{Takes, IsEnd}
+use Rattle.ob_io.specs.Told.{Takes, TakesFrom, IsEnd}
+use Rattle.ob_io.specs.Views.{SourceView}
 use Rattle.ob_io.specs.declared.lines.Lines.{Lines}
 use Rattle.ob_io.specs.declared.lines.Next.{Next}
 use Rattle.ob_io.specs.declared.lines.Next.TheVariants.{Line, LongLine, End, Fault, Limit}
@@ -11,9 +12,13 @@ use Rattle.ob_io.specs.declared.lines.Next.TheVariants.{Line, LongLine, End, Fau
 abbrev pub held : Lines → List ℕ
 held lines = slice_range lines.buffer.items lines.start lines.end
 
+-- how many bytes were taken: those that were handed on, and those that are held
+abbrev pub taken : Lines → ℕ
+taken lines = lines.taken
+
 -- how many bytes were handed on
 abbrev pub handed : Lines → ℕ
-handed lines = lines.taken - (lines.end - lines.start)
+handed lines = taken lines - (lines.end - lines.start)
 
 -- all that is still to come, where the source tells it
 abbrev pub pending : Lines → Option (List ℕ) → Option (List ℕ)
@@ -36,14 +41,20 @@ IsLine true line bytes = (bytes ≡ line) × (0 < length line)
 abbrev pub IsNext : Next → Bool → List ℕ → List ℕ → Type 0
 IsNext Line ended line bytes = (has_newline line ≡ false) × (length line ≤ 65536) × IsLine ended line bytes
 IsNext LongLine ended line bytes =
-    (line ≡ []) × (long : List ℕ) × (has_newline long ≡ false) × (65536 < length long) × IsLine ended long bytes
-IsNext End ended line bytes = (line ≡ []) × (ended ≡ true) × (bytes ≡ [])
-IsNext Fault ended line bytes = (line ≡ []) × (ended ≡ false) × (has_newline bytes ≡ false)
-IsNext Limit ended line bytes = (line ≡ []) × (ended ≡ false) × (has_newline bytes ≡ false)
+    (long : List ℕ) × (has_newline long ≡ false) × (65536 < length long) × IsLine ended long bytes
+IsNext End ended line bytes = (ended ≡ true) × (bytes ≡ [])
+IsNext Fault ended line bytes = (ended ≡ false) × (has_newline bytes ≡ false)
+IsNext Limit ended line bytes = (ended ≡ false) × (has_newline bytes ≡ false)
 
 -- some bytes were handed on, and they are these
 abbrev pub HandsOn : Lines → Lines → Option (List ℕ) → Option (List ℕ) → (List ℕ → Type 0) → Type 0
-HandsOn old new left now P = (bytes : List ℕ) × Takes (pending old left) (pending new now) bytes × (handed new ≡ handed old + length bytes) × P bytes
+HandsOn old new left now P =
+    (bytes : List ℕ) × Takes (pending old left) (pending new now) bytes × (handed new ≡ handed old + length bytes) × P bytes
+
+-- what a reader took of its source, it counts
+abbrev pub CountsTaken : Lines → Lines → SourceView → SourceView → Type 0
+CountsTaken old new source now =
+    (bytes : List ℕ) × TakesFrom source now bytes × (taken new ≡ taken old + length bytes)
 
 -- a text that is said to have ended has
 abbrev pub EndIsTold : Lines → Option (List ℕ) → Type 0
@@ -54,10 +65,22 @@ abbrev pub IsSoFar : Bool → List ℕ → List ℕ → Type 0
 IsSoFar true line part = (line ≡ []) × (65536 < length part)
 IsSoFar false line part = (line ≡ part) × (length part ≤ 65536)
 
+-- nothing is held: all that was taken was handed on
+abbrev pub HoldsNothing : Lines → Type 0
+HoldsNothing lines = (held lines ≡ []) × (handed lines ≡ taken lines)
+
 -- at a stop nothing is held
-abbrev pub HoldsAtStop : Next → List ℕ → Type 0
-HoldsAtStop Line bytes = ⊤
-HoldsAtStop LongLine bytes = ⊤
-HoldsAtStop End bytes = bytes ≡ []
-HoldsAtStop Fault bytes = bytes ≡ []
-HoldsAtStop Limit bytes = bytes ≡ []
+abbrev pub HoldsAtStop : Next → Lines → Type 0
+HoldsAtStop Line lines = ⊤
+HoldsAtStop LongLine lines = ⊤
+HoldsAtStop End lines = HoldsNothing lines
+HoldsAtStop Fault lines = HoldsNothing lines
+HoldsAtStop Limit lines = HoldsNothing lines
+
+-- how many bytes were handed on, at each answer
+abbrev pub IsWithin : Next → ℕ → Type 0
+IsWithin Line count = count ≤ 2 ^ 40
+IsWithin LongLine count = count ≤ 2 ^ 40
+IsWithin End count = count < 2 ^ 40
+IsWithin Fault count = count < 2 ^ 40
+IsWithin Limit count = count ≡ 2 ^ 40

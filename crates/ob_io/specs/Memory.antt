@@ -6,20 +6,20 @@ use Rattle.ob_io.specs.declared.memory.MemorySource.{MemorySource}
 use Rattle.ob_io.specs.declared.memory.MemorySink.{MemorySink}
 use Rattle.ob_io.specs.declared.memory.MemoryFiles.{MemoryFiles}
 use Rattle.ob_io.specs.FilesInMemory.{content_of}
-use Rattle.ob_io.specs.Sure.{source_left}
+use Rattle.ob_io.specs.Sure.{sure_source_left}
 use Rattle.ob_io.specs.Views.{SourceView, SinkView, FilesView}
 
 -- a source tells all that no read took
-abbrev pub source_view : MemorySource → SourceView
-source_view s = record { left = Some (source_left s.inner); faults = s.plan.faults }
+abbrev pub memory_source_view : MemorySource → SourceView
+memory_source_view s = record { left = Some (sure_source_left s.inner); taken = s.inner.at; faults = s.plan.faults }
 
 -- a sink tells all that was written
-abbrev pub sink_view : MemorySink → SinkView
-sink_view s = record { written = Some s.bytes.items; faults = s.plan.faults }
+abbrev pub memory_sink_view : MemorySink → SinkView
+memory_sink_view s = record { written = Some s.bytes.items; faults = s.plan.faults }
 
 -- the bytes of the file of this name. For a name that is lacking nothing is told
-abbrev pub files_view : MemoryFiles → FilesView
-files_view f = record { content = content_of f.files.items; faults = f.plan.faults; asked = f.asked }
+abbrev pub memory_files_view : MemoryFiles → FilesView
+memory_files_view f = record { content = content_of f.files.items; asks = f.asks; faults = f.plan.faults }
 
 -- which calls of a source are to fail, and how many there were
 abbrev pub source_plan : MemorySource → Plan
@@ -34,8 +34,8 @@ abbrev pub files_plan : MemoryFiles → Plan
 files_plan f = f.plan
 
 -- how many bytes more the sink takes
-abbrev pub sink_room : MemorySink → ℕ
-sink_room s = s.room - length s.bytes.items
+abbrev pub memory_sink_room : MemorySink → ℕ
+memory_sink_room s = s.room - length s.bytes.items
 
 -- whether the next call is to fail
 abbrev pub is_to_fail : Plan → Bool

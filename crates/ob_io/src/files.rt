@@ -1,7 +1,7 @@
 //! The files that are read whole.
 ghost use Rattle.std.specs.Prelude.{◌≡◌, ◌≢◌, ◌+◌, ◌≤◌, ℕ, List, OnOk, OnErr, IsErrOf};
 ghost use Rattle.ob_io.specs.Causes.{Rose};
-ghost use Rattle.ob_io.specs.Files.{AppendsContent};
+ghost use Rattle.ob_io.specs.Files.{AppendsContent, NotesAsk};
 ghost use Rattle.ob_io.specs.Views.{FilesView};
 
 use std::alloc::AllocError;
@@ -31,17 +31,19 @@ impl From<AllocError> for FileError {
 
 /// Files by name.
 pub trait Files {
-    /// What the file of each name contains, where it is told, how often a read failed, and how many bytes all
-    /// reads were asked for at most.
+    /// What the file of each name contains, where it is told, what was asked, call by call, and how often a read
+    /// failed.
     ghost view: { Self → FilesView };
 
     /// Appends what the file contains, cut after `limit` bytes. An error leaves `into` as it was.
+    /// What is asked is noted before anything is read; only a call that answers `Memory` may lack its note.
     /// `Failed` comes only where the count of faults rose, by one at most. `Ok` and `Memory` leave the count.
     fn read(&mut self, name: &str, limit: usize, into: &mut Vec<u8>) -> Result<(), FileError>
         ensures ok { OnOk result
             (AppendsContent ((view self.old).content name.now) limit into.old.items into.new.items) }
         ensures err { OnErr result (into.new.items ≡ into.old.items) }
-        ensures asked { (view self.new).asked ≤ (view self.old).asked + limit }
+        ensures asks { NotesAsk (view self.old).asks (view self.new).asks
+            (record { name = name.now; limit = limit }) result }
         ensures same { (other : List ℕ) → (view self.new).content other ≡ (view self.old).content other }
         ensures later { (view self.old).faults ≤ (view self.new).faults }
         ensures cause { IsErrOf result FileError.Failed → Rose (view self.old).faults (view self.new).faults }

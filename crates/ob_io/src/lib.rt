@@ -1,6 +1,7 @@
 //! The outside: where bytes come from, where they go, and the files that are read whole.
 #![tactic(auto)]
 
+mod asks;
 mod files;
 mod lines;
 mod memory;

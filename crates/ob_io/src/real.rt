@@ -1,58 +1,67 @@
 //! The trusted edge: std's readers, writers and files, which tell nothing of their bytes.
-ghost use Rattle.std.specs.Prelude.{◌≡◌, ◌<◌, ◌≤◌, ◌++◌, ℕ, List, length, IfOk};
+ghost use Rattle.std.specs.Prelude.{◌≡◌, ◌<◌, ◌≤◌, ◌++◌, ℕ, List, [], length, IfOk};
 ghost use Rattle.std.specs.Io.KnownBytes.{ReadConsumes, WriteAppends};
 ghost use Rattle.ob_io.specs.Causes.{HasCause};
 ghost use Rattle.ob_io.specs.Told.{ReadTakes, WriteGives};
 
+use crate::asks::Asks;
 use crate::{FileError, Files, Sink, Source};
 use ob_base::Failed;
+use std::alloc::Global;
 use std::fs;
 use std::io::{Read, Write};
 
-/// A reader of std, which doesn't tell what is left.
+/// A reader of std, which doesn't tell what is left. It counts the bytes in 64 bits: a read that might pass them fails.
 #[derive(Drop)]
 pub struct StdSource<R> {
     inner: R,
+    taken: u64,
     faults: u64,
 }
 
 impl<R: Read> StdSource<R> {
-    ghost use Rattle.ob_io.specs.Real.{source_view};
+    ghost use Rattle.ob_io.specs.Real.{std_source_view};
 
-    /// Nothing has failed yet.
+    /// Nothing was read yet.
     pub fn new(inner: R) -> Self
-        ensures { (source_view result).faults ≡ 0 }
+        ensures taken { (std_source_view result).taken ≡ 0 }
+        ensures faults { (std_source_view result).faults ≡ 0 }
     {
-        StdSource { inner, faults: 0 }
+        StdSource {
+            inner,
+            taken: 0,
+            faults: 0,
+        }
     }
 
     /// How often a call failed.
     pub fn faults(&self) -> u64
-        ensures { result ≡ (source_view self.now).faults }
+        ensures { result ≡ (std_source_view self.now).faults }
     {
         self.faults
     }
 }
 
 impl<R: Read> Source for StdSource<R> {
-    ghost use Rattle.ob_io.specs.Real.{source_view, source_inner};
+    ghost use Rattle.ob_io.specs.Real.{std_source_view, std_source_inner};
 
-    ghost view = { source_view };
+    ghost view = { std_source_view };
 
     fn read(&mut self, into: &mut [u8]) -> Result<usize, Failed>
         ensures bound { IfOk result (λ n. n ≤ length into.new) }
-        ensures bytes { ReadTakes (source_view self.old).left (source_view self.new).left result into.new }
-        ensures cause { HasCause (source_view self.old).faults (source_view self.new).faults result }
-        ensures inner { ReadConsumes (R.remaining (source_inner self.old))
-            (R.remaining (source_inner self.new)) result into.new }
+        ensures bytes { ReadTakes (std_source_view self.old) (std_source_view self.new) result into.new }
+        ensures cause { HasCause (std_source_view self.old).faults (std_source_view self.new).faults result }
+        ensures inner { ReadConsumes (R.remaining (std_source_inner self.old))
+            (R.remaining (std_source_inner self.new)) result into.new }
     {
-        match self.inner.read(into) {
-            Ok(count) => Ok(count),
-            Err(_) => {
-                self.faults = self.faults.saturating_add(1);
-                Err(Failed)
-            }
+        if into.len() as u64 <= u64::MAX - self.taken
+            && let Ok(count) = self.inner.read(into)
+        {
+            self.taken += count as u64;
+            return Ok(count);
         }
+        self.faults = self.faults.saturating_add(1);
+        Err(Failed)
     }
 }
 
@@ -64,35 +73,35 @@ pub struct StdSink<W> {
 }
 
 impl<W: Write> StdSink<W> {
-    ghost use Rattle.ob_io.specs.Real.{sink_view};
+    ghost use Rattle.ob_io.specs.Real.{std_sink_view};
 
     /// Nothing has failed yet.
     pub fn new(inner: W) -> Self
-        ensures { (sink_view result).faults ≡ 0 }
+        ensures { (std_sink_view result).faults ≡ 0 }
     {
         StdSink { inner, faults: 0 }
     }
 
     /// How often a call failed.
     pub fn faults(&self) -> u64
-        ensures { result ≡ (sink_view self.now).faults }
+        ensures { result ≡ (std_sink_view self.now).faults }
     {
         self.faults
     }
 }
 
 impl<W: Write> Sink for StdSink<W> {
-    ghost use Rattle.ob_io.specs.Real.{sink_view, sink_inner};
+    ghost use Rattle.ob_io.specs.Real.{std_sink_view, std_sink_inner};
 
-    ghost view = { sink_view };
+    ghost view = { std_sink_view };
 
     fn write(&mut self, bytes: &[u8]) -> Result<usize, Failed>
         ensures bound { IfOk result (λ n. n ≤ length bytes.now) }
         ensures some { 0 < length bytes.now → IfOk result (λ n. 0 < n) }
-        ensures bytes { WriteGives (sink_view self.old).written (sink_view self.new).written result bytes.now }
-        ensures cause { HasCause (sink_view self.old).faults (sink_view self.new).faults result }
-        ensures inner { WriteAppends (W.contents (sink_inner self.old))
-            (W.contents (sink_inner self.new)) result bytes.now }
+        ensures bytes { WriteGives (std_sink_view self.old).written (std_sink_view self.new).written result bytes.now }
+        ensures cause { HasCause (std_sink_view self.old).faults (std_sink_view self.new).faults result }
+        ensures inner { WriteAppends (W.contents (std_sink_inner self.old))
+            (W.contents (std_sink_inner self.new)) result bytes.now }
     {
         match self.inner.write(bytes) {
             Ok(count) if count > 0 || bytes.is_empty() => Ok(count),
@@ -147,40 +156,40 @@ fn append_file<R: fs::Files>(
 #[derive(Drop)]
 pub struct StdFiles<R> {
     host: R,
+    asks: Asks,
     faults: u64,
-    asked: u64,
 }
 
 impl<R: fs::Files> StdFiles<R> {
-    ghost use Rattle.ob_io.specs.Real.{files_view};
+    ghost use Rattle.ob_io.specs.Real.{std_files_view};
 
-    /// The files that a runtime opens, as `&HostRuntime`. Nothing has failed yet.
-    pub fn new(host: R) -> Self
-        ensures faults { (files_view result).faults ≡ 0 }
-        ensures asked { (files_view result).asked ≡ 0 }
+    /// The files that a runtime opens, as `&HostRuntime`. Nothing was asked yet.
+    pub fn new(alloc: Global, host: R) -> Self
+        ensures asks { (std_files_view result).asks ≡ [] }
+        ensures faults { (std_files_view result).faults ≡ 0 }
     {
         StdFiles {
             host,
+            asks: Asks::new(alloc),
             faults: 0,
-            asked: 0,
         }
     }
 
     /// How often a call failed.
     pub fn faults(&self) -> u64
-        ensures { result ≡ (files_view self.now).faults }
+        ensures { result ≡ (std_files_view self.now).faults }
     {
         self.faults
     }
 }
 
 impl<R: fs::Files> Files for StdFiles<R> {
-    ghost use Rattle.ob_io.specs.Real.{files_view};
+    ghost use Rattle.ob_io.specs.Real.{std_files_view};
 
-    ghost view = { files_view };
+    ghost view = { std_files_view };
 
     fn read(&mut self, name: &str, limit: usize, into: &mut Vec<u8>) -> Result<(), FileError> {
-        self.asked = self.asked.saturating_add(limit as u64);
+        self.asks.note(name, limit)?;
         let start = into.len();
         let result = append_file(&self.host, name, limit, into);
         if result.is_err() {

@@ -8,7 +8,7 @@ use ob_base::Failed;
 
 /// A stream of bytes that comes in.
 pub trait Source {
-    /// The bytes that are left, where it tells them, and how often a read failed.
+    /// The bytes that are left, where it tells them, how many bytes its reads took, and how often a read failed.
     ghost view: { Self → SourceView };
 
     /// Fills a front of `into` with the next bytes, and answers how many they are. 0 is the end, where
@@ -16,6 +16,6 @@ pub trait Source {
     /// most. `Ok` leaves the count as it was.
     fn read(&mut self, into: &mut [u8]) -> Result<usize, Failed>
         ensures bound { IfOk result (λ n. n ≤ length into.new) }
-        ensures bytes { ReadTakes (view self.old).left (view self.new).left result into.new }
+        ensures bytes { ReadTakes (view self.old) (view self.new) result into.new }
         ensures cause { HasCause (view self.old).faults (view self.new).faults result };
 }

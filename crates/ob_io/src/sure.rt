@@ -1,9 +1,10 @@
 //! The outside in memory that never fails.
-ghost use Rattle.std.specs.Prelude.{◌≡◌, ◌<◌, ◌≤◌, ◌++◌, ℕ, List, Some, None, [], min, take, length, vec_len, IfOk, OnOk, OnErr, MatchOption, unwrap_or};
+ghost use Rattle.std.specs.Prelude.{◌≡◌, ◌+◌, ◌<◌, ◌≤◌, ◌++◌, ℕ, List, Some, None, [], min, take, length, vec_len, IfOk, OnOk, OnErr, MatchOption, unwrap_or};
 ghost use Rattle.ob_io.specs.Causes.{HasCause};
 ghost use Rattle.ob_io.specs.FilesInMemory.{content_of};
 ghost use Rattle.ob_io.specs.Told.{WriteGives};
 
+use crate::asks::Asks;
 use crate::{FileError, Files, Sink, Source};
 use ob_base::Failed;
 use std::alloc::Global;
@@ -28,28 +29,29 @@ pub struct SureSource {
 }
 
 impl SureSource {
-    ghost use Rattle.ob_io.specs.Sure.{source_left, source_view};
+    ghost use Rattle.ob_io.specs.Sure.{sure_source_left, sure_source_view};
 
     /// These bytes are left.
     pub fn new(bytes: Vec<u8>) -> Self
-        ensures left { (source_view result).left ≡ Some bytes.items }
-        ensures faults { (source_view result).faults ≡ 0 }
+        ensures left { (sure_source_view result).left ≡ Some bytes.items }
+        ensures taken { (sure_source_view result).taken ≡ 0 }
+        ensures faults { (sure_source_view result).faults ≡ 0 }
     {
         SureSource { bytes, at: 0 }
     }
 
     // What no read took.
     fn rest(&self) -> &[u8]
-        ensures { result.now ≡ source_left self.now }
+        ensures { result.now ≡ sure_source_left self.now }
     {
         &self.bytes[self.at..]
     }
 }
 
 impl Source for SureSource {
-    ghost use Rattle.ob_io.specs.Sure.{source_view};
+    ghost use Rattle.ob_io.specs.Sure.{sure_source_view};
 
-    ghost view = { source_view };
+    ghost view = { sure_source_view };
 
     fn read(&mut self, into: &mut [u8]) -> Result<usize, Failed> {
         let count = copy_front(self.rest(), into);
@@ -69,13 +71,13 @@ pub struct SureSink {
 }
 
 impl SureSink {
-    ghost use Rattle.ob_io.specs.Sure.{sink_view, sink_room};
+    ghost use Rattle.ob_io.specs.Sure.{sure_sink_view, sure_sink_room};
 
     /// Nothing is written yet. `room` is how many bytes it keeps.
     pub fn new(alloc: Global, room: usize) -> Self
-        ensures written { (sink_view result).written ≡ Some [] }
-        ensures faults { (sink_view result).faults ≡ 0 }
-        ensures room { sink_room result ≡ room }
+        ensures written { (sure_sink_view result).written ≡ Some [] }
+        ensures faults { (sure_sink_view result).faults ≡ 0 }
+        ensures room { sure_sink_room result ≡ room }
     {
         SureSink {
             bytes: Vec::new(alloc),
@@ -86,25 +88,29 @@ impl SureSink {
 
     /// What was written, where it is told.
     pub fn bytes(&self) -> Option<&[u8]>
-        ensures { MatchOption result ((sink_view self.now).written ≡ None)
-            (λ bytes. (sink_view self.now).written ≡ Some bytes.now) }
+        ensures { MatchOption result ((sure_sink_view self.now).written ≡ None)
+            (λ bytes. (sure_sink_view self.now).written ≡ Some bytes.now) }
     {
         if self.tells { Some(&self.bytes) } else { None }
     }
 }
 
 impl Sink for SureSink {
-    ghost use Rattle.ob_io.specs.Sure.{sink_view, sink_room};
+    ghost use Rattle.ob_io.specs.Sure.{sure_sink_view, sure_sink_room};
 
-    ghost view = { sink_view };
+    ghost view = { sure_sink_view };
 
     fn write(&mut self, bytes: &[u8]) -> Result<usize, Failed>
         ensures bound { IfOk result (λ n. n ≤ length bytes.now) }
         ensures some { 0 < length bytes.now → IfOk result (λ n. 0 < n) }
-        ensures bytes { WriteGives (sink_view self.old).written (sink_view self.new).written result bytes.now }
-        ensures cause { HasCause (sink_view self.old).faults (sink_view self.new).faults result }
+        ensures bytes { WriteGives (sure_sink_view self.old).written (sure_sink_view self.new).written
+            result bytes.now }
+        ensures cause { HasCause (sure_sink_view self.old).faults (sure_sink_view self.new).faults result }
         ensures takes_all { result ≡ Ok (length bytes.now) }
-        ensures full { sink_room self.old < length bytes.now → (sink_view self.new).written ≡ None }
+        ensures full { sure_sink_room self.old < length bytes.now → (sure_sink_view self.new).written ≡ None }
+        ensures room { MatchOption (sure_sink_view self.new).written
+            (sure_sink_room self.new ≡ sure_sink_room self.old)
+            (λ _. sure_sink_room self.old ≡ sure_sink_room self.new + length bytes.now) }
     {
         if self.tells {
             self.tells = bytes.len() <= self.room - self.bytes.len()
@@ -142,30 +148,33 @@ pub(crate) fn contents_of<'a>(files: &'a [(String, Vec<u8>)], name: &str) -> Opt
 #[derive(Drop)]
 pub struct SureFiles {
     files: Vec<(String, Vec<u8>)>,
-    asked: u64,
+    asks: Asks,
 }
 
 impl SureFiles {
-    ghost use Rattle.ob_io.specs.Sure.{files_view};
+    ghost use Rattle.ob_io.specs.Sure.{sure_files_view};
 
     /// The files by name. The first of a name is the one that is read.
-    pub fn new(files: Vec<(String, Vec<u8>)>) -> Self
+    pub fn new(alloc: Global, files: Vec<(String, Vec<u8>)>) -> Self
         ensures content { (name : List ℕ) →
-            (files_view result).content name ≡ Some (unwrap_or (content_of files.items name) []) }
-        ensures faults { (files_view result).faults ≡ 0 }
-        ensures asked { (files_view result).asked ≡ 0 }
+            (sure_files_view result).content name ≡ Some (unwrap_or (content_of files.items name) []) }
+        ensures faults { (sure_files_view result).faults ≡ 0 }
+        ensures asks { (sure_files_view result).asks ≡ [] }
     {
-        SureFiles { files, asked: 0 }
+        SureFiles {
+            files,
+            asks: Asks::new(alloc),
+        }
     }
 }
 
 impl Files for SureFiles {
-    ghost use Rattle.ob_io.specs.Sure.{files_view};
+    ghost use Rattle.ob_io.specs.Sure.{sure_files_view};
 
-    ghost view = { files_view };
+    ghost view = { sure_files_view };
 
     fn read(&mut self, name: &str, limit: usize, into: &mut Vec<u8>) -> Result<(), FileError> {
-        self.asked = self.asked.saturating_add(limit as u64);
+        self.asks.note(name, limit)?;
         match contents_of(&self.files, name) {
             Some(bytes) => append_front(bytes, limit, into),
             None => Ok(()),

@@ -1,11 +1,8 @@
-//! What no clause says: that calls succeed, which line each text has, and the real streams and files.
-use crate::{
-    FileError, Files, Lines, MemoryFiles, MemorySink, MemorySource, Next, Sink, Source, StdFiles,
-    StdSink, StdSource, SureFiles, SureSink, SureSource, write_all,
-};
+//! The adapters over std, whose bytes no contract tells.
+use crate::{FileError, Files, Lines, Next, Source, StdFiles, StdSink, StdSource, write_all};
 use ob_base::Failed;
 use std::alloc::Global;
-use std::io::Read;
+use std::io::{Read, Write};
 use std::test::Fail;
 use std::{fs, io};
 
@@ -22,7 +19,7 @@ impl Read for OneByOne<'_> {
     }
 }
 
-// A reader that fails.
+// A reader and writer that fails.
 #[derive(Drop)]
 struct Broken;
 
@@ -32,181 +29,55 @@ impl Read for Broken {
     }
 }
 
-fn word_of(next: Next) -> &'static [u8] {
-    match next {
-        Next::Line => b";",
-        Next::LongLine => b"long;",
-        Next::End => b"end",
-        Next::Fault => b"fault",
-        Next::Limit => b"limit",
+impl Write for Broken {
+    fn write(&mut self, _: &[u8]) -> io::Result<usize> {
+        Err(io::Error::from(io::ErrorKind::NotFound))
+    }
+
+    fn flush(&mut self) -> io::Result<()> {
+        Ok(())
     }
 }
 
-// The answers up to the first stop: what `line` holds, and a word for the answer.
-fn answers<S: Source>(alloc: Global, source: &mut S) -> Result<Vec<u8>, Fail> {
+// The lines up to the first stop, each with a `;` behind it, and how they stop.
+fn lines_of<S: Source>(alloc: Global, source: &mut S) -> Result<(Vec<u8>, Next), Fail> {
     let mut lines = Lines::new(alloc)?;
     let mut line = Vec::new(alloc);
-    let mut said = Vec::new(alloc);
+    let mut all = Vec::new(alloc);
+    let mut next = lines.next(source, &mut line)?;
     for _ in 0..9 {
-        let next = lines.next(source, &mut line)?;
-        said.extend_from_slice(&line)?;
-        said.extend_from_slice(word_of(next))?;
-        if next != Next::Line && next != Next::LongLine {
+        if next != Next::Line {
             break;
         }
+        all.extend_from_slice(&line)?;
+        all.push(b';')?;
+        next = lines.next(source, &mut line)?;
     }
-    Ok(said)
+    Ok((all, next))
 }
 
 #[test]
-fn short_lines(rt: HostRuntime) -> Result<(), Fail> {
+fn sources_of_std(rt: HostRuntime) -> Result<(), Fail> {
     let alloc = rt.alloc();
-    let table: [(&[u8], &[u8]); 6] = [
-        (b"", b"end"),
-        (b"\n", b";end"),
-        (b"a", b"a;end"),
-        (b"a\n", b"a;end"),
-        (b"a\n\nbc\n\n", b"a;;bc;;end"),
-        (b"a\r\nb", b"a\r;b;end"),
-    ];
-    for (text, want) in table {
-        let mut whole = SureSource::new(text.to_vec(alloc)?);
-        assert_eq!(rt; answers(alloc, &mut whole)?.as_slice(), want, "of {text:?}");
-        let mut cut = StdSource::new(OneByOne { left: text });
-        assert_eq!(rt;
-            answers(alloc, &mut cut)?.as_slice(),
-            want,
-            "of {text:?}, cut"
-        );
-    }
-    Ok(())
-}
+    let mut one_by_one = StdSource::new(OneByOne {
+        left: b"a\n\nbc\r\nd",
+    });
+    let (lines, next) = lines_of(alloc, &mut one_by_one)?;
+    assert_eq!(rt; lines.as_slice(), b"a;;bc\r;d;".as_slice());
+    assert_eq!(rt; next, Next::End);
+    assert_eq!(rt; one_by_one.faults(), 0);
 
-#[test]
-fn long_lines(rt: HostRuntime) -> Result<(), Fail> {
-    let alloc = rt.alloc();
-    for (len, next) in [
-        (4095, Next::Line),
-        (4096, Next::Line),
-        (65536, Next::Line),
-        (65537, Next::LongLine),
-        (99999, Next::LongLine),
-    ] {
-        let mut want = if next == Next::Line {
-            vec![in alloc; b'x'; len]?
-        } else {
-            Vec::new(alloc)
-        };
-        want.extend_from_slice(word_of(next))?;
-        let mut text = vec![in alloc; b'x'; len]?;
-        let mut last = SureSource::new(text.as_slice().to_vec(alloc)?);
-        text.extend_from_slice(b"\n\nb")?;
-        let mut first = MemorySource::new(text, Vec::new(alloc));
-        let mut want_first = want.as_slice().to_vec(alloc)?;
-        want_first.extend_from_slice(b";b;end")?;
-        want.extend_from_slice(b"end")?;
-        assert!(rt;
-            answers(alloc, &mut last)? == want,
-            "a last line of {len} bytes"
-        );
-        assert!(rt;
-            answers(alloc, &mut first)? == want_first,
-            "a line of {len} bytes"
-        );
-    }
-    Ok(())
-}
-
-#[test]
-fn failing_source(rt: HostRuntime) -> Result<(), Fail> {
-    let alloc = rt.alloc();
-    let mut source = MemorySource::new(b"ab\ncd".to_vec(alloc)?, [1].to_vec(alloc)?);
-    assert_eq!(rt;
-        answers(alloc, &mut source)?.as_slice(),
-        b"ab;fault".as_slice()
-    );
-    assert_eq!(rt; source.faults(), 1);
-    assert_eq!(rt; answers(alloc, &mut source)?.as_slice(), b"end".as_slice());
-    assert_eq!(rt; source.faults(), 1);
-    Ok(())
-}
-
-#[test]
-fn sinks_in_memory(rt: HostRuntime) -> Result<(), Fail> {
-    let alloc = rt.alloc();
-    let mut sink = MemorySink::new(alloc, 4, [1].to_vec(alloc)?);
-    let calls: [(&[u8], Result<(), Failed>, &[u8], u64); 5] = [
-        (b"ab", Ok(()), b"ab", 0),
-        (b"c", Err(Failed), b"ab", 1),
-        (b"cd", Ok(()), b"abcd", 1),
-        (b"e", Err(Failed), b"abcd", 2),
-        (b"", Ok(()), b"abcd", 2),
-    ];
-    for (bytes, want, written, faults) in calls {
-        assert_eq!(rt; write_all(&mut sink, bytes), want, "of {bytes:?}");
-        assert_eq!(rt; sink.bytes(), written, "after {bytes:?}");
-        assert_eq!(rt; sink.faults(), faults, "after {bytes:?}");
-    }
-    let mut sure = SureSink::new(alloc, 3);
-    let told: [(&[u8], Option<&[u8]>); 5] = [
-        (b"", Some(b"")),
-        (b"ab", Some(b"ab")),
-        (b"c", Some(b"abc")),
-        (b"d", None),
-        (b"", None),
-    ];
-    for (bytes, want) in told {
-        assert_eq!(rt; sure.write(bytes), Ok(bytes.len()), "of {bytes:?}");
-        assert!(rt; sure.bytes() == want, "after {bytes:?}");
-    }
-    Ok(())
-}
-
-// Two files, `a` and `b`, of which the second is empty, and an `a` that another hides.
-fn two_files(alloc: Global) -> Result<Vec<(String, Vec<u8>)>, Fail> {
-    let mut files = Vec::new(alloc);
-    files.push((String::from_str(alloc, "a")?, b"xyz".to_vec(alloc)?))?;
-    files.push((String::from_str(alloc, "b")?, Vec::new(alloc)))?;
-    files.push((String::from_str(alloc, "a")?, b"w".to_vec(alloc)?))?;
-    Ok(files)
-}
-
-#[test]
-fn files_in_memory(rt: HostRuntime) -> Result<(), Fail> {
-    let alloc = rt.alloc();
-    let mut sure = SureFiles::new(two_files(alloc)?);
-    let mut files = MemoryFiles::new(two_files(alloc)?, [4].to_vec(alloc)?);
-    let failed = Err(FileError::Failed);
-    let table: [(&str, usize, &[u8], Result<(), FileError>, u64); 5] = [
-        ("a", 9, b"<xyz", Ok(()), 0),
-        ("a", 2, b"<xy", Ok(()), 0),
-        ("b", 9, b"<", Ok(()), 0),
-        ("c", 9, b"<", failed, 1),
-        ("a", 0, b"<", failed, 2),
-    ];
-    for (name, limit, want, answer, faults) in table {
-        let mut into = b"<".to_vec(alloc)?;
-        assert_eq!(rt; sure.read(name, limit, &mut into), Ok(()), "{name}");
-        assert_eq!(rt; into.as_slice(), want, "{name}");
-        into.truncate(1);
-        assert_eq!(rt; files.read(name, limit, &mut into), answer, "{name}");
-        assert_eq!(rt; into.as_slice(), want, "{name}");
-        assert_eq!(rt; files.faults(), faults, "{name}");
-    }
-    Ok(())
-}
-
-#[test]
-fn streams_of_std(rt: HostRuntime) -> Result<(), Fail> {
-    let alloc = rt.alloc();
     let mut broken = StdSource::new(Broken);
-    assert_eq!(rt;
-        answers(alloc, &mut broken)?.as_slice(),
-        b"fault".as_slice()
-    );
+    let (lines, next) = lines_of(alloc, &mut broken)?;
+    assert_eq!(rt; lines.as_slice(), b"".as_slice());
+    assert_eq!(rt; next, Next::Fault);
     assert_eq!(rt; broken.faults(), 1);
+    Ok(())
+}
 
-    let mut written = Vec::new(alloc);
+#[test]
+fn sinks_of_std(rt: HostRuntime) -> Result<(), Fail> {
+    let mut written = Vec::new(rt.alloc());
     let mut sink = StdSink::new(&mut written);
     assert_eq!(rt; write_all(&mut sink, b"abc"), Ok(()));
     assert_eq!(rt; sink.faults(), 0);
@@ -217,16 +88,20 @@ fn streams_of_std(rt: HostRuntime) -> Result<(), Fail> {
     assert_eq!(rt; write_all(&mut full, b"abc"), Err(Failed));
     assert_eq!(rt; full.faults(), 1);
     assert_eq!(rt; room.as_slice(), b"ab".as_slice());
+
+    let mut broken = StdSink::new(Broken);
+    assert_eq!(rt; write_all(&mut broken, b"abc"), Err(Failed));
+    assert_eq!(rt; broken.faults(), 1);
     Ok(())
 }
 
 #[test]
 fn files_of_std(rt: HostRuntime) -> Result<(), Fail> {
     let alloc = rt.alloc();
-    let name = "/tmp/ob_io_files_of_std";
+    let name = "ob_io_files_of_std";
     let bytes = vec![in alloc; b'x'; 9000]?;
     fs::write(&rt, name, bytes.as_slice())?;
-    let mut files = StdFiles::new(&rt);
+    let mut files = StdFiles::new(alloc, &rt);
     for (limit, want) in [(9999, 9001), (9000, 9001), (5000, 5001), (0, 1)] {
         let mut into = b"<".to_vec(alloc)?;
         assert_eq!(rt; files.read(name, limit, &mut into), Ok(()));

@@ -7,10 +7,9 @@ use Rattle.ob_lexer.specs.declared.place.Place.{Place}
 use Rattle.ob_lexer.specs.declared.step.Step.{Step}
 use Rattle.ob_lexer.specs.declared.step.Step.TheVariants as step
 use Rattle.ob_lexer.specs.Flaws.{flaw_at}
-use Rattle.ob_lexer.specs.Lexing.{Gives}
 use Rattle.ob_lexer.specs.Reading.{IsStepAt, fault_behind, BeginsWith}
 
-pub gives_step : (result : Result Step Memory) (is : Step) (text : List ℕ) → Gives result is → IsStepAt text is → IfOk result (IsStepAt text)
+pub gives_step : (result : Result Step Memory) (is : Step) (text : List ℕ) → IfOk result (λ s. s ≡ is) → IsStepAt text is → IfOk result (IsStepAt text)
 gives_step (Ok s) is text same at = rw same at
 gives_step (Err e) is text same at = tt
 

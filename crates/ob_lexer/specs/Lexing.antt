@@ -1,9 +1,8 @@
 -- What the steps of the lexer answer.
-use Rattle.std.specs.Prelude.{ℕ, ℤ, pos, ◌≡◌, ◌+◌, ◌^◌, ◌==◌, ◌&&◌, nat_lt, nat_le, not, if◌then◌else◌, ⊤, Bool, true, false, List, [], ◌∷◌, ◌++◌, length, Option, Some, None, Result, Ok, Err}
+use Rattle.std.specs.Prelude.{ℕ, ℤ, pos, ◌≡◌, ◌+◌, ◌^◌, ◌==◌, ◌&&◌, nat_lt, nat_le, not, if◌then◌else◌, Bool, true, false, List, [], ◌∷◌, ◌++◌, length, Option, Some, None}
 use Rattle.std.specs.List.{find, prefix_len, take_while}
 use Rattle.std.specs.Str.{bytes_eq}
 use Rattle.ob_base.specs.Names.{is_letter, is_digit, is_letter_or_digit, is_name, is_text}
-use Rattle.ob_base.specs.declared.cause.Memory.{Memory}
 use Rattle.ob_base.specs.Faults.{bad_character, open_comment, open_string, big_number, long_name, long_string, bad_escape}
 use Rattle.ob_lexer.specs.declared.token.TokenKind.TheVariants as kind
 use Rattle.ob_lexer.specs.declared.token.Word.{Word}
@@ -140,11 +139,6 @@ step_in class.Other b rest = sign_step b rest
 -- what a text begins with, where it isn't empty
 abbrev pub first_step : ℕ → List ℕ → Step
 first_step b rest = step_in (class_of b) b rest
-
--- a call answers this step, unless memory ran out
-abbrev pub Gives : Result Step Memory → Step → Type 0
-Gives (Ok step) is = step ≡ is
-Gives (Err e) is = ⊤
 
 -- ---- places
 

@@ -10,7 +10,7 @@ ghost use Rattle.ob_lexer.specs.Reading.{IsUtf8Behind, fault_behind, TakesUp, Be
 use crate::Token;
 use crate::place::Place;
 use crate::step::{Step, first_step};
-use ob_base::{Items, LONG_PROGRAM, Memory, NOT_UTF8, ProgramFault, Span};
+use ob_base::{Duplicate, Items, LONG_PROGRAM, Memory, NOT_UTF8, ProgramFault, Span, copy_items};
 use std::alloc::{AllocError, Global};
 use thiserror::Error;
 
@@ -23,6 +23,15 @@ pub struct Lexed {
     pub tokens: Items<Token>,
     /// The place just behind the last character, which has no bytes.
     pub end: Span,
+}
+
+impl Duplicate for Lexed {
+    fn copy(&self, alloc: Global) -> Result<Lexed, Memory> {
+        Ok(Lexed {
+            tokens: copy_items(alloc, &self.tokens)?,
+            end: self.end,
+        })
+    }
 }
 
 /// Why a text has no tokens.
@@ -57,7 +66,7 @@ impl From<Memory> for LexError {
     }
 }
 
-/// How many bytes of a text that is no UTF-8 are.
+/// How many bytes stand before the first one that begins no character, if the text is no UTF-8.
 fn valid_len(text: &[u8]) -> Option<usize>
     ensures { MatchOption result (IsUtf8 text.now) (λ valid. IsValidUpTo text.now valid) }
 {

@@ -12,6 +12,3 @@ mod words;
 
 pub use lexer::{LexError, Lexed, lex, one_fault, one_reading, tokens_or_fault};
 pub use token::{Sign, Token, TokenKind, Word};
-
-#[cfg(test)]
-mod tests;

@@ -1,8 +1,48 @@
-//! The signs, by their bytes.
+//! The signs, by their spellings.
 ghost use Rattle.std.specs.Prelude.{◌≡◌};
+ghost use Rattle.ob_lexer.specs.Spelling.{spelling_of_sign};
 ghost use Rattle.ob_lexer.specs.Lexing.{pair_of, single_of};
 
 use crate::Sign;
+
+impl Sign {
+    /// How the sign is spelled in a program.
+    pub fn spelling(self) -> &'static str
+        ensures { result.now ≡ spelling_of_sign self }
+    {
+        match self {
+            Sign::OpenBrace => "{",
+            Sign::CloseBrace => "}",
+            Sign::OpenParen => "(",
+            Sign::CloseParen => ")",
+            Sign::OpenBracket => "[",
+            Sign::CloseBracket => "]",
+            Sign::Semicolon => ";",
+            Sign::Comma => ",",
+            Sign::Dot => ".",
+            Sign::At => "@",
+            Sign::Bar => "|",
+            Sign::DoubleColon => "::",
+            Sign::Arrow => "->",
+            Sign::DoubleGreater => ">>",
+            Sign::Equals => "=",
+            Sign::DoubleEquals => "==",
+            Sign::NotEquals => "!=",
+            Sign::Less => "<",
+            Sign::LessEquals => "<=",
+            Sign::Greater => ">",
+            Sign::GreaterEquals => ">=",
+            Sign::Plus => "+",
+            Sign::Minus => "-",
+            Sign::Star => "*",
+            Sign::Slash => "/",
+            Sign::Percent => "%",
+            Sign::Not => "!",
+            Sign::DoubleAmpersand => "&&",
+            Sign::DoubleBar => "||",
+        }
+    }
+}
 
 /// The sign of these two bytes.
 pub fn pair_of(first: u8, second: u8) -> Option<Sign>

@@ -1,6 +1,6 @@
 //! What a text begins with.
 ghost use Rattle.std.specs.Prelude.{◌≡◌, ◌<◌, ◌^◌, length, drop, slice_index, IfOk};
-ghost use Rattle.ob_lexer.specs.Lexing.{number_of, word_step, number_step, slash_step, sign_step, first_step, Gives};
+ghost use Rattle.ob_lexer.specs.Lexing.{number_of, word_step, number_step, slash_step, sign_step, first_step};
 ghost use Rattle.ob_lexer.specs.Reading.{IsUtf8Behind, IsStepAt};
 
 use crate::bytes::{Class, class_of, close_of, digits_in, going_on, line_len, word_in};
@@ -68,7 +68,7 @@ fn number_step(digits: &[u8]) -> Step
 }
 
 fn word_step(alloc: Global, bytes: &[u8]) -> Result<Step, Memory>
-    ensures { Gives result (word_step bytes.now) }
+    ensures { IfOk result (λ step. step ≡ word_step bytes.now) }
 {
     let length = bytes.len();
     if let Some(word) = word_of(bytes) {
@@ -129,7 +129,7 @@ fn sign_step(first: u8, rest: &[u8]) -> Step
 fn step_of(alloc: Global, text: &[u8]) -> Result<Step, Memory>
     requires some { 0 < length text.now }
     requires room { length text.now < 2 ^ 62 }
-    ensures { Gives result (first_step (slice_index text.now 0) (drop 1 text.now)) }
+    ensures { IfOk result (λ step. step ≡ first_step (slice_index text.now 0) (drop 1 text.now)) }
 {
     let [first, rest @ ..] = text else {
         unreachable!()

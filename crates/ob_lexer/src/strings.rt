@@ -1,7 +1,7 @@
 //! Strings.
-ghost use Rattle.std.specs.Prelude.{◌≡◌, ◌<◌, ◌^◌, length, [], false};
+ghost use Rattle.std.specs.Prelude.{◌≡◌, ◌<◌, ◌^◌, length, [], false, IfOk};
 ghost use Rattle.ob_lexer.specs.Spelling.{escaped};
-ghost use Rattle.ob_lexer.specs.Lexing.{heard_of, text_step, string_from, Gives};
+ghost use Rattle.ob_lexer.specs.Lexing.{heard_of, text_step, string_from};
 
 use crate::TokenKind;
 use crate::step::{Step, flaw};
@@ -57,7 +57,7 @@ fn heard_of(backslash: bool, byte: u8) -> Heard
 }
 
 fn text_step(alloc: Global, content: &[u8], length: usize) -> Result<Step, Memory>
-    ensures { Gives result (text_step content.now length) }
+    ensures { IfOk result (λ step. step ≡ text_step content.now length) }
 {
     match Text::of(alloc, content) {
         Ok(text) => Ok(Step::Token {
@@ -72,7 +72,7 @@ fn text_step(alloc: Global, content: &[u8], length: usize) -> Result<Step, Memor
 /// The string behind an opening quote.
 pub fn string_step(alloc: Global, text: &[u8]) -> Result<Step, Memory>
     requires { length text.now < 2 ^ 62 }
-    ensures { Gives result (string_from false [] 0 text.now) }
+    ensures { IfOk result (λ step. step ≡ string_from false [] 0 text.now) }
 {
     let mut content = Vec::new(alloc);
     let mut backslash = false;

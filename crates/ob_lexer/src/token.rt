@@ -1,5 +1,8 @@
 //! What a token is.
-use ob_base::{Name, Span, Text};
+ghost use Rattle.std.specs.Prelude.{◌≡◌, IfOk};
+
+use ob_base::{Duplicate, Memory, Name, Span, Text};
+use std::alloc::Global;
 
 /// A token of a program, with the place where it stands.
 #[derive(Debug, Drop)]
@@ -21,6 +24,27 @@ pub enum TokenKind {
     Word(Word),
     /// A sign.
     Sign(Sign),
+}
+
+impl Duplicate for TokenKind {
+    fn copy(&self, alloc: Global) -> Result<TokenKind, Memory> {
+        match self {
+            TokenKind::Name(name) => Ok(TokenKind::Name(name.copy(alloc)?)),
+            TokenKind::Number(number) => Ok(TokenKind::Number(*number)),
+            TokenKind::Text(text) => Ok(TokenKind::Text(text.copy(alloc)?)),
+            TokenKind::Word(word) => Ok(TokenKind::Word(*word)),
+            TokenKind::Sign(sign) => Ok(TokenKind::Sign(*sign)),
+        }
+    }
+}
+
+impl Duplicate for Token {
+    fn copy(&self, alloc: Global) -> Result<Token, Memory> {
+        Ok(Token {
+            kind: self.kind.copy(alloc)?,
+            span: self.span,
+        })
+    }
 }
 
 /// The reserved words, which are no names.

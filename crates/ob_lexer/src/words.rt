@@ -37,39 +37,42 @@ const WORDS: [Word; 29] = [
     Word::Is,
 ];
 
-fn spelling(word: Word) -> &'static [u8]
-    ensures { result.now ≡ spelling_of_word word }
-{
-    match word {
-        Word::Contract => b"contract",
-        Word::Asset => b"asset",
-        Word::Main => b"main",
-        Word::Interface => b"interface",
-        Word::Implements => b"implements",
-        Word::State => b"state",
-        Word::Transaction => b"transaction",
-        Word::Private => b"private",
-        Word::Returns => b"returns",
-        Word::Available => b"available",
-        Word::In => b"in",
-        Word::If => b"if",
-        Word::Else => b"else",
-        Word::While => b"while",
-        Word::Return => b"return",
-        Word::Revert => b"revert",
-        Word::Disown => b"disown",
-        Word::New => b"new",
-        Word::This => b"this",
-        Word::True => b"true",
-        Word::False => b"false",
-        Word::Int => b"int",
-        Word::Bool => b"bool",
-        Word::String => b"string",
-        Word::Owned => b"Owned",
-        Word::Unowned => b"Unowned",
-        Word::Shared => b"Shared",
-        Word::Where => b"where",
-        Word::Is => b"is",
+impl Word {
+    /// How the word is spelled in a program.
+    pub fn spelling(self) -> &'static str
+        ensures { result.now ≡ spelling_of_word self }
+    {
+        match self {
+            Word::Contract => "contract",
+            Word::Asset => "asset",
+            Word::Main => "main",
+            Word::Interface => "interface",
+            Word::Implements => "implements",
+            Word::State => "state",
+            Word::Transaction => "transaction",
+            Word::Private => "private",
+            Word::Returns => "returns",
+            Word::Available => "available",
+            Word::In => "in",
+            Word::If => "if",
+            Word::Else => "else",
+            Word::While => "while",
+            Word::Return => "return",
+            Word::Revert => "revert",
+            Word::Disown => "disown",
+            Word::New => "new",
+            Word::This => "this",
+            Word::True => "true",
+            Word::False => "false",
+            Word::Int => "int",
+            Word::Bool => "bool",
+            Word::String => "string",
+            Word::Owned => "Owned",
+            Word::Unowned => "Unowned",
+            Word::Shared => "Shared",
+            Word::Where => "where",
+            Word::Is => "is",
+        }
     }
 }
 
@@ -77,7 +80,7 @@ fn word_among(words: &[Word], bytes: &[u8]) -> Option<Word>
     ensures { result ≡ word_among words.now bytes.now }
 {
     for word in words {
-        if spelling(*word) == bytes {
+        if word.spelling().as_bytes() == bytes {
             return Some(*word);
         }
     }

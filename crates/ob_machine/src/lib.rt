@@ -4,8 +4,6 @@
 mod plain;
 mod ran;
 mod run;
-#[cfg(test)]
-mod tests;
 
 pub use plain::{Plain, PlainAddend, PlainSet, PlainSum, PlainTerm, PlainTx};
 pub use ran::{Early, Ran};

@@ -9,46 +9,46 @@ use Rattle.ob_lexer.specs.declared.token.Sign.TheVariants.{OpenParen, CloseParen
 use Rattle.ob_tree.specs.Exprs.{Expr, binary_expr}
 use Rattle.ob_tree.specs.ExprsView.{expr_of, exprs_of}
 use Rattle.ob_tree.specs.declared.expr.Expr as made
-use Rattle.ob_parser.specs.Rows.{joined}
-use Rattle.ob_parser.specs.ExprRows.{place_of, expr}
-use Rattle.ob_parser.specs.Readers.{Read, done, stop, deep, Reader, ◌>>=◌, begin_with, behind, open_if, read_opened, read_maybe, read_many_from, place_between}
-use Rattle.ob_parser.specs.NameReaders.{on, read_item, read_parted, read_counted}
-use Rattle.ob_parser.specs.Operators.{operator_if, signs_of_row}
-use Rattle.ob_parser.specs.Chains.{Counted, Step, count_after, with_step, with_steps, steps_of, maybe_of, read_step, read_chain, read_single}
-use Rattle.ob_parser.specs.ExprReaders.{unary_if, unary_signs, negated}
-use Rattle.ob_parser.specs.Primaries.{expr_first, grouped, read_group, arguments_of, read_arguments, read_primary}
-use Rattle.ob_parser.specs.AllReaders.{all_refs, all_unary, all_counted, all_exprs}
+use Rattle.ob_grammar.specs.Rows.{joined}
+use Rattle.ob_grammar.specs.ExprRows.{place_of, expr}
+use Rattle.ob_grammar.specs.Readers.{Read, done, stop, deep, Reader, ◌>>=◌, begin_with, behind, open_if, read_opened, read_maybe, read_many_from, place_between}
+use Rattle.ob_grammar.specs.NameReaders.{on, read_item, read_parted, read_counted}
+use Rattle.ob_grammar.specs.Operators.{operator_if, signs_of_level}
+use Rattle.ob_grammar.specs.Chains.{Counted, Step, count_after, with_step, with_steps, steps_of, maybe_of, read_step, read_chain, read_single}
+use Rattle.ob_grammar.specs.ExprReaders.{unary_if, unary_signs, negated}
+use Rattle.ob_grammar.specs.Primaries.{expr_first, grouped, read_group, arguments_of, read_arguments, read_primary}
+use Rattle.ob_grammar.specs.AllReaders.{all_refs, all_unary, all_counted, all_exprs}
 use Rattle.ob_parser.specs.declared.levels.Level.{Level}
 use Rattle.ob_parser.specs.declared.levels.Level.TheVariants.{Or, And, Equality, Relation, Sum, Product}
 use Rattle.ob_parser.specs.declared.halt.Halt.{Halt}
-use Rattle.ob_parser.specs.Levels.{number_of_row, repeats, read_row, read_operand, read_further}
+use Rattle.ob_parser.specs.Levels.{number_of_level, repeats, read_row, read_operand, read_further}
 use Rattle.ob_parser.specs.Answering.{Halts, Answers, prefixed}
-use Rattle.ob_parser.proofs.Laws.{Laws, Case, is_done, is_stop, is_deep, case_of}
-use Rattle.ob_parser.proofs.Lists.{behind_sign, item_laws}
-use Rattle.ob_parser.proofs.Chains.{at_row}
-use Rattle.ob_parser.proofs.ExprLaws.{after_operand, row_1, row_2, row_3, row_4, row_5, row_6}
-use Rattle.ob_parser.proofs.DepthLaws.{unary_all, after_expr}
-use Rattle.ob_parser.proofs.Arguments.{expr_laws}
-use Rattle.ob_parser.proofs.Deeper.{unary_step}
+use Rattle.ob_grammar.proofs.Laws.{Laws, Case, is_done, is_stop, is_deep, case_of}
+use Rattle.ob_grammar.proofs.Lists.{behind_sign, item_laws}
+use Rattle.ob_grammar.proofs.Chains.{at_level}
+use Rattle.ob_grammar.proofs.ExprLaws.{after_operand, row_1, row_2, row_3, row_4, row_5, row_6}
+use Rattle.ob_grammar.proofs.DepthLaws.{unary_all, after_expr}
+use Rattle.ob_grammar.proofs.Arguments.{expr_laws}
+use Rattle.ob_grammar.proofs.Deeper.{unary_step}
 use Rattle.ob_parser.proofs.Loops.{Consumes, consumes, halts_bind, one_more_from, halts_from}
 
 -- ---- operands have tokens
 
-unary_laws : (r : ℕ) → r < 256 → Laws r (at_row 7) (all_unary r) expr_first after_operand false
+unary_laws : (r : ℕ) → r < 256 → Laws r (at_level 7) (all_unary r) expr_first after_operand false
 unfolding all_unary
 unary_laws r less = unary_all 256 r less
 
 module _ (room : ℕ) (less : room < 256) where
-  below : (r : ℕ) → r ≤ room → Laws r (at_row 7) (all_unary r) expr_first after_operand false
+  below : (r : ℕ) → r ≤ room → Laws r (at_level 7) (all_unary r) expr_first after_operand false
   below r few = unary_laws r (omega (arith, few, less))
 
   operand_consumes : (level : Level) → Consumes (read_operand level room)
-  operand_consumes Or = consumes room (at_row 2) _ expr_first _ (row_2 expr_first all_unary room below room (omega arith))
-  operand_consumes And = consumes room (at_row 3) _ expr_first _ (row_3 expr_first all_unary room below room (omega arith))
-  operand_consumes Equality = consumes room (at_row 4) _ expr_first _ (row_4 expr_first all_unary room below room (omega arith))
-  operand_consumes Relation = consumes room (at_row 5) _ expr_first _ (row_5 expr_first all_unary room below room (omega arith))
-  operand_consumes Sum = consumes room (at_row 6) _ expr_first _ (row_6 expr_first all_unary room below room (omega arith))
-  operand_consumes Product = consumes room (at_row 7) _ expr_first _ (below room (omega arith))
+  operand_consumes Or = consumes room (at_level 2) _ expr_first _ (row_2 expr_first all_unary room below room (omega arith))
+  operand_consumes And = consumes room (at_level 3) _ expr_first _ (row_3 expr_first all_unary room below room (omega arith))
+  operand_consumes Equality = consumes room (at_level 4) _ expr_first _ (row_4 expr_first all_unary room below room (omega arith))
+  operand_consumes Relation = consumes room (at_level 5) _ expr_first _ (row_5 expr_first all_unary room below room (omega arith))
+  operand_consumes Sum = consumes room (at_level 6) _ expr_first _ (row_6 expr_first all_unary room below room (omega arith))
+  operand_consumes Product = consumes room (at_level 7) _ expr_first _ (below room (omega arith))
 
 module _ {A B : Type 0} (more room : ℕ) (p : ℕ → Reader B) where
   fewer_behind : (x : A) (t : Token) (ts : List Token) (y : A × B) (rest : List Token) → Consumes (p (room - more)) → Case (p (room - more) ts) → (p (room - more) ts >>= (λ z left. done (x, z) left)) ≡ done y rest → length rest < length (t ∷ ts)
@@ -71,14 +71,14 @@ module _ {A B : Type 0} (more room : ℕ) (p : ℕ → Reader B) where
   fewer_opened f [] y rest c is = absurd cc
   fewer_opened f (t ∷ ts) y rest c is = fewer_in (f t) t ts y rest c is
 
-step_consumes : (level : Level) (room : ℕ) → room < 256 → (n : ℕ) → Consumes (read_step (operator_if (number_of_row level)) (read_operand level) room n)
+step_consumes : (level : Level) (room : ℕ) → room < 256 → (n : ℕ) → Consumes (read_step (operator_if (number_of_level level)) (read_operand level) room n)
 step_consumes level room less n = record {
-  fewer = λ ts y rest is. fewer_opened (n + 1) room (read_operand level) (operator_if (number_of_row level)) ts y rest (operand_consumes (room - (n + 1)) (omega (arith, less)) level) is;
+  fewer = λ ts y rest is. fewer_opened (n + 1) room (read_operand level) (operator_if (number_of_level level)) ts y rest (operand_consumes (room - (n + 1)) (omega (arith, less)) level) is;
 }
 
 -- how many tokens are left behind an operator and its operand
-pub fewer_left : (level : Level) (room : ℕ) → room < 256 → (ts rest : List Token) (x : Step) → read_opened (operator_if (number_of_row level)) 1 room (read_operand level) ts ≡ done x rest → length rest < length ts
-fewer_left level room less ts rest x is = fewer_opened 1 room (read_operand level) (operator_if (number_of_row level)) ts x rest (operand_consumes (room - 1) (omega (arith, less)) level) is
+pub fewer_left : (level : Level) (room : ℕ) → room < 256 → (ts rest : List Token) (x : Step) → read_opened (operator_if (number_of_level level)) 1 room (read_operand level) ts ≡ done x rest → length rest < length ts
+fewer_left level room less ts rest x is = fewer_opened 1 room (read_operand level) (operator_if (number_of_level level)) ts x rest (operand_consumes (room - 1) (omega (arith, less)) level) is
 
 -- an argument behind a comma
 argument_laws : (room : ℕ) → room < 256 → Laws room expr (all_exprs room) expr_first after_expr false
@@ -126,10 +126,10 @@ put_step c x (deep rest) = refl
 
 module _ (level : Level) (room : ℕ) where
   abbrev kinds : List ℕ
-  kinds = signs_of_row (number_of_row level)
+  kinds = signs_of_level (number_of_level level)
 
   abbrev operator : Token → Option (Operator × Span)
-  operator = operator_if (number_of_row level)
+  operator = operator_if (number_of_level level)
 
   abbrev step : ℕ → Reader Step
   step = read_step operator (read_operand level) room
@@ -185,7 +185,7 @@ module _ (level : Level) (room : ℕ) where
       (halts_bind e (step c.1 mid) (λ x rest. done (Some x) rest) (rw (step_is (read_operand level) room c.1 operator mid) is))))
 
 -- which rows don't repeat
-pub row_is_single : (level : Level) (room : ℕ) (ts : List Token) → repeats level ≡ false → read_row level room ts ≡ read_single (signs_of_row (number_of_row level)) (operator_if (number_of_row level)) (read_operand level) room ts
+pub row_is_single : (level : Level) (room : ℕ) (ts : List Token) → repeats level ≡ false → read_row level room ts ≡ read_single (signs_of_level (number_of_level level)) (operator_if (number_of_level level)) (read_operand level) room ts
 row_is_single Or room ts is = absurd cc
 row_is_single And room ts is = absurd cc
 row_is_single Equality room ts is = refl

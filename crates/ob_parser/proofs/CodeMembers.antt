@@ -1,18 +1,18 @@
 -- That the rows of the loops over parameters, fields, members and contracts have tokens.
 use Rattle.std.proofs.Common.{ℕ, ◌<◌, refl, [], ◌∷◌}
 use Rattle.ob_lexer.specs.declared.token.Sign.TheVariants.{Comma}
-use Rattle.ob_parser.specs.MemberRows.{param, listed, field, member, interface_member, contract}
-use Rattle.ob_parser.specs.Symbols.{a_name, number}
-use Rattle.ob_parser.specs.NameReaders.{on, read_item, read_named}
-use Rattle.ob_parser.specs.MemberReaders.{types, read_param, read_listed, read_field}
-use Rattle.ob_parser.specs.ContractReaders.{member_first, read_member, promise_first, read_interface_member, contract_first, read_contract}
-use Rattle.ob_parser.specs.AllReaders.{all_refs, all_blocks}
-use Rattle.ob_parser.proofs.Lists.{behind_sign, item_laws}
-use Rattle.ob_parser.proofs.ParamLaws.{param_laws, listed_laws}
-use Rattle.ob_parser.proofs.FieldLaws.{field_laws}
-use Rattle.ob_parser.proofs.MemberLaws.{member_laws, interface_member_laws}
-use Rattle.ob_parser.proofs.ContractLaws.{contract_laws}
-use Rattle.ob_parser.proofs.BlockLaws.{all_refs_laws, all_named_laws, all_blocks_laws}
+use Rattle.ob_grammar.specs.MemberRows.{param, listed, field, member, interface_member, contract}
+use Rattle.ob_grammar.specs.Symbols.{a_name, number}
+use Rattle.ob_grammar.specs.NameReaders.{on, read_item, read_named}
+use Rattle.ob_grammar.specs.MemberReaders.{types, read_param, read_listed, read_field}
+use Rattle.ob_grammar.specs.ContractReaders.{member_first, read_member, promise_first, read_interface_member, contract_first, read_contract}
+use Rattle.ob_grammar.specs.AllReaders.{all_refs, all_blocks}
+use Rattle.ob_grammar.proofs.Lists.{behind_sign, item_laws}
+use Rattle.ob_grammar.proofs.ParamLaws.{param_laws, listed_laws}
+use Rattle.ob_grammar.proofs.FieldLaws.{field_laws}
+use Rattle.ob_grammar.proofs.MemberLaws.{member_laws, interface_member_laws}
+use Rattle.ob_grammar.proofs.ContractLaws.{contract_laws}
+use Rattle.ob_grammar.proofs.BlockLaws.{all_refs_laws, all_named_laws, all_blocks_laws}
 use Rattle.ob_parser.proofs.Loops.{Consumes, consumes}
 
 module _ (room : ℕ) (less : room < 256) where

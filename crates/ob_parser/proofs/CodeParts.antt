@@ -3,9 +3,9 @@ use Rattle.std.proofs.Common.{ℕ, ◌≡◌, ◌-◌, List, Option, ap, ◌∙�
 use Rattle.ob_base.specs.declared.fault.Span.{Span}
 use Rattle.ob_lexer.specs.declared.token.Token.{Token}
 use Rattle.ob_lexer.specs.declared.token.Sign.{Sign}
-use Rattle.ob_parser.specs.Symbols.{a_sign}
-use Rattle.ob_parser.specs.Readers.{Read, done, Reader, ◌>>=◌, behind, place_if, read_token, read_opened, put_before, read_many}
-use Rattle.ob_parser.specs.NameReaders.{on, second, read_item, read_parted, inner, read_counted}
+use Rattle.ob_grammar.specs.Symbols.{a_sign}
+use Rattle.ob_grammar.specs.Readers.{Read, done, Reader, ◌>>=◌, behind, place_if, read_token, read_opened, put_before, read_many}
+use Rattle.ob_grammar.specs.NameReaders.{on, second, read_item, read_parted, inner, read_counted}
 use Rattle.ob_parser.specs.Answering.{Halts, read_open}
 use Rattle.ob_parser.specs.declared.halt.Halt.{Halt}
 use Rattle.ob_parser.proofs.Loops.{halts_bind}

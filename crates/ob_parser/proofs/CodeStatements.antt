@@ -1,15 +1,15 @@
 -- That the loops' rows of statements have tokens.
 use Rattle.std.proofs.Common.{ℕ, ◌<◌, refl}
 use Rattle.ob_lexer.specs.declared.token.Sign.TheVariants.{Comma}
-use Rattle.ob_parser.specs.StmtRows.{given, stmt}
-use Rattle.ob_parser.specs.Symbols.{a_name, number}
-use Rattle.ob_parser.specs.NameReaders.{on, read_item}
-use Rattle.ob_parser.specs.StmtReaders.{read_given, stmt_first, read_stmt}
-use Rattle.ob_parser.specs.AllReaders.{all_refs, all_counted, all_exprs, all_branches}
-use Rattle.ob_parser.proofs.Lists.{behind_sign, item_laws}
-use Rattle.ob_parser.proofs.DepthLaws.{after_expr}
-use Rattle.ob_parser.proofs.GivenLaws.{given_laws}
-use Rattle.ob_parser.proofs.BlockLaws.{all_refs_laws, all_counted_laws, all_exprs_laws, all_branches_laws, after_stmt, stmt_laws}
+use Rattle.ob_grammar.specs.StmtRows.{given, stmt}
+use Rattle.ob_grammar.specs.Symbols.{a_name, number}
+use Rattle.ob_grammar.specs.NameReaders.{on, read_item}
+use Rattle.ob_grammar.specs.StmtReaders.{read_given, stmt_first, read_stmt}
+use Rattle.ob_grammar.specs.AllReaders.{all_refs, all_counted, all_exprs, all_branches}
+use Rattle.ob_grammar.proofs.Lists.{behind_sign, item_laws}
+use Rattle.ob_grammar.proofs.DepthLaws.{after_expr}
+use Rattle.ob_grammar.proofs.GivenLaws.{given_laws}
+use Rattle.ob_grammar.proofs.BlockLaws.{all_refs_laws, all_counted_laws, all_exprs_laws, all_branches_laws, after_stmt, stmt_laws}
 use Rattle.ob_parser.proofs.Loops.{Consumes, consumes}
 use Rattle.std.proofs.Common.{[], ◌∷◌}
 

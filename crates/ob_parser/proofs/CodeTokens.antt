@@ -3,9 +3,9 @@ use Rattle.std.proofs.Common.{ℕ, nat_le, inl, inr, Option, Some, None, ◌≡�
 use Rattle.std.specs.List.{list_any}
 use Rattle.std.proofs.lemmas.Bool.{cases_Bool}
 use Rattle.ob_lexer.specs.declared.token.Token.{Token}
-use Rattle.ob_parser.specs.Rows.{joined}
-use Rattle.ob_parser.specs.Symbols.{number}
-use Rattle.ob_parser.specs.Readers.{Reader, ◌>>=◌, is_of, behind, open_if, read_opened, last_place, place_of_tokens}
+use Rattle.ob_grammar.specs.Rows.{joined}
+use Rattle.ob_grammar.specs.Symbols.{number}
+use Rattle.ob_grammar.specs.Readers.{Reader, ◌>>=◌, is_of, behind, open_if, read_opened, last_place, place_of_tokens}
 use Rattle.ob_parser.specs.Answering.{symbol_for, numbers, open_in, read_open}
 use Rattle.ob_parser.specs.declared.tokens.Symbol.{Symbol as Wanted}
 

@@ -3,13 +3,13 @@ use Rattle.std.proofs.Common.{ℕ, suc, zero, ◌≡◌, ◌<◌, ◌≤◌, ◌
 use Rattle.std.proofs.lemmas.Bool.{cases_Bool}
 use Rattle.std.proofs.lemmas.List.{length-append, map-append}
 use Rattle.ob_lexer.specs.declared.token.Token.{Token}
-use Rattle.ob_parser.specs.Readers.{Read, done, stop, deep, Reader, ◌>>=◌, begin_with, behind, put_before, read_each, read_many_from, read_many}
-use Rattle.ob_parser.specs.Rows.{Row, Loaded}
-use Rattle.ob_parser.specs.Grammar.{tokens_of}
+use Rattle.ob_grammar.specs.Readers.{Read, done, stop, deep, Reader, ◌>>=◌, begin_with, behind, put_before, read_each, read_many_from, read_many}
+use Rattle.ob_grammar.specs.Rows.{Row, Loaded}
+use Rattle.ob_grammar.specs.Grammar.{tokens_of}
 use Rattle.ob_parser.specs.Answering.{Halts, prefixed}
 use Rattle.ob_parser.specs.declared.halt.Halt.{Halt}
 use Rattle.ob_parser.specs.declared.halt.Halt.TheVariants as halt
-use Rattle.ob_parser.proofs.Laws.{Begin, Laws, Case, is_done, is_stop, is_deep, case_of}
+use Rattle.ob_grammar.proofs.Laws.{Begin, Laws, Case, is_done, is_stop, is_deep, case_of}
 
 -- what is read has a token
 pub record Consumes {A : Type 0} (p : Reader A) : Type 0 where

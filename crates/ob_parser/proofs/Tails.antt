@@ -4,10 +4,10 @@ use Rattle.std.specs.Borrow.{Bor}
 use Rattle.ob_base.specs.declared.fault.Span.{Span}
 use Rattle.ob_lexer.specs.declared.token.Token.{Token}
 use Rattle.ob_lexer.specs.declared.token.Sign.{Sign}
-use Rattle.ob_parser.specs.Symbols.{a_sign}
-use Rattle.ob_parser.specs.Readers.{Read, done, stop, deep, Reader, ◌>>=◌, begin_with, place_if, read_token, read_as, read_maybe, read_many}
-use Rattle.ob_parser.specs.NameReaders.{read_item}
-use Rattle.ob_parser.specs.MemberReaders.{list_of}
+use Rattle.ob_grammar.specs.Symbols.{a_sign}
+use Rattle.ob_grammar.specs.Readers.{Read, done, stop, deep, Reader, ◌>>=◌, begin_with, place_if, read_token, read_as, read_maybe, read_many}
+use Rattle.ob_grammar.specs.NameReaders.{read_item}
+use Rattle.ob_grammar.specs.MemberReaders.{list_of}
 use Rattle.ob_parser.specs.Answering.{Halts, Answers, prefixed}
 use Rattle.ob_parser.specs.declared.halt.Halt.{Halt}
 use Rattle.ob_parser.proofs.Loops.{halts_bind, halts_more}

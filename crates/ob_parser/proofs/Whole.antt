@@ -6,18 +6,18 @@ use Rattle.ob_base.specs.Faults.{expected, too_deep}
 use Rattle.ob_base.specs.declared.fault.Span.{Span}
 use Rattle.ob_lexer.specs.declared.token.Token.{Token}
 use Rattle.ob_tree.specs.Members.{Contract}
-use Rattle.ob_parser.specs.MemberRows.{program}
-use Rattle.ob_parser.specs.Grammar.{tokens_of, HasTree, fault_in, HasSyntaxFault}
-use Rattle.ob_parser.specs.Readers.{Read, done, stop, deep, Reader}
-use Rattle.ob_parser.specs.ContractReaders.{contract_first}
-use Rattle.ob_parser.specs.AllReaders.{all_programs}
+use Rattle.ob_grammar.specs.MemberRows.{program}
+use Rattle.ob_grammar.specs.Grammar.{tokens_of, HasTree, fault_in, HasSyntaxFault}
+use Rattle.ob_grammar.specs.Readers.{Read, done, stop, deep, Reader}
+use Rattle.ob_grammar.specs.ContractReaders.{contract_first}
+use Rattle.ob_grammar.specs.AllReaders.{all_programs}
 use Rattle.ob_parser.specs.Answering.{Halts, not_halted, stopped_with, deep_with}
 use Rattle.ob_parser.specs.Parsing.{OnFault, whole, first_place, place_at, error_at}
 use Rattle.ob_parser.specs.declared.halt.Halt.{Halt}
 use Rattle.ob_parser.specs.declared.halt.Halt.TheVariants as halt
-use Rattle.ob_parser.proofs.Laws.{Laws, Case, is_done, is_stop, is_deep, case_of}
-use Rattle.ob_parser.proofs.Outcomes.{has_tree, refused_at_token, refused_behind, refused_at_end, refused_deep}
-use Rattle.ob_parser.proofs.ProgramLaws.{whole_laws}
+use Rattle.ob_grammar.proofs.Laws.{Laws, Case, is_done, is_stop, is_deep, case_of}
+use Rattle.ob_grammar.proofs.Outcomes.{has_tree, refused_at_token, refused_behind, refused_at_end, refused_deep}
+use Rattle.ob_grammar.proofs.ProgramLaws.{whole_laws}
 
 -- what isn't read isn't read with nothing behind it
 pub halts_whole : {A : Type 0} (e : Halt) (read : Read A) → Halts e read → Halts e (whole read)

@@ -2,8 +2,8 @@
 use Rattle.std.specs.Prelude.{ℕ, cond, nat_le, ◌≡◌, ◌++◌, List, [], ◌∷◌, length, Option, Some, None, Result, Ok, Err, map}
 use Rattle.std.specs.Borrow.{Bor}
 use Rattle.ob_lexer.specs.declared.token.Token.{Token}
-use Rattle.ob_parser.specs.Symbols.{Symbol, a_name, a_number, a_text, number, a_word, a_sign}
-use Rattle.ob_parser.specs.Readers.{Read, done, stop, deep, Reader, ◌>>=◌}
+use Rattle.ob_grammar.specs.Symbols.{Symbol, a_name, a_number, a_text, number, a_word, a_sign}
+use Rattle.ob_grammar.specs.Readers.{Read, done, stop, deep, Reader, ◌>>=◌}
 use Rattle.ob_parser.specs.declared.tokens.Symbol.{Symbol as Wanted}
 use Rattle.ob_parser.specs.declared.tokens.Symbol.TheVariants as wanted
 use Rattle.ob_parser.specs.declared.halt.Halt.{Halt}

@@ -4,7 +4,7 @@ use Rattle.ob_tree.specs.ExprsView.{expr_of}
 use Rattle.ob_tree.specs.StmtsView.{block_of, else_of}
 use Rattle.ob_tree.specs.declared.expr.Expr.{Expr as ExprNode}
 use Rattle.ob_tree.specs.declared.name.NamePart.{NamePart}
-use Rattle.ob_parser.specs.StmtReaders.{Question, tested, asked, Branches}
+use Rattle.ob_grammar.specs.StmtReaders.{Question, tested, asked, Branches}
 use Rattle.ob_parser.specs.declared.statements.QuestionPart.{QuestionPart}
 use Rattle.ob_parser.specs.declared.statements.QuestionPart.TheVariants as part
 use Rattle.ob_parser.specs.declared.statements.BranchesPart.{BranchesPart}

@@ -5,8 +5,8 @@ use Rattle.ob_tree.specs.Exprs.{Exprs}
 use Rattle.ob_tree.specs.ExprsView.{expr_of, exprs_of}
 use Rattle.ob_tree.specs.declared.name.NamePart.{NamePart}
 use Rattle.ob_tree.specs.declared.expr.Expr as made
-use Rattle.ob_parser.specs.Chains.{Counted, Step}
-use Rattle.ob_parser.specs.Primaries.{Tail, method, applied}
+use Rattle.ob_grammar.specs.Chains.{Counted, Step}
+use Rattle.ob_grammar.specs.Primaries.{Tail, method, applied}
 use Rattle.ob_parser.specs.declared.primaries.TailPart.{TailPart}
 use Rattle.ob_parser.specs.declared.primaries.TailPart.TheVariants.{Method, Applied}
 use Rattle.ob_parser.specs.declared.primaries.Operation.{Operation}

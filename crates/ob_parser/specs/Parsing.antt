@@ -7,8 +7,8 @@ use Rattle.ob_lexer.specs.declared.token.Token.{Token}
 use Rattle.ob_tree.specs.Members.{Contract}
 use Rattle.ob_tree.specs.MembersView.{tree_of}
 use Rattle.ob_tree.specs.declared.contract.Tree.{Tree}
-use Rattle.ob_parser.specs.Grammar.{fault_in}
-use Rattle.ob_parser.specs.Readers.{Read, done, stop, deep}
+use Rattle.ob_grammar.specs.Grammar.{fault_in}
+use Rattle.ob_grammar.specs.Readers.{Read, done, stop, deep}
 use Rattle.ob_parser.specs.Answering.{Halts}
 use Rattle.ob_parser.specs.declared.halt.Halt.{Halt}
 use Rattle.ob_parser.specs.declared.halt.Halt.TheVariants as halt

@@ -6,8 +6,8 @@ use Rattle.ob_tree.specs.NamesView.{named_of, type_of}
 use Rattle.ob_tree.specs.StmtsView.{block_of}
 use Rattle.ob_tree.specs.MembersView.{formal_of, listed_of, member_of}
 use Rattle.ob_tree.specs.declared.member.Member.{Member as MemberNode}
-use Rattle.ob_parser.specs.MemberReaders.{Head}
-use Rattle.ob_parser.specs.ContractReaders.{MemberTail, constructed, held, Title, Kind}
+use Rattle.ob_grammar.specs.MemberReaders.{Head}
+use Rattle.ob_grammar.specs.ContractReaders.{MemberTail, constructed, held, Title, Kind}
 use Rattle.ob_parser.specs.declared.contracts.KindPart.{KindPart}
 use Rattle.ob_parser.specs.declared.contracts.TitlePart.{TitlePart}
 use Rattle.ob_parser.specs.declared.members.AccessPart.{AccessPart}

@@ -10,10 +10,10 @@
 ghost use Rattle.std.specs.Prelude.{◌≡◌, map, option_map};
 ghost use Rattle.ob_tree.specs.NamesView.{named_of};
 ghost use Rattle.ob_tree.specs.MembersView.{member_of, contract_of};
-ghost use Rattle.ob_parser.specs.Readers.{read_many};
-ghost use Rattle.ob_parser.specs.NameReaders.{read_named};
-ghost use Rattle.ob_parser.specs.ContractReaders.{member_first, read_member, promise_first, read_interface_member, read_flag, read_bound, read_generic, read_maybe_generic, read_title, read_body, read_implements, read_contract_kind, read_interface_kind, read_kind, contract_of as made_contract, read_main, read_other, read_contract};
-ghost use Rattle.ob_parser.specs.AllReaders.{all_refs, all_blocks, all_programs};
+ghost use Rattle.ob_grammar.specs.Readers.{read_many};
+ghost use Rattle.ob_grammar.specs.NameReaders.{read_named};
+ghost use Rattle.ob_grammar.specs.ContractReaders.{member_first, read_member, promise_first, read_interface_member, read_flag, read_bound, read_generic, read_maybe_generic, read_title, read_body, read_implements, read_contract_kind, read_interface_kind, read_kind, contract_of as made_contract, read_main, read_other, read_contract};
+ghost use Rattle.ob_grammar.specs.AllReaders.{all_refs, all_blocks, all_programs};
 ghost use Rattle.ob_parser.specs.Parts.{title_part, body_parts, kind_part};
 ghost use Rattle.ob_parser.specs.Answering.{Answers, AnswersBoth, as_it_is};
 

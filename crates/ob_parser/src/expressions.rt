@@ -18,14 +18,14 @@
 ghost use Rattle.std.specs.Prelude.{◌+◌, ◌≤◌, map, IfOk};
 ghost use Rattle.ob_lexer.specs.declared.token.Sign.TheVariants.{Comma};
 ghost use Rattle.ob_tree.specs.ExprsView.{expr_of, exprs_of};
-ghost use Rattle.ob_parser.specs.Readers.{read_as, read_opened};
-ghost use Rattle.ob_parser.specs.NameReaders.{read_parted};
-ghost use Rattle.ob_parser.specs.Operators.{operator_if, signs_of_row};
-ghost use Rattle.ob_parser.specs.Chains.{read_chain, read_single};
-ghost use Rattle.ob_parser.specs.Primaries.{uncounted, read_group, read_arguments, read_applied, read_new, read_method, read_this, read_tail, read_name, read_primary};
-ghost use Rattle.ob_parser.specs.StmtReaders.{read_called_name, read_called_this};
-ghost use Rattle.ob_parser.specs.AllReaders.{all_refs, all_unary, all_counted, all_exprs};
-ghost use Rattle.ob_parser.specs.Levels.{number_of_row, read_row, read_operand};
+ghost use Rattle.ob_grammar.specs.Readers.{read_as, read_opened};
+ghost use Rattle.ob_grammar.specs.NameReaders.{read_parted};
+ghost use Rattle.ob_grammar.specs.Operators.{operator_if, signs_of_level};
+ghost use Rattle.ob_grammar.specs.Chains.{read_chain, read_single};
+ghost use Rattle.ob_grammar.specs.Primaries.{uncounted, read_group, read_arguments, read_applied, read_new, read_method, read_this, read_tail, read_name, read_primary};
+ghost use Rattle.ob_grammar.specs.StmtReaders.{read_called_name, read_called_this};
+ghost use Rattle.ob_grammar.specs.AllReaders.{all_refs, all_unary, all_counted, all_exprs};
+ghost use Rattle.ob_parser.specs.Levels.{number_of_level, read_row, read_operand};
 ghost use Rattle.ob_parser.specs.Answering.{Answers, AnswersBoth};
 ghost use Rattle.ob_parser.specs.ExprAnswers.{with_count, with_none, tail_of, method_parts, step_of};
 
@@ -96,7 +96,7 @@ fn chain(
     tokens: &[Token],
 ) -> Result<(Expr, u8, &[Token]), Halt>
     ensures read { AnswersBoth with_count result
-        (read_chain (signs_of_row (number_of_row level)) (operator_if (number_of_row level)) (read_operand level) room tokens.now) }
+        (read_chain (signs_of_level (number_of_level level)) (operator_if (number_of_level level)) (read_operand level) room tokens.now) }
     ensures few { IfOk result (λ x. x.1 ≤ room) }
 {
     let (first, before, rest) = operand(alloc, level, room, tokens)?;
@@ -121,7 +121,7 @@ fn single(
     tokens: &[Token],
 ) -> Result<(Expr, u8, &[Token]), Halt>
     ensures read { AnswersBoth with_count result
-        (read_single (signs_of_row (number_of_row level)) (operator_if (number_of_row level)) (read_operand level) room tokens.now) }
+        (read_single (signs_of_level (number_of_level level)) (operator_if (number_of_level level)) (read_operand level) room tokens.now) }
     ensures few { IfOk result (λ x. x.1 ≤ room) }
 {
     let (left, count, rest) = operand(alloc, level, room, tokens)?;
@@ -158,7 +158,7 @@ fn operation(
     room: u8,
     tokens: &[Token],
 ) -> Result<(Operation, u8, &[Token]), Halt>
-    ensures read { AnswersBoth step_of result (read_opened (operator_if (number_of_row level)) 1 room (read_operand level) tokens.now) }
+    ensures read { AnswersBoth step_of result (read_opened (operator_if (number_of_level level)) 1 room (read_operand level) tokens.now) }
     ensures few { IfOk result (λ x. x.1 + 1 ≤ room) }
 {
     let (operator, sign, rest) = opens_operator(level, room, tokens)?;

@@ -3,7 +3,7 @@ use ob_base::Memory;
 use std::alloc::AllocError;
 
 /// Why a row wasn't read, and how many tokens are left from the refused one on: none, where one more was expected.
-#[derive(Clone, Copy, PartialEq, Eq, Debug)]
+#[derive(Clone, Copy)]
 pub enum Halt {
     /// Nothing that begins as the tokens before this one goes on with it.
     Expected { left: usize },

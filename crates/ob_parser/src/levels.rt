@@ -1,4 +1,4 @@
-//! The operators of expressions, by their rows:
+//! The operators of expressions, by their levels, each with a row of the grammar:
 //!
 //! ```text
 //! expr  = and {"||" and}
@@ -11,11 +11,11 @@
 //! ```
 
 ghost use Rattle.std.specs.Prelude.{◌≡◌, ◌<◌, ◌≤◌, IfOk, IfSome};
-ghost use Rattle.ob_parser.specs.ExprRows.{row_of};
-ghost use Rattle.ob_parser.specs.Readers.{begin_with, read_token};
-ghost use Rattle.ob_parser.specs.Operators.{operator_of, operator_if, signs_of_row};
-ghost use Rattle.ob_parser.specs.ExprReaders.{unary_if};
-ghost use Rattle.ob_parser.specs.Levels.{number_of_row, rows_from, tighter, repeats, operator_with_place};
+ghost use Rattle.ob_tree.specs.Operators.{level_of};
+ghost use Rattle.ob_grammar.specs.Readers.{begin_with, read_token};
+ghost use Rattle.ob_grammar.specs.Operators.{operator_of, operator_if, signs_of_level};
+ghost use Rattle.ob_grammar.specs.ExprReaders.{unary_if};
+ghost use Rattle.ob_parser.specs.Levels.{number_of_level, levels_from, tighter, repeats, operator_with_place};
 ghost use Rattle.ob_parser.specs.Answering.{AnswersBoth, read_open};
 
 use crate::halt::Halt;
@@ -23,8 +23,8 @@ use crate::tokens::{Symbol, refused, starts_with, starts_with_one_of};
 use ob_base::{Operator, Span};
 use ob_lexer::{Sign, Token, TokenKind};
 
-/// The rows with binary operators, from the loosest to the tightest.
-#[derive(Clone, Copy, PartialEq, Eq, Debug)]
+/// The levels of operators with two operands, from the loosest to the tightest.
+#[derive(Clone, Copy)]
 pub enum Level {
     /// `expr`
     Or,
@@ -40,10 +40,10 @@ pub enum Level {
     Product,
 }
 
-/// The row of a row's operands, unless that is `unary`.
+/// The level of the operands, unless their row is `unary`.
 pub fn tighter(level: Level) -> Option<Level>
     ensures row { result ≡ tighter level }
-    ensures fewer { IfSome result (λ next. rows_from next < rows_from level) }
+    ensures fewer { IfSome result (λ next. levels_from next < levels_from level) }
 {
     match level {
         Level::Or => Some(Level::And),
@@ -55,15 +55,15 @@ pub fn tighter(level: Level) -> Option<Level>
     }
 }
 
-/// Whether a row may have more than one operator.
+/// Whether a row of this level may have more than one operator.
 pub fn repeats(level: Level) -> bool
     ensures { result ≡ repeats level }
 {
     !matches!(level, Level::Equality | Level::Relation)
 }
 
-fn number_of_row(level: Level) -> u8
-    ensures { result ≡ number_of_row level }
+fn number_of_level(level: Level) -> u8
+    ensures { result ≡ number_of_level level }
 {
     match level {
         Level::Or => 1,
@@ -101,9 +101,9 @@ const PRODUCT: [Symbol; 3] = [
     Symbol::Sign(Sign::Percent),
 ];
 
-/// Whether the first token is an operator of this row.
+/// Whether the first token is an operator of this level.
 pub fn starts_with_operator(level: Level, tokens: &[Token]) -> bool
-    ensures { result ≡ begin_with (signs_of_row (number_of_row level)) tokens.now }
+    ensures { result ≡ begin_with (signs_of_level (number_of_level level)) tokens.now }
 {
     match level {
         Level::Or => starts_with(tokens, Symbol::Sign(Sign::DoubleBar)),
@@ -136,9 +136,8 @@ fn operator_of(sign: Sign) -> Option<Operator>
     }
 }
 
-// The number of the row that has this operator.
-fn row_of(operator: Operator) -> u8
-    ensures { result ≡ row_of operator }
+fn level_of(operator: Operator) -> u8
+    ensures { result ≡ level_of operator }
 {
     match operator {
         Operator::Or => 1,
@@ -152,12 +151,12 @@ fn row_of(operator: Operator) -> u8
 }
 
 fn operator_token(level: Level, tokens: &[Token]) -> Result<(Operator, Span, &[Token]), Halt>
-    ensures { AnswersBoth operator_with_place result (read_token (operator_if (number_of_row level)) tokens.now) }
+    ensures { AnswersBoth operator_with_place result (read_token (operator_if (number_of_level level)) tokens.now) }
 {
     match tokens {
         [token, rest @ ..] => match &token.kind {
             TokenKind::Sign(sign) => match operator_of(*sign) {
-                Some(operator) if row_of(operator) == number_of_row(level) => {
+                Some(operator) if level_of(operator) == number_of_level(level) => {
                     Ok((operator, token.span, rest))
                 }
                 _ => Err(refused(tokens)),
@@ -168,13 +167,13 @@ fn operator_token(level: Level, tokens: &[Token]) -> Result<(Operator, Span, &[T
     }
 }
 
-/// An operator of this row. What stands behind it has one less room.
+/// An operator of this level. What stands behind it has one less room.
 pub fn opens_operator(
     level: Level,
     room: u8,
     tokens: &[Token],
 ) -> Result<(Operator, Span, &[Token]), Halt>
-    ensures read { AnswersBoth operator_with_place result (read_open (operator_if (number_of_row level)) 1 room tokens.now) }
+    ensures read { AnswersBoth operator_with_place result (read_open (operator_if (number_of_level level)) 1 room tokens.now) }
     ensures room { IfOk result (λ _. 1 ≤ room) }
 {
     let (operator, sign, rest) = operator_token(level, tokens)?;

@@ -17,8 +17,6 @@ mod simple;
 mod statements;
 #[cfg(test)]
 mod tests;
-mod theorems;
 mod tokens;
 
 pub use parsing::{ParseError, parse};
-pub use theorems::{layout_is_read_again, one_fault, one_tree, tree_or_fault};

@@ -13,10 +13,10 @@
 ghost use Rattle.std.specs.Prelude.{◌≡◌, map, option_map};
 ghost use Rattle.ob_tree.specs.NamesView.{ref_of, type_of};
 ghost use Rattle.ob_tree.specs.MembersView.{field_of, member_of};
-ghost use Rattle.ob_parser.specs.Readers.{read_many};
-ghost use Rattle.ob_parser.specs.MemberReaders.{types, read_states, read_available, read_field, read_result, read_head};
-ghost use Rattle.ob_parser.specs.ContractReaders.{read_braced, read_fields, read_state, read_privacy, read_transaction, read_value_field, read_constructed, read_held, read_member_tail, member_behind, read_behind_ref, read_member, read_bare_state, read_promise, read_interface_member};
-ghost use Rattle.ob_parser.specs.AllReaders.{all_refs, all_blocks};
+ghost use Rattle.ob_grammar.specs.Readers.{read_many};
+ghost use Rattle.ob_grammar.specs.MemberReaders.{types, read_states, read_available, read_field, read_result, read_head};
+ghost use Rattle.ob_grammar.specs.ContractReaders.{read_braced, read_fields, read_state, read_privacy, read_transaction, read_value_field, read_constructed, read_held, read_member_tail, member_behind, read_behind_ref, read_member, read_bare_state, read_promise, read_interface_member};
+ghost use Rattle.ob_grammar.specs.AllReaders.{all_refs, all_blocks};
 ghost use Rattle.ob_parser.specs.Parts.{access_part, head_part, tail_part};
 ghost use Rattle.ob_parser.specs.Answering.{Answers, as_it_is};
 

@@ -10,10 +10,10 @@
 
 ghost use Rattle.std.specs.Prelude.{◌≡◌, option_map, IfOk, IfErr};
 ghost use Rattle.ob_tree.specs.NamesView.{named_of, ref_of, type_of};
-ghost use Rattle.ob_parser.specs.Readers.{name_if, read_token};
-ghost use Rattle.ob_parser.specs.NameReaders.{read_counted, read_parted, read_item, read_argument, read_named, mode_if, mode_in, mode_with_place, read_perm};
-ghost use Rattle.ob_parser.specs.MemberReaders.{subject_if, value_type_if, read_type};
-ghost use Rattle.ob_parser.specs.AllReaders.{all_refs};
+ghost use Rattle.ob_grammar.specs.Readers.{name_if, read_token};
+ghost use Rattle.ob_grammar.specs.NameReaders.{read_counted, read_parted, read_item, read_argument, read_named, mode_if, mode_in, mode_with_place, read_perm};
+ghost use Rattle.ob_grammar.specs.MemberReaders.{subject_if, value_type_if, read_type};
+ghost use Rattle.ob_grammar.specs.AllReaders.{all_refs};
 ghost use Rattle.ob_parser.specs.Answering.{Answers, AnswersBoth, as_it_is};
 ghost use Rattle.ob_lexer.specs.declared.token.Sign.TheVariants.{OpenBracket, CloseBracket};
 ghost use Rattle.ob_parser.specs.declared.halt.Halt.TheVariants.{Memory};

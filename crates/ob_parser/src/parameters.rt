@@ -9,10 +9,10 @@
 ghost use Rattle.std.specs.Prelude.{map};
 ghost use Rattle.ob_lexer.specs.declared.token.Sign.TheVariants.{Comma};
 ghost use Rattle.ob_tree.specs.MembersView.{formal_of, listed_of};
-ghost use Rattle.ob_parser.specs.NameReaders.{read_item, read_parted};
-ghost use Rattle.ob_parser.specs.MemberReaders.{types, read_exit, read_param, read_listed, read_maybe_parted};
-ghost use Rattle.ob_parser.specs.ContractReaders.{read_parens, listed_behind};
-ghost use Rattle.ob_parser.specs.AllReaders.{all_refs};
+ghost use Rattle.ob_grammar.specs.NameReaders.{read_item, read_parted};
+ghost use Rattle.ob_grammar.specs.MemberReaders.{types, read_exit, read_param, read_listed, read_maybe_parted};
+ghost use Rattle.ob_grammar.specs.ContractReaders.{read_parens, listed_behind};
+ghost use Rattle.ob_grammar.specs.AllReaders.{all_refs};
 ghost use Rattle.ob_parser.specs.Answering.{Answers, as_it_is};
 
 use crate::halt::Halt;

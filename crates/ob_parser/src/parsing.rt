@@ -2,8 +2,8 @@
 
 ghost use Rattle.std.specs.Prelude.{◌≡◌, IfOk, IfErr};
 ghost use Rattle.ob_tree.specs.MembersView.{tree_of};
-ghost use Rattle.ob_parser.specs.Grammar.{HasTree, HasSyntaxFault};
-ghost use Rattle.ob_parser.specs.AllReaders.{all_programs};
+ghost use Rattle.ob_grammar.specs.Grammar.{HasTree, HasSyntaxFault};
+ghost use Rattle.ob_grammar.specs.AllReaders.{all_programs};
 ghost use Rattle.ob_parser.specs.Parsing.{OnFault, AnswersWhole, place_at, error_at};
 
 use crate::contracts::program;

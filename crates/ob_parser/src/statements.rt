@@ -13,9 +13,9 @@
 ghost use Rattle.std.specs.Prelude.{◌≡◌, IfOk, IfErr};
 ghost use Rattle.ob_tree.specs.Stmts.{block_with, and_stmt, no_stmts};
 ghost use Rattle.ob_tree.specs.StmtsView.{stmt_of, stmts_of, block_of, else_of};
-ghost use Rattle.ob_parser.specs.StmtRows.{end_of_else};
-ghost use Rattle.ob_parser.specs.StmtReaders.{read_tested, read_question, if_with, read_if, read_chained, read_block_or_if, read_alternative, read_stmt};
-ghost use Rattle.ob_parser.specs.AllReaders.{all_refs, all_counted, all_exprs, all_branches, all_stmts, all_blocks};
+ghost use Rattle.ob_grammar.specs.StmtRows.{end_of_else};
+ghost use Rattle.ob_grammar.specs.StmtReaders.{read_tested, read_question, if_with, read_if, read_chained, read_block_or_if, read_alternative, read_stmt};
+ghost use Rattle.ob_grammar.specs.AllReaders.{all_refs, all_counted, all_exprs, all_branches, all_stmts, all_blocks};
 ghost use Rattle.ob_parser.specs.Answering.{Answers};
 ghost use Rattle.ob_parser.specs.CodeStatements.{question_of, branches_of};
 ghost use Rattle.ob_parser.specs.declared.halt.Halt.TheVariants.{Memory};

@@ -1,8 +1,8 @@
 //! The first token, or the first two.
 ghost use Rattle.std.specs.Prelude.{◌≡◌, ◌≤◌, [], ◌∷◌, length, IfOk};
-ghost use Rattle.ob_parser.specs.Symbols.{number};
-ghost use Rattle.ob_parser.specs.Rows.{joined};
-ghost use Rattle.ob_parser.specs.Readers.{is_of, begin_with, begin_with_both, place_if, read_token, place_between};
+ghost use Rattle.ob_grammar.specs.Symbols.{number};
+ghost use Rattle.ob_grammar.specs.Rows.{joined};
+ghost use Rattle.ob_grammar.specs.Readers.{is_of, begin_with, begin_with_both, place_if, read_token, place_between};
 ghost use Rattle.ob_parser.specs.Answering.{Answers, as_it_is, symbol_for, numbers, read_open};
 ghost use Rattle.ob_parser.specs.declared.halt.Halt.TheVariants.{Expected};
 

@@ -1,21 +1,21 @@
 -- How a session goes on.
-use Rattle.std.proofs.Common.{◌≡◌, Vec, ℕ, ◌+◌, ◌≤◌, Bool, true, false, not, cond, List, [], ◌∷◌, ◌++◌, length, take, Option, None, Some, refl, sym, ◌∙◌, ap, subst, arith, append_assoc, length-append}
+use Rattle.std.proofs.Common.{◌≡◌, Vec, ℕ, ◌+◌, ◌^◌, ◌≤◌, Bool, true, false, not, cond, List, [], ◌∷◌, ◌++◌, length, take, Option, None, Some, refl, sym, ◌∙◌, ap, subst, arith, append_assoc, length-append}
 use Rattle.std.specs.declared.alloc.Global.{Global}
 use Rattle.std.proofs.lemmas.List.{append-nil, take_at}
 use Rattle.ob_io.specs.Causes.{Rose}
-use Rattle.ob_io.specs.Told.{Takes, Gives, GivesFront, IsEnd}
+use Rattle.ob_io.specs.Told.{Takes, TakesFrom, TakesAtMost, Gives, GivesFront, IsEnd}
 use Rattle.ob_io.specs.LinesOfText.{lines_of, IsSplit}
 use Rattle.ob_io.specs.Lines.{has_newline, IsLine}
-use Rattle.ob_io.specs.Views.{SinkView}
+use Rattle.ob_io.specs.Views.{SourceView, SinkView}
 use Rattle.ob_io.proofs.TextLemmas.{split_none, split_more, split_end, split_part}
-use Rattle.ob_io.proofs.ToldLemmas.{gives_none, gives_then, takes_none, takes_then}
+use Rattle.ob_io.proofs.ToldLemmas.{gives_none, gives_then, takes_none, takes_then, takes_from_none, takes_from_then}
 use Rattle.ob_machine.specs.declared.plain.Plain.{Plain}
 use Rattle.ob_exec.specs.Sound.{IsSound}
 use Rattle.ob_exec.specs.declared.store.Store.{Store}
-use Rattle.ob_serve.specs.Session.{Item, session, state_after, requests_in, replies, is_blank}
+use Rattle.ob_serve.specs.Session.{Item, session, state_after, requests_in, replies, is_blank_line}
 use Rattle.ob_serve.specs.Replies.{answer_of, blank, items_of, replies_to}
-use Rattle.ob_serve.specs.Served.{Streams, IsAll, Finishes, BreaksOff, StopsIn, FailsToWrite, GivesUp, Serves}
-use Rattle.ob_serve.specs.Stops.{Reader, ReadsLine, ReadsPart, IsStop, Replied}
+use Rattle.ob_serve.specs.Served.{Streams, IsAll, Finishes, BreaksOff, StopsIn, FailsToWrite, GivesUp, EndsAs}
+use Rattle.ob_serve.specs.Stops.{LineReader, ReadsLine, ReadsPart, ReadsEnd, IsStop, Replied}
 use Rattle.ob_serve.specs.declared.serving.Served.{Served}
 use Rattle.ob_serve.specs.declared.serving.Served.TheVariants.{Done, ReadFault, WriteFault, Memory, Long}
 
@@ -43,7 +43,7 @@ cond-append false x xs ys = refl
 pub requests_in-append : (xs ys : List (List ℕ)) → requests_in (xs ++ ys) ≡ requests_in xs ++ requests_in ys
 requests_in-append [] ys = refl
 requests_in-append (x ∷ xs) ys =
-    ap (λ (l : List (List ℕ)). cond (not (is_blank x)) (x ∷ l) l) (requests_in-append xs ys) ∙ cond-append (not (is_blank x)) x (requests_in xs) (requests_in ys)
+    ap (λ (l : List (List ℕ)). cond (not (is_blank_line x)) (x ∷ l) l) (requests_in-append xs ys) ∙ cond-append (not (is_blank_line x)) x (requests_in xs) (requests_in ys)
 
 -- a session so far: what of the input was handed on, which lines it is, what was written, and the store
 pub record Progress {S : Type 0} (answer : S → List ℕ → Item S) (start : S) (first pending written gave : Option (List ℕ)) (ended : Bool) (handed : ℕ) (store : S) : Type 0 where
@@ -109,13 +109,6 @@ reached (Some xs) (Some ys) taken true lines took split ends = record {
 }
 reached (Some xs) (Some ys) taken false lines took split ends = record { input = xs; is = refl; rest = lines_of ys; all = ap lines_of took ∙ (split ys).0 }
 
--- at the end of a told input all of it was taken
-pub input_taken : (first pending : Option (List ℕ)) (taken : List ℕ) → Takes first pending taken → IsEnd pending → IsAll first taken
-input_taken None None taken took end = tt
-input_taken None (Some ys) taken took end = absurd took
-input_taken (Some xs) None taken took end = absurd took
-input_taken (Some xs) (Some ys) taken took end = sym (took ∙ ap (λ (l : List ℕ). taken ++ l) end ∙ append-nil taken)
-
 module _ {S : Type 0} (answer : S → List ℕ → Item S) (start : S) where
   -- the items of the first lines
   pub front_items : (lines rest : List (List ℕ)) → take (length (requests_in lines)) (session answer start (requests_in (lines ++ rest))) ≡ session answer start (requests_in lines)
@@ -140,68 +133,96 @@ gives_up program old new pending ended handed store was =
     sym (ap (λ (ls : List (List ℕ)). replies (take k (items_of program ls))) at.all ∙ ap replies (front_items (answer_of program) blank was.lines at.rest)) in
     record { input = at.input; is = at.is; k = k; written = subst (λ (given : List ℕ). Gives old.output.written new.output.written given) same was.given }
 
+-- so many bytes were taken of the input
+abbrev pub HasTaken : SourceView → SourceView → ℕ → Type 0
+HasTaken old now count = (bytes : List ℕ) × TakesFrom old now bytes × (count ≡ length bytes)
+
+pub none_taken : (old : SourceView) (count : ℕ) → count ≡ 0 → HasTaken old old count
+none_taken old count none = ([], takes_from_none old, none)
+
+pub more_taken : (old mid now : SourceView) (before count : ℕ) → HasTaken old mid before → (bytes : List ℕ) × TakesFrom mid now bytes × (count ≡ before + length bytes) → HasTaken old now count
+more_taken old mid now before count was more = (was.0 ++ more.0, takes_from_then old mid now was.0 more.0 was.1 more.1, omega (arith, was.2, more.2, length-append was.0 more.0))
+
+pub few_taken : (old now : SourceView) (count : ℕ) → HasTaken old now count → count ≤ 2 ^ 40 → TakesAtMost old now (2 ^ 40)
+few_taken old now count has few = (has.0, has.1, omega (arith, has.2, few))
+
+-- as many bytes as were handed on
+all_taken : (old now : SourceView) (bytes : List ℕ) (count : ℕ) → Takes old.left now.left bytes → HasTaken old now count → count ≡ length bytes → TakesFrom old now bytes
+all_taken old now bytes count told has same = record { told = told; counted = omega (arith, has.1.counted, has.2, same) }
+
 -- the input ends
-finished : (program : Option Plain) (old new : Streams) (pending : Option (List ℕ)) (ended : Bool) (handed : ℕ) (store : Store)
-    → SoFar program old.input.left pending old.output.written new.output.written ended handed store → Takes pending new.input.left [] → IsEnd new.input.left → Finishes program old new
-finished program old new pending ended handed store was took end = record {
-  input = was.taken;
-  is = input_taken old.input.left new.input.left was.taken (subst (Takes old.input.left new.input.left) (append-nil was.taken) (takes_then old.input.left pending new.input.left was.taken [] was.took took)) end;
-  read = end;
-  written = subst (λ (lines : List (List ℕ)). Gives old.output.written new.output.written (replies_to program lines)) (sym (split_end ended was.taken was.lines was.split)) was.given;
-}
+finished : (program : Option Plain) (old new : Streams) (from now : LineReader) (store : Store)
+    → SoFar program old.input.left from.pending old.output.written new.output.written from.ended from.handed store → (stop : ReadsEnd from now) → now.left ≡ new.input.left → HasTaken old.input new.input now.taken
+    → Finishes program old new
+finished program old new from now store was stop left has =
+    let told = takes_then old.input.left from.pending new.input.left was.taken [] was.took (rw left at stop.took) in
+    let count : now.handed ≡ length was.taken = omega (arith, was.counted, stop.counted) in
+    record {
+      input = was.taken;
+      took = all_taken old.input new.input was.taken now.taken (subst (Takes old.input.left new.input.left) (append-nil was.taken) told) has (omega (arith, stop.all, count));
+      end = rw left at stop.end;
+      within = omega (arith, stop.within, count);
+      written = subst (λ (lines : List (List ℕ)). Gives old.output.written new.output.written (replies_to program lines)) (sym (split_end from.ended was.taken was.lines was.split)) was.given;
+    }
 
 -- the input stops within a line
-cut_off : (program : Option Plain) (old new : Streams) (from now : Reader) (store : Store)
-    → SoFar program old.input.left from.pending old.output.written new.output.written from.ended from.handed store → (part : ReadsPart from now) → now.left ≡ new.input.left
+cut_off : (program : Option Plain) (old new : Streams) (from now : LineReader) (store : Store)
+    → SoFar program old.input.left from.pending old.output.written new.output.written from.ended from.handed store → (part : ReadsPart from now) → now.left ≡ new.input.left → HasTaken old.input new.input now.taken
     → (so_far : BreaksOff program old new) × (length so_far.taken ≡ now.handed)
-cut_off program old new from now store was part left = (
-  record {
-    taken = was.taken ++ part.bytes;
-    took = subst (λ (l : Option (List ℕ)). Takes old.input.left l (was.taken ++ part.bytes)) left (takes_then _ _ _ was.taken part.bytes was.took part.took);
-    written = subst (λ (lines : List (List ℕ)). Gives old.output.written new.output.written (replies_to program lines)) (sym (split_part was.taken part.bytes was.lines (rw part.goes_on at was.split) part.one_line)) was.given;
-  },
-  omega (arith, was.counted, part.counted, length-append was.taken part.bytes),
-)
+cut_off program old new from now store was part left has =
+    let taken = was.taken ++ part.bytes in
+    let told = takes_then old.input.left from.pending new.input.left was.taken part.bytes was.took (rw left at part.took) in
+    let count : length taken ≡ now.handed = omega (arith, was.counted, part.counted, length-append was.taken part.bytes) in (
+      record {
+        taken = taken;
+        took = all_taken old.input new.input taken now.taken told has (omega (arith, part.all, count));
+        written = subst (λ (lines : List (List ℕ)). Gives old.output.written new.output.written (replies_to program lines)) (sym (split_part was.taken part.bytes was.lines (rw part.goes_on at was.split) part.one_line)) was.given;
+      },
+      count,
+    )
 
 pub rose_later : (a b c : ℕ) → a ≤ b → Rose b c → Rose a c
 rose_later a b c le rose = omega arith
 
 -- what a session that ends before a reply says
-pub serves_stop : (program : Option Plain) (served : Served) (old new : Streams) (from now : Reader) (store : Store)
+pub stopped : (program : Option Plain) (served : Served) (old new : Streams) (from now : LineReader) (store : Store)
     → SoFar program old.input.left from.pending old.output.written new.output.written from.ended from.handed store → IsStop from now served → old.input.faults ≤ from.faults → now.left ≡ new.input.left → now.faults ≡ new.input.faults
-    → Serves program old new served
-serves_stop program Done old new from now store was stop later left faults = finished program old new from.pending from.ended from.handed store was (rw left at stop.0) (rw left at stop.1)
-serves_stop program ReadFault old new from now store was stop later left faults = record {
-  cause = rose_later old.input.faults from.faults new.input.faults later (rw faults at stop.0);
-  so_far = (cut_off program old new from now store was stop.1 left).0;
-}
-serves_stop program Long old new from now store was stop later left faults =
-    let cut = cut_off program old new from now store was stop.1 left in
-    record { so_far = cut.0; many = omega (arith, cut.1, stop.0) }
-serves_stop program Memory old new from now store was stop later left faults = gives_up program old new from.pending from.ended from.handed store was
-serves_stop program WriteFault old new from now store was stop later left faults = absurd stop
+    → HasTaken old.input new.input now.taken → EndsAs program old new served
+stopped program Done old new from now store was stop later left faults has = finished program old new from now store was stop left has
+stopped program ReadFault old new from now store was stop later left faults has =
+    let cut = cut_off program old new from now store was stop.1 left has in
+    record {
+      cause = rose_later old.input.faults from.faults new.input.faults later (rw faults at stop.0);
+      so_far = cut.0;
+      within = omega (arith, cut.1, stop.2);
+    }
+stopped program Long old new from now store was stop later left faults has =
+    let cut = cut_off program old new from now store was stop.0 left has in
+    record { so_far = cut.0; exactly = omega (arith, cut.1, stop.1) }
+stopped program Memory old new from now store was stop later left faults has = gives_up program old new from.pending from.ended from.handed store was
+stopped program WriteFault old new from now store was stop later left faults has = absurd stop
 
-one_reply : (program : Option Plain) (store : Store) (line : List ℕ) → is_blank line ≡ false → replies (session (answer_of program) store (requests_in (line ∷ []))) ≡ (answer_of program store line).reply
+one_reply : (program : Option Plain) (store : Store) (line : List ℕ) → is_blank_line line ≡ false → replies (session (answer_of program) store (requests_in (line ∷ []))) ≡ (answer_of program store line).reply
 one_reply program store line shows = rw shows (append-nil (answer_of program store line).reply)
 
-one_after : (program : Option Plain) (store : Store) (line : List ℕ) → is_blank line ≡ false → state_after (answer_of program) store (requests_in (line ∷ [])) ≡ (answer_of program store line).after
+one_after : (program : Option Plain) (store : Store) (line : List ℕ) → is_blank_line line ≡ false → state_after (answer_of program) store (requests_in (line ∷ [])) ≡ (answer_of program store line).after
 one_after program store line shows = rw shows refl
 
-no_reply : (program : Option Plain) (store : Store) (line : List ℕ) → is_blank line ≡ true → replies (session (answer_of program) store (requests_in (line ∷ []))) ≡ []
+no_reply : (program : Option Plain) (store : Store) (line : List ℕ) → is_blank_line line ≡ true → replies (session (answer_of program) store (requests_in (line ∷ []))) ≡ []
 no_reply program store line is = rw is refl
 
-same_after : (program : Option Plain) (store : Store) (line : List ℕ) → is_blank line ≡ true → state_after (answer_of program) store (requests_in (line ∷ [])) ≡ store
+same_after : (program : Option Plain) (store : Store) (line : List ℕ) → is_blank_line line ≡ true → state_after (answer_of program) store (requests_in (line ∷ [])) ≡ store
 same_after program store line is = rw is refl
 
 -- a blank line goes by
-pub passes : (program : Option Plain) (from now : Reader) (first written gave : Option (List ℕ)) (store store' : Store) (is_long : Bool) (line : List ℕ)
+pub passes : (program : Option Plain) (from now : LineReader) (first written gave : Option (List ℕ)) (store store' : Store) (is_long : Bool) (line : List ℕ)
     → SoFar program first from.pending written gave from.ended from.handed store → (read : ReadsLine from now is_long line) → Replied program store store' read.full None → SoFar program first now.pending written gave now.ended now.handed store'
 passes program from now first written gave store store' is_long line was read replied =
     one_more (answer_of program) blank first written read.full read.bytes [] was read.goes_on read.took read.counted read.ends read.one_line read.is
     (sym (no_reply program store read.full replied.0)) (replied.1 ∙ sym (same_after program store read.full replied.0)) (gives_none gave)
 
 -- a line is answered
-pub goes_on : (program : Option Plain) (from now : Reader) (first written gave gave' : Option (List ℕ)) (store store' : Store) (is_long : Bool) (line : List ℕ) (reply : Vec ℕ Global)
+pub goes_on : (program : Option Plain) (from now : LineReader) (first written gave gave' : Option (List ℕ)) (store store' : Store) (is_long : Bool) (line : List ℕ) (reply : Vec ℕ Global)
     → SoFar program first from.pending written gave from.ended from.handed store → (read : ReadsLine from now is_long line) → Replied program store store' read.full (Some reply) → Gives gave gave' reply.items
     → SoFar program first now.pending written gave' now.ended now.handed store'
 goes_on program from now first written gave gave' store store' is_long line reply was read replied gives =
@@ -209,7 +230,7 @@ goes_on program from now first written gave gave' store store' is_long line repl
     (replied.1 ∙ sym (one_reply program store read.full replied.0)) (replied.2 ∙ sym (one_after program store read.full replied.0)) gives
 
 -- the reply to the line after these is written in part
-stops_in : (program : Option Plain) (lines rest all : List (List ℕ)) (full reply front back : List ℕ) → all ≡ (lines ++ full ∷ []) ++ rest → is_blank full ≡ false
+stops_in : (program : Option Plain) (lines rest all : List (List ℕ)) (full reply front back : List ℕ) → all ≡ (lines ++ full ∷ []) ++ rest → is_blank_line full ≡ false
     → reply ≡ replies (session (answer_of program) (state_after (answer_of program) blank (requests_in lines)) (requests_in (full ∷ []))) → reply ≡ front ++ back
     → StopsIn (items_of program all) (replies (session (answer_of program) blank (requests_in lines)) ++ front)
 stops_in program lines rest all full reply front back is shows replied split =
@@ -231,7 +252,7 @@ stops_in program lines rest all full reply front back is shows replied split =
     }
 
 -- a reply was written in part
-pub write_stops : (program : Option Plain) (old new : Streams) (from now : Reader) (gave : SinkView) (store store' : Store) (is_long : Bool) (line : List ℕ) (reply : Vec ℕ Global)
+pub write_stops : (program : Option Plain) (old new : Streams) (from now : LineReader) (gave : SinkView) (store store' : Store) (is_long : Bool) (line : List ℕ) (reply : Vec ℕ Global)
     → SoFar program old.input.left from.pending old.output.written gave.written from.ended from.handed store → (read : ReadsLine from now is_long line) → Replied program store store' read.full (Some reply) → GivesFront gave.written new.output.written reply.items
     → old.output.faults ≤ gave.faults → Rose gave.faults new.output.faults
     → FailsToWrite program old new

@@ -1,7 +1,7 @@
 -- What each end of a session says of the two streams.
-use Rattle.std.specs.Prelude.{ℕ, ◌≡◌, ◌+◌, ◌<◌, ◌≤◌, ◌^◌, ⊤, List, ◌++◌, length, take, Option, None, Some}
+use Rattle.std.specs.Prelude.{ℕ, ◌≡◌, ◌+◌, ◌<◌, ◌^◌, ⊤, List, ◌++◌, length, take, Option, None, Some}
 use Rattle.ob_io.specs.Causes.{Rose}
-use Rattle.ob_io.specs.Told.{Takes, Gives, IsEnd}
+use Rattle.ob_io.specs.Told.{TakesFrom, Gives, IsEnd}
 use Rattle.ob_io.specs.LinesOfText.{lines_of, whole_lines}
 use Rattle.ob_io.specs.Views.{SourceView, SinkView}
 use Rattle.ob_machine.specs.declared.plain.Plain.{Plain}
@@ -21,28 +21,30 @@ abbrev pub IsAll : Option (List ℕ) → List ℕ → Type 0
 IsAll None bytes = ⊤
 IsAll (Some all) bytes = bytes ≡ all
 
--- The input was read to its end, and the replies to its lines were written.
+-- The input was read to its end, of fewer than 2^40 bytes, and the replies to its lines were written.
 pub record Finishes (program : Option Plain) (old new : Streams) : Type 0 where
   pub input : List ℕ
-  pub is : IsAll old.input.left input
-  pub read : IsEnd new.input.left
+  pub took : TakesFrom old.input new.input input
+  pub end : IsEnd new.input.left
+  pub within : length input < 2 ^ 40
   pub written : Gives old.output.written new.output.written (replies_to program (lines_of input))
 
 -- Some bytes were taken, and the replies to the lines that they hold whole were written.
 pub record BreaksOff (program : Option Plain) (old new : Streams) : Type 0 where
   pub taken : List ℕ
-  pub took : Takes old.input.left new.input.left taken
+  pub took : TakesFrom old.input new.input taken
   pub written : Gives old.output.written new.output.written (replies_to program (whole_lines taken))
 
--- A read failed.
+-- A read failed, after fewer than 2^40 bytes.
 pub record FailsToRead (program : Option Plain) (old new : Streams) : Type 0 where
   pub cause : Rose old.input.faults new.input.faults
   pub so_far : BreaksOff program old new
+  pub within : length so_far.taken < 2 ^ 40
 
--- Too many bytes were taken.
-pub record IsTooLong (program : Option Plain) (old new : Streams) : Type 0 where
+-- Exactly 2^40 bytes were taken, and no line is left of them.
+pub record ReachesLimit (program : Option Plain) (old new : Streams) : Type 0 where
   pub so_far : BreaksOff program old new
-  pub many : 2 ^ 40 ≤ length so_far.taken
+  pub exactly : length so_far.taken ≡ 2 ^ 40
 
 -- the replies of k items, and a front of the next
 pub record StopsIn (items : List (Item Store)) (given : List ℕ) : Type 0 where
@@ -70,9 +72,9 @@ pub record GivesUp (program : Option Plain) (old new : Streams) : Type 0 where
   pub written : Gives old.output.written new.output.written (replies (take k (items_of program (lines_of input))))
 
 -- each end says its own
-abbrev pub Serves : Option Plain → Streams → Streams → Served → Type 0
-Serves program old new Done = Finishes program old new
-Serves program old new ReadFault = FailsToRead program old new
-Serves program old new WriteFault = FailsToWrite program old new
-Serves program old new Memory = GivesUp program old new
-Serves program old new Long = IsTooLong program old new
+abbrev pub EndsAs : Option Plain → Streams → Streams → Served → Type 0
+EndsAs program old new Done = Finishes program old new
+EndsAs program old new ReadFault = FailsToRead program old new
+EndsAs program old new WriteFault = FailsToWrite program old new
+EndsAs program old new Memory = GivesUp program old new
+EndsAs program old new Long = ReachesLimit program old new

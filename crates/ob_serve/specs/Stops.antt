@@ -3,27 +3,35 @@ use Rattle.std.specs.Prelude.{ℕ, ◌≡◌, ◌+◌, ◌<◌, ◌≤◌, ◌^�
 use Rattle.std.specs.declared.alloc.Global.{Global}
 use Rattle.ob_io.specs.Causes.{Rose}
 use Rattle.ob_io.specs.Told.{Takes, IsEnd}
-use Rattle.ob_io.specs.Lines.{has_newline, has_ended, IsLine, handed, pending}
+use Rattle.ob_io.specs.Lines.{has_newline, has_ended, IsLine, taken, handed, pending}
 use Rattle.ob_io.specs.Views.{SourceView}
 use Rattle.ob_io.specs.declared.lines.Lines.{Lines}
 use Rattle.ob_machine.specs.declared.plain.Plain.{Plain}
 use Rattle.ob_exec.specs.declared.store.Store.{Store}
-use Rattle.ob_serve.specs.Session.{is_blank}
+use Rattle.ob_serve.specs.Session.{is_blank_line}
 use Rattle.ob_serve.specs.Replies.{answer_of}
 use Rattle.ob_serve.specs.declared.serving.Served.{Served}
 use Rattle.ob_serve.specs.declared.serving.Served.TheVariants.{Done, ReadFault, WriteFault, Memory, Long}
 
 -- a reader of lines and what its source has left, at a moment
-pub record Reader : Type 0 where
+pub record LineReader : Type 0 where
   pub pending : Option (List ℕ)
   pub left : Option (List ℕ)
   pub ended : Bool
+  pub taken : ℕ
   pub handed : ℕ
   pub faults : ℕ
 
 -- what is seen of a reader and its source
-abbrev pub reader : Lines → SourceView → Reader
-reader lines source = record { pending = pending lines source.left; left = source.left; ended = has_ended lines; handed = handed lines; faults = source.faults }
+abbrev pub reader : Lines → SourceView → LineReader
+reader lines source = record {
+  pending = pending lines source.left;
+  left = source.left;
+  ended = has_ended lines;
+  taken = taken lines;
+  handed = handed lines;
+  faults = source.faults;
+}
 
 -- the line that was read: a long one isn't kept
 abbrev pub IsFull : Bool → List ℕ → List ℕ → Type 0
@@ -31,7 +39,7 @@ IsFull true line full = 65536 < length full
 IsFull false line full = (full ≡ line) × (length line ≤ 65536)
 
 -- a line was read
-pub record ReadsLine (old new : Reader) (is_long : Bool) (line : List ℕ) : Type 0 where
+pub record ReadsLine (old new : LineReader) (is_long : Bool) (line : List ℕ) : Type 0 where
   pub goes_on : old.ended ≡ false
   pub bytes : List ℕ
   pub took : Takes old.pending new.pending bytes
@@ -44,23 +52,34 @@ pub record ReadsLine (old new : Reader) (is_long : Bool) (line : List ℕ) : Typ
   pub some : 0 < length bytes
   pub short : length line ≤ 65536
 
--- no line was read: what was taken is a part of one
-pub record ReadsPart (old new : Reader) : Type 0 where
+-- no line was read: all that was taken was handed on, and the last of it is a part of a line
+pub record ReadsPart (old new : LineReader) : Type 0 where
   pub goes_on : old.ended ≡ false
   pub bytes : List ℕ
   pub took : Takes old.pending new.left bytes
   pub counted : new.handed ≡ old.handed + length bytes
+  pub all : new.handed ≡ new.taken
   pub one_line : has_newline bytes ≡ false
 
+-- no line is left, and the end was reached
+pub record ReadsEnd (old new : LineReader) : Type 0 where
+  pub took : Takes old.pending new.left []
+  pub end : IsEnd new.left
+  pub counted : new.handed ≡ old.handed
+  pub all : new.handed ≡ new.taken
+  pub within : new.handed < 2 ^ 40
+
 -- why no line was read
-abbrev pub IsStop : Reader → Reader → Served → Type 0
-IsStop old new Done = Takes old.pending new.left [] × IsEnd new.left
-IsStop old new ReadFault = Rose old.faults new.faults × ReadsPart old new
-IsStop old new Long = (2 ^ 40 ≤ new.handed) × ReadsPart old new
+abbrev pub IsStop : LineReader → LineReader → Served → Type 0
+IsStop old new Done = ReadsEnd old new
+IsStop old new ReadFault = Rose old.faults new.faults × ReadsPart old new × (new.handed < 2 ^ 40)
+IsStop old new Long = ReadsPart old new × (new.handed ≡ 2 ^ 40)
 IsStop old new Memory = ⊤
 IsStop old new WriteFault = ⊥
 
 -- the reply to a line, if it gets one, and the store after it
 abbrev pub Replied : Option Plain → Store → Store → List ℕ → Option (Vec ℕ Global) → Type 0
-Replied program old new line None = (is_blank line ≡ true) × (new ≡ old)
-Replied program old new line (Some reply) = (is_blank line ≡ false) × (reply.items ≡ (answer_of program old line).reply) × (new ≡ (answer_of program old line).after)
+Replied program old new line None = (is_blank_line line ≡ true) × (new ≡ old)
+Replied program old new line (Some reply) =
+    (is_blank_line line ≡ false) × (reply.items ≡ (answer_of program old line).reply)
+    × (new ≡ (answer_of program old line).after)

@@ -1,11 +1,12 @@
 //! The session.
-ghost use Rattle.std.specs.Prelude.{◌≡◌, ◌≢◌, ◌+◌, ◌<◌, ◌≤◌, List, ℕ, length, IsTrue, IfOk, IfErr};
+ghost use Rattle.std.specs.Prelude.{◌≡◌, ◌≢◌, ◌+◌, ◌^◌, ◌<◌, ◌≤◌, List, ℕ, length, IsTrue, IfOk, IfErr};
 ghost use Rattle.std.specs.List.{list_all};
-ghost use Rattle.ob_io.specs.Lines.{EndIsTold};
+ghost use Rattle.ob_io.specs.Lines.{EndIsTold, CountsTaken, taken};
+ghost use Rattle.ob_io.specs.Told.{TakesAtMost};
 ghost use Rattle.ob_exec.specs.Sound.{IsSound};
 ghost use Rattle.ob_machine.specs.Closed.{is_closed_program};
-ghost use Rattle.ob_serve.specs.Session.{is_space, is_blank};
-ghost use Rattle.ob_serve.specs.Served.{Serves};
+ghost use Rattle.ob_serve.specs.Session.{is_space, is_blank_line};
+ghost use Rattle.ob_serve.specs.Served.{EndsAs};
 ghost use Rattle.ob_serve.specs.Stops.{reader, IsFull, ReadsLine, IsStop, Replied};
 
 use ob_base::{Failed, Memory};
@@ -26,7 +27,7 @@ pub enum Served {
     WriteFault,
     /// Memory ran out.
     Memory,
-    /// Too many bytes of input were taken.
+    /// 2^40 bytes of input were taken, and no more are.
     Long,
 }
 
@@ -44,7 +45,7 @@ fn are_spaces(line: &[u8]) -> bool
 
 fn is_blank(line: &[u8]) -> bool
     requires { length line.now ≤ 65536 }
-    ensures { result ≡ is_blank line.now }
+    ensures { result ≡ is_blank_line line.now }
 {
     are_spaces(line)
 }
@@ -60,7 +61,8 @@ fn reply_to(
     requires short { length line.now ≤ 65536 }
     requires sound { IsSound program.now store.old }
     requires closed { IsTrue (is_closed_program program.now) }
-    ensures replied { IfOk result (λ reply. (full : List ℕ) → IsFull is_long line.now full → Replied program.now store.old store.new full reply) }
+    ensures replied { IfOk result (λ reply. (full : List ℕ) → IsFull is_long line.now full →
+        Replied program.now store.old store.new full reply) }
     ensures sound { IsSound program.now store.new }
 {
     if is_long {
@@ -81,8 +83,12 @@ fn next_line<S: Source>(
     line: &mut Vec<u8>,
 ) -> Result<bool, Served>
     requires { EndIsTold lines.old (S.view input.old).left }
-    ensures ok { IfOk result (λ is_long. ReadsLine (reader lines.old (S.view input.old)) (reader lines.new (S.view input.new)) is_long line.new.items) }
-    ensures err { IfErr result (IsStop (reader lines.old (S.view input.old)) (reader lines.new (S.view input.new))) }
+    ensures ok { IfOk result (λ is_long. ReadsLine
+        (reader lines.old (S.view input.old)) (reader lines.new (S.view input.new)) is_long line.new.items) }
+    ensures err { IfErr result (IsStop
+        (reader lines.old (S.view input.old)) (reader lines.new (S.view input.new))) }
+    ensures taken { CountsTaken lines.old lines.new (S.view input.old) (S.view input.new) }
+    ensures bound { taken lines.new ≤ 2 ^ 40 }
     ensures later { (S.view input.old).faults ≤ (S.view input.new).faults }
     ensures calm { result ≢ Err Served.ReadFault → (S.view input.new).faults ≡ (S.view input.old).faults }
     ensures once { (S.view input.new).faults ≤ (S.view input.old).faults + 1 }
@@ -105,10 +111,15 @@ pub fn serve<S: Source, K: Sink>(
     output: &mut K,
 ) -> Served
     requires { IsTrue (is_closed_program program.now) }
-    ensures serves { Serves program.now
+    ensures ends { EndsAs program.now
         (record { input = S.view input.old; output = K.view output.old })
         (record { input = S.view input.new; output = K.view output.new })
         result }
+
+    // However it ends, at most 2^40 bytes of input were taken.
+    ensures few { TakesAtMost (S.view input.old) (S.view input.new) (2 ^ 40) }
+
+    // No count of faults falls.
     ensures later_read { (S.view input.old).faults ≤ (S.view input.new).faults }
     ensures later_write { (K.view output.old).faults ≤ (K.view output.new).faults }
 

@@ -1,7 +1,6 @@
 -- No part of an expression is lost on the way to plain data.
 use Rattle.std.proofs.Common.{◌≡◌, List, [], ◌∷◌, map, ap, sym, ◌∙◌, refl, subst}
 use Rattle.ob_base.specs.declared.fault.Span.{Span}
-use Rattle.ob_table.specs.Expressions.{Expression}
 use Rattle.ob_table.specs.ExpressionsView.{expression_of, called, arguments_of, expression_of-Number, expression_of-Text, expression_of-Bool, expression_of-Seen, expression_of-Unary, expression_of-Binary, expression_of-Call, expression_of-New, called-fields}
 use Rattle.ob_table.specs.ExpressionsBack.{expression_back, arguments_back}
 use Rattle.ob_table.specs.declared.expr.ResolvedCall.{ResolvedCall, ResolvedCall-F, map-ResolvedCall, roll-ResolvedCall}

@@ -2,13 +2,11 @@
 use Rattle.std.specs.Prelude.{◌≡◌, List, [], ◌∷◌, Option, Some, None, map, option_map}
 use Rattle.std.specs.Coded.{Coded, coded_list, code_by}
 use Rattle.std.proofs.Common.{ap, ◌∙◌, refl}
-use Rattle.ob_table.specs.Expressions.{Expression}
 use Rattle.ob_table.specs.ExpressionsView.{expression_of}
 use Rattle.ob_table.specs.ExpressionsBack.{expression_back, expression_of-back}
 use Rattle.ob_table.specs.Statements.{GivenField, Statement, resolved_declare, resolved_assign, resolved_stage, resolved_change, resolved_discard, resolved_test, resolved_if, resolved_return, resolved_revert, resolved_disown, resolved_assert, Block, resolved_block, Otherwise, no_otherwise, otherwise_block, Statements, no_statements, and_statement, ResolvedBody}
 use Rattle.ob_table.specs.StatementsView.{given_field_of, statement_of, statements_of, resolved_block_of, otherwise_of, resolved_body_of, statement_of-Declare, statement_of-Assign, statement_of-Stage, statement_of-Change, statement_of-Call, statement_of-Test, statement_of-If, statement_of-Return, statement_of-Revert, statement_of-Disown, statement_of-Assert, resolved_block_of-fields}
 use Rattle.ob_table.specs.declared.body.Body.{Body}
-use Rattle.ob_table.specs.declared.expr.ResolvedExpr.{ResolvedExpr}
 use Rattle.ob_table.specs.declared.stmt.ResolvedGiven.{ResolvedGiven}
 use Rattle.ob_table.specs.declared.stmt.ResolvedBlock.{ResolvedBlock}
 use Rattle.ob_table.specs.declared.stmt.ResolvedStmt.{ResolvedStmt, Declare, Assign, Stage, Change, Call, Test, If, Return, Revert, Disown, Assert}

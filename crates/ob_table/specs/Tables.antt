@@ -1,6 +1,6 @@
--- The class table of a program, and what stands in it at a number (Coblenz et al., TOPLAS 42(3), 2020, where the rules look
--- contracts, fields and transactions up in the program).
-use Rattle.std.specs.Prelude.{ℕ, Bool, ◌&&◌, nat_eq, List, Option, Some, None, option_map, map, find, position, slice_get}
+-- The class table of a program, and what stands in it at a number or has a name (Igarashi, Pierce and Wadler, TOPLAS 23(3),
+-- 2001, for the name; Coblenz et al., TOPLAS 42(3), 2020, for what a contract declares).
+use Rattle.std.specs.Prelude.{ℕ, Bool, ◌&&◌, nat_eq, List, Option, option_map, find, position, slice_get}
 use Rattle.std.specs.Option.{option_and_then}
 use Rattle.std.specs.Str.{bytes_eq}
 use Rattle.ob_base.specs.declared.id.ContractId.{ContractId}

@@ -17,7 +17,7 @@ pub enum Kind {
     Reference(ContractId, Perm),
 }
 
-/// A field (the Obsidian language documentation, "Fields").
+/// A field.
 #[derive(Debug, Drop)]
 pub struct Field {
     pub name: Name,
@@ -64,7 +64,7 @@ pub struct Listed {
     pub exit: Perm,
 }
 
-/// A transaction or a constructor, without its body (the Obsidian language documentation, "Transactions").
+/// A transaction or a constructor, without its body.
 #[derive(Debug, Drop)]
 pub struct Signature {
     /// Empty for a constructor.
@@ -97,7 +97,7 @@ impl Duplicate for Signature {
 #[derive(Debug, Drop)]
 pub struct Contract {
     pub name: Text,
-    /// Whether its objects are assets, which must not be lost (Coblenz et al., "Assets").
+    /// Whether its objects are assets, which must not be lost.
     pub asset: bool,
     pub main: bool,
     pub interface: bool,

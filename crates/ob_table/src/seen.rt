@@ -1,7 +1,7 @@
 //! What the names of a body stand for.
 use ob_base::{ContractId, FieldId, Span};
 
-/// What a name in a body stands for (the Obsidian language documentation, "Fields" and "Local variables").
+/// What a name in a body stands for (the Obsidian language documentation, "Expressions").
 #[derive(Clone, Copy, PartialEq, Eq, Debug)]
 pub enum Seen {
     /// `this`

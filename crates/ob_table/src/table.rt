@@ -1,9 +1,9 @@
-//! The class table.
+//! The class table of a program (the name is that of Igarashi, Pierce and Wadler, TOPLAS 23(3), 2001).
 ghost use Rattle.std.specs.Prelude.{◌≡◌, ◌<◌, ◌^◌, ℕ, List, map, length, IfOk, OnOk};
-ghost use Rattle.std.specs.Option.{option_copied};
+ghost use Rattle.std.specs.Option.{option_copied, option_or};
 ghost use Rattle.std.specs.Str.{bytes_eq};
 ghost use Rattle.ob_base.specs.Optional.{where_true};
-ghost use Rattle.ob_table.specs.Index.{number_of, or_first, IsIndex};
+ghost use Rattle.ob_table.specs.Index.{number_of, IsIndex};
 ghost use Rattle.ob_table.specs.StatementsView.{resolved_body_of};
 ghost use Rattle.ob_table.specs.Tables.{contract_at, contract_named};
 
@@ -14,7 +14,7 @@ use ob_base::{ContractId, Duplicate, Items, Memory, copy_items};
 use std::alloc::Global;
 use std::marker::Model;
 
-/// The class table of a program: its contracts and interfaces, and the bodies of their constructors and transactions.
+/// The contracts and interfaces of a program, and the bodies of their constructors and transactions.
 #[derive(Drop)]
 pub struct Table {
     contracts: Items<Contract>,
@@ -51,7 +51,7 @@ fn add_name(
     id: ContractId,
 ) -> Result<(), Memory>
     ensures { OnOk result ((other : List ℕ) → number_of names.new.entries other
-        ≡ or_first (number_of names.old.entries other) (where_true (bytes_eq other name.now) id)) }
+        ≡ option_or (number_of names.old.entries other) (where_true (bytes_eq other name.now) id)) }
 {
     if names.get(name).is_some() {
         return Ok(());
@@ -132,7 +132,7 @@ impl Table {
         self.names.get(name).copied()
     }
 
-    /// The bodies of constructors and transactions, in the order of their contracts and then of their numbers.
+    /// The bodies, in the order in which they were given.
     pub fn bodies(&self) -> &[Body]
         ensures { map resolved_body_of result.now ≡ self.now.bodies }
     {

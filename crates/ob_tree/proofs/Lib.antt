@@ -3,5 +3,3 @@ pub mod NamesBack
 pub mod ExprsBack
 pub mod StmtsBack
 pub mod MembersBack
-pub mod Escapes
-pub mod Chains

@@ -6,9 +6,5 @@ pub mod Stmts
 pub mod StmtsView
 pub mod Members
 pub mod MembersView
-pub mod Layout
-pub mod NameTokens
-pub mod ExprTokens
-pub mod StmtTokens
-pub mod MemberTokens
-pub mod Written
+pub mod Words
+pub mod Operators

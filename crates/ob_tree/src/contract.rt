@@ -12,10 +12,9 @@ ghost use Rattle.std.specs.Prelude.{◌≡◌, IfOk};
 ghost use Rattle.ob_tree.specs.MembersView.{tree_of};
 ghost use Rattle.ob_tree.specs.declared.contract.Tree.{Tree};
 
-use crate::copy::copy_option;
 use crate::member::Member;
 use crate::name::{NamePart, NamedNode};
-use ob_base::{Duplicate, Items, Memory, Mode, Span, Text, copy_items};
+use ob_base::{Duplicate, Items, Memory, Mode, Span, Text, copy_items, copy_option};
 use std::alloc::Global;
 
 /// The type parameter of a contract, in brackets behind its name.
@@ -27,7 +26,7 @@ pub struct ParamNode {
     pub perm: NamePart,
     /// The name behind `where`, and the mode behind `is`.
     pub bound: Option<(NamePart, Mode)>,
-    /// From its first token to its last.
+    /// From the opening bracket to the closing one.
     pub span: Span,
 }
 

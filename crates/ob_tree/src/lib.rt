@@ -1,19 +1,14 @@
-//! The syntax tree of a program: what is written, with the place of each part, copies of it, and its canonical layout.
+//! The syntax tree of a program: what is written, with the place of each part, and copies of it.
 #![tactic(auto)]
 
 mod contract;
-mod copy;
 mod expr;
 mod member;
 mod name;
-mod printer;
 mod stmt;
-#[cfg(test)]
-mod tests;
 
 pub use contract::{ContractNode, ParamNode, Tree, view_loses_nothing};
 pub use expr::{CallNode, Expr};
 pub use member::{FieldNode, FormalNode, ListedNode, Member};
 pub use name::{NamePart, NamedNode, PermNode, RefNode, Subject, TypeNode};
-pub use printer::print;
 pub use stmt::{Block, GivenNode, LocalType, Stmt};

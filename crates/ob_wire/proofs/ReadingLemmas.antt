@@ -15,7 +15,7 @@ use Rattle.serde_json.specs.Read.{read}
 use Rattle.ob_wire.specs.declared.request.Request.{Request}
 use Rattle.ob_wire.specs.declared.reading.WireError.{WireError}
 use Rattle.ob_base.specs.Optional.{◌>>=◌}
-use Rattle.ob_wire.specs.Reading.{only_keys, has_only, whole, all_whole, request_in, request_of, Gives}
+use Rattle.ob_wire.specs.Reading.{only_keys, has_only, whole, all_whole, request_in, request_of, Answers}
 
 only_keys-members : (row : List (List ℕ)) (es : List (String Global × Value)) → list_all (λ key. list_any (bytes_eq (string_bytes key)) row) (map (λ e. e.0) es) ≡ only_keys row (members_view es)
 only_keys-members row [] = refl
@@ -50,7 +50,7 @@ stops_at front values i v all lt at is so_far =
     let one : drop i values ≡ v ∷ drop (i + 1) values = drop_more values i v lt ∙ ap (λ (x : Value). x ∷ drop (i + 1) values) (sym at) in
     sym so_far ∙ ap (λ (vs : List Value). with_front front (all_whole (items_view vs))) one ∙ with_front-none front (view v) (all_whole (items_view (drop (i + 1) values))) is
 
-pub gives_read : (line : List ℕ) (value : Data) (r : Result Request WireError) → IsUtf8 line → read line ≡ Some value → Gives (λ request. request) r (request_in value) → Gives (λ request. request) r (request_of line)
+pub gives_read : (line : List ℕ) (value : Data) (r : Result Request WireError) → IsUtf8 line → read line ≡ Some value → Answers (λ request. request) r (request_in value) → Answers (λ request. request) r (request_of line)
 gives_read line value r utf8 is h = rw (is_utf8-from_IsUtf8 line utf8, is) h
 
 none_by : (line : List ℕ) (b : Bool) → is_utf8 line ≡ b → (IsUtf8 line → read line ≡ None) → request_of line ≡ None

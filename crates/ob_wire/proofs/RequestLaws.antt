@@ -16,7 +16,7 @@ use Rattle.ob_base.specs.Names.{is_label}
 use Rattle.ob_wire.specs.Requests.{HasKeys, LabelAt, IdAt, AreWhole, ArgsAt, keys_of_new, keys_of_call, AsksOp, IsRequest, Asks}
 use Rattle.ob_base.specs.Optional.{◌>>=◌, where_true}
 use Rattle.ob_base.proofs.OptionalLemmas.{bind_some, where_some, both_true, by_cases}
-use Rattle.ob_wire.specs.Reading.{only_keys, has_only, label_at, from_zero, whole, id_at, all_whole, args_at, new_in, call_in, op_named, op_in, request_in, request_of, Gives}
+use Rattle.ob_wire.specs.Reading.{only_keys, has_only, label_at, from_zero, whole, id_at, all_whole, args_at, new_in, call_in, op_named, op_in, request_in, request_of, Answers}
 use Rattle.ob_wire.specs.declared.reading.WireError.{WireError}
 use Rattle.ob_wire.specs.declared.reading.WireError.TheVariants.{NoRequest, Memory}
 use Rattle.ob_wire.specs.declared.request.Request.{Request}
@@ -259,11 +259,11 @@ is_found line request h = rw (is_utf8-from_IsUtf8 line h.utf8, h.json) (request_
 pub asks_one : (line : List ℕ) (a b : Request) → Asks line a → Asks line b → a ≡ b
 asks_one line a b p q = let x = is_found line a p in let y = is_found line b q in cc
 
-pub asked_by : (line : List ℕ) (r : Result Request WireError) → Gives (λ request. request) r (request_of line) → IfOk r (λ request. Asks line request)
+pub asked_by : (line : List ℕ) (r : Result Request WireError) → Answers (λ request. request) r (request_of line) → IfOk r (λ request. Asks line request)
 asked_by line (Ok request) h = is_asked line request h
 asked_by line (Err e) h = tt
 
-pub none_by : (line : List ℕ) (r : Result Request WireError) → Gives (λ request. request) r (request_of line) → IsErrOf r NoRequest → (request : Request) → ¬ (Asks line request)
+pub none_by : (line : List ℕ) (r : Result Request WireError) → Answers (λ request. request) r (request_of line) → IsErrOf r NoRequest → (request : Request) → ¬ (Asks line request)
 none_by line (Ok request) h is = λ other asks. cc
 none_by line (Err NoRequest) h is = λ other asks. let found = is_found line other asks in cc
 none_by line (Err Memory) h is = λ other asks. cc

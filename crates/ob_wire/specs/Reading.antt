@@ -77,7 +77,7 @@ abbrev pub request_of : List ℕ → Option Request
 request_of line = if is_utf8 line then read line >>= request_in else None
 
 -- a call answers what is worked out, unless memory ran out
-abbrev pub Gives : {A B : Type 0} → (A → B) → Result A WireError → Option B → Type 0
-Gives view (Ok x) found = found ≡ Some (view x)
-Gives view (Err NoRequest) found = found ≡ None
-Gives view (Err Memory) found = Unit {0}
+abbrev pub Answers : {A B : Type 0} → (A → B) → Result A WireError → Option B → Type 0
+Answers view (Ok x) found = found ≡ Some (view x)
+Answers view (Err NoRequest) found = found ≡ None
+Answers view (Err Memory) found = Unit {0}

@@ -4,8 +4,6 @@
 mod reading;
 mod reply;
 mod request;
-#[cfg(test)]
-mod tests;
 
 pub use reading::{WireError, read_request, requests_are_asked};
 pub use reply::{Answer, Cause, Outcome, Refusal, Reply, reply_bytes};

@@ -6,7 +6,7 @@ ghost use Rattle.std.specs.String.{string_bytes};
 ghost use Rattle.std.specs.Str.{bytes_eq};
 ghost use Rattle.serde_json.specs.View.{view, items_view};
 ghost use Rattle.ob_wire.specs.Requests.{keys_of_new, keys_of_call, Asks};
-ghost use Rattle.ob_wire.specs.Reading.{has_only, label_at, id_at, args_at, all_whole, new_in, call_in, op_in, request_in, request_of, Gives};
+ghost use Rattle.ob_wire.specs.Reading.{has_only, label_at, id_at, args_at, all_whole, new_in, call_in, op_in, request_in, request_of, Answers};
 
 use crate::{Op, Request};
 use ob_base::{Items, Label, NameError};
@@ -95,7 +95,7 @@ fn has_keys_of_call(value: &Value) -> bool
 
 // The string of 1 to 64 bytes at a key.
 fn label_at(alloc: Global, value: &Value, key: &str) -> Result<Label, WireError>
-    ensures { Gives (λ label. label) result (label_at key.now (view value.now)) }
+    ensures { Answers (λ label. label) result (label_at key.now (view value.now)) }
 {
     let Some(text) = value.get(key).and_then(Value::as_str) else {
         return Err(WireError::NoRequest);
@@ -105,7 +105,7 @@ fn label_at(alloc: Global, value: &Value, key: &str) -> Result<Label, WireError>
 
 // The whole number from 0 at the key `id`.
 fn id_at(value: &Value) -> Result<i64, WireError>
-    ensures { Gives (λ id. id) result (id_at (view value.now)) }
+    ensures { Answers (λ id. id) result (id_at (view value.now)) }
 {
     match value.get("id").and_then(Value::as_i64) {
         Some(id) if id >= 0 => Ok(id),
@@ -114,7 +114,7 @@ fn id_at(value: &Value) -> Result<i64, WireError>
 }
 
 fn all_whole(alloc: Global, values: &[Value]) -> Result<Items<i64>, WireError>
-    ensures { Gives (λ numbers. numbers) result (all_whole (items_view values.now)) }
+    ensures { Answers (λ numbers. numbers) result (all_whole (items_view values.now)) }
 {
     let mut numbers = Items::new(alloc);
     for value in values {
@@ -128,7 +128,7 @@ fn all_whole(alloc: Global, values: &[Value]) -> Result<Items<i64>, WireError>
 
 // The array of whole numbers at the key `args`.
 fn args_at(alloc: Global, value: &Value) -> Result<Items<i64>, WireError>
-    ensures { Gives (λ args. args) result (args_at (view value.now)) }
+    ensures { Answers (λ args. args) result (args_at (view value.now)) }
 {
     let Some(values) = value.get("args").and_then(Value::as_array) else {
         return Err(WireError::NoRequest);
@@ -137,7 +137,7 @@ fn args_at(alloc: Global, value: &Value) -> Result<Items<i64>, WireError>
 }
 
 fn new_in(alloc: Global, value: &Value) -> Result<Op, WireError>
-    ensures { Gives (λ op. op) result (new_in (view value.now)) }
+    ensures { Answers (λ op. op) result (new_in (view value.now)) }
 {
     if !has_keys_of_new(value) {
         return Err(WireError::NoRequest);
@@ -148,7 +148,7 @@ fn new_in(alloc: Global, value: &Value) -> Result<Op, WireError>
 }
 
 fn call_in(alloc: Global, value: &Value) -> Result<Op, WireError>
-    ensures { Gives (λ op. op) result (call_in (view value.now)) }
+    ensures { Answers (λ op. op) result (call_in (view value.now)) }
 {
     if !has_keys_of_call(value) {
         return Err(WireError::NoRequest);
@@ -160,7 +160,7 @@ fn call_in(alloc: Global, value: &Value) -> Result<Op, WireError>
 }
 
 fn op_in(alloc: Global, value: &Value) -> Result<Op, WireError>
-    ensures { Gives (λ op. op) result (op_in (view value.now)) }
+    ensures { Answers (λ op. op) result (op_in (view value.now)) }
 {
     match value.get("op").and_then(Value::as_str) {
         Some("new") => new_in(alloc, value),
@@ -170,7 +170,7 @@ fn op_in(alloc: Global, value: &Value) -> Result<Op, WireError>
 }
 
 fn request_in(alloc: Global, value: &Value) -> Result<Request, WireError>
-    ensures { Gives (λ request. request) result (request_in (view value.now)) }
+    ensures { Answers (λ request. request) result (request_in (view value.now)) }
 {
     let id = id_at(value)?;
     let who = label_at(alloc, value, "who")?;
@@ -179,7 +179,7 @@ fn request_in(alloc: Global, value: &Value) -> Result<Request, WireError>
 }
 
 fn find_request(alloc: Global, line: &[u8]) -> Result<Request, WireError>
-    ensures { Gives (λ request. request) result (request_of line.now) }
+    ensures { Answers (λ request. request) result (request_of line.now) }
 {
     match Value::from_slice(alloc, line) {
         Ok(value) => request_in(alloc, &value),
@@ -196,7 +196,7 @@ fn find_request(alloc: Global, line: &[u8]) -> Result<Request, WireError>
 pub fn read_request(alloc: Global, line: &[u8]) -> Result<Request, WireError>
     ensures asked { IfOk result (λ request. Asks line.now request) }
     ensures none { IsErrOf result WireError.NoRequest → (request : Request) → ¬ (Asks line.now request) }
-    ensures worked_out { Gives (λ request. request) result (request_of line.now) }
+    ensures worked_out { Answers (λ request. request) result (request_of line.now) }
 {
     find_request(alloc, line)
 }

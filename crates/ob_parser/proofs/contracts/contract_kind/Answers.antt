@@ -1,7 +1,7 @@
 use Rattle.std.proofs.Common.{rules}
-use Rattle.ob_parser.specs.NameReaders.{read_named}
-use Rattle.ob_parser.specs.ContractReaders.{read_contract_kind}
-use Rattle.ob_parser.specs.AllReaders.{all_refs, all_blocks}
+use Rattle.ob_grammar.specs.NameReaders.{read_named}
+use Rattle.ob_grammar.specs.ContractReaders.{read_contract_kind}
+use Rattle.ob_grammar.specs.AllReaders.{all_refs, all_blocks}
 use Rattle.ob_parser.specs.Answering.{Halts}
 use Rattle.ob_parser.proofs.Loops.{halts_bind}
 use Rattle.ob_parser.proofs.contracts.contract_kind.Goals as goal

@@ -1,9 +1,9 @@
 use Rattle.std.proofs.Common.{◌∙◌, sym, map, rules}
 use Rattle.ob_tree.specs.MembersView.{contract_of}
-use Rattle.ob_parser.specs.Readers.{read_many}
-use Rattle.ob_parser.specs.NameReaders.{read_named}
-use Rattle.ob_parser.specs.ContractReaders.{contract_first, read_contract}
-use Rattle.ob_parser.specs.AllReaders.{all_refs, all_blocks}
+use Rattle.ob_grammar.specs.Readers.{read_many}
+use Rattle.ob_grammar.specs.NameReaders.{read_named}
+use Rattle.ob_grammar.specs.ContractReaders.{contract_first, read_contract}
+use Rattle.ob_grammar.specs.AllReaders.{all_refs, all_blocks}
 use Rattle.ob_parser.proofs.Loops.{kept_as}
 use Rattle.ob_parser.proofs.Tails.{halts_in, begun_as}
 use Rattle.ob_parser.proofs.CodeMembers.{contract_item}

@@ -1,12 +1,12 @@
 use Rattle.std.proofs.Common.{rules, ◌∙◌, sym, refl, arith}
 use Rattle.ob_tree.specs.ExprsView.{expr_of}
 use Rattle.ob_lexer.specs.declared.token.Sign.TheVariants.{OpenParen, CloseParen, Comma}
-use Rattle.ob_parser.specs.Operators.{operator_if}
-use Rattle.ob_parser.specs.ExprReaders.{unary_if}
-use Rattle.ob_parser.specs.Primaries.{read_arguments}
-use Rattle.ob_parser.specs.NameReaders.{on, read_item, read_parted}
-use Rattle.ob_parser.specs.AllReaders.{all_unary, all_counted, all_exprs}
-use Rattle.ob_parser.specs.Levels.{number_of_row, read_operand}
+use Rattle.ob_grammar.specs.Operators.{operator_if}
+use Rattle.ob_grammar.specs.ExprReaders.{unary_if}
+use Rattle.ob_grammar.specs.Primaries.{read_arguments}
+use Rattle.ob_grammar.specs.NameReaders.{on, read_item, read_parted}
+use Rattle.ob_grammar.specs.AllReaders.{all_unary, all_counted, all_exprs}
+use Rattle.ob_parser.specs.Levels.{number_of_level, read_operand}
 use Rattle.ob_parser.specs.Answering.{Halts}
 use Rattle.ob_parser.proofs.Loops.{halts_bind, kept_as, halts_more}
 use Rattle.ob_parser.proofs.CodeParts.{opened_halts, opened_done, not_opened, inside_halts, end_halts, counted_done, parted_halts, item_halts, item_done}
@@ -58,11 +58,11 @@ single-returns-clause-read t c =
 
 pub operation-returns-in_err-right-clause-read : goal.operation-returns-in_err-right-clause-read
 operation-returns-in_err-right-clause-read t c =
-    let halts = opened_halts (operator_if (number_of_row c.args.level)) c.args.room (read_operand c.args.level) c.args.tokens.now c.in_ok-operator.rest.now _ c.in_ok-operator.ensures.read c.in_err-right.field-0.0 c.in_err-right.ensures.read in
+    let halts = opened_halts (operator_if (number_of_level c.args.level)) c.args.room (read_operand c.args.level) c.args.tokens.now c.in_ok-operator.rest.now _ c.in_ok-operator.ensures.read c.in_err-right.field-0.0 c.in_err-right.ensures.read in
     search rules
 
 pub operation-returns-clause-read : goal.operation-returns-clause-read
-operation-returns-clause-read t c = opened_done (operator_if (number_of_row c.args.level)) c.args.room (read_operand c.args.level) c.args.tokens.now c.in_ok-operator.rest.now _ c.in_ok-operator.ensures.read _ c.in_ok-right.rest.now c.in_ok-right.ensures.read
+operation-returns-clause-read t c = opened_done (operator_if (number_of_level c.args.level)) c.args.room (read_operand c.args.level) c.args.tokens.now c.in_ok-operator.rest.now _ c.in_ok-operator.ensures.read _ c.in_ok-right.rest.now c.in_ok-right.ensures.read
 
 -- operands
 

@@ -1,12 +1,12 @@
 use Rattle.std.proofs.Common.{◌≡◌, ◌+◌, ◌*◌, ◌≤◌, length, map}
 use Rattle.ob_lexer.specs.declared.token.Sign.TheVariants.{Comma}
 use Rattle.ob_tree.specs.ExprsView.{expr_of}
-use Rattle.ob_parser.specs.Readers.{read_many}
-use Rattle.ob_parser.specs.NameReaders.{on, read_parted, read_item}
-use Rattle.ob_parser.specs.AllReaders.{all_exprs}
-use Rattle.ob_parser.specs.Operators.{operator_if, signs_of_row}
-use Rattle.ob_parser.specs.Chains.{read_chain}
-use Rattle.ob_parser.specs.Levels.{number_of_row, rows_from, read_operand, read_further}
+use Rattle.ob_grammar.specs.Readers.{read_many}
+use Rattle.ob_grammar.specs.NameReaders.{on, read_parted, read_item}
+use Rattle.ob_grammar.specs.AllReaders.{all_exprs}
+use Rattle.ob_grammar.specs.Operators.{operator_if, signs_of_level}
+use Rattle.ob_grammar.specs.Chains.{read_chain}
+use Rattle.ob_parser.specs.Levels.{number_of_level, levels_from, read_operand, read_further}
 use Rattle.ob_parser.specs.Answering.{prefixed}
 use Rattle.ob_parser.proofs.expressions.+expr.Given as goal
 
@@ -41,16 +41,16 @@ abbrev pub decreases-operation : goal.decreases-operation
 decreases-operation l = 40 * l.room
 
 abbrev pub decreases-operand : goal.decreases-operand
-decreases-operand l = 40 * l.room + (3 * rows_from l.level + 4)
+decreases-operand l = 40 * l.room + (3 * levels_from l.level + 4)
 
 abbrev pub decreases-chain : goal.decreases-chain
-decreases-chain l = 40 * l.room + (3 * rows_from l.level + 5)
+decreases-chain l = 40 * l.room + (3 * levels_from l.level + 5)
 
 abbrev pub decreases-single : goal.decreases-single
-decreases-single l = 40 * l.room + (3 * rows_from l.level + 5)
+decreases-single l = 40 * l.room + (3 * levels_from l.level + 5)
 
 abbrev pub decreases-row : goal.decreases-row
-decreases-row l = 40 * l.room + (3 * rows_from l.level + 6)
+decreases-row l = 40 * l.room + (3 * levels_from l.level + 6)
 
 abbrev pub decreases-expression : goal.decreases-expression
 decreases-expression l = 40 * l.room + 25
@@ -63,7 +63,7 @@ decreases-arguments l = 40 * l.room + 27
 
 abbrev pub invariant-chain-operators : goal.invariant-chain-operators
 invariant-chain-operators l = record {
-  read : read_chain (signs_of_row (number_of_row l.fn.level)) (operator_if (number_of_row l.fn.level)) (read_operand l.fn.level) l.fn.room l.fn.tokens ≡ read_further l.fn.level l.fn.room (expr_of l.expr, l.count) l.rest;
+  read : read_chain (signs_of_level (number_of_level l.fn.level)) (operator_if (number_of_level l.fn.level)) (read_operand l.fn.level) l.fn.room l.fn.tokens ≡ read_further l.fn.level l.fn.room (expr_of l.expr, l.count) l.rest;
   few : l.count ≤ l.fn.room;
 }
 

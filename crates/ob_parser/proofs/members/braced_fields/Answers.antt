@@ -1,6 +1,6 @@
 use Rattle.std.proofs.Common.{rules}
-use Rattle.ob_parser.specs.ContractReaders.{read_braced}
-use Rattle.ob_parser.specs.AllReaders.{all_refs}
+use Rattle.ob_grammar.specs.ContractReaders.{read_braced}
+use Rattle.ob_grammar.specs.AllReaders.{all_refs}
 use Rattle.ob_parser.specs.Answering.{Halts}
 use Rattle.ob_parser.proofs.Loops.{halts_bind}
 use Rattle.ob_parser.proofs.members.braced_fields.Goals as goal

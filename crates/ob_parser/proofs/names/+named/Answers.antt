@@ -1,11 +1,11 @@
 use Rattle.std.proofs.Common.{rules}
 use Rattle.ob_tree.specs.NamesView.{name_views}
-use Rattle.ob_parser.proofs.Deeper.{refs_step}
+use Rattle.ob_grammar.proofs.Deeper.{refs_step}
 use Rattle.ob_parser.proofs.CodeTokens.{opened_is}
 use Rattle.ob_lexer.specs.declared.token.Sign.TheVariants.{OpenBracket}
-use Rattle.ob_parser.specs.Symbols.{a_sign}
-use Rattle.ob_parser.specs.Readers.{place_if}
-use Rattle.ob_parser.specs.AllReaders.{all_refs}
+use Rattle.ob_grammar.specs.Symbols.{a_sign}
+use Rattle.ob_grammar.specs.Readers.{place_if}
+use Rattle.ob_grammar.specs.AllReaders.{all_refs}
 use Rattle.ob_parser.proofs.names.+named.Goals as goal
 
 -- src/names.rt:171:21

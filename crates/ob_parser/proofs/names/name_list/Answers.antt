@@ -1,6 +1,6 @@
 use Rattle.std.proofs.Common.{◌∙◌, sym}
-use Rattle.ob_parser.specs.Readers.{name_if, read_token}
-use Rattle.ob_parser.specs.NameReaders.{on, read_item}
+use Rattle.ob_grammar.specs.Readers.{name_if, read_token}
+use Rattle.ob_grammar.specs.NameReaders.{on, read_item}
 use Rattle.ob_parser.proofs.Loops.{kept}
 use Rattle.ob_parser.proofs.CodeItems.{name_item}
 use Rattle.ob_parser.proofs.names.name_list.Goals as goal

@@ -1,9 +1,9 @@
 use Rattle.std.proofs.Common.{◌∙◌, sym, rules}
 use Rattle.ob_lexer.specs.declared.token.Sign.TheVariants.{Comma}
 use Rattle.ob_tree.specs.MembersView.{listed_of}
-use Rattle.ob_parser.specs.NameReaders.{on, read_item}
-use Rattle.ob_parser.specs.MemberReaders.{read_listed}
-use Rattle.ob_parser.specs.AllReaders.{all_refs}
+use Rattle.ob_grammar.specs.NameReaders.{on, read_item}
+use Rattle.ob_grammar.specs.MemberReaders.{read_listed}
+use Rattle.ob_grammar.specs.AllReaders.{all_refs}
 use Rattle.ob_parser.proofs.Loops.{halts_bind, kept_as}
 use Rattle.ob_parser.proofs.CodeMembers.{listed_item}
 use Rattle.ob_parser.proofs.parameters.listed_list.Goals as goal

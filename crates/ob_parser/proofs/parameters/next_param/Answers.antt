@@ -1,7 +1,7 @@
 use Rattle.ob_lexer.specs.declared.token.Sign.TheVariants.{Comma}
 use Rattle.ob_tree.specs.MembersView.{formal_of}
-use Rattle.ob_parser.specs.MemberReaders.{read_param}
-use Rattle.ob_parser.specs.AllReaders.{all_refs}
+use Rattle.ob_grammar.specs.MemberReaders.{read_param}
+use Rattle.ob_grammar.specs.AllReaders.{all_refs}
 use Rattle.ob_parser.proofs.Tails.{item_answer}
 use Rattle.ob_parser.proofs.parameters.next_param.Goals as goal
 

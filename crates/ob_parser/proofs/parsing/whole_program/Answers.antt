@@ -1,5 +1,5 @@
 use Rattle.std.proofs.Common.{rules}
-use Rattle.ob_parser.specs.AllReaders.{all_programs}
+use Rattle.ob_grammar.specs.AllReaders.{all_programs}
 use Rattle.ob_parser.proofs.Whole.{halts_whole}
 use Rattle.ob_parser.proofs.parsing.whole_program.Goals as goal
 

@@ -1,9 +1,9 @@
 use Rattle.std.proofs.Common.{◌∙◌, sym}
 use Rattle.ob_lexer.specs.declared.token.Sign.TheVariants.{Comma}
 use Rattle.ob_tree.specs.StmtsView.{given_of}
-use Rattle.ob_parser.specs.NameReaders.{on, read_item}
-use Rattle.ob_parser.specs.StmtReaders.{read_given}
-use Rattle.ob_parser.specs.AllReaders.{all_exprs}
+use Rattle.ob_grammar.specs.NameReaders.{on, read_item}
+use Rattle.ob_grammar.specs.StmtReaders.{read_given}
+use Rattle.ob_grammar.specs.AllReaders.{all_exprs}
 use Rattle.ob_parser.proofs.Loops.{kept_as}
 use Rattle.ob_parser.proofs.CodeStatements.{given_consumes}
 use Rattle.ob_parser.proofs.simple.given_list.Goals as goal

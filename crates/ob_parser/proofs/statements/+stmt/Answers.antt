@@ -2,12 +2,12 @@ use Rattle.std.proofs.Common.{rules, ◌∙◌, sym}
 use Rattle.ob_lexer.specs.declared.token.Word.TheVariants.{If}
 use Rattle.ob_lexer.specs.declared.token.Sign.TheVariants.{OpenBrace}
 use Rattle.ob_tree.specs.StmtsView.{stmt_of, stmt_views}
-use Rattle.ob_parser.specs.Symbols.{a_word, a_sign}
-use Rattle.ob_parser.specs.Readers.{place_if, read_many}
-use Rattle.ob_parser.specs.StmtReaders.{stmt_first, read_stmt}
-use Rattle.ob_parser.specs.AllReaders.{all_refs, all_counted, all_branches, all_stmts}
+use Rattle.ob_grammar.specs.Symbols.{a_word, a_sign}
+use Rattle.ob_grammar.specs.Readers.{place_if, read_many}
+use Rattle.ob_grammar.specs.StmtReaders.{stmt_first, read_stmt}
+use Rattle.ob_grammar.specs.AllReaders.{all_refs, all_counted, all_branches, all_stmts}
 use Rattle.ob_parser.proofs.Loops.{halts_bind, none_before, kept_as}
-use Rattle.ob_parser.proofs.Deeper.{branches_step}
+use Rattle.ob_grammar.proofs.Deeper.{branches_step}
 use Rattle.ob_parser.proofs.CodeTokens.{opened_is}
 use Rattle.ob_parser.proofs.CodeStatements.{stmt_consumes}
 use Rattle.ob_parser.proofs.statements.+stmt.Goals as goal

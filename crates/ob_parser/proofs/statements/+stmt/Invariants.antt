@@ -1,8 +1,8 @@
 use Rattle.std.proofs.Common.{◌≡◌, ◌+◌, ◌*◌, map, length}
 use Rattle.ob_tree.specs.StmtsView.{stmt_of}
-use Rattle.ob_parser.specs.Readers.{read_many}
-use Rattle.ob_parser.specs.StmtReaders.{stmt_first, read_stmt}
-use Rattle.ob_parser.specs.AllReaders.{all_refs, all_counted, all_branches}
+use Rattle.ob_grammar.specs.Readers.{read_many}
+use Rattle.ob_grammar.specs.StmtReaders.{stmt_first, read_stmt}
+use Rattle.ob_grammar.specs.AllReaders.{all_refs, all_counted, all_branches}
 use Rattle.ob_parser.specs.Answering.{prefixed}
 use Rattle.ob_parser.proofs.statements.+stmt.Given as goal
 

@@ -1,5 +1,5 @@
 use Rattle.std.proofs.Common.{◌∙◌, ap, take, arith}
-use Rattle.ob_parser.specs.Readers.{place_of_tokens}
+use Rattle.ob_grammar.specs.Readers.{place_of_tokens}
 use Rattle.ob_parser.proofs.CodeTokens.{first_to_last}
 use Rattle.ob_parser.proofs.tokens.place_between.Goals as goal
 

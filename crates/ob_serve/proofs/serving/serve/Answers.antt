@@ -1,14 +1,16 @@
 use Rattle.std.proofs.Common.{false, refl, ◌∙◌, arith}
+use Rattle.ob_io.specs.Views.{SourceView}
 use Rattle.ob_io.proofs.LinesLemmas.{nothing_held}
-use Rattle.ob_serve.proofs.Progress.{begun, blank_is, blank_sound, gives_up, serves_stop, passes, goes_on, write_stops}
+use Rattle.ob_serve.proofs.Progress.{begun, blank_is, blank_sound, none_taken, more_taken, few_taken, gives_up, stopped, passes, goes_on, write_stops}
 use Rattle.ob_serve.specs.Replies.{answer_of, blank}
+use Rattle.ob_serve.specs.Served.{Streams}
 use Rattle.ob_serve.specs.Stops.{reader}
 use Rattle.ob_serve.proofs.serving.serve.Goals as goal
 
-pub returns-in_default-clause-serves : goal.returns-in_default-clause-serves
-returns-in_default-clause-serves g c =
-    let left = (g.S.Source.view c.args.input.now).left in
-    gives_up _ _ _ left false 0 blank (begun (answer_of c.args.program.now) blank left (g.K.Sink.view c.args.output.now).written left false 0 refl refl refl)
+pub returns-in_default-clause-ends : goal.returns-in_default-clause-ends
+returns-in_default-clause-ends g c =
+    let start : Streams = record { input = g.S.Source.view c.args.input.now; output = g.K.Sink.view c.args.output.now } in
+    gives_up c.args.program.now start start start.input.left false 0 blank (begun (answer_of c.args.program.now) blank start.input.left start.output.written start.input.left false 0 refl refl refl)
 
 pub lines-init : goal.lines-init
 lines-init g c =
@@ -17,15 +19,16 @@ lines-init g c =
     let is = blank_is c.blank-store.result c.blank-store.ensures.objects c.blank-store.ensures.handles in
     record {
       so_far = rw is (begun (answer_of c.args.program.now) blank left written _ _ _ (nothing_held left _ c.in-Ok.ensures.held) c.in-Ok.ensures.goes_on c.in-Ok.ensures.handed);
+      drawn = none_taken _ _ c.in-Ok.ensures.taken;
       sound = rw is (blank_sound c.args.program.now);
       calm_read = refl;
       calm_write = refl;
     }
 
-pub returns-in-Err-clause-serves : goal.returns-in-Err-clause-serves
-returns-in-Err-clause-serves g c =
-    serves_stop c.args.program.now c.in-Err.served _ _ (reader c.lines.lines (g.S.Source.view c.lines.input)) (reader c.next_line.new.lines (g.S.Source.view c.next_line.new.input)) c.lines.store
-    c.lines.invariant.so_far c.in-Err.ensures.err (omega (arith, c.lines.invariant.calm_read)) refl refl
+pub returns-in-Err-clause-ends : goal.returns-in-Err-clause-ends
+returns-in-Err-clause-ends g c =
+    stopped c.args.program.now c.in-Err.served _ _ (reader c.lines.lines (g.S.Source.view c.lines.input)) (reader c.next_line.new.lines (g.S.Source.view c.next_line.new.input)) c.lines.store
+    c.lines.invariant.so_far c.in-Err.ensures.err (omega (arith, c.lines.invariant.calm_read)) refl refl (more_taken _ _ _ _ _ c.lines.invariant.drawn c.next_line.ensures.taken)
 
 pub lines-preserved-in-Ok-None : goal.lines-preserved-in-Ok-None
 lines-preserved-in-Ok-None g c =
@@ -34,16 +37,17 @@ lines-preserved-in-Ok-None g c =
     record {
       so_far = passes c.args.program.now (reader c.lines.lines (g.S.Source.view c.lines.input)) (reader c.next_line.new.lines (g.S.Source.view c.next_line.new.input)) _ _ _ c.lines.store c.reply_to.new.store _ _
           c.lines.invariant.so_far read (replied read.full read.is_full);
+      drawn = more_taken _ _ _ _ _ c.lines.invariant.drawn c.next_line.ensures.taken;
       sound = c.reply_to.ensures.sound;
       calm_read = c.in-Ok-next_line.ensures.calm (λ is. cc) ∙ c.lines.invariant.calm_read;
       calm_write = c.lines.invariant.calm_write;
     }
 
-pub returns-in-Err-reply_to-clause-serves : goal.returns-in-Err-reply_to-clause-serves
-returns-in-Err-reply_to-clause-serves g c = gives_up _ _ _ _ _ _ c.lines.store c.lines.invariant.so_far
+pub returns-in-Err-reply_to-clause-ends : goal.returns-in-Err-reply_to-clause-ends
+returns-in-Err-reply_to-clause-ends g c = gives_up _ _ _ _ _ _ c.lines.store c.lines.invariant.so_far
 
-pub returns-in-Err-write_all-clause-serves : goal.returns-in-Err-write_all-clause-serves
-returns-in-Err-write_all-clause-serves g c =
+pub returns-in-Err-write_all-clause-ends : goal.returns-in-Err-write_all-clause-ends
+returns-in-Err-write_all-clause-ends g c =
     let read = c.in-Ok-next_line.ensures.ok in
     let replied = rw (c.in-Ok-Some.field-0-is, c.deref.ensures.value) at c.in-Ok-Some.ensures.replied in
     let front = rw c.deref-in-lines.ensures.value at c.in-Err-write_all.ensures.err in
@@ -58,7 +62,21 @@ lines-preserved g c =
     record {
       so_far = goes_on c.args.program.now (reader c.lines.lines (g.S.Source.view c.lines.input)) (reader c.next_line.new.lines (g.S.Source.view c.next_line.new.input)) _ _ _ _ c.lines.store c.reply_to.new.store _ _ c.in-Ok-Some.reply
           c.lines.invariant.so_far read (replied read.full read.is_full) gives;
+      drawn = more_taken _ _ _ _ _ c.lines.invariant.drawn c.next_line.ensures.taken;
       sound = c.reply_to.ensures.sound;
       calm_read = c.in-Ok-next_line.ensures.calm (λ is. cc) ∙ c.lines.invariant.calm_read;
       calm_write = c.in-Ok-write_all.ensures.cause.calm ∙ c.lines.invariant.calm_write;
     }
+
+pub returns-in_default-clause-few : goal.returns-in_default-clause-few
+returns-in_default-clause-few g c =
+    let start : SourceView = g.S.Source.view c.args.input.now in few_taken start start 0 (none_taken start 0 refl) (omega arith)
+
+pub returns-in-Err-clause-few : goal.returns-in-Err-clause-few
+returns-in-Err-clause-few g c = few_taken _ _ _ (more_taken _ _ _ _ _ c.lines.invariant.drawn c.next_line.ensures.taken) c.next_line.ensures.bound
+
+pub returns-in-Err-reply_to-clause-few : goal.returns-in-Err-reply_to-clause-few
+returns-in-Err-reply_to-clause-few g c = few_taken _ _ _ (more_taken _ _ _ _ _ c.lines.invariant.drawn c.next_line.ensures.taken) c.next_line.ensures.bound
+
+pub returns-in-Err-write_all-clause-few : goal.returns-in-Err-write_all-clause-few
+returns-in-Err-write_all-clause-few g c = few_taken _ _ _ (more_taken _ _ _ _ _ c.lines.invariant.drawn c.next_line.ensures.taken) c.next_line.ensures.bound

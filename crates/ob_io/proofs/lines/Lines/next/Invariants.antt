@@ -1,6 +1,6 @@
 use Rattle.std.proofs.Common.{◌≤◌, ◌≡◌, ◌+◌, ◌-◌, ◌^◌, List, ℕ, false, length}
 use Rattle.ob_io.specs.Told.{Takes}
-use Rattle.ob_io.specs.Lines.{pending, handed, has_newline, IsSoFar}
+use Rattle.ob_io.specs.Lines.{pending, handed, has_newline, IsSoFar, CountsTaken}
 use Rattle.ob_io.proofs.lines.Lines.next.Given as goal
 
 -- a part of a line was taken
@@ -11,10 +11,11 @@ invariant-pieces g l = record {
   so_far : IsSoFar l.is_long l.line.items part;
   short : length l.line.items ≤ 65536;
   took : Takes (pending l.fn.self (g.S.Source.view l.fn.source).left) (pending l.self (g.S.Source.view l.source).left) part;
+  drawn : CountsTaken l.fn.self l.self (g.S.Source.view l.fn.source) (g.S.Source.view l.source);
   counted : handed l.self ≡ handed l.fn.self + length part;
   goes_on : l.self.ended ≡ false;
   calm : (g.S.Source.view l.source).faults ≡ (g.S.Source.view l.fn.source).faults;
 }
 
 abbrev pub decreases-pieces : goal.decreases-pieces
-decreases-pieces g l = 2 ^ 41 - l.self.taken
+decreases-pieces g l = 2 ^ 40 - l.self.taken

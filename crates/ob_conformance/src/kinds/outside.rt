@@ -1,0 +1,76 @@
+//! What the outside of a run does: which calls of its objects fail, and how much room its output has.
+use anyhow::{Context, Result, bail};
+use std::alloc::Global;
+
+/// The outside of a run.
+#[derive(Drop)]
+pub struct Outside {
+    /// Whether it is made of the forms that never fail.
+    pub is_sure: bool,
+    /// How many bytes the output takes.
+    pub room: usize,
+    /// The calls that fail, from 0: of the files, the input and the output.
+    pub files: Vec<u64>,
+    pub input: Vec<u64>,
+    pub output: Vec<u64>,
+}
+
+/// The room of an output where none is named.
+const AMPLE: usize = 1 << 30;
+
+/// How many calls fail, where all from one on do: more than a run of a case has.
+const LATER: u64 = 100;
+
+// Adds the numbers of calls: `0`, or `from 0` with all later ones.
+fn put_calls(text: &str, calls: &mut Vec<u64>) -> Result<()> {
+    match text.strip_prefix("from ") {
+        None => calls.push(text.parse()?)?,
+        Some(first) => {
+            let first = first.parse::<u64>()?;
+            for later in 0..LATER {
+                calls.push(first.saturating_add(later))?;
+            }
+        }
+    }
+    Ok(())
+}
+
+impl Outside {
+    /// Nothing fails.
+    pub fn new(alloc: Global) -> Outside {
+        Outside {
+            is_sure: false,
+            room: AMPLE,
+            files: Vec::new(alloc),
+            input: Vec::new(alloc),
+            output: Vec::new(alloc),
+        }
+    }
+
+    /// What a case says of the outside, with `, ` between: `sure`, `room NUMBER`, `files CALLS`, `input CALLS`, `output CALLS`.
+    pub fn of(alloc: Global, text: &str) -> Result<Outside> {
+        let mut outside = Outside::new(alloc);
+        if !text.is_empty() {
+            for part in text.split(", ") {
+                outside.take(part)?;
+            }
+        }
+        Ok(outside)
+    }
+
+    fn take(&mut self, part: &str) -> Result<()> {
+        if part == "sure" {
+            self.is_sure = true;
+            return Ok(());
+        }
+        let (word, rest) = part.split_once(' ').context("an unknown outside")?;
+        match word {
+            "room" => self.room = rest.parse()?,
+            "files" => put_calls(rest, &mut self.files)?,
+            "input" => put_calls(rest, &mut self.input)?,
+            "output" => put_calls(rest, &mut self.output)?,
+            _ => bail!("an unknown outside"),
+        }
+        Ok(())
+    }
+}

@@ -1,0 +1,10 @@
+mod LayoutSpelling
+mod LayoutPieces
+mod LayoutText
+mod AgainRows
+mod AgainNames
+mod AgainExprs
+mod AgainStmts
+mod AgainMembers
+mod AgainContracts
+mod LayoutAgain
