@@ -1,6 +1,6 @@
 -- The faults that a program has: one condition each, on its sites (the Obsidian language documentation; the numbers, and
 -- which fault comes first, are this project's own).
-use Rattle.std.specs.Prelude.{◌≡◌, ℕ, ◌≤◌, ◌<◌, ◌⊎◌, Bool, true, false, not, ◌&&◌, ◌||◌, nat_eq, nat_lt, List, [], ◌∷◌, Option, Some, None, is_some, IsTrue, Contains}
+use Rattle.std.specs.Prelude.{◌≡◌, ℕ, ◌≤◌, ◌<◌, ◌⊎◌, Bool, true, false, not, ◌&&◌, ◌||◌, nat_eq, nat_lt, List, [], ◌∷◌, Option, Some, None, is_some, flat_map, Contains, if◌then◌else◌}
 use Rattle.std.specs.Option.{option_map_or}
 use Rattle.ob_base.specs.declared.fault.Span.{Span}
 use Rattle.ob_base.specs.declared.fault.ProgramFault.{ProgramFault}
@@ -122,22 +122,25 @@ conditions =
     ∷ (310, is_interface_mismatch) ∷ (311, is_past_limit) ∷ (312, is_missing_return) ∷ (313, is_unreachable)
     ∷ (314, is_second_main) ∷ (315, is_assigned_parameter) ∷ []
 
--- one of these sites meets the condition of the fault's number, at its place
-pub record Occurs (sites : List Site) (f : ProgramFault) : Type 0 where
-  pub site : Site
-  pub among : Contains sites site
-  pub condition : Site → Bool
-  pub numbered : Contains conditions (f.number, condition)
-  pub holds : IsTrue (condition site)
-  pub place : f.span ≡ place_at site
+-- the fault of this number at a site
+abbrev pub fault_at : ℕ → Site → ProgramFault
+fault_at number site = record { number = number; span = place_at site }
+
+-- the faults at a site: those whose condition holds there
+abbrev pub faults_at : Site → List ProgramFault
+faults_at site = flat_map (λ c. if c.1 site then fault_at c.0 site ∷ [] else []) conditions
+
+-- the faults of a program
+abbrev pub faults_of : Program → List ProgramFault
+faults_of program = flat_map faults_at (sites_of program)
 
 -- the program has the fault
 abbrev pub HasFault : Program → ProgramFault → Type 0
-HasFault program f = Occurs (sites_of program) f
+HasFault program f = Contains (faults_of program) f
 
 -- the program has no fault
 abbrev pub HasNoFault : Program → Type 0
-HasNoFault program = (f : ProgramFault) → ¬ HasFault program f
+HasNoFault program = faults_of program ≡ []
 
 -- the first fault stands before the second, or at its place with no greater number
 abbrev pub Comes : ProgramFault → ProgramFault → Type 0

@@ -13,6 +13,7 @@ pub mod ExpressionSites
 pub mod StatementSites
 pub mod MemberSites
 pub mod Faults
+pub mod Least
 pub mod Numbers
 pub mod Bodies
 pub mod TableOf

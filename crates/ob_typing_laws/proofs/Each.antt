@@ -2,7 +2,7 @@
 use Rattle.std.proofs.Common.{◌≡◌, ℕ, zero, suc, ◌+◌, ◌<◌, ◌≤◌, Bool, true, false, List, [], ◌∷◌, ◌++◌, map, length, get_or, Option, Some, None, refl, sym, ap, subst, arith, ◌∙◌, append_assoc}
 use Rattle.std.specs.List.{AllByRecursion, All, Contains, flat_map, filter}
 use Rattle.std.specs.Option.{option_map_or}
-use Rattle.std.specs.Prelude.{cond}
+use Rattle.std.specs.Prelude.{cond, slice_get}
 use Rattle.std.proofs.lemmas.List.Elements.{All-from_recursion, recursion_from_All}
 use Rattle.ob_typing.specs.Names.{in_order_after, in_order}
 
@@ -64,3 +64,8 @@ each_of_contains P (x ∷ xs) h = (h x (0, omega arith, refl), each_of_contains 
 pub each_filter : {A : Type 0} (P : A → Type 0) (test : A → Bool) (xs : List A) → Each P xs → Each P (filter test xs)
 each_filter P test [] h = tt
 each_filter P test (x ∷ xs) h = elim (test x) as (λ b. Each P (cond b (x ∷ filter test xs) (filter test xs))) [ true ↦ (h.0, each_filter P test xs h.1) | false ↦ each_filter P test xs h.1 ]
+
+pub each_at : {A : Type 0} (P : A → Type 0) (xs : List A) (n : ℕ) (x : A) → Each P xs → slice_get xs n ≡ Some x → P x
+each_at P [] n x h e = absurd cc
+each_at P (y ∷ xs) zero x h e = let s : y ≡ x = cc in subst P s h.0
+each_at P (y ∷ xs) (suc n) x h e = each_at P xs n x h.1 e

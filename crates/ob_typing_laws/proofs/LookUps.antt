@@ -68,3 +68,31 @@ contract_found program name n e =
   where
     named : (c : Contract) → slice_get program n ≡ Some c → option_map (λ c. c.name) (slice_get program n) ≡ Some name → c.name ≡ name
     named c a b = let s : Some c.name ≡ Some name = sym (ap (option_map (λ c. c.name)) a) ∙ b in cc
+
+-- the first thing of a name stands at its number
+pub first_at : {A : Type 0} (name_of : A → Name) (name : Name) (xs : List A) (n : ℕ) → number_of name (map name_of xs) ≡ Some n → (x : A) × (slice_get xs n ≡ Some x) × (first_named name_of name xs ≡ Some x) × (name_of x ≡ name)
+first_at name_of name [] n e = absurd cc
+first_at {A} name_of name (x ∷ xs) n e = at (same name (name_of x)) refl (first_at name_of name xs) e
+  where
+    at : (b : Bool) → same name (name_of x) ≡ b → ((m : ℕ) → number_of name (map name_of xs) ≡ Some m → (y : A) × (slice_get xs m ≡ Some y) × (first_named name_of name xs ≡ Some y) × (name_of y ≡ name))
+        → cond b (Some 0) (option_map suc (number_of name (map name_of xs))) ≡ Some n → (y : A) × (slice_get (x ∷ xs) n ≡ Some y) × (cond b (Some x) (first_named name_of name xs) ≡ Some y) × (name_of y ≡ name)
+    at true s rest e = let z : n ≡ 0 = cc in (x, ap (slice_get (x ∷ xs)) z, refl, sym (same_is name (name_of x) s))
+    at false s rest e =
+        let r = some_step name (number_of name (map name_of xs)) n e in
+        let w = rest r.0 r.1 in
+        (w.0, ap (slice_get (x ∷ xs)) r.2 ∙ w.1, w.2, w.3)
+
+pub get_or_at : {A : Type 0} (xs : List A) (i : ℕ) (x d : A) → slice_get xs i ≡ Some x → get_or xs i d ≡ x
+get_or_at [] i x d e = absurd cc
+get_or_at (y ∷ xs) zero x d e = cc
+get_or_at (y ∷ xs) (suc i) x d e = get_or_at xs i x d e
+
+-- the first thing of a name stands somewhere, and has that name
+pub named_at : {A : Type 0} (name_of : A → Name) (name : Name) (xs : List A) (x : A) → first_named name_of name xs ≡ Some x → (n : ℕ) × (slice_get xs n ≡ Some x) × (name_of x ≡ name)
+named_at name_of name [] x e = absurd cc
+named_at {A} name_of name (y ∷ xs) x e = at (same name (name_of y)) refl (named_at name_of name xs x) e
+  where
+    at : (b : Bool) → same name (name_of y) ≡ b → (first_named name_of name xs ≡ Some x → (n : ℕ) × (slice_get xs n ≡ Some x) × (name_of x ≡ name)) → cond b (Some y) (first_named name_of name xs) ≡ Some x
+        → (n : ℕ) × (slice_get (y ∷ xs) n ≡ Some x) × (name_of x ≡ name)
+    at true s rest e = let z : y ≡ x = cc in (0, e, ap name_of (sym z) ∙ sym (same_is name (name_of y) s))
+    at false s rest e = let r = rest e in (suc r.0, r.1, r.2)

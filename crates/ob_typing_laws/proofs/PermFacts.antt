@@ -21,7 +21,7 @@ use Rattle.ob_typing.specs.Numbers.{whole, numbers_of_states, permission_on}
 use Rattle.ob_typing.specs.TableOf.{contract_in_table}
 use Rattle.ob_typing.specs.Conditions.{IsPermOn, MayLeave}
 
-mask_below_bound : (n : ℕ) (a : States) → mask_below n a < 2 ^ n
+pub mask_below_bound : (n : ℕ) (a : States) → mask_below n a < 2 ^ n
 mask_below_bound zero a = omega arith
 mask_below_bound (suc n) a = at (a n) (mask_below_bound n a)
   where
@@ -91,7 +91,7 @@ get_some [] i f e = absurd cc
 get_some (x ∷ xs) zero f e = omega arith
 get_some (x ∷ xs) (suc i) f e = let r = get_some xs i f e in omega (arith, r)
 
-below_all : (n i : ℕ) → i < n → all_states n i ≡ true
+pub below_all : (n i : ℕ) → i < n → all_states n i ≡ true
 below_all n i l = grind arith
 
 below_whole : (interface : Bool) (n i : ℕ) → i < n → (if interface then interface_states n else all_states n) i ≡ true

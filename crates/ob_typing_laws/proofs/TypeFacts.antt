@@ -29,7 +29,7 @@ use Rattle.ob_typing_laws.proofs.Clean.{Clean}
 use Rattle.ob_typing_laws.proofs.LookUps.{some_value, slice_get-map, contract_found}
 use Rattle.ob_typing_laws.proofs.PermFacts.{perm_is_on, may_leave_in_table}
 
-true_from_not : (b : Bool) → not b ≡ false → b ≡ true
+pub true_from_not : (b : Bool) → not b ≡ false → b ≡ true
 true_from_not true h = refl
 true_from_not false h = absurd cc
 
@@ -117,7 +117,7 @@ reference_is_kind program of perm k =
         (sym k.named)
         (some_and _ (contract_in_table program k.contract) _ (in_table program k.number k.contract k.at) (perm_in_table program _ k.contract perm k.by_name))
 
-leaves_in_table : (program : Program) (o : Option Contract) (c : Contract) (perm exit : PermNode) → o ≡ Some c → may_leave (written_permission perm) (written_permission exit) ≡ true → MayLeave (perm_on o perm) (perm_on o exit)
+pub leaves_in_table : (program : Program) (o : Option Contract) (c : Contract) (perm exit : PermNode) → o ≡ Some c → may_leave (written_permission perm) (written_permission exit) ≡ true → MayLeave (perm_on o perm) (perm_on o exit)
 leaves_in_table program o c perm exit e h =
     subst (λ o. MayLeave (perm_on o perm) (perm_on o exit)) (sym e) (may_leave_in_table c (written_permission perm) (written_permission exit) h)
 
@@ -140,3 +140,7 @@ type_is_kind v (int_type span) h = tt
 type_is_kind v (bool_type span) h = tt
 type_is_kind v (text_type span) h = tt
 type_is_kind v (ref_type (ref_with of perm)) h = reference_is_kind v.program of perm (ref_known v of perm None h).0
+
+-- the kind of a known reference
+pub known_kind : (program : Program) (of : Named) (perm : PermNode) (k : Known program of perm) → kind_of_ref program (ref_with of perm) ≡ a_reference k.number
+known_kind program of perm k = rw (k.by_name, k.is_of, k.named) refl
