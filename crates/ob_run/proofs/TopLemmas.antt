@@ -1,22 +1,20 @@
 -- From what is done with a text to what a run says.
-use Rattle.std.proofs.Common.{◌≡◌, ◌⊎◌, inl, inr, ℕ, ◌<◌, ◌≤◌, ◌^◌, ◌++◌, [], ◌∷◌, List, length, take, Option, None, Some, refl, sym, ◌∙◌, ap, subst, arith, length-append, length-take}
+use Rattle.std.proofs.Common.{◌≡◌, ◌⊎◌, inl, inr, ℕ, ◌<◌, ◌≤◌, ◌^◌, List, length, take, Option, None, Some, refl, ap, subst, arith, length-append, length-take}
 use Rattle.std.proofs.lemmas.Bool.{cases_lt}
 use Rattle.std.proofs.lemmas.List.{take_all}
-use Rattle.ob_io.specs.Files.{IsAsked, IsAskedAtMost}
+use Rattle.ob_io.specs.Files.{IsAsked}
 use Rattle.ob_io.specs.Told.{Takes}
-use Rattle.ob_io.specs.Views.{Ask}
 use Rattle.ob_machine.specs.declared.plain.Plain.{Plain}
 use Rattle.ob_base.specs.declared.fault.ProgramFault.{ProgramFault}
 use Rattle.ob_lexer.specs.Flaws.{HasFault, too_long, no_utf8, flawed}
-use Rattle.ob_front.specs.Form.{IsAccepted, HasTextFault, at_token, at_row, HasProgram, IsOfForm, IsFaulty, in_tokens, in_grammar, in_form}
+use Rattle.ob_front.specs.Form.{IsAccepted, HasTextFault, at_token, at_row, IsOfForm, IsFaulty, in_tokens, in_grammar, in_form}
 use Rattle.ob_front.proofs.FormLaws.{accepted_or_fault_lem, form_or_fault_lem}
 use Rattle.ob_serve.specs.Served.{Streams, IsAll, Finishes, FailsToRead, FailsToWrite, GivesUp, ReachesLimit}
-use Rattle.ob_run.specs.Asked.{program_ask, AsksFor}
+use Rattle.ob_run.specs.Asked.{program_ask}
 use Rattle.ob_run.specs.Commands.{Command, serve, check, file_of, command_of}
 use Rattle.ob_run.specs.Outside.{Outside, streams}
 use Rattle.ob_run.specs.Statuses.{ServesProgram, IsToldBy, IsRefusal, IsFinding, IsOfText, Treats, TreatsFile, IsDone, IsRefused, IsUsage, IsFileFault, IsReadFault, IsWriteFault, IsMemory, IsLong, Meets, IsSmooth, IsSmoothCheck}
 use Rattle.ob_run.specs.TextRead.{IsReadOf}
-use Rattle.ob_run.specs.Writes.{WritesWhole, WritesFront}
 use Rattle.ob_run.specs.declared.exit.Exit.{Exit}
 use Rattle.ob_run.specs.declared.exit.Exit.TheVariants.{Done, Refused, Usage, ReadFault, WriteFault, FileFault, Memory, Long}
 
