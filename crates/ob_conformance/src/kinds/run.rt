@@ -23,8 +23,8 @@ struct Ended {
     output: Option<Vec<u8>>,
     /// How many calls failed.
     faults: u64,
-    /// How many bytes of the input weren't taken, and how many it had.
-    unread: usize,
+    /// How many bytes of the input weren't taken, where a read tells it, and how many it had.
+    unread: Option<usize>,
     length: usize,
     /// Whether the words ask to serve.
     serves: bool,
@@ -54,10 +54,14 @@ fn asks_to_serve(words: &[String]) -> bool {
     words.first().is_some_and(|word| word.as_str() == "serve")
 }
 
-// How many bytes a source has left, of so many.
-fn left_in<S: Source>(alloc: Global, source: &mut S, most: usize) -> Result<usize, Trouble> {
+// How many bytes a source has left, of so many, unless its next read fails.
+fn left_in<S: Source>(
+    alloc: Global,
+    source: &mut S,
+    most: usize,
+) -> Result<Option<usize>, Trouble> {
     let mut left = vec![in alloc; 0; most]?;
-    Ok(source.read(&mut left).unwrap_or(0))
+    Ok(source.read(&mut left).ok())
 }
 
 fn run_failing(alloc: Global, given: Given, outside: Outside) -> Result<Ended, Trouble> {
@@ -113,13 +117,17 @@ fn run_sure(alloc: Global, given: Given, room: usize) -> Result<Ended, Trouble> 
 // Whether as many calls failed as the end says, and as many bytes of the input are left.
 fn is_well(ended: &Ended) -> bool {
     let (faults, unread) = match ended.exit {
-        Exit::Done => (0, if ended.serves { 0 } else { ended.length }),
-        Exit::Refused | Exit::Usage => (0, ended.length),
-        Exit::FileFault => (1, ended.length),
-        Exit::ReadFault | Exit::WriteFault => (1, ended.unread),
-        Exit::Memory | Exit::Long => (0, ended.unread),
+        Exit::Done if ended.serves => (0, Some(0)),
+        Exit::Done | Exit::Refused | Exit::Usage => (0, Some(ended.length)),
+        Exit::FileFault => (1, Some(ended.length)),
+        Exit::ReadFault | Exit::WriteFault => (1, None),
+        Exit::Memory | Exit::Long => (0, None),
     };
-    ended.faults == faults && ended.unread == unread
+    let is_left = match (unread, ended.unread) {
+        (Some(wanted), Some(left)) => left == wanted,
+        _ => true,
+    };
+    ended.faults == faults && is_left
 }
 
 // The status, and the counts where they aren't well.
@@ -129,7 +137,7 @@ fn end_of(alloc: Global, ended: &Ended) -> Result<String, Trouble> {
     let mut said = format!(in alloc; "{status} {exit:?}")?;
     if !is_well(ended) {
         let faults = ended.faults;
-        let unread = ended.unread;
+        let unread = ended.unread.unwrap_or(0);
         write!(
             said,
             ", calls that failed: {faults}, bytes that weren't read: {unread}"
