@@ -77,7 +77,7 @@ owner_as_named : (c : Contract) (names : List Name) → (c.interface ≡ false) 
     → mask_of (whole c) ≡ mask_of (numbers_of_states (state_names c) names)
 owner_as_named c names a same =
     same_mask_of (whole c) (numbers_of_states (state_names c) names)
-        (λ i l. some_states c.interface (length (state_names c)) i a.0 a.1 ∙ sym (owner_states (state_names c) i) ∙ same i)
+    (λ i l. some_states c.interface (length (state_names c)) i a.0 a.1 ∙ sym (owner_states (state_names c) i) ∙ same i)
 
 abbrev owned_with : ℕ → Perm
 owned_with mask = record { mode = Owned; states = mask }
@@ -102,4 +102,4 @@ agree_same c (as_owner_in states) as_owner h =
     ap owned_with (sym (owner_as_named c states (apart c (state_names c) states (inr (agree_others c (as_owner_in states) as_owner h))) (λ i. sym (states_same (as_owner_in states) as_owner (state_names c) (agree_states c (as_owner_in states) as_owner h) i))))
 agree_same c (as_owner_in states) (as_owner_in others) h =
     ap owned_with (same_mask_of (numbers_of_states (state_names c) states) (numbers_of_states (state_names c) others)
-        (λ i l. states_same (as_owner_in states) (as_owner_in others) (state_names c) (agree_states c (as_owner_in states) (as_owner_in others) h) i))
+    (λ i l. states_same (as_owner_in states) (as_owner_in others) (state_names c) (agree_states c (as_owner_in states) (as_owner_in others) h) i))

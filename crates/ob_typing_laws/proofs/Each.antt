@@ -49,9 +49,10 @@ each_flat_map P f (x ∷ xs) h = each_both P (f x) (flat_map f xs) h.0 (each_fla
 -- of what is said of each thing and of those before it
 pub each_of_after : {A B : Type 0} (P : B → Type 0) (f : List A → A → List B) (before xs : List A) → Each P (in_order_after f before xs) → Each (λ x. (b : List A) × Each P (f b x)) xs
 each_of_after P f before [] h = tt
-each_of_after P f before (x ∷ xs) h =
-    ((before, each_left P (f before x) (in_order_after f (before ++ x ∷ []) xs) h),
-     each_of_after P f (before ++ x ∷ []) xs (each_right P (f before x) (in_order_after f (before ++ x ∷ []) xs) h))
+each_of_after P f before (x ∷ xs) h = (
+  (before, each_left P (f before x) (in_order_after f (before ++ x ∷ []) xs) h),
+  each_of_after P f (before ++ x ∷ []) xs (each_right P (f before x) (in_order_after f (before ++ x ∷ []) xs) h),
+)
 
 pub each_after : {A B : Type 0} (P : B → Type 0) (f : List A → A → List B) → ((b : List A) (x : A) → Each P (f b x)) → (before xs : List A) → Each P (in_order_after f before xs)
 each_after P f h before [] = tt

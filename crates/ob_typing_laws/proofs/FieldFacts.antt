@@ -49,7 +49,7 @@ self_among (x ∷ xs) = (ap (λ b. b || is_among x xs) (same-refl x), each_weake
 pub states_of_members : (own : Contract) → Each (λ m. Each (λ (s : NamePart). is_among s.name (state_names own) ≡ true) (states_of_member m)) own.members
 states_of_members own =
     each_of_flat_map (λ (s : NamePart). is_among s.name (state_names own) ≡ true) states_of_member own.members
-        (each_of_map (λ x. is_among x (state_names own) ≡ true) (λ (s : NamePart). s.name) (states_of own) (self_among (state_names own)))
+    (each_of_map (λ x. is_among x (state_names own) ≡ true) (λ (s : NamePart). s.name) (states_of own) (self_among (state_names own)))
 
 -- Sets of states of a contract.
 
@@ -116,10 +116,10 @@ holder_is program own of perm span k h =
     let inner = subst (λ o. Each Clean (option_map_or (λ c. option_map_or (λ p. holds own c p span ∷ []) (known_permission c perm) []) o [])) k.by_name h in
     let site : Each Clean (holds own k.contract (written_permission perm) span ∷ []) = rw k.is_of at inner in
     λ asset mode.
-        let m : (perm_of (permission_on k.contract (written_permission perm))).mode ≡ Owned = subst (λ o. (perm_on o perm).mode ≡ Owned) k.by_name mode in
-        let of_asset = owner_of own.asset k.contract.asset (is_owning (written_permission perm)) site.0.non_asset_owner asset (owned_is_owning k.contract (written_permission perm) m) in
-        subst (λ o. IsSomeAnd (slice_get (map (contract_in_table program) program) (contract_id o).0) (λ d. d.asset ≡ false)) (sym k.named)
-            (some_and _ (contract_in_table program k.contract) _ (in_table program k.number k.contract k.at) of_asset)
+    let m : (perm_of (permission_on k.contract (written_permission perm))).mode ≡ Owned = subst (λ o. (perm_on o perm).mode ≡ Owned) k.by_name mode in
+    let of_asset = owner_of own.asset k.contract.asset (is_owning (written_permission perm)) site.0.non_asset_owner asset (owned_is_owning k.contract (written_permission perm) m) in
+    subst (λ o. IsSomeAnd (slice_get (map (contract_in_table program) program) (contract_id o).0) (λ d. d.asset ≡ false)) (sym k.named)
+    (some_and _ (contract_in_table program k.contract) _ (in_table program k.number k.contract k.at) of_asset)
 
 holder_of_type : (program : Program) (own : Contract) (t : TypeExpr) (span : Span) → Each Clean (type_sites (visible_in program own) t) → Each Clean (holder_sites program own t span)
     → OwnsNoAsset (table_of program) (contract_in_table program own) (table_kind program t)
@@ -143,13 +143,15 @@ fields_of_member_are : (program : Program) (own : Contract) (m : Member) → len
     → HasMemberShape own.interface m → Each Clean (member_sites program own m) → Each (λ f. IsField (table_of program) (contract_in_table program own) (field_in_table program own f)) (fields_of_member m)
 fields_of_member_are program own (state_member name fields span) few states shape h =
     each_map _ (field_inside name.name) fields
-        (each_of_both (λ f. IsTrue (is_name f.name.name)) (λ f. Each Clean (is_inside_state f.available f.name.span ∷ field_sites program own f)) _
-            (λ f n c. field_is program own (field_inside name.name f) n c.1
-                (available_names (state_names own) (name.name ∷ []) name.name few states.0 (ap (λ b. b || false) (same-refl name.name))))
-            fields (recursion_from_All _ fields shape.1) (each_of_flat_map Clean (λ f. is_inside_state f.available f.name.span ∷ field_sites program own f) fields h))
-fields_of_member_are program own (field_member field) few states shape h =
-    (field_is program own (field_at_top field) shape.0 (each_right Clean (map (names_state own) field.available) (field_sites program own field) h)
-        (always_or own field.available few (named_states own field.available (each_left Clean (map (names_state own) field.available) _ h))), tt)
+    (each_of_both (λ f. IsTrue (is_name f.name.name)) (λ f. Each Clean (is_inside_state f.available f.name.span ∷ field_sites program own f)) _
+    (λ f n c. field_is program own (field_inside name.name f) n c.1
+    (available_names (state_names own) (name.name ∷ []) name.name few states.0 (ap (λ b. b || false) (same-refl name.name))))
+    fields (recursion_from_All _ fields shape.1) (each_of_flat_map Clean (λ f. is_inside_state f.available f.name.span ∷ field_sites program own f) fields h))
+fields_of_member_are program own (field_member field) few states shape h = (
+  field_is program own (field_at_top field) shape.0 (each_right Clean (map (names_state own) field.available) (field_sites program own field) h)
+      (always_or own field.available few (named_states own field.available (each_left Clean (map (names_state own) field.available) _ h))),
+  tt,
+)
 fields_of_member_are program own (constructor_member of perm params body span) few states shape h = tt
 fields_of_member_are program own (transaction_member private listed name params result body span) few states shape h = tt
 
@@ -158,16 +160,16 @@ pub fields_are : (program : Program) (own : Contract) → length (state_names ow
     → Each (IsField (table_of program) (contract_in_table program own)) (map (field_in_table program own) (fields_of own))
 fields_are program own few shape h =
     each_map _ (field_in_table program own) (fields_of own)
-        (each_flat_map _ fields_of_member own.members
-            (each_of_both (λ m. HasMemberShape own.interface m × Each (λ (s : NamePart). is_among s.name (state_names own) ≡ true) (states_of_member m)) (λ m. Each Clean (member_sites program own m)) _
-                (λ m a c. fields_of_member_are program own m few a.1 a.0 c)
-                own.members (each_of_both _ _ _ (λ m a b. (a, b)) own.members shape (states_of_members own)) (each_of_flat_map Clean (member_sites program own) own.members h)))
+    (each_flat_map _ fields_of_member own.members
+    (each_of_both (λ m. HasMemberShape own.interface m × Each (λ (s : NamePart). is_among s.name (state_names own) ≡ true) (states_of_member m)) (λ m. Each Clean (member_sites program own m)) _
+    (λ m a c. fields_of_member_are program own m few a.1 a.0 c)
+    own.members (each_of_both _ _ _ (λ m a b. (a, b)) own.members shape (states_of_members own)) (each_of_flat_map Clean (member_sites program own) own.members h)))
 
 field_types_of_member : (program : Program) (own : Contract) (m : Member) → Each Clean (member_sites program own m) → Each (λ f. Each Clean (type_sites (visible_in program own) f.field.of)) (fields_of_member m)
 field_types_of_member program own (state_member name fields span) h =
     each_map _ (field_inside name.name) fields
-        (each_weaker _ _ (λ f c. each_left Clean (type_sites (visible_in program own) f.of) (holder_sites program own f.of f.name.span) c.1) fields
-            (each_of_flat_map Clean (λ f. is_inside_state f.available f.name.span ∷ field_sites program own f) fields h))
+    (each_weaker _ _ (λ f c. each_left Clean (type_sites (visible_in program own) f.of) (holder_sites program own f.of f.name.span) c.1) fields
+    (each_of_flat_map Clean (λ f. is_inside_state f.available f.name.span ∷ field_sites program own f) fields h))
 field_types_of_member program own (field_member field) h =
     (each_left Clean (type_sites (visible_in program own) field.of) (holder_sites program own field.of field.name.span) (each_right Clean (map (names_state own) field.available) (field_sites program own field) h), tt)
 field_types_of_member program own (constructor_member of perm params body span) h = tt

@@ -89,14 +89,15 @@ no_later_this : (v : Visible) (constructor : Bool) (before formals : List Formal
 no_later_this v constructor before [] l h = refl
 no_later_this v constructor before (f ∷ formals) l h =
     rest f.name (each_right Clean (formal_type_sites v f.of f.exit (place_of_subject f.name)) (subject_param_sites v (length before) constructor f.of f.name)
-            (each_left Clean (formal_sites v constructor before f) _ h))
-        (no_later_this v constructor (before ++ f ∷ []) formals (omega (arith, length-append before (f ∷ []))) (each_right Clean (formal_sites v constructor before f) (in_order_after (formal_sites v constructor) (before ++ f ∷ []) formals) h))
+    (each_left Clean (formal_sites v constructor before f) _ h))
+    (no_later_this v constructor (before ++ f ∷ []) formals (omega (arith, length-append before (f ∷ []))) (each_right Clean (formal_sites v constructor before f) (in_order_after (formal_sites v constructor) (before ++ f ∷ []) formals) h))
   where
     not_this : (t : TypeExpr) (span : Span) → Each Clean (this_sites v (length before) constructor t span) → ⊥
     not_this (int_type s) span h = takes_this_at (length before) constructor true l h.0.wrong_kind
     not_this (bool_type s) span h = takes_this_at (length before) constructor true l h.0.wrong_kind
     not_this (text_type s) span h = takes_this_at (length before) constructor true l h.0.wrong_kind
     not_this (ref_type (ref_with of perm)) span h = takes_this_at (length before) constructor false l h.0.wrong_kind
+
     rest : (s : Subject) → Each Clean (subject_param_sites v (length before) constructor f.of s) → list_any is_this formals ≡ false → (is_this_subject s || list_any is_this formals) ≡ false
     rest (This span) h r = absurd (not_this f.of span h)
     rest (NameSubject name) h r = r
@@ -181,5 +182,5 @@ held_known program own [] first h = record { entry = as_unowned; exit = as_unown
 held_known program own (f ∷ formals) first h =
     let all = formals_first program own false (f ∷ formals) h in
     held_first program own f.of f.exit f.name formals first
-        (no_later_this (visible_in program own) false (f ∷ []) formals (omega arith) (each_right Clean (formal_sites (visible_in program own) false [] f) (in_order_after (formal_sites (visible_in program own) false) (f ∷ []) formals) all))
-        (each_left Clean (formal_sites (visible_in program own) false [] f) _ all)
+    (no_later_this (visible_in program own) false (f ∷ []) formals (omega arith) (each_right Clean (formal_sites (visible_in program own) false [] f) (in_order_after (formal_sites (visible_in program own) false) (f ∷ []) formals) all))
+    (each_left Clean (formal_sites (visible_in program own) false [] f) _ all)

@@ -13,6 +13,7 @@ head_or_tail y ys x h = elim (Contains-append_cases (y ∷ []) ys x h) [ inl p �
   where
     none : Contains [] x → ⊥
     none q = omega (arith, q.1)
+
     only : Contains (y ∷ []) x → y ≡ x
     only p = elim (Contains-push_cases [] y x p) [ inl q ↦ absurd (none q) | inr e ↦ e ]
 
@@ -49,19 +50,25 @@ least_with g (x ∷ xs) = by (λ k. least_with k xs) (is_before x g) refl
   where
     by : ((k : ProgramFault) → (f : ProgramFault) × (least_from (Some k) xs ≡ Some f) × LeastOf f k xs) → (b : Bool) → is_before x g ≡ b → (f : ProgramFault) × (least_from (if b then Some x else Some g) xs ≡ Some f) × LeastOf f g (x ∷ xs)
     by rest true e =
-        let r = rest x in
-        (r.0, r.1, record {
-          one = elim r.2.one [ inl is ↦ inr (subst (λ y. Contains (x ∷ xs) y) (sym is) (head_in x xs)) | inr q ↦ inr (tail_in x xs r.0 q) ];
-          first = comes_trans r.0 x g r.2.first (before_comes x g e);
-          all = λ h q. elim (head_or_tail x xs h q) [ inl is ↦ subst (Comes r.0) is r.2.first | inr q ↦ r.2.all h q ];
-        })
+        let r = rest x in (
+          r.0,
+          r.1,
+          record {
+            one = elim r.2.one [ inl is ↦ inr (subst (λ y. Contains (x ∷ xs) y) (sym is) (head_in x xs)) | inr q ↦ inr (tail_in x xs r.0 q) ];
+            first = comes_trans r.0 x g r.2.first (before_comes x g e);
+            all = λ h q. elim (head_or_tail x xs h q) [ inl is ↦ subst (Comes r.0) is r.2.first | inr q ↦ r.2.all h q ];
+          },
+        )
     by rest false e =
-        let r = rest g in
-        (r.0, r.1, record {
-          one = elim r.2.one [ inl is ↦ inl is | inr q ↦ inr (tail_in x xs r.0 q) ];
-          first = r.2.first;
-          all = λ h q. elim (head_or_tail x xs h q) [ inl is ↦ subst (Comes r.0) is (comes_trans r.0 g x r.2.first (not_before_comes x g e)) | inr q ↦ r.2.all h q ];
-        })
+        let r = rest g in (
+          r.0,
+          r.1,
+          record {
+            one = elim r.2.one [ inl is ↦ inl is | inr q ↦ inr (tail_in x xs r.0 q) ];
+            first = r.2.first;
+            all = λ h q. elim (head_or_tail x xs h q) [ inl is ↦ subst (Comes r.0) is (comes_trans r.0 g x r.2.first (not_before_comes x g e)) | inr q ↦ r.2.all h q ];
+          },
+        )
 
 least_is_least : (program : Program) (fs : List ProgramFault) → faults_of program ≡ fs → LeastIs program (least_from None fs)
 least_is_least program [] e = e

@@ -50,6 +50,7 @@ number_is_some name (x ∷ xs) = at (same name x) (number_is_some name xs)
     through : (o : Option ℕ) → is_some (option_map suc o) ≡ is_some o
     through None = refl
     through (Some m) = refl
+
     at : (b : Bool) → is_some (number_of name xs) ≡ is_among name xs → is_some (cond b (Some 0) (option_map suc (number_of name xs))) ≡ (b || is_among name xs)
     at true r = refl
     at false r = through (number_of name xs) ∙ r

@@ -91,7 +91,6 @@ same_exits program of perm exit of' perm' exit' k k' s x x' a =
     ∙ ap (λ c. perm_of (permission_on c (written_permission (written_at_end perm' exit')))) s.contract
     ∙ sym (ap (λ o. perm_on o (written_at_end perm' exit')) k'.by_name)
 
-
 -- types and exits without faults that are the same have one form in the table
 pub record TypedSame (program : Program) (s t : TypeExpr) (x y : Option PermNode) : Type 0 where
   pub kinds : table_kind program s ≡ table_kind program t
@@ -145,7 +144,7 @@ param_sites program own t exit (NameSubject name) h = ((name.span, h), tt)
 params_sound : (program : Program) (own : Contract) (formals : List Formal) → Each Clean (formals_sites program own false formals) → Each (IsParamOf program own) (params_of formals)
 params_sound program own formals h =
     each_flat_map _ (λ f. param_named f.of f.exit f.name) formals
-        (each_weaker _ _ (λ f c. param_sites program own f.of f.exit f.name c) formals (formal_types program own false formals h))
+    (each_weaker _ _ (λ f c. param_sites program own f.of f.exit f.name c) formals (formal_types program own false formals h))
 
 same_params_in_table : (program : Program) (own other : Contract) (ps qs : List Param) → Each (IsParamOf program own) ps → Each (IsParamOf program other) qs → pointwise (same_param program) ps qs ≡ true
     → map asked_of (map (param_in_table program) ps) ≡ map asked_of (map (param_in_table program) qs)
@@ -170,8 +169,21 @@ same_params_in_table program own other (p ∷ ps) (q ∷ qs) a b h =
 
 no_exit : (t : TypeExpr) (span : Span) → is_value_type t ≡ true → Clean (exits_site t None span)
 no_exit t span h = record {
-  unknown_name = refl; duplicate = refl; wrong_kind = rw h refl; no_state = refl; not_field = refl; type_mismatch = refl; arg_count = refl; bad_exit = refl;
-  non_asset_owner = refl; interface_mismatch = refl; past_limit = refl; missing_return = refl; unreachable = refl; second_main = refl; assigned_parameter = refl;
+  unknown_name = refl;
+  duplicate = refl;
+  wrong_kind = rw h refl;
+  no_state = refl;
+  not_field = refl;
+  type_mismatch = refl;
+  arg_count = refl;
+  bad_exit = refl;
+  non_asset_owner = refl;
+  interface_mismatch = refl;
+  past_limit = refl;
+  missing_return = refl;
+  unreachable = refl;
+  second_main = refl;
+  assigned_parameter = refl;
 }
 
 as_formal : (v : Visible) (t : TypeExpr) (span : Span) → Each Clean (type_sites v t) → Each Clean (formal_type_sites v t None span)
@@ -213,7 +225,7 @@ same_results program own other (Some s) (Some t) h k same =
     let perms = and_right (same_kind (kind_of_type program s) (kind_of_type program t)) _ same in
     let span = own.span in
     ap Some (typed_same program own other s t None None span span (as_formal (visible_in program own) s span h) (as_formal (visible_in program other) t span k) kinds perms
-        (exits_agree program own other s t h k kinds perms)).kinds
+    (exits_agree program own other s t h k kinds perms)).kinds
 
 -- Transactions.
 
@@ -274,11 +286,14 @@ answered program interface own first_i first_o between heads (asked ∷ ts) head
     let one = some_of (transaction_named own asked.name.name) (answers program interface own asked) (and_left (option_map_or (answers program interface own asked) (transaction_named own asked.name.name) false) _ h) in
     let at = named_at (λ (t : Transaction). t.name.name) asked.name.name (transactions_of own) one.0 one.1 in
     let there : slice_get (transactions_in (contract_in_table program own)) at.0 ≡ Some (transaction_in_table program own one.0) =
-        ap (λ ts. slice_get ts at.0) (in_contract program own) ∙ slice_get-map (transaction_in_table program own) (transactions_of own) at.0 ∙ ap (option_map (transaction_in_table program own)) at.1 in
-    ((transaction_in_table program own one.0,
-      (at.0, slice_get_bound _ at.0 _ there, get_or_at _ at.0 _ _ there),
-      answers_in_table program interface own asked one.0 first_i first_o between heads_i.0 (each_at _ (transactions_of own) at.0 one.0 heads at.1) at.2 one.2),
-     answered program interface own first_i first_o between heads ts heads_i.1 (and_right (option_map_or (answers program interface own asked) (transaction_named own asked.name.name) false) _ h))
+    ap (λ ts. slice_get ts at.0) (in_contract program own) ∙ slice_get-map (transaction_in_table program own) (transactions_of own) at.0 ∙ ap (option_map (transaction_in_table program own)) at.1 in (
+      (
+        transaction_in_table program own one.0,
+        (at.0, slice_get_bound _ at.0 _ there, get_or_at _ at.0 _ _ there),
+        answers_in_table program interface own asked one.0 first_i first_o between heads_i.0 (each_at _ (transactions_of own) at.0 one.0 heads at.1) at.2 one.2,
+      ),
+      answered program interface own first_i first_o between heads ts heads_i.1 (and_right (option_map_or (answers program interface own asked) (transaction_named own asked.name.name) false) _ h),
+    )
 
 imply : (a b : Bool) → (not a || b) ≡ true → a ≡ true → b ≡ true
 imply true b h e = h

@@ -55,7 +55,7 @@ add_bit n x small =
 add_state : (n : ℕ) (a : States) (x : ℕ) → x < 2 ^ n → states_of x ≡ below_passing n a → states_of (x + cond (a n) (2 ^ n) 0) ≡ below_passing (n + 1) a
 add_state n a x small is = ⊎_elim
     (λ in_a. ap (λ b. states_of (x + cond b (2 ^ n) 0)) in_a ∙ ap states_of (add_bit n x small) ∙ states_of-or x (2 ^ n)
-        ∙ ap (union (states_of x)) (states_of-pow n) ∙ passing_more n a (states_of x) in_a is)
+    ∙ ap (union (states_of x)) (states_of-pow n) ∙ passing_more n a (states_of x) in_a is)
     (λ out. ap (λ b. states_of (x + cond b (2 ^ n) 0)) out ∙ ap states_of (add-zero x) ∙ passing_same n a (states_of x) out is)
     (cases_Bool (a n))
 

@@ -96,7 +96,7 @@ at_state theirs ours p q few few' names same j l =
     let t : (j == 32) ≡ false = grind (arith, nat_tests) in
     let a : states_held ours p j ≡ allows q (in_state x.0) = states_same p q ours same j ∙ ap (λ o. option_map_or (λ state. allows q (in_state state)) o false) x.1 in
     let b : slice_get (names_between theirs ours) j ≡ Some (option_map (λ n. record { 0 = n }) (number_of x.0 theirs)) =
-        slice_get-map (λ state. option_map (λ n. record { 0 = n }) (number_of state theirs)) ours j ∙ ap (option_map (λ state. option_map (λ n. record { 0 = n }) (number_of state theirs))) x.1 in
+    slice_get-map (λ state. option_map (λ n. record { 0 = n }) (number_of state theirs)) ours j ∙ ap (option_map (λ state. option_map (λ n. record { 0 = n }) (number_of state theirs))) x.1 in
     let c : called (names_between theirs ours) j ≡ option_map_or (λ (k : StateId). k.0) (option_map (λ n. record { 0 = n }) (number_of x.0 theirs)) 33 = ap (λ o. option_map_or (λ (k : StateId). k.0) (option_flatten o) 33) b in
     let d = at_called theirs q x.0 few' names (number_of x.0 theirs) refl in
     let e = below_all (length ours) j l in
@@ -156,6 +156,7 @@ said_masks theirs ours p q A B few few' names same none same' a b =
   where
     at_all : (j : ℕ) → ours_at ours p j ≡ said_at theirs ours q j
     at_all j = ⊎_elim (λ l. at_state theirs ours p q few few' names same j l) (λ h. at_beyond theirs ours p q none same' j h) (cases_lt j (length ours))
+
     through : (j : ℕ) → said_at theirs ours q j ≡ states_for_contract (names_between theirs ours) (states_of (mask_of B)) j
     through j =
         let e = length-map ours (λ state. option_map (λ n. record { 0 = n }) (number_of state theirs)) in
@@ -187,8 +188,8 @@ our_states ours states i = rw (and_false (length ours == 0 && i == 32)) (or_fals
 their_whole : (i : Contract) → i.interface ≡ true → (k : ℕ) → whole i k ≡ theirs_at (state_names i) as_owner k
 their_whole i e k =
     rw (e, owner_states (state_names i) k)
-        (ap (λ b. (nat_lt k (length (state_names i)) || b) || k == 33) (and_true (length (state_names i) == 0 && k == 32))
-        ∙ ap (λ b. (nat_lt k (length (state_names i)) || (length (state_names i) == 0 && k == 32 && true)) || b) (and_true (k == 33)))
+    (ap (λ b. (nat_lt k (length (state_names i)) || b) || k == 33) (and_true (length (state_names i) == 0 && k == 32))
+    ∙ ap (λ b. (nat_lt k (length (state_names i)) || (length (state_names i) == 0 && k == 32 && true)) || b) (and_true (k == 33)))
 
 their_states : (theirs states : List Name) (k : ℕ) → numbers_of_states theirs states k ≡ theirs_at theirs (as_owner_in states) k
 their_states theirs states k = rw (and_false (length theirs == 0 && k == 32), and_false (k == 33)) (or_false (numbers_of_states theirs states k) ∙ or_false (numbers_of_states theirs states k || false))
@@ -219,7 +220,7 @@ said_owned : (interface own : Contract) (p q : WrittenPermission) (A B : States)
     → mask_of A ≡ mask_of (states_for_contract (names_between (state_names interface) (state_names own)) (states_of (mask_of B)))
 said_owned interface own p q A B w names h a b =
     said_masks (state_names interface) (state_names own) p q A B w.few w.few_theirs names (agree_states own p q h)
-        (no_states_theirs (state_names own) (state_names interface) w.states) (λ e. found_in_none own p q (state_names own) e (agree_others own p q h)) a b
+    (no_states_theirs (state_names own) (state_names interface) w.states) (λ e. found_in_none own p q (state_names own) e (agree_others own p q h)) a b
 
 abbrev owned_with : ℕ → Perm
 owned_with mask = record { mode = Owned; states = mask }

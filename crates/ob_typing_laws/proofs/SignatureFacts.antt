@@ -59,14 +59,14 @@ pub formal_types : (program : Program) (own : Contract) (constructor : Bool) (fo
     → Each (λ f. Each Clean (formal_type_sites (visible_in program own) f.of f.exit (place_of_subject f.name))) formals
 formal_types program own constructor formals h =
     each_weaker _ _ (λ f w. each_left Clean (formal_type_sites (visible_in program own) f.of f.exit (place_of_subject f.name)) _ w.1) formals
-        (each_of_after Clean (formal_sites (visible_in program own) constructor) [] formals (formals_first program own constructor formals h))
+    (each_of_after Clean (formal_sites (visible_in program own) constructor) [] formals (formals_first program own constructor formals h))
 
 pub params_are : (program : Program) (own : Contract) (constructor : Bool) (formals : List Formal) → Each Clean (formals_sites program own constructor formals)
     → Each (IsParam (table_of program)) (map (param_in_table program) (params_of formals))
 params_are program own constructor formals h =
     each_map _ (param_in_table program) (params_of formals)
-        (each_flat_map _ (λ f. param_named f.of f.exit f.name) formals
-            (each_weaker _ _ (λ f c. param_of_subject_is (visible_in program own) f.of f.exit f.name c) formals (formal_types program own constructor formals h)))
+    (each_flat_map _ (λ f. param_named f.of f.exit f.name) formals
+    (each_weaker _ _ (λ f c. param_of_subject_is (visible_in program own) f.of f.exit f.name c) formals (formal_types program own constructor formals h)))
 
 pub few_params : (program : Program) (own : Contract) (constructor : Bool) (formals : List Formal) → Each Clean (formals_sites program own constructor formals)
     → length (map (param_in_table program) (params_of formals)) ≤ params_most
@@ -156,9 +156,9 @@ listed_as program own of perm last k (ref_type (ref_with of' perm')) c h =
     let k' = (ref_known (visible_in program own) of' perm' None c).0 in
     let m = same_number k'.number k.number (subst (λ x. same_kind x (a_reference k.number) ≡ true) (known_kind program of' perm' k') h) in
     subst (λ o. IsSomeAnd (slice_get (map (contract_in_table program) program) (contract_id o).0) (λ c. IsPermOn c (perm_on (contract_of_name program (part_of_named of).name) perm) × IsPermOn c (perm_on (contract_of_name program (part_of_named of).name) last)))
-        (sym k'.named)
-        (some_and _ (contract_in_table program k.contract) _ (in_table program k'.number k.contract (ap (contract_at program) m ∙ k.at))
-            (perm_in_table program _ k.contract perm k.by_name, perm_in_table program _ k.contract last k.by_name))
+    (sym k'.named)
+    (some_and _ (contract_in_table program k.contract) _ (in_table program k'.number k.contract (ap (contract_at program) m ∙ k.at))
+    (perm_in_table program _ k.contract perm k.by_name, perm_in_table program _ k.contract last k.by_name))
 
 listed_is : (program : Program) (own : Contract) (name : NamePart) (of : Named) (perm : PermNode) (exit : Option PermNode)
     → Each (λ f. Each Clean (type_sites (visible_in program own) f.field.of)) (fields_of own)
@@ -175,7 +175,7 @@ listed_is program own name of perm exit types a b =
     record {
       field = subst (λ o. IsSomeAnd (slice_get (map (field_in_table program own) (fields_of own)) (unwrap_or o 0)) P) (sym f.numbered)
           (some_and _ (field_in_table program own f.field) P (slice_get-map (field_in_table program own) (fields_of own) f.number ∙ ap (option_map (field_in_table program own)) f.at)
-              (listed_as program own of perm (written_at_end perm exit) k f.field.field.of (each_at _ (fields_of own) f.number f.field types f.at) s'));
+          (listed_as program own of perm (written_at_end perm exit) k f.field.field.of (each_at _ (fields_of own) f.number f.field types f.at) s'));
       leaves = exit_leaves program of perm exit k ks.1;
     }
 
@@ -198,7 +198,7 @@ listed_fields : (program : Program) (own : Contract) (listed : List Listed) → 
     → Each (λ l. Each Clean (ref_sites (visible_in program own) l.of l.exit ++ names_field own l.name ∷ [])) listed
 listed_fields program own listed h =
     each_of_flat_map Clean (λ l. ref_sites (visible_in program own) l.of l.exit ++ names_field own l.name ∷ []) listed
-        (each_left Clean (listed_first program own listed) (listed_names listed) (each_left Clean (listed_first program own listed ++ listed_names listed) _ h))
+    (each_left Clean (listed_first program own listed) (listed_names listed) (each_left Clean (listed_first program own listed ++ listed_names listed) _ h))
 
 -- the listed fields of a transaction
 pub listed_are : (program : Program) (own : Contract) (listed : List Listed) → Each (λ f. Each Clean (type_sites (visible_in program own) f.field.of)) (fields_of own)
@@ -208,8 +208,8 @@ listed_are program own listed types h =
     let all = all_firsts (λ l. l.name) [] listed (listed_declared program own listed h) in
     let third' = subst (λ ls. Each Clean (map (λ l. listed_type_site program own l.name l.of) ls)) all third in
     each_map _ (listed_in_table program own) listed
-        (each_of_both _ _ _ (λ l a b. listed_of_ref program own l.name l.of l.exit types a b) listed (listed_fields program own listed h)
-            (each_of_map Clean (λ l. listed_type_site program own l.name l.of) listed third'))
+    (each_of_both _ _ _ (λ l a b. listed_of_ref program own l.name l.of l.exit types a b) listed (listed_fields program own listed h)
+    (each_of_map Clean (λ l. listed_type_site program own l.name l.of) listed third'))
 
 abbrev number_in : List Name → Name → FieldId
 number_in names name = record { 0 = unwrap_or (number_of name names) 0 }
@@ -238,7 +238,7 @@ listed_distinct program own listed h i j d before within e =
     let y = slice_get_within listed j bound in
     let distinct = declared_distinct (λ l. l.name) [] listed (listed_declared program own listed h) in
     let named = each_weaker _ (λ (l : Listed). is_among l.name.name (field_names own) ≡ true)
-        (λ l c. true_from_not (is_among l.name.name (field_names own)) (each_right Clean (ref_sites (visible_in program own) l.of l.exit) (names_field own l.name ∷ []) c).0.not_field) listed (listed_fields program own listed h) in
+    (λ l c. true_from_not (is_among l.name.name (field_names own)) (each_right Clean (ref_sites (visible_in program own) l.of l.exit) (names_field own l.name ∷ []) c).0.not_field) listed (listed_fields program own listed h) in
     let fx = get_or_at (map (λ l. l.field) (map (listed_in_table program own) listed)) i (listed_in_table program own x.0).field d (slice_get-map (λ l. l.field) (map (listed_in_table program own) listed) i ∙ ap (option_map (λ l. l.field)) (slice_get-map (listed_in_table program own) listed i) ∙ ap (λ o. option_map (λ l. l.field) (option_map (listed_in_table program own) o)) x.1) in
     let fy = get_or_at (map (λ l. l.field) (map (listed_in_table program own) listed)) j (listed_in_table program own y.0).field d (slice_get-map (λ l. l.field) (map (listed_in_table program own) listed) j ∙ ap (option_map (λ l. l.field)) (slice_get-map (listed_in_table program own) listed j) ∙ ap (λ o. option_map (λ l. l.field) (option_map (listed_in_table program own) o)) y.1) in
     let gx = ap (λ (f : FieldId). f.0) (fx ∙ field_of_listed program own x.0.name.name x.0.of x.0.exit) in

@@ -102,6 +102,7 @@ interface_is program name n e = at (contract_named program name) refl e
         by : (b : Bool) → i.interface ≡ b → (if b then Some m else None) ≡ Some n → (i : Contract) × (contract_at program n ≡ Some i) × (i.interface ≡ true)
         by true g e = let s : m ≡ n = cc in (i, ap (contract_at program) (sym s) ∙ f, g)
         by false g e = absurd cc
+
     at : (o : Option ℕ) → contract_named program name ≡ o → (if option_map_or (λ c. c.interface) (option_and_then (contract_at program) o) false then o else None) ≡ Some n → (i : Contract) × (contract_at program n ≡ Some i) × (i.interface ≡ true)
     at None f e = absurd cc
     at (Some m) f e = inner m (contract_at program m) refl e
@@ -140,11 +141,13 @@ implements_well program own (Some n) e distinct all shapes k at =
     let own_sound = each_at (Sound program) program k own all at in
     let i_sound = each_at (Sound program) program n i.0 all i.1 in
     let is_contract = no_interface program own n (each_at HasContractShape program k own shapes at) e in
-    some_and _ (contract_in_table program i.0) _ (in_table program n i.0 i.1)
-        (i.2, meets_in_table program i.0 own (first_of_name program distinct n i.0 i.1).1 (first_of_name program distinct k own at).1 i.2 is_contract
-            (few_states own own_sound.declared) (few_states i.0 i_sound.declared) (all_transactions_first i.0 i_sound.declared)
-            (heads_are program i.0 i_sound.members) (heads_are program own own_sound.members)
-            (meets_site program own n i.0 e i.1 own_sound.interface))
+    some_and _ (contract_in_table program i.0) _ (in_table program n i.0 i.1) (
+      i.2,
+      meets_in_table program i.0 own (first_of_name program distinct n i.0 i.1).1 (first_of_name program distinct k own at).1 i.2 is_contract
+          (few_states own own_sound.declared) (few_states i.0 i_sound.declared) (all_transactions_first i.0 i_sound.declared)
+          (heads_are program i.0 i_sound.members) (heads_are program own own_sound.members)
+          (meets_site program own n i.0 e i.1 own_sound.interface),
+    )
 
 -- Contracts.
 

@@ -80,9 +80,11 @@ made_of_member : (program : Program) (own : Contract) (m : Member) → Each Clea
 made_of_member program own (state_member name fields span) h = tt
 made_of_member program own (field_member field) h = tt
 made_of_member program own (constructor_member of perm params body span) h =
-    let both = each_left Clean (perm_sites own perm ++ formals_sites program own true params) (body_of_params_sites program own nothing params body) h.1.1 in
-    (constructor_is_made program own (record { of = of; perm = perm; params = params; body = body }) (place_of_perm span perm) h.1.0
-        (each_left Clean (perm_sites own perm) _ both) (each_right Clean (perm_sites own perm) (formals_sites program own true params) both), tt)
+    let both = each_left Clean (perm_sites own perm ++ formals_sites program own true params) (body_of_params_sites program own nothing params body) h.1.1 in (
+      constructor_is_made program own (record { of = of; perm = perm; params = params; body = body }) (place_of_perm span perm) h.1.0
+          (each_left Clean (perm_sites own perm) _ both) (each_right Clean (perm_sites own perm) (formals_sites program own true params) both),
+      tt,
+    )
 made_of_member program own (transaction_member private listed name params result body span) h = tt
 
 first_or : (program : Program) (own : Contract) (ms : List Constructor) → Each (IsMade program own) ms → IsMade program own (unwrap_or (slice_get ms 0) (default_constructor own))
@@ -92,14 +94,15 @@ first_or program own (m ∷ ms) h = h.0
 pub constructor_is : (program : Program) (own : Contract) → Each Clean (flat_map (member_sites program own) own.members) → IsMade program own (constructor_of own)
 constructor_is program own h =
     first_or program own (constructors_of own)
-        (each_filter _ (λ m. same own.name (part_of_named m.of).name) (constructor_forms own)
-            (each_flat_map _ constructors_of_member own.members (each_weaker _ _ (made_of_member program own) own.members (each_of_flat_map Clean (member_sites program own) own.members h))))
+    (each_filter _ (λ m. same own.name (part_of_named m.of).name) (constructor_forms own)
+    (each_flat_map _ constructors_of_member own.members (each_weaker _ _ (made_of_member program own) own.members (each_of_flat_map Clean (member_sites program own) own.members h))))
 
 pub has_constructor : (program : Program) (own : Contract) → Each Clean (flat_map (member_sites program own) own.members) → HasConstructor (table_of program) (contract_in_table program own)
 has_constructor program own h = at own.interface
   where
     number : TxId
     number = record { 0 = 0 }
+
     at : (b : Bool) → MatchBool b (cond b None (Some number) ≡ None)
         ((cond b None (Some number) ≡ Some number) × IsSomeAnd (slice_get (cond b [] (constructor_in_table program own (constructor_of own) ∷ []) ++ map (transaction_in_table program own) (transactions_of own)) 0) (IsConstructor (table_of program) (contract_in_table program own)))
     at true = refl
@@ -138,16 +141,18 @@ transaction_of_member_is program own types (transaction_member private listed na
     let F = formals_sites program own false params in
     let R = result_sites (visible_in program own) result in
     let lfr = each_left Clean (L ++ F ++ R) _ h in
-    let lf = each_left Clean (L ++ F) R lfr in
-    (transaction_is program own (record { private = private; listed = listed; name = name; params = params; result = result; body = body }) shape.name_form shape.lists types
-        (each_left Clean L F lf) (each_right Clean L F lf) (each_right Clean (L ++ F) R lfr), tt)
+    let lf = each_left Clean (L ++ F) R lfr in (
+      transaction_is program own (record { private = private; listed = listed; name = name; params = params; result = result; body = body }) shape.name_form shape.lists types
+          (each_left Clean L F lf) (each_right Clean L F lf) (each_right Clean (L ++ F) R lfr),
+      tt,
+    )
 
 pub transactions_are : (program : Program) (own : Contract) → Each (HasMemberShape own.interface) own.members → Each Clean (flat_map (member_sites program own) own.members)
     → Each (IsTransaction (table_of program) (contract_in_table program own)) (map (transaction_in_table program own) (transactions_of own))
 transactions_are program own shape h =
     each_map _ (transaction_in_table program own) (transactions_of own)
-        (each_flat_map _ transactions_of_member own.members
-            (each_of_both _ _ _ (transaction_of_member_is program own (field_types program own h)) own.members shape (each_of_flat_map Clean (member_sites program own) own.members h)))
+    (each_flat_map _ transactions_of_member own.members
+    (each_of_both _ _ _ (transaction_of_member_is program own (field_types program own h)) own.members shape (each_of_flat_map Clean (member_sites program own) own.members h)))
 
 -- the sites of a transaction's parameters and result
 pub record HeadSites (program : Program) (own : Contract) (t : Transaction) : Type 0 where

@@ -91,9 +91,10 @@ ref_known v of perm exit h =
     let n = some_value (contract_named v.program (part_of_named of).name) m in
     let c = contract_found v.program (part_of_named of).name n.0 n.1 in
     let inner = subst (λ o. Each Clean (option_map_or (λ c. perm_sites c perm ++ exit_sites c perm exit (part_of_named of).span) o [])) c.3 h.1 in
-    let is = perm_named c.0 perm (each_left Clean (perm_sites c.0 perm) _ inner) in
-    (record { number = n.0; contract = c.0; named = n.1; at = c.1; by_name = c.3; is_of = is },
-     exit_known c.0 perm exit (part_of_named of).span is (each_right Clean (perm_sites c.0 perm) (exit_sites c.0 perm exit (part_of_named of).span) inner))
+    let is = perm_named c.0 perm (each_left Clean (perm_sites c.0 perm) _ inner) in (
+      record { number = n.0; contract = c.0; named = n.1; at = c.1; by_name = c.3; is_of = is },
+      exit_known c.0 perm exit (part_of_named of).span is (each_right Clean (perm_sites c.0 perm) (exit_sites c.0 perm exit (part_of_named of).span) inner),
+    )
 
 -- in the table
 
@@ -114,8 +115,8 @@ perm_in_table program o c perm e = subst (IsPermOn (contract_in_table program c)
 pub reference_is_kind : (program : Program) (of : Named) (perm : PermNode) → Known program of perm → IsKind (table_of program) (reference_of program of perm)
 reference_is_kind program of perm k =
     subst (λ o. IsSomeAnd (slice_get (map (contract_in_table program) program) (contract_id o).0) (λ c. IsPermOn c (perm_on (contract_of_name program (part_of_named of).name) perm)))
-        (sym k.named)
-        (some_and _ (contract_in_table program k.contract) _ (in_table program k.number k.contract k.at) (perm_in_table program _ k.contract perm k.by_name))
+    (sym k.named)
+    (some_and _ (contract_in_table program k.contract) _ (in_table program k.number k.contract k.at) (perm_in_table program _ k.contract perm k.by_name))
 
 pub leaves_in_table : (program : Program) (o : Option Contract) (c : Contract) (perm exit : PermNode) → o ≡ Some c → may_leave (written_permission perm) (written_permission exit) ≡ true → MayLeave (perm_on o perm) (perm_on o exit)
 leaves_in_table program o c perm exit e h =
@@ -128,11 +129,12 @@ exit_leaves program of perm exit k x = leaves_in_table program _ k.contract perm
 -- the permission at the end of a known reference
 pub exit_is_of : (program : Program) (of : Named) (perm : PermNode) (exit : Option PermNode) (k : Known program of perm) → KnownExit k.contract perm exit
     → IsExitOf (table_of program) (reference_of program of perm) (exit_of_type program (ref_type (ref_with of perm)) exit)
-exit_is_of program of perm exit k x =
-    (subst (λ o. IsSomeAnd (slice_get (map (contract_in_table program) program) (contract_id o).0) (λ c. IsPermOn c (perm_on (contract_of_name program (part_of_named of).name) (written_at_end perm exit))))
-        (sym k.named)
-        (some_and _ (contract_in_table program k.contract) _ (in_table program k.number k.contract k.at) (perm_in_table program _ k.contract (written_at_end perm exit) k.by_name)),
-     exit_leaves program of perm exit k x)
+exit_is_of program of perm exit k x = (
+  subst (λ o. IsSomeAnd (slice_get (map (contract_in_table program) program) (contract_id o).0) (λ c. IsPermOn c (perm_on (contract_of_name program (part_of_named of).name) (written_at_end perm exit))))
+      (sym k.named)
+      (some_and _ (contract_in_table program k.contract) _ (in_table program k.number k.contract k.at) (perm_in_table program _ k.contract (written_at_end perm exit) k.by_name)),
+  exit_leaves program of perm exit k x,
+)
 
 -- a type without faults is a type of the table
 pub type_is_kind : (v : Visible) (t : TypeExpr) → Each Clean (type_sites v t) → IsKind (table_of v.program) (table_kind v.program t)

@@ -70,10 +70,10 @@ two_of_a_name = contract false false false 65 None [] 9 13 ∷ contract false fa
 abbrev pub counter : Program
 counter =
     contract false false false 65 None
-        (field_member (record { of = int_type (at 13 16); name = letter 110 17; available = [] })
-        ∷ constructor_member (named 65 20) (Mode Shared (at 22 28)) []
-            (block_with (and_stmt (assign_stmt (letter 110 33) (number_expr (pos 1) (at 37 38)) (at 33 39)) no_stmts) (at 40 41)) (at 20 41)
-        ∷ []) 9 42
+    (field_member (record { of = int_type (at 13 16); name = letter 110 17; available = [] })
+    ∷ constructor_member (named 65 20) (Mode Shared (at 22 28)) []
+    (block_with (and_stmt (assign_stmt (letter 110 33) (number_expr (pos 1) (at 37 38)) (at 33 39)) no_stmts) (at 40 41)) (at 20 41)
+    ∷ []) 9 42
     ∷ []
 
 -- the table of `counter`: a field that is there in all states and in none, and the constructor
