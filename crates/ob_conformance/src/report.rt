@@ -34,11 +34,8 @@ fn put_marked(mark: &[u8], bytes: &[u8], into: &mut Vec<u8>) -> Result<(), Troub
 
 // As much of the bytes as is shown.
 fn shown_of(bytes: &[u8]) -> &[u8] {
-    if bytes.len() > MOST_SHOWN {
-        &bytes[..MOST_SHOWN]
-    } else {
-        bytes
-    }
+    let end = bytes.len().min(MOST_SHOWN);
+    &bytes[..end]
 }
 
 impl Report {

@@ -23,9 +23,6 @@ pub struct Sheet<'a> {
 /// What is said of a line that stands before all cases.
 const NO_CASE: Trouble = Trouble::Line("no case was begun");
 
-/// What is said of a row that has no answer.
-const NO_ANSWER: Trouble = Trouble::Line("no answer of this row");
-
 // What stands behind the mark of a line, and a blank.
 fn marked<'a>(line: &'a str, mark: &str) -> Option<&'a str> {
     let rest = line.strip_prefix(mark)?;
@@ -34,6 +31,44 @@ fn marked<'a>(line: &'a str, mark: &str) -> Option<&'a str> {
     } else {
         rest.strip_prefix(' ')
     }
+}
+
+// What a row asks, and what it expects, if it says so itself.
+fn sides_of(row: &str) -> (&str, Option<&str>) {
+    match row.split_once(" => ") {
+        Some((text, answer)) => (text, Some(answer)),
+        None => (row, None),
+    }
+}
+
+// A text of a row, between the parts of these names.
+fn side(
+    alloc: Global,
+    programs: &Named,
+    case: &Case,
+    front: &str,
+    text: &str,
+    back: &str,
+) -> Result<Vec<u8>, Trouble> {
+    let mut bytes = case.part(front).to_vec(alloc)?;
+    put_text(alloc, programs, text, &mut bytes)?;
+    bytes.extend_from_slice(case.part(back))?;
+    Ok(bytes)
+}
+
+// What is expected of a row: its own answer, or that of every row.
+fn answer_of(
+    alloc: Global,
+    programs: &Named,
+    case: &Case,
+    answer: Option<&str>,
+) -> Result<Vec<u8>, Trouble> {
+    let mut bytes = match answer {
+        Some(answer) => side(alloc, programs, case, "answer-front", answer, "answer-back")?,
+        None => case.part("every").to_vec(alloc)?,
+    };
+    bytes.push(b'\n')?;
+    Ok(bytes)
 }
 
 impl<'a> Sheet<'a> {
@@ -113,31 +148,16 @@ impl<'a> Sheet<'a> {
         }
     }
 
-    // A text of a row, between the parts of these names.
-    fn side(&self, case: &Case, front: &str, text: &str, back: &str) -> Result<Vec<u8>, Trouble> {
-        let mut bytes = case.part(front).to_vec(self.alloc)?;
-        put_text(self.alloc, self.programs, text, &mut bytes)?;
-        bytes.extend_from_slice(case.part(back))?;
-        Ok(bytes)
-    }
-
-    // A row of a table: what is asked, ` => ` and what is expected, unless that is the same of every row.
     fn take_row(&mut self, row: &str) -> Result<(), Trouble> {
         let Some(case) = &self.case else {
             return Err(NO_CASE);
         };
-        let (text, mut wanted) = match row.split_once(" => ") {
-            Some((text, answer)) => (
-                text,
-                self.side(case, "answer-front", answer, "answer-back")?,
-            ),
-            None => {
-                let every = case.parts.find("every").ok_or(NO_ANSWER)?;
-                (row, every.to_vec(self.alloc)?)
-            }
-        };
-        wanted.push(b'\n')?;
-        let asked = self.side(case, "front", text, "back")?;
+        let (text, answer) = sides_of(row);
+        if answer.is_none() && case.parts.find("every").is_none() {
+            return Err(Trouble::Line("no answer of this row"));
+        }
+        let asked = side(self.alloc, self.programs, case, "front", text, "back")?;
+        let wanted = answer_of(self.alloc, self.programs, case, answer)?;
         self.is_table = true;
         self.report.judge(self.alloc, case, row, &asked, &wanted)
     }

@@ -210,21 +210,22 @@ pub fn cut_run(alloc: Global, case: &Case, outside: &[u8]) -> Result<Vec<u8>, Tr
     Ok(said.into_bytes())
 }
 
+// Whether a run is done where it wrote this, and refuses where it wrote something else.
+fn ends_so(ended: &Ended, done: &[u8]) -> bool {
+    let exit = ended.exit;
+    match &ended.output {
+        Some(bytes) if bytes.as_slice() == done => exit == Exit::Done,
+        Some(_) => exit == Exit::Refused,
+        None => false,
+    }
+}
+
 // What a run writes that is done, where it writes this, or else refuses; or all that it comes to.
 fn said(alloc: Global, ended: Ended, done: &[u8]) -> Result<Vec<u8>, Trouble> {
-    let Some(bytes) = &ended.output else {
-        return show(alloc, ended);
-    };
-    let is_done = bytes.as_slice() == done;
-    let ends_so = match ended.exit {
-        Exit::Done => is_done,
-        Exit::Refused => !is_done,
-        _ => false,
-    };
-    if !ends_so || !is_well(&ended) {
+    if !ends_so(&ended, done) || !is_well(&ended) {
         return show(alloc, ended);
     }
-    Ok(bytes.as_slice().to_vec(alloc)?)
+    Ok(ended.output.unwrap_or(Vec::new(alloc)))
 }
 
 /// What `check` writes of a text.
