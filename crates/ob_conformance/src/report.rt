@@ -34,7 +34,8 @@ fn put_marked(mark: &[u8], bytes: &[u8], into: &mut Vec<u8>) -> Result<(), Troub
 
 // As much of the bytes as is shown.
 fn shown_of(bytes: &[u8]) -> &[u8] {
-    bytes.get(..MOST_SHOWN).unwrap_or(bytes)
+    let end = bytes.len().min(MOST_SHOWN);
+    &bytes[..end]
 }
 
 impl Report {

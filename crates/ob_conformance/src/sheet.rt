@@ -41,20 +41,15 @@ fn sides_of(row: &str) -> (&str, Option<&str>) {
     }
 }
 
-/// The parts between which stand the texts of the rows, and their answers.
-const ASKED: (&str, &str) = ("front", "back");
-
-const WRITTEN: (&str, &str) = ("answer-front", "answer-back");
-
-// A text of a row, between two parts.
+// A text of a row, between the parts of these names.
 fn side(
     alloc: Global,
     programs: &Named,
     case: &Case,
-    ends: (&str, &str),
+    front: &str,
     text: &str,
+    back: &str,
 ) -> Result<Vec<u8>, Trouble> {
-    let (front, back) = ends;
     let mut bytes = case.part(front).to_vec(alloc)?;
     put_text(alloc, programs, text, &mut bytes)?;
     bytes.extend_from_slice(case.part(back))?;
@@ -62,16 +57,15 @@ fn side(
 }
 
 // What is expected of a row: its own answer, or that of every row.
-fn written(
+fn answer_of(
     alloc: Global,
     programs: &Named,
     case: &Case,
     answer: Option<&str>,
 ) -> Result<Vec<u8>, Trouble> {
-    let mut bytes = match (answer, case.parts.find("every")) {
-        (Some(answer), _) => side(alloc, programs, case, WRITTEN, answer)?,
-        (None, Some(every)) => every.to_vec(alloc)?,
-        (None, None) => return Err(Trouble::Line("no answer of this row")),
+    let mut bytes = match answer {
+        Some(answer) => side(alloc, programs, case, "answer-front", answer, "answer-back")?,
+        None => case.part("every").to_vec(alloc)?,
     };
     bytes.push(b'\n')?;
     Ok(bytes)
@@ -159,8 +153,11 @@ impl<'a> Sheet<'a> {
             return Err(NO_CASE);
         };
         let (text, answer) = sides_of(row);
-        let asked = side(self.alloc, self.programs, case, ASKED, text)?;
-        let wanted = written(self.alloc, self.programs, case, answer)?;
+        if answer.is_none() && case.parts.find("every").is_none() {
+            return Err(Trouble::Line("no answer of this row"));
+        }
+        let asked = side(self.alloc, self.programs, case, "front", text, "back")?;
+        let wanted = answer_of(self.alloc, self.programs, case, answer)?;
         self.is_table = true;
         self.report.judge(self.alloc, case, row, &asked, &wanted)
     }

@@ -210,17 +210,13 @@ pub fn cut_run(alloc: Global, case: &Case, outside: &[u8]) -> Result<Vec<u8>, Tr
     Ok(said.into_bytes())
 }
 
-// Whether a run is done and wrote this, or refused and wrote another.
+// Whether a run is done where it wrote this, and refuses where it wrote something else.
 fn ends_so(ended: &Ended, done: &[u8]) -> bool {
     let exit = ended.exit;
-    let is_done = match &ended.output {
-        Some(bytes) => bytes.as_slice() == done,
-        None => return false,
-    };
-    match exit {
-        Exit::Done => is_done,
-        Exit::Refused => !is_done,
-        _ => false,
+    match &ended.output {
+        Some(bytes) if bytes.as_slice() == done => exit == Exit::Done,
+        Some(_) => exit == Exit::Refused,
+        None => false,
     }
 }
 
@@ -229,10 +225,7 @@ fn said(alloc: Global, ended: Ended, done: &[u8]) -> Result<Vec<u8>, Trouble> {
     if !ends_so(&ended, done) || !is_well(&ended) {
         return show(alloc, ended);
     }
-    match ended.output {
-        Some(bytes) => Ok(bytes),
-        None => Ok(Vec::new(alloc)),
-    }
+    Ok(ended.output.unwrap_or(Vec::new(alloc)))
 }
 
 /// What `check` writes of a text.

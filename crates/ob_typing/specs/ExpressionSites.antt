@@ -1,0 +1,96 @@
+-- The sites of expressions (the Obsidian language documentation, "Expressions").
+use Rattle.std.specs.Prelude.{ℕ, ◌+◌, List, [], ◌∷◌, ◌++◌, map, length, Option, Some, None, option_map}
+use Rattle.std.specs.Option.{option_map_or}
+use Rattle.ob_base.specs.declared.fault.Span.{Span}
+use Rattle.ob_base.specs.declared.operator.Operator.{Operator}
+use Rattle.ob_base.specs.declared.operator.Operator.TheVariants.{Equal, NotEqual, And, Or}
+use Rattle.ob_tree.specs.Names.{Named}
+use Rattle.ob_tree.specs.Exprs.{Expr, number_expr, text_expr, bool_expr, name_expr, this_expr, unary_expr, binary_expr, call_expr, new_expr, Call, call_with, Exprs, no_exprs, and_expr}
+use Rattle.ob_tree.specs.Members.{Formal}
+use Rattle.ob_tree.specs.declared.name.NamePart.{NamePart}
+use Rattle.ob_tree.specs.declared.name.Subject.{Subject}
+use Rattle.ob_tree.specs.declared.name.Subject.TheVariants.{This, Name as NameSubject}
+use Rattle.ob_typing.specs.Declared.{part_of_named, params_of}
+use Rattle.ob_typing.specs.Kinds.{Kind, an_int, a_bool, contract_of_kind, kinds_of_params}
+use Rattle.ob_typing.specs.Visible.{a_variable, a_transaction, a_public_transaction, an_object, visible_behind_dot}
+use Rattle.ob_typing.specs.Scopes.{Around, Scope, visible_at, kind_of_variable, called, constructed, kind_of_unary, kind_of}
+use Rattle.ob_typing.specs.Sites.{Site, names, has_kind, refers, is_value, passes}
+
+-- the place of an expression
+abbrev pub place_of : Expr → Span
+place_of (number_expr value span) = span
+place_of (text_expr value span) = span
+place_of (bool_expr value span) = span
+place_of (name_expr name span) = span
+place_of (this_expr token span) = span
+place_of (unary_expr operator sign operand span) = span
+place_of (binary_expr operator sign left right span) = span
+place_of (call_expr call span) = span
+place_of (new_expr of args span) = span
+
+-- a value of this kind is needed of an expression
+abbrev pub needs : Around → Scope → Kind → Expr → Site
+needs a s wanted e = has_kind a.program wanted (kind_of a s e) (place_of e)
+
+-- what is asked of the operands: `==` and `!=` compare two values of one kind, an int, a bool or a string
+abbrev pub operand_sites : Around → Scope → Operator → Expr → Expr → List Site
+operand_sites a s And left right = needs a s a_bool left ∷ needs a s a_bool right ∷ []
+operand_sites a s Or left right = needs a s a_bool left ∷ needs a s a_bool right ∷ []
+operand_sites a s Equal left right = is_value (kind_of a s left) (place_of left) ∷ is_value (kind_of a s right) (place_of right) ∷ needs a s (kind_of a s left) right ∷ []
+operand_sites a s NotEqual left right = is_value (kind_of a s left) (place_of left) ∷ is_value (kind_of a s right) (place_of right) ∷ needs a s (kind_of a s left) right ∷ []
+operand_sites a s operator left right = needs a s an_int left ∷ needs a s an_int right ∷ []
+
+-- a name that is used as a reference
+abbrev pub reference_sites : Around → Scope → NamePart → Span → List Site
+reference_sites a s name span = names a_variable (visible_at a s) name ∷ refers (kind_of_variable a s name.name) span ∷ []
+
+-- a receiver, and the transaction that is called
+abbrev pub callee_sites : Around → Scope → Option Subject → NamePart → List Site
+callee_sites a s None name = names a_transaction (visible_at a s) name ∷ []
+callee_sites a s (Some (This span)) name = names a_transaction (visible_at a s) name ∷ []
+callee_sites a s (Some (NameSubject receiver)) name =
+    reference_sites a s receiver receiver.span
+    ++ option_map_or (λ c. names a_public_transaction (visible_behind_dot c) name ∷ []) (contract_of_kind a.program (kind_of_variable a s receiver.name)) []
+
+abbrev pub count_args : Exprs → ℕ
+count_args no_exprs = 0
+count_args (and_expr e es) = count_args es + 1
+
+-- the arguments at so many parameters of these kinds
+abbrev pub needed_args : Around → Scope → List Kind → Exprs → List Site
+needed_args a s (kind ∷ kinds) (and_expr e es) = needs a s kind e ∷ needed_args a s kinds es
+needed_args a s [] es = []
+needed_args a s kinds no_exprs = []
+
+-- the arguments at the parameters of what is called, which stands at this place; of an unknown one nothing is asked
+abbrev pub passing_sites : Around → Scope → Span → Option (List Formal) → Exprs → List Site
+passing_sites a s span None args = []
+passing_sites a s span (Some params) args =
+    passes (count_args args) (length (params_of params)) span ∷ needed_args a s (kinds_of_params a.program params) args
+
+abbrev mutual
+  pub expr_sites : Around → Scope → Expr → List Site
+  expr_sites a s (number_expr value span) = []
+  expr_sites a s (text_expr value span) = []
+  expr_sites a s (bool_expr value span) = []
+  expr_sites a s (name_expr name span) = names a_variable (visible_at a s) name ∷ []
+  expr_sites a s (this_expr token span) = []
+  expr_sites a s (unary_expr operator sign operand span) = needs a s (kind_of_unary operator) operand ∷ expr_sites a s operand
+  expr_sites a s (binary_expr operator sign left right span) = operand_sites a s operator left right ++ expr_sites a s left ++ expr_sites a s right
+  expr_sites a s (call_expr call span) = call_sites a s call
+  expr_sites a s (new_expr of args span) =
+      names an_object (visible_at a s) (part_of_named of)
+      ∷ passing_sites a s (part_of_named of).span (option_map (λ constructor. constructor.params) (constructed a.program of)) args ++ args_sites a s args
+
+  pub call_sites : Around → Scope → Call → List Site
+  call_sites a s (call_with receiver name args) =
+      callee_sites a s receiver name
+      ++ passing_sites a s name.span (option_map (λ t. t.params) (called a s receiver name.name)) args ++ args_sites a s args
+
+  pub args_sites : Around → Scope → Exprs → List Site
+  args_sites a s no_exprs = []
+  args_sites a s (and_expr e es) = expr_sites a s e ++ args_sites a s es
+
+-- an expression where a value of this kind is needed
+abbrev pub value_sites : Around → Scope → Kind → Expr → List Site
+value_sites a s wanted e = needs a s wanted e ∷ expr_sites a s e

@@ -1,0 +1,124 @@
+-- The sites of members, contracts and programs (the Obsidian language documentation, "Contracts").
+use Rattle.std.specs.Prelude.{ℕ, Bool, true, false, List, [], ◌∷◌, ◌++◌, map, flat_map, filter, length, Option, Some, None, option_and_then}
+use Rattle.std.specs.Option.{option_map_or}
+use Rattle.ob_base.specs.declared.fault.Span.{Span}
+use Rattle.ob_tree.specs.Names.{Named, Ref, ref_with, TypeExpr, int_type, bool_type, text_type, ref_type}
+use Rattle.ob_tree.specs.Stmts.{Block}
+use Rattle.ob_tree.specs.Members.{Field, Formal, Listed, Member, state_member, field_member, constructor_member, transaction_member, Contract}
+use Rattle.ob_tree.specs.declared.name.NamePart.{NamePart}
+use Rattle.ob_tree.specs.declared.name.PermNode.{PermNode}
+use Rattle.ob_tree.specs.declared.name.Subject.{Subject}
+use Rattle.ob_tree.specs.declared.name.Subject.TheVariants.{This, Name as NameSubject}
+use Rattle.ob_typing.specs.Names.{in_order, firsts}
+use Rattle.ob_typing.specs.Declared.{Program, contract_name, part_of_named, contract_at, states_of, field_names, fields_of, params_of, transactions_of, constructors_of}
+use Rattle.ob_typing.specs.Permissions.{known_permission}
+use Rattle.ob_typing.specs.Kinds.{Kind, nothing, contract_of_name, kind_of_ref, kind_of_result, interface_of}
+use Rattle.ob_typing.specs.Limits.{contracts_most, states_most, fields_most, transactions_most, params_most}
+use Rattle.ob_typing.specs.Visible.{an_interface, itself, Visible, visible_in}
+use Rattle.ob_typing.specs.Scopes.{Around, scope_of_params, kind_of_field}
+use Rattle.ob_typing.specs.Sites.{Site, is_main, names, names_state, names_field, is_inside_state, exits, takes_this, types_this, lists, gives, holds, implements_one}
+use Rattle.ob_typing.specs.TypeSites.{declared_sites, limit_sites, perm_sites, place_of_perm, ref_sites, type_sites, result_sites}
+use Rattle.ob_typing.specs.StatementSites.{place_of_subject, body_sites}
+
+-- Fields.
+
+-- whose object a field of this type refers to, and how
+abbrev pub holder_sites : Program → Contract → TypeExpr → Span → List Site
+holder_sites program own (ref_type (ref_with of perm)) span =
+    option_map_or (λ c. option_map_or (λ p. holds own c p span ∷ []) (known_permission c perm) []) (contract_of_name program (part_of_named of).name) []
+holder_sites program own type span = []
+
+abbrev pub field_sites : Program → Contract → Field → List Site
+field_sites program own f = type_sites (visible_in program own) f.of ++ holder_sites program own f.of f.name.span
+
+-- Parameters.
+
+-- `this` as a parameter
+abbrev pub this_sites : Visible → ℕ → Bool → TypeExpr → Span → List Site
+this_sites v before constructor (ref_type (ref_with of perm)) span =
+    takes_this before constructor (ref_type (ref_with of perm)) span
+    ∷ types_this v.own.name (kind_of_ref v.program (ref_with of perm)) (part_of_named of) ∷ []
+this_sites v before constructor type span = takes_this before constructor type span ∷ []
+
+abbrev pub subject_param_sites : Visible → ℕ → Bool → TypeExpr → Subject → List Site
+subject_param_sites v before constructor of (This span) = this_sites v before constructor of span
+subject_param_sites v before constructor of (NameSubject name) = []
+
+abbrev pub formal_type_sites : Visible → TypeExpr → Option PermNode → Span → List Site
+formal_type_sites v (ref_type of) exit span = ref_sites v of exit
+formal_type_sites v type exit span = exits type exit span ∷ []
+
+-- one parameter behind these, of a constructor or not
+abbrev pub formal_sites : Visible → Bool → List Formal → Formal → List Site
+formal_sites v constructor before f =
+    formal_type_sites v f.of f.exit (place_of_subject f.name) ++ subject_param_sites v (length before) constructor f.of f.name
+
+-- all of them; the names of fields are taken
+abbrev pub formals_sites : Program → Contract → Bool → List Formal → List Site
+formals_sites program own constructor formals =
+    in_order (formal_sites (visible_in program own) constructor) formals
+    ++ declared_sites (λ p. p.name) (field_names own) (params_of formals)
+    ++ limit_sites (λ p. p.name) params_most (params_of formals)
+
+-- Listed fields.
+
+abbrev pub listed_type_site : Program → Contract → NamePart → Ref → Site
+listed_type_site program own field (ref_with of perm) =
+    lists (kind_of_field program own field.name) (kind_of_ref program (ref_with of perm)) (part_of_named of).span
+
+-- a second one of one name is looked at but for its type's fitting the field
+abbrev pub listed_sites : Program → Contract → List Listed → List Site
+listed_sites program own listed =
+    flat_map (λ l. ref_sites (visible_in program own) l.of l.exit ++ names_field own l.name ∷ []) listed
+    ++ declared_sites (λ l. l.name) [] listed
+    ++ map (λ l. listed_type_site program own l.name l.of) (firsts (λ l. l.name.name) listed)
+
+-- Members.
+
+abbrev pub around : Program → Contract → Kind → Around
+around program own result = record { program = program; own = own; result = result }
+
+-- a body with these parameters
+abbrev pub body_of_params_sites : Program → Contract → Kind → List Formal → Block → List Site
+body_of_params_sites program own result params body = body_sites (around program own result) (scope_of_params program params) body
+
+abbrev pub member_sites : Program → Contract → Member → List Site
+member_sites program own (state_member name fields span) =
+    flat_map (λ f. is_inside_state f.available f.name.span ∷ field_sites program own f) fields
+member_sites program own (field_member f) = map (names_state own) f.available ++ field_sites program own f
+member_sites program own (constructor_member of perm params body span) =
+    names itself (visible_in program own) (part_of_named of)
+    ∷ gives (known_permission own perm) (place_of_perm span perm)
+    ∷ perm_sites own perm ++ formals_sites program own true params ++ body_of_params_sites program own nothing params body
+member_sites program own (transaction_member private listed name params result body span) =
+    listed_sites program own listed ++ formals_sites program own false params ++ result_sites (visible_in program own) result
+    ++ option_map_or (body_of_params_sites program own (kind_of_result program result) params) body []
+
+-- Contracts.
+
+-- what a contract declares: states, fields, constructors and transactions
+abbrev pub declaration_sites : Contract → List Site
+declaration_sites own =
+    declared_sites (λ s. s) [] (states_of own) ++ limit_sites (λ s. s) states_most (states_of own)
+    ++ declared_sites (λ f. f.field.name) [] (fields_of own) ++ limit_sites (λ f. f.field.name) fields_most (fields_of own)
+    ++ declared_sites (λ m. part_of_named m.of) [] (constructors_of own)
+    ++ declared_sites (λ t. t.name) [] (transactions_of own) ++ limit_sites (λ t. t.name) transactions_most (transactions_of own)
+
+-- the interface that a contract names, and what it asks of the contract
+abbrev pub interface_sites : Program → Contract → List Site
+interface_sites program own =
+    option_map_or (λ named. names an_interface (visible_in program own) (part_of_named named) ∷ []) own.implements []
+    ++ option_map_or (λ interface. implements_one program interface own own.span ∷ []) (option_and_then (contract_at program) (interface_of program own)) []
+
+abbrev pub contract_sites : Program → Contract → List Site
+contract_sites program own = declaration_sites own ++ interface_sites program own ++ flat_map (member_sites program own) own.members
+
+-- the main contracts, one after another
+abbrev pub main_sites : Program → List Site
+main_sites program = in_order (λ before c. is_main before c.span ∷ []) (filter (λ c. c.main) program)
+
+-- all sites of a program
+abbrev pub sites_of : Program → List Site
+sites_of program =
+    declared_sites contract_name [] program ++ limit_sites contract_name contracts_most program ++ main_sites program
+    ++ flat_map (contract_sites program) program

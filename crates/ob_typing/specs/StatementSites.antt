@@ -1,0 +1,116 @@
+-- The sites of statements (the Obsidian language documentation, "Statements").
+use Rattle.std.specs.Prelude.{Bool, false, ◌||◌, List, [], ◌∷◌, ◌++◌, map, Option, Some, None, option_map, if◌then◌else◌}
+use Rattle.std.specs.Option.{option_map_or}
+use Rattle.ob_base.specs.declared.fault.Span.{Span}
+use Rattle.ob_tree.specs.Exprs.{Expr}
+use Rattle.ob_tree.specs.Stmts.{Given, Stmt, declare_stmt, assign_stmt, stage_stmt, change_stmt, call_stmt, test_stmt, if_stmt, return_stmt, revert_stmt, disown_stmt, assert_stmt, Block, block_with, Else, no_else, else_with, Stmts, no_stmts, and_stmt}
+use Rattle.ob_tree.specs.Members.{Contract}
+use Rattle.ob_tree.specs.declared.name.NamePart.{NamePart}
+use Rattle.ob_tree.specs.declared.name.PermNode.{PermNode}
+use Rattle.ob_tree.specs.declared.name.Subject.{Subject}
+use Rattle.ob_tree.specs.declared.name.Subject.TheVariants.{This, Name as NameSubject}
+use Rattle.ob_typing.specs.Names.{Name, in_order}
+use Rattle.ob_typing.specs.Declared.{field_names}
+use Rattle.ob_typing.specs.Kinds.{Kind, a_bool, a_text, unknown, contract_of_kind, kind_of_local}
+use Rattle.ob_typing.specs.Visible.{a_variable}
+use Rattle.ob_typing.specs.Scopes.{Around, Variable, Scope, variable_named, visible_at, locals_in_block, past, after_stmt, kind_of_field, kind_of_variable, kind_of_subject, kind_of}
+use Rattle.ob_typing.specs.Reached.{ends, one_ends}
+use Rattle.ob_typing.specs.Sites.{Site, declares, names, names_state, names_field, refers, returns, closes, follows, assigns}
+use Rattle.ob_typing.specs.TypeSites.{perm_sites, local_sites}
+use Rattle.ob_typing.specs.ExpressionSites.{reference_sites, expr_sites, value_sites}
+
+-- the place of a statement
+abbrev pub place_of_stmt : Stmt → Span
+place_of_stmt (declare_stmt of name value span) = span
+place_of_stmt (assign_stmt name value span) = span
+place_of_stmt (stage_stmt state field value span) = span
+place_of_stmt (change_stmt state given span) = span
+place_of_stmt (call_stmt value span) = span
+place_of_stmt (test_stmt subject state branch otherwise span) = span
+place_of_stmt (if_stmt condition branch otherwise span) = span
+place_of_stmt (return_stmt value span) = span
+place_of_stmt (revert_stmt text span) = span
+place_of_stmt (disown_stmt name span) = span
+place_of_stmt (assert_stmt subject perm span) = span
+
+-- what is asked of the contract to which references of this kind refer
+abbrev pub on_contract : Around → Kind → (Contract → List Site) → List Site
+on_contract a kind ask = option_map_or ask (contract_of_kind a.program kind) []
+
+-- the subject of a test or an assertion; where it is no reference, that is told here
+abbrev pub subject_sites : Around → Scope → Subject → Span → List Site
+subject_sites a s (This token) span = []
+subject_sites a s (NameSubject name) span = reference_sites a s name span
+
+abbrev pub place_of_subject : Subject → Span
+place_of_subject (This span) = span
+place_of_subject (NameSubject name) = name.span
+
+-- the kind of what is assigned, a local or a field; a parameter has a fault of its own
+abbrev pub assigned : Option Variable → Kind → Kind
+assigned None field = field
+assigned (Some v) field = if v.is_param then unknown else v.of
+
+abbrev pub kind_of_target : Around → Scope → Name → Kind
+kind_of_target a s name = assigned (variable_named s name) (kind_of_field a.program a.own name)
+
+-- a value for a field, behind fields of these names in one list
+abbrev pub given_sites : Around → Scope → List Name → NamePart → Expr → List Site
+given_sites a s before field value =
+    declares before field ∷ names_field a.own field ∷ value_sites a s (kind_of_field a.program a.own field.name) value
+
+-- the fields given with a change of state, behind those of the row of staged statements before it
+abbrev pub change_sites : Around → Scope → List Name → List Given → List Site
+change_sites a s row given = in_order (λ before g. given_sites a s (row ++ map (λ b. b.field.name) before) g.field g.value) given
+
+-- the row of staged statements behind a statement: the names of its fields
+abbrev pub row_after : List Name → Stmt → List Name
+row_after row (stage_stmt state field value span) = row ++ field.name ∷ []
+row_after row x = []
+
+-- what a return gives: nothing, or a value, of which the statement says what is needed
+abbrev pub returned_sites : Around → Scope → Option Expr → Span → List Site
+returned_sites a s value span = returns a.program a.result (option_map (kind_of a s) value) span ∷ option_map_or (expr_sites a s) value []
+
+abbrev mutual
+  -- a statement behind a row of staged ones for fields of these names
+  pub stmt_sites : Around → Scope → List Name → Stmt → List Site
+  stmt_sites a s row (declare_stmt of name value span) =
+      local_sites (visible_at a s) of
+      ++ declares (map (λ v. v.name) s.variables ++ field_names a.own) name ∷ value_sites a s (kind_of_local a.program of) value
+  stmt_sites a s row (assign_stmt name value span) =
+      names a_variable (visible_at a s) name
+      ∷ assigns (variable_named s name.name) name.span ∷ value_sites a s (kind_of_target a s name.name) value
+  stmt_sites a s row (stage_stmt state field value span) = names_state a.own state ∷ given_sites a s row field value
+  stmt_sites a s row (change_stmt state given span) = names_state a.own state ∷ change_sites a s row given
+  stmt_sites a s row (call_stmt value span) = expr_sites a s value
+  stmt_sites a s row (test_stmt subject state branch otherwise span) =
+      subject_sites a s subject span
+      ++ on_contract a (kind_of_subject a s subject) (λ c. names_state c state ∷ [])
+      ++ block_sites a s branch ++ else_sites a (past s (locals_in_block branch)) otherwise
+  stmt_sites a s row (if_stmt condition branch otherwise span) =
+      value_sites a s a_bool condition ++ block_sites a s branch ++ else_sites a (past s (locals_in_block branch)) otherwise
+  stmt_sites a s row (return_stmt value span) = returned_sites a s value span
+  stmt_sites a s row (revert_stmt text span) = option_map_or (value_sites a s a_text) text []
+  stmt_sites a s row (disown_stmt name span) = reference_sites a s name name.span
+  stmt_sites a s row (assert_stmt subject perm span) =
+      subject_sites a s subject (place_of_subject subject)
+      ++ on_contract a (kind_of_subject a s subject) (λ c. perm_sites c perm)
+
+  pub block_sites : Around → Scope → Block → List Site
+  block_sites a s (block_with statements end) = stmts_sites a s [] false statements
+
+  pub else_sites : Around → Scope → Else → List Site
+  else_sites a s no_else = []
+  else_sites a s (else_with block) = block_sites a s block
+
+  -- statements behind such a row; whether one before them in their block ends there
+  pub stmts_sites : Around → Scope → List Name → Bool → Stmts → List Site
+  stmts_sites a s row ended no_stmts = []
+  stmts_sites a s row ended (and_stmt x xs) =
+      follows ended (place_of_stmt x)
+      ∷ stmt_sites a s row x ++ stmts_sites a (after_stmt a s x) (row_after row x) (ended || ends x) xs
+
+-- a body
+abbrev pub body_sites : Around → Scope → Block → List Site
+body_sites a s (block_with statements end) = block_sites a s (block_with statements end) ++ closes a.result (one_ends statements) end ∷ []

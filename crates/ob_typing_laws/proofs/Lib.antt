@@ -1,0 +1,15 @@
+pub mod Each
+pub mod Clean
+pub mod NameFacts
+pub mod PermFacts
+pub mod LookUps
+pub mod TypeFacts
+pub mod FieldFacts
+pub mod SignatureFacts
+pub mod TransactionFacts
+pub mod AgreeFacts
+pub mod SaidFacts
+pub mod HeldFacts
+pub mod MeetsFacts
+pub mod TableFacts
+pub mod LeastFacts
