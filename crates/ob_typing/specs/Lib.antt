@@ -19,3 +19,4 @@ pub mod Bodies
 pub mod TableOf
 pub mod Conditions
 pub mod Shape
+pub mod WellMade

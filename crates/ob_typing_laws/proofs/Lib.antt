@@ -13,3 +13,4 @@ pub mod HeldFacts
 pub mod MeetsFacts
 pub mod TableFacts
 pub mod LeastFacts
+pub mod KindFacts
