@@ -14,3 +14,4 @@ pub mod MeetsFacts
 pub mod TableFacts
 pub mod LeastFacts
 pub mod KindFacts
+pub mod ScopeFacts
