@@ -62,7 +62,7 @@ pub record KnownType (program : Program) (t : TypeExpr) : Type 0 where
   pub value : IsValueKind program (kind_of_type program t)
   pub in_table_as : kind_of_table (table_kind program t) ≡ resolved_local (kind_of_type program t)
 
-reference_known : (program : Program) (of : Named) (perm : PermNode) → Known program of perm → KnownType program (ref_type (ref_with of perm))
+pub reference_known : (program : Program) (of : Named) (perm : PermNode) → Known program of perm → KnownType program (ref_type (ref_with of perm))
 reference_known program of perm k = record {
   value = subst (IsValueKind program) (sym (known_kind program of perm k)) (k.contract, k.at);
   in_table_as = rw (known_kind program of perm k, k.named) refl;

@@ -15,3 +15,5 @@ pub mod TableFacts
 pub mod LeastFacts
 pub mod KindFacts
 pub mod ScopeFacts
+pub mod CallFacts
+pub mod ExpressionFacts

@@ -96,3 +96,13 @@ named_at {A} name_of name (y ∷ xs) x e = at (same name (name_of y)) refl (name
         → (n : ℕ) × (slice_get (y ∷ xs) n ≡ Some x) × (name_of x ≡ name)
     at true s rest e = let z : y ≡ x = cc in (0, e, ap name_of (sym z) ∙ sym (same_is name (name_of y) s))
     at false s rest e = let r = rest e in (suc r.0, r.1, r.2)
+
+-- the number of the first thing of a name
+pub first_number : {A : Type 0} (name_of : A → Name) (name : Name) (xs : List A) (x : A) → first_named name_of name xs ≡ Some x → (n : ℕ) × (number_of name (map name_of xs) ≡ Some n) × (slice_get xs n ≡ Some x)
+first_number name_of name [] x e = absurd cc
+first_number {A} name_of name (y ∷ xs) x e = at (same name (name_of y)) (first_number name_of name xs x) e
+  where
+    at : (b : Bool) → (first_named name_of name xs ≡ Some x → (n : ℕ) × (number_of name (map name_of xs) ≡ Some n) × (slice_get xs n ≡ Some x)) → cond b (Some y) (first_named name_of name xs) ≡ Some x
+        → (n : ℕ) × (cond b (Some 0) (option_map suc (number_of name (map name_of xs))) ≡ Some n) × (slice_get (y ∷ xs) n ≡ Some x)
+    at true rest e = (0, refl, e)
+    at false rest e = let r = rest e in (suc r.0, ap (option_map suc) r.1, r.2)
