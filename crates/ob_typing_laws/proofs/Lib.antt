@@ -17,3 +17,4 @@ pub mod KindFacts
 pub mod ScopeFacts
 pub mod CallFacts
 pub mod ExpressionFacts
+pub mod StatementFacts

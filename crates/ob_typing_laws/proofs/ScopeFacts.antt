@@ -21,7 +21,7 @@ use Rattle.ob_typing.specs.TableOf.{field_in_table, contract_in_table, table_of,
 use Rattle.ob_typing.specs.WellMade.{Frame, Locals, local_kind, kind_of_seen, kind_of_table}
 use Rattle.ob_typing_laws.proofs.Each.{Each, each_both, each_weaker, each_at}
 use Rattle.ob_typing_laws.proofs.NameFacts.{same-refl}
-use Rattle.ob_typing_laws.proofs.LookUps.{slice_get-map, named_at}
+use Rattle.ob_typing_laws.proofs.LookUps.{slice_get-map, named_at, among_number}
 use Rattle.ob_typing_laws.proofs.SignatureFacts.{NamedField, field_found}
 use Rattle.ob_typing_laws.proofs.KindFacts.{IsValueKind, KnownType}
 
@@ -89,7 +89,7 @@ good_past program params s n g = record {
   params_first = let l = g.params_first in omega (arith, l);
 }
 
-by_number-with : (s : Scope) (name : Name) (kind : Kind) → by_number (with_local s name kind).variables ≡ by_number s.variables ++ (s.count + 1, resolved_local kind) ∷ []
+pub by_number-with : (s : Scope) (name : Name) (kind : Kind) → by_number (with_local s name kind).variables ≡ by_number s.variables ++ (s.count + 1, resolved_local kind) ∷ []
 by_number-with s name kind = map-append (λ (v : Variable). (v.number, resolved_local v.of)) s.variables _
 
 -- What a body stands in.
@@ -157,3 +157,20 @@ name_known a w s here params result name g h = at (variable_named s name) refl
         let f : is_among name (field_names a.own) ≡ true = rw none at h in
         field_seen a w s here params result name (field_found a.program a.own name f) e
     at (Some v) e = variable_seen a s here params result name v g e
+
+-- what a name stands for: a variable, or a field where there is no variable of the name
+pub data StandsFor (a : Around) (s : Scope) (name : Name) : Type 0 where
+  for_variable : (v : Variable) → variable_named s name ≡ Some v → seen_name a s name ≡ Local v.number → StandsFor a s name
+  for_field : (n : ℕ) → variable_named s name ≡ None → seen_name a s name ≡ FieldSeen (record { 0 = n }) → StandsFor a s name
+
+pub stands_for : (a : Around) (s : Scope) (name : Name) → (is_among name (map (λ (v : Variable). v.name) s.variables) || is_among name (field_names a.own)) ≡ true → StandsFor a s name
+stands_for a s name h = at (variable_named s name) refl
+  where
+    at : (o : Option Variable) → variable_named s name ≡ o → StandsFor a s name
+    at (Some v) e = for_variable v e (ap (λ o. option_map_or (λ (v : Variable). Local v.number) o (option_map_or (λ n. FieldSeen (record { 0 = n })) (number_of name (field_names a.own)) This)) e)
+    at None e =
+        let f : is_among name (field_names a.own) ≡ true = rw (none_among s.variables name e) at h in
+        let n = among_number name (field_names a.own) f in
+        for_field n.0 e
+            (ap (λ o. option_map_or (λ (v : Variable). Local v.number) o (option_map_or (λ n. FieldSeen (record { 0 = n })) (number_of name (field_names a.own)) This)) e
+            ∙ ap (λ o. option_map_or (λ n. FieldSeen (record { 0 = n })) o This) n.1)

@@ -211,14 +211,14 @@ listed_are program own listed types h =
         (each_of_both _ _ _ (λ l a b. listed_of_ref program own l.name l.of l.exit types a b) listed (listed_fields program own listed h)
             (each_of_map Clean (λ l. listed_type_site program own l.name l.of) listed third'))
 
-abbrev number_in : List Name → Name → FieldId
+abbrev pub number_in : List Name → Name → FieldId
 number_in names name = record { 0 = unwrap_or (number_of name names) 0 }
 
 field_of_listed : (program : Program) (own : Contract) (field : Name) (of : Ref) (exit : Option PermNode) → (listed_with program own field of exit).field ≡ field_id own field
 field_of_listed program own field (ref_with of perm) exit = refl
 
 -- names with one number are one name
-same_field : (names : List Name) (a b : Name) → is_among a names ≡ true → is_among b names ≡ true → (number_in names a).0 ≡ (number_in names b).0 → a ≡ b
+pub same_field : (names : List Name) (a b : Name) → is_among a names ≡ true → is_among b names ≡ true → (number_in names a).0 ≡ (number_in names b).0 → a ≡ b
 same_field names a b h k e =
     let m = among_number a names h in
     let n = among_number b names k in
