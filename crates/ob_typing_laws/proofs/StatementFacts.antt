@@ -27,7 +27,7 @@ use Rattle.ob_typing.specs.Reached.{ends}
 use Rattle.ob_typing.specs.Sites.{Site, declares, names, names_state, names_field, refers, returns, follows, assigns}
 use Rattle.ob_typing.specs.TypeSites.{perm_sites, local_sites}
 use Rattle.ob_typing.specs.ExpressionSites.{reference_sites, expr_sites, value_sites}
-use Rattle.ob_typing.specs.StatementSites.{place_of_stmt, on_contract, subject_sites, assigned, kind_of_target, given_sites, change_sites, row_after, returned_sites, stmt_sites, block_sites, else_sites, stmts_sites}
+use Rattle.ob_typing.specs.StatementSites.{place_of_stmt, place_of_subject, on_contract, subject_sites, assigned, kind_of_target, given_sites, change_sites, row_after, returned_sites, stmt_sites, block_sites, else_sites, stmts_sites}
 use Rattle.ob_typing.specs.Faults.{returns_other}
 use Rattle.ob_typing.specs.Numbers.{contract_id, state_id, field_id, perm_on}
 use Rattle.ob_typing.specs.Bodies.{resolved_local, seen_name, seen_at, seen_subject, resolved_expr, resolved_given, resolved_stmt, block_resolved, else_resolved, resolved_stmts}
@@ -231,3 +231,93 @@ returned h s (Some v) span an_int e w g c = given_back h s an_int v tt g (subst 
 returned h s (Some v) span a_bool e w g c = given_back h s a_bool v tt g (subst (λ k. returns_other (program h) k (Some (kind_of h.around s v)) ≡ false) e c.0.type_mismatch) c.1
 returned h s (Some v) span a_text e w g c = given_back h s a_text v tt g (subst (λ k. returns_other (program h) k (Some (kind_of h.around s v)) ≡ false) e c.0.type_mismatch) c.1
 returned h s (Some v) span (a_reference n) e w g c = given_back h s (a_reference n) v w g (subst (λ k. returns_other (program h) k (Some (kind_of h.around s v)) ≡ false) e c.0.type_mismatch) c.1
+
+-- Behind a statement.
+
+pub record After (h : Here) (s : Scope) (x : Stmt) : Type 0 where
+  pub good : GoodScope (program h) h.params (after_stmt h.around s x)
+  pub there : by_number (after_stmt h.around s x).variables ≡ behind (by_number s.variables) (resolved_stmt h.around s x)
+
+after_fact : (h : Here) (s : Scope) (row : List Name) (x : Stmt) → GoodScope (program h) h.params s → Each Clean (stmt_sites h.around s row x) → After h s x
+after_fact h s row (declare_stmt of name value span) g c =
+    let k = local_known h s of (each_left Clean (local_sites (visible_at h.around s) of) _ c) in
+    record { good = good_with (program h) h.params s name.name (kind_of_local (program h) of) g k.value; there = by_number-with s name.name (kind_of_local (program h) of) }
+after_fact h s row x g c = record { good = good_past (program h) h.params s (locals_in x) g; there = refl }
+
+pub record NextRow (h : Here) (s : Scope) (row : List Name) (x : Stmt) : Type 0 where
+  pub fields : AreFields h.around.own (row_after row x)
+  pub there : row_ids h.around.own (row_after row x) ≡ row_behind (row_ids h.around.own row) (resolved_stmt h.around s x)
+
+next_row : (h : Here) (s : Scope) (row : List Name) (x : Stmt) → AreFields h.around.own row → Each Clean (stmt_sites h.around s row x) → NextRow h s row x
+next_row h s row (stage_stmt state field value span) r c = record {
+  fields = each_both (λ n. is_among n (field_names h.around.own) ≡ true) row (field.name ∷ []) r (field_named_there h s row field value c.1, tt);
+  there = push_row h.around.own row field.name;
+}
+next_row h s row x r c = record { fields = tt; there = refl }
+
+-- Statements.
+
+mutual
+  stmt_fact : (h : Here) (q : Result h) (s : Scope) (row : List Name) (x : Stmt) → GoodScope (program h) h.params s → AreFields h.around.own row → Each Clean (stmt_sites h.around s row x)
+      → IsStatement (frame h) (by_number s.variables) (row_ids h.around.own row) (resolved_stmt h.around s x)
+  stmt_fact h q s row (declare_stmt of name value span) g r c =
+      let L = local_sites (visible_at h.around s) of in
+      let k = local_known h s of (each_left Clean L _ c) in
+      let rest = each_right Clean L (declares (map (λ v. v.name) s.variables ++ field_names h.around.own) name ∷ value_sites h.around s (kind_of_local (program h) of) value) c in
+      let first = g.params_first in
+      (k.there, omega (arith, first), no_number s.count s.variables (s.count + 1) g.within (omega arith), value_fact h s (kind_of_local (program h) of) value k.value g rest.1)
+  stmt_fact h q s row (assign_stmt name value span) g r c =
+      let t = target_known h s name g c.0 c.1.0 in
+      let v = value_fact h s (kind_of_variable h.around s name.name) value t.known.kind g (subst (λ k. Each Clean (value_sites h.around s k value)) t.kind c.1.1) in
+      (t.target, some_and _ (resolved_local (kind_of_variable h.around s name.name)) (λ kind. IsValue (frame h) (by_number s.variables) kind (resolved_expr h.around s value)) t.known.seen v)
+  stmt_fact h q s row (stage_stmt state field value span) g r c = (named_state h.around.own state c.0, given_fact h s row field value g r c.1)
+  stmt_fact h q s row (change_stmt state given span) g r c = (named_state h.around.own state c.0, change_fact h s row given g r c.1)
+  stmt_fact h q s row (call_stmt value span) g r c = (expr_fact h s value g c).made
+  stmt_fact h q s row (test_stmt subject state branch otherwise span) g r c =
+      let S = subject_sites h.around s subject span in
+      let O = on_contract h.around (kind_of_subject h.around s subject) (λ c. names_state c state ∷ []) in
+      let B = block_sites h.around s branch in
+      let E = else_sites h.around (past s (locals_in_block branch)) otherwise in
+      let sob = each_left Clean (S ++ O ++ B) E c in
+      let so = each_left Clean (S ++ O) B sob in
+      let k = subject_known h s subject span g (each_left Clean S O so) in
+      (tested h s subject state k (each_right Clean S O so), block_fact h q s branch g (each_right Clean (S ++ O) B sob),
+       else_fact h q (past s (locals_in_block branch)) otherwise (good_past (program h) h.params s (locals_in_block branch) g) (each_right Clean (S ++ O ++ B) E c))
+  stmt_fact h q s row (if_stmt condition branch otherwise span) g r c =
+      let V = value_sites h.around s a_bool condition in
+      let B = block_sites h.around s branch in
+      let E = else_sites h.around (past s (locals_in_block branch)) otherwise in
+      let vb = each_left Clean (V ++ B) E c in
+      (value_fact h s a_bool condition tt g (each_left Clean V B vb), block_fact h q s branch g (each_right Clean V B vb),
+       else_fact h q (past s (locals_in_block branch)) otherwise (good_past (program h) h.params s (locals_in_block branch) g) (each_right Clean (V ++ B) E c))
+  stmt_fact h q s row (return_stmt value span) g r c =
+      subst (λ k. IsReturned (frame h) (by_number s.variables) k (option_map (resolved_expr h.around s) value)) (sym q.there) (returned h s value span h.around.result refl q.known g c)
+  stmt_fact h q s row (revert_stmt None span) g r c = tt
+  stmt_fact h q s row (revert_stmt (Some text) span) g r c = value_fact h s a_text text tt g c
+  stmt_fact h q s row (disown_stmt name span) g r c = refers_there h s (NameSubject name) (λ c. Unit {0}) (from_reference h s name (reference_known h s name name.span g c)) tt
+  stmt_fact h q s row (assert_stmt subject perm span) g r c =
+      asserted h s subject perm (subject_known h s subject (place_of_subject subject) g (each_left Clean (subject_sites h.around s subject (place_of_subject subject)) _ c))
+
+  block_fact : (h : Here) (q : Result h) (s : Scope) (b : Block) → GoodScope (program h) h.params s → Each Clean (block_sites h.around s b) → IsBlock (frame h) (by_number s.variables) (block_resolved h.around s b)
+  block_fact h q s (block_with statements end) g c = stmts_fact h q s [] false statements g tt c
+
+  else_fact : (h : Here) (q : Result h) (s : Scope) (e : Else) → GoodScope (program h) h.params s → Each Clean (else_sites h.around s e) → IsOtherwise (frame h) (by_number s.variables) (else_resolved h.around s e)
+  else_fact h q s no_else g c = tt
+  else_fact h q s (else_with block) g c = block_fact h q s block g c
+
+  stmts_fact : (h : Here) (q : Result h) (s : Scope) (row : List Name) (ended : Bool) (xs : Stmts) → GoodScope (program h) h.params s → AreFields h.around.own row → Each Clean (stmts_sites h.around s row ended xs)
+      → AreStatements (frame h) (by_number s.variables) (row_ids h.around.own row) (resolved_stmts h.around s xs)
+  stmts_fact h q s row ended no_stmts g r c = tt
+  stmts_fact h q s row ended (and_stmt x xs) g r c =
+      let X = stmt_sites h.around s row x in
+      let one = each_left Clean X (stmts_sites h.around (after_stmt h.around s x) (row_after row x) (ended || ends x) xs) c.1 in
+      let a = after_fact h s row x g one in
+      let n = next_row h s row x r one in
+      let rest = stmts_fact h q (after_stmt h.around s x) (row_after row x) (ended || ends x) xs a.good n.fields (each_right Clean X _ c.1) in
+      (stmt_fact h q s row x g r one,
+       subst (λ ids. AreStatements (frame h) (behind (by_number s.variables) (resolved_stmt h.around s x)) ids (resolved_stmts h.around (after_stmt h.around s x) xs)) n.there
+           (subst (λ ls. AreStatements (frame h) ls (row_ids h.around.own (row_after row x)) (resolved_stmts h.around (after_stmt h.around s x) xs)) a.there rest))
+
+-- whole bodies
+pub body_fact : (h : Here) (q : Result h) (s : Scope) (statements : Stmts) → GoodScope (program h) h.params s → Each Clean (stmts_sites h.around s [] false statements) → AreStatements (frame h) (by_number s.variables) [] (resolved_stmts h.around s statements)
+body_fact h q s statements g c = stmts_fact h q s [] false statements g tt c
