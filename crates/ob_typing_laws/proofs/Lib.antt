@@ -18,3 +18,4 @@ pub mod ScopeFacts
 pub mod CallFacts
 pub mod ExpressionFacts
 pub mod StatementFacts
+pub mod BodyFacts
