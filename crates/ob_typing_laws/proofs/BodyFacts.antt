@@ -35,10 +35,10 @@ use Rattle.ob_typing_laws.proofs.Each.{Each, each_left, each_right, each_both, e
 use Rattle.ob_typing_laws.proofs.Clean.{Clean}
 use Rattle.ob_typing_laws.proofs.LookUps.{slice_get-map}
 use Rattle.ob_typing_laws.proofs.TypeFacts.{true_from_not, some_and, in_table}
-use Rattle.ob_typing_laws.proofs.TableFacts.{Sound}
+use Rattle.ob_typing_laws.proofs.TableFacts.{Sound, Clear}
 use Rattle.ob_typing_laws.proofs.KindFacts.{IsValueKind, IsKnownKind, as_local, KnownType, KnownResult, result_known}
 use Rattle.ob_typing_laws.proofs.ScopeFacts.{Rising, GoodScope, by_number, World}
-use Rattle.ob_typing_laws.proofs.CallFacts.{Clear, world_of, params_known}
+use Rattle.ob_typing_laws.proofs.CallFacts.{world_of, world_number, params_known}
 use Rattle.ob_typing_laws.proofs.ExpressionFacts.{Here, frame}
 use Rattle.ob_typing_laws.proofs.StatementFacts.{Result, body_fact}
 
@@ -274,3 +274,62 @@ pub all_bodies_made : (program : Program) (clear : Clear program) → Each HasCo
 all_bodies_made program clear shapes places =
     each_flat_map _ (bodies_of program) program
         (each_of_both _ _ _ (λ c shape k. bodies_made program clear c (world_of program clear k.0 c k.1) (recursion_from_All (HasMemberShape c.interface) c.members shape.members) (each_at (Sound program) program k.0 c clear.all k.1).members) program shapes places)
+
+-- Which bodies there are.
+
+place_with : (program : Program) (own : Contract) (w : World program own) (tx : ℕ) (k : Kind) (formals : List Formal) (b : Block) → place_of_body (body_with program own tx k formals b) ≡ (w.number, tx)
+place_with program own w tx k formals (block_with statements end) = ap (λ o. ((contract_id o).0, tx)) w.numbered
+
+transaction_place : (program : Program) (own : Contract) (w : World program own) (t : Transaction) (n : ℕ) (o : Option Block) → IsSome o
+    → map place_of_body (option_map_or (λ body. body_with program own n (kind_of_result program t.result) t.params body ∷ []) o []) ≡ (w.number, n) ∷ []
+transaction_place program own w t n None h = absurd (cc)
+transaction_place program own w t n (Some b) h = ap (λ p. p ∷ []) (place_with program own w n (kind_of_result program t.result) t.params b)
+
+transaction_places : (program : Program) (own : Contract) (w : World program own) (before ts : List Transaction) (n : ℕ) → n ≡ length before + 1 → Each (λ (t : Transaction). IsSome t.body) ts
+    → map place_of_body (in_order_after (transaction_bodies program own) before ts) ≡ map (λ tx. (w.number, tx)) (range_with_len n (length ts))
+transaction_places program own w before [] n e h = refl
+transaction_places program own w before (t ∷ ts) n e h =
+    let more : length (before ++ t ∷ []) ≡ length before + 1 = length-append before (t ∷ []) ∙ omega arith in
+    let rest = transaction_places program own w (before ++ t ∷ []) ts (n + 1) (omega (arith, e, more)) h.1 in
+    map-append place_of_body (transaction_bodies program own before t) (in_order_after (transaction_bodies program own) (before ++ t ∷ []) ts)
+    ∙ ap (λ ps. ps ++ map place_of_body (in_order_after (transaction_bodies program own) (before ++ t ∷ []) ts)) (transaction_place program own w t (length before + 1) t.body h.0)
+    ∙ ap (λ m. (w.number, m) ∷ map place_of_body (in_order_after (transaction_bodies program own) (before ++ t ∷ []) ts)) (sym e)
+    ∙ ap (λ ps. (w.number, n) ∷ ps) rest
+
+whole_of_member : (m : Member) → HasMemberShape false m → Each (λ (t : Transaction). IsSome t.body) (transactions_of_member m)
+whole_of_member (state_member name fields span) shape = tt
+whole_of_member (field_member field) shape = tt
+whole_of_member (constructor_member of perm params body span) shape = tt
+whole_of_member (transaction_member private listed name params result body span) shape = (shape.whole refl, tt)
+
+contract_places : (program : Program) (own : Contract) (w : World program own) → Each (HasMemberShape own.interface) own.members
+    → map place_of_body (bodies_of program own) ≡ (if own.interface then [] else map (λ tx. (w.number, tx)) (range_with_len 0 (length (signatures_of program own))))
+contract_places program own w shape = at own.interface shape
+  where
+    at : (b : Bool) → Each (HasMemberShape b) own.members
+        → map place_of_body (cond b [] (constructor_body program own (constructor_of own) ∷ in_order (transaction_bodies program own) (transactions_of own)))
+          ≡ cond b [] (map (λ tx. (w.number, tx)) (range_with_len 0 (length (cond b [] (constructor_in_table program own (constructor_of own) ∷ []) ++ map (transaction_in_table program own) (transactions_of own)))))
+    at true h = refl
+    at false h =
+        let whole = each_flat_map _ transactions_of_member own.members (each_weaker _ _ whole_of_member own.members h) in
+        let rest = transaction_places program own w [] (transactions_of own) 1 refl whole in
+        let n = sym (length-map (transactions_of own) (transaction_in_table program own)) in
+        ap (λ p. p ∷ map place_of_body (in_order (transaction_bodies program own) (transactions_of own))) (place_with program own w 0 nothing (constructor_of own).params (constructor_of own).body)
+        ∙ ap (λ ps. (w.number, 0) ∷ ps) (rest ∙ ap (λ k. map (λ tx. (w.number, tx)) (range_with_len 1 k)) n)
+
+places_are : (program : Program) (clear : Clear program) (xs : List Contract) (before : ℕ) → ((n : ℕ) → slice_get program (before + n) ≡ slice_get xs n) → Each HasContractShape xs
+    → map place_of_body (flat_map (bodies_of program) xs) ≡ places_from before (map (contract_in_table program) xs)
+places_are program clear [] before at shapes = refl
+places_are program clear (c ∷ xs) before at shapes =
+    let z : before + 0 ≡ before = omega arith in
+    let here : contract_at program before ≡ Some c = ap (slice_get program) (sym z) ∙ at 0 in
+    let w = world_of program clear before c here in
+    let one = subst (λ k. map place_of_body (bodies_of program c) ≡ (if c.interface then [] else map (λ tx. (k, tx)) (range_with_len 0 (length (signatures_of program c))))) (world_number program clear before c here)
+            (contract_places program c w (recursion_from_All (HasMemberShape c.interface) c.members shapes.0.members)) in
+    let rest = places_are program clear xs (before + 1) (λ n. let f : before + 1 + n ≡ before + suc n = omega arith in ap (slice_get program) f ∙ at (suc n)) shapes.1 in
+    map-append place_of_body (bodies_of program c) (flat_map (bodies_of program) xs)
+    ∙ ap (λ ps. ps ++ map place_of_body (flat_map (bodies_of program) xs)) one
+    ∙ ap (λ ps. (if c.interface then [] else map (λ tx. (before, tx)) (range_with_len 0 (length (signatures_of program c)))) ++ ps) rest
+
+pub bodies_there : (program : Program) (clear : Clear program) → Each HasContractShape program → HasBodies (table_of program)
+bodies_there program clear shapes = places_are program clear program 0 (λ n. let e : 0 + n ≡ n = omega arith in ap (slice_get program) e) shapes

@@ -33,14 +33,9 @@ use Rattle.ob_typing_laws.proofs.FieldFacts.{field_types}
 use Rattle.ob_typing_laws.proofs.SignatureFacts.{formal_types}
 use Rattle.ob_typing_laws.proofs.TransactionFacts.{HeadSites, heads_are}
 use Rattle.ob_typing_laws.proofs.HeldFacts.{first_of_name}
-use Rattle.ob_typing_laws.proofs.TableFacts.{Sound}
+use Rattle.ob_typing_laws.proofs.TableFacts.{Sound, Clear}
 use Rattle.ob_typing_laws.proofs.KindFacts.{KnownType, reference_known, type_known, KnownResult, result_known}
 use Rattle.ob_typing_laws.proofs.ScopeFacts.{World}
-
--- a program whose contracts have distinct names and no faults
-pub record Clear (program : Program) : Type 0 where
-  pub distinct : AreDistinct (map (λ c. c.name) program)
-  pub all : Each (Sound program) program
 
 pub world_of : (program : Program) → Clear program → (n : ℕ) (own : Contract) → contract_at program n ≡ Some own → World program own
 world_of program clear n own at =
@@ -51,6 +46,10 @@ world_of program clear n own at =
       at = at;
       fields = each_weaker _ _ (λ f c. type_known (visible_in program own) f.field.of c) (fields_of own) (field_types program own s.members);
     }
+
+pub world_number : (program : Program) (clear : Clear program) (n : ℕ) (own : Contract) (at : contract_at program n ≡ Some own) → (world_of program clear n own at).number ≡ n
+unfolding world_of
+world_number program clear n own at = refl
 
 -- Parameters.
 

@@ -30,10 +30,10 @@ use Rattle.ob_typing_laws.proofs.Each.{Each, each_left, each_right, each_at}
 use Rattle.ob_typing_laws.proofs.Clean.{Clean}
 use Rattle.ob_typing_laws.proofs.LookUps.{some_value, contract_found}
 use Rattle.ob_typing_laws.proofs.TypeFacts.{true_from_not, name_means, some_and}
-use Rattle.ob_typing_laws.proofs.TableFacts.{Sound}
+use Rattle.ob_typing_laws.proofs.TableFacts.{Sound, Clear}
 use Rattle.ob_typing_laws.proofs.KindFacts.{IsValueKind, IsKnownKind, known_value, as_local, value_as_local, KnownType, KnownResult, serves_there}
 use Rattle.ob_typing_laws.proofs.ScopeFacts.{GoodScope, by_number, World, this_known, frame_in, KnownName, name_known}
-use Rattle.ob_typing_laws.proofs.CallFacts.{Clear, Callee, callee_is, constructor_params, made_at}
+use Rattle.ob_typing_laws.proofs.CallFacts.{Callee, callee_is, constructor_params, made_at}
 
 -- where an expression stands
 pub record Here : Type 0 where

@@ -193,7 +193,7 @@ placed_from program (c ∷ xs) before h =
     ((before, ap (slice_get program) (sym e) ∙ h 0), placed_from program xs (suc before) (λ n. let f : suc before + n ≡ before + suc n = omega arith in ap (slice_get program) f ∙ h (suc n)))
 
 -- each contract has a place
-placed : (program : Program) → Each (λ c. (k : ℕ) × (contract_at program k ≡ Some c)) program
+pub placed : (program : Program) → Each (λ c. (k : ℕ) × (contract_at program k ≡ Some c)) program
 placed program = placed_from program program 0 (λ n. let e : 0 + n ≡ n = omega arith in ap (slice_get program) e)
 
 one_at_most : (ms : List Contract) → Each Clean (in_order_after (λ before c. is_main before c.span ∷ []) [] ms) → length ms ≤ 1
@@ -209,6 +209,23 @@ length-filter_map test f (x ∷ xs) = at (test (f x)) (length-filter_map test f 
     at true e = ap suc e
     at false e = e
 
+-- contracts have distinct names, and no faults of their own
+pub record Clear (program : Program) : Type 0 where
+  pub distinct : AreDistinct (map (λ c. c.name) program)
+  pub all : Each (Sound program) program
+
+pub clear_program : (program : Program) → Each Clean (sites_of program) → Clear program
+clear_program program h =
+    let D = declared_sites contract_name [] program in
+    let L = limit_sites contract_name contracts_most program in
+    let M = main_sites program in
+    let C = flat_map (contract_sites program) program in
+    let d = each_left Clean D L (each_left Clean (D ++ L) M (each_left Clean (D ++ L ++ M) C h)) in
+    record {
+      distinct = declared_distinct contract_name [] program d;
+      all = each_weaker _ (Sound program) (sound program) program (each_of_flat_map Clean (contract_sites program) program (each_right Clean (D ++ L ++ M) C h));
+    }
+
 -- the table of a program without faults meets the conditions
 pub table_is : (program : Program) → HasShape program → Each Clean (sites_of program) → IsClassTable (table_of program)
 table_is program shape h =
@@ -219,8 +236,9 @@ table_is program shape h =
     let dlm = each_left Clean (D ++ L ++ M) C h in
     let dl = each_left Clean (D ++ L) M dlm in
     let d = each_left Clean D L dl in
-    let distinct = declared_distinct contract_name [] program d in
-    let all = each_weaker _ (Sound program) (sound program) program (each_of_flat_map Clean (contract_sites program) program (each_right Clean (D ++ L ++ M) C h)) in
+    let clear = clear_program program h in
+    let distinct = clear.distinct in
+    let all = clear.all in
     let shapes = recursion_from_All HasContractShape program shape in
     record {
       few = subst (λ n. n ≤ contracts_most) (sym (length-map program (contract_in_table program))) (within_limit contract_name [] contracts_most program d (each_right Clean D L dl));
