@@ -72,7 +72,7 @@ abbrev mutual
   pub resolved_call_at : Around → Scope → Call → Span → Expression
   resolved_call_at a s (call_with receiver name args) span =
       resolved_call (resolved_receiver a s receiver) (id_of_kind (kind_of_receiver a s receiver))
-          (transaction_id (contract_of_kind a.program (kind_of_receiver a s receiver)) name.name) name.span (resolved_args a s args) span
+      (transaction_id (contract_of_kind a.program (kind_of_receiver a s receiver)) name.name) name.span (resolved_args a s args) span
 
   pub resolved_args : Around → Scope → Exprs → Arguments
   resolved_args a s no_exprs = no_arguments
@@ -91,7 +91,7 @@ abbrev mutual
   resolved_stmt a s (call_stmt value span) = resolved_discard (resolved_expr a s value) span
   resolved_stmt a s (test_stmt subject state branch otherwise span) =
       resolved_test (seen_subject a s subject) (state_id (contract_of_kind a.program (kind_of_subject a s subject)) state.name)
-          (block_resolved a s branch) (else_resolved a (past s (locals_in_block branch)) otherwise) span
+      (block_resolved a s branch) (else_resolved a (past s (locals_in_block branch)) otherwise) span
   resolved_stmt a s (if_stmt condition branch otherwise span) =
       resolved_if (resolved_expr a s condition) (block_resolved a s branch) (else_resolved a (past s (locals_in_block branch)) otherwise) span
   resolved_stmt a s (return_stmt value span) = resolved_return (option_map (resolved_expr a s) value) span

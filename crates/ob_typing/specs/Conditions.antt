@@ -118,7 +118,7 @@ transactions_in c = if c.interface then c.transactions else drop 1 c.transaction
 abbrev pub HasConstructor : ClassTable → Contract → Type 0
 HasConstructor table c =
     MatchBool c.interface (c.constructor ≡ None)
-        ((c.constructor ≡ Some (record { 0 = 0 })) × IsSomeAnd (slice_get c.transactions 0) (IsConstructor table c))
+    ((c.constructor ≡ Some (record { 0 = 0 })) × IsSomeAnd (slice_get c.transactions 0) (IsConstructor table c))
 
 -- Interfaces.
 

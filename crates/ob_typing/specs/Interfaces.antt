@@ -73,7 +73,7 @@ abbrev pub same_param : Program → Param → Param → Bool
 same_param program p q =
     same_type program p.of q.of
     && where_both_refer program (kind_of_type program p.of) (kind_of_type program q.of)
-        (λ c. agree_if_known c (exit_in c p.of p.exit) (exit_in c q.of q.exit))
+    (λ c. agree_if_known c (exit_in c p.of p.exit) (exit_in c q.of q.exit))
 
 abbrev pub same_result : Program → Option TypeExpr → Option TypeExpr → Bool
 same_result program None None = true
@@ -99,4 +99,4 @@ meets program interface own =
     (not own.asset || interface.asset)
     && list_all (λ state. is_among state (state_names own)) (state_names interface)
     && list_all (λ asked. option_map_or (answers program interface own asked) (transaction_named own asked.name.name) false)
-        (firsts (λ t. t.name.name) (transactions_of interface))
+    (firsts (λ t. t.name.name) (transactions_of interface))
