@@ -1,8 +1,7 @@
 -- The conditions of a class table, said of the table alone (Coblenz et al., TOPLAS 42(3), 2020; the limits and numbers are
 -- this project's own).
-use Rattle.std.specs.Prelude.{◌≡◌, ◌≢◌, ℕ, ◌+◌, ◌^◌, ◌<◌, ◌≤◌, ◌⊎◌, Bool, true, false, List, [], ◌∷◌, length, map, drop, Option, Some, None, option_map, slice_get, IsTrue, IsSomeAnd, IfSome, All, AllPairs, Contains, count_by, MatchBool, ⊤, if◌then◌else◌}
+use Rattle.std.specs.Prelude.{◌≡◌, ◌≢◌, ℕ, ◌^◌, ◌<◌, ◌≤◌, ◌⊎◌, true, false, List, [], length, map, drop, Some, None, option_map, slice_get, IsTrue, IsSomeAnd, IfSome, All, AllPairs, Contains, count_by, MatchBool, ⊤, if◌then◌else◌}
 use Rattle.ob_base.specs.Names.{is_name, is_text}
-use Rattle.ob_base.specs.declared.id.ContractId.{ContractId}
 use Rattle.ob_base.specs.declared.id.FieldId.{FieldId}
 use Rattle.ob_base.specs.declared.permission.Mode.TheVariants.{Owned, Unowned}
 use Rattle.ob_base.specs.declared.permission.Perm.{Perm}
@@ -61,7 +60,8 @@ IsAvailability states available = (available ≡ mask_of anywhere) ⊎ ((0 < ava
 
 -- what a contract that is no asset owns is no asset
 abbrev pub OwnsNoAsset : ClassTable → Contract → Kind → Type 0
-OwnsNoAsset table c (Reference id p) = c.asset ≡ false → p.mode ≡ Owned → IsSomeAnd (contract_at table id) (λ d. d.asset ≡ false)
+OwnsNoAsset table c (Reference id p) = c.asset ≡ false → p.mode ≡ Owned
+    → IsSomeAnd (contract_at table id) (λ d. d.asset ≡ false)
 OwnsNoAsset table c kind = ⊤
 
 pub record IsField (table : ClassTable) (c : Contract) (f : Field) : Type 0 where
@@ -78,7 +78,8 @@ pub record IsParam (table : ClassTable) (p : Param) : Type 0 where
 
 -- the permissions with which a field of this type is listed: it is a reference
 abbrev pub IsListedAs : ClassTable → Perm → Perm → Kind → Type 0
-IsListedAs table entry exit (Reference id p) = IsSomeAnd (contract_at table id) (λ c. IsPermOn c entry × IsPermOn c exit)
+IsListedAs table entry exit (Reference id p) =
+    IsSomeAnd (contract_at table id) (λ c. IsPermOn c entry × IsPermOn c exit)
 IsListedAs table entry exit kind = ⊥
 
 pub record IsListed (table : ClassTable) (c : Contract) (l : Listed) : Type 0 where
@@ -147,13 +148,15 @@ pub record Answers (interface c : Contract) (asked s : Signature) : Type 0 where
 pub record Meets (interface c : Contract) : Type 0 where
   pub asset : c.asset ≡ true → interface.asset ≡ true
   pub states : All (Contains c.states) interface.states
-  pub transactions : All (λ asked. (s : Signature) × Contains (transactions_in c) s × Answers interface c asked s) interface.transactions
+  pub transactions : All (λ asked. (s : Signature) × Contains (transactions_in c) s × Answers interface c asked s)
+      interface.transactions
 
 -- Contracts and tables.
 
 -- a contract implements an interface alone, and has what it asks
 abbrev pub Implements : ClassTable → Contract → Type 0
-Implements table c = IfSome c.implements (λ id. IsSomeAnd (contract_at table id) (λ interface. (interface.interface ≡ true) × Meets interface c))
+Implements table c = IfSome c.implements (λ id. IsSomeAnd (contract_at table id)
+    (λ interface. (interface.interface ≡ true) × Meets interface c))
 
 pub record IsContract (table : ClassTable) (c : Contract) : Type 0 where
   pub name : IsTrue (is_text c.name)

@@ -1,10 +1,8 @@
 -- What a contract or an interface declares, member by member in the order of the text (Coblenz et al., TOPLAS 42(3), 2020,
 -- "Contracts"; the Obsidian language documentation, "States", "Fields" and "Transactions").
-use Rattle.std.specs.Prelude.{ℕ, Bool, List, [], ◌∷◌, ◌++◌, map, flat_map, filter, Option, Some, None, slice_get, unwrap_or}
-use Rattle.std.specs.Option.{option_map_or}
-use Rattle.ob_base.specs.declared.fault.Span.{Span}
+use Rattle.std.specs.Prelude.{ℕ, Bool, List, [], ◌∷◌, map, flat_map, filter, Option, slice_get, unwrap_or}
 use Rattle.ob_base.specs.declared.permission.Mode.TheVariants.{Owned}
-use Rattle.ob_tree.specs.Names.{Named, bare_name, name_with, Ref, TypeExpr}
+use Rattle.ob_tree.specs.Names.{Named, bare_name, name_with, TypeExpr}
 use Rattle.ob_tree.specs.Stmts.{Block, block_with, no_stmts}
 use Rattle.ob_tree.specs.Members.{Field, Formal, Listed, Member, state_member, field_member, constructor_member, transaction_member, Contract}
 use Rattle.ob_tree.specs.declared.name.NamePart.{NamePart}
@@ -147,7 +145,8 @@ pub record Constructor : Type 0 where
 abbrev pub constructors_of_member : Member → List Constructor
 constructors_of_member (state_member name fields span) = []
 constructors_of_member (field_member field) = []
-constructors_of_member (constructor_member of perm params body span) = record { of = of; perm = perm; params = params; body = body } ∷ []
+constructors_of_member (constructor_member of perm params body span) =
+    record { of = of; perm = perm; params = params; body = body } ∷ []
 constructors_of_member (transaction_member private listed name params result body span) = []
 
 -- the members of a constructor's form, whatever their name
@@ -160,7 +159,13 @@ constructors_of c = filter (λ m. same c.name (part_of_named m.of).name) (constr
 
 -- the constructor of a contract that declares none: without parameters, with an empty body, and it gives Owned
 abbrev pub default_constructor : Contract → Constructor
-default_constructor c = record { of = bare_name c.name c.span; perm = Mode Owned c.span; params = []; body = block_with no_stmts c.span }
+default_constructor c = record {
+  of = bare_name c.name c.span;
+  perm = Mode Owned c.span;
+  params = [];
+  body =
+      block_with no_stmts c.span;
+}
 
 -- the constructor of a contract
 abbrev pub constructor_of : Contract → Constructor

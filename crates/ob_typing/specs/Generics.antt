@@ -1,6 +1,6 @@
 -- Where a tree has type parameters and type arguments (the Obsidian language documentation, "Generics"). The definitions
 -- here look at neither: they are for programs that have none.
-use Rattle.std.specs.Prelude.{◌≡◌, List, [], ◌∷◌, ◌++◌, flat_map, Option, None, All}
+use Rattle.std.specs.Prelude.{◌≡◌, List, [], ◌∷◌, ◌++◌, flat_map, None, All}
 use Rattle.std.specs.Option.{option_map_or}
 use Rattle.ob_tree.specs.Names.{Named, bare_name, name_with, Ref, ref_with, TypeExpr, int_type, bool_type, text_type, ref_type}
 use Rattle.ob_tree.specs.Exprs.{Expr, number_expr, text_expr, bool_expr, name_expr, this_expr, unary_expr, binary_expr, call_expr, new_expr, Call, call_with, Exprs, no_exprs, and_expr}
@@ -54,7 +54,8 @@ abbrev mutual
   arguments_in_stmt (stage_stmt state field value span) = arguments_in_expr value
   arguments_in_stmt (change_stmt state given span) = flat_map (λ g. arguments_in_expr g.value) given
   arguments_in_stmt (call_stmt value span) = arguments_in_expr value
-  arguments_in_stmt (test_stmt subject state branch otherwise span) = arguments_in_block branch ++ arguments_in_else otherwise
+  arguments_in_stmt (test_stmt subject state branch otherwise span) = arguments_in_block branch
+      ++ arguments_in_else otherwise
   arguments_in_stmt (if_stmt condition branch otherwise span) =
       arguments_in_expr condition ++ arguments_in_block branch ++ arguments_in_else otherwise
   arguments_in_stmt (return_stmt value span) = option_map_or arguments_in_expr value []

@@ -1,15 +1,15 @@
 -- What a contract must have of its interface (Coblenz et al., TOPLAS 42(3), 2020, "Interfaces"; how permissions are compared
 -- is this project's own).
-use Rattle.std.specs.Prelude.{ℕ, Bool, true, false, not, ◌&&◌, ◌||◌, List, [], ◌∷◌, Option, Some, None, is_some, if◌then◌else◌}
+use Rattle.std.specs.Prelude.{Bool, true, false, not, ◌&&◌, ◌||◌, List, [], ◌∷◌, Option, Some, None, if◌then◌else◌}
 use Rattle.std.specs.Option.{option_map_or}
 use Rattle.std.specs.List.{list_all, list_any}
 use Rattle.std.specs.Cmp.Lexicographic.{pointwise}
-use Rattle.ob_tree.specs.Names.{Named, Ref, ref_with, TypeExpr, int_type, bool_type, text_type, ref_type}
+use Rattle.ob_tree.specs.Names.{Named, ref_with, TypeExpr, ref_type}
 use Rattle.ob_tree.specs.Members.{Contract, Formal}
 use Rattle.ob_tree.specs.declared.name.PermNode.{PermNode}
 use Rattle.ob_tree.specs.declared.name.Subject.{Subject}
 use Rattle.ob_tree.specs.declared.name.Subject.TheVariants.{This, Name as NameSubject}
-use Rattle.ob_typing.specs.Names.{Name, same, is_among, firsts}
+use Rattle.ob_typing.specs.Names.{same, is_among, firsts}
 use Rattle.ob_typing.specs.Declared.{Program, part_of_named, contract_at, state_names, Param, params_of, Transaction, transactions_of, transaction_named}
 use Rattle.ob_typing.specs.Permissions.{WrittenPermission, as_unowned, is_of, known_permission, known_exit, agree, agree_if_known}
 use Rattle.ob_typing.specs.Kinds.{Kind, a_reference, kind_of_type, permission_in, same_kind}
@@ -98,5 +98,6 @@ abbrev pub meets : Program → Contract → Contract → Bool
 meets program interface own =
     (not own.asset || interface.asset)
     && list_all (λ state. is_among state (state_names own)) (state_names interface)
-    && list_all (λ asked. option_map_or (answers program interface own asked) (transaction_named own asked.name.name) false)
+    && list_all (λ asked. option_map_or (answers program interface own asked) (transaction_named own asked.name.name)
+    false)
     (firsts (λ t. t.name.name) (transactions_of interface))

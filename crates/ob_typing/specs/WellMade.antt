@@ -1,12 +1,9 @@
 -- Bodies that are well made, said of a class table and bodies alone (Coblenz et al., TOPLAS 42(3), 2020, where these are
 -- premises of the rules; the rest is this project's own).
-use Rattle.std.specs.Prelude.{◌≡◌, ◌≢◌, ℕ, ◌+◌, ◌<◌, Bool, true, false, not, ◌&&◌, ◌||◌, nat_eq, List, [], ◌∷◌, ◌++◌, map, length, Option, Some, None, option_map, option_and_then, slice_get, IsTrue, IsSome, IsSomeAnd, IfSome, All, AllPairs, Contains, slice_index_or, ⊤, if◌then◌else◌}
+use Rattle.std.specs.Prelude.{◌≡◌, ◌≢◌, ℕ, ◌+◌, ◌<◌, Bool, true, false, not, ◌&&◌, ◌||◌, nat_eq, List, [], ◌∷◌, ◌++◌, map, length, Option, Some, None, option_map, option_and_then, slice_get, IsTrue, IsSome, IsSomeAnd, IfSome, slice_index_or, ⊤, if◌then◌else◌}
 use Rattle.std.specs.Option.{option_map_or}
 use Rattle.std.specs.List.{range_with_len}
-use Rattle.ob_base.specs.declared.fault.Span.{Span}
 use Rattle.ob_base.specs.declared.id.ContractId.{ContractId}
-use Rattle.ob_base.specs.declared.id.FieldId.{FieldId}
-use Rattle.ob_base.specs.declared.id.StateId.{StateId}
 use Rattle.ob_base.specs.declared.operator.Operator.{Operator}
 use Rattle.ob_base.specs.declared.operator.Operator.TheVariants.{Add, Sub, Mul, Div, Rem, Equal, NotEqual, And, Or, Not}
 use Rattle.ob_table.specs.Expressions.{Expression, resolved_number, resolved_text, resolved_bool, resolved_seen, resolved_unary, resolved_binary, resolved_call, resolved_new, Arguments, no_arguments, and_argument}
@@ -34,7 +31,8 @@ kind_of_table (typed.Reference id perm) = Reference id
 
 -- whether the contract of the first number implements the interface of the second
 abbrev pub is_implemented : ClassTable → ContractId → ContractId → Bool
-is_implemented table c i = option_map_or (λ found. option_map_or (λ (k : ContractId). nat_eq i.0 k.0) found.implements false) (contract_at table c) false
+is_implemented table c i = option_map_or (λ found. option_map_or (λ (k : ContractId). nat_eq i.0 k.0) found.implements
+    false) (contract_at table c) false
 
 -- whether a value of the second kind may stand where one of the first is needed
 abbrev pub serves : ClassTable → LocalKind → LocalKind → Bool
@@ -88,7 +86,8 @@ kind_of_expression f ls (resolved_bool value span) = Some BoolKind
 kind_of_expression f ls (resolved_seen seen span) = kind_of_seen f ls seen.of
 kind_of_expression f ls (resolved_unary operator sign operand span) = Some (kind_of_unary operator)
 kind_of_expression f ls (resolved_binary operator sign left right span) = Some (kind_of_binary operator)
-kind_of_expression f ls (resolved_call receiver contract tx name args span) = option_and_then (λ s. option_map kind_of_table s.result) (signature_of f.table contract tx)
+kind_of_expression f ls (resolved_call receiver contract tx name args span) =
+    option_and_then (λ s. option_map kind_of_table s.result) (signature_of f.table contract tx)
 kind_of_expression f ls (resolved_new contract args span) = Some (Reference contract)
 
 -- an expression's value may stand where one of this kind is needed
@@ -103,8 +102,10 @@ is_reference kind = false
 abbrev pub HasOperands : Frame → Locals → Operator → Expression → Expression → Type 0
 HasOperands f ls And left right = Serves f ls BoolKind left × Serves f ls BoolKind right
 HasOperands f ls Or left right = Serves f ls BoolKind left × Serves f ls BoolKind right
-HasOperands f ls Equal left right = IsSomeAnd (kind_of_expression f ls left) (λ kind. (is_reference kind ≡ false) × Serves f ls kind right)
-HasOperands f ls NotEqual left right = IsSomeAnd (kind_of_expression f ls left) (λ kind. (is_reference kind ≡ false) × Serves f ls kind right)
+HasOperands f ls Equal left right = IsSomeAnd (kind_of_expression f ls left)
+    (λ kind. (is_reference kind ≡ false) × Serves f ls kind right)
+HasOperands f ls NotEqual left right = IsSomeAnd (kind_of_expression f ls left)
+    (λ kind. (is_reference kind ≡ false) × Serves f ls kind right)
 HasOperands f ls operator left right = Serves f ls Int left × Serves f ls Int right
 
 -- each argument may stand at its parameter, and there are as many
@@ -120,7 +121,8 @@ IsCalled f ls (Some seen) contract s = (kind_of_seen f ls seen.of ≡ Some (Refe
 
 -- the constructor of a contract that isn't an interface
 abbrev pub constructor_at : ClassTable → ContractId → Option Signature
-constructor_at table id = option_and_then (λ c. if c.interface then None else slice_get c.transactions 0) (contract_at table id)
+constructor_at table id = option_and_then (λ c. if c.interface then None else slice_get c.transactions 0)
+    (contract_at table id)
 
 -- whether a number is that of a constructor
 abbrev pub is_constructor : ClassTable → ContractId → ℕ → Bool
@@ -132,8 +134,10 @@ abbrev mutual
   IsMade f ls (resolved_text value span) = ⊤
   IsMade f ls (resolved_bool value span) = ⊤
   IsMade f ls (resolved_seen seen span) = IsSome (kind_of_seen f ls seen.of)
-  IsMade f ls (resolved_unary operator sign operand span) = IsMade f ls operand × Serves f ls (kind_of_unary operator) operand
-  IsMade f ls (resolved_binary operator sign left right span) = IsMade f ls left × IsMade f ls right × HasOperands f ls operator left right
+  IsMade f ls (resolved_unary operator sign operand span) = IsMade f ls operand
+      × Serves f ls (kind_of_unary operator) operand
+  IsMade f ls (resolved_binary operator sign left right span) = IsMade f ls left × IsMade f ls right
+      × HasOperands f ls operator left right
   IsMade f ls (resolved_call receiver contract tx name args span) =
       AreMade f ls args × (is_constructor f.table contract tx.0 ≡ false)
       × IsSomeAnd (signature_of f.table contract tx) (λ s. IsCalled f ls receiver contract s × Pass f ls s.params args)
@@ -195,14 +199,17 @@ behind ls x = ls
 
 abbrev mutual
   pub IsStatement : Frame → Locals → List ℕ → Statement → Type 0
-  IsStatement f ls row (resolved_declare local name of value span) = IsLocalKind f.table of × (f.params < local) × (local_kind ls local ≡ None) × IsValue f ls of value
-  IsStatement f ls row (resolved_assign target value span) = IsTarget f target.of × IsSomeAnd (kind_of_seen f ls target.of) (λ kind. IsValue f ls kind value)
+  IsStatement f ls row (resolved_declare local name of value span) = IsLocalKind f.table of × (f.params < local)
+      × (local_kind ls local ≡ None) × IsValue f ls of value
+  IsStatement f ls row (resolved_assign target value span) = IsTarget f target.of
+      × IsSomeAnd (kind_of_seen f ls target.of) (λ kind. IsValue f ls kind value)
   IsStatement f ls row (resolved_stage state given span) = (state.0 < length f.own.states) × IsGiven f ls row given
   IsStatement f ls row (resolved_change state given span) = (state.0 < length f.own.states) × AreGiven f ls row given
   IsStatement f ls row (resolved_discard value span) = IsMade f ls value
   IsStatement f ls row (resolved_test subject state branch other span) =
       Refers f ls subject.of (λ c. state.0 < length c.states) × IsBlock f ls branch × IsOtherwise f ls other
-  IsStatement f ls row (resolved_if condition branch other span) = IsValue f ls BoolKind condition × IsBlock f ls branch × IsOtherwise f ls other
+  IsStatement f ls row (resolved_if condition branch other span) = IsValue f ls BoolKind condition × IsBlock f ls branch
+      × IsOtherwise f ls other
   IsStatement f ls row (resolved_return value span) = IsReturned f ls f.result value
   IsStatement f ls row (resolved_revert text span) = IfSome text (IsValue f ls Text)
   IsStatement f ls row (resolved_disown subject span) = Refers f ls subject.of (λ c. ⊤)
@@ -218,7 +225,8 @@ abbrev mutual
   -- statements behind a row of staged ones for these fields
   pub AreStatements : Frame → Locals → List ℕ → Statements → Type 0
   AreStatements f ls row no_statements = ⊤
-  AreStatements f ls row (and_statement x xs) = IsStatement f ls row x × AreStatements f (behind ls x) (row_behind row x) xs
+  AreStatements f ls row (and_statement x xs) = IsStatement f ls row x
+      × AreStatements f (behind ls x) (row_behind row x) xs
 
 -- Ends.
 
@@ -256,7 +264,14 @@ params_from n [] = []
 params_from n (p ∷ ps) = (n, kind_of_table p.of) ∷ params_from (n + 1) ps
 
 abbrev pub frame_of : ClassTable → ContractId → Contract → Signature → Frame
-frame_of table here own s = record { table = table; here = here; own = own; params = length s.params; result = option_map kind_of_table s.result }
+frame_of table here own s = record {
+  table = table;
+  here = here;
+  own = own;
+  params = length s.params;
+  result =
+      option_map kind_of_table s.result;
+}
 
 -- the body of a constructor or transaction: its statements are made, and where there is a result its end isn't reached
 pub record IsBodyOf (table : ClassTable) (body : ResolvedBody) (own : Contract) (s : Signature) : Type 0 where
@@ -265,7 +280,8 @@ pub record IsBodyOf (table : ClassTable) (body : ResolvedBody) (own : Contract) 
   pub returns : IsSome s.result → one_ends_there body.statements ≡ true
 
 abbrev pub IsWellMade : ClassTable → ResolvedBody → Type 0
-IsWellMade table body = IsSomeAnd (contract_at table body.contract) (λ own. IsSomeAnd (signature_at own body.tx) (λ s. IsBodyOf table body own s))
+IsWellMade table body = IsSomeAnd (contract_at table body.contract)
+    (λ own. IsSomeAnd (signature_at own body.tx) (λ s. IsBodyOf table body own s))
 
 -- the contract and the number of a body
 abbrev pub place_of_body : ResolvedBody → ℕ × ℕ
@@ -274,7 +290,8 @@ place_of_body body = (body.contract.0, body.tx.0)
 -- the constructor and the transactions of the contracts from this number on; an interface's have no bodies
 abbrev pub places_from : ℕ → List Contract → List (ℕ × ℕ)
 places_from n [] = []
-places_from n (c ∷ cs) = (if c.interface then [] else map (λ tx. (n, tx)) (range_with_len 0 (length c.transactions))) ++ places_from (n + 1) cs
+places_from n (c ∷ cs) = (if c.interface then [] else map (λ tx. (n, tx)) (range_with_len 0 (length c.transactions)))
+    ++ places_from (n + 1) cs
 
 -- there is one body for each constructor and transaction, in the order of contracts and then of numbers
 abbrev pub HasBodies : ClassTable → Type 0

@@ -1,16 +1,14 @@
 -- The kinds of a program without faults, as they are written and in the table.
-use Rattle.std.proofs.Common.{◌≡◌, ◌≢◌, ℕ, zero, suc, ◌+◌, ◌<◌, ◌≤◌, Bool, true, false, List, [], ◌∷◌, ◌++◌, map, length, Option, Some, None, refl, sym, ap, subst, arith, ◌∙◌, cond}
-use Rattle.std.specs.Prelude.{not, ◌&&◌, ◌||◌, nat_eq, option_map, option_and_then, slice_get, IsTrue, IsSome, IsSomeAnd, if◌then◌else◌}
+use Rattle.std.proofs.Common.{◌≡◌, ℕ, false, Option, Some, None, refl, sym, ap, subst, ◌∙◌}
+use Rattle.std.specs.Prelude.{◌||◌, nat_eq, option_map, option_and_then, IsTrue, IsSomeAnd}
 use Rattle.std.specs.Option.{option_map_or}
 use Rattle.ob_base.specs.declared.id.ContractId.{ContractId}
-use Rattle.ob_tree.specs.Names.{Named, Ref, ref_with, TypeExpr, int_type, bool_type, text_type, ref_type}
+use Rattle.ob_tree.specs.Names.{Named, ref_with, TypeExpr, int_type, bool_type, text_type, ref_type}
 use Rattle.ob_tree.specs.Members.{Contract}
 use Rattle.ob_tree.specs.declared.name.PermNode.{PermNode}
 use Rattle.ob_table.specs.declared.seen.LocalKind.{LocalKind}
-use Rattle.ob_table.specs.declared.seen.LocalKind.TheVariants.{Int, Bool as BoolKind, Text, Reference}
-use Rattle.ob_table.specs.Tables.{contract_at as at_id}
-use Rattle.ob_typing.specs.Declared.{Program, part_of_named, contract_named, contract_at}
-use Rattle.ob_typing.specs.Kinds.{Kind, an_int, a_bool, a_text, a_reference, nothing, unknown, contract_of_name, contract_of_kind, kind_of_name, kind_of_ref, kind_of_type, kind_of_result, interface_of, implements, differs}
+use Rattle.ob_typing.specs.Declared.{Program, contract_at}
+use Rattle.ob_typing.specs.Kinds.{Kind, an_int, a_bool, a_text, a_reference, nothing, unknown, kind_of_type, kind_of_result, interface_of, implements, differs}
 use Rattle.ob_typing.specs.Visible.{Visible}
 use Rattle.ob_typing.specs.TypeSites.{type_sites, result_sites}
 use Rattle.ob_typing.specs.Bodies.{resolved_local}
@@ -19,7 +17,7 @@ use Rattle.ob_typing.specs.WellMade.{kind_of_table, is_implemented, serves}
 use Rattle.ob_typing_laws.proofs.Each.{Each}
 use Rattle.ob_typing_laws.proofs.Clean.{Clean}
 use Rattle.ob_typing_laws.proofs.LookUps.{slice_get-map}
-use Rattle.ob_typing_laws.proofs.TypeFacts.{true_from_not, Known, ref_known, known_kind, in_table}
+use Rattle.ob_typing_laws.proofs.TypeFacts.{true_from_not, Known, ref_known, known_kind}
 
 -- a kind of values, which for a reference is that of a contract of the program
 abbrev pub IsValueKind : Program → Kind → Type 0
@@ -62,7 +60,8 @@ pub record KnownType (program : Program) (t : TypeExpr) : Type 0 where
   pub value : IsValueKind program (kind_of_type program t)
   pub in_table_as : kind_of_table (table_kind program t) ≡ resolved_local (kind_of_type program t)
 
-pub reference_known : (program : Program) (of : Named) (perm : PermNode) → Known program of perm → KnownType program (ref_type (ref_with of perm))
+pub reference_known : (program : Program) (of : Named) (perm : PermNode) → Known program of perm
+    → KnownType program (ref_type (ref_with of perm))
 reference_known program of perm k = record {
   value = subst (IsValueKind program) (sym (known_kind program of perm k)) (k.contract, k.at);
   in_table_as = rw (known_kind program of perm k, k.named) refl;
@@ -77,27 +76,41 @@ type_known v (ref_type (ref_with of perm)) h = reference_known v.program of perm
 -- a result without faults, or none
 pub record KnownResult (program : Program) (result : Option TypeExpr) : Type 0 where
   pub kind : IsKnownKind program (kind_of_result program result)
-  pub in_table_as : option_map kind_of_table (option_map (table_kind program) result) ≡ as_local (kind_of_result program result)
+  pub in_table_as : option_map kind_of_table (option_map (table_kind program) result)
+      ≡ as_local (kind_of_result program result)
 
-pub result_known : (v : Visible) (result : Option TypeExpr) → Each Clean (result_sites v result) → KnownResult v.program result
+pub result_known : (v : Visible) (result : Option TypeExpr) → Each Clean (result_sites v result)
+    → KnownResult v.program result
 result_known v None h = record { kind = tt; in_table_as = refl }
 result_known v (Some t) h =
     let k = type_known v t h in
-    record { kind = known_value v.program (kind_of_type v.program t) k.value; in_table_as = ap Some k.in_table_as ∙ sym (value_as_local v.program (kind_of_type v.program t) k.value) }
+    record {
+      kind = known_value v.program (kind_of_type v.program t) k.value;
+      in_table_as = ap Some k.in_table_as
+          ∙ sym (value_as_local v.program (kind_of_type v.program t) k.value);
+    }
 
 -- what implements what is the same in the table
-implements_in_table : (program : Program) (n m : ℕ) → implements program n m ≡ is_implemented (table_of program) (record { 0 = n }) (record { 0 = m })
-implements_in_table program n m = through (contract_at program n) ∙ sym (ap (λ o. option_map_or (λ found. option_map_or (λ (k : ContractId). nat_eq m k.0) found.implements false) o false) (slice_get-map (contract_in_table program) program n))
+implements_in_table : (program : Program) (n m : ℕ)
+    → implements program n m ≡ is_implemented (table_of program) (record { 0 = n }) (record { 0 = m })
+implements_in_table program n m = through (contract_at program n)
+    ∙ sym (ap (λ o. option_map_or (λ found. option_map_or (λ (k : ContractId). nat_eq m k.0) found.implements false) o
+    false) (slice_get-map (contract_in_table program) program n))
   where
-    inner : (o : Option ℕ) → option_map_or (nat_eq m) o false ≡ option_map_or (λ (k : ContractId). nat_eq m k.0) (option_map (λ n. record { 0 = n }) o) false
+    inner : (o : Option ℕ) → option_map_or (nat_eq m) o false
+        ≡ option_map_or (λ (k : ContractId). nat_eq m k.0) (option_map (λ n. record { 0 = n }) o) false
     inner None = refl
     inner (Some i) = refl
-    through : (o : Option Contract) → option_map_or (nat_eq m) (option_and_then (interface_of program) o) false ≡ option_map_or (λ found. option_map_or (λ (k : ContractId). nat_eq m k.0) found.implements false) (option_map (contract_in_table program) o) false
+
+    through : (o : Option Contract) → option_map_or (nat_eq m) (option_and_then (interface_of program) o) false
+        ≡ option_map_or (λ found. option_map_or (λ (k : ContractId). nat_eq m k.0) found.implements false)
+        (option_map (contract_in_table program) o) false
     through None = refl
     through (Some c) = inner (interface_of program c)
 
 -- what fits as it is written serves in the table
-pub serves_there : (program : Program) (wanted has : Kind) → IsValueKind program wanted → IsKnownKind program has → differs program wanted has ≡ false
+pub serves_there : (program : Program) (wanted has : Kind) → IsValueKind program wanted → IsKnownKind program has
+    → differs program wanted has ≡ false
     → IsSomeAnd (as_local has) (λ h. IsTrue (serves (table_of program) (resolved_local wanted) h))
 serves_there program an_int an_int w h d = refl
 serves_there program an_int a_bool w h d = absurd cc
@@ -120,7 +133,9 @@ serves_there program a_text unknown w h d = absurd h
 serves_there program (a_reference m) an_int w h d = absurd cc
 serves_there program (a_reference m) a_bool w h d = absurd cc
 serves_there program (a_reference m) a_text w h d = absurd cc
-serves_there program (a_reference m) (a_reference n) w h d = ap (λ b. nat_eq m n || b) (sym (implements_in_table program n m)) ∙ true_from_not (nat_eq m n || implements program n m) d
+serves_there program (a_reference m) (a_reference n) w h d =
+    ap (λ b. nat_eq m n || b) (sym (implements_in_table program n m))
+    ∙ true_from_not (nat_eq m n || implements program n m) d
 serves_there program (a_reference m) nothing w h d = absurd cc
 serves_there program (a_reference m) unknown w h d = absurd h
 serves_there program nothing has w h d = absurd w

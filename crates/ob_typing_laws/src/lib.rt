@@ -1,6 +1,7 @@
 //! Laws of the class table's definitions: what is known of each program without faults, which fault a program's least is,
 //! and the answers for a few small programs.
 #![tactic(auto)]
+
 ghost use Rattle.std.specs.Prelude.{◌≡◌, Some, None, All};
 ghost use Rattle.ob_typing.specs.Declared.{Program};
 ghost use Rattle.ob_typing.specs.Faults.{HasNoFault};

@@ -13,6 +13,8 @@ pub returns : goal.returns
 returns c = record {
   made = λ (program : Program) shape none.
       All-from_recursion (IsWellMade (table_of program)) (table_of program).bodies
-          (all_bodies_made program (clear_program program (clean_sites program none)) (recursion_from_All HasContractShape program shape) (placed program));
-  each = λ program shape none. bodies_there program (clear_program program (clean_sites program none)) (recursion_from_All HasContractShape program shape);
+      (all_bodies_made program (clear_program program (clean_sites program none))
+      (recursion_from_All HasContractShape program shape) (placed program));
+  each = λ program shape none. bodies_there program (clear_program program (clean_sites program none))
+      (recursion_from_All HasContractShape program shape);
 }
