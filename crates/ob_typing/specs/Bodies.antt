@@ -24,12 +24,15 @@ use Rattle.ob_typing.specs.Numbers.{contract_id, state_id, field_id, transaction
 
 -- what a name stands for: a variable first, then a field
 abbrev pub seen_name : Around → Scope → Name → Seen
-seen_name a s name = option_map_or (λ v. Local v.number) (variable_named s name)
+seen_name a s name =
+    option_map_or (λ v. Local v.number) (variable_named s name)
     (option_map_or (λ n. Field (record { 0 = n })) (number_of name (field_names a.own)) This)
 
+-- a name in a body, at its place
 abbrev pub seen_at : Around → Scope → NamePart → SeenAt
 seen_at a s name = record { of = seen_name a s name.name; span = name.span }
 
+-- `this`, or a name
 abbrev pub seen_subject : Around → Scope → Subject → SeenAt
 seen_subject a s (ThisSubject span) = record { of = This; span = span }
 seen_subject a s (NameSubject name) = seen_at a s name
@@ -58,6 +61,7 @@ resolved_receiver a s (Some (NameSubject name)) = Some (seen_at a s name)
 abbrev pub kind_of_receiver : Around → Scope → Option Subject → Kind
 kind_of_receiver a s receiver = option_map_or (kind_of_subject a s) receiver (kind_of_this a)
 
+-- expressions, calls and arguments with numbers
 abbrev mutual
   pub resolved_expr : Around → Scope → Expr → Expression
   resolved_expr a s (number_expr value span) = resolved_number value span
@@ -92,6 +96,7 @@ resolved_given a s field value = record {
       resolved_expr a s value;
 }
 
+-- statements and blocks with numbers
 abbrev mutual
   pub resolved_stmt : Around → Scope → Stmt → Statement
   resolved_stmt a s (declare_stmt of name value span) =

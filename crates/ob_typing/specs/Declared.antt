@@ -37,6 +37,7 @@ contract_at program n = slice_get program n
 
 -- States.
 
+-- the state that a member names
 abbrev pub states_of_member : Member → List NamePart
 states_of_member (state_member name fields span) = name ∷ []
 states_of_member (field_member field) = []
@@ -67,6 +68,7 @@ pub record FieldDeclaration : Type 0 where
 abbrev pub field_inside : Name → Field → FieldDeclaration
 field_inside state field = record { field = field; available = in_states (state ∷ []) }
 
+-- what stands behind `available in`; nothing means always
 abbrev pub availability : List NamePart → Availability
 availability [] = always
 availability (state ∷ states) = in_states (map (λ s. s.name) (state ∷ states))
@@ -75,6 +77,7 @@ availability (state ∷ states) = in_states (map (λ s. s.name) (state ∷ state
 abbrev pub field_at_top : Field → FieldDeclaration
 field_at_top field = record { field = field; available = availability field.available }
 
+-- the fields that a member declares: a field, or those inside a state
 abbrev pub fields_of_member : Member → List FieldDeclaration
 fields_of_member (state_member name fields span) = map (field_inside name.name) fields
 fields_of_member (field_member field) = field_at_top field ∷ []
@@ -101,6 +104,7 @@ pub record Param : Type 0 where
   pub exit : Option PermNode
   pub name : NamePart
 
+-- the parameter of this type, unless it is `this`
 abbrev pub param_named : TypeExpr → Option PermNode → Subject → List Param
 param_named of exit (This span) = []
 param_named of exit (NameSubject name) = record { of = of; exit = exit; name = name } ∷ []
@@ -120,6 +124,7 @@ pub record Transaction : Type 0 where
   pub result : Option TypeExpr
   pub body : Option Block
 
+-- the transaction that a member is
 abbrev pub transactions_of_member : Member → List Transaction
 transactions_of_member (state_member name fields span) = []
 transactions_of_member (field_member field) = []
@@ -142,6 +147,7 @@ pub record Constructor : Type 0 where
   pub params : List Formal
   pub body : Block
 
+-- the member, if it has a constructor's form
 abbrev pub constructors_of_member : Member → List Constructor
 constructors_of_member (state_member name fields span) = []
 constructors_of_member (field_member field) = []
@@ -159,13 +165,8 @@ constructors_of c = filter (λ m. same c.name (part_of_named m.of).name) (constr
 
 -- the constructor of a contract that declares none: without parameters, with an empty body, and it gives Owned
 abbrev pub default_constructor : Contract → Constructor
-default_constructor c = record {
-  of = bare_name c.name c.span;
-  perm = Mode Owned c.span;
-  params = [];
-  body =
-      block_with no_stmts c.span;
-}
+default_constructor c =
+    record { of = bare_name c.name c.span; perm = Mode Owned c.span; params = []; body = block_with no_stmts c.span }
 
 -- the constructor of a contract
 abbrev pub constructor_of : Contract → Constructor

@@ -21,10 +21,12 @@ abbrev pub is_duplicate : Site → Bool
 is_duplicate (declares taken name) = is_among name.name taken
 is_duplicate site = false
 
+-- whether there is something in a list
 abbrev pub is_not_empty : {A : Type 0} → List A → Bool
 is_not_empty [] = false
 is_not_empty (x ∷ xs) = true
 
+-- whether a kind is known
 abbrev pub is_known : Kind → Bool
 is_known unknown = false
 is_known kind = true

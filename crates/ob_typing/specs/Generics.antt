@@ -13,21 +13,25 @@ abbrev pub argument_of : Named → List Ref
 argument_of (bare_name name span) = []
 argument_of (name_with name argument span) = argument ∷ []
 
+-- the argument in a reference's type
 abbrev pub argument_in_ref : Ref → List Ref
 argument_in_ref (ref_with of perm) = argument_of of
 
+-- the argument in a type
 abbrev pub argument_in_type : TypeExpr → List Ref
 argument_in_type (int_type span) = []
 argument_in_type (bool_type span) = []
 argument_in_type (text_type span) = []
 argument_in_type (ref_type of) = argument_in_ref of
 
+-- the argument in a local variable's type
 abbrev pub argument_in_local : Local → List Ref
 argument_in_local (int_local span) = []
 argument_in_local (bool_local span) = []
 argument_in_local (text_local span) = []
 argument_in_local (named_local of) = argument_of of
 
+-- the arguments in expressions
 abbrev mutual
   pub arguments_in_expr : Expr → List Ref
   arguments_in_expr (number_expr value span) = []
@@ -47,6 +51,7 @@ abbrev mutual
   arguments_in_exprs no_exprs = []
   arguments_in_exprs (and_expr e es) = arguments_in_expr e ++ arguments_in_exprs es
 
+-- the arguments in statements
 abbrev mutual
   pub arguments_in_stmt : Stmt → List Ref
   arguments_in_stmt (declare_stmt of name value span) = argument_in_local of ++ arguments_in_expr value
@@ -54,8 +59,8 @@ abbrev mutual
   arguments_in_stmt (stage_stmt state field value span) = arguments_in_expr value
   arguments_in_stmt (change_stmt state given span) = flat_map (λ g. arguments_in_expr g.value) given
   arguments_in_stmt (call_stmt value span) = arguments_in_expr value
-  arguments_in_stmt (test_stmt subject state branch otherwise span) = arguments_in_block branch
-      ++ arguments_in_else otherwise
+  arguments_in_stmt (test_stmt subject state branch otherwise span) =
+      arguments_in_block branch ++ arguments_in_else otherwise
   arguments_in_stmt (if_stmt condition branch otherwise span) =
       arguments_in_expr condition ++ arguments_in_block branch ++ arguments_in_else otherwise
   arguments_in_stmt (return_stmt value span) = option_map_or arguments_in_expr value []
@@ -74,6 +79,7 @@ abbrev mutual
   arguments_in_stmts no_stmts = []
   arguments_in_stmts (and_stmt x xs) = arguments_in_stmt x ++ arguments_in_stmts xs
 
+-- the arguments in a member
 abbrev pub arguments_in_member : Member → List Ref
 arguments_in_member (state_member name fields span) = flat_map (λ f. argument_in_type f.of) fields
 arguments_in_member (field_member field) = argument_in_type field.of
@@ -83,6 +89,7 @@ arguments_in_member (transaction_member private listed name params result body s
     flat_map (λ l. argument_in_ref l.of) listed ++ flat_map (λ p. argument_in_type p.of) params
     ++ option_map_or argument_in_type result [] ++ option_map_or arguments_in_block body []
 
+-- the arguments in a contract
 abbrev pub arguments_in_contract : Contract → List Ref
 arguments_in_contract c = option_map_or argument_of c.implements [] ++ flat_map arguments_in_member c.members
 

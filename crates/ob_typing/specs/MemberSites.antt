@@ -29,6 +29,7 @@ holder_sites program own (ref_type (ref_with of perm)) span =
     (contract_of_name program (part_of_named of).name) []
 holder_sites program own type span = []
 
+-- a field: its type, and whom it owns
 abbrev pub field_sites : Program → Contract → Field → List Site
 field_sites program own f = type_sites (visible_in program own) f.of ++ holder_sites program own f.of f.name.span
 
@@ -41,10 +42,12 @@ this_sites v before constructor (ref_type (ref_with of perm)) span =
     ∷ types_this v.own.name (kind_of_ref v.program (ref_with of perm)) (part_of_named of) ∷ []
 this_sites v before constructor type span = takes_this before constructor type span ∷ []
 
+-- a parameter by what it is called: `this` is asked for more
 abbrev pub subject_param_sites : Visible → ℕ → Bool → TypeExpr → Subject → List Site
 subject_param_sites v before constructor of (This span) = this_sites v before constructor of span
 subject_param_sites v before constructor of (NameSubject name) = []
 
+-- the type of a parameter, and what stands behind `>>`
 abbrev pub formal_type_sites : Visible → TypeExpr → Option PermNode → Span → List Site
 formal_type_sites v (ref_type of) exit span = ref_sites v of exit
 formal_type_sites v type exit span = exits type exit span ∷ []
@@ -64,6 +67,7 @@ formals_sites program own constructor formals =
 
 -- Listed fields.
 
+-- the type with which a field is listed, beside the field's own
 abbrev pub listed_type_site : Program → Contract → NamePart → Ref → Site
 listed_type_site program own field (ref_with of perm) =
     lists (kind_of_field program own field.name) (kind_of_ref program (ref_with of perm)) (part_of_named of).span
@@ -77,6 +81,7 @@ listed_sites program own listed =
 
 -- Members.
 
+-- what stands around a body of this contract
 abbrev pub around : Program → Contract → Kind → Around
 around program own result = record { program = program; own = own; result = result }
 
@@ -85,6 +90,7 @@ abbrev pub body_of_params_sites : Program → Contract → Kind → List Formal 
 body_of_params_sites program own result params body =
     body_sites (around program own result) (scope_of_params program params) body
 
+-- one member: what its names and types stand for, and its body
 abbrev pub member_sites : Program → Contract → Member → List Site
 member_sites program own (state_member name fields span) =
     flat_map (λ f. is_inside_state f.available f.name.span ∷ field_sites program own f) fields
@@ -118,9 +124,10 @@ interface_sites program own =
     ++ option_map_or (λ interface. implements_one program interface own own.span ∷ [])
     (option_and_then (contract_at program) (interface_of program own)) []
 
+-- a contract or an interface: what it declares, its interface, and each member
 abbrev pub contract_sites : Program → Contract → List Site
-contract_sites program own = declaration_sites own ++ interface_sites program own
-    ++ flat_map (member_sites program own) own.members
+contract_sites program own =
+    declaration_sites own ++ interface_sites program own ++ flat_map (member_sites program own) own.members
 
 -- the main contracts, one after another
 abbrev pub main_sites : Program → List Site

@@ -15,6 +15,7 @@ use Rattle.ob_typing.specs.Names.{Name, is_among, number_of}
 use Rattle.ob_typing.specs.Declared.{state_names, field_names, transactions_of}
 use Rattle.ob_typing.specs.Permissions.{WrittenPermission, as_shared, as_unowned, as_owner, as_owner_in, written_permission}
 
+-- the number of a contract
 abbrev pub contract_id : Option ℕ → ContractId
 contract_id n = record { 0 = unwrap_or n 0 }
 

@@ -43,6 +43,7 @@ visible_at a s = record { program = a.program; own = a.own; variables = map (λ 
 
 -- The variables of a body are numbered from 1: first the parameters beside `this`, then the locals as they are declared.
 
+-- the variable of a parameter behind these
 abbrev pub param_variable : Program → List Param → Param → List Variable
 param_variable program before p = record {
   name = p.name.name;
@@ -104,6 +105,7 @@ after_stmt a s x = past s (locals_in x)
 
 -- The kinds of expressions.
 
+-- the kind of `this`: a reference to the contract around it
 abbrev pub kind_of_this : Around → Kind
 kind_of_this a = kind_of_name a.program a.own.name
 
@@ -115,6 +117,7 @@ kind_of_field program c name = option_map_or (λ f. kind_of_type program f.of) (
 abbrev pub kind_of_variable : Around → Scope → Name → Kind
 kind_of_variable a s name = option_map_or (λ v. v.of) (variable_named s name) (kind_of_field a.program a.own name)
 
+-- the kind of `this`, or of a name
 abbrev pub kind_of_subject : Around → Scope → Subject → Kind
 kind_of_subject a s (This span) = kind_of_this a
 kind_of_subject a s (NameSubject name) = kind_of_variable a s name.name
@@ -132,7 +135,8 @@ called a s (Some (NameSubject receiver)) name =
 
 -- the constructor behind `new`
 abbrev pub constructed : Program → Named → Option Constructor
-constructed program of = option_and_then (λ c. if c.interface then None else Some (constructor_of c))
+constructed program of =
+    option_and_then (λ c. if c.interface then None else Some (constructor_of c))
     (contract_of_name program (part_of_named of).name)
 
 -- an operator with one operand: what it needs and gives
@@ -149,6 +153,7 @@ kind_of_binary Div = an_int
 kind_of_binary Rem = an_int
 kind_of_binary operator = a_bool
 
+-- the kind of an expression's value
 abbrev pub kind_of : Around → Scope → Expr → Kind
 kind_of a s (number_expr value span) = an_int
 kind_of a s (text_expr value span) = a_text
@@ -159,5 +164,5 @@ kind_of a s (unary_expr operator sign operand span) = kind_of_unary operator
 kind_of a s (binary_expr operator sign left right span) = kind_of_binary operator
 kind_of a s (call_expr (call_with receiver name args) span) =
     option_map_or (λ t. kind_of_result a.program t.result) (called a s receiver name.name) unknown
-kind_of a s (new_expr of args span) = option_map_or (λ constructor. kind_of_name a.program (part_of_named of).name)
-    (constructed a.program of) unknown
+kind_of a s (new_expr of args span) =
+    option_map_or (λ constructor. kind_of_name a.program (part_of_named of).name) (constructed a.program of) unknown

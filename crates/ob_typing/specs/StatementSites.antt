@@ -41,6 +41,7 @@ abbrev pub subject_sites : Around → Scope → Subject → Span → List Site
 subject_sites a s (This token) span = []
 subject_sites a s (NameSubject name) span = reference_sites a s name span
 
+-- the place of `this` or of a name
 abbrev pub place_of_subject : Subject → Span
 place_of_subject (This span) = span
 place_of_subject (NameSubject name) = name.span
@@ -50,6 +51,7 @@ abbrev pub assigned : Option Variable → Kind → Kind
 assigned None field = field
 assigned (Some v) field = if v.is_param then unknown else v.of
 
+-- the kind that is needed of what is assigned to a name
 abbrev pub kind_of_target : Around → Scope → Name → Kind
 kind_of_target a s name = assigned (variable_named s name) (kind_of_field a.program a.own name)
 
@@ -60,8 +62,8 @@ given_sites a s before field value =
 
 -- the fields given with a change of state, behind those of the row of staged statements before it
 abbrev pub change_sites : Around → Scope → List Name → List Given → List Site
-change_sites a s row given = in_order (λ before g. given_sites a s (row ++ map (λ b. b.field.name) before) g.field
-    g.value) given
+change_sites a s row given =
+    in_order (λ before g. given_sites a s (row ++ map (λ b. b.field.name) before) g.field g.value) given
 
 -- the row of staged statements behind a statement: the names of its fields
 abbrev pub row_after : List Name → Stmt → List Name
@@ -70,8 +72,8 @@ row_after row x = []
 
 -- what a return gives: nothing, or a value, of which the statement says what is needed
 abbrev pub returned_sites : Around → Scope → Option Expr → Span → List Site
-returned_sites a s value span = returns a.program a.result (option_map (kind_of a s) value) span
-    ∷ option_map_or (expr_sites a s) value []
+returned_sites a s value span =
+    returns a.program a.result (option_map (kind_of a s) value) span ∷ option_map_or (expr_sites a s) value []
 
 abbrev mutual
   -- a statement behind a row of staged ones for fields of these names
@@ -116,5 +118,5 @@ abbrev mutual
 
 -- a body
 abbrev pub body_sites : Around → Scope → Block → List Site
-body_sites a s (block_with statements end) = block_sites a s (block_with statements end)
-    ++ closes a.result (one_ends statements) end ∷ []
+body_sites a s (block_with statements end) =
+    block_sites a s (block_with statements end) ++ closes a.result (one_ends statements) end ∷ []

@@ -30,8 +30,10 @@ use Rattle.ob_typing.specs.Bodies.{resolved_stmts}
 
 -- Types.
 
+-- a reference to the contract of this name
 abbrev pub reference_of : Program → Named → PermNode → TableKind
-reference_of program of perm = Reference (contract_id (contract_named program (part_of_named of).name))
+reference_of program of perm =
+    Reference (contract_id (contract_named program (part_of_named of).name))
     (perm_on (contract_of_name program (part_of_named of).name) perm)
 
 -- a type with its permission
@@ -59,6 +61,7 @@ abbrev pub available_in : List (List ℕ) → Availability → ℕ
 available_in states always = mask_of anywhere
 available_in states (in_states names) = mask_of (numbers_of_states states names)
 
+-- a field of the table
 abbrev pub field_in_table : Program → ContractNode → FieldDeclaration → Field
 field_in_table program own f = record {
   name = f.field.name.name;
@@ -69,6 +72,7 @@ field_in_table program own f = record {
 
 -- Signatures.
 
+-- a parameter of the table
 abbrev pub param_in_table : Program → Param → TableParam
 param_in_table program p = record {
   name = p.name.name;
@@ -77,6 +81,7 @@ param_in_table program p = record {
       exit_of_type program p.of p.exit;
 }
 
+-- the field of this name, listed with a type and a permission at the end
 abbrev pub listed_with : Program → ContractNode → List ℕ → Ref → Option PermNode → Listed
 listed_with program own field (ref_with of perm) exit = record {
   field = field_id own field;
@@ -84,6 +89,7 @@ listed_with program own field (ref_with of perm) exit = record {
   exit = perm_on (contract_of_name program (part_of_named of).name) (written_at_end perm exit);
 }
 
+-- a listed field of the table
 abbrev pub listed_in_table : Program → ContractNode → ListedNode → Listed
 listed_in_table program own l = listed_with program own l.name.name l.of l.exit
 
@@ -93,6 +99,7 @@ perms_by_type own (ref_type (ref_with of perm)) exit =
     (perm_on (Some own) perm, perm_on (Some own) (written_at_end perm exit))
 perms_by_type own type exit = (perm_of unowned, perm_of unowned)
 
+-- the permission of a first parameter, if it is `this`
 abbrev pub perms_by_subject : ContractNode → TypeExpr → Option PermNode → Subject → Perm × Perm
 perms_by_subject own of exit (This span) = perms_by_type own of exit
 perms_by_subject own of exit (Name name) = (perm_of unowned, perm_of unowned)
@@ -102,6 +109,7 @@ abbrev pub perms_of_this : ContractNode → List Formal → Perm × Perm
 perms_of_this own [] = (perm_of unowned, perm_of unowned)
 perms_of_this own (formal ∷ formals) = perms_by_subject own formal.of formal.exit formal.name
 
+-- a transaction of the table
 abbrev pub transaction_in_table : Program → ContractNode → Transaction → Signature
 transaction_in_table program own t = record {
   name = t.name.name;
@@ -133,6 +141,7 @@ signatures_of program own =
     (if own.interface then [] else constructor_in_table program own (constructor_of own) ∷ [])
     ++ map (transaction_in_table program own) (transactions_of own)
 
+-- a contract or an interface of the table
 abbrev pub contract_in_table : Program → ContractNode → Contract
 contract_in_table program own = record {
   name = own.name;
@@ -148,6 +157,7 @@ contract_in_table program own = record {
 
 -- Bodies.
 
+-- a body with these parameters, at this number
 abbrev pub body_with : Program → ContractNode → ℕ → Kind → List Formal → Block → ResolvedBody
 body_with program own tx result params (block_with statements end) = record {
   contract = contract_id (contract_named program own.name);
@@ -156,6 +166,7 @@ body_with program own tx result params (block_with statements end) = record {
   end = end;
 }
 
+-- the body of a constructor, which has the number 0 and no result
 abbrev pub constructor_body : Program → ContractNode → Constructor → ResolvedBody
 constructor_body program own m = body_with program own 0 nothing m.params m.body
 

@@ -23,6 +23,7 @@ use Rattle.ob_typing.specs.Conditions.{IsPermOn}
 
 -- Kinds, which are types without permissions.
 
+-- the kind of a type of the table
 abbrev pub kind_of_table : Kind → LocalKind
 kind_of_table typed.Int = Int
 kind_of_table typed.Bool = BoolKind
@@ -31,8 +32,9 @@ kind_of_table (typed.Reference id perm) = Reference id
 
 -- whether the contract of the first number implements the interface of the second
 abbrev pub is_implemented : ClassTable → ContractId → ContractId → Bool
-is_implemented table c i = option_map_or (λ found. option_map_or (λ (k : ContractId). nat_eq i.0 k.0) found.implements
-    false) (contract_at table c) false
+is_implemented table c i =
+    option_map_or (λ found. option_map_or (λ (k : ContractId). nat_eq i.0 k.0) found.implements false)
+    (contract_at table c) false
 
 -- whether a value of the second kind may stand where one of the first is needed
 abbrev pub serves : ClassTable → LocalKind → LocalKind → Bool
@@ -54,6 +56,7 @@ pub record Frame : Type 0 where
 abbrev pub Locals : Type 0
 Locals = List (ℕ × LocalKind)
 
+-- the kind of the variable of this number, if it is visible
 abbrev pub local_kind : Locals → ℕ → Option LocalKind
 local_kind [] n = None
 local_kind (l ∷ ls) n = if nat_eq n l.0 then Some l.1 else local_kind ls n
@@ -66,10 +69,12 @@ kind_of_seen f ls (FieldSeen id) = option_map (λ field. kind_of_table field.of)
 
 -- Expressions.
 
+-- what an operator with one operand needs and gives
 abbrev pub kind_of_unary : Operator → LocalKind
 kind_of_unary Not = BoolKind
 kind_of_unary operator = Int
 
+-- what an operator with two operands gives
 abbrev pub kind_of_binary : Operator → LocalKind
 kind_of_binary Add = Int
 kind_of_binary Sub = Int
@@ -94,6 +99,7 @@ kind_of_expression f ls (resolved_new contract args span) = Some (Reference cont
 abbrev pub Serves : Frame → Locals → LocalKind → Expression → Type 0
 Serves f ls wanted e = IsSomeAnd (kind_of_expression f ls e) (λ has. IsTrue (serves f.table wanted has))
 
+-- whether it is the kind of a reference
 abbrev pub is_reference : LocalKind → Bool
 is_reference (Reference id) = true
 is_reference kind = false
@@ -102,10 +108,10 @@ is_reference kind = false
 abbrev pub HasOperands : Frame → Locals → Operator → Expression → Expression → Type 0
 HasOperands f ls And left right = Serves f ls BoolKind left × Serves f ls BoolKind right
 HasOperands f ls Or left right = Serves f ls BoolKind left × Serves f ls BoolKind right
-HasOperands f ls Equal left right = IsSomeAnd (kind_of_expression f ls left)
-    (λ kind. (is_reference kind ≡ false) × Serves f ls kind right)
-HasOperands f ls NotEqual left right = IsSomeAnd (kind_of_expression f ls left)
-    (λ kind. (is_reference kind ≡ false) × Serves f ls kind right)
+HasOperands f ls Equal left right =
+    IsSomeAnd (kind_of_expression f ls left) (λ kind. (is_reference kind ≡ false) × Serves f ls kind right)
+HasOperands f ls NotEqual left right =
+    IsSomeAnd (kind_of_expression f ls left) (λ kind. (is_reference kind ≡ false) × Serves f ls kind right)
 HasOperands f ls operator left right = Serves f ls Int left × Serves f ls Int right
 
 -- each argument may stand at its parameter, and there are as many
@@ -121,23 +127,25 @@ IsCalled f ls (Some seen) contract s = (kind_of_seen f ls seen.of ≡ Some (Refe
 
 -- the constructor of a contract that isn't an interface
 abbrev pub constructor_at : ClassTable → ContractId → Option Signature
-constructor_at table id = option_and_then (λ c. if c.interface then None else slice_get c.transactions 0)
-    (contract_at table id)
+constructor_at table id =
+    option_and_then (λ c. if c.interface then None else slice_get c.transactions 0) (contract_at table id)
 
 -- whether a number is that of a constructor
 abbrev pub is_constructor : ClassTable → ContractId → ℕ → Bool
 is_constructor table id tx = option_map_or (λ c. not c.interface && nat_eq tx 0) (contract_at table id) false
 
+-- an expression, a call and arguments are made as they must be: each name stands for something, and each operand has the
+-- kind that its place needs
 abbrev mutual
   pub IsMade : Frame → Locals → Expression → Type 0
   IsMade f ls (resolved_number value span) = ⊤
   IsMade f ls (resolved_text value span) = ⊤
   IsMade f ls (resolved_bool value span) = ⊤
   IsMade f ls (resolved_seen seen span) = IsSome (kind_of_seen f ls seen.of)
-  IsMade f ls (resolved_unary operator sign operand span) = IsMade f ls operand
-      × Serves f ls (kind_of_unary operator) operand
-  IsMade f ls (resolved_binary operator sign left right span) = IsMade f ls left × IsMade f ls right
-      × HasOperands f ls operator left right
+  IsMade f ls (resolved_unary operator sign operand span) =
+      IsMade f ls operand × Serves f ls (kind_of_unary operator) operand
+  IsMade f ls (resolved_binary operator sign left right span) =
+      IsMade f ls left × IsMade f ls right × HasOperands f ls operator left right
   IsMade f ls (resolved_call receiver contract tx name args span) =
       AreMade f ls args × (is_constructor f.table contract tx.0 ≡ false)
       × IsSomeAnd (signature_of f.table contract tx) (λ s. IsCalled f ls receiver contract s × Pass f ls s.params args)
@@ -162,9 +170,11 @@ IsTarget f (FieldSeen id) = ⊤
 
 -- a field of the contract, which isn't given yet, and a value for it
 abbrev pub IsGiven : Frame → Locals → List ℕ → GivenField → Type 0
-IsGiven f ls row given = ((k : ℕ) (d : ℕ) → k < length row → slice_index_or row k d ≢ given.field.0)
+IsGiven f ls row given =
+    ((k : ℕ) (d : ℕ) → k < length row → slice_index_or row k d ≢ given.field.0)
     × IsSomeAnd (field_at f.own given.field) (λ field. IsValue f ls (kind_of_table field.of) given.value)
 
+-- fields that are given one after another
 abbrev pub AreGiven : Frame → Locals → List ℕ → List GivenField → Type 0
 AreGiven f ls row [] = ⊤
 AreGiven f ls row (g ∷ gs) = IsGiven f ls row g × AreGiven f ls (row ++ g.field.0 ∷ []) gs
@@ -179,9 +189,11 @@ abbrev pub RefersTo : ClassTable → (Contract → Type 0) → LocalKind → Typ
 RefersTo table P (Reference id) = IsSomeAnd (contract_at table id) P
 RefersTo table P kind = ⊥
 
+-- a name or `this` refers to a contract of which this holds
 abbrev pub Refers : Frame → Locals → Seen → (Contract → Type 0) → Type 0
 Refers f ls seen P = IsSomeAnd (kind_of_seen f ls seen) (RefersTo f.table P)
 
+-- a body with a result returns a value of its kind, and one without returns none
 abbrev pub IsReturned : Frame → Locals → Option LocalKind → Option Expression → Type 0
 IsReturned f ls None None = ⊤
 IsReturned f ls (Some kind) (Some e) = IsValue f ls kind e
@@ -197,19 +209,20 @@ abbrev pub behind : Locals → Statement → Locals
 behind ls (resolved_declare local name of value span) = ls ++ (local, of) ∷ []
 behind ls x = ls
 
+-- a statement is made as it must be, behind a row of staged ones for these fields
 abbrev mutual
   pub IsStatement : Frame → Locals → List ℕ → Statement → Type 0
-  IsStatement f ls row (resolved_declare local name of value span) = IsLocalKind f.table of × (f.params < local)
-      × (local_kind ls local ≡ None) × IsValue f ls of value
-  IsStatement f ls row (resolved_assign target value span) = IsTarget f target.of
-      × IsSomeAnd (kind_of_seen f ls target.of) (λ kind. IsValue f ls kind value)
+  IsStatement f ls row (resolved_declare local name of value span) =
+      IsLocalKind f.table of × (f.params < local) × (local_kind ls local ≡ None) × IsValue f ls of value
+  IsStatement f ls row (resolved_assign target value span) =
+      IsTarget f target.of × IsSomeAnd (kind_of_seen f ls target.of) (λ kind. IsValue f ls kind value)
   IsStatement f ls row (resolved_stage state given span) = (state.0 < length f.own.states) × IsGiven f ls row given
   IsStatement f ls row (resolved_change state given span) = (state.0 < length f.own.states) × AreGiven f ls row given
   IsStatement f ls row (resolved_discard value span) = IsMade f ls value
   IsStatement f ls row (resolved_test subject state branch other span) =
       Refers f ls subject.of (λ c. state.0 < length c.states) × IsBlock f ls branch × IsOtherwise f ls other
-  IsStatement f ls row (resolved_if condition branch other span) = IsValue f ls BoolKind condition × IsBlock f ls branch
-      × IsOtherwise f ls other
+  IsStatement f ls row (resolved_if condition branch other span) =
+      IsValue f ls BoolKind condition × IsBlock f ls branch × IsOtherwise f ls other
   IsStatement f ls row (resolved_return value span) = IsReturned f ls f.result value
   IsStatement f ls row (resolved_revert text span) = IfSome text (IsValue f ls Text)
   IsStatement f ls row (resolved_disown subject span) = Refers f ls subject.of (λ c. ⊤)
@@ -225,8 +238,8 @@ abbrev mutual
   -- statements behind a row of staged ones for these fields
   pub AreStatements : Frame → Locals → List ℕ → Statements → Type 0
   AreStatements f ls row no_statements = ⊤
-  AreStatements f ls row (and_statement x xs) = IsStatement f ls row x
-      × AreStatements f (behind ls x) (row_behind row x) xs
+  AreStatements f ls row (and_statement x xs) =
+      IsStatement f ls row x × AreStatements f (behind ls x) (row_behind row x) xs
 
 -- Ends.
 
@@ -263,6 +276,7 @@ abbrev pub params_from : ℕ → List Param → Locals
 params_from n [] = []
 params_from n (p ∷ ps) = (n, kind_of_table p.of) ∷ params_from (n + 1) ps
 
+-- the frame of a body with this signature
 abbrev pub frame_of : ClassTable → ContractId → Contract → Signature → Frame
 frame_of table here own s = record {
   table = table;
@@ -279,8 +293,10 @@ pub record IsBodyOf (table : ClassTable) (body : ResolvedBody) (own : Contract) 
   pub statements : AreStatements (frame_of table body.contract own s) (params_from 1 s.params) [] body.statements
   pub returns : IsSome s.result → one_ends_there body.statements ≡ true
 
+-- a body is that of a constructor or transaction of a contract of the table, and is made as it must be
 abbrev pub IsWellMade : ClassTable → ResolvedBody → Type 0
-IsWellMade table body = IsSomeAnd (contract_at table body.contract)
+IsWellMade table body =
+    IsSomeAnd (contract_at table body.contract)
     (λ own. IsSomeAnd (signature_at own body.tx) (λ s. IsBodyOf table body own s))
 
 -- the contract and the number of a body
@@ -290,7 +306,8 @@ place_of_body body = (body.contract.0, body.tx.0)
 -- the constructor and the transactions of the contracts from this number on; an interface's have no bodies
 abbrev pub places_from : ℕ → List Contract → List (ℕ × ℕ)
 places_from n [] = []
-places_from n (c ∷ cs) = (if c.interface then [] else map (λ tx. (n, tx)) (range_with_len 0 (length c.transactions)))
+places_from n (c ∷ cs) =
+    (if c.interface then [] else map (λ tx. (n, tx)) (range_with_len 0 (length c.transactions)))
     ++ places_from (n + 1) cs
 
 -- there is one body for each constructor and transaction, in the order of contracts and then of numbers

@@ -32,7 +32,8 @@ answers_same false false h = refl
 pub states_same : (p q : WrittenPermission) (states : List Name) → list_all (agree_at p q) (map in_state states) ≡ true
     → (i : ℕ) → states_held states p i ≡ states_held states q i
 states_same p q [] h i = refl
-states_same p q (s ∷ states) h zero = answers_same (allows p (in_state s)) (allows q (in_state s))
+states_same p q (s ∷ states) h zero =
+    answers_same (allows p (in_state s)) (allows q (in_state s))
     (and_left _ (list_all (agree_at p q) (map in_state states)) h)
 states_same p q (s ∷ states) h (suc i) = states_same p q states (and_right (agree_at p q (in_state s)) _ h) i
 
@@ -44,13 +45,15 @@ owner_states (s ∷ states) (suc i) = owner_states states i ∙ grind (arith, na
 
 pub agree_states : (c : Contract) (p q : WrittenPermission) → agree c p q ≡ true
     → list_all (agree_at p q) (map in_state (state_names c)) ≡ true
-agree_states c p q h = and_left _ (list_all (agree_at p q) (other_situations c (state_names c)))
+agree_states c p q h =
+    and_left _ (list_all (agree_at p q) (other_situations c (state_names c)))
     (sym (list_all-append (agree_at p q) (map in_state (state_names c)) (other_situations c (state_names c)))
     ∙ and_right (same_mode p q) _ h)
 
 pub agree_others : (c : Contract) (p q : WrittenPermission) → agree c p q ≡ true
     → list_all (agree_at p q) (other_situations c (state_names c)) ≡ true
-agree_others c p q h = and_right (list_all (agree_at p q) (map in_state (state_names c))) _
+agree_others c p q h =
+    and_right (list_all (agree_at p q) (map in_state (state_names c))) _
     (sym (list_all-append (agree_at p q) (map in_state (state_names c)) (other_situations c (state_names c)))
     ∙ and_right (same_mode p q) _ h)
 

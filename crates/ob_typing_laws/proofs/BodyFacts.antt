@@ -232,7 +232,8 @@ body_sites_of_member program own (transaction_member private listed name params 
 
 body_sites_are : (program : Program) (own : Contract) → Each (HasMemberShape own.interface) own.members
     → Each Clean (flat_map (member_sites program own) own.members) → Each (BodySites program own) (transactions_of own)
-body_sites_are program own shape h = each_flat_map _ transactions_of_member own.members
+body_sites_are program own shape h =
+    each_flat_map _ transactions_of_member own.members
     (each_of_both _ _ _ (body_sites_of_member program own) own.members shape
     (each_of_flat_map Clean (member_sites program own) own.members h))
 
@@ -286,7 +287,8 @@ transactions_made program clear own w before (t ∷ ts) is e h =
 -- Constructors.
 
 abbrev MadeConstructor : Program → Contract → Constructor → Type 0
-MadeConstructor program own m = Each Clean (formals_sites program own true m.params)
+MadeConstructor program own m =
+    Each Clean (formals_sites program own true m.params)
     × Each Clean (body_of_params_sites program own nothing m.params m.body)
 
 constructors_of_member_made : (program : Program) (own : Contract) (m : Member)
@@ -450,5 +452,5 @@ places_are program clear (c ∷ xs) before at shapes =
 
 pub bodies_there : (program : Program) (clear : Clear program) → Each HasContractShape program
     → HasBodies (table_of program)
-bodies_there program clear shapes = places_are program clear program 0
-    (λ n. let e : 0 + n ≡ n = omega arith in ap (slice_get program) e) shapes
+bodies_there program clear shapes =
+    places_are program clear program 0 (λ n. let e : 0 + n ≡ n = omega arith in ap (slice_get program) e) shapes

@@ -86,7 +86,8 @@ pub record Callee (program : Program) (n : ℕ) (c : Contract) (name : Name) (t 
 signature_behind : (program : Program) (c : Contract) (k : ℕ) (t : Transaction)
     → slice_get (transactions_of c) k ≡ Some t
     → slice_get (signatures_of program c) (k + first_transaction c) ≡ Some (transaction_in_table program c t)
-signature_behind program c k t e = at c.interface
+signature_behind program c k t e =
+    at c.interface
     (slice_get-map (transaction_in_table program c) (transactions_of c) k
     ∙ ap (option_map (transaction_in_table program c)) e)
   where
@@ -150,5 +151,6 @@ constructor_params program own h =
 
 pub made_at : (program : Program) (n : ℕ) (c : Contract) → contract_at program n ≡ Some c → c.interface ≡ false
     → constructor_at (table_of program) (record { 0 = n }) ≡ Some (constructor_in_table program c (constructor_of c))
-made_at program n c at e = ap (option_and_then (λ c. if c.interface then None else slice_get c.transactions 0))
+made_at program n c at e =
+    ap (option_and_then (λ c. if c.interface then None else slice_get c.transactions 0))
     (in_table program n c at) ∙ (rw e refl)

@@ -65,5 +65,5 @@ clean_at s h =
     }
 
 pub clean_sites : (program : Program) → HasNoFault program → Each Clean (sites_of program)
-clean_sites program none = each_weaker (λ s. faults_at s ≡ []) Clean clean_at (sites_of program)
-    (none_at faults_at (sites_of program) none)
+clean_sites program none =
+    each_weaker (λ s. faults_at s ≡ []) Clean clean_at (sites_of program) (none_at faults_at (sites_of program) none)

@@ -62,7 +62,8 @@ each_of_after P f before (x ∷ xs) h = (
 pub each_after : {A B : Type 0} (P : B → Type 0) (f : List A → A → List B) → ((b : List A) (x : A) → Each P (f b x))
     → (before xs : List A) → Each P (in_order_after f before xs)
 each_after P f h before [] = tt
-each_after P f h before (x ∷ xs) = each_both P (f before x) (in_order_after f (before ++ x ∷ []) xs) (h before x)
+each_after P f h before (x ∷ xs) =
+    each_both P (f before x) (in_order_after f (before ++ x ∷ []) xs) (h before x)
     (each_after P f h (before ++ x ∷ []) xs)
 
 pub each_of_contains : {A : Type 0} (P : A → Type 0) (xs : List A) → ((x : A) → Contains xs x → P x) → Each P xs
@@ -74,7 +75,8 @@ each_of_contains P (x ∷ xs) h = (
 
 pub each_filter : {A : Type 0} (P : A → Type 0) (test : A → Bool) (xs : List A) → Each P xs → Each P (filter test xs)
 each_filter P test [] h = tt
-each_filter P test (x ∷ xs) h = elim (test x) as (λ b. Each P (cond b (x ∷ filter test xs) (filter test xs)))
+each_filter P test (x ∷ xs) h =
+    elim (test x) as (λ b. Each P (cond b (x ∷ filter test xs) (filter test xs)))
     [ true ↦ (h.0, each_filter P test xs h.1) | false ↦ each_filter P test xs h.1 ]
 
 pub each_at : {A : Type 0} (P : A → Type 0) (xs : List A) (n : ℕ) (x : A) → Each P xs → slice_get xs n ≡ Some x → P x

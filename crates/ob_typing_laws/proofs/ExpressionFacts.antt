@@ -68,7 +68,8 @@ args_made h s (and_expr e es) f = (f.0.made, args_made h s es f.1)
 pub serves_here : (h : Here) (s : Scope) (wanted : Kind) (e : Expr) → IsValueKind (program h) wanted → ExprFact h s e
     → Clean (needs h.around s wanted e)
     → Serves (frame h) (by_number s.variables) (resolved_local wanted) (resolved_expr h.around s e)
-serves_here h s wanted e w f c = subst (λ o. IsSomeAnd o
+serves_here h s wanted e w f c =
+    subst (λ o. IsSomeAnd o
     (λ has. IsTrue (serves (table_of (program h)) (resolved_local wanted) has))) (sym f.there) (serves_there (program h)
     wanted (kind_of h.around s e) w f.known c.type_mismatch)
 
@@ -119,7 +120,8 @@ comparing : (h : Here) (s : Scope) (left right : Expr) → ExprFact h s left →
     → IsSomeAnd (kind_of_expression (frame h) (by_number s.variables) (resolved_expr h.around s left))
     (λ kind. (is_reference kind ≡ false) × Serves (frame h) (by_number s.variables) kind
     (resolved_expr h.around s right))
-comparing h s left right l r c = subst (λ o. IsSomeAnd o
+comparing h s left right l r c =
+    subst (λ o. IsSomeAnd o
     (λ kind. (is_reference kind ≡ false) × Serves (frame h) (by_number s.variables) kind
     (resolved_expr h.around s right))) (sym l.there)
     (compared h s left right (kind_of h.around s left) refl l r c.0.type_mismatch c.1.1.0)
@@ -300,7 +302,8 @@ new_fact : (h : Here) (s : Scope) (of : Named) (args : Exprs) (span : Span)
     → Each Clean (passing_sites h.around s (part_of_named of).span
     (option_map (λ constructor. constructor.params) (constructed (program h) of)) args)
     → ExprFact h s (new_expr of args span)
-new_fact h s of args span c f sites = at (contract_named (program h) (part_of_named of).name) refl
+new_fact h s of args span c f sites =
+    at (contract_named (program h) (part_of_named of).name) refl
     (name_means an_object (visible_at h.around s) (part_of_named of) c)
   where
     not_interface : (b : Bool) → not b ≡ true → b ≡ false

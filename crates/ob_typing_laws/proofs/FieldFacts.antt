@@ -105,12 +105,14 @@ always_or : (own : Contract) (available : List NamePart) → length (state_names
     → Each (λ (s : NamePart). is_among s.name (state_names own) ≡ true) available
     → IsAvailability (length (state_names own)) (available_in (state_names own) (availability available))
 always_or own [] few h = inl refl
-always_or own (s ∷ states) few h = available_names (state_names own) (map (λ s. s.name) (s ∷ states)) s.name few h.0
+always_or own (s ∷ states) few h =
+    available_names (state_names own) (map (λ s. s.name) (s ∷ states)) s.name few h.0
     (ap (λ b. b || is_among s.name (map (λ s. s.name) states)) (same-refl s.name))
 
 named_states : (own : Contract) (states : List NamePart) → Each Clean (map (names_state own) states)
     → Each (λ (s : NamePart). is_among s.name (state_names own) ≡ true) states
-named_states own states h = each_weaker _ _ (λ s c. true_from_not (is_among s.name (state_names own)) c.no_state) states
+named_states own states h =
+    each_weaker _ _ (λ s c. true_from_not (is_among s.name (state_names own)) c.no_state) states
     (each_of_map Clean (names_state own) states h)
 
 -- what an owner holds
@@ -229,6 +231,7 @@ field_types_of_member program own (transaction_member private listed name params
 -- the types of a contract's fields
 pub field_types : (program : Program) (own : Contract) → Each Clean (flat_map (member_sites program own) own.members)
     → Each (λ f. Each Clean (type_sites (visible_in program own) f.field.of)) (fields_of own)
-field_types program own h = each_flat_map _ fields_of_member own.members
+field_types program own h =
+    each_flat_map _ fields_of_member own.members
     (each_weaker _ _ (field_types_of_member program own) own.members
     (each_of_flat_map Clean (member_sites program own) own.members h))

@@ -41,7 +41,8 @@ IsFirst program own = contract_of_name program own.name ≡ Some own
 -- in a list of distinct names each place has its own
 one_place : (xs : List Name) (m n : ℕ) (x : Name) → AreDistinct xs → slice_get xs m ≡ Some x → slice_get xs n ≡ Some x
     → m ≡ n
-one_place xs m n x d a b = ⊎_elim (λ l. absurd (apart m n l a b))
+one_place xs m n x d a b =
+    ⊎_elim (λ l. absurd (apart m n l a b))
     (λ h. ⊎_elim (λ l. absurd (apart n m l b a)) (λ k. omega arith) (cases_lt n m)) (cases_lt m n)
   where
     apart : (i j : ℕ) → i < j → slice_get xs i ≡ Some x → slice_get xs j ≡ Some x → ⊥

@@ -93,7 +93,8 @@ result_known v (Some t) h =
 -- what implements what is the same in the table
 implements_in_table : (program : Program) (n m : ℕ)
     → implements program n m ≡ is_implemented (table_of program) (record { 0 = n }) (record { 0 = m })
-implements_in_table program n m = through (contract_at program n)
+implements_in_table program n m =
+    through (contract_at program n)
     ∙ sym (ap (λ o. option_map_or (λ found. option_map_or (λ (k : ContractId). nat_eq m k.0) found.implements false) o
     false) (slice_get-map (contract_in_table program) program n))
   where

@@ -50,7 +50,8 @@ add_bit n x small =
 -- one more state of a set in its number
 add_state : (n : ℕ) (a : States) (x : ℕ) → x < 2 ^ n → states_of x ≡ below_passing n a
     → states_of (x + cond (a n) (2 ^ n) 0) ≡ below_passing (n + 1) a
-add_state n a x small is = ⊎_elim
+add_state n a x small is =
+    ⊎_elim
     (λ in_a. ap (λ b. states_of (x + cond b (2 ^ n) 0)) in_a ∙ ap states_of (add_bit n x small) ∙ states_of-or x (2 ^ n)
     ∙ ap (union (states_of x)) (states_of-pow n) ∙ passing_more n a (states_of x) in_a is)
     (λ out. ap (λ b. states_of (x + cond b (2 ^ n) 0)) out ∙ ap states_of (add-zero x)
@@ -101,18 +102,19 @@ below_whole false n i l = below_all n i l
 -- what is written of a contract stands in the table as a permission on it
 named_inside : (own : Contract) (names : List Name) (i : ℕ) → numbers_of_states (state_names own) names i ≡ true
     → whole own i ≡ true
-named_inside own names i e = below_whole own.interface (length (state_names own)) i
+named_inside own names i e =
+    below_whole own.interface (length (state_names own)) i
     (get_some (state_names own) i (λ state. is_among state names) e)
 
 zero_inside : (a : States) → subset (states_of 0) a ≡ true
-zero_inside a = subset_from (states_of 0) a
-    (λ i l e. let f : states_of 0 i ≡ false = ap (λ f. f i) states_of-zero in absurd (cc))
+zero_inside a =
+    subset_from (states_of 0) a (λ i l e. let f : states_of 0 i ≡ false = ap (λ f. f i) states_of-zero in absurd (cc))
 
 pub perm_is_on : (program : Program) (own : Contract) (p : WrittenPermission)
     → IsPermOn (contract_in_table program own) (perm_of (permission_on own p))
 perm_is_on program own as_shared = record { canonical = λ h. refl; low = omega arith; inside = zero_inside (whole own) }
-perm_is_on program own as_unowned = record
-    { canonical = λ h. refl; low = omega arith; inside = zero_inside (whole own) }
+perm_is_on program own as_unowned =
+    record { canonical = λ h. refl; low = omega arith; inside = zero_inside (whole own) }
 perm_is_on program own as_owner = record {
   canonical = λ h. absurd (h refl);
   low = mask_of_bound (whole own);

@@ -121,7 +121,8 @@ at_state theirs ours p q few few' names same j l =
 at_none : (theirs ours : List Name) (p q : WrittenPermission) (j : ℕ) → theirs ≡ []
     → allows p in_no_state ≡ allows q in_no_state → j ≡ 32
     → allows p in_no_state ≡ theirs_at theirs q 32
-at_none theirs ours p q j none same e = subst (λ (ts : List Name). allows p in_no_state ≡ theirs_at ts q 32) (sym none)
+at_none theirs ours p q j none same e =
+    subst (λ (ts : List Name). allows p in_no_state ≡ theirs_at ts q 32) (sym none)
     (same ∙ simplify (allows q in_no_state))
   where
     simplify : (b : Bool) → b ≡ (b || false)
@@ -177,7 +178,8 @@ said_masks theirs ours p q A B few few' names same none same' a b =
     (λ j l. a j ∙ at_all j ∙ through j)
   where
     at_all : (j : ℕ) → ours_at ours p j ≡ said_at theirs ours q j
-    at_all j = ⊎_elim (λ l. at_state theirs ours p q few few' names same j l)
+    at_all j =
+        ⊎_elim (λ l. at_state theirs ours p q few few' names same j l)
         (λ h. at_beyond theirs ours p q none same' j h) (cases_lt j (length ours))
 
     through : (j : ℕ) → said_at theirs ours q j
@@ -221,7 +223,8 @@ their_whole i e k =
 
 their_states : (theirs states : List Name) (k : ℕ)
     → numbers_of_states theirs states k ≡ theirs_at theirs (as_owner_in states) k
-their_states theirs states k = rw (and_false (length theirs == 0 && k == 32), and_false (k == 33))
+their_states theirs states k =
+    rw (and_false (length theirs == 0 && k == 32), and_false (k == 33))
     (or_false (numbers_of_states theirs states k) ∙ or_false (numbers_of_states theirs states k || false))
 
 -- what must hold of a contract and its interface
@@ -244,8 +247,8 @@ found_in_none own p q [] e h = at own.interface h
   where
     at : (b : Bool) → list_all (agree_at p q) ((if b then in_other_state ∷ [] else []) ++ in_no_state ∷ []) ≡ true
         → allows p in_no_state ≡ allows q in_no_state
-    at true h = answers_same _ _ (and_left (agree_at p q in_no_state) true
-        (and_right (agree_at p q in_other_state) _ h))
+    at true h =
+        answers_same _ _ (and_left (agree_at p q in_no_state) true (and_right (agree_at p q in_other_state) _ h))
     at false h = answers_same _ _ (and_left (agree_at p q in_no_state) true h)
 found_in_none own p q (s ∷ states) e h = absurd (omega (arith, e))
 

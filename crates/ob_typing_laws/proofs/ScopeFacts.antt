@@ -200,7 +200,8 @@ pub stands_for : (a : Around) (s : Scope) (name : Name)
 stands_for a s name h = at (variable_named s name) refl
   where
     at : (o : Option Variable) → variable_named s name ≡ o → StandsFor a s name
-    at (Some v) e = for_variable v e (ap (λ o. option_map_or (λ (v : Variable). Local v.number) o
+    at (Some v) e =
+        for_variable v e (ap (λ o. option_map_or (λ (v : Variable). Local v.number) o
         (option_map_or (λ n. FieldSeen (record { 0 = n })) (number_of name (field_names a.own)) This)) e)
     at None e =
         let f : is_among name (field_names a.own) ≡ true = rw (none_among s.variables name e) at h in

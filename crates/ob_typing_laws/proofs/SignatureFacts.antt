@@ -246,15 +246,16 @@ listed_of_ref : (program : Program) (own : Contract) (name : NamePart) (of : Ref
 listed_of_ref program own name (ref_with of perm) exit types a b = listed_is program own name of perm exit types a b
 
 abbrev listed_first : Program → Contract → List Listed → List Site
-listed_first program own listed = flat_map
-    (λ l. ref_sites (visible_in program own) l.of l.exit ++ names_field own l.name ∷ []) listed
+listed_first program own listed =
+    flat_map (λ l. ref_sites (visible_in program own) l.of l.exit ++ names_field own l.name ∷ []) listed
 
 abbrev listed_names : List Listed → List Site
 listed_names listed = declared_sites (λ l. l.name) [] listed
 
 listed_declared : (program : Program) (own : Contract) (listed : List Listed)
     → Each Clean (listed_sites program own listed) → Each Clean (listed_names listed)
-listed_declared program own listed h = each_right Clean (listed_first program own listed) (listed_names listed)
+listed_declared program own listed h =
+    each_right Clean (listed_first program own listed) (listed_names listed)
     (each_left Clean (listed_first program own listed ++ listed_names listed) _ h)
 
 listed_fields : (program : Program) (own : Contract) (listed : List Listed)

@@ -168,7 +168,8 @@ names_given before = map (λ b. b.field.name) before
 
 one_more_given : (row : List Name) (before : List Given) (g : Given)
     → row ++ names_given (before ++ g ∷ []) ≡ (row ++ names_given before) ++ g.field.name ∷ []
-one_more_given row before g = ap (λ ns. row ++ ns) (map-append (λ (b : Given). b.field.name) before (g ∷ []))
+one_more_given row before g =
+    ap (λ ns. row ++ ns) (map-append (λ (b : Given). b.field.name) before (g ∷ []))
     ∙ sym (append_assoc row (names_given before) (g.field.name ∷ []))
 
 changed : (h : Here) (s : Scope) (row : List Name) (before given : List Given) → GoodScope (program h) h.params s

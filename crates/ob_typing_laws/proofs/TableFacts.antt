@@ -91,7 +91,8 @@ sound program own h =
     }
 
 pub few_states : (own : Contract) → DeclaredWell own → length (state_names own) ≤ states_most
-few_states own d = subst (λ n. n ≤ states_most) (sym (length-map (states_of own) (λ (s : NamePart). s.name)))
+few_states own d =
+    subst (λ n. n ≤ states_most) (sym (length-map (states_of own) (λ (s : NamePart). s.name)))
     (within_limit (λ (s : NamePart). s) [] states_most (states_of own) d.states d.few_states)
 
 -- Interfaces.
@@ -178,7 +179,8 @@ implements_well program own (Some n) e distinct all shapes k at =
 
 state_forms : (own : Contract) → Each (HasMemberShape own.interface) own.members
     → Each (λ (x : Name). IsTrue (is_name x)) (state_names own)
-state_forms own h = each_map _ (λ (s : NamePart). s.name) (states_of own)
+state_forms own h =
+    each_map _ (λ (s : NamePart). s.name) (states_of own)
     (each_flat_map _ states_of_member own.members (each_weaker _ _ of_member own.members h))
   where
     of_member : (m : Member) → HasMemberShape own.interface m

@@ -39,8 +39,8 @@ gives_some own as_owner h e = absurd cc
 gives_some own (as_owner_in states) h e = absurd cc
 
 abbrev IsMade : Program → Contract → Constructor → Type 0
-IsMade program own m = IsConstructor (table_of program) (contract_in_table program own)
-    (constructor_in_table program own m)
+IsMade program own m =
+    IsConstructor (table_of program) (contract_in_table program own) (constructor_in_table program own m)
 
 default_is_made : (program : Program) (own : Contract) → IsMade program own (default_constructor own)
 default_is_made program own = record {
@@ -215,7 +215,8 @@ heads_of_member program own (transaction_member private listed name params resul
 
 pub heads_are : (program : Program) (own : Contract) → Each Clean (flat_map (member_sites program own) own.members)
     → Each (HeadSites program own) (transactions_of own)
-heads_are program own h = each_flat_map _ transactions_of_member own.members
+heads_are program own h =
+    each_flat_map _ transactions_of_member own.members
     (each_weaker _ _ (heads_of_member program own) own.members
     (each_of_flat_map Clean (member_sites program own) own.members h))
 

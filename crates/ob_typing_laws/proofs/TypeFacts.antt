@@ -51,8 +51,8 @@ name_means need v name h = meant (is_visible v name.name) (means need v name.nam
 states_named : (c : Contract) (states : List NamePart) → Each Clean (map (names_state c) states)
     → list_all (λ s. is_among s.name (state_names c)) states ≡ true
 states_named c [] h = refl
-states_named c (s ∷ states) h = rw (true_from_not (is_among s.name (state_names c)) h.0.no_state)
-    (states_named c states h.1)
+states_named c (s ∷ states) h =
+    rw (true_from_not (is_among s.name (state_names c)) h.0.no_state) (states_named c states h.1)
 
 pub perm_named : (c : Contract) (perm : PermNode) → Each Clean (perm_sites c perm) → is_of c perm ≡ true
 perm_named c (Mode mode span) h = refl
@@ -112,8 +112,8 @@ some_and o x P e p = subst (λ o. IsSomeAnd o P) (sym e) p
 
 pub in_table : (program : Program) (n : ℕ) (c : Contract) → contract_at program n ≡ Some c
     → slice_get (map (contract_in_table program) program) n ≡ Some (contract_in_table program c)
-in_table program n c e = slice_get-map (contract_in_table program) program n
-    ∙ ap (option_map (contract_in_table program)) e
+in_table program n c e =
+    slice_get-map (contract_in_table program) program n ∙ ap (option_map (contract_in_table program)) e
 
 perm_on_known : (o : Option Contract) (c : Contract) (perm : PermNode) → o ≡ Some c
     → perm_on o perm ≡ perm_of (permission_on c (written_permission perm))
@@ -122,7 +122,8 @@ perm_on_known o c perm e = ap (λ o. perm_on o perm) e
 -- a written permission of a known contract, in the table
 pub perm_in_table : (program : Program) (o : Option Contract) (c : Contract) (perm : PermNode) → o ≡ Some c
     → IsPermOn (contract_in_table program c) (perm_on o perm)
-perm_in_table program o c perm e = subst (IsPermOn (contract_in_table program c)) (sym (perm_on_known o c perm e))
+perm_in_table program o c perm e =
+    subst (IsPermOn (contract_in_table program c)) (sym (perm_on_known o c perm e))
     (perm_is_on program c (written_permission perm))
 
 -- a known reference is a type of the table
@@ -145,8 +146,8 @@ pub exit_leaves : (program : Program) (of : Named) (perm : PermNode) (exit : Opt
     (k : Known program of perm) → KnownExit k.contract perm exit
     → MayLeave (perm_on (contract_of_name program (part_of_named of).name) perm)
     (perm_on (contract_of_name program (part_of_named of).name) (written_at_end perm exit))
-exit_leaves program of perm exit k x = leaves_in_table program _ k.contract perm (written_at_end perm exit) k.by_name
-    x.leaves
+exit_leaves program of perm exit k x =
+    leaves_in_table program _ k.contract perm (written_at_end perm exit) k.by_name x.leaves
 
 -- the permission at the end of a known reference
 pub exit_is_of : (program : Program) (of : Named) (perm : PermNode) (exit : Option PermNode) (k : Known program of perm)
