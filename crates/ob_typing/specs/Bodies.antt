@@ -1,11 +1,11 @@
 -- The bodies of a program with numbers in place of names (the Obsidian language documentation, "Statements" and
 -- "Expressions").
-use Rattle.std.specs.Prelude.{ℕ, ◌+◌, List, [], ◌∷◌, map, length, Option, Some, None, option_map}
+use Rattle.std.specs.Prelude.{◌+◌, map, Option, Some, None, option_map}
 use Rattle.std.specs.Option.{option_map_or}
 use Rattle.ob_base.specs.declared.fault.Span.{Span}
 use Rattle.ob_base.specs.declared.id.ContractId.{ContractId}
 use Rattle.ob_tree.specs.Exprs.{Expr, number_expr, text_expr, bool_expr, name_expr, this_expr, unary_expr, binary_expr, call_expr, new_expr, Call, call_with, Exprs, no_exprs, and_expr}
-use Rattle.ob_tree.specs.Stmts.{Given, Stmt, declare_stmt, assign_stmt, stage_stmt, change_stmt, call_stmt, test_stmt, if_stmt, return_stmt, revert_stmt, disown_stmt, assert_stmt, Block, block_with, Else, no_else, else_with, Stmts, no_stmts, and_stmt}
+use Rattle.ob_tree.specs.Stmts.{Stmt, declare_stmt, assign_stmt, stage_stmt, change_stmt, call_stmt, test_stmt, if_stmt, return_stmt, revert_stmt, disown_stmt, assert_stmt, Block, block_with, Else, no_else, else_with, Stmts, no_stmts, and_stmt}
 use Rattle.ob_tree.specs.declared.name.NamePart.{NamePart}
 use Rattle.ob_tree.specs.declared.name.Subject.{Subject}
 use Rattle.ob_tree.specs.declared.name.Subject.TheVariants.{This as ThisSubject, Name as NameSubject}
@@ -19,16 +19,20 @@ use Rattle.ob_table.specs.declared.seen.LocalKind.TheVariants.{Int, Bool, Text, 
 use Rattle.ob_typing.specs.Names.{Name, number_of}
 use Rattle.ob_typing.specs.Declared.{part_of_named, contract_named, field_names}
 use Rattle.ob_typing.specs.Kinds.{Kind, an_int, a_bool, a_text, a_reference, nothing, unknown, contract_of_kind, kind_of_local}
-use Rattle.ob_typing.specs.Scopes.{Around, Scope, variable_named, locals_in_block, past, after_stmt, kind_of_this, kind_of_variable, kind_of_subject}
+use Rattle.ob_typing.specs.Scopes.{Around, Scope, variable_named, locals_in_block, past, after_stmt, kind_of_this, kind_of_subject}
 use Rattle.ob_typing.specs.Numbers.{contract_id, state_id, field_id, transaction_id, perm_on}
 
 -- what a name stands for: a variable first, then a field
 abbrev pub seen_name : Around → Scope → Name → Seen
-seen_name a s name = option_map_or (λ v. Local v.number) (variable_named s name) (option_map_or (λ n. Field (record { 0 = n })) (number_of name (field_names a.own)) This)
+seen_name a s name =
+    option_map_or (λ v. Local v.number) (variable_named s name)
+    (option_map_or (λ n. Field (record { 0 = n })) (number_of name (field_names a.own)) This)
 
+-- a name in a body, at its place
 abbrev pub seen_at : Around → Scope → NamePart → SeenAt
 seen_at a s name = record { of = seen_name a s name.name; span = name.span }
 
+-- `this`, or a name
 abbrev pub seen_subject : Around → Scope → Subject → SeenAt
 seen_subject a s (ThisSubject span) = record { of = This; span = span }
 seen_subject a s (NameSubject name) = seen_at a s name
@@ -57,6 +61,7 @@ resolved_receiver a s (Some (NameSubject name)) = Some (seen_at a s name)
 abbrev pub kind_of_receiver : Around → Scope → Option Subject → Kind
 kind_of_receiver a s receiver = option_map_or (kind_of_subject a s) receiver (kind_of_this a)
 
+-- expressions, calls and arguments with numbers
 abbrev mutual
   pub resolved_expr : Around → Scope → Expr → Expression
   resolved_expr a s (number_expr value span) = resolved_number value span
@@ -64,15 +69,19 @@ abbrev mutual
   resolved_expr a s (bool_expr value span) = resolved_bool value span
   resolved_expr a s (name_expr name span) = resolved_seen (seen_at a s name) span
   resolved_expr a s (this_expr token span) = resolved_seen (record { of = This; span = token }) span
-  resolved_expr a s (unary_expr operator sign operand span) = resolved_unary operator sign (resolved_expr a s operand) span
-  resolved_expr a s (binary_expr operator sign left right span) = resolved_binary operator sign (resolved_expr a s left) (resolved_expr a s right) span
+  resolved_expr a s (unary_expr operator sign operand span) =
+      resolved_unary operator sign (resolved_expr a s operand) span
+  resolved_expr a s (binary_expr operator sign left right span) =
+      resolved_binary operator sign (resolved_expr a s left) (resolved_expr a s right) span
   resolved_expr a s (call_expr call span) = resolved_call_at a s call span
-  resolved_expr a s (new_expr of args span) = resolved_new (contract_id (contract_named a.program (part_of_named of).name)) (resolved_args a s args) span
+  resolved_expr a s (new_expr of args span) =
+      resolved_new (contract_id (contract_named a.program (part_of_named of).name)) (resolved_args a s args) span
 
   pub resolved_call_at : Around → Scope → Call → Span → Expression
   resolved_call_at a s (call_with receiver name args) span =
       resolved_call (resolved_receiver a s receiver) (id_of_kind (kind_of_receiver a s receiver))
-      (transaction_id (contract_of_kind a.program (kind_of_receiver a s receiver)) name.name) name.span (resolved_args a s args) span
+      (transaction_id (contract_of_kind a.program (kind_of_receiver a s receiver)) name.name) name.span
+      (resolved_args a s args) span
 
   pub resolved_args : Around → Scope → Exprs → Arguments
   resolved_args a s no_exprs = no_arguments
@@ -80,25 +89,38 @@ abbrev mutual
 
 -- a field and the value that it is given
 abbrev pub resolved_given : Around → Scope → NamePart → Expr → GivenField
-resolved_given a s field value = record { field = field_id a.own field.name; span = field.span; value = resolved_expr a s value }
+resolved_given a s field value = record {
+  field = field_id a.own field.name;
+  span = field.span;
+  value =
+      resolved_expr a s value;
+}
 
+-- statements and blocks with numbers
 abbrev mutual
   pub resolved_stmt : Around → Scope → Stmt → Statement
-  resolved_stmt a s (declare_stmt of name value span) = resolved_declare (s.count + 1) name.span (resolved_local (kind_of_local a.program of)) (resolved_expr a s value) span
+  resolved_stmt a s (declare_stmt of name value span) =
+      resolved_declare (s.count + 1) name.span (resolved_local (kind_of_local a.program of)) (resolved_expr a s value)
+      span
   resolved_stmt a s (assign_stmt name value span) = resolved_assign (seen_at a s name) (resolved_expr a s value) span
-  resolved_stmt a s (stage_stmt state field value span) = resolved_stage (state_id (Some a.own) state.name) (resolved_given a s field value) span
-  resolved_stmt a s (change_stmt state given span) = resolved_change (state_id (Some a.own) state.name) (map (λ g. resolved_given a s g.field g.value) given) span
+  resolved_stmt a s (stage_stmt state field value span) =
+      resolved_stage (state_id (Some a.own) state.name) (resolved_given a s field value) span
+  resolved_stmt a s (change_stmt state given span) =
+      resolved_change (state_id (Some a.own) state.name) (map (λ g. resolved_given a s g.field g.value) given) span
   resolved_stmt a s (call_stmt value span) = resolved_discard (resolved_expr a s value) span
   resolved_stmt a s (test_stmt subject state branch otherwise span) =
-      resolved_test (seen_subject a s subject) (state_id (contract_of_kind a.program (kind_of_subject a s subject)) state.name)
+      resolved_test (seen_subject a s subject) (state_id (contract_of_kind a.program (kind_of_subject a s subject))
+      state.name)
       (block_resolved a s branch) (else_resolved a (past s (locals_in_block branch)) otherwise) span
   resolved_stmt a s (if_stmt condition branch otherwise span) =
-      resolved_if (resolved_expr a s condition) (block_resolved a s branch) (else_resolved a (past s (locals_in_block branch)) otherwise) span
+      resolved_if (resolved_expr a s condition) (block_resolved a s branch)
+      (else_resolved a (past s (locals_in_block branch)) otherwise) span
   resolved_stmt a s (return_stmt value span) = resolved_return (option_map (resolved_expr a s) value) span
   resolved_stmt a s (revert_stmt text span) = resolved_revert (option_map (resolved_expr a s) text) span
   resolved_stmt a s (disown_stmt name span) = resolved_disown (seen_at a s name) span
   resolved_stmt a s (assert_stmt subject perm span) =
-      resolved_assert (seen_subject a s subject) (perm_on (contract_of_kind a.program (kind_of_subject a s subject)) perm) span
+      resolved_assert (seen_subject a s subject)
+      (perm_on (contract_of_kind a.program (kind_of_subject a s subject)) perm) span
 
   pub block_resolved : Around → Scope → Block → ResolvedBlock
   block_resolved a s (block_with statements end) = resolved_block (resolved_stmts a s statements) end

@@ -1,8 +1,7 @@
 -- The conditions of a class table, said of the table alone (Coblenz et al., TOPLAS 42(3), 2020; the limits and numbers are
 -- this project's own).
-use Rattle.std.specs.Prelude.{◌≡◌, ◌≢◌, ℕ, ◌+◌, ◌^◌, ◌<◌, ◌≤◌, ◌⊎◌, Bool, true, false, List, [], ◌∷◌, length, map, drop, Option, Some, None, option_map, slice_get, IsTrue, IsSomeAnd, IfSome, All, AllPairs, Contains, count_by, MatchBool, ⊤, if◌then◌else◌}
+use Rattle.std.specs.Prelude.{◌≡◌, ◌≢◌, ℕ, ◌^◌, ◌<◌, ◌≤◌, ◌⊎◌, true, false, List, [], length, map, drop, Some, None, option_map, slice_get, IsTrue, IsSomeAnd, IfSome, All, AllPairs, Contains, count_by, MatchBool, ⊤, if◌then◌else◌}
 use Rattle.ob_base.specs.Names.{is_name, is_text}
-use Rattle.ob_base.specs.declared.id.ContractId.{ContractId}
 use Rattle.ob_base.specs.declared.id.FieldId.{FieldId}
 use Rattle.ob_base.specs.declared.permission.Mode.TheVariants.{Owned, Unowned}
 use Rattle.ob_base.specs.declared.permission.Perm.{Perm}
@@ -61,9 +60,11 @@ IsAvailability states available = (available ≡ mask_of anywhere) ⊎ ((0 < ava
 
 -- what a contract that is no asset owns is no asset
 abbrev pub OwnsNoAsset : ClassTable → Contract → Kind → Type 0
-OwnsNoAsset table c (Reference id p) = c.asset ≡ false → p.mode ≡ Owned → IsSomeAnd (contract_at table id) (λ d. d.asset ≡ false)
+OwnsNoAsset table c (Reference id p) =
+    c.asset ≡ false → p.mode ≡ Owned → IsSomeAnd (contract_at table id) (λ d. d.asset ≡ false)
 OwnsNoAsset table c kind = ⊤
 
+-- a field: its name, its type, the states in which it is there, and that it owns no asset unless its contract is one
 pub record IsField (table : ClassTable) (c : Contract) (f : Field) : Type 0 where
   pub name : IsTrue (is_name f.name)
   pub kind : IsKind table f.of
@@ -72,15 +73,18 @@ pub record IsField (table : ClassTable) (c : Contract) (f : Field) : Type 0 wher
 
 -- Signatures.
 
+-- a parameter: its type, and the permission at the end
 pub record IsParam (table : ClassTable) (p : Param) : Type 0 where
   pub kind : IsKind table p.of
   pub exit : IsExitOf table p.of p.exit
 
 -- the permissions with which a field of this type is listed: it is a reference
 abbrev pub IsListedAs : ClassTable → Perm → Perm → Kind → Type 0
-IsListedAs table entry exit (Reference id p) = IsSomeAnd (contract_at table id) (λ c. IsPermOn c entry × IsPermOn c exit)
+IsListedAs table entry exit (Reference id p) =
+    IsSomeAnd (contract_at table id) (λ c. IsPermOn c entry × IsPermOn c exit)
 IsListedAs table entry exit kind = ⊥
 
+-- a listed field: one of the contract that is a reference, with permissions that may follow one another
 pub record IsListed (table : ClassTable) (c : Contract) (l : Listed) : Type 0 where
   pub field : IsSomeAnd (field_at c l.field) (λ f. IsListedAs table l.entry l.exit f.of)
   pub leaves : MayLeave l.entry l.exit
@@ -93,6 +97,7 @@ pub record IsSignature (table : ClassTable) (c : Contract) (s : Signature) : Typ
   pub entry : IsPermOn c s.entry
   pub exit : IsPermOn c s.exit
 
+-- a constructor: it has no name, no result and no list, isn't private, and doesn't give Unowned
 pub record IsConstructor (table : ClassTable) (c : Contract) (s : Signature) : Type 0 where
   pub signature : IsSignature table c s
   pub name : s.name ≡ []
@@ -147,14 +152,18 @@ pub record Answers (interface c : Contract) (asked s : Signature) : Type 0 where
 pub record Meets (interface c : Contract) : Type 0 where
   pub asset : c.asset ≡ true → interface.asset ≡ true
   pub states : All (Contains c.states) interface.states
-  pub transactions : All (λ asked. (s : Signature) × Contains (transactions_in c) s × Answers interface c asked s) interface.transactions
+  pub transactions : All (λ asked. (s : Signature) × Contains (transactions_in c) s × Answers interface c asked s)
+      interface.transactions
 
 -- Contracts and tables.
 
 -- a contract implements an interface alone, and has what it asks
 abbrev pub Implements : ClassTable → Contract → Type 0
-Implements table c = IfSome c.implements (λ id. IsSomeAnd (contract_at table id) (λ interface. (interface.interface ≡ true) × Meets interface c))
+Implements table c =
+    IfSome c.implements
+    (λ id. IsSomeAnd (contract_at table id) (λ interface. (interface.interface ≡ true) × Meets interface c))
 
+-- a contract or an interface of the table
 pub record IsContract (table : ClassTable) (c : Contract) : Type 0 where
   pub name : IsTrue (is_text c.name)
   pub few_states : length c.states ≤ states_most

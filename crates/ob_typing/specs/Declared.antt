@@ -1,10 +1,8 @@
 -- What a contract or an interface declares, member by member in the order of the text (Coblenz et al., TOPLAS 42(3), 2020,
 -- "Contracts"; the Obsidian language documentation, "States", "Fields" and "Transactions").
-use Rattle.std.specs.Prelude.{ℕ, Bool, List, [], ◌∷◌, ◌++◌, map, flat_map, filter, Option, Some, None, slice_get, unwrap_or}
-use Rattle.std.specs.Option.{option_map_or}
-use Rattle.ob_base.specs.declared.fault.Span.{Span}
+use Rattle.std.specs.Prelude.{ℕ, Bool, List, [], ◌∷◌, map, flat_map, filter, Option, slice_get, unwrap_or}
 use Rattle.ob_base.specs.declared.permission.Mode.TheVariants.{Owned}
-use Rattle.ob_tree.specs.Names.{Named, bare_name, name_with, Ref, TypeExpr}
+use Rattle.ob_tree.specs.Names.{Named, bare_name, name_with, TypeExpr}
 use Rattle.ob_tree.specs.Stmts.{Block, block_with, no_stmts}
 use Rattle.ob_tree.specs.Members.{Field, Formal, Listed, Member, state_member, field_member, constructor_member, transaction_member, Contract}
 use Rattle.ob_tree.specs.declared.name.NamePart.{NamePart}
@@ -39,6 +37,7 @@ contract_at program n = slice_get program n
 
 -- States.
 
+-- the state that a member names
 abbrev pub states_of_member : Member → List NamePart
 states_of_member (state_member name fields span) = name ∷ []
 states_of_member (field_member field) = []
@@ -69,6 +68,7 @@ pub record FieldDeclaration : Type 0 where
 abbrev pub field_inside : Name → Field → FieldDeclaration
 field_inside state field = record { field = field; available = in_states (state ∷ []) }
 
+-- what stands behind `available in`; nothing means always
 abbrev pub availability : List NamePart → Availability
 availability [] = always
 availability (state ∷ states) = in_states (map (λ s. s.name) (state ∷ states))
@@ -77,6 +77,7 @@ availability (state ∷ states) = in_states (map (λ s. s.name) (state ∷ state
 abbrev pub field_at_top : Field → FieldDeclaration
 field_at_top field = record { field = field; available = availability field.available }
 
+-- the fields that a member declares: a field, or those inside a state
 abbrev pub fields_of_member : Member → List FieldDeclaration
 fields_of_member (state_member name fields span) = map (field_inside name.name) fields
 fields_of_member (field_member field) = field_at_top field ∷ []
@@ -103,6 +104,7 @@ pub record Param : Type 0 where
   pub exit : Option PermNode
   pub name : NamePart
 
+-- the parameter of this type, unless it is `this`
 abbrev pub param_named : TypeExpr → Option PermNode → Subject → List Param
 param_named of exit (This span) = []
 param_named of exit (NameSubject name) = record { of = of; exit = exit; name = name } ∷ []
@@ -122,6 +124,7 @@ pub record Transaction : Type 0 where
   pub result : Option TypeExpr
   pub body : Option Block
 
+-- the transaction that a member is
 abbrev pub transactions_of_member : Member → List Transaction
 transactions_of_member (state_member name fields span) = []
 transactions_of_member (field_member field) = []
@@ -144,10 +147,12 @@ pub record Constructor : Type 0 where
   pub params : List Formal
   pub body : Block
 
+-- the member, if it has a constructor's form
 abbrev pub constructors_of_member : Member → List Constructor
 constructors_of_member (state_member name fields span) = []
 constructors_of_member (field_member field) = []
-constructors_of_member (constructor_member of perm params body span) = record { of = of; perm = perm; params = params; body = body } ∷ []
+constructors_of_member (constructor_member of perm params body span) =
+    record { of = of; perm = perm; params = params; body = body } ∷ []
 constructors_of_member (transaction_member private listed name params result body span) = []
 
 -- the members of a constructor's form, whatever their name
@@ -160,7 +165,8 @@ constructors_of c = filter (λ m. same c.name (part_of_named m.of).name) (constr
 
 -- the constructor of a contract that declares none: without parameters, with an empty body, and it gives Owned
 abbrev pub default_constructor : Contract → Constructor
-default_constructor c = record { of = bare_name c.name c.span; perm = Mode Owned c.span; params = []; body = block_with no_stmts c.span }
+default_constructor c =
+    record { of = bare_name c.name c.span; perm = Mode Owned c.span; params = []; body = block_with no_stmts c.span }
 
 -- the constructor of a contract
 abbrev pub constructor_of : Contract → Constructor

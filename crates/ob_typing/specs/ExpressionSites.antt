@@ -1,10 +1,9 @@
 -- The sites of expressions (the Obsidian language documentation, "Expressions").
-use Rattle.std.specs.Prelude.{ℕ, ◌+◌, List, [], ◌∷◌, ◌++◌, map, length, Option, Some, None, option_map}
+use Rattle.std.specs.Prelude.{ℕ, ◌+◌, List, [], ◌∷◌, ◌++◌, length, Option, Some, None, option_map}
 use Rattle.std.specs.Option.{option_map_or}
 use Rattle.ob_base.specs.declared.fault.Span.{Span}
 use Rattle.ob_base.specs.declared.operator.Operator.{Operator}
 use Rattle.ob_base.specs.declared.operator.Operator.TheVariants.{Equal, NotEqual, And, Or}
-use Rattle.ob_tree.specs.Names.{Named}
 use Rattle.ob_tree.specs.Exprs.{Expr, number_expr, text_expr, bool_expr, name_expr, this_expr, unary_expr, binary_expr, call_expr, new_expr, Call, call_with, Exprs, no_exprs, and_expr}
 use Rattle.ob_tree.specs.Members.{Formal}
 use Rattle.ob_tree.specs.declared.name.NamePart.{NamePart}
@@ -36,13 +35,18 @@ needs a s wanted e = has_kind a.program wanted (kind_of a s e) (place_of e)
 abbrev pub operand_sites : Around → Scope → Operator → Expr → Expr → List Site
 operand_sites a s And left right = needs a s a_bool left ∷ needs a s a_bool right ∷ []
 operand_sites a s Or left right = needs a s a_bool left ∷ needs a s a_bool right ∷ []
-operand_sites a s Equal left right = is_value (kind_of a s left) (place_of left) ∷ is_value (kind_of a s right) (place_of right) ∷ needs a s (kind_of a s left) right ∷ []
-operand_sites a s NotEqual left right = is_value (kind_of a s left) (place_of left) ∷ is_value (kind_of a s right) (place_of right) ∷ needs a s (kind_of a s left) right ∷ []
+operand_sites a s Equal left right =
+    is_value (kind_of a s left) (place_of left)
+    ∷ is_value (kind_of a s right) (place_of right) ∷ needs a s (kind_of a s left) right ∷ []
+operand_sites a s NotEqual left right =
+    is_value (kind_of a s left) (place_of left)
+    ∷ is_value (kind_of a s right) (place_of right) ∷ needs a s (kind_of a s left) right ∷ []
 operand_sites a s operator left right = needs a s an_int left ∷ needs a s an_int right ∷ []
 
 -- a name that is used as a reference
 abbrev pub reference_sites : Around → Scope → NamePart → Span → List Site
-reference_sites a s name span = names a_variable (visible_at a s) name ∷ refers (kind_of_variable a s name.name) span ∷ []
+reference_sites a s name span =
+    names a_variable (visible_at a s) name ∷ refers (kind_of_variable a s name.name) span ∷ []
 
 -- a receiver, and the transaction that is called
 abbrev pub callee_sites : Around → Scope → Option Subject → NamePart → List Site
@@ -50,8 +54,10 @@ callee_sites a s None name = names a_transaction (visible_at a s) name ∷ []
 callee_sites a s (Some (This span)) name = names a_transaction (visible_at a s) name ∷ []
 callee_sites a s (Some (NameSubject receiver)) name =
     reference_sites a s receiver receiver.span
-    ++ option_map_or (λ c. names a_public_transaction (visible_behind_dot c) name ∷ []) (contract_of_kind a.program (kind_of_variable a s receiver.name)) []
+    ++ option_map_or (λ c. names a_public_transaction (visible_behind_dot c) name ∷ [])
+    (contract_of_kind a.program (kind_of_variable a s receiver.name)) []
 
+-- how many arguments there are
 abbrev pub count_args : Exprs → ℕ
 count_args no_exprs = 0
 count_args (and_expr e es) = count_args es + 1
@@ -68,6 +74,7 @@ passing_sites a s span None args = []
 passing_sites a s span (Some params) args =
     passes (count_args args) (length (params_of params)) span ∷ needed_args a s (kinds_of_params a.program params) args
 
+-- the sites of an expression, of a call and of arguments
 abbrev mutual
   pub expr_sites : Around → Scope → Expr → List Site
   expr_sites a s (number_expr value span) = []
@@ -75,17 +82,21 @@ abbrev mutual
   expr_sites a s (bool_expr value span) = []
   expr_sites a s (name_expr name span) = names a_variable (visible_at a s) name ∷ []
   expr_sites a s (this_expr token span) = []
-  expr_sites a s (unary_expr operator sign operand span) = needs a s (kind_of_unary operator) operand ∷ expr_sites a s operand
-  expr_sites a s (binary_expr operator sign left right span) = operand_sites a s operator left right ++ expr_sites a s left ++ expr_sites a s right
+  expr_sites a s (unary_expr operator sign operand span) =
+      needs a s (kind_of_unary operator) operand ∷ expr_sites a s operand
+  expr_sites a s (binary_expr operator sign left right span) =
+      operand_sites a s operator left right ++ expr_sites a s left ++ expr_sites a s right
   expr_sites a s (call_expr call span) = call_sites a s call
   expr_sites a s (new_expr of args span) =
       names an_object (visible_at a s) (part_of_named of)
-      ∷ passing_sites a s (part_of_named of).span (option_map (λ constructor. constructor.params) (constructed a.program of)) args ++ args_sites a s args
+      ∷ passing_sites a s (part_of_named of).span (option_map (λ m. m.params) (constructed a.program of)) args
+      ++ args_sites a s args
 
   pub call_sites : Around → Scope → Call → List Site
   call_sites a s (call_with receiver name args) =
       callee_sites a s receiver name
-      ++ passing_sites a s name.span (option_map (λ t. t.params) (called a s receiver name.name)) args ++ args_sites a s args
+      ++ passing_sites a s name.span (option_map (λ t. t.params) (called a s receiver name.name)) args
+      ++ args_sites a s args
 
   pub args_sites : Around → Scope → Exprs → List Site
   args_sites a s no_exprs = []

@@ -1,12 +1,10 @@
 -- The faults that a program has: one condition each, on its sites (the Obsidian language documentation; the numbers, and
 -- which fault comes first, are this project's own).
 use Rattle.std.specs.Prelude.{◌≡◌, ℕ, ◌≤◌, ◌<◌, ◌⊎◌, Bool, true, false, not, ◌&&◌, ◌||◌, nat_eq, nat_lt, List, [], ◌∷◌, Option, Some, None, is_some, flat_map, Contains, if◌then◌else◌}
-use Rattle.std.specs.Option.{option_map_or}
-use Rattle.ob_base.specs.declared.fault.Span.{Span}
 use Rattle.ob_base.specs.declared.fault.ProgramFault.{ProgramFault}
 use Rattle.ob_typing.specs.Names.{same, is_among}
 use Rattle.ob_typing.specs.Declared.{Program, state_names, field_names}
-use Rattle.ob_typing.specs.Permissions.{WrittenPermission, as_unowned, same_mode, is_owning, may_leave}
+use Rattle.ob_typing.specs.Permissions.{as_unowned, same_mode, is_owning, may_leave}
 use Rattle.ob_typing.specs.Kinds.{Kind, nothing, unknown, is_value_type, differs, is_no_reference, is_no_value, same_kind}
 use Rattle.ob_typing.specs.Interfaces.{meets}
 use Rattle.ob_typing.specs.Visible.{is_visible, means}
@@ -23,10 +21,12 @@ abbrev pub is_duplicate : Site → Bool
 is_duplicate (declares taken name) = is_among name.name taken
 is_duplicate site = false
 
+-- whether there is something in a list
 abbrev pub is_not_empty : {A : Type 0} → List A → Bool
 is_not_empty [] = false
 is_not_empty (x ∷ xs) = true
 
+-- whether a kind is known
 abbrev pub is_known : Kind → Bool
 is_known unknown = false
 is_known kind = true

@@ -1,25 +1,27 @@
 -- What a contract must have of its interface (Coblenz et al., TOPLAS 42(3), 2020, "Interfaces"; how permissions are compared
 -- is this project's own).
-use Rattle.std.specs.Prelude.{ℕ, Bool, true, false, not, ◌&&◌, ◌||◌, List, [], ◌∷◌, Option, Some, None, is_some, if◌then◌else◌}
+use Rattle.std.specs.Prelude.{Bool, true, false, not, ◌&&◌, ◌||◌, List, [], ◌∷◌, Option, Some, None, if◌then◌else◌}
 use Rattle.std.specs.Option.{option_map_or}
 use Rattle.std.specs.List.{list_all, list_any}
 use Rattle.std.specs.Cmp.Lexicographic.{pointwise}
-use Rattle.ob_tree.specs.Names.{Named, Ref, ref_with, TypeExpr, int_type, bool_type, text_type, ref_type}
+use Rattle.ob_tree.specs.Names.{Named, ref_with, TypeExpr, ref_type}
 use Rattle.ob_tree.specs.Members.{Contract, Formal}
 use Rattle.ob_tree.specs.declared.name.PermNode.{PermNode}
 use Rattle.ob_tree.specs.declared.name.Subject.{Subject}
 use Rattle.ob_tree.specs.declared.name.Subject.TheVariants.{This, Name as NameSubject}
-use Rattle.ob_typing.specs.Names.{Name, same, is_among, firsts}
+use Rattle.ob_typing.specs.Names.{same, is_among, firsts}
 use Rattle.ob_typing.specs.Declared.{Program, part_of_named, contract_at, state_names, Param, params_of, Transaction, transactions_of, transaction_named}
 use Rattle.ob_typing.specs.Permissions.{WrittenPermission, as_unowned, is_of, known_permission, known_exit, agree, agree_if_known}
 use Rattle.ob_typing.specs.Kinds.{Kind, a_reference, kind_of_type, permission_in, same_kind}
 
 -- What is held of `this`.
 
+-- whether it is `this`
 abbrev pub is_this_subject : Subject → Bool
 is_this_subject (This span) = true
 is_this_subject (NameSubject name) = false
 
+-- whether a parameter is `this`
 abbrev pub is_this : Formal → Bool
 is_this formal = is_this_subject formal.name
 
@@ -28,9 +30,11 @@ pub record Held : Type 0 where
   pub entry : Option WrittenPermission
   pub exit : Option WrittenPermission
 
+-- nothing is known of what is held
 abbrev pub held_unknown : Held
 held_unknown = record { entry = None; exit = None }
 
+-- what is held with this permission, if the type is the contract's own and the permission has no fault
 abbrev pub held_with : Contract → Named → PermNode → Option PermNode → Held
 held_with own of perm exit =
     if same own.name (part_of_named of).name && is_of own perm
@@ -57,6 +61,7 @@ abbrev pub where_both_refer : Program → Kind → Kind → (Contract → Bool) 
 where_both_refer program (a_reference m) (a_reference n) test = option_map_or test (contract_at program m) true
 where_both_refer program a b test = true
 
+-- the same kind, and permissions that agree
 abbrev pub same_type : Program → TypeExpr → TypeExpr → Bool
 same_type program s t =
     let a = kind_of_type program s in
@@ -75,6 +80,7 @@ same_param program p q =
     && where_both_refer program (kind_of_type program p.of) (kind_of_type program q.of)
     (λ c. agree_if_known c (exit_in c p.of p.exit) (exit_in c q.of q.exit))
 
+-- the same type of result, or none in both
 abbrev pub same_result : Program → Option TypeExpr → Option TypeExpr → Bool
 same_result program None None = true
 same_result program (Some s) (Some t) = same_type program s t
@@ -92,11 +98,15 @@ answers program interface own asked t =
     && same_result program t.result asked.result
     && same_held own (held_of_this own t.params) (held_of_this interface asked.params)
 
+-- whether a contract has a transaction of the name, as its interface asks
+abbrev pub has_answer : Program → Contract → Contract → Transaction → Bool
+has_answer program interface own asked =
+    option_map_or (answers program interface own asked) (transaction_named own asked.name.name) false
+
 -- whether a contract has what its interface asks: an asset only behind an asset interface, each of the states, and each of
 -- the transactions
 abbrev pub meets : Program → Contract → Contract → Bool
 meets program interface own =
     (not own.asset || interface.asset)
     && list_all (λ state. is_among state (state_names own)) (state_names interface)
-    && list_all (λ asked. option_map_or (answers program interface own asked) (transaction_named own asked.name.name) false)
-    (firsts (λ t. t.name.name) (transactions_of interface))
+    && list_all (has_answer program interface own) (firsts (λ t. t.name.name) (transactions_of interface))

@@ -1,12 +1,10 @@
 -- Kinds: what a written type stands for, without its permission (Coblenz et al., TOPLAS 42(3), 2020, "Types"; the Obsidian
 -- language documentation, "Types").
-use Rattle.std.specs.Prelude.{ℕ, Bool, true, false, not, ◌&&◌, ◌||◌, nat_eq, List, [], ◌∷◌, map, Option, Some, None, is_some, option_and_then, if◌then◌else◌}
+use Rattle.std.specs.Prelude.{ℕ, Bool, true, false, not, ◌||◌, nat_eq, List, map, Option, None, option_and_then, if◌then◌else◌}
 use Rattle.std.specs.Option.{option_map_or}
-use Rattle.ob_base.specs.declared.fault.Span.{Span}
-use Rattle.ob_tree.specs.Names.{Named, Ref, ref_with, TypeExpr, int_type, bool_type, text_type, ref_type}
+use Rattle.ob_tree.specs.Names.{Ref, ref_with, TypeExpr, int_type, bool_type, text_type, ref_type}
 use Rattle.ob_tree.specs.Stmts.{Local, int_local, bool_local, text_local, named_local}
 use Rattle.ob_tree.specs.Members.{Contract, Formal}
-use Rattle.ob_tree.specs.declared.name.PermNode.{PermNode}
 use Rattle.ob_typing.specs.Names.{Name}
 use Rattle.ob_typing.specs.Declared.{Program, part_of_named, contract_named, contract_at, params_of}
 use Rattle.ob_typing.specs.Permissions.{WrittenPermission, as_unowned, written_permission, is_of}

@@ -19,3 +19,5 @@ pub mod Bodies
 pub mod TableOf
 pub mod Conditions
 pub mod Shape
+pub mod Generics
+pub mod WellMade

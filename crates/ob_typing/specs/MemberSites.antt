@@ -1,8 +1,8 @@
 -- The sites of members, contracts and programs (the Obsidian language documentation, "Contracts").
-use Rattle.std.specs.Prelude.{ℕ, Bool, true, false, List, [], ◌∷◌, ◌++◌, map, flat_map, filter, length, Option, Some, None, option_and_then}
+use Rattle.std.specs.Prelude.{ℕ, Bool, true, false, List, [], ◌∷◌, ◌++◌, map, flat_map, filter, length, Option, option_and_then}
 use Rattle.std.specs.Option.{option_map_or}
 use Rattle.ob_base.specs.declared.fault.Span.{Span}
-use Rattle.ob_tree.specs.Names.{Named, Ref, ref_with, TypeExpr, int_type, bool_type, text_type, ref_type}
+use Rattle.ob_tree.specs.Names.{Ref, ref_with, TypeExpr, ref_type}
 use Rattle.ob_tree.specs.Stmts.{Block}
 use Rattle.ob_tree.specs.Members.{Field, Formal, Listed, Member, state_member, field_member, constructor_member, transaction_member, Contract}
 use Rattle.ob_tree.specs.declared.name.NamePart.{NamePart}
@@ -25,9 +25,11 @@ use Rattle.ob_typing.specs.StatementSites.{place_of_subject, body_sites}
 -- whose object a field of this type refers to, and how
 abbrev pub holder_sites : Program → Contract → TypeExpr → Span → List Site
 holder_sites program own (ref_type (ref_with of perm)) span =
-    option_map_or (λ c. option_map_or (λ p. holds own c p span ∷ []) (known_permission c perm) []) (contract_of_name program (part_of_named of).name) []
+    option_map_or (λ c. option_map_or (λ p. holds own c p span ∷ []) (known_permission c perm) [])
+    (contract_of_name program (part_of_named of).name) []
 holder_sites program own type span = []
 
+-- a field: its type, and whom it owns
 abbrev pub field_sites : Program → Contract → Field → List Site
 field_sites program own f = type_sites (visible_in program own) f.of ++ holder_sites program own f.of f.name.span
 
@@ -40,10 +42,12 @@ this_sites v before constructor (ref_type (ref_with of perm)) span =
     ∷ types_this v.own.name (kind_of_ref v.program (ref_with of perm)) (part_of_named of) ∷ []
 this_sites v before constructor type span = takes_this before constructor type span ∷ []
 
+-- a parameter by what it is called: `this` is asked for more
 abbrev pub subject_param_sites : Visible → ℕ → Bool → TypeExpr → Subject → List Site
 subject_param_sites v before constructor of (This span) = this_sites v before constructor of span
 subject_param_sites v before constructor of (NameSubject name) = []
 
+-- the type of a parameter, and what stands behind `>>`
 abbrev pub formal_type_sites : Visible → TypeExpr → Option PermNode → Span → List Site
 formal_type_sites v (ref_type of) exit span = ref_sites v of exit
 formal_type_sites v type exit span = exits type exit span ∷ []
@@ -51,7 +55,8 @@ formal_type_sites v type exit span = exits type exit span ∷ []
 -- one parameter behind these, of a constructor or not
 abbrev pub formal_sites : Visible → Bool → List Formal → Formal → List Site
 formal_sites v constructor before f =
-    formal_type_sites v f.of f.exit (place_of_subject f.name) ++ subject_param_sites v (length before) constructor f.of f.name
+    formal_type_sites v f.of f.exit (place_of_subject f.name)
+    ++ subject_param_sites v (length before) constructor f.of f.name
 
 -- all of them; the names of fields are taken
 abbrev pub formals_sites : Program → Contract → Bool → List Formal → List Site
@@ -62,6 +67,7 @@ formals_sites program own constructor formals =
 
 -- Listed fields.
 
+-- the type with which a field is listed, beside the field's own
 abbrev pub listed_type_site : Program → Contract → NamePart → Ref → Site
 listed_type_site program own field (ref_with of perm) =
     lists (kind_of_field program own field.name) (kind_of_ref program (ref_with of perm)) (part_of_named of).span
@@ -75,13 +81,16 @@ listed_sites program own listed =
 
 -- Members.
 
+-- what stands around a body of this contract
 abbrev pub around : Program → Contract → Kind → Around
 around program own result = record { program = program; own = own; result = result }
 
 -- a body with these parameters
 abbrev pub body_of_params_sites : Program → Contract → Kind → List Formal → Block → List Site
-body_of_params_sites program own result params body = body_sites (around program own result) (scope_of_params program params) body
+body_of_params_sites program own result params body =
+    body_sites (around program own result) (scope_of_params program params) body
 
+-- one member: what its names and types stand for, and its body
 abbrev pub member_sites : Program → Contract → Member → List Site
 member_sites program own (state_member name fields span) =
     flat_map (λ f. is_inside_state f.available f.name.span ∷ field_sites program own f) fields
@@ -89,9 +98,11 @@ member_sites program own (field_member f) = map (names_state own) f.available ++
 member_sites program own (constructor_member of perm params body span) =
     names itself (visible_in program own) (part_of_named of)
     ∷ gives (known_permission own perm) (place_of_perm span perm)
-    ∷ perm_sites own perm ++ formals_sites program own true params ++ body_of_params_sites program own nothing params body
+    ∷ perm_sites own perm ++ formals_sites program own true params
+    ++ body_of_params_sites program own nothing params body
 member_sites program own (transaction_member private listed name params result body span) =
-    listed_sites program own listed ++ formals_sites program own false params ++ result_sites (visible_in program own) result
+    listed_sites program own listed ++ formals_sites program own false params
+    ++ result_sites (visible_in program own) result
     ++ option_map_or (body_of_params_sites program own (kind_of_result program result) params) body []
 
 -- Contracts.
@@ -100,18 +111,23 @@ member_sites program own (transaction_member private listed name params result b
 abbrev pub declaration_sites : Contract → List Site
 declaration_sites own =
     declared_sites (λ s. s) [] (states_of own) ++ limit_sites (λ s. s) states_most (states_of own)
-    ++ declared_sites (λ f. f.field.name) [] (fields_of own) ++ limit_sites (λ f. f.field.name) fields_most (fields_of own)
+    ++ declared_sites (λ f. f.field.name) [] (fields_of own)
+    ++ limit_sites (λ f. f.field.name) fields_most (fields_of own)
     ++ declared_sites (λ m. part_of_named m.of) [] (constructors_of own)
-    ++ declared_sites (λ t. t.name) [] (transactions_of own) ++ limit_sites (λ t. t.name) transactions_most (transactions_of own)
+    ++ declared_sites (λ t. t.name) [] (transactions_of own)
+    ++ limit_sites (λ t. t.name) transactions_most (transactions_of own)
 
 -- the interface that a contract names, and what it asks of the contract
 abbrev pub interface_sites : Program → Contract → List Site
 interface_sites program own =
     option_map_or (λ named. names an_interface (visible_in program own) (part_of_named named) ∷ []) own.implements []
-    ++ option_map_or (λ interface. implements_one program interface own own.span ∷ []) (option_and_then (contract_at program) (interface_of program own)) []
+    ++ option_map_or (λ interface. implements_one program interface own own.span ∷ [])
+    (option_and_then (contract_at program) (interface_of program own)) []
 
+-- a contract or an interface: what it declares, its interface, and each member
 abbrev pub contract_sites : Program → Contract → List Site
-contract_sites program own = declaration_sites own ++ interface_sites program own ++ flat_map (member_sites program own) own.members
+contract_sites program own =
+    declaration_sites own ++ interface_sites program own ++ flat_map (member_sites program own) own.members
 
 -- the main contracts, one after another
 abbrev pub main_sites : Program → List Site

@@ -1,5 +1,5 @@
 -- The numbers of things in the class table. What stands for nothing gets some number: no such table is handed out.
-use Rattle.std.specs.Prelude.{ℕ, ◌+◌, Bool, false, List, map, length, Option, Some, None, unwrap_or, slice_get, if◌then◌else◌}
+use Rattle.std.specs.Prelude.{ℕ, ◌+◌, false, List, map, length, Option, unwrap_or, slice_get, if◌then◌else◌}
 use Rattle.std.specs.Option.{option_map_or}
 use Rattle.ob_base.specs.declared.id.ContractId.{ContractId}
 use Rattle.ob_base.specs.declared.id.FieldId.{FieldId}
@@ -15,6 +15,7 @@ use Rattle.ob_typing.specs.Names.{Name, is_among, number_of}
 use Rattle.ob_typing.specs.Declared.{state_names, field_names, transactions_of}
 use Rattle.ob_typing.specs.Permissions.{WrittenPermission, as_shared, as_unowned, as_owner, as_owner_in, written_permission}
 
+-- the number of a contract
 abbrev pub contract_id : Option ℕ → ContractId
 contract_id n = record { 0 = unwrap_or n 0 }
 
@@ -32,7 +33,10 @@ first_transaction c = if c.interface then 0 else 1
 
 -- the number of a contract's transaction
 abbrev pub transaction_id : Option Contract → Name → TxId
-transaction_id c name = record { 0 = option_map_or (λ c. unwrap_or (number_of name (map (λ t. t.name.name) (transactions_of c))) 0 + first_transaction c) c 0 }
+transaction_id c name = record {
+  0 = option_map_or
+      (λ c. unwrap_or (number_of name (map (λ t. t.name.name) (transactions_of c))) 0 + first_transaction c) c 0;
+}
 
 -- Permissions over the numbers of states.
 

@@ -50,6 +50,7 @@ pub data Situation : Type 0 where
   in_other_state : Situation
   in_no_state : Situation
 
+-- where an object may be found beside these states of its contract
 abbrev pub other_situations : Contract → List Name → List Situation
 other_situations c [] = (if c.interface then in_other_state ∷ [] else []) ++ in_no_state ∷ []
 other_situations c (state ∷ states) = if c.interface then in_other_state ∷ [] else []
@@ -66,6 +67,7 @@ allows (as_owner_in states) (in_state state) = is_among state states
 allows (as_owner_in states) s = false
 allows p s = false
 
+-- whether both share, both have no say, or both own
 abbrev pub same_mode : WrittenPermission → WrittenPermission → Bool
 same_mode as_shared as_shared = true
 same_mode as_shared p = false
@@ -73,6 +75,7 @@ same_mode as_unowned as_unowned = true
 same_mode as_unowned p = false
 same_mode p q = is_owning q
 
+-- whether two answers are the same
 abbrev pub same_answer : Bool → Bool → Bool
 same_answer true b = b
 same_answer false b = not b

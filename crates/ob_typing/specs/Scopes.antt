@@ -2,19 +2,17 @@
 -- "Expressions"; the numbers of variables are this project's own).
 use Rattle.std.specs.Prelude.{ℕ, ◌+◌, Bool, true, false, List, [], ◌∷◌, ◌++◌, map, length, Option, Some, None, option_and_then, if◌then◌else◌}
 use Rattle.std.specs.Option.{option_map_or}
-use Rattle.ob_base.specs.declared.fault.Span.{Span}
 use Rattle.ob_base.specs.declared.operator.Operator.{Operator}
-use Rattle.ob_base.specs.declared.operator.Operator.TheVariants.{Add, Sub, Mul, Div, Rem, Equal, NotEqual, Less, LessEqual, Greater, GreaterEqual, And, Or, Not, Negate}
+use Rattle.ob_base.specs.declared.operator.Operator.TheVariants.{Add, Sub, Mul, Div, Rem, Not}
 use Rattle.ob_tree.specs.Names.{Named}
-use Rattle.ob_tree.specs.Exprs.{Expr, number_expr, text_expr, bool_expr, name_expr, this_expr, unary_expr, binary_expr, call_expr, new_expr, Call, call_with}
+use Rattle.ob_tree.specs.Exprs.{Expr, number_expr, text_expr, bool_expr, name_expr, this_expr, unary_expr, binary_expr, call_expr, new_expr, call_with}
 use Rattle.ob_tree.specs.Stmts.{Stmt, declare_stmt, assign_stmt, stage_stmt, change_stmt, call_stmt, test_stmt, if_stmt, return_stmt, revert_stmt, disown_stmt, assert_stmt, Block, block_with, Else, no_else, else_with, Stmts, no_stmts, and_stmt}
 use Rattle.ob_tree.specs.Members.{Contract, Formal}
-use Rattle.ob_tree.specs.declared.name.NamePart.{NamePart}
 use Rattle.ob_tree.specs.declared.name.Subject.{Subject}
 use Rattle.ob_tree.specs.declared.name.Subject.TheVariants.{This, Name as NameSubject}
 use Rattle.ob_typing.specs.Names.{Name, first_named, in_order}
 use Rattle.ob_typing.specs.Declared.{Program, part_of_named, field_named, Param, params_of, Transaction, transaction_named, Constructor, constructor_of}
-use Rattle.ob_typing.specs.Kinds.{Kind, an_int, a_bool, a_text, a_reference, nothing, unknown, contract_of_name, contract_of_kind, kind_of_name, kind_of_type, kind_of_local, kind_of_result}
+use Rattle.ob_typing.specs.Kinds.{Kind, an_int, a_bool, a_text, unknown, contract_of_name, contract_of_kind, kind_of_name, kind_of_type, kind_of_local, kind_of_result}
 use Rattle.ob_typing.specs.Visible.{Visible}
 
 -- what stands around a body: the program, the contract, and the kind of the result
@@ -45,12 +43,23 @@ visible_at a s = record { program = a.program; own = a.own; variables = map (λ 
 
 -- The variables of a body are numbered from 1: first the parameters beside `this`, then the locals as they are declared.
 
+-- the variable of a parameter behind these
 abbrev pub param_variable : Program → List Param → Param → List Variable
-param_variable program before p = record { name = p.name.name; of = kind_of_type program p.of; number = length before + 1; is_param = true } ∷ []
+param_variable program before p = record {
+  name = p.name.name;
+  of = kind_of_type program p.of;
+  number =
+      length before + 1;
+  is_param = true;
+} ∷ []
 
 -- a body begins with its parameters
 abbrev pub scope_of_params : Program → List Formal → Scope
-scope_of_params program formals = record { variables = in_order (param_variable program) (params_of formals); count = length (params_of formals) }
+scope_of_params program formals = record {
+  variables = in_order (param_variable program) (params_of formals);
+  count =
+      length (params_of formals);
+}
 
 -- the scope with one more local
 abbrev pub with_local : Scope → Name → Kind → Scope
@@ -96,6 +105,7 @@ after_stmt a s x = past s (locals_in x)
 
 -- The kinds of expressions.
 
+-- the kind of `this`: a reference to the contract around it
 abbrev pub kind_of_this : Around → Kind
 kind_of_this a = kind_of_name a.program a.own.name
 
@@ -107,6 +117,7 @@ kind_of_field program c name = option_map_or (λ f. kind_of_type program f.of) (
 abbrev pub kind_of_variable : Around → Scope → Name → Kind
 kind_of_variable a s name = option_map_or (λ v. v.of) (variable_named s name) (kind_of_field a.program a.own name)
 
+-- the kind of `this`, or of a name
 abbrev pub kind_of_subject : Around → Scope → Subject → Kind
 kind_of_subject a s (This span) = kind_of_this a
 kind_of_subject a s (NameSubject name) = kind_of_variable a s name.name
@@ -119,11 +130,14 @@ public_transaction name c = option_and_then (λ t. if t.private then None else S
 abbrev pub called : Around → Scope → Option Subject → Name → Option Transaction
 called a s None name = transaction_named a.own name
 called a s (Some (This span)) name = transaction_named a.own name
-called a s (Some (NameSubject receiver)) name = option_and_then (public_transaction name) (contract_of_kind a.program (kind_of_variable a s receiver.name))
+called a s (Some (NameSubject receiver)) name =
+    option_and_then (public_transaction name) (contract_of_kind a.program (kind_of_variable a s receiver.name))
 
 -- the constructor behind `new`
 abbrev pub constructed : Program → Named → Option Constructor
-constructed program of = option_and_then (λ c. if c.interface then None else Some (constructor_of c)) (contract_of_name program (part_of_named of).name)
+constructed program of =
+    option_and_then (λ c. if c.interface then None else Some (constructor_of c))
+    (contract_of_name program (part_of_named of).name)
 
 -- an operator with one operand: what it needs and gives
 abbrev pub kind_of_unary : Operator → Kind
@@ -139,6 +153,7 @@ kind_of_binary Div = an_int
 kind_of_binary Rem = an_int
 kind_of_binary operator = a_bool
 
+-- the kind of an expression's value
 abbrev pub kind_of : Around → Scope → Expr → Kind
 kind_of a s (number_expr value span) = an_int
 kind_of a s (text_expr value span) = a_text
@@ -147,5 +162,7 @@ kind_of a s (name_expr name span) = kind_of_variable a s name.name
 kind_of a s (this_expr token span) = kind_of_this a
 kind_of a s (unary_expr operator sign operand span) = kind_of_unary operator
 kind_of a s (binary_expr operator sign left right span) = kind_of_binary operator
-kind_of a s (call_expr (call_with receiver name args) span) = option_map_or (λ t. kind_of_result a.program t.result) (called a s receiver name.name) unknown
-kind_of a s (new_expr of args span) = option_map_or (λ constructor. kind_of_name a.program (part_of_named of).name) (constructed a.program of) unknown
+kind_of a s (call_expr (call_with receiver name args) span) =
+    option_map_or (λ t. kind_of_result a.program t.result) (called a s receiver name.name) unknown
+kind_of a s (new_expr of args span) =
+    option_map_or (λ constructor. kind_of_name a.program (part_of_named of).name) (constructed a.program of) unknown

@@ -13,6 +13,7 @@ use Rattle.ob_typing.specs.Kinds.{Kind}
 use Rattle.ob_typing.specs.Visible.{Need, Visible}
 use Rattle.ob_typing.specs.Scopes.{Variable}
 
+-- a place, what is needed there, and what is there
 pub data Site : Type 0 where
   -- a thing gets a name beside things of these names
   declares : List Name → NamePart → Site

@@ -6,16 +6,15 @@ use Rattle.ob_tree.specs.Exprs.{Expr}
 use Rattle.ob_tree.specs.Stmts.{Given, Stmt, declare_stmt, assign_stmt, stage_stmt, change_stmt, call_stmt, test_stmt, if_stmt, return_stmt, revert_stmt, disown_stmt, assert_stmt, Block, block_with, Else, no_else, else_with, Stmts, no_stmts, and_stmt}
 use Rattle.ob_tree.specs.Members.{Contract}
 use Rattle.ob_tree.specs.declared.name.NamePart.{NamePart}
-use Rattle.ob_tree.specs.declared.name.PermNode.{PermNode}
 use Rattle.ob_tree.specs.declared.name.Subject.{Subject}
 use Rattle.ob_tree.specs.declared.name.Subject.TheVariants.{This, Name as NameSubject}
 use Rattle.ob_typing.specs.Names.{Name, in_order}
 use Rattle.ob_typing.specs.Declared.{field_names}
 use Rattle.ob_typing.specs.Kinds.{Kind, a_bool, a_text, unknown, contract_of_kind, kind_of_local}
 use Rattle.ob_typing.specs.Visible.{a_variable}
-use Rattle.ob_typing.specs.Scopes.{Around, Variable, Scope, variable_named, visible_at, locals_in_block, past, after_stmt, kind_of_field, kind_of_variable, kind_of_subject, kind_of}
+use Rattle.ob_typing.specs.Scopes.{Around, Variable, Scope, variable_named, visible_at, locals_in_block, past, after_stmt, kind_of_field, kind_of_subject, kind_of}
 use Rattle.ob_typing.specs.Reached.{ends, one_ends}
-use Rattle.ob_typing.specs.Sites.{Site, declares, names, names_state, names_field, refers, returns, closes, follows, assigns}
+use Rattle.ob_typing.specs.Sites.{Site, declares, names, names_state, names_field, returns, closes, follows, assigns}
 use Rattle.ob_typing.specs.TypeSites.{perm_sites, local_sites}
 use Rattle.ob_typing.specs.ExpressionSites.{reference_sites, expr_sites, value_sites}
 
@@ -42,6 +41,7 @@ abbrev pub subject_sites : Around → Scope → Subject → Span → List Site
 subject_sites a s (This token) span = []
 subject_sites a s (NameSubject name) span = reference_sites a s name span
 
+-- the place of `this` or of a name
 abbrev pub place_of_subject : Subject → Span
 place_of_subject (This span) = span
 place_of_subject (NameSubject name) = name.span
@@ -51,6 +51,7 @@ abbrev pub assigned : Option Variable → Kind → Kind
 assigned None field = field
 assigned (Some v) field = if v.is_param then unknown else v.of
 
+-- the kind that is needed of what is assigned to a name
 abbrev pub kind_of_target : Around → Scope → Name → Kind
 kind_of_target a s name = assigned (variable_named s name) (kind_of_field a.program a.own name)
 
@@ -61,7 +62,8 @@ given_sites a s before field value =
 
 -- the fields given with a change of state, behind those of the row of staged statements before it
 abbrev pub change_sites : Around → Scope → List Name → List Given → List Site
-change_sites a s row given = in_order (λ before g. given_sites a s (row ++ map (λ b. b.field.name) before) g.field g.value) given
+change_sites a s row given =
+    in_order (λ before g. given_sites a s (row ++ map (λ b. b.field.name) before) g.field g.value) given
 
 -- the row of staged statements behind a statement: the names of its fields
 abbrev pub row_after : List Name → Stmt → List Name
@@ -70,14 +72,16 @@ row_after row x = []
 
 -- what a return gives: nothing, or a value, of which the statement says what is needed
 abbrev pub returned_sites : Around → Scope → Option Expr → Span → List Site
-returned_sites a s value span = returns a.program a.result (option_map (kind_of a s) value) span ∷ option_map_or (expr_sites a s) value []
+returned_sites a s value span =
+    returns a.program a.result (option_map (kind_of a s) value) span ∷ option_map_or (expr_sites a s) value []
 
 abbrev mutual
   -- a statement behind a row of staged ones for fields of these names
   pub stmt_sites : Around → Scope → List Name → Stmt → List Site
   stmt_sites a s row (declare_stmt of name value span) =
       local_sites (visible_at a s) of
-      ++ declares (map (λ v. v.name) s.variables ++ field_names a.own) name ∷ value_sites a s (kind_of_local a.program of) value
+      ++ declares (map (λ v. v.name) s.variables ++ field_names a.own) name
+      ∷ value_sites a s (kind_of_local a.program of) value
   stmt_sites a s row (assign_stmt name value span) =
       names a_variable (visible_at a s) name
       ∷ assigns (variable_named s name.name) name.span ∷ value_sites a s (kind_of_target a s name.name) value
@@ -89,7 +93,8 @@ abbrev mutual
       ++ on_contract a (kind_of_subject a s subject) (λ c. names_state c state ∷ [])
       ++ block_sites a s branch ++ else_sites a (past s (locals_in_block branch)) otherwise
   stmt_sites a s row (if_stmt condition branch otherwise span) =
-      value_sites a s a_bool condition ++ block_sites a s branch ++ else_sites a (past s (locals_in_block branch)) otherwise
+      value_sites a s a_bool condition ++ block_sites a s branch
+      ++ else_sites a (past s (locals_in_block branch)) otherwise
   stmt_sites a s row (return_stmt value span) = returned_sites a s value span
   stmt_sites a s row (revert_stmt text span) = option_map_or (value_sites a s a_text) text []
   stmt_sites a s row (disown_stmt name span) = reference_sites a s name name.span
@@ -113,4 +118,5 @@ abbrev mutual
 
 -- a body
 abbrev pub body_sites : Around → Scope → Block → List Site
-body_sites a s (block_with statements end) = block_sites a s (block_with statements end) ++ closes a.result (one_ends statements) end ∷ []
+body_sites a s (block_with statements end) =
+    block_sites a s (block_with statements end) ++ closes a.result (one_ends statements) end ∷ []

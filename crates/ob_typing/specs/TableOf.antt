@@ -1,5 +1,5 @@
 -- The class table that a program has (Coblenz et al., TOPLAS 42(3), 2020; the numbers are this project's own).
-use Rattle.std.specs.Prelude.{ℕ, ◌+◌, Bool, true, false, List, [], ◌∷◌, ◌++◌, map, flat_map, length, Option, Some, None, option_map, if◌then◌else◌}
+use Rattle.std.specs.Prelude.{ℕ, ◌+◌, false, List, [], ◌∷◌, ◌++◌, map, flat_map, length, Option, Some, None, option_map, if◌then◌else◌}
 use Rattle.std.specs.Option.{option_map_or}
 use Rattle.ob_base.specs.declared.permission.Perm.{Perm}
 use Rattle.ob_tree.specs.Names.{Named, Ref, ref_with, TypeExpr, int_type, bool_type, text_type, ref_type}
@@ -23,15 +23,18 @@ use Rattle.ob_table.specs.declared.contract.Contract.{Contract}
 use Rattle.ob_typing.specs.Names.{in_order}
 use Rattle.ob_typing.specs.Declared.{Program, part_of_named, contract_named, state_names, Availability, always, in_states, FieldDeclaration, fields_of, Param, params_of, Transaction, transactions_of, Constructor, constructor_of}
 use Rattle.ob_typing.specs.Kinds.{Kind, nothing, contract_of_name, kind_of_result, interface_of}
-use Rattle.ob_typing.specs.Scopes.{Around, Scope, scope_of_params}
+use Rattle.ob_typing.specs.Scopes.{scope_of_params}
 use Rattle.ob_typing.specs.MemberSites.{around}
 use Rattle.ob_typing.specs.Numbers.{contract_id, field_id, numbers_of_states, perm_on}
 use Rattle.ob_typing.specs.Bodies.{resolved_stmts}
 
 -- Types.
 
+-- a reference to the contract of this name
 abbrev pub reference_of : Program → Named → PermNode → TableKind
-reference_of program of perm = Reference (contract_id (contract_named program (part_of_named of).name)) (perm_on (contract_of_name program (part_of_named of).name) perm)
+reference_of program of perm =
+    Reference (contract_id (contract_named program (part_of_named of).name))
+    (perm_on (contract_of_name program (part_of_named of).name) perm)
 
 -- a type with its permission
 abbrev pub table_kind : Program → TypeExpr → TableKind
@@ -47,7 +50,8 @@ written_at_end entry (Some exit) = exit
 
 -- the permission at the end of a parameter: of a value, Unowned
 abbrev pub exit_of_type : Program → TypeExpr → Option PermNode → Perm
-exit_of_type program (ref_type (ref_with of perm)) exit = perm_on (contract_of_name program (part_of_named of).name) (written_at_end perm exit)
+exit_of_type program (ref_type (ref_with of perm)) exit =
+    perm_on (contract_of_name program (part_of_named of).name) (written_at_end perm exit)
 exit_of_type program type exit = perm_of unowned
 
 -- Fields.
@@ -57,14 +61,27 @@ abbrev pub available_in : List (List ℕ) → Availability → ℕ
 available_in states always = mask_of anywhere
 available_in states (in_states names) = mask_of (numbers_of_states states names)
 
+-- a field of the table
 abbrev pub field_in_table : Program → ContractNode → FieldDeclaration → Field
-field_in_table program own f = record { name = f.field.name.name; of = table_kind program f.field.of; available = available_in (state_names own) f.available }
+field_in_table program own f = record {
+  name = f.field.name.name;
+  of = table_kind program f.field.of;
+  available =
+      available_in (state_names own) f.available;
+}
 
 -- Signatures.
 
+-- a parameter of the table
 abbrev pub param_in_table : Program → Param → TableParam
-param_in_table program p = record { name = p.name.name; of = table_kind program p.of; exit = exit_of_type program p.of p.exit }
+param_in_table program p = record {
+  name = p.name.name;
+  of = table_kind program p.of;
+  exit =
+      exit_of_type program p.of p.exit;
+}
 
+-- the field of this name, listed with a type and a permission at the end
 abbrev pub listed_with : Program → ContractNode → List ℕ → Ref → Option PermNode → Listed
 listed_with program own field (ref_with of perm) exit = record {
   field = field_id own field;
@@ -72,14 +89,17 @@ listed_with program own field (ref_with of perm) exit = record {
   exit = perm_on (contract_of_name program (part_of_named of).name) (written_at_end perm exit);
 }
 
+-- a listed field of the table
 abbrev pub listed_in_table : Program → ContractNode → ListedNode → Listed
 listed_in_table program own l = listed_with program own l.name.name l.of l.exit
 
 -- the permission of `this`, at the start and at the end
 abbrev pub perms_by_type : ContractNode → TypeExpr → Option PermNode → Perm × Perm
-perms_by_type own (ref_type (ref_with of perm)) exit = (perm_on (Some own) perm, perm_on (Some own) (written_at_end perm exit))
+perms_by_type own (ref_type (ref_with of perm)) exit =
+    (perm_on (Some own) perm, perm_on (Some own) (written_at_end perm exit))
 perms_by_type own type exit = (perm_of unowned, perm_of unowned)
 
+-- the permission of a first parameter, if it is `this`
 abbrev pub perms_by_subject : ContractNode → TypeExpr → Option PermNode → Subject → Perm × Perm
 perms_by_subject own of exit (This span) = perms_by_type own of exit
 perms_by_subject own of exit (Name name) = (perm_of unowned, perm_of unowned)
@@ -89,6 +109,7 @@ abbrev pub perms_of_this : ContractNode → List Formal → Perm × Perm
 perms_of_this own [] = (perm_of unowned, perm_of unowned)
 perms_of_this own (formal ∷ formals) = perms_by_subject own formal.of formal.exit formal.name
 
+-- a transaction of the table
 abbrev pub transaction_in_table : Program → ContractNode → Transaction → Signature
 transaction_in_table program own t = record {
   name = t.name.name;
@@ -120,6 +141,7 @@ signatures_of program own =
     (if own.interface then [] else constructor_in_table program own (constructor_of own) ∷ [])
     ++ map (transaction_in_table program own) (transactions_of own)
 
+-- a contract or an interface of the table
 abbrev pub contract_in_table : Program → ContractNode → Contract
 contract_in_table program own = record {
   name = own.name;
@@ -135,6 +157,7 @@ contract_in_table program own = record {
 
 -- Bodies.
 
+-- a body with these parameters, at this number
 abbrev pub body_with : Program → ContractNode → ℕ → Kind → List Formal → Block → ResolvedBody
 body_with program own tx result params (block_with statements end) = record {
   contract = contract_id (contract_named program own.name);
@@ -143,20 +166,27 @@ body_with program own tx result params (block_with statements end) = record {
   end = end;
 }
 
+-- the body of a constructor, which has the number 0 and no result
 abbrev pub constructor_body : Program → ContractNode → Constructor → ResolvedBody
 constructor_body program own m = body_with program own 0 nothing m.params m.body
 
 -- the body of a transaction behind these
 abbrev pub transaction_bodies : Program → ContractNode → List Transaction → Transaction → List ResolvedBody
 transaction_bodies program own before t =
-    option_map_or (λ body. body_with program own (length before + 1) (kind_of_result program t.result) t.params body ∷ []) t.body []
+    option_map_or (λ body. body_with program own (length before + 1) (kind_of_result program t.result) t.params body
+    ∷ []) t.body []
 
 -- the bodies of a contract, the constructor's first; an interface has none
 abbrev pub bodies_of : Program → ContractNode → List ResolvedBody
 bodies_of program own =
     if own.interface then []
-    else constructor_body program own (constructor_of own) ∷ in_order (transaction_bodies program own) (transactions_of own)
+    else constructor_body program own (constructor_of own)
+    ∷ in_order (transaction_bodies program own) (transactions_of own)
 
 -- the class table of a program
 abbrev pub table_of : Program → ClassTable
-table_of program = record { contracts = map (contract_in_table program) program; bodies = flat_map (bodies_of program) program }
+table_of program = record {
+  contracts = map (contract_in_table program) program;
+  bodies =
+      flat_map (bodies_of program) program;
+}

@@ -1,5 +1,5 @@
 -- What names stand for at a place (this project's own).
-use Rattle.std.specs.Prelude.{ℕ, Bool, true, false, not, ◌&&◌, ◌||◌, List, [], Option, is_some}
+use Rattle.std.specs.Prelude.{Bool, false, not, ◌||◌, List, [], is_some}
 use Rattle.std.specs.Option.{option_map_or}
 use Rattle.ob_tree.specs.Members.{Contract}
 use Rattle.ob_typing.specs.Names.{Name, same, is_among}

@@ -1,10 +1,10 @@
 -- At a site of a program without faults no condition holds.
-use Rattle.std.proofs.Common.{◌≡◌, ℕ, zero, suc, Bool, true, false, List, [], ◌∷◌, refl, sym, ap, subst, arith}
+use Rattle.std.proofs.Common.{◌≡◌, ℕ, Bool, true, false, List, [], ◌∷◌, refl}
 use Rattle.std.specs.Prelude.{◌++◌, if◌then◌else◌}
 use Rattle.std.specs.List.{flat_map}
 use Rattle.ob_base.specs.declared.fault.ProgramFault.{ProgramFault}
 use Rattle.ob_typing.specs.Declared.{Program}
-use Rattle.ob_typing.specs.Sites.{Site, place_at}
+use Rattle.ob_typing.specs.Sites.{Site}
 use Rattle.ob_typing.specs.MemberSites.{sites_of}
 use Rattle.ob_typing.specs.Faults.{conditions, fault_at, faults_at, HasNoFault, is_unknown_name, is_duplicate, is_wrong_kind, is_no_state, is_not_field, is_type_mismatch, is_arg_count, is_bad_exit, is_non_asset_owner, is_interface_mismatch, is_past_limit, is_missing_return, is_unreachable, is_second_main, is_assigned_parameter}
 use Rattle.ob_typing_laws.proofs.Each.{Each, each_weaker}
@@ -65,4 +65,5 @@ clean_at s h =
     }
 
 pub clean_sites : (program : Program) → HasNoFault program → Each Clean (sites_of program)
-clean_sites program none = each_weaker (λ s. faults_at s ≡ []) Clean clean_at (sites_of program) (none_at faults_at (sites_of program) none)
+clean_sites program none =
+    each_weaker (λ s. faults_at s ≡ []) Clean clean_at (sites_of program) (none_at faults_at (sites_of program) none)

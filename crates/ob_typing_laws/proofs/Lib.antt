@@ -13,3 +13,9 @@ pub mod HeldFacts
 pub mod MeetsFacts
 pub mod TableFacts
 pub mod LeastFacts
+pub mod KindFacts
+pub mod ScopeFacts
+pub mod CallFacts
+pub mod ExpressionFacts
+pub mod StatementFacts
+pub mod BodyFacts

@@ -1,22 +1,18 @@
 -- Written permissions as they stand in the table.
-use Rattle.std.proofs.Common.{◌≡◌, ◌≢◌, ℕ, zero, suc, ◌+◌, ◌*◌, ◌^◌, ◌<◌, ◌≤◌, Bool, true, false, List, [], ◌∷◌, ◌++◌, map, length, get_or, Option, Some, None, refl, bit_or, add-zero, add-one, one-mul, lt-ltb, ⊎_elim, sym, ap, subst, arith, ◌∙◌, rules, cond}
-use Rattle.std.specs.Prelude.{◌||◌, ◌&&◌, not, nat_eq, nat_lt, nat_le, ◌==◌, option_map, slice_get, is_some, IsTrue, IsSomeAnd, if◌then◌else◌}
+use Rattle.std.proofs.Common.{◌≡◌, ℕ, zero, suc, ◌+◌, ◌*◌, ◌^◌, ◌<◌, Bool, true, false, List, [], ◌∷◌, length, refl, bit_or, add-zero, add-one, one-mul, lt-ltb, ⊎_elim, sym, ap, arith, ◌∙◌, cond}
+use Rattle.std.specs.Prelude.{◌||◌, ◌&&◌, not, slice_get, if◌then◌else◌}
 use Rattle.std.specs.Option.{option_map_or}
 use Rattle.std.proofs.lemmas.Bool.{cases_Bool}
 use Rattle.std.proofs.lemmas.Nat.{or_shifted, or_comm}
 use native.Mathlib.Numerals.{unary_clauses}
-use Rattle.ob_base.specs.declared.permission.Mode.TheVariants.{Owned, Shared, Unowned}
-use Rattle.ob_base.specs.declared.permission.Perm.{Perm}
 use Rattle.ob_tree.specs.Members.{Contract}
-use Rattle.ob_tree.specs.declared.name.PermNode.{PermNode}
 use Rattle.ob_perm.specs.States.{States, states_max, union, subset, all_below, all_states, interface_states}
-use Rattle.ob_perm.specs.Permissions.{Permission, owned, shared, unowned}
-use Rattle.ob_perm.specs.Masks.{states_of, mask_below, mask_of, perm_of, IsCanonical}
+use Rattle.ob_perm.specs.Masks.{states_of, mask_below, mask_of, perm_of}
 use Rattle.ob_perm.proofs.MaskLemmas.{states_of-zero, states_of-or, states_of-pow}
 use Rattle.ob_perm.proofs.NamingLemmas.{below_passing, passing-none, passing_more, passing_same}
 use Rattle.ob_typing.specs.Names.{Name, is_among}
 use Rattle.ob_typing.specs.Declared.{Program, state_names}
-use Rattle.ob_typing.specs.Permissions.{WrittenPermission, as_shared, as_unowned, as_owner, as_owner_in, written_permission, may_leave, same_mode, is_owning}
+use Rattle.ob_typing.specs.Permissions.{WrittenPermission, as_shared, as_unowned, as_owner, as_owner_in, may_leave}
 use Rattle.ob_typing.specs.Numbers.{whole, numbers_of_states, permission_on}
 use Rattle.ob_typing.specs.TableOf.{contract_in_table}
 use Rattle.ob_typing.specs.Conditions.{IsPermOn, MayLeave}
@@ -52,18 +48,22 @@ add_bit n x small =
     omega arith ∙ sym e ∙ or_comm (1 * 2 ^ n) x ∙ ap (bit_or x) (one-mul (2 ^ n))
 
 -- one more state of a set in its number
-add_state : (n : ℕ) (a : States) (x : ℕ) → x < 2 ^ n → states_of x ≡ below_passing n a → states_of (x + cond (a n) (2 ^ n) 0) ≡ below_passing (n + 1) a
-add_state n a x small is = ⊎_elim
+add_state : (n : ℕ) (a : States) (x : ℕ) → x < 2 ^ n → states_of x ≡ below_passing n a
+    → states_of (x + cond (a n) (2 ^ n) 0) ≡ below_passing (n + 1) a
+add_state n a x small is =
+    ⊎_elim
     (λ in_a. ap (λ b. states_of (x + cond b (2 ^ n) 0)) in_a ∙ ap states_of (add_bit n x small) ∙ states_of-or x (2 ^ n)
     ∙ ap (union (states_of x)) (states_of-pow n) ∙ passing_more n a (states_of x) in_a is)
-    (λ out. ap (λ b. states_of (x + cond b (2 ^ n) 0)) out ∙ ap states_of (add-zero x) ∙ passing_same n a (states_of x) out is)
+    (λ out. ap (λ b. states_of (x + cond b (2 ^ n) 0)) out ∙ ap states_of (add-zero x)
+    ∙ passing_same n a (states_of x) out is)
     (cases_Bool (a n))
 
 -- the number of a set's states below a bound stands for these
 states_of-mask_below : (n : ℕ) (a : States) → states_of (mask_below n a) ≡ below_passing n a
 states_of-mask_below zero a = states_of-zero ∙ passing-none a
 states_of-mask_below (suc n) a =
-    add_state n a (mask_below n a) (mask_below_bound n a) (states_of-mask_below n a) ∙ ap (λ k. below_passing k a) (add-one n)
+    add_state n a (mask_below n a) (mask_below_bound n a) (states_of-mask_below n a)
+    ∙ ap (λ k. below_passing k a) (add-one n)
 
 pub mask_bit : (a : States) (i : ℕ) → i < 34 → states_of (mask_of a) i ≡ a i
 unfolding states_max
@@ -86,7 +86,8 @@ mask_subset : (a b : States) → ((i : ℕ) → i < 34 → a i ≡ true → b i 
 mask_subset a b h = subset_from (states_of (mask_of a)) b (λ i l e. h i l (sym (mask_bit a i l) ∙ e))
 
 -- a state that is named is one of the whole set
-get_some : {A : Type 0} (xs : List A) (i : ℕ) (f : A → Bool) → option_map_or f (slice_get xs i) false ≡ true → i < length xs
+get_some : {A : Type 0} (xs : List A) (i : ℕ) (f : A → Bool) → option_map_or f (slice_get xs i) false ≡ true
+    → i < length xs
 get_some [] i f e = absurd cc
 get_some (x ∷ xs) zero f e = omega arith
 get_some (x ∷ xs) (suc i) f e = let r = get_some xs i f e in omega (arith, r)
@@ -99,16 +100,27 @@ below_whole true n i l = rw (below_all n i l) refl
 below_whole false n i l = below_all n i l
 
 -- what is written of a contract stands in the table as a permission on it
-named_inside : (own : Contract) (names : List Name) (i : ℕ) → numbers_of_states (state_names own) names i ≡ true → whole own i ≡ true
-named_inside own names i e = below_whole own.interface (length (state_names own)) i (get_some (state_names own) i (λ state. is_among state names) e)
+named_inside : (own : Contract) (names : List Name) (i : ℕ) → numbers_of_states (state_names own) names i ≡ true
+    → whole own i ≡ true
+named_inside own names i e =
+    below_whole own.interface (length (state_names own)) i
+    (get_some (state_names own) i (λ state. is_among state names) e)
 
 zero_inside : (a : States) → subset (states_of 0) a ≡ true
-zero_inside a = subset_from (states_of 0) a (λ i l e. let f : states_of 0 i ≡ false = ap (λ f. f i) states_of-zero in absurd (cc))
+zero_inside a =
+    subset_from (states_of 0) a (λ i l e. let f : states_of 0 i ≡ false = ap (λ f. f i) states_of-zero in absurd (cc))
 
-pub perm_is_on : (program : Program) (own : Contract) (p : WrittenPermission) → IsPermOn (contract_in_table program own) (perm_of (permission_on own p))
+pub perm_is_on : (program : Program) (own : Contract) (p : WrittenPermission)
+    → IsPermOn (contract_in_table program own) (perm_of (permission_on own p))
 perm_is_on program own as_shared = record { canonical = λ h. refl; low = omega arith; inside = zero_inside (whole own) }
-perm_is_on program own as_unowned = record { canonical = λ h. refl; low = omega arith; inside = zero_inside (whole own) }
-perm_is_on program own as_owner = record { canonical = λ h. absurd (h refl); low = mask_of_bound (whole own); inside = mask_subset (whole own) (whole own) (λ i l e. e) }
+perm_is_on program own as_unowned =
+    record { canonical = λ h. refl; low = omega arith; inside = zero_inside (whole own) }
+perm_is_on program own as_owner = record {
+  canonical = λ h. absurd (h refl);
+  low = mask_of_bound (whole own);
+  inside =
+      mask_subset (whole own) (whole own) (λ i l e. e);
+}
 perm_is_on program own (as_owner_in names) = record {
   canonical = λ h. absurd (h refl);
   low = mask_of_bound (numbers_of_states (state_names own) names);
@@ -116,7 +128,8 @@ perm_is_on program own (as_owner_in names) = record {
 }
 
 -- what may follow as it is written may follow in the table
-pub may_leave_in_table : (own : Contract) (entry exit : WrittenPermission) → may_leave entry exit ≡ true → MayLeave (perm_of (permission_on own entry)) (perm_of (permission_on own exit))
+pub may_leave_in_table : (own : Contract) (entry exit : WrittenPermission) → may_leave entry exit ≡ true
+    → MayLeave (perm_of (permission_on own entry)) (perm_of (permission_on own exit))
 may_leave_in_table own as_shared as_shared h n = refl
 may_leave_in_table own as_shared as_unowned h n = absurd cc
 may_leave_in_table own as_shared as_owner h n = absurd cc

@@ -1,0 +1,315 @@
+-- Bodies that are well made, said of a class table and bodies alone (Coblenz et al., TOPLAS 42(3), 2020, where these are
+-- premises of the rules; the rest is this project's own).
+use Rattle.std.specs.Prelude.{◌≡◌, ◌≢◌, ℕ, ◌+◌, ◌<◌, Bool, true, false, not, ◌&&◌, ◌||◌, nat_eq, List, [], ◌∷◌, ◌++◌, map, length, Option, Some, None, option_map, option_and_then, slice_get, IsTrue, IsSome, IsSomeAnd, IfSome, slice_index_or, ⊤, if◌then◌else◌}
+use Rattle.std.specs.Option.{option_map_or}
+use Rattle.std.specs.List.{range_with_len}
+use Rattle.ob_base.specs.declared.id.ContractId.{ContractId}
+use Rattle.ob_base.specs.declared.operator.Operator.{Operator}
+use Rattle.ob_base.specs.declared.operator.Operator.TheVariants.{Add, Sub, Mul, Div, Rem, Equal, NotEqual, And, Or, Not}
+use Rattle.ob_table.specs.Expressions.{Expression, resolved_number, resolved_text, resolved_bool, resolved_seen, resolved_unary, resolved_binary, resolved_call, resolved_new, Arguments, no_arguments, and_argument}
+use Rattle.ob_table.specs.Statements.{GivenField, Statement, resolved_declare, resolved_assign, resolved_stage, resolved_change, resolved_discard, resolved_test, resolved_if, resolved_return, resolved_revert, resolved_disown, resolved_assert, Block, resolved_block, Otherwise, no_otherwise, otherwise_block, Statements, no_statements, and_statement, ResolvedBody}
+use Rattle.ob_table.specs.Tables.{ClassTable, contract_at, field_at, signature_at, signature_of}
+use Rattle.ob_table.specs.declared.seen.Seen.{Seen}
+use Rattle.ob_table.specs.declared.seen.Seen.TheVariants.{This, Local, Field as FieldSeen}
+use Rattle.ob_table.specs.declared.seen.SeenAt.{SeenAt}
+use Rattle.ob_table.specs.declared.seen.LocalKind.{LocalKind}
+use Rattle.ob_table.specs.declared.seen.LocalKind.TheVariants.{Int, Bool as BoolKind, Text, Reference}
+use Rattle.ob_table.specs.declared.contract.Kind.{Kind}
+use Rattle.ob_table.specs.declared.contract.Kind.TheVariants as typed
+use Rattle.ob_table.specs.declared.contract.Param.{Param}
+use Rattle.ob_table.specs.declared.contract.Signature.{Signature}
+use Rattle.ob_table.specs.declared.contract.Contract.{Contract}
+use Rattle.ob_typing.specs.Conditions.{IsPermOn}
+
+-- Kinds, which are types without permissions.
+
+-- the kind of a type of the table
+abbrev pub kind_of_table : Kind → LocalKind
+kind_of_table typed.Int = Int
+kind_of_table typed.Bool = BoolKind
+kind_of_table typed.Text = Text
+kind_of_table (typed.Reference id perm) = Reference id
+
+-- whether the contract of the first number implements the interface of the second
+abbrev pub is_implemented : ClassTable → ContractId → ContractId → Bool
+is_implemented table c i =
+    option_map_or (λ found. option_map_or (λ (k : ContractId). nat_eq i.0 k.0) found.implements false)
+    (contract_at table c) false
+
+-- whether a value of the second kind may stand where one of the first is needed
+abbrev pub serves : ClassTable → LocalKind → LocalKind → Bool
+serves table Int Int = true
+serves table BoolKind BoolKind = true
+serves table Text Text = true
+serves table (Reference i) (Reference c) = nat_eq i.0 c.0 || is_implemented table c i
+serves table wanted has = false
+
+-- what stands around a body: the table, the contract and its number, the number of parameters, and the result
+pub record Frame : Type 0 where
+  pub table : ClassTable
+  pub here : ContractId
+  pub own : Contract
+  pub params : ℕ
+  pub result : Option LocalKind
+
+-- the variables that are visible, by number
+abbrev pub Locals : Type 0
+Locals = List (ℕ × LocalKind)
+
+-- the kind of the variable of this number, if it is visible
+abbrev pub local_kind : Locals → ℕ → Option LocalKind
+local_kind [] n = None
+local_kind (l ∷ ls) n = if nat_eq n l.0 then Some l.1 else local_kind ls n
+
+-- what a name stands for: a variable that is visible, a field that there is, or `this`
+abbrev pub kind_of_seen : Frame → Locals → Seen → Option LocalKind
+kind_of_seen f ls This = Some (Reference f.here)
+kind_of_seen f ls (Local n) = local_kind ls n
+kind_of_seen f ls (FieldSeen id) = option_map (λ field. kind_of_table field.of) (field_at f.own id)
+
+-- Expressions.
+
+-- what an operator with one operand needs and gives
+abbrev pub kind_of_unary : Operator → LocalKind
+kind_of_unary Not = BoolKind
+kind_of_unary operator = Int
+
+-- what an operator with two operands gives
+abbrev pub kind_of_binary : Operator → LocalKind
+kind_of_binary Add = Int
+kind_of_binary Sub = Int
+kind_of_binary Mul = Int
+kind_of_binary Div = Int
+kind_of_binary Rem = Int
+kind_of_binary operator = BoolKind
+
+-- the kind of an expression's value; a call of a transaction without a result has none
+abbrev pub kind_of_expression : Frame → Locals → Expression → Option LocalKind
+kind_of_expression f ls (resolved_number value span) = Some Int
+kind_of_expression f ls (resolved_text value span) = Some Text
+kind_of_expression f ls (resolved_bool value span) = Some BoolKind
+kind_of_expression f ls (resolved_seen seen span) = kind_of_seen f ls seen.of
+kind_of_expression f ls (resolved_unary operator sign operand span) = Some (kind_of_unary operator)
+kind_of_expression f ls (resolved_binary operator sign left right span) = Some (kind_of_binary operator)
+kind_of_expression f ls (resolved_call receiver contract tx name args span) =
+    option_and_then (λ s. option_map kind_of_table s.result) (signature_of f.table contract tx)
+kind_of_expression f ls (resolved_new contract args span) = Some (Reference contract)
+
+-- an expression's value may stand where one of this kind is needed
+abbrev pub Serves : Frame → Locals → LocalKind → Expression → Type 0
+Serves f ls wanted e = IsSomeAnd (kind_of_expression f ls e) (λ has. IsTrue (serves f.table wanted has))
+
+-- whether it is the kind of a reference
+abbrev pub is_reference : LocalKind → Bool
+is_reference (Reference id) = true
+is_reference kind = false
+
+-- the operands have the kinds that the operator needs: `==` and `!=` compare two values of one kind that is no reference
+abbrev pub HasOperands : Frame → Locals → Operator → Expression → Expression → Type 0
+HasOperands f ls And left right = Serves f ls BoolKind left × Serves f ls BoolKind right
+HasOperands f ls Or left right = Serves f ls BoolKind left × Serves f ls BoolKind right
+HasOperands f ls Equal left right =
+    IsSomeAnd (kind_of_expression f ls left) (λ kind. (is_reference kind ≡ false) × Serves f ls kind right)
+HasOperands f ls NotEqual left right =
+    IsSomeAnd (kind_of_expression f ls left) (λ kind. (is_reference kind ≡ false) × Serves f ls kind right)
+HasOperands f ls operator left right = Serves f ls Int left × Serves f ls Int right
+
+-- each argument may stand at its parameter, and there are as many
+abbrev pub Pass : Frame → Locals → List Param → Arguments → Type 0
+Pass f ls [] no_arguments = ⊤
+Pass f ls (p ∷ ps) (and_argument e es) = Serves f ls (kind_of_table p.of) e × Pass f ls ps es
+Pass f ls ps es = ⊥
+
+-- a transaction, and no constructor, that isn't private where there is a receiver
+abbrev pub IsCalled : Frame → Locals → Option SeenAt → ContractId → Signature → Type 0
+IsCalled f ls None contract s = contract ≡ f.here
+IsCalled f ls (Some seen) contract s = (kind_of_seen f ls seen.of ≡ Some (Reference contract)) × (s.private ≡ false)
+
+-- the constructor of a contract that isn't an interface
+abbrev pub constructor_at : ClassTable → ContractId → Option Signature
+constructor_at table id =
+    option_and_then (λ c. if c.interface then None else slice_get c.transactions 0) (contract_at table id)
+
+-- whether a number is that of a constructor
+abbrev pub is_constructor : ClassTable → ContractId → ℕ → Bool
+is_constructor table id tx = option_map_or (λ c. not c.interface && nat_eq tx 0) (contract_at table id) false
+
+-- an expression, a call and arguments are made as they must be: each name stands for something, and each operand has the
+-- kind that its place needs
+abbrev mutual
+  pub IsMade : Frame → Locals → Expression → Type 0
+  IsMade f ls (resolved_number value span) = ⊤
+  IsMade f ls (resolved_text value span) = ⊤
+  IsMade f ls (resolved_bool value span) = ⊤
+  IsMade f ls (resolved_seen seen span) = IsSome (kind_of_seen f ls seen.of)
+  IsMade f ls (resolved_unary operator sign operand span) =
+      IsMade f ls operand × Serves f ls (kind_of_unary operator) operand
+  IsMade f ls (resolved_binary operator sign left right span) =
+      IsMade f ls left × IsMade f ls right × HasOperands f ls operator left right
+  IsMade f ls (resolved_call receiver contract tx name args span) =
+      AreMade f ls args × (is_constructor f.table contract tx.0 ≡ false)
+      × IsSomeAnd (signature_of f.table contract tx) (λ s. IsCalled f ls receiver contract s × Pass f ls s.params args)
+  IsMade f ls (resolved_new contract args span) =
+      AreMade f ls args × IsSomeAnd (constructor_at f.table contract) (λ s. Pass f ls s.params args)
+
+  pub AreMade : Frame → Locals → Arguments → Type 0
+  AreMade f ls no_arguments = ⊤
+  AreMade f ls (and_argument e es) = IsMade f ls e × AreMade f ls es
+
+-- an expression that is made, and may stand where one of this kind is needed
+abbrev pub IsValue : Frame → Locals → LocalKind → Expression → Type 0
+IsValue f ls wanted e = IsMade f ls e × Serves f ls wanted e
+
+-- Statements.
+
+-- what may be assigned: a local, which is no parameter, or a field
+abbrev pub IsTarget : Frame → Seen → Type 0
+IsTarget f This = ⊥
+IsTarget f (Local n) = f.params < n
+IsTarget f (FieldSeen id) = ⊤
+
+-- a field of the contract, which isn't given yet, and a value for it
+abbrev pub IsGiven : Frame → Locals → List ℕ → GivenField → Type 0
+IsGiven f ls row given =
+    ((k : ℕ) (d : ℕ) → k < length row → slice_index_or row k d ≢ given.field.0)
+    × IsSomeAnd (field_at f.own given.field) (λ field. IsValue f ls (kind_of_table field.of) given.value)
+
+-- fields that are given one after another
+abbrev pub AreGiven : Frame → Locals → List ℕ → List GivenField → Type 0
+AreGiven f ls row [] = ⊤
+AreGiven f ls row (g ∷ gs) = IsGiven f ls row g × AreGiven f ls (row ++ g.field.0 ∷ []) gs
+
+-- the kind of a local: a reference is to a contract of the table
+abbrev pub IsLocalKind : ClassTable → LocalKind → Type 0
+IsLocalKind table (Reference id) = IsSome (contract_at table id)
+IsLocalKind table kind = ⊤
+
+-- a reference to a contract of which this holds
+abbrev pub RefersTo : ClassTable → (Contract → Type 0) → LocalKind → Type 0
+RefersTo table P (Reference id) = IsSomeAnd (contract_at table id) P
+RefersTo table P kind = ⊥
+
+-- a name or `this` refers to a contract of which this holds
+abbrev pub Refers : Frame → Locals → Seen → (Contract → Type 0) → Type 0
+Refers f ls seen P = IsSomeAnd (kind_of_seen f ls seen) (RefersTo f.table P)
+
+-- a body with a result returns a value of its kind, and one without returns none
+abbrev pub IsReturned : Frame → Locals → Option LocalKind → Option Expression → Type 0
+IsReturned f ls None None = ⊤
+IsReturned f ls (Some kind) (Some e) = IsValue f ls kind e
+IsReturned f ls result value = ⊥
+
+-- the fields of the row of staged statements behind a statement
+abbrev pub row_behind : List ℕ → Statement → List ℕ
+row_behind row (resolved_stage state given span) = row ++ given.field.0 ∷ []
+row_behind row x = []
+
+-- the variables that are visible behind a statement
+abbrev pub behind : Locals → Statement → Locals
+behind ls (resolved_declare local name of value span) = ls ++ (local, of) ∷ []
+behind ls x = ls
+
+-- a statement is made as it must be, behind a row of staged ones for these fields
+abbrev mutual
+  pub IsStatement : Frame → Locals → List ℕ → Statement → Type 0
+  IsStatement f ls row (resolved_declare local name of value span) =
+      IsLocalKind f.table of × (f.params < local) × (local_kind ls local ≡ None) × IsValue f ls of value
+  IsStatement f ls row (resolved_assign target value span) =
+      IsTarget f target.of × IsSomeAnd (kind_of_seen f ls target.of) (λ kind. IsValue f ls kind value)
+  IsStatement f ls row (resolved_stage state given span) = (state.0 < length f.own.states) × IsGiven f ls row given
+  IsStatement f ls row (resolved_change state given span) = (state.0 < length f.own.states) × AreGiven f ls row given
+  IsStatement f ls row (resolved_discard value span) = IsMade f ls value
+  IsStatement f ls row (resolved_test subject state branch other span) =
+      Refers f ls subject.of (λ c. state.0 < length c.states) × IsBlock f ls branch × IsOtherwise f ls other
+  IsStatement f ls row (resolved_if condition branch other span) =
+      IsValue f ls BoolKind condition × IsBlock f ls branch × IsOtherwise f ls other
+  IsStatement f ls row (resolved_return value span) = IsReturned f ls f.result value
+  IsStatement f ls row (resolved_revert text span) = IfSome text (IsValue f ls Text)
+  IsStatement f ls row (resolved_disown subject span) = Refers f ls subject.of (λ c. ⊤)
+  IsStatement f ls row (resolved_assert subject perm span) = Refers f ls subject.of (λ c. IsPermOn c perm)
+
+  pub IsBlock : Frame → Locals → Block → Type 0
+  IsBlock f ls (resolved_block statements end) = AreStatements f ls [] statements
+
+  pub IsOtherwise : Frame → Locals → Otherwise → Type 0
+  IsOtherwise f ls no_otherwise = ⊤
+  IsOtherwise f ls (otherwise_block block) = IsBlock f ls block
+
+  -- statements behind a row of staged ones for these fields
+  pub AreStatements : Frame → Locals → List ℕ → Statements → Type 0
+  AreStatements f ls row no_statements = ⊤
+  AreStatements f ls row (and_statement x xs) =
+      IsStatement f ls row x × AreStatements f (behind ls x) (row_behind row x) xs
+
+-- Ends.
+
+abbrev mutual
+  -- whether nothing is reached behind a statement
+  pub ends_there : Statement → Bool
+  ends_there (resolved_return value span) = true
+  ends_there (resolved_revert text span) = true
+  ends_there (resolved_test subject state branch other span) = block_ends_there branch && other_ends_there other
+  ends_there (resolved_if condition branch other span) = block_ends_there branch && other_ends_there other
+  ends_there (resolved_declare local name of value span) = false
+  ends_there (resolved_assign target value span) = false
+  ends_there (resolved_stage state given span) = false
+  ends_there (resolved_change state given span) = false
+  ends_there (resolved_discard value span) = false
+  ends_there (resolved_disown subject span) = false
+  ends_there (resolved_assert subject perm span) = false
+
+  pub block_ends_there : Block → Bool
+  block_ends_there (resolved_block statements end) = one_ends_there statements
+
+  pub other_ends_there : Otherwise → Bool
+  other_ends_there no_otherwise = false
+  other_ends_there (otherwise_block block) = block_ends_there block
+
+  pub one_ends_there : Statements → Bool
+  one_ends_there no_statements = false
+  one_ends_there (and_statement x xs) = ends_there x || one_ends_there xs
+
+-- Bodies.
+
+-- parameters are numbered from 1
+abbrev pub params_from : ℕ → List Param → Locals
+params_from n [] = []
+params_from n (p ∷ ps) = (n, kind_of_table p.of) ∷ params_from (n + 1) ps
+
+-- the frame of a body with this signature
+abbrev pub frame_of : ClassTable → ContractId → Contract → Signature → Frame
+frame_of table here own s = record {
+  table = table;
+  here = here;
+  own = own;
+  params = length s.params;
+  result =
+      option_map kind_of_table s.result;
+}
+
+-- the body of a constructor or transaction: its statements are made, and where there is a result its end isn't reached
+pub record IsBodyOf (table : ClassTable) (body : ResolvedBody) (own : Contract) (s : Signature) : Type 0 where
+  pub contract : own.interface ≡ false
+  pub statements : AreStatements (frame_of table body.contract own s) (params_from 1 s.params) [] body.statements
+  pub returns : IsSome s.result → one_ends_there body.statements ≡ true
+
+-- a body is that of a constructor or transaction of a contract of the table, and is made as it must be
+abbrev pub IsWellMade : ClassTable → ResolvedBody → Type 0
+IsWellMade table body =
+    IsSomeAnd (contract_at table body.contract)
+    (λ own. IsSomeAnd (signature_at own body.tx) (λ s. IsBodyOf table body own s))
+
+-- the contract and the number of a body
+abbrev pub place_of_body : ResolvedBody → ℕ × ℕ
+place_of_body body = (body.contract.0, body.tx.0)
+
+-- the constructor and the transactions of the contracts from this number on; an interface's have no bodies
+abbrev pub places_from : ℕ → List Contract → List (ℕ × ℕ)
+places_from n [] = []
+places_from n (c ∷ cs) =
+    (if c.interface then [] else map (λ tx. (n, tx)) (range_with_len 0 (length c.transactions)))
+    ++ places_from (n + 1) cs
+
+-- there is one body for each constructor and transaction, in the order of contracts and then of numbers
+abbrev pub HasBodies : ClassTable → Type 0
+HasBodies table = map place_of_body table.bodies ≡ places_from 0 table.contracts
