@@ -1,14 +1,16 @@
 //! The kinds of cases. A new one is a variant, its word in `of`, the names of its parts, and what it answers.
 use crate::case::Case;
 use crate::kinds::{base, fronts, run, tokens, tree, wire};
-use anyhow::Result;
+use crate::trouble::Trouble;
 use std::alloc::Global;
 
 /// What is asked of a text.
-#[derive(Clone, Copy, PartialEq, Eq)]
+#[derive(Clone, Copy)]
 pub enum Kind {
     /// What `check` writes of it.
     Check,
+    /// Whether `check` writes one line of each front of its bytes.
+    Cuts,
     /// The fault that `serve` tells of it.
     Serve,
     /// A whole run: what is written, line by line, and the status.
@@ -35,12 +37,8 @@ pub enum Kind {
     Reply,
     /// Which of a name, a label and a text it is.
     Form,
-    /// The bytes of fields.
+    /// The bytes of a field.
     Bytes,
-    /// The fields of bytes.
-    Fields,
-    /// The message of an error.
-    Message,
 }
 
 impl Kind {
@@ -48,6 +46,7 @@ impl Kind {
     pub fn of(word: &str) -> Option<Kind> {
         match word {
             "check" => Some(Kind::Check),
+            "cuts" => Some(Kind::Cuts),
             "serve" => Some(Kind::Serve),
             "run" => Some(Kind::Run),
             "outside" => Some(Kind::Outside),
@@ -62,8 +61,6 @@ impl Kind {
             "reply" => Some(Kind::Reply),
             "form" => Some(Kind::Form),
             "bytes" => Some(Kind::Bytes),
-            "fields" => Some(Kind::Fields),
-            "message" => Some(Kind::Message),
             _ => None,
         }
     }
@@ -72,15 +69,14 @@ impl Kind {
     pub fn has_part(self, name: &str) -> bool {
         match name {
             "text" | "front" | "back" | "every" | "answer-front" | "answer-back" => true,
-            "answer" => self != Kind::Run,
+            "answer" => !matches!(self, Kind::Run),
             "words" | "input" | "given" => matches!(self, Kind::Run | Kind::Outside),
-            "output" | "status" => self == Kind::Run,
-            "kinds" => self == Kind::Fields,
+            "output" | "status" => matches!(self, Kind::Run),
             _ => false,
         }
     }
 
-    /// The parts that the two sides of a row are: what is asked, and what is expected.
+    /// The names of what is asked, and of what is expected: the two sides of a row.
     pub fn sides(self) -> (&'static str, &'static str) {
         match self {
             Kind::Run => ("input", "output"),
@@ -90,35 +86,33 @@ impl Kind {
         }
     }
 
-    /// What is expected.
-    pub fn wanted(self, alloc: Global, case: &Case) -> Result<Vec<u8>> {
+    /// What is expected of a case, of which this is written.
+    pub fn wanted(self, alloc: Global, case: &Case, written: &[u8]) -> Result<Vec<u8>, Trouble> {
         match self {
-            Kind::Run => run::wanted(alloc, case),
-            _ => Ok(case.part("answer").to_vec(alloc)?),
+            Kind::Run => run::wanted(alloc, case, written),
+            _ => Ok(written.to_vec(alloc)?),
         }
     }
 
-    /// What comes.
-    pub fn answer(self, alloc: Global, case: &Case) -> Result<Vec<u8>> {
-        let text = case.part("text");
+    /// What comes of a case, of which this is asked.
+    pub fn answer(self, alloc: Global, case: &Case, asked: &[u8]) -> Result<Vec<u8>, Trouble> {
         match self {
-            Kind::Check => run::check(alloc, text),
-            Kind::Serve => run::serve(alloc, text),
-            Kind::Run => run::whole_run(alloc, case),
-            Kind::Outside => run::cut_run(alloc, case),
-            Kind::Layout => tree::layout(alloc, text),
-            Kind::Again => tree::again(alloc, text),
-            Kind::Tokens => tokens::tokens(alloc, text),
-            Kind::Tree => tree::tree(alloc, text, case.part("part")),
-            Kind::Plain => tree::plain(alloc, text, case.part("part")),
-            Kind::Whole => fronts::whole(alloc, text),
-            Kind::Fronts => fronts::fronts(alloc, text),
-            Kind::Request => wire::request(alloc, text),
-            Kind::Reply => wire::reply(alloc, text),
-            Kind::Form => base::form(alloc, text),
-            Kind::Bytes => base::bytes(alloc, text),
-            Kind::Fields => base::fields(alloc, text, case.part("kinds")),
-            Kind::Message => base::message(alloc, text),
+            Kind::Check => run::check(alloc, asked),
+            Kind::Cuts => run::cuts(alloc, asked),
+            Kind::Serve => run::serve(alloc, asked),
+            Kind::Run => run::whole_run(alloc, case, asked),
+            Kind::Outside => run::cut_run(alloc, case, asked),
+            Kind::Layout => tree::layout(alloc, asked),
+            Kind::Again => tree::again(alloc, asked),
+            Kind::Tokens => tokens::tokens(alloc, asked),
+            Kind::Tree => tree::tree(alloc, case.part("text"), asked),
+            Kind::Plain => tree::plain(alloc, case.part("text"), asked),
+            Kind::Whole => fronts::whole(alloc, asked),
+            Kind::Fronts => fronts::fronts(alloc, asked),
+            Kind::Request => wire::request(alloc, asked),
+            Kind::Reply => wire::reply(alloc, asked),
+            Kind::Form => base::form(alloc, asked),
+            Kind::Bytes => base::bytes(alloc, asked),
         }
     }
 }

@@ -1,8 +1,7 @@
 //! What is printed of cases.
 use crate::case::Case;
-use anyhow::Result;
+use crate::trouble::Trouble;
 use std::alloc::Global;
-use std::io::Write;
 
 /// What is printed of the cases of a file.
 #[derive(Drop)]
@@ -18,25 +17,25 @@ pub struct Report {
 const MOST_SHOWN: usize = 4000;
 
 // The bytes as lines that each begin with a mark.
-fn put_marked(mark: &[u8], bytes: &[u8], into: &mut Vec<u8>) -> Result<()> {
-    let Some((last, _)) = bytes.split_last() else {
-        return Ok(());
-    };
-    into.extend_from_slice(mark)?;
-    for (at, byte) in bytes.iter().enumerate() {
-        into.push(*byte)?;
-        if *byte == b'\n' && at.saturating_add(1) < bytes.len() {
+fn put_marked(mark: &[u8], bytes: &[u8], into: &mut Vec<u8>) -> Result<(), Trouble> {
+    let mut begins_line = true;
+    for byte in bytes {
+        if begins_line {
             into.extend_from_slice(mark)?;
         }
+        into.push(*byte)?;
+        begins_line = *byte == b'\n';
     }
-    if *last != b'\n' {
+    if !begins_line {
         into.extend_from_slice(b"`unended`\n")?;
     }
     Ok(())
 }
 
-fn front_of(bytes: &[u8]) -> &[u8] {
-    bytes.get(..MOST_SHOWN).unwrap_or(bytes)
+// As much of the bytes as is shown.
+fn shown_of(bytes: &[u8]) -> &[u8] {
+    let end = bytes.len().min(MOST_SHOWN);
+    &bytes[..end]
 }
 
 impl Report {
@@ -50,15 +49,28 @@ impl Report {
         }
     }
 
-    /// Answers a case, and compares.
-    pub fn judge(&mut self, alloc: Global, case: &Case, row: &str) -> Result<()> {
-        let came = case.kind.answer(alloc, case)?;
+    fn put(&mut self, text: &str) -> Result<(), Trouble> {
+        self.text.extend_from_slice(text.as_bytes())?;
+        Ok(())
+    }
+
+    /// Answers a case, of which this is asked, and compares, or prints the answer. `row` is its row in a table.
+    pub fn judge(
+        &mut self,
+        alloc: Global,
+        case: &Case,
+        row: &str,
+        asked: &[u8],
+        written: &[u8],
+    ) -> Result<(), Trouble> {
+        let came = case.kind.answer(alloc, case, asked)?;
         if self.answers {
-            let title = case.title.as_str();
-            writeln!(self.text, "= {title}")?;
+            self.put("= ")?;
+            self.put(case.title.as_str())?;
+            self.put("\n")?;
             return put_marked(b"| ", &came, &mut self.text);
         }
-        let wanted = case.kind.wanted(alloc, case)?;
+        let wanted = case.kind.wanted(alloc, case, written)?;
         self.cases = self.cases.saturating_add(1);
         if came == wanted {
             self.agreeing = self.agreeing.saturating_add(1);
@@ -73,17 +85,20 @@ impl Report {
         row: &str,
         wanted: &[u8],
         came: &[u8],
-    ) -> Result<()> {
-        writeln!(self.text, "{title}: {row}")?;
-        put_marked(b"  wanted | ", front_of(wanted), &mut self.text)?;
-        put_marked(b"  came   | ", front_of(came), &mut self.text)
+    ) -> Result<(), Trouble> {
+        self.put(title)?;
+        self.put("\n  - ")?;
+        self.put(row)?;
+        self.put("\n")?;
+        put_marked(b"  wanted | ", shown_of(wanted), &mut self.text)?;
+        put_marked(b"  came   | ", shown_of(came), &mut self.text)
     }
 
-    /// How many cases agree.
-    pub fn sum_up(&mut self, name: &str) -> Result<()> {
+    /// Says how many cases of a file agree.
+    pub fn sum_up(&mut self, alloc: Global, topic: &str) -> Result<(), Trouble> {
         let cases = self.cases;
         let agreeing = self.agreeing;
-        writeln!(self.text, "{name}: {agreeing} of {cases} cases agree")?;
-        Ok(())
+        let line = format!(in alloc; "{topic}: {agreeing} of {cases} cases agree\n")?;
+        self.put(line.as_str())
     }
 }

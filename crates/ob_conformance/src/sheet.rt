@@ -1,17 +1,17 @@
 //! A file of cases, line by line.
 use crate::case::Case;
 use crate::kind::Kind;
+use crate::named::Named;
 use crate::pieces::put_text;
-use crate::programs::Programs;
 use crate::report::Report;
-use anyhow::{Context, Result, bail};
+use crate::trouble::Trouble;
 use std::alloc::Global;
 
 /// What was read so far of a file of cases.
 #[derive(Drop)]
 pub struct Sheet<'a> {
     alloc: Global,
-    programs: &'a Programs,
+    programs: &'a Named,
     case: Option<Case>,
     /// The name of the part that a line of text goes on with.
     part: String,
@@ -19,6 +19,9 @@ pub struct Sheet<'a> {
     is_table: bool,
     report: Report,
 }
+
+/// What is said of a line that stands before all cases.
+const NO_CASE: Trouble = Trouble::Line("no case was begun");
 
 // What stands behind the mark of a line, and a blank.
 fn marked<'a>(line: &'a str, mark: &str) -> Option<&'a str> {
@@ -30,41 +33,47 @@ fn marked<'a>(line: &'a str, mark: &str) -> Option<&'a str> {
     }
 }
 
-// A side of a row: the text between the parts of these names.
-fn side_of(
+// What a row asks, and what it expects, if it says so itself.
+fn sides_of(row: &str) -> (&str, Option<&str>) {
+    match row.split_once(" => ") {
+        Some((text, answer)) => (text, Some(answer)),
+        None => (row, None),
+    }
+}
+
+// A text of a row, between the parts of these names.
+fn side(
     alloc: Global,
-    programs: &Programs,
+    programs: &Named,
     case: &Case,
     front: &str,
     text: &str,
     back: &str,
-) -> Result<Vec<u8>> {
+) -> Result<Vec<u8>, Trouble> {
     let mut bytes = case.part(front).to_vec(alloc)?;
-    put_text(programs, text, &mut bytes)?;
+    put_text(alloc, programs, text, &mut bytes)?;
     bytes.extend_from_slice(case.part(back))?;
     Ok(bytes)
 }
 
-// A row of a table: what is asked, ` => ` and what is expected, unless that is the same of every row.
-fn set_row(alloc: Global, programs: &Programs, case: &mut Case, row: &str) -> Result<()> {
-    let (text, answer) = match row.split_once(" => ") {
-        Some((text, answer)) => (
-            text,
-            side_of(alloc, programs, case, "answer-front", answer, "answer-back")?,
-        ),
-        None => (row, case.find("every").context("no answer")?.to_vec(alloc)?),
+// What is expected of a row: its own answer, or that of every row.
+fn answer_of(
+    alloc: Global,
+    programs: &Named,
+    case: &Case,
+    answer: Option<&str>,
+) -> Result<Vec<u8>, Trouble> {
+    let mut bytes = match answer {
+        Some(answer) => side(alloc, programs, case, "answer-front", answer, "answer-back")?,
+        None => case.part("every").to_vec(alloc)?,
     };
-    let text = side_of(alloc, programs, case, "front", text, "back")?;
-    let (asked, wanted) = case.kind.sides();
-    case.set(alloc, asked, text)?;
-    case.set(alloc, wanted, answer)?;
-    case.add(alloc, wanted, b"\n")?;
-    Ok(())
+    bytes.push(b'\n')?;
+    Ok(bytes)
 }
 
 impl<'a> Sheet<'a> {
     /// Nothing was read yet.
-    pub fn new(alloc: Global, programs: &'a Programs, report: Report) -> Sheet<'a> {
+    pub fn new(alloc: Global, programs: &'a Named, report: Report) -> Sheet<'a> {
         Sheet {
             alloc,
             programs,
@@ -76,7 +85,7 @@ impl<'a> Sheet<'a> {
     }
 
     /// Reads the next line.
-    pub fn take(&mut self, line: &str) -> Result<()> {
+    pub fn take(&mut self, line: &str) -> Result<(), Trouble> {
         if line.is_empty() || line.starts_with('#') {
             return Ok(());
         }
@@ -96,22 +105,17 @@ impl<'a> Sheet<'a> {
         self.take_word(line)
     }
 
-    fn take_row(&mut self, row: &str) -> Result<()> {
-        let Some(case) = &mut self.case else {
-            bail!("no case was begun");
-        };
-        set_row(self.alloc, self.programs, case, row)?;
-        self.is_table = true;
-        self.report.judge(self.alloc, case, row)
-    }
-
     // A line that begins with a word: the kind of a new case, or the name of a part.
-    fn take_word(&mut self, line: &str) -> Result<()> {
+    fn take_word(&mut self, line: &str) -> Result<(), Trouble> {
         let (word, rest) = line.split_once(' ').unwrap_or((line, ""));
         match Kind::of(word) {
             Some(kind) => {
                 self.end_case()?;
-                self.case = Some(Case::new(self.alloc, kind, rest)?);
+                self.case = Some(Case {
+                    kind,
+                    title: String::from_str(self.alloc, rest)?,
+                    parts: Named::new(self.alloc),
+                });
                 Ok(())
             }
             None => {
@@ -121,21 +125,20 @@ impl<'a> Sheet<'a> {
         }
     }
 
-    fn add_text(&mut self, part: &str, text: &str) -> Result<()> {
+    fn add_text(&mut self, part: &str, text: &str) -> Result<(), Trouble> {
         let Some(case) = &mut self.case else {
-            bail!("no case was begun");
+            return Err(NO_CASE);
         };
         if !case.kind.has_part(part) {
-            bail!("an unknown word");
+            return Err(Trouble::Line("an unknown word"));
         }
         let mut bytes = Vec::new(self.alloc);
-        put_text(self.programs, text, &mut bytes)?;
-        case.add(self.alloc, part, &bytes)?;
-        Ok(())
+        put_text(self.alloc, self.programs, text, &mut bytes)?;
+        case.parts.add(self.alloc, part, &bytes)
     }
 
     // A line of a part. Its newline is left out where `unended` stands at its end.
-    fn add_line(&mut self, part: &str, line: &str) -> Result<()> {
+    fn add_line(&mut self, part: &str, line: &str) -> Result<(), Trouble> {
         match line.strip_suffix("`unended`") {
             Some(text) => self.add_text(part, text),
             None => {
@@ -145,11 +148,27 @@ impl<'a> Sheet<'a> {
         }
     }
 
+    fn take_row(&mut self, row: &str) -> Result<(), Trouble> {
+        let Some(case) = &self.case else {
+            return Err(NO_CASE);
+        };
+        let (text, answer) = sides_of(row);
+        if answer.is_none() && case.parts.find("every").is_none() {
+            return Err(Trouble::Line("no answer of this row"));
+        }
+        let asked = side(self.alloc, self.programs, case, "front", text, "back")?;
+        let wanted = answer_of(self.alloc, self.programs, case, answer)?;
+        self.is_table = true;
+        self.report.judge(self.alloc, case, row, &asked, &wanted)
+    }
+
     // The case ends where the next one begins.
-    fn end_case(&mut self) -> Result<()> {
+    fn end_case(&mut self) -> Result<(), Trouble> {
         if let Some(case) = self.case.take() {
             if !self.is_table {
-                self.report.judge(self.alloc, &case, "")?;
+                let (asked, wanted) = case.kind.sides();
+                let (asked, wanted) = (case.part(asked), case.part(wanted));
+                self.report.judge(self.alloc, &case, "", asked, wanted)?;
             }
         }
         self.is_table = false;
@@ -157,7 +176,7 @@ impl<'a> Sheet<'a> {
     }
 
     /// The report at the end of the file.
-    pub fn end(mut self) -> Result<Report> {
+    pub fn end(mut self) -> Result<Report, Trouble> {
         self.end_case()?;
         Ok(self.report)
     }

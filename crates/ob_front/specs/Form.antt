@@ -29,7 +29,7 @@ pub data HasTextFault (text : List ℕ) (fault : ProgramFault) : Type 0 where
   at_token : HasFault text fault → HasTextFault text fault
   at_row : (lexed : Lexed) → HasTokens text lexed → HasSyntaxFault lexed.tokens lexed.end fault → HasTextFault text fault
 
--- an empty program meets them all
+-- whether a program meets the conditions beside its form; the empty program meets them all
 abbrev pub is_valid : Option ProgramTree → Bool
 is_valid None = true
 is_valid (Some p) = meets_conditions p

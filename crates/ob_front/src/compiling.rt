@@ -37,8 +37,8 @@ const NOT_OF_FORM: ProgramFault = ProgramFault {
 /// Why a text has no program.
 #[derive(Clone, Copy, PartialEq, Eq, Debug, Error)]
 pub enum CompileError {
-    /// The text is none of a program.
-    #[error("not of the form of a program")]
+    /// The first fault of the text.
+    #[error("the text has a fault")]
     Fault(ProgramFault),
     #[error("out of memory")]
     Memory,

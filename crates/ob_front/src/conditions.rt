@@ -154,6 +154,8 @@ fn are_starts(fields: &[Name], starts: &[StartTree]) -> bool
     is_same(field, &start.field) && are_starts(more_fields, more_starts)
 }
 
+/// Whether a program of the form meets what the grammar doesn't say: its names are known and distinct, and its numbers are
+/// within their limits.
 pub fn meets_conditions(tree: &ProgramTree) -> bool
     ensures { result ≡ meets_conditions tree.now }
 {

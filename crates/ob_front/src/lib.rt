@@ -11,6 +11,3 @@ pub use compiling::{
     CompileError, accepted_or_fault, compile_plain, form_or_fault, one_fault, one_program,
     one_text_fault, syntax_tree,
 };
-
-#[cfg(test)]
-mod tests;

@@ -15,8 +15,6 @@ mod parsing;
 mod primaries;
 mod simple;
 mod statements;
-#[cfg(test)]
-mod tests;
 mod tokens;
 
 pub use parsing::{ParseError, parse};

@@ -40,9 +40,11 @@ fits-joined unowned (owned b) = refl
 fits-joined unowned shared = refl
 fits-joined unowned unowned = refl
 
-pub matches-joined : (p q wanted : Permission) → IsTrue (matches p wanted) → IsTrue (matches q wanted) → IsTrue (matches (joined p q) wanted)
+pub matches-joined : (p q wanted : Permission) → IsTrue (matches p wanted) → IsTrue (matches q wanted)
+    → IsTrue (matches (joined p q) wanted)
 matches-joined (owned a) (owned b) (owned c) first second =
-    subset_from (union a b) c (λ i h some. ⊎_elim (subset_at a c first i h) (subset_at b c second i h) (or_cases (a i) (b i) some))
+    subset_from (union a b) c (λ i h some.
+    ⊎_elim (subset_at a c first i h) (subset_at b c second i h) (or_cases (a i) (b i) some))
 matches-joined shared shared shared first second = refl
 matches-joined unowned unowned unowned first second = refl
 matches-joined (owned a) q shared first second = absurd cc

@@ -47,11 +47,13 @@ other_bit (suc (suc x)) p = absurd (omega arith)
 
 pub states_of-or : (a b : ℕ) → states_of (bit_or a b) ≡ union (states_of a) (states_of b)
 unfolding states_of
-states_of-or a b = fun_ext (λ i. ap (λ x. x == 1) (bit_at_or a b i) ∙ either_bit (bit_at a i) (bit_at b i) (bit_at-lt a i) (bit_at-lt b i))
+states_of-or a b = fun_ext (λ i. ap (λ x. x == 1) (bit_at_or a b i)
+    ∙ either_bit (bit_at a i) (bit_at b i) (bit_at-lt a i) (bit_at-lt b i))
 
 pub states_of-and : (a b : ℕ) → states_of (bit_and a b) ≡ intersection (states_of a) (states_of b)
 unfolding states_of
-states_of-and a b = fun_ext (λ i. ap (λ x. x == 1) (bit_at_and a b i) ∙ both_bits (bit_at a i) (bit_at b i) (bit_at-lt a i) (bit_at-lt b i))
+states_of-and a b = fun_ext (λ i. ap (λ x. x == 1) (bit_at_and a b i)
+    ∙ both_bits (bit_at a i) (bit_at b i) (bit_at-lt a i) (bit_at-lt b i))
 
 pub states_of-not : (a i : ℕ) → a < 2 ^ 64 → i < 64 → states_of (bit_not w64 a) i ≡ not (states_of a i)
 unfolding states_of
@@ -88,7 +90,8 @@ states_of-above a k i small h = ap (λ x. x == 1) (bit_at_above a k i small h)
 -- Two numbers that stand for one set are equal.
 pub same_mask : (a b : ℕ) → states_of a ≡ states_of b → a ≡ b
 unfolding states_of
-same_mask a b e = same_from_bits a b (λ i. same_bit (bit_at a i) (bit_at b i) (bit_at-lt a i) (bit_at-lt b i) (ap (λ f. f i) e))
+same_mask a b e = same_from_bits a b (λ i.
+    same_bit (bit_at a i) (bit_at b i) (bit_at-lt a i) (bit_at-lt b i) (ap (λ f. f i) e))
 
 -- `(a >> k) & 1 == 1`
 pub states_of_bit : (a k : ℕ) → (bit_and (a / 2 ^ k) 1 == 1) ≡ states_of a k
@@ -96,38 +99,54 @@ unfolding states_of
 states_of_bit a k = ap (λ x. x == 1) (shr_and_one a k)
 
 -- `a & !b`
-pub states_of-minus : (a b : ℕ) → a < 2 ^ 64 → b < 2 ^ 64 → states_of (bit_and a (bit_not w64 b)) ≡ difference (states_of a) (states_of b)
+pub states_of-minus : (a b : ℕ) → a < 2 ^ 64 → b < 2 ^ 64
+    → states_of (bit_and a (bit_not w64 b)) ≡ difference (states_of a) (states_of b)
 states_of-minus a b small_a small_b = states_of-and a (bit_not w64 b) ∙ fun_ext (λ i. ⊎_elim
     (λ below. ap (λ c. states_of a i && c) (states_of-not b i small_b below))
-    (λ above. and_left (states_of a i) (states_of (bit_not w64 b) i) (states_of-above a 64 i small_a above)
-    ∙ sym (and_left (states_of a i) (not (states_of b i)) (states_of-above a 64 i small_a above)))
+    (λ above. let out = states_of-above a 64 i small_a above in
+    and_left (states_of a i) (states_of (bit_not w64 b) i) out ∙ sym (and_left (states_of a i) (not (states_of b i)) out))
     (cases_lt i 64))
 
--- `a & ALL_BITS == 0`
-is_empty : (a : ℕ) → (bit_and a (2 ^ 34 - 1) == 0) ≡ all_below 34 (λ i. not (states_of a i))
-is_empty a = both_ways (bit_and a (2 ^ 34 - 1) == 0) (all_below 34 (λ i. not (states_of a i)))
-    (λ none. all_below_from 34 (λ i. not (states_of a i)) (λ i h. not_from_false (states_of a i)
-    (sym (ap (λ b. states_of a i && b) (lt-ltb i 34 h) ∙ and-true (states_of a i)) ∙ sym (low i) ∙ ap (λ m. states_of m i) (eqb-true (bit_and a (2 ^ 34 - 1)) 0 none) ∙ ap (λ f. f i) states_of-zero)))
-    (λ each. eq-eqb (bit_and a (2 ^ 34 - 1)) 0 (same_mask (bit_and a (2 ^ 34 - 1)) 0 (fun_ext (λ i. low i ∙ ⊎_elim
-    (λ below. and_left (states_of a i) (nat_lt i 34) (not-true (states_of a i) (all_below_at 34 (λ i. not (states_of a i)) each i below)))
-    (λ above. and_right (states_of a i) (nat_lt i 34) (le-ltb i 34 above))
-    (cases_lt i 34)) ∙ sym states_of-zero)))
-  where
-    low : (i : ℕ) → states_of (bit_and a (2 ^ 34 - 1)) i ≡ (states_of a i && nat_lt i 34)
-    low i = ap (λ f. f i) (states_of-and a (2 ^ 34 - 1)) ∙ ap (λ f. states_of a i && f i) (states_of-below 34)
+-- `a & ALL_BITS`
+abbrev low_bits : ℕ → ℕ
+low_bits a = bit_and a (2 ^ 34 - 1)
 
--- The first set has nothing outside of the second, of the states that count.
-pub is_empty-difference : (d a b : ℕ) → states_of d ≡ difference (states_of a) (states_of b) → (bit_and d (2 ^ 34 - 1) == 0) ≡ subset (states_of a) (states_of b)
+states_of-low_bits : (a : ℕ) → states_of (low_bits a) ≡ intersection (states_of a) (λ i. nat_lt i 34)
+states_of-low_bits a = states_of-and a (2 ^ 34 - 1) ∙ ap (intersection (states_of a)) (states_of-below 34)
+
+low_state : (a i : ℕ) → i < 34 → states_of (low_bits a) i ≡ states_of a i
+low_state a i h = ap (λ f. f i) (states_of-low_bits a)
+    ∙ ap (λ b. states_of a i && b) (lt-ltb i 34 h) ∙ and-true (states_of a i)
+
+high_state : (a i : ℕ) → 34 ≤ i → states_of (low_bits a) i ≡ false
+high_state a i h = ap (λ f. f i) (states_of-low_bits a) ∙ and_right (states_of a i) (nat_lt i 34) (le-ltb i 34 h)
+
+-- `a & ALL_BITS == 0`
+is_empty : (a : ℕ) → (low_bits a == 0) ≡ all_below 34 (λ i. not (states_of a i))
+is_empty a = both_ways (low_bits a == 0) (all_below 34 (λ i. not (states_of a i)))
+    (λ none. all_below_from 34 (λ i. not (states_of a i)) (λ i h. not_from_false (states_of a i)
+    (sym (low_state a i h) ∙ ap (λ m. states_of m i) (eqb-true (low_bits a) 0 none) ∙ ap (λ f. f i) states_of-zero)))
+    (λ each. eq-eqb (low_bits a) 0 (same_mask (low_bits a) 0 (fun_ext (λ i. ⊎_elim
+    (λ below. low_state a i below
+    ∙ not-true (states_of a i) (all_below_at 34 (λ i. not (states_of a i)) each i below))
+    (high_state a i)
+    (cases_lt i 34)) ∙ sym states_of-zero)))
+
+-- The first set has nothing outside of the second, of the states that have a number.
+pub is_empty-difference : (d a b : ℕ) → states_of d ≡ difference (states_of a) (states_of b)
+    → (low_bits d == 0) ≡ subset (states_of a) (states_of b)
 unfolding states_max
-is_empty-difference d a b e = is_empty d ∙ all_below_same 34 (λ i. not (states_of d i)) (λ i. not (states_of a i) || states_of b i) (λ i h.
-    ap (λ f. not (f i)) e ∙ not_both (states_of a i) (states_of b i))
+is_empty-difference d a b e = is_empty d ∙ all_below_same 34
+    (λ i. not (states_of d i)) (λ i. not (states_of a i) || states_of b i)
+    (λ i h. ap (λ f. not (f i)) e ∙ not_both (states_of a i) (states_of b i))
   where
     not_both : (x y : Bool) → not (x && not y) ≡ (not x || y)
     not_both true true = refl
     not_both true false = refl
     not_both false y = refl
 
--- The two sets have something in common, of the states that count.
-pub is_empty-intersection : (d a b : ℕ) → states_of d ≡ intersection (states_of a) (states_of b) → not (bit_and d (2 ^ 34 - 1) == 0) ≡ meets (states_of a) (states_of b)
+-- The two sets have something in common, of the states that have a number.
+pub is_empty-intersection : (d a b : ℕ) → states_of d ≡ intersection (states_of a) (states_of b)
+    → not (low_bits d == 0) ≡ meets (states_of a) (states_of b)
 unfolding states_max
 is_empty-intersection d a b e = ap not (is_empty d) ∙ not-all_below 34 (states_of d) ∙ ap (any_below 34) e

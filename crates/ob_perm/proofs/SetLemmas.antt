@@ -1,9 +1,8 @@
--- Tests below a bound, and the sets that `Owned` stands for.
-use Rattle.std.proofs.Common.{◌≡◌, ℕ, zero, suc, ◌<◌, ⊎_elim, Bool, true, false, not, ◌&&◌, ◌||◌, nat_lt, refl, sym, ap, ap₂, ◌∙◌, arith, lt-ltb, le-ltb, ne_eqb, le-leb}
-use Rattle.std.specs.Bool.{◌==◌}
+-- Tests below a bound.
+use Rattle.std.proofs.Common.{◌≡◌, ℕ, zero, suc, ◌<◌, ⊎_elim, Bool, true, false, not, ◌&&◌, ◌||◌, nat_lt, refl, sym, ap, ap₂, ◌∙◌, arith, lt-ltb, le-ltb, le-leb}
 use Rattle.std.proofs.Math.Path.{fun_ext}
 use Rattle.std.proofs.lemmas.Bool.{cases_lt, lt-leb, and_parts, or_cases, or_left, or_right, and_from}
-use Rattle.ob_perm.specs.States.{any_below, all_below, stateless, unnamed, only, all_states, anywhere}
+use Rattle.ob_perm.specs.States.{any_below, all_below, unnamed, anywhere}
 
 -- a test at the last number or below it
 last_or_below : {P : Type 0} (n i : ℕ) → i < suc n → (i ≡ n → P) → (i < n → P) → P
@@ -39,16 +38,6 @@ any_below_from (suc n) f i h e = last_or_below n i h
 pub all_below_same : (n : ℕ) (f g : ℕ → Bool) → ((i : ℕ) → i < n → f i ≡ g i) → all_below n f ≡ all_below n g
 all_below_same zero f g e = refl
 all_below_same (suc n) f g e = ap₂ (λ x y. x && y) (e n (omega arith)) (all_below_same n f g (λ i h. e i (omega (arith, h))))
-
-pub all_states-none : only stateless ≡ all_states 0
-all_states-none = fun_ext (λ i. ap (λ b. b || i == stateless) (sym (le-ltb i 0 (omega arith))))
-
-pub all_states-some : (n : ℕ) → 0 < n → (λ (i : ℕ). nat_lt i n) ≡ all_states n
-all_states-some n h = fun_ext (λ i. or-false (nat_lt i n) ∙ ap (λ b. nat_lt i n || b && i == stateless) (sym (ne_eqb n 0 (λ none. omega (arith, h, none)))))
-  where
-    or-false : (b : Bool) → b ≡ (b || false)
-    or-false true = refl
-    or-false false = refl
 
 pub anywhere-below : (λ (i : ℕ). nat_lt i unnamed) ≡ anywhere
 anywhere-below = fun_ext (λ i. ⊎_elim

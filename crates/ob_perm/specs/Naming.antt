@@ -9,7 +9,7 @@ use Rattle.ob_perm.specs.Permissions.{Permission, on_states}
 abbrev pub Names : Type 0
 Names = List (Option StateId)
 
--- There are at most 32 states on either side.
+-- There are at most 32 states on either side, as in every class table.
 pub record IsNaming (names : Names) : Type 0 where
   pub few : length names ≤ 32
   pub low : All (λ name. IfSome name (λ k. k.0 < 32)) names

@@ -1,6 +1,6 @@
--- Sets of the states in which an object may be (Coblenz et al., TOPLAS 42(3), 2020, "Permissions"; how a set is given is
--- this project's own).
-use Rattle.std.specs.Prelude.{ℕ, zero, suc, Bool, true, false, not, ◌&&◌, ◌||◌, ◌==◌, nat_lt, nat_le}
+-- Sets of the states in which an object may be (Coblenz et al., TOPLAS 42(3), 2020, "Permissions"; how a set is given
+-- is this project's own).
+use Rattle.std.specs.Prelude.{◌≡◌, ◌<◌, ℕ, zero, suc, Bool, true, false, not, ◌&&◌, ◌||◌, ◌==◌, nat_lt, nat_le}
 
 -- A set of states, by number. The states of a contract or interface have the numbers 0 to 31.
 abbrev pub States : Type 0
@@ -17,6 +17,10 @@ unnamed = 33
 -- how many numbers there are
 unfoldable pub states_max : ℕ
 states_max = 34
+
+-- Each state of the set has one of these numbers.
+abbrev pub IsNumbered : States → Type 0
+IsNumbered a = (i : ℕ) → a i ≡ true → i < states_max
 
 -- whether a test holds of some number below a bound
 abbrev pub any_below : ℕ → (ℕ → Bool) → Bool
@@ -56,11 +60,11 @@ within a s = λ i. a i && i == s
 abbrev pub without : States → ℕ → States
 without a s = λ i. a i && not (i == s)
 
--- whether each state of the first set is in the second
+-- whether each state of the first set that has a number is in the second
 abbrev pub subset : States → States → Bool
 subset a b = all_below states_max (λ i. not (a i) || b i)
 
--- whether some state is in both
+-- whether some state that has a number is in both
 abbrev pub meets : States → States → Bool
 meets a b = any_below states_max (λ i. a i && b i)
 
@@ -76,10 +80,10 @@ interface_states n = λ i. all_states n i || i == unnamed
 abbrev pub anywhere : States
 anywhere = λ i. nat_le i stateless
 
--- what the states of a set are called elsewhere
+-- what the states of a set that have a number are called elsewhere
 abbrev pub image : (ℕ → ℕ) → States → States
 image f a = λ i. any_below states_max (λ s. a s && i == f s)
 
--- the states that are called by a name of a set
+-- the states that are called elsewhere as one of a set
 abbrev pub preimage : (ℕ → ℕ) → States → States
 preimage f a = λ s. a (f s)

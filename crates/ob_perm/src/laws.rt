@@ -1,14 +1,14 @@
 //! What holds of permissions, whichever they are.
-ghost use Rattle.std.specs.Prelude.{◌≡◌, ◌<◌, ◌^◌, ◌&&◌, ℕ, length, IsTrue, IsFalse};
+ghost use Rattle.std.specs.Prelude.{◌≡◌, ◌&&◌, ℕ, length, IsTrue, IsFalse};
 ghost use Rattle.ob_base.specs.declared.permission.Perm.{Perm};
-ghost use Rattle.ob_perm.specs.States.{States, states_max, no_states, intersection, within, without};
+ghost use Rattle.ob_perm.specs.States.{States, IsNumbered, no_states, intersection, within, without};
 ghost use Rattle.ob_perm.specs.Permissions.{Permission, owns, is_on, fits, matches, kept, joined};
-ghost use Rattle.ob_perm.specs.Permissions.{permission_within, permission_without};
+ghost use Rattle.ob_perm.specs.Permissions.{IsNumberedPermission, permission_within, permission_without};
 ghost use Rattle.ob_perm.specs.Naming.{Names, IsNaming, for_interface, for_contract};
 ghost use Rattle.ob_perm.specs.Masks.{states_of, permission_of, IsCanonical, mask_of, perm_of};
 
-/// Each permission fits itself, what fits one that fits a third fits the third, and what matches fits. Of the giver and the
-/// taker of a reference at most one is the owner afterwards.
+/// Each permission fits itself, what fits one that fits a third fits the third, and what matches fits. Of the giver and
+/// the taker of a reference at most one is the owner afterwards.
 pub fn fitting_laws()
     ensures itself { (p : Permission) → IsTrue (fits p p) }
     ensures onward { (p q r : Permission) → IsTrue (fits p q) → IsTrue (fits q r) → IsTrue (fits p r) }
@@ -17,8 +17,8 @@ pub fn fitting_laws()
 {}
 
 /// A join doesn't depend on the order of the branches, and a permission joined with itself is itself. What each branch
-/// holds fits their join, and the join matches whatever both match. The two branches of a test of a state join to what was
-/// held before it, and no state is in both.
+/// holds fits their join, and the join matches whatever both match. The two branches of a test of a state join to what
+/// was held before it, and no state is in both.
 pub fn joining_laws()
     ensures order { (p q : Permission) → joined p q ≡ joined q p }
     ensures same { (p : Permission) → joined p p ≡ p }
@@ -40,11 +40,11 @@ pub fn naming_laws()
         → IsTrue (matches p (for_contract names (for_interface names p))) }
 {}
 
-/// Two numbers that stand for one set are equal, and so are two permissions in canonical form that stand for one. Each set
-/// and each permission has what stands for it.
+/// Each set of states has exactly one number that stands for it, and each permission exactly one in canonical form.
 pub fn mask_laws()
     ensures one_mask { (a b : ℕ) → states_of a ≡ states_of b → a ≡ b }
+    ensures mask { (a : States) → IsNumbered a → states_of (mask_of a) ≡ a }
     ensures one_perm { (p q : Perm) → IsCanonical p → IsCanonical q → permission_of p ≡ permission_of q → p ≡ q }
-    ensures mask { (a : States) (i : ℕ) → i < states_max → states_of (mask_of a) i ≡ a i }
-    ensures perm { (p : Perm) → IsCanonical p → p.states < 2 ^ 34 → perm_of (permission_of p) ≡ p }
+    ensures perm { (p : Permission) → IsNumberedPermission p → permission_of (perm_of p) ≡ p }
+    ensures canonical { (p : Permission) → IsCanonical (perm_of p) }
 {}

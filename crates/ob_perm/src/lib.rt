@@ -1,5 +1,5 @@
-//! Permissions: what fits, what the giver keeps, what is held behind two branches, and how a permission on a contract is
-//! said for its interface. A set of states is a number here, whose bit i says whether state i is in it.
+//! Permissions: what fits, what the giver keeps, what is held behind two branches, and how a permission on a contract
+//! is said for its interface. A set of states is a number here, whose bit i says whether state i is in it.
 #![tactic(auto)]
 
 mod laws;

@@ -17,5 +17,6 @@ file_of (check name) = name
 abbrev pub command_of : List (List ℕ) → Option Command
 command_of [] = None
 command_of (word ∷ []) = None
-command_of (word ∷ name ∷ []) = if bytes_eq word (codes "serve") then Some (serve name) else (if bytes_eq word (codes "check") then Some (check name) else None)
+command_of (word ∷ name ∷ []) =
+    if bytes_eq word (codes "serve") then Some (serve name) else (if bytes_eq word (codes "check") then Some (check name) else None)
 command_of (word ∷ name ∷ more ∷ words) = None

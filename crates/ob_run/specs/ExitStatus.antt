@@ -1,5 +1,5 @@
--- The status of the process and its word, by how a run ended.
-use Rattle.std.specs.Prelude.{ℕ, List, codes}
+-- The status of the process, and the word that is said on standard error, by how a run ended.
+use Rattle.std.specs.Prelude.{ℕ, List, Option, None, Some, codes}
 use Rattle.ob_run.specs.declared.exit.Exit.{Exit}
 use Rattle.ob_run.specs.declared.exit.Exit.TheVariants.{Done, Refused, Usage, ReadFault, WriteFault, FileFault, Memory, Long}
 
@@ -14,13 +14,13 @@ status_of Memory = 7
 status_of FileFault = 8
 status_of Long = 9
 
--- the word of each status, in ASCII
-abbrev pub word_of : Exit → List ℕ
-word_of Done = codes "Done"
-word_of Refused = codes "Refused"
-word_of Usage = codes "Usage"
-word_of ReadFault = codes "ReadFault"
-word_of WriteFault = codes "WriteFault"
-word_of Memory = codes "Memory"
-word_of FileFault = codes "FileFault"
-word_of Long = codes "Long"
+-- the word that is said of each on standard error, in ASCII. Of a refused program the output has the line
+abbrev pub message_of : Exit → Option (List ℕ)
+message_of Done = None
+message_of Refused = None
+message_of Usage = Some (codes "Usage")
+message_of ReadFault = Some (codes "ReadFault")
+message_of WriteFault = Some (codes "WriteFault")
+message_of Memory = Some (codes "Memory")
+message_of FileFault = Some (codes "FileFault")
+message_of Long = Some (codes "Long")

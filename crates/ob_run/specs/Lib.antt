@@ -1,6 +1,9 @@
 pub mod Commands
+pub mod CommandView
+pub mod Asked
 pub mod FaultLine
 pub mod Outside
+pub mod Writes
 pub mod Statuses
 pub mod ExitStatus
 pub mod TextRead

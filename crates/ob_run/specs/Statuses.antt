@@ -2,116 +2,119 @@
 use Rattle.std.specs.Prelude.{ℕ, ◌≡◌, ◌<◌, ◌^◌, ◌⊎◌, ◌++◌, List, [], ◌∷◌, length, codes, Option, None, Some}
 use Rattle.ob_base.specs.declared.fault.ProgramFault.{ProgramFault}
 use Rattle.ob_io.specs.Causes.{Rose}
-use Rattle.ob_io.specs.Told.{Gives, GivesFront}
+use Rattle.ob_io.specs.Files.{IsAsked}
 use Rattle.ob_machine.specs.declared.plain.Plain.{Plain}
 use Rattle.ob_front.specs.Form.{IsAccepted, HasTextFault, HasProgram, IsFaulty}
-use Rattle.ob_serve.specs.Served.{IsAll, Finishes, FailsToRead, FailsToWrite, GivesUp, IsTooLong}
+use Rattle.ob_serve.specs.Served.{Streams, IsAll, Finishes, FailsToRead, FailsToWrite, GivesUp, ReachesLimit}
+use Rattle.ob_run.specs.Asked.{program_ask}
 use Rattle.ob_run.specs.Commands.{Command, serve, check, file_of, command_of}
 use Rattle.ob_run.specs.FaultLine.{fault_line}
 use Rattle.ob_run.specs.Outside.{Outside, streams, KeepsStreams}
+use Rattle.ob_run.specs.Writes.{WritesWhole, WritesFront}
 use Rattle.ob_run.specs.declared.exit.Exit.{Exit}
 use Rattle.ob_run.specs.declared.exit.Exit.TheVariants.{Done, Refused, Usage, ReadFault, WriteFault, FileFault, Memory, Long}
 
--- The words are `serve P`, the text of P is a program, and what is said of the program holds.
-pub record Serves (words : List (List ℕ)) (old : Outside) (says : Option Plain → Type 0) : Type 0 where
+-- ---- what a command does with a text
+
+-- The command is `serve`, the text is a program, and this is said of the program.
+pub record ServesProgram (command : Command) (text : List ℕ) (says : Option Plain → Type 0) : Type 0 where
   pub name : List ℕ
-  pub command : command_of words ≡ Some (serve name)
-  pub text : List ℕ
-  pub told : IsAll (old.files.content name) text
+  pub is : command ≡ serve name
   pub program : Option Plain
   pub has : HasProgram text program
   pub holds : says program
 
--- what a command tells of a text that it refuses
+-- the faults that a command tells of a text
 abbrev pub IsToldBy : Command → List ℕ → ProgramFault → Type 0
 IsToldBy (serve name) = IsFaulty
 IsToldBy (check name) = HasTextFault
 
--- The words are a command, and by it this fault is told of the text of P.
-pub record RefusesText (words : List (List ℕ)) (old : Outside) (fault : ProgramFault) : Type 0 where
-  pub command : Command
-  pub is : command_of words ≡ Some command
-  pub text : List ℕ
-  pub told : IsAll (old.files.content (file_of command)) text
-  pub faulty : IsToldBy command text fault
+-- The bytes are a command's refusal of a text: the line of a fault that it tells.
+pub record IsRefusal (command : Command) (text bytes : List ℕ) : Type 0 where
+  pub fault : ProgramFault
+  pub told : IsToldBy command text fault
+  pub line : bytes ≡ fault_line fault
 
--- The words are `check P`, and the text of P is accepted.
-pub record AcceptsText (words : List (List ℕ)) (old : Outside) : Type 0 where
-  pub name : List ℕ
-  pub command : command_of words ≡ Some (check name)
-  pub text : List ℕ
-  pub told : IsAll (old.files.content name) text
-  pub accepted : IsAccepted text
-
--- what is written of a text that is accepted
+-- the line of a text that is accepted
 abbrev pub accepted_line : List ℕ
 accepted_line = codes "accepted" ++ 10 ∷ []
 
--- The text of P is accepted, its line was written, and no input was taken.
-pub record Accepts (words : List (List ℕ)) (old new : Outside) : Type 0 where
-  pub accepts : AcceptsText words old
-  pub line : Gives old.output.written new.output.written accepted_line
-  pub input : new.input ≡ old.input
+-- The bytes are what a command that takes no input finds of a text without a fault.
+abbrev pub IsFinding : Command → List ℕ → List ℕ → Type 0
+IsFinding (serve name) text bytes = ⊥
+IsFinding (check name) text bytes = IsAccepted text × (bytes ≡ accepted_line)
 
--- Done: the replies to all lines of the input were written, or that the text is accepted.
+-- The bytes are what a command writes of a text: its refusal, or what it finds.
+abbrev pub IsOfText : Command → List ℕ → List ℕ → Type 0
+IsOfText command text bytes = IsRefusal command text bytes ⊎ IsFinding command text bytes
+
+-- What each status says of a command, the text that it read and the two streams. Usage and FileFault come before a text
+-- is read.
+abbrev pub Treats : Command → List ℕ → Streams → Streams → Exit → Type 0
+Treats command text old new Done =
+    ServesProgram command text (λ program. Finishes program old new) ⊎ WritesWhole (IsFinding command text) old new
+Treats command text old new Refused = WritesWhole (IsRefusal command text) old new
+Treats command text old new Usage = ⊥
+Treats command text old new ReadFault = ServesProgram command text (λ program. FailsToRead program old new)
+Treats command text old new WriteFault =
+    ServesProgram command text (λ program. FailsToWrite program old new) ⊎ WritesFront (IsOfText command text) old new
+Treats command text old new FileFault = ⊥
+Treats command text old new Memory = (new ≡ old) ⊎ ServesProgram command text (λ program. GivesUp program old new)
+Treats command text old new Long = ServesProgram command text (λ program. ReachesLimit program old new)
+
+-- ---- what a run says
+
+-- The words are a command, P was asked, once, and contains a text, and the status says its own of the two.
+pub record TreatsFile (words : List (List ℕ)) (old new : Outside) (exit : Exit) : Type 0 where
+  pub command : Command
+  pub is : command_of words ≡ Some command
+  pub asked : IsAsked old.files.asks new.files.asks (program_ask command)
+  pub text : List ℕ
+  pub told : IsAll (old.files.content (file_of command)) text
+  pub treats : Treats command text (streams old) (streams new) exit
+
+-- Done: the replies to all lines of the input were written, or what the command finds of the text of P.
 abbrev pub IsDone : List (List ℕ) → Outside → Outside → Type 0
-IsDone words old new = Serves words old (λ program. Finishes program (streams old) (streams new)) ⊎ Accepts words old new
+IsDone words old new = TreatsFile words old new Done
 
 -- Refused: the text of P has a fault, its line was written, and no input was taken.
-pub record IsRefused (words : List (List ℕ)) (old new : Outside) : Type 0 where
-  pub fault : ProgramFault
-  pub refuses : RefusesText words old fault
-  pub line : Gives old.output.written new.output.written (fault_line fault)
-  pub input : new.input ≡ old.input
+abbrev pub IsRefused : List (List ℕ) → Outside → Outside → Type 0
+IsRefused words old new = TreatsFile words old new Refused
 
 -- Usage: the words are no command, and nothing was touched.
 pub record IsUsage (words : List (List ℕ)) (old new : Outside) : Type 0 where
   pub command : command_of words ≡ None
   pub same : new ≡ old
 
--- FileFault: P wasn't read, and the streams weren't touched.
+-- ReadFault: a read of the input failed.
+abbrev pub IsReadFault : List (List ℕ) → Outside → Outside → Type 0
+IsReadFault words old new = TreatsFile words old new ReadFault
+
+-- WriteFault: a write failed, within a reply or within what the command writes of the text of P.
+abbrev pub IsWriteFault : List (List ℕ) → Outside → Outside → Type 0
+IsWriteFault words old new = TreatsFile words old new WriteFault
+
+-- FileFault: P was asked, once, and reading it failed. Neither stream was touched.
 pub record IsFileFault (words : List (List ℕ)) (old new : Outside) : Type 0 where
   pub command : Command
   pub is : command_of words ≡ Some command
+  pub asked : IsAsked old.files.asks new.files.asks (program_ask command)
   pub cause : Rose old.files.faults new.files.faults
   pub streams : KeepsStreams old new
 
--- ReadFault: a read of the input failed.
-abbrev pub IsReadFault : List (List ℕ) → Outside → Outside → Type 0
-IsReadFault words old new = Serves words old (λ program. FailsToRead program (streams old) (streams new))
-
--- The line of a refused text wasn't written whole.
-pub record CutsRefusal (words : List (List ℕ)) (old new : Outside) : Type 0 where
-  pub fault : ProgramFault
-  pub refuses : RefusesText words old fault
-  pub cause : Rose old.output.faults new.output.faults
-  pub front : GivesFront old.output.written new.output.written (fault_line fault)
-  pub input : new.input ≡ old.input
-
--- The line of an accepted text wasn't written whole.
-pub record CutsAcceptance (words : List (List ℕ)) (old new : Outside) : Type 0 where
-  pub accepts : AcceptsText words old
-  pub cause : Rose old.output.faults new.output.faults
-  pub front : GivesFront old.output.written new.output.written accepted_line
-  pub input : new.input ≡ old.input
-
--- WriteFault: a write failed, within a reply or within the line of a text that is refused or accepted.
-abbrev pub IsWriteFault : List (List ℕ) → Outside → Outside → Type 0
-IsWriteFault words old new = Serves words old (λ program. FailsToWrite program (streams old) (streams new)) ⊎ (CutsRefusal words old new ⊎ CutsAcceptance words old new)
-
--- Memory ran out before anything was read or written: the streams weren't touched.
+-- Memory ran out before P was read: neither stream was touched.
 pub record RunsOutEarly (words : List (List ℕ)) (old new : Outside) : Type 0 where
   pub command : Command
   pub is : command_of words ≡ Some command
   pub streams : KeepsStreams old new
 
--- Memory: it ran out before anything was read or written, or before a reply.
+-- Memory: it ran out before either stream was touched, or before a reply.
 abbrev pub IsMemory : List (List ℕ) → Outside → Outside → Type 0
-IsMemory words old new = RunsOutEarly words old new ⊎ Serves words old (λ program. GivesUp program (streams old) (streams new))
+IsMemory words old new = RunsOutEarly words old new ⊎ TreatsFile words old new Memory
 
--- Long: 2^40 bytes of input were taken.
+-- Long: exactly 2^40 bytes of input were taken.
 abbrev pub IsLong : List (List ℕ) → Outside → Outside → Type 0
-IsLong words old new = Serves words old (λ program. IsTooLong program (streams old) (streams new))
+IsLong words old new = TreatsFile words old new Long
 
 -- each status says its own
 abbrev pub Meets : List (List ℕ) → Outside → Outside → Exit → Type 0

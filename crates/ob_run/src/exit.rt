@@ -1,5 +1,7 @@
 //! How a run ends.
-ghost use Rattle.std.specs.Prelude.{◌≡◌};
+ghost use Rattle.std.specs.Prelude.{◌≡◌, ◌≢◌, option_map};
+
+use std::io::ErrorKind;
 
 /// How a run ended.
 #[derive(Clone, Copy, PartialEq, Eq, Debug)]
@@ -23,7 +25,19 @@ pub enum Exit {
 }
 
 impl Exit {
-    ghost use Rattle.ob_run.specs.ExitStatus.{status_of, word_of};
+    ghost use Rattle.ob_run.specs.ExitStatus.{status_of, message_of};
+
+    /// How a run ends that has no words, since reading them from the command line failed with an error of this kind:
+    /// `Memory` where memory ran out, and else `Usage`, as where a word is no UTF-8.
+    pub fn without_words(kind: ErrorKind) -> Exit
+        ensures memory { kind ≡ ErrorKind.OutOfMemory → result ≡ Exit.Memory }
+        ensures usage { kind ≢ ErrorKind.OutOfMemory → result ≡ Exit.Usage }
+    {
+        match kind {
+            ErrorKind::OutOfMemory => Exit::Memory,
+            _ => Exit::Usage,
+        }
+    }
 
     /// The status of the process.
     pub fn status(self) -> u8
@@ -41,19 +55,18 @@ impl Exit {
         }
     }
 
-    /// The word for it on standard error.
-    pub fn word(self) -> &'static str
-        ensures { result.now ≡ word_of self }
+    /// The word that is said of it on standard error. `Done` has none, nor has `Refused`, of which the output has the line.
+    pub fn message(self) -> Option<&'static str>
+        ensures { option_map (λ word. word.now) result ≡ message_of self }
     {
         match self {
-            Exit::Done => "Done",
-            Exit::Refused => "Refused",
-            Exit::Usage => "Usage",
-            Exit::ReadFault => "ReadFault",
-            Exit::WriteFault => "WriteFault",
-            Exit::Memory => "Memory",
-            Exit::FileFault => "FileFault",
-            Exit::Long => "Long",
+            Exit::Done | Exit::Refused => None,
+            Exit::Usage => Some("Usage"),
+            Exit::ReadFault => Some("ReadFault"),
+            Exit::WriteFault => Some("WriteFault"),
+            Exit::Memory => Some("Memory"),
+            Exit::FileFault => Some("FileFault"),
+            Exit::Long => Some("Long"),
         }
     }
 }

@@ -1,70 +1,48 @@
 //! The top call.
-ghost use Rattle.std.specs.Prelude.{◌≡◌, ◌≢◌, ◌+◌, ◌≤◌, ◌⊎◌, None, Some, List, ℕ, map, string_bytes, option_map, IfOk, IsErrOf};
-ghost use Rattle.std.specs.Option.{option_copied};
-ghost use Rattle.ob_machine.specs.Closed.{is_closed_program};
-ghost use Rattle.ob_front.specs.Form.{IsAccepted, HasProgram, IsOfForm};
-ghost use Rattle.ob_run.specs.Commands.{Command, command_of};
-ghost use Rattle.ob_run.specs.FaultLine.{fault_line};
-ghost use Rattle.ob_run.specs.Outside.{outside, faults_of, IsCalm};
-ghost use Rattle.ob_run.specs.Statuses.{Meets, IsDone, IsRefused, IsUsage, IsReadFault, IsWriteFault, IsFileFault, IsMemory, IsLong, IsSmooth, IsSmoothCheck, accepted_line};
-ghost use Rattle.ob_run.specs.TextRead.{command_on, IsReadOf, TreatsServe, TreatsCheck, Treats};
+ghost use Rattle.std.specs.Prelude.{◌≡◌, ◌≢◌, ◌+◌, ◌≤◌, ◌⊎◌, None, Some, List, ℕ, map, string_bytes, IfOk, IsErrOf};
+ghost use Rattle.ob_front.specs.Form.{IsAccepted, IsOfForm};
 ghost use Rattle.ob_io.specs.Causes.{Rose};
-ghost use Rattle.ob_io.specs.Told.{Gives, GivesFront};
-ghost use Rattle.ob_io.specs.Views.{SourceView};
+ghost use Rattle.ob_io.specs.Files.{NotesAsk};
+ghost use Rattle.ob_run.specs.Asked.{AsksFor, program_ask};
+ghost use Rattle.ob_run.specs.CommandView.{command_view};
+ghost use Rattle.ob_run.specs.Commands.{serve, check, command_of, file_of};
+ghost use Rattle.ob_run.specs.Outside.{outside, faults_of, IsCalm};
+ghost use Rattle.ob_run.specs.Statuses.{Treats, Meets, IsDone, IsRefused, IsUsage, IsReadFault, IsWriteFault, IsFileFault, IsMemory, IsLong, IsSmooth, IsSmoothCheck};
+ghost use Rattle.ob_run.specs.TextRead.{IsReadOf, TreatsAlone, Refuses, Accepts};
 
+use crate::command::Command;
 use crate::exit::Exit;
 use crate::fault_line::fault_line;
 use ob_base::ProgramFault;
 use ob_front::{CompileError, compile_plain, syntax_tree};
 use ob_io::{FileError, Files, Sink, Source, write_all};
-use ob_machine::Plain;
 use ob_serve::{Served, serve};
 use std::alloc::Global;
 
 /// The most bytes of a program's file that are read: one more than a program may have.
 const MOST_READ: usize = 1_048_577;
 
-// What is done with the text of a file.
-#[derive(Clone, Copy)]
-enum Verb {
-    // Its program is served.
-    Serve,
-    // Its first fault is told, or that there is none.
-    Check,
-}
-
-// The command that the words are: what is done, and the name of the file.
-fn command(words: &[String]) -> Option<(Verb, &str)>
-    ensures { option_map (λ asked. command_on asked.0 asked.1.now) result ≡ command_of (map string_bytes words.now) }
-{
-    match words {
-        [word, name] if word.as_str() == "serve" => Some((Verb::Serve, name.as_str())),
-        [word, name] if word.as_str() == "check" => Some((Verb::Check, name.as_str())),
-        _ => None,
-    }
-}
-
-// The text of a program's file, as far as it is read.
-fn read_text<F: Files>(alloc: Global, files: &mut F, name: &str) -> Result<Vec<u8>, FileError>
-    ensures text { IfOk result (λ text. IsReadOf ((F.view files.old).content name.now) text.items) }
+// The text of a command's file, as far as it is read.
+fn read_text<F: Files>(
+    alloc: Global,
+    files: &mut F,
+    command: Command<'_>,
+) -> Result<Vec<u8>, FileError>
+    ensures text { IfOk result (λ text. IsReadOf ((F.view files.old).content (file_of (command_view command.entry))) text.items) }
+    ensures asks { NotesAsk (F.view files.old).asks (F.view files.new).asks (program_ask (command_view command.entry)) result }
     ensures cause { IsErrOf result FileError.Failed → Rose (F.view files.old).faults (F.view files.new).faults }
     ensures later { (F.view files.old).faults ≤ (F.view files.new).faults }
     ensures calm { result ≢ Err FileError.Failed → (F.view files.new).faults ≡ (F.view files.old).faults }
     ensures once { (F.view files.new).faults ≤ (F.view files.old).faults + 1 }
-    ensures few { (F.view files.new).asked ≤ (F.view files.old).asked + 1048577 }
 {
     let mut text = Vec::new(alloc);
-    files.read(name, MOST_READ, &mut text)?;
+    files.read(command.file(), MOST_READ, &mut text)?;
     Ok(text)
 }
 
-// Writes the line of a fault that is told of a program's text.
+// Writes the line of a fault that a command tells of a text.
 fn refuse<K: Sink>(alloc: Global, fault: ProgramFault, output: &mut K) -> Exit
-    ensures line { result ≡ Exit.Refused → Gives (K.view output.old).written (K.view output.new).written (fault_line fault) }
-    ensures front { result ≡ Exit.WriteFault → GivesFront (K.view output.old).written (K.view output.new).written (fault_line fault) }
-    ensures memory { result ≡ Exit.Memory → K.view output.new ≡ K.view output.old }
-    ensures cause { result ≡ Exit.WriteFault → Rose (K.view output.old).faults (K.view output.new).faults }
-    ensures one { (result ≡ Exit.Refused) ⊎ ((result ≡ Exit.WriteFault) ⊎ (result ≡ Exit.Memory)) }
+    ensures refuses { Refuses fault (K.view output.old) (K.view output.new) result }
     ensures later { (K.view output.old).faults ≤ (K.view output.new).faults }
     ensures calm { result ≢ Exit.WriteFault → (K.view output.new).faults ≡ (K.view output.old).faults }
     ensures once { (K.view output.new).faults ≤ (K.view output.old).faults + 1 }
@@ -80,26 +58,20 @@ fn refuse<K: Sink>(alloc: Global, fault: ProgramFault, output: &mut K) -> Exit
 
 // Writes the line of a text that is accepted.
 fn accept<K: Sink>(output: &mut K) -> Exit
-    ensures line { result ≡ Exit.Done → Gives (K.view output.old).written (K.view output.new).written accepted_line }
-    ensures front { result ≡ Exit.WriteFault → GivesFront (K.view output.old).written (K.view output.new).written accepted_line }
-    ensures cause { result ≡ Exit.WriteFault → Rose (K.view output.old).faults (K.view output.new).faults }
-    ensures one { (result ≡ Exit.Done) ⊎ (result ≡ Exit.WriteFault) }
+    ensures accepts { Accepts (K.view output.old) (K.view output.new) result }
     ensures later { (K.view output.old).faults ≤ (K.view output.new).faults }
     ensures calm { result ≢ Exit.WriteFault → (K.view output.new).faults ≡ (K.view output.old).faults }
     ensures once { (K.view output.new).faults ≤ (K.view output.old).faults + 1 }
 {
-    if write_all(output, b"accepted\n").is_err() {
-        return Exit::WriteFault;
+    match write_all(output, b"accepted\n") {
+        Ok(()) => Exit::Done,
+        Err(_) => Exit::WriteFault,
     }
-    Exit::Done
 }
 
 // Accepts a text, or refuses it.
 fn check_text<K: Sink>(alloc: Global, text: &[u8], output: &mut K) -> Exit
-    ensures treats { (input : SourceView) → TreatsCheck text.now
-        (record { input = input; output = K.view output.old })
-        (record { input = input; output = K.view output.new })
-        result }
+    ensures treats { (name : List ℕ) → TreatsAlone (check name) text.now (K.view output.old) (K.view output.new) result }
     ensures later { (K.view output.old).faults ≤ (K.view output.new).faults }
     ensures calm { result ≢ Exit.WriteFault → (K.view output.new).faults ≡ (K.view output.old).faults }
     ensures once { (K.view output.new).faults ≤ (K.view output.old).faults + 1 }
@@ -113,7 +85,7 @@ fn check_text<K: Sink>(alloc: Global, text: &[u8], output: &mut K) -> Exit
 
 // Serves the program of a text, or refuses the text.
 fn serve_text<S: Source, K: Sink>(alloc: Global, text: &[u8], input: &mut S, output: &mut K) -> Exit
-    ensures treats { TreatsServe text.now
+    ensures treats { (name : List ℕ) → Treats (serve name) text.now
         (record { input = S.view input.old; output = K.view output.old })
         (record { input = S.view input.new; output = K.view output.new })
         result }
@@ -142,12 +114,12 @@ fn serve_text<S: Source, K: Sink>(alloc: Global, text: &[u8], input: &mut S, out
 // Does with a text what the command says.
 fn treat<S: Source, K: Sink>(
     alloc: Global,
-    verb: Verb,
+    command: Command<'_>,
     text: &[u8],
     input: &mut S,
     output: &mut K,
 ) -> Exit
-    ensures treats { Treats verb text.now
+    ensures treats { Treats (command_view command.entry) text.now
         (record { input = S.view input.old; output = K.view output.old })
         (record { input = S.view input.new; output = K.view output.new })
         result }
@@ -159,9 +131,9 @@ fn treat<S: Source, K: Sink>(
     ensures once { (S.view input.new).faults + (K.view output.new).faults
         ≤ (S.view input.old).faults + (K.view output.old).faults + 1 }
 {
-    match verb {
-        Verb::Serve => serve_text(alloc, text, input, output),
-        Verb::Check => check_text(alloc, text, output),
+    match command {
+        Command::Serve(_) => serve_text(alloc, text, input, output),
+        Command::Check(_) => check_text(alloc, text, output),
     }
 }
 
@@ -176,7 +148,7 @@ fn run_words<F: Files, S: Source, K: Sink>(
         (outside (F.view files.old) (S.view input.old) (K.view output.old))
         (outside (F.view files.new) (S.view input.new) (K.view output.new))
         result }
-    ensures few { (F.view files.new).asked ≤ (F.view files.old).asked + 1048577 }
+    ensures asked { AsksFor (command_of (map string_bytes words.now)) (F.view files.old).asks (F.view files.new).asks }
     ensures later_files { (F.view files.old).faults ≤ (F.view files.new).faults }
     ensures later_read { (S.view input.old).faults ≤ (S.view input.new).faults }
     ensures later_write { (K.view output.old).faults ≤ (K.view output.new).faults }
@@ -186,11 +158,11 @@ fn run_words<F: Files, S: Source, K: Sink>(
     ensures once { faults_of (outside (F.view files.new) (S.view input.new) (K.view output.new))
         ≤ faults_of (outside (F.view files.old) (S.view input.old) (K.view output.old)) + 1 }
 {
-    let Some((verb, name)) = command(words) else {
+    let Some(command) = Command::of(words) else {
         return Exit::Usage;
     };
-    match read_text(alloc, files, name) {
-        Ok(text) => treat(alloc, verb, &text, input, output),
+    match read_text(alloc, files, command) {
+        Ok(text) => treat(alloc, command, &text, input, output),
         Err(FileError::Failed) => Exit::FileFault,
         Err(FileError::Memory) => Exit::Memory,
     }
@@ -250,8 +222,8 @@ pub fn run<F: Files, S: Source, K: Sink>(
         (outside (F.view files.new) (S.view input.new) (K.view output.new)))
         → ¬ (IsAccepted smooth.text) → (result ≡ Exit.Refused) ⊎ (result ≡ Exit.Memory) }
 
-    // At most 1,048,577 bytes of the program's file are read.
-    ensures few { (F.view files.new).asked ≤ (F.view files.old).asked + 1048577 }
+    // The program's file is asked once at most, for 1,048,577 bytes, and no other file is.
+    ensures asked { AsksFor (command_of (map string_bytes words.now)) (F.view files.old).asks (F.view files.new).asks }
 
     // No count of faults falls.
     ensures later_files { (F.view files.old).faults ≤ (F.view files.new).faults }

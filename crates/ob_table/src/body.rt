@@ -8,7 +8,7 @@ use ob_base::{ContractId, Duplicate, Items, Memory, Span, TxId, copy_items};
 use std::alloc::Global;
 
 /// The body of a transaction or a constructor. That of a default constructor has no statement.
-#[derive(Debug, Drop)]
+#[derive(Drop)]
 pub struct Body {
     pub contract: ContractId,
     pub tx: TxId,

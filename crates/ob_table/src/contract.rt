@@ -18,7 +18,7 @@ pub enum Kind {
 }
 
 /// A field.
-#[derive(Debug, Drop)]
+#[derive(Drop)]
 pub struct Field {
     pub name: Name,
     pub of: Kind,
@@ -37,7 +37,7 @@ impl Duplicate for Field {
 }
 
 /// A parameter of a transaction or a constructor, other than `this`.
-#[derive(Debug, Drop)]
+#[derive(Drop)]
 pub struct Param {
     pub name: Name,
     /// Its type, with the permission at the entry.
@@ -65,7 +65,7 @@ pub struct Listed {
 }
 
 /// A transaction or a constructor, without its body.
-#[derive(Debug, Drop)]
+#[derive(Drop)]
 pub struct Signature {
     /// Empty for a constructor.
     pub name: Text,
@@ -94,7 +94,7 @@ impl Duplicate for Signature {
 }
 
 /// A contract, or an interface.
-#[derive(Debug, Drop)]
+#[derive(Drop)]
 pub struct Contract {
     pub name: Text,
     /// Whether its objects are assets, which must not be lost.

@@ -6,7 +6,7 @@ use ob_base::{Boxed, ContractId, Duplicate, Items, Memory, Operator, Span, Text,
 use std::alloc::Global;
 
 /// An expression. Its `span` runs from its first token to its last, the parentheses around it included.
-#[derive(Debug, Drop)]
+#[derive(Drop)]
 #[cycle(expr)]
 pub enum ResolvedExpr {
     Number {
@@ -54,7 +54,7 @@ pub enum ResolvedExpr {
 }
 
 /// A call of a transaction.
-#[derive(Debug, Drop)]
+#[derive(Drop)]
 #[cycle(expr)]
 pub struct ResolvedCall {
     /// The name before the dot; `None` for `this`, written or not.

@@ -7,7 +7,7 @@ use ob_base::{Duplicate, FieldId, Items, Memory, Perm, Span, StateId, copy_items
 use std::alloc::Global;
 
 /// `{ statements }`.
-#[derive(Debug, Drop)]
+#[derive(Drop)]
 #[cycle(stmt)]
 pub struct ResolvedBlock {
     pub statements: Items<ResolvedStmt>,
@@ -16,7 +16,7 @@ pub struct ResolvedBlock {
 }
 
 /// A field, and the value that a change of state gives it.
-#[derive(Debug, Drop)]
+#[derive(Drop)]
 pub struct ResolvedGiven {
     pub field: FieldId,
     /// The place of the field's name.
@@ -35,7 +35,7 @@ impl Duplicate for ResolvedGiven {
 }
 
 /// A statement: its `span` runs from its first token to its last.
-#[derive(Debug, Drop)]
+#[derive(Drop)]
 #[cycle(stmt)]
 pub enum ResolvedStmt {
     /// `T x = value;`

@@ -17,10 +17,11 @@ fn words(rt: &HostRuntime) -> io::Result<Vec<String>> {
 }
 
 fn run_host(rt: &HostRuntime) -> Exit {
-    let Ok(words) = words(rt) else {
-        return Exit::Memory;
+    let words = match words(rt) {
+        Ok(words) => words,
+        Err(error) => return Exit::without_words(error.kind()),
     };
-    let mut files = StdFiles::new(rt);
+    let mut files = StdFiles::new(rt.alloc(), rt);
     let mut input = StdSource::new(rt.reader());
     let mut output = StdSink::new(writer(rt));
     run(rt.alloc(), &words, &mut files, &mut input, &mut output)
@@ -28,9 +29,8 @@ fn run_host(rt: &HostRuntime) -> Exit {
 
 fn main(rt: HostRuntime) -> ExitCode {
     let exit = run_host(&rt);
-    if exit != Exit::Done {
-        let word = exit.word();
-        let _ = eprintln!(rt; "{word}");
+    if let Some(message) = exit.message() {
+        let _ = eprintln!(rt; "{message}");
     }
     ExitCode::from(exit.status())
 }

@@ -1,38 +1,36 @@
-//! Names, labels, texts, bytes of fields, and the messages of errors.
-use anyhow::{Context, Result, bail};
+//! Names, labels and texts, and fields as bytes.
+use crate::trouble::Trouble;
 use ob_base::{
-    Duplicate, Failed, FieldFault, Fields, Label, Memory, Name, NameError, Text, put_i64, put_text,
-    put_u8, put_u32,
+    Duplicate, FieldFault, Fields, Label, Name, NameError, Text, put_i64, put_text, put_u8, put_u32,
 };
 use std::alloc::Global;
-use std::io::Write;
 
-fn is_name(alloc: Global, bytes: &[u8]) -> Result<bool> {
+fn is_name(alloc: Global, bytes: &[u8]) -> Result<bool, Trouble> {
     match Name::of(alloc, bytes) {
         Ok(name) => Ok(name.copy(alloc)?.as_bytes() == bytes),
         Err(NameError::Bad) => Ok(false),
-        Err(NameError::Memory) => Err(Memory.into()),
+        Err(NameError::Memory) => Err(Trouble::Memory),
     }
 }
 
-fn is_label(alloc: Global, bytes: &[u8]) -> Result<bool> {
+fn is_label(alloc: Global, bytes: &[u8]) -> Result<bool, Trouble> {
     match Label::of(alloc, bytes) {
         Ok(label) => Ok(label.copy(alloc)?.as_bytes() == bytes),
         Err(NameError::Bad) => Ok(false),
-        Err(NameError::Memory) => Err(Memory.into()),
+        Err(NameError::Memory) => Err(Trouble::Memory),
     }
 }
 
-fn is_text(alloc: Global, bytes: &[u8]) -> Result<bool> {
+fn is_text(alloc: Global, bytes: &[u8]) -> Result<bool, Trouble> {
     match Text::of(alloc, bytes) {
         Ok(text) => Ok(text.copy(alloc)?.as_bytes() == bytes),
         Err(NameError::Bad) => Ok(false),
-        Err(NameError::Memory) => Err(Memory.into()),
+        Err(NameError::Memory) => Err(Trouble::Memory),
     }
 }
 
 /// Which of a name, a label and a text the bytes are: `name label text`, `label text`, `text` or `none`.
-pub fn form(alloc: Global, bytes: &[u8]) -> Result<Vec<u8>> {
+pub fn form(alloc: Global, bytes: &[u8]) -> Result<Vec<u8>, Trouble> {
     let forms = (
         is_name(alloc, bytes)?,
         is_label(alloc, bytes)?,
@@ -48,67 +46,53 @@ pub fn form(alloc: Global, bytes: &[u8]) -> Result<Vec<u8>> {
     Ok(said.to_vec(alloc)?)
 }
 
-fn put_field(out: &mut Vec<u8>, kind: &str, value: &str) -> Result<()> {
+// A number, where the field is one.
+fn number_in(value: &str) -> Result<i64, Trouble> {
+    value.parse().ok().ok_or(Trouble::Line("no number"))
+}
+
+fn put_field(kind: &str, value: &str, into: &mut Vec<u8>) -> Result<(), Trouble> {
+    const NO_FIELD: Trouble = Trouble::Line("no such field");
     match kind {
-        "u8" => put_u8(out, value.parse()?)?,
-        "u32" => put_u32(out, value.parse()?)?,
-        "i64" => put_i64(out, value.parse()?)?,
-        "text" if value.len() < 1 << 20 => put_text(out, value)?,
-        _ => bail!("an unknown field"),
+        "u8" => put_u8(into, u8::try_from(number_in(value)?).ok().ok_or(NO_FIELD)?)?,
+        "u32" => put_u32(into, u32::try_from(number_in(value)?).ok().ok_or(NO_FIELD)?)?,
+        "i64" => put_i64(into, number_in(value)?)?,
+        "text" if value.len() < 1 << 20 => put_text(into, value)?,
+        _ => return Err(NO_FIELD),
     }
     Ok(())
 }
 
-/// The bytes of fields, in hexadecimal digits. The fields stand with `, ` between: `u8 5`, `u32 5`, `i64 -5`, `text five`.
-pub fn bytes(alloc: Global, text: &[u8]) -> Result<Vec<u8>> {
+// Whether the bytes are those of a field alone.
+fn is_field(alloc: Global, kind: &str, value: &str, bytes: &[u8]) -> Result<bool, Trouble> {
+    let mut fields = Fields::new(bytes);
+    let is_read = match kind {
+        "u8" => matches!(fields.u8(), Ok(read) if i64::from(read) == number_in(value)?),
+        "u32" => matches!(fields.u32(), Ok(read) if i64::from(read) == number_in(value)?),
+        "i64" => matches!(fields.i64(), Ok(read) if read == number_in(value)?),
+        _ => match fields.text(alloc) {
+            Ok(text) => text.as_str() == value,
+            Err(FieldFault::Memory) => return Err(Trouble::Memory),
+            Err(_) => false,
+        },
+    };
+    Ok(is_read && fields.at() == bytes.len())
+}
+
+/// The bytes of a field, in hexadecimal digits, from which it was read again: `u8 5`, `u32 5`, `i64 -5` or `text five`.
+pub fn bytes(alloc: Global, field: &[u8]) -> Result<Vec<u8>, Trouble> {
+    let field = str::from_utf8(field).ok().ok_or(Trouble::Line("no field"))?;
+    let (kind, value) = field.split_once(' ').ok_or(Trouble::Line("no field"))?;
     let mut bytes = Vec::new(alloc);
-    for field in str::from_utf8(text).ok().context("fields")?.split(", ") {
-        let (kind, value) = field.split_once(' ').context("a field without a value")?;
-        put_field(&mut bytes, kind, value)?;
-    }
-    let mut said = Vec::new(alloc);
+    put_field(kind, value, &mut bytes)?;
+    let mut said = String::new(alloc);
     for byte in &bytes {
         write!(said, "{byte:02x}")?;
     }
-    said.push(b'\n')?;
-    Ok(said)
-}
-
-fn show_field(alloc: Global, fields: &mut Fields<'_>, kind: &str) -> Result<String> {
-    Ok(match kind {
-        "u8" => format!(in alloc; "{:?}", fields.u8())?,
-        "u32" => format!(in alloc; "{:?}", fields.u32())?,
-        "i64" => format!(in alloc; "{:?}", fields.i64())?,
-        "text" => format!(in alloc; "{:?}", fields.text(alloc))?,
-        _ => bail!("an unknown field"),
-    })
-}
-
-/// The fields of these kinds that are read from bytes, one after another, each with how many bytes were read by then.
-pub fn fields(alloc: Global, bytes: &[u8], kinds: &[u8]) -> Result<Vec<u8>> {
-    let mut fields = Fields::new(bytes);
-    let mut said = Vec::new(alloc);
-    for kind in str::from_utf8(kinds).ok().context("kinds")?.split(' ') {
-        if !said.is_empty() {
-            said.extend_from_slice(b"; ")?;
-        }
-        let shown = show_field(alloc, &mut fields, kind)?;
-        let at = fields.at();
-        write!(said, "{shown} at {at}")?;
-    }
-    said.push(b'\n')?;
-    Ok(said)
-}
-
-/// The message of the error of this name.
-pub fn message(alloc: Global, name: &[u8]) -> Result<Vec<u8>> {
-    let message = match name {
-        b"Memory" => format!(in alloc; "{Memory}\n")?,
-        b"Failed" => format!(in alloc; "{Failed}\n")?,
-        b"NameError::Bad" => format!(in alloc; "{}\n", NameError::Bad)?,
-        b"FieldFault::Short" => format!(in alloc; "{}\n", FieldFault::Short)?,
-        b"FieldFault::BadText" => format!(in alloc; "{}\n", FieldFault::BadText)?,
-        _ => bail!("an unknown error"),
-    };
-    Ok(message.into_bytes())
+    said.push_str(if is_field(alloc, kind, value, &bytes)? {
+        "\n"
+    } else {
+        ", read as another\n"
+    })?;
+    Ok(said.into_bytes())
 }

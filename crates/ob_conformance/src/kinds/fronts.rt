@@ -1,20 +1,15 @@
 //! The fronts of a program's tokens, and the program with one token changed.
-use anyhow::{Result, bail};
+use crate::trouble::Trouble;
 use ob_base::{EXPECTED, ProgramFault, Span};
 use ob_lexer::{Lexed, Token, TokenKind, Word, lex};
 use ob_parser::{ParseError, parse};
 use std::alloc::Global;
-use std::io::Write;
 
-fn lexed_of(alloc: Global, text: &[u8]) -> Result<Lexed> {
+fn lexed_of(alloc: Global, text: &[u8]) -> Result<Lexed, Trouble> {
     match lex(alloc, text) {
         Ok(lexed) => Ok(lexed),
-        Err(_) => bail!("no tokens"),
+        Err(_) => Err(Trouble::Line("no tokens")),
     }
-}
-
-fn is_program(alloc: Global, tokens: &[Token], end: Span) -> bool {
-    parse(alloc, tokens, end).is_ok()
 }
 
 fn is_expected_at(alloc: Global, tokens: &[Token], end: Span, place: Span) -> bool {
@@ -35,7 +30,7 @@ fn is_refused_front(alloc: Global, lexed: &Lexed, count: usize) -> bool {
 }
 
 // Whether with `while`, which stands nowhere, in the place of a token, that token is refused.
-fn is_refused_change(alloc: Global, text: &[u8], at: usize) -> Result<bool> {
+fn is_refused_change(alloc: Global, text: &[u8], at: usize) -> Result<bool, Trouble> {
     let mut lexed = lexed_of(alloc, text)?;
     if at >= lexed.tokens.len() {
         return Ok(false);
@@ -51,39 +46,38 @@ fn is_refused_change(alloc: Global, text: &[u8], at: usize) -> Result<bool> {
     Ok(is_expected_at(alloc, lexed.tokens.as_slice(), lexed.end, span))
 }
 
-/// `each token counts`: with another in its place it is refused, and a front of the tokens is refused at its end. Or the
-/// numbers of the tokens that don't count.
-pub fn whole(alloc: Global, text: &[u8]) -> Result<Vec<u8>> {
+/// `each token counts`: with another in its place it is refused, and the tokens before it are refused at their end. Or the
+/// numbers of those that don't count.
+pub fn whole(alloc: Global, text: &[u8]) -> Result<Vec<u8>, Trouble> {
     let lexed = lexed_of(alloc, text)?;
-    let mut said = Vec::new(alloc);
+    if parse(alloc, lexed.tokens.as_slice(), lexed.end).is_err() {
+        return Ok(b"refused\n".to_vec(alloc)?);
+    }
+    let mut said = String::new(alloc);
     for at in 0..lexed.tokens.len() {
-        let counts = is_refused_change(alloc, text, at)?
-            && (at == 0 || is_refused_front(alloc, &lexed, at));
-        if !counts {
+        let is_front = at > 0 && !is_refused_front(alloc, &lexed, at);
+        if is_front || !is_refused_change(alloc, text, at)? {
             write!(said, "{at} ")?;
         }
     }
-    let accepted = is_program(alloc, lexed.tokens.as_slice(), lexed.end);
-    said.extend_from_slice(if !accepted {
-        b"refused\n"
-    } else if said.is_empty() {
-        b"each token counts\n"
+    said.push_str(if said.is_empty() {
+        "each token counts\n"
     } else {
-        b"do not count\n"
+        "do not count\n"
     })?;
-    Ok(said)
+    Ok(said.into_bytes())
 }
 
 /// How many tokens the fronts have that are programs. Each other front is refused at its end.
-pub fn fronts(alloc: Global, text: &[u8]) -> Result<Vec<u8>> {
+pub fn fronts(alloc: Global, text: &[u8]) -> Result<Vec<u8>, Trouble> {
     let lexed = lexed_of(alloc, text)?;
-    let mut said = Vec::new(alloc);
+    let mut said = String::new(alloc);
     for count in 0..=lexed.tokens.len() {
         if !is_refused_front(alloc, &lexed, count) {
             let gap = if said.is_empty() { "" } else { " " };
             write!(said, "{gap}{count}")?;
         }
     }
-    said.push(b'\n')?;
-    Ok(said)
+    said.push('\n')?;
+    Ok(said.into_bytes())
 }

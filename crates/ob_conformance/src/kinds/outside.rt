@@ -1,5 +1,6 @@
 //! What the outside of a run does: which calls of its objects fail, and how much room its output has.
-use anyhow::{Context, Result, bail};
+use crate::pieces::number_of;
+use crate::trouble::Trouble;
 use std::alloc::Global;
 
 /// The outside of a run.
@@ -16,17 +17,17 @@ pub struct Outside {
 }
 
 /// The room of an output where none is named.
-const AMPLE: usize = 1 << 30;
+pub const AMPLE: usize = 1 << 30;
 
 /// How many calls fail, where all from one on do: more than a run of a case has.
 const LATER: u64 = 100;
 
 // Adds the numbers of calls: `0`, or `from 0` with all later ones.
-fn put_calls(text: &str, calls: &mut Vec<u64>) -> Result<()> {
+fn put_calls(text: &str, calls: &mut Vec<u64>) -> Result<(), Trouble> {
     match text.strip_prefix("from ") {
-        None => calls.push(text.parse()?)?,
+        None => calls.push(number_of(text)?)?,
         Some(first) => {
-            let first = first.parse::<u64>()?;
+            let first = number_of(first)?;
             for later in 0..LATER {
                 calls.push(first.saturating_add(later))?;
             }
@@ -48,7 +49,7 @@ impl Outside {
     }
 
     /// What a case says of the outside, with `, ` between: `sure`, `room NUMBER`, `files CALLS`, `input CALLS`, `output CALLS`.
-    pub fn of(alloc: Global, text: &str) -> Result<Outside> {
+    pub fn of(alloc: Global, text: &str) -> Result<Outside, Trouble> {
         let mut outside = Outside::new(alloc);
         if !text.is_empty() {
             for part in text.split(", ") {
@@ -58,18 +59,19 @@ impl Outside {
         Ok(outside)
     }
 
-    fn take(&mut self, part: &str) -> Result<()> {
+    fn take(&mut self, part: &str) -> Result<(), Trouble> {
         if part == "sure" {
             self.is_sure = true;
             return Ok(());
         }
-        let (word, rest) = part.split_once(' ').context("an unknown outside")?;
+        const NO_OUTSIDE: Trouble = Trouble::Line("no such outside");
+        let (word, rest) = part.split_once(' ').ok_or(NO_OUTSIDE)?;
         match word {
-            "room" => self.room = rest.parse()?,
+            "room" => self.room = number_of(rest)? as usize,
             "files" => put_calls(rest, &mut self.files)?,
             "input" => put_calls(rest, &mut self.input)?,
             "output" => put_calls(rest, &mut self.output)?,
-            _ => bail!("an unknown outside"),
+            _ => return Err(NO_OUTSIDE),
         }
         Ok(())
     }

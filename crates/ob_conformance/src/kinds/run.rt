@@ -1,11 +1,11 @@
 //! Whole runs, over the forms in memory.
 use crate::case::Case;
-use crate::kinds::outside::Outside;
-use anyhow::{Context, Result};
+use crate::kinds::outside::{AMPLE, Outside};
+use crate::kinds::tokens::text_of;
+use crate::trouble::Trouble;
 use ob_io::{MemoryFiles, MemorySink, MemorySource, Source, SureFiles, SureSink, SureSource};
 use ob_run::{Exit, run};
-use std::alloc::{AllocError, Global};
-use std::io::Write;
+use std::alloc::Global;
 
 /// What a run is handed: its words, the file `p`, and the input.
 #[derive(Drop)]
@@ -23,14 +23,14 @@ struct Ended {
     output: Option<Vec<u8>>,
     /// How many calls failed.
     faults: u64,
-    /// How many bytes of the input weren't taken, and how many it had.
-    unread: usize,
+    /// How many bytes of the input weren't taken, where a read tells it, and how many it had.
+    unread: Option<usize>,
     length: usize,
     /// Whether the words ask to serve.
     serves: bool,
 }
 
-fn words_of(alloc: Global, text: &str) -> Result<Vec<String>, AllocError> {
+fn words_of(alloc: Global, text: &str) -> Result<Vec<String>, Trouble> {
     let mut words = Vec::new(alloc);
     if !text.is_empty() {
         for word in text.split(' ') {
@@ -40,7 +40,7 @@ fn words_of(alloc: Global, text: &str) -> Result<Vec<String>, AllocError> {
     Ok(words)
 }
 
-fn given_of(alloc: Global, words: &str, text: &[u8], input: &[u8]) -> Result<Given, AllocError> {
+fn given_of(alloc: Global, words: &str, text: &[u8], input: &[u8]) -> Result<Given, Trouble> {
     let mut files = Vec::new(alloc);
     files.push((String::from_str(alloc, "p")?, text.to_vec(alloc)?))?;
     Ok(Given {
@@ -54,13 +54,17 @@ fn asks_to_serve(words: &[String]) -> bool {
     words.first().is_some_and(|word| word.as_str() == "serve")
 }
 
-// How many bytes a source has left, of so many.
-fn left_in<S: Source>(alloc: Global, source: &mut S, most: usize) -> Result<usize, AllocError> {
+// How many bytes a source has left, of so many, unless its next read fails.
+fn left_in<S: Source>(
+    alloc: Global,
+    source: &mut S,
+    most: usize,
+) -> Result<Option<usize>, Trouble> {
     let mut left = vec![in alloc; 0; most]?;
-    Ok(source.read(&mut left).unwrap_or(0))
+    Ok(source.read(&mut left).ok())
 }
 
-fn run_failing(alloc: Global, given: Given, outside: Outside) -> Result<Ended> {
+fn run_failing(alloc: Global, given: Given, outside: Outside) -> Result<Ended, Trouble> {
     let Given {
         words,
         files,
@@ -85,7 +89,7 @@ fn run_failing(alloc: Global, given: Given, outside: Outside) -> Result<Ended> {
     })
 }
 
-fn run_sure(alloc: Global, given: Given, room: usize) -> Result<Ended> {
+fn run_sure(alloc: Global, given: Given, room: usize) -> Result<Ended, Trouble> {
     let Given {
         words,
         files,
@@ -113,35 +117,38 @@ fn run_sure(alloc: Global, given: Given, room: usize) -> Result<Ended> {
 // Whether as many calls failed as the end says, and as many bytes of the input are left.
 fn is_well(ended: &Ended) -> bool {
     let (faults, unread) = match ended.exit {
-        Exit::Done => (0, if ended.serves { 0 } else { ended.length }),
-        Exit::Refused | Exit::Usage => (0, ended.length),
-        Exit::FileFault => (1, ended.length),
-        Exit::ReadFault | Exit::WriteFault => (1, ended.unread),
-        Exit::Memory | Exit::Long => (0, ended.unread),
+        Exit::Done if ended.serves => (0, Some(0)),
+        Exit::Done | Exit::Refused | Exit::Usage => (0, Some(ended.length)),
+        Exit::FileFault => (1, Some(ended.length)),
+        Exit::ReadFault | Exit::WriteFault => (1, None),
+        Exit::Memory | Exit::Long => (0, None),
     };
-    ended.faults == faults && ended.unread == unread
+    let is_left = match (unread, ended.unread) {
+        (Some(wanted), Some(left)) => left == wanted,
+        _ => true,
+    };
+    ended.faults == faults && is_left
 }
 
 // The status, and the counts where they aren't well.
-fn put_end(ended: &Ended, into: &mut Vec<u8>) -> Result<()> {
+fn end_of(alloc: Global, ended: &Ended) -> Result<String, Trouble> {
     let exit = ended.exit;
     let status = exit.status();
-    write!(into, "{status} {exit:?}")?;
+    let mut said = format!(in alloc; "{status} {exit:?}")?;
     if !is_well(ended) {
         let faults = ended.faults;
-        let unread = ended.unread;
+        let unread = ended.unread.unwrap_or(0);
         write!(
-            into,
-            ", with {faults} calls that failed and {unread} bytes that weren't read"
+            said,
+            ", calls that failed: {faults}, bytes that weren't read: {unread}"
         )?;
     }
-    Ok(())
+    Ok(said)
 }
 
 // The end, and then what was written.
-fn show(alloc: Global, ended: Ended) -> Result<Vec<u8>> {
-    let mut shown = Vec::new(alloc);
-    put_end(&ended, &mut shown)?;
+fn show(alloc: Global, ended: Ended) -> Result<Vec<u8>, Trouble> {
+    let mut shown = end_of(alloc, &ended)?.into_bytes();
     shown.push(b'\n')?;
     match ended.output {
         Some(bytes) => shown.extend_from_slice(&bytes)?,
@@ -150,18 +157,7 @@ fn show(alloc: Global, ended: Ended) -> Result<Vec<u8>> {
     Ok(shown)
 }
 
-fn text_in<'a>(case: &'a Case, part: &str) -> Result<&'a str> {
-    str::from_utf8(case.part(part)).ok().context("no text")
-}
-
-fn given_in(alloc: Global, case: &Case) -> Result<Given> {
-    let words = text_in(case, "words")?;
-    Ok(given_of(alloc, words, case.part("text"), case.part("input"))?)
-}
-
-fn run_given(alloc: Global, case: &Case) -> Result<Ended> {
-    let given = given_in(alloc, case)?;
-    let outside = Outside::of(alloc, text_in(case, "given")?)?;
+fn run_given(alloc: Global, given: Given, outside: Outside) -> Result<Ended, Trouble> {
     if outside.is_sure {
         run_sure(alloc, given, outside.room)
     } else {
@@ -169,72 +165,78 @@ fn run_given(alloc: Global, case: &Case) -> Result<Ended> {
     }
 }
 
-/// What a whole run comes to: a line with its status, and then what it writes.
-pub fn whole_run(alloc: Global, case: &Case) -> Result<Vec<u8>> {
-    show(alloc, run_given(alloc, case)?)
+/// What a whole run over this input comes to: a line with its status, and then what it writes.
+pub fn whole_run(alloc: Global, case: &Case, input: &[u8]) -> Result<Vec<u8>, Trouble> {
+    let words = text_of(case.part("words"))?;
+    let given = given_of(alloc, words, case.part("text"), input)?;
+    let outside = Outside::of(alloc, text_of(case.part("given"))?)?;
+    show(alloc, run_given(alloc, given, outside)?)
 }
 
-/// What is expected of a whole run: the status, `0 Done` where none is named, and then the output.
-pub fn wanted(alloc: Global, case: &Case) -> Result<Vec<u8>> {
-    let mut wanted = case.find("status").unwrap_or(b"0 Done").to_vec(alloc)?;
+/// What is expected of a whole run that writes this: the status, `0 Done` where none is named, and then the output.
+pub fn wanted(alloc: Global, case: &Case, output: &[u8]) -> Result<Vec<u8>, Trouble> {
+    let status = case.parts.find("status").unwrap_or(b"0 Done");
+    let mut wanted = status.to_vec(alloc)?;
     wanted.push(b'\n')?;
-    wanted.extend_from_slice(case.part("output"))?;
+    wanted.extend_from_slice(output)?;
     Ok(wanted)
 }
 
 // How many lines there are, where they are the first ones of a text.
 fn lines_in(front: &[u8], whole: &[u8]) -> Option<usize> {
-    if !whole.starts_with(front) || !(front.is_empty() || front.ends_with(b"\n")) {
+    let is_cut = !front.is_empty() && !front.ends_with(b"\n");
+    if is_cut || !whole.starts_with(front) {
         return None;
     }
     Some(front.iter().filter(|byte| **byte == b'\n').count())
 }
 
 /// How a run ends where the outside does this, and how many lines it writes of those that it writes where nothing fails.
-pub fn cut_run(alloc: Global, case: &Case) -> Result<Vec<u8>> {
-    let whole = run_sure(alloc, given_in(alloc, case)?, Outside::new(alloc).room)?;
-    let ended = run_given(alloc, case)?;
-    let mut said = Vec::new(alloc);
-    put_end(&ended, &mut said)?;
+pub fn cut_run(alloc: Global, case: &Case, outside: &[u8]) -> Result<Vec<u8>, Trouble> {
+    let words = text_of(case.part("words"))?;
+    let given = given_of(alloc, words, case.part("text"), case.part("input"))?;
+    let whole = run_sure(alloc, given, AMPLE)?;
+    let given = given_of(alloc, words, case.part("text"), case.part("input"))?;
+    let ended = run_given(alloc, given, Outside::of(alloc, text_of(outside)?)?)?;
+    let mut said = end_of(alloc, &ended)?;
     let (Some(front), Some(whole)) = (&ended.output, &whole.output) else {
-        said.extend_from_slice(b", untold\n")?;
-        return Ok(said);
+        said.push_str(", untold\n")?;
+        return Ok(said.into_bytes());
     };
     match lines_in(front, whole) {
-        Some(count) => writeln!(said, ", lines: {count}")?,
-        None => {
-            said.extend_from_slice(b" after\n")?;
-            said.extend_from_slice(front)?;
-        }
+        Some(count) => write!(said, ", lines: {count}\n")?,
+        None => said.push_str(", other lines\n")?,
     }
-    Ok(said)
+    Ok(said.into_bytes())
+}
+
+// Whether a run is done where it wrote this, and refuses where it wrote something else.
+fn ends_so(ended: &Ended, done: &[u8]) -> bool {
+    let exit = ended.exit;
+    match &ended.output {
+        Some(bytes) if bytes.as_slice() == done => exit == Exit::Done,
+        Some(_) => exit == Exit::Refused,
+        None => false,
+    }
 }
 
 // What a run writes that is done, where it writes this, or else refuses; or all that it comes to.
-fn said(alloc: Global, ended: Ended, done: &[u8]) -> Result<Vec<u8>> {
-    let Some(bytes) = &ended.output else {
-        return show(alloc, ended);
-    };
-    let exit = if bytes.as_slice() == done {
-        Exit::Done
-    } else {
-        Exit::Refused
-    };
-    if ended.exit != exit || !is_well(&ended) {
+fn said(alloc: Global, ended: Ended, done: &[u8]) -> Result<Vec<u8>, Trouble> {
+    if !ends_so(&ended, done) || !is_well(&ended) {
         return show(alloc, ended);
     }
-    Ok(bytes.as_slice().to_vec(alloc)?)
+    Ok(ended.output.unwrap_or(Vec::new(alloc)))
 }
 
 /// What `check` writes of a text.
-pub fn check(alloc: Global, text: &[u8]) -> Result<Vec<u8>> {
+pub fn check(alloc: Global, text: &[u8]) -> Result<Vec<u8>, Trouble> {
     let given = given_of(alloc, "check p", text, b"{\n")?;
     let ended = run_failing(alloc, given, Outside::new(alloc))?;
     said(alloc, ended, b"accepted\n")
 }
 
 /// The line of the fault that `serve` tells of a text, or `served`.
-pub fn serve(alloc: Global, text: &[u8]) -> Result<Vec<u8>> {
+pub fn serve(alloc: Global, text: &[u8]) -> Result<Vec<u8>, Trouble> {
     let given = given_of(alloc, "serve p", text, b"")?;
     let ended = run_failing(alloc, given, Outside::new(alloc))?;
     let mut said = said(alloc, ended, b"")?;
@@ -242,4 +244,22 @@ pub fn serve(alloc: Global, text: &[u8]) -> Result<Vec<u8>> {
         said.extend_from_slice(b"served\n")?;
     }
     Ok(said)
+}
+
+// Whether a newline ends the bytes, and none stands before it.
+fn is_one_line(bytes: &[u8]) -> bool {
+    bytes.ends_with(b"\n") && bytes.iter().filter(|byte| **byte == b'\n').count() == 1
+}
+
+/// `one line each`, where `check` writes one line of each front of a text's bytes; or else what it writes of the first other.
+pub fn cuts(alloc: Global, text: &[u8]) -> Result<Vec<u8>, Trouble> {
+    let mut cut = Vec::new(alloc);
+    for byte in text {
+        cut.push(*byte)?;
+        let said = check(alloc, &cut)?;
+        if !is_one_line(&said) {
+            return Ok(said);
+        }
+    }
+    Ok(b"one line each\n".to_vec(alloc)?)
 }

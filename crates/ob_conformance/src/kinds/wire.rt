@@ -1,82 +1,100 @@
 //! Requests and replies.
-use anyhow::{Context, Result, bail};
-use ob_base::{Label, Memory, ObjectId};
+use crate::kinds::tokens::text_of;
+use crate::trouble::Trouble;
+use ob_base::{Label, ObjectId};
 use ob_wire::{
     Answer, Cause, Op, Outcome, Refusal, Reply, Request, WireError, read_request, reply_bytes,
 };
 use std::alloc::Global;
-use std::io::Write;
 
-fn text_of(label: &Label) -> Result<&str> {
-    str::from_utf8(label.as_bytes()).ok().context("a label")
+fn put_label(said: &mut String, label: &Label) -> Result<(), Trouble> {
+    said.push_str(text_of(label.as_bytes())?)?;
+    Ok(())
 }
 
-fn put_args(args: &[i64], into: &mut Vec<u8>) -> Result<()> {
+fn put_args(said: &mut String, args: &[i64]) -> Result<(), Trouble> {
     for (at, arg) in args.iter().enumerate() {
-        if at > 0 {
-            write!(into, ", ")?;
-        }
-        write!(into, "{arg}")?;
+        let gap = if at == 0 { "" } else { ", " };
+        write!(said, "{gap}{arg}")?;
     }
     Ok(())
 }
 
-fn request_line(alloc: Global, request: &Request) -> Result<Vec<u8>> {
-    let mut line = Vec::new(alloc);
-    let id = request.id;
-    let who = text_of(&request.who)?;
-    write!(line, "{id} {who}: ")?;
-    match &request.op {
+fn put_op(said: &mut String, op: &Op) -> Result<(), Trouble> {
+    match op {
         Op::New { contract, into } => {
-            let contract = text_of(contract)?;
-            let into = text_of(into)?;
-            writeln!(line, "new {contract} into {into}")?;
+            said.push_str("new ")?;
+            put_label(said, contract)?;
+            said.push_str(" into ")?;
+            put_label(said, into)?;
         }
         Op::Call { on, tx, args } => {
-            let on = text_of(on)?;
-            let tx = text_of(tx)?;
-            write!(line, "{on}.{tx}(")?;
-            put_args(args.as_slice(), &mut line)?;
-            writeln!(line, ")")?;
+            put_label(said, on)?;
+            said.push_str(".")?;
+            put_label(said, tx)?;
+            said.push_str("(")?;
+            put_args(said, args.as_slice())?;
+            said.push_str(")")?;
         }
     }
-    Ok(line)
+    Ok(())
+}
+
+fn request_line(alloc: Global, request: &Request) -> Result<Vec<u8>, Trouble> {
+    let id = request.id;
+    let mut said = format!(in alloc; "{id} ")?;
+    put_label(&mut said, &request.who)?;
+    said.push_str(": ")?;
+    put_op(&mut said, &request.op)?;
+    said.push_str("\n")?;
+    Ok(said.into_bytes())
 }
 
 /// The request that a line asks: `ID CLIENT: new CONTRACT into NAME`, `ID CLIENT: NAME.TRANSACTION(ARGUMENTS)` or `none`.
-pub fn request(alloc: Global, line: &[u8]) -> Result<Vec<u8>> {
+pub fn request(alloc: Global, line: &[u8]) -> Result<Vec<u8>, Trouble> {
     match read_request(alloc, line) {
         Ok(request) => request_line(alloc, &request),
         Err(WireError::NoRequest) => Ok(b"none\n".to_vec(alloc)?),
-        Err(WireError::Memory) => Err(Memory.into()),
+        Err(WireError::Memory) => Err(Trouble::Memory),
     }
 }
 
-fn answer_of(form: &str, number: &str) -> Result<Answer> {
-    Ok(match form {
-        "object" => Answer::Ok(Outcome::Object(ObjectId(number.parse()?))),
-        "value" => Answer::Ok(Outcome::Int(number.parse()?)),
-        "overflow" => Answer::Abort(Cause::Overflow(number.parse()?)),
-        "fuel" => Answer::Abort(Cause::Fuel),
-        "long" => Answer::Refused(Refusal::LongLine),
-        "shape" => Answer::Refused(Refusal::Shape),
-        _ => bail!("an unknown answer"),
-    })
+/// What is said of what tells no reply.
+const NO_REPLY: Trouble = Trouble::Line("no reply");
+
+fn number_of(digits: &str) -> Result<i64, Trouble> {
+    digits.parse().ok().ok_or(NO_REPLY)
 }
 
-fn reply_of(text: &str) -> Result<Reply> {
-    let (id, answer) = text.split_once(' ').context("no answer")?;
-    let (form, number) = answer.split_once(' ').unwrap_or((answer, ""));
+fn index_of(digits: &str) -> Result<u32, Trouble> {
+    u32::try_from(number_of(digits)?).ok().ok_or(NO_REPLY)
+}
+
+fn answer_of(form: &str, digits: &str) -> Result<Answer, Trouble> {
+    match form {
+        "object" => Ok(Answer::Ok(Outcome::Object(ObjectId(index_of(digits)?)))),
+        "value" => Ok(Answer::Ok(Outcome::Int(number_of(digits)?))),
+        "overflow" => Ok(Answer::Abort(Cause::Overflow(index_of(digits)?))),
+        "fuel" => Ok(Answer::Abort(Cause::Fuel)),
+        "long" => Ok(Answer::Refused(Refusal::LongLine)),
+        "shape" => Ok(Answer::Refused(Refusal::Shape)),
+        _ => Err(NO_REPLY),
+    }
+}
+
+fn reply_of(text: &str) -> Result<Reply, Trouble> {
+    let (id, answer) = text.split_once(' ').ok_or(NO_REPLY)?;
+    let (form, digits) = answer.split_once(' ').unwrap_or((answer, ""));
+    let answer = answer_of(form, digits)?;
     let id = match id {
         "none" => None,
-        _ => Some(id.parse()?),
+        _ => Some(number_of(id)?),
     };
-    let answer = answer_of(form, number)?;
     Ok(Reply { id, answer })
 }
 
 /// The line of a reply: `ID object NUMBER`, `ID value NUMBER`, `ID overflow LINE`, `ID fuel`, `ID long` or `ID shape`.
-pub fn reply(alloc: Global, text: &[u8]) -> Result<Vec<u8>> {
-    let text = str::from_utf8(text).ok().context("a reply")?;
-    Ok(reply_bytes(alloc, reply_of(text)?)?)
+pub fn reply(alloc: Global, text: &[u8]) -> Result<Vec<u8>, Trouble> {
+    let reply = reply_of(text_of(text)?)?;
+    Ok(reply_bytes(alloc, reply)?)
 }

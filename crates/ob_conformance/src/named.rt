@@ -1,0 +1,41 @@
+//! Bytes by name.
+use crate::trouble::Trouble;
+use std::alloc::Global;
+
+/// Bytes by name: the parts of a case, or the programs that cases name by their files.
+#[derive(Drop)]
+pub struct Named {
+    items: Vec<(String, Vec<u8>)>,
+}
+
+impl Named {
+    /// No bytes.
+    pub fn new(alloc: Global) -> Named {
+        Named {
+            items: Vec::new(alloc),
+        }
+    }
+
+    /// The bytes of this name, if there are any.
+    pub fn find(&self, name: &str) -> Option<&[u8]> {
+        for (known, bytes) in &self.items {
+            if known.as_str() == name {
+                return Some(bytes);
+            }
+        }
+        None
+    }
+
+    /// Puts these bytes behind those of this name.
+    pub fn add(&mut self, alloc: Global, name: &str, more: &[u8]) -> Result<(), Trouble> {
+        for (known, bytes) in self.items.iter_mut() {
+            if known.as_str() == name {
+                bytes.extend_from_slice(more)?;
+                return Ok(());
+            }
+        }
+        let name = String::from_str(alloc, name)?;
+        self.items.push((name, more.to_vec(alloc)?))?;
+        Ok(())
+    }
+}

@@ -1,0 +1,13 @@
+use Rattle.std.proofs.Common.{inr, refl}
+use Rattle.ob_run.specs.Statuses.{accepted_line}
+use Rattle.ob_run.proofs.top.accept.Goals as goal
+
+-- the front that was written is one of the line
+pub returns-in-Err-clause-accepts : goal.returns-in-Err-clause-accepts
+returns-in-Err-clause-accepts g c = λ name text accepted input. inr (record {
+  bytes = accepted_line;
+  said = inr (accepted, refl);
+  cause = c.in-Err.ensures.cause.failed;
+  front = c.in-Err.ensures.err;
+  input = refl;
+})
