@@ -30,7 +30,7 @@ seen_below names s is = cond_both (s == stateless) stateless (called names s) (�
     (λ some. named_below (slice_get names s) (λ x found.
     let within = slice_get_within names s x found in
     let same : get_or names s x ≡ x = cc (slice_get-get_or names s x within) in
-    subst (λ y. IfSome y (λ k. k.0 < 32)) same (is.low s x within)))
+    subst (λ y. IfSome y (λ k. k.0 < 32)) same (is.of_interface s x within)))
 
 -- What a state of the set is called is in its image, and nothing else is.
 pub in_image : (f : ℕ → ℕ) (a : States) (s : ℕ) → s < states_max → a s ≡ true → image f a (f s) ≡ true

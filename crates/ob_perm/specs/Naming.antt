@@ -11,8 +11,8 @@ Names = List (Option StateId)
 
 -- There are at most 32 states on either side, as in every class table.
 pub record IsNaming (names : Names) : Type 0 where
-  pub few : length names ≤ 32
-  pub low : All (λ name. IfSome name (λ k. k.0 < 32)) names
+  pub of_contract : length names ≤ 32
+  pub of_interface : All (λ name. IfSome name (λ k. k.0 < 32)) names
 
 -- what the interface calls a state of the contract: its own state of that name, or else any that it doesn't name
 abbrev pub called : Names → ℕ → ℕ

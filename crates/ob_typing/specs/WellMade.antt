@@ -160,6 +160,34 @@ abbrev mutual
 abbrev pub IsValue : Frame → Locals → LocalKind → Expression → Type 0
 IsValue f ls wanted e = IsMade f ls e × Serves f ls wanted e
 
+-- Ends.
+
+abbrev mutual
+  -- whether nothing is reached behind a statement
+  pub ends_there : Statement → Bool
+  ends_there (resolved_return value span) = true
+  ends_there (resolved_revert text span) = true
+  ends_there (resolved_test subject state branch other span) = block_ends_there branch && other_ends_there other
+  ends_there (resolved_if condition branch other span) = block_ends_there branch && other_ends_there other
+  ends_there (resolved_declare local name of value span) = false
+  ends_there (resolved_assign target value span) = false
+  ends_there (resolved_stage state given span) = false
+  ends_there (resolved_change state given span) = false
+  ends_there (resolved_discard value span) = false
+  ends_there (resolved_disown subject span) = false
+  ends_there (resolved_assert subject perm span) = false
+
+  pub block_ends_there : Block → Bool
+  block_ends_there (resolved_block statements end) = one_ends_there statements
+
+  pub other_ends_there : Otherwise → Bool
+  other_ends_there no_otherwise = false
+  other_ends_there (otherwise_block block) = block_ends_there block
+
+  pub one_ends_there : Statements → Bool
+  one_ends_there no_statements = false
+  one_ends_there (and_statement x xs) = ends_there x || one_ends_there xs
+
 -- Statements.
 
 -- what may be assigned: a local, which is no parameter, or a field
@@ -235,39 +263,12 @@ abbrev mutual
   IsOtherwise f ls no_otherwise = ⊤
   IsOtherwise f ls (otherwise_block block) = IsBlock f ls block
 
-  -- statements behind a row of staged ones for these fields
+  -- statements behind a row of staged ones for these fields; nothing stands behind one that ends
   pub AreStatements : Frame → Locals → List ℕ → Statements → Type 0
   AreStatements f ls row no_statements = ⊤
   AreStatements f ls row (and_statement x xs) =
-      IsStatement f ls row x × AreStatements f (behind ls x) (row_behind row x) xs
-
--- Ends.
-
-abbrev mutual
-  -- whether nothing is reached behind a statement
-  pub ends_there : Statement → Bool
-  ends_there (resolved_return value span) = true
-  ends_there (resolved_revert text span) = true
-  ends_there (resolved_test subject state branch other span) = block_ends_there branch && other_ends_there other
-  ends_there (resolved_if condition branch other span) = block_ends_there branch && other_ends_there other
-  ends_there (resolved_declare local name of value span) = false
-  ends_there (resolved_assign target value span) = false
-  ends_there (resolved_stage state given span) = false
-  ends_there (resolved_change state given span) = false
-  ends_there (resolved_discard value span) = false
-  ends_there (resolved_disown subject span) = false
-  ends_there (resolved_assert subject perm span) = false
-
-  pub block_ends_there : Block → Bool
-  block_ends_there (resolved_block statements end) = one_ends_there statements
-
-  pub other_ends_there : Otherwise → Bool
-  other_ends_there no_otherwise = false
-  other_ends_there (otherwise_block block) = block_ends_there block
-
-  pub one_ends_there : Statements → Bool
-  one_ends_there no_statements = false
-  one_ends_there (and_statement x xs) = ends_there x || one_ends_there xs
+      IsStatement f ls row x × (ends_there x ≡ true → xs ≡ no_statements)
+      × AreStatements f (behind ls x) (row_behind row x) xs
 
 -- Bodies.
 

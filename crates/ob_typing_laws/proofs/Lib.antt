@@ -17,5 +17,6 @@ pub mod KindFacts
 pub mod ScopeFacts
 pub mod CallFacts
 pub mod ExpressionFacts
+pub mod EndFacts
 pub mod StatementFacts
 pub mod BodyFacts

@@ -12,6 +12,7 @@ use Rattle.ob_tree.specs.declared.name.NamePart.{NamePart}
 use Rattle.ob_tree.specs.declared.name.PermNode.{PermNode}
 use Rattle.ob_tree.specs.declared.name.Subject.{Subject}
 use Rattle.ob_tree.specs.declared.name.Subject.TheVariants.{This, Name as NameSubject}
+use Rattle.ob_table.specs.Statements.{no_statements}
 use Rattle.ob_table.specs.declared.seen.LocalKind.TheVariants.{Reference}
 use Rattle.ob_table.specs.declared.contract.Contract.{Contract as TableContract}
 use Rattle.ob_table.specs.declared.contract.Field.{Field as TableField}
@@ -39,6 +40,7 @@ use Rattle.ob_typing_laws.proofs.TypeFacts.{true_from_not, name_means, some_and,
 use Rattle.ob_typing_laws.proofs.SignatureFacts.{field_found, same_field}
 use Rattle.ob_typing_laws.proofs.KindFacts.{IsValueKind, IsKnownKind, as_local, serves_there}
 use Rattle.ob_typing_laws.proofs.ScopeFacts.{GoodScope, by_number, no_number, good_with, good_past, by_number-with, this_known, KnownName, name_known, StandsFor, for_variable, for_field, stands_for}
+use Rattle.ob_typing_laws.proofs.EndFacts.{ends_same}
 use Rattle.ob_typing_laws.proofs.ExpressionFacts.{Here, frame, program, expr_fact, value_fact, KnownReference, reference_known}
 
 -- Locals.
@@ -354,6 +356,19 @@ next_row h s row (stage_stmt state field value span) r c = record {
 }
 next_row h s row x r c = record { fields = tt; there = refl }
 
+-- nothing stands behind a statement that ends
+nothing_behind : (h : Here) (s : Scope) (row : List Name) (ended : Bool) (x : Stmt) (xs : Stmts) → ends x ≡ true
+    → Each Clean (stmts_sites h.around (after_stmt h.around s x) row (ended || ends x) xs)
+    → resolved_stmts h.around (after_stmt h.around s x) xs ≡ no_statements
+nothing_behind h s row ended x no_stmts e c = refl
+nothing_behind h s row ended x (and_stmt y ys) e c =
+    let f : (ended || ends x) ≡ false = c.0.unreachable in
+    let t = either_true ended e in absurd (cc)
+  where
+    either_true : (b : Bool) → ends x ≡ true → (b || ends x) ≡ true
+    either_true true k = refl
+    either_true false k = k
+
 -- Statements.
 
 mutual
@@ -442,6 +457,7 @@ mutual
       let rest = stmts_fact h q (after_stmt h.around s x) (row_after row x) (ended || ends x) xs a.good n.fields
       (each_right Clean X _ c.1) in (
         stmt_fact h q s row x g r one,
+        λ e. nothing_behind h s (row_after row x) ended x xs (sym (ends_same h.around s x) ∙ e) (each_right Clean X _ c.1),
         subst (λ ids. AreStatements (frame h) (behind (by_number s.variables) (resolved_stmt h.around s x)) ids
             (resolved_stmts h.around (after_stmt h.around s x) xs)) n.there
             (subst (λ ls. AreStatements (frame h) ls (row_ids h.around.own (row_after row x))

@@ -26,4 +26,4 @@ returns c = let last : c.loop-number.number ≡ 34 = omega arith in
     let called = preimage (seen c.args.names.now) (states_of c.args.states) in
     c.intersection.ensures
     ∙ ap₂ intersection c.all_states.ensures (c.loop-number.invariant ∙ ap (λ k. below_passing k called) last)
-    ∙ all_states-passing (length c.args.names.now) called c.requires.few
+    ∙ all_states-passing (length c.args.names.now) called c.requires.of_contract
