@@ -17,8 +17,10 @@ use Rattle.ob_table.specs.declared.seen.SeenAt.{SeenAt}
 use Rattle.ob_table.specs.declared.seen.LocalKind.{LocalKind}
 use Rattle.ob_table.specs.declared.seen.LocalKind.TheVariants.{Int, Bool, Text, Reference}
 use Rattle.ob_typing.specs.Names.{Name, number_of}
-use Rattle.ob_typing.specs.Declared.{part_of_named, contract_named, field_names}
-use Rattle.ob_typing.specs.Kinds.{Kind, an_int, a_bool, a_text, a_reference, nothing, unknown, contract_of_kind, kind_of_local}
+use Rattle.ob_typing.specs.Declarations.{part_of_named, contract_named, field_names}
+use Rattle.ob_typing.specs.declared.kind.Kind.{Kind}
+use Rattle.ob_typing.specs.declared.kind.Kind.TheVariants.{Int as an_int, Bool as a_bool, Text as a_text, Reference as a_reference, Nothing as nothing, Unknown as unknown}
+use Rattle.ob_typing.specs.Kinds.{contract_of_kind, kind_of_local}
 use Rattle.ob_typing.specs.Scopes.{Around, Scope, variable_named, locals_in_block, past, after_stmt, kind_of_this, kind_of_subject}
 use Rattle.ob_typing.specs.Numbers.{contract_id, state_id, field_id, transaction_id, perm_on}
 

@@ -9,8 +9,10 @@ use Rattle.ob_tree.specs.Members.{Formal}
 use Rattle.ob_tree.specs.declared.name.NamePart.{NamePart}
 use Rattle.ob_tree.specs.declared.name.Subject.{Subject}
 use Rattle.ob_tree.specs.declared.name.Subject.TheVariants.{This, Name as NameSubject}
-use Rattle.ob_typing.specs.Declared.{part_of_named, params_of}
-use Rattle.ob_typing.specs.Kinds.{Kind, an_int, a_bool, contract_of_kind, kinds_of_params}
+use Rattle.ob_typing.specs.Declarations.{part_of_named, params_of}
+use Rattle.ob_typing.specs.declared.kind.Kind.{Kind}
+use Rattle.ob_typing.specs.declared.kind.Kind.TheVariants.{Int as an_int, Bool as a_bool}
+use Rattle.ob_typing.specs.Kinds.{contract_of_kind, kinds_of_params}
 use Rattle.ob_typing.specs.Visible.{a_variable, a_transaction, a_public_transaction, an_object, visible_behind_dot}
 use Rattle.ob_typing.specs.Scopes.{Around, Scope, visible_at, kind_of_variable, called, constructed, kind_of_unary, kind_of}
 use Rattle.ob_typing.specs.Sites.{Site, names, has_kind, refers, is_value, passes}

@@ -3,9 +3,11 @@
 use Rattle.std.specs.Prelude.{◌≡◌, ℕ, ◌≤◌, ◌<◌, ◌⊎◌, Bool, true, false, not, ◌&&◌, ◌||◌, nat_eq, nat_lt, List, [], ◌∷◌, Option, Some, None, is_some, flat_map, Contains, if◌then◌else◌}
 use Rattle.ob_base.specs.declared.fault.ProgramFault.{ProgramFault}
 use Rattle.ob_typing.specs.Names.{same, is_among}
-use Rattle.ob_typing.specs.Declared.{Program, state_names, field_names}
+use Rattle.ob_typing.specs.Declarations.{Program, state_names, field_names}
 use Rattle.ob_typing.specs.Permissions.{as_unowned, same_mode, is_owning, may_leave}
-use Rattle.ob_typing.specs.Kinds.{Kind, nothing, unknown, is_value_type, differs, is_no_reference, is_no_value, same_kind}
+use Rattle.ob_typing.specs.declared.kind.Kind.{Kind}
+use Rattle.ob_typing.specs.declared.kind.Kind.TheVariants.{Nothing as nothing, Unknown as unknown}
+use Rattle.ob_typing.specs.Kinds.{is_value_type, differs, is_no_reference, is_no_value, same_kind}
 use Rattle.ob_typing.specs.Interfaces.{meets}
 use Rattle.ob_typing.specs.Visible.{is_visible, means}
 use Rattle.ob_typing.specs.Sites.{Site, declares, counts, is_main, names, names_state, names_field, is_inside_state, exits, takes_this, types_this, has_kind, refers, is_value, returns, lists, passes, leaves, gives, holds, implements_one, closes, follows, assigns, place_at}

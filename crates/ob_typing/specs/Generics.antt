@@ -6,7 +6,7 @@ use Rattle.ob_tree.specs.Names.{Named, bare_name, name_with, Ref, ref_with, Type
 use Rattle.ob_tree.specs.Exprs.{Expr, number_expr, text_expr, bool_expr, name_expr, this_expr, unary_expr, binary_expr, call_expr, new_expr, Call, call_with, Exprs, no_exprs, and_expr}
 use Rattle.ob_tree.specs.Stmts.{Local, int_local, bool_local, text_local, named_local, Stmt, declare_stmt, assign_stmt, stage_stmt, change_stmt, call_stmt, test_stmt, if_stmt, return_stmt, revert_stmt, disown_stmt, assert_stmt, Block, block_with, Else, no_else, else_with, Stmts, no_stmts, and_stmt}
 use Rattle.ob_tree.specs.Members.{Member, state_member, field_member, constructor_member, transaction_member, Contract}
-use Rattle.ob_typing.specs.Declared.{Program}
+use Rattle.ob_typing.specs.Declarations.{Program}
 
 -- the argument behind a name
 abbrev pub argument_of : Named → List Ref

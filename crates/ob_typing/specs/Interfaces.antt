@@ -10,9 +10,11 @@ use Rattle.ob_tree.specs.declared.name.PermNode.{PermNode}
 use Rattle.ob_tree.specs.declared.name.Subject.{Subject}
 use Rattle.ob_tree.specs.declared.name.Subject.TheVariants.{This, Name as NameSubject}
 use Rattle.ob_typing.specs.Names.{same, is_among, firsts}
-use Rattle.ob_typing.specs.Declared.{Program, part_of_named, contract_at, state_names, Param, params_of, Transaction, transactions_of, transaction_named}
+use Rattle.ob_typing.specs.Declarations.{Program, part_of_named, contract_at, state_names, Param, params_of, Transaction, transactions_of, transaction_named}
 use Rattle.ob_typing.specs.Permissions.{WrittenPermission, as_unowned, is_of, known_permission, known_exit, agree, agree_if_known}
-use Rattle.ob_typing.specs.Kinds.{Kind, a_reference, kind_of_type, permission_in, same_kind}
+use Rattle.ob_typing.specs.declared.kind.Kind.{Kind}
+use Rattle.ob_typing.specs.declared.kind.Kind.TheVariants.{Reference as a_reference}
+use Rattle.ob_typing.specs.Kinds.{kind_of_type, permission_in, same_kind}
 
 -- What is held of `this`.
 

@@ -5,21 +5,11 @@ use Rattle.std.specs.Option.{option_map_or}
 use Rattle.ob_tree.specs.Names.{Ref, ref_with, TypeExpr, int_type, bool_type, text_type, ref_type}
 use Rattle.ob_tree.specs.Stmts.{Local, int_local, bool_local, text_local, named_local}
 use Rattle.ob_tree.specs.Members.{Contract, Formal}
+use Rattle.ob_typing.specs.declared.kind.Kind.{Kind}
+use Rattle.ob_typing.specs.declared.kind.Kind.TheVariants.{Int as an_int, Bool as a_bool, Text as a_text, Reference as a_reference, Nothing as nothing, Unknown as unknown}
 use Rattle.ob_typing.specs.Names.{Name}
-use Rattle.ob_typing.specs.Declared.{Program, part_of_named, contract_named, contract_at, params_of}
+use Rattle.ob_typing.specs.Declarations.{Program, part_of_named, contract_named, contract_at, params_of}
 use Rattle.ob_typing.specs.Permissions.{WrittenPermission, as_unowned, written_permission, is_of}
-
--- the kind of a value
-pub data Kind : Type 0 where
-  an_int : Kind
-  a_bool : Kind
-  a_text : Kind
-  -- a reference to an object of the contract of this number
-  a_reference : ℕ → Kind
-  -- no value: what a call of a transaction without a result gives
-  nothing : Kind
-  -- not known, since a name or a type has a fault of its own
-  unknown : Kind
 
 -- the contract of this name
 abbrev pub contract_of_name : Program → Name → Option Contract

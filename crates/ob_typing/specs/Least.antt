@@ -1,7 +1,7 @@
 -- The least fault of a program, computed.
 use Rattle.std.specs.Prelude.{Bool, ◌&&◌, ◌||◌, nat_eq, nat_lt, List, [], ◌∷◌, Option, Some, None, if◌then◌else◌}
 use Rattle.ob_base.specs.declared.fault.ProgramFault.{ProgramFault}
-use Rattle.ob_typing.specs.Declared.{Program}
+use Rattle.ob_typing.specs.Declarations.{Program}
 use Rattle.ob_typing.specs.Faults.{faults_of, HasNoFault, IsLeast}
 
 -- whether the first fault comes before the second

@@ -1,5 +1,5 @@
 pub mod Names
-pub mod Declared
+pub mod Declarations
 pub mod Permissions
 pub mod Kinds
 pub mod Interfaces

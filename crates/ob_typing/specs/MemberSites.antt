@@ -10,9 +10,11 @@ use Rattle.ob_tree.specs.declared.name.PermNode.{PermNode}
 use Rattle.ob_tree.specs.declared.name.Subject.{Subject}
 use Rattle.ob_tree.specs.declared.name.Subject.TheVariants.{This, Name as NameSubject}
 use Rattle.ob_typing.specs.Names.{in_order, firsts}
-use Rattle.ob_typing.specs.Declared.{Program, contract_name, part_of_named, contract_at, states_of, field_names, fields_of, params_of, transactions_of, constructors_of}
+use Rattle.ob_typing.specs.Declarations.{Program, contract_name, part_of_named, contract_at, states_of, field_names, fields_of, params_of, transactions_of, constructors_of}
 use Rattle.ob_typing.specs.Permissions.{known_permission}
-use Rattle.ob_typing.specs.Kinds.{Kind, nothing, contract_of_name, kind_of_ref, kind_of_result, interface_of}
+use Rattle.ob_typing.specs.declared.kind.Kind.{Kind}
+use Rattle.ob_typing.specs.declared.kind.Kind.TheVariants.{Nothing as nothing}
+use Rattle.ob_typing.specs.Kinds.{contract_of_name, kind_of_ref, kind_of_result, interface_of}
 use Rattle.ob_typing.specs.Limits.{contracts_most, states_most, fields_most, transactions_most, params_most}
 use Rattle.ob_typing.specs.Visible.{an_interface, itself, Visible, visible_in}
 use Rattle.ob_typing.specs.Scopes.{Around, scope_of_params, kind_of_field}

@@ -12,7 +12,7 @@ use Rattle.ob_perm.specs.States.{States, all_states, interface_states}
 use Rattle.ob_perm.specs.Permissions.{Permission, owned, shared, unowned}
 use Rattle.ob_perm.specs.Masks.{perm_of}
 use Rattle.ob_typing.specs.Names.{Name, is_among, number_of}
-use Rattle.ob_typing.specs.Declared.{state_names, field_names, transactions_of}
+use Rattle.ob_typing.specs.Declarations.{state_names, field_names, transactions_of}
 use Rattle.ob_typing.specs.Permissions.{WrittenPermission, as_shared, as_unowned, as_owner, as_owner_in, written_permission}
 
 -- the number of a contract

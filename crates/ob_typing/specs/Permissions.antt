@@ -7,7 +7,7 @@ use Rattle.ob_tree.specs.Members.{Contract}
 use Rattle.ob_tree.specs.declared.name.PermNode.{PermNode}
 use Rattle.ob_tree.specs.declared.name.PermNode.TheVariants.{Mode, States}
 use Rattle.ob_typing.specs.Names.{Name, is_among}
-use Rattle.ob_typing.specs.Declared.{state_names}
+use Rattle.ob_typing.specs.Declarations.{state_names}
 
 -- how a reference holds its object: with others, without a say, as its owner, or as its owner in one of these states
 pub data WrittenPermission : Type 0 where

@@ -10,9 +10,12 @@ use Rattle.ob_tree.specs.Stmts.{Stmt, declare_stmt, assign_stmt, stage_stmt, cha
 use Rattle.ob_tree.specs.Members.{Contract, Formal}
 use Rattle.ob_tree.specs.declared.name.Subject.{Subject}
 use Rattle.ob_tree.specs.declared.name.Subject.TheVariants.{This, Name as NameSubject}
+use Rattle.ob_typing.specs.declared.variable.Variable.{Variable}
 use Rattle.ob_typing.specs.Names.{Name, first_named, in_order}
-use Rattle.ob_typing.specs.Declared.{Program, part_of_named, field_named, Param, params_of, Transaction, transaction_named, Constructor, constructor_of}
-use Rattle.ob_typing.specs.Kinds.{Kind, an_int, a_bool, a_text, unknown, contract_of_name, contract_of_kind, kind_of_name, kind_of_type, kind_of_local, kind_of_result}
+use Rattle.ob_typing.specs.Declarations.{Program, part_of_named, field_named, Param, params_of, Transaction, transaction_named, Constructor, constructor_of}
+use Rattle.ob_typing.specs.declared.kind.Kind.{Kind}
+use Rattle.ob_typing.specs.declared.kind.Kind.TheVariants.{Int as an_int, Bool as a_bool, Text as a_text, Unknown as unknown}
+use Rattle.ob_typing.specs.Kinds.{contract_of_name, contract_of_kind, kind_of_name, kind_of_type, kind_of_local, kind_of_result}
 use Rattle.ob_typing.specs.Visible.{Visible}
 
 -- what stands around a body: the program, the contract, and the kind of the result
@@ -20,13 +23,6 @@ pub record Around : Type 0 where
   pub program : Program
   pub own : Contract
   pub result : Kind
-
--- a local or a parameter, with its number in the body
-pub record Variable : Type 0 where
-  pub name : Name
-  pub of : Kind
-  pub number : ℕ
-  pub is_param : Bool
 
 -- the variables that are visible, and how many the body has had so far
 pub record Scope : Type 0 where

@@ -5,7 +5,7 @@ use Rattle.ob_base.specs.Names.{is_name, is_text}
 use Rattle.ob_tree.specs.Members.{Listed, Member, state_member, field_member, constructor_member, transaction_member, Contract}
 use Rattle.ob_tree.specs.Stmts.{Block}
 use Rattle.ob_tree.specs.declared.name.NamePart.{NamePart}
-use Rattle.ob_typing.specs.Declared.{Program}
+use Rattle.ob_typing.specs.Declarations.{Program}
 
 -- of a contract or an interface: a transaction lists fields only if it is private, which an interface's isn't, and an
 -- interface's alone has no body

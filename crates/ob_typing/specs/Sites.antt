@@ -7,11 +7,11 @@ use Rattle.ob_tree.specs.Members.{Contract}
 use Rattle.ob_tree.specs.declared.name.NamePart.{NamePart}
 use Rattle.ob_tree.specs.declared.name.PermNode.{PermNode}
 use Rattle.ob_typing.specs.Names.{Name}
-use Rattle.ob_typing.specs.Declared.{Program}
+use Rattle.ob_typing.specs.Declarations.{Program}
 use Rattle.ob_typing.specs.Permissions.{WrittenPermission}
-use Rattle.ob_typing.specs.Kinds.{Kind}
+use Rattle.ob_typing.specs.declared.kind.Kind.{Kind}
 use Rattle.ob_typing.specs.Visible.{Need, Visible}
-use Rattle.ob_typing.specs.Scopes.{Variable}
+use Rattle.ob_typing.specs.declared.variable.Variable.{Variable}
 
 -- a place, what is needed there, and what is there
 pub data Site : Type 0 where

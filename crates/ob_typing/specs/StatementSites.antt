@@ -9,10 +9,13 @@ use Rattle.ob_tree.specs.declared.name.NamePart.{NamePart}
 use Rattle.ob_tree.specs.declared.name.Subject.{Subject}
 use Rattle.ob_tree.specs.declared.name.Subject.TheVariants.{This, Name as NameSubject}
 use Rattle.ob_typing.specs.Names.{Name, in_order}
-use Rattle.ob_typing.specs.Declared.{field_names}
-use Rattle.ob_typing.specs.Kinds.{Kind, a_bool, a_text, unknown, contract_of_kind, kind_of_local}
+use Rattle.ob_typing.specs.Declarations.{field_names}
+use Rattle.ob_typing.specs.declared.kind.Kind.{Kind}
+use Rattle.ob_typing.specs.declared.kind.Kind.TheVariants.{Bool as a_bool, Text as a_text, Unknown as unknown}
+use Rattle.ob_typing.specs.Kinds.{contract_of_kind, kind_of_local}
 use Rattle.ob_typing.specs.Visible.{a_variable}
-use Rattle.ob_typing.specs.Scopes.{Around, Variable, Scope, variable_named, visible_at, locals_in_block, past, after_stmt, kind_of_field, kind_of_subject, kind_of}
+use Rattle.ob_typing.specs.declared.variable.Variable.{Variable}
+use Rattle.ob_typing.specs.Scopes.{Around, Scope, variable_named, visible_at, locals_in_block, past, after_stmt, kind_of_field, kind_of_subject, kind_of}
 use Rattle.ob_typing.specs.Reached.{ends, one_ends}
 use Rattle.ob_typing.specs.Sites.{Site, declares, names, names_state, names_field, returns, closes, follows, assigns}
 use Rattle.ob_typing.specs.TypeSites.{perm_sites, local_sites}

@@ -21,8 +21,10 @@ use Rattle.ob_table.specs.declared.contract.Listed.{Listed}
 use Rattle.ob_table.specs.declared.contract.Signature.{Signature}
 use Rattle.ob_table.specs.declared.contract.Contract.{Contract}
 use Rattle.ob_typing.specs.Names.{in_order}
-use Rattle.ob_typing.specs.Declared.{Program, part_of_named, contract_named, state_names, Availability, always, in_states, FieldDeclaration, fields_of, Param, params_of, Transaction, transactions_of, Constructor, constructor_of}
-use Rattle.ob_typing.specs.Kinds.{Kind, nothing, contract_of_name, kind_of_result, interface_of}
+use Rattle.ob_typing.specs.Declarations.{Program, part_of_named, contract_named, state_names, Availability, always, in_states, FieldDeclaration, fields_of, Param, params_of, Transaction, transactions_of, Constructor, constructor_of}
+use Rattle.ob_typing.specs.declared.kind.Kind.{Kind}
+use Rattle.ob_typing.specs.declared.kind.Kind.TheVariants.{Nothing as nothing}
+use Rattle.ob_typing.specs.Kinds.{contract_of_name, kind_of_result, interface_of}
 use Rattle.ob_typing.specs.Scopes.{scope_of_params}
 use Rattle.ob_typing.specs.MemberSites.{around}
 use Rattle.ob_typing.specs.Numbers.{contract_id, field_id, numbers_of_states, perm_on}

@@ -9,7 +9,7 @@ use Rattle.ob_tree.specs.declared.name.NamePart.{NamePart}
 use Rattle.ob_tree.specs.declared.name.PermNode.{PermNode}
 use Rattle.ob_tree.specs.declared.name.PermNode.TheVariants.{Mode, States}
 use Rattle.ob_typing.specs.Names.{Name, in_order, firsts}
-use Rattle.ob_typing.specs.Declared.{part_of_named}
+use Rattle.ob_typing.specs.Declarations.{part_of_named}
 use Rattle.ob_typing.specs.Permissions.{known_permission}
 use Rattle.ob_typing.specs.Kinds.{contract_of_name}
 use Rattle.ob_typing.specs.Visible.{a_contract, Visible}

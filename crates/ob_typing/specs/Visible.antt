@@ -3,7 +3,7 @@ use Rattle.std.specs.Prelude.{Bool, false, not, ◌||◌, List, [], is_some}
 use Rattle.std.specs.Option.{option_map_or}
 use Rattle.ob_tree.specs.Members.{Contract}
 use Rattle.ob_typing.specs.Names.{Name, same, is_among}
-use Rattle.ob_typing.specs.Declared.{Program, contract_named, state_names, field_names, transaction_named}
+use Rattle.ob_typing.specs.Declarations.{Program, contract_named, state_names, field_names, transaction_named}
 use Rattle.ob_typing.specs.Kinds.{contract_of_name}
 
 -- the names at a place: those of the program's contracts and interfaces, of the states, fields and transactions of one

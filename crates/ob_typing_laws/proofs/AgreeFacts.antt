@@ -11,7 +11,7 @@ use Rattle.ob_tree.specs.Members.{Contract}
 use Rattle.ob_perm.specs.States.{States, all_states, interface_states}
 use Rattle.ob_perm.specs.Masks.{mask_of, perm_of}
 use Rattle.ob_typing.specs.Names.{Name}
-use Rattle.ob_typing.specs.Declared.{state_names}
+use Rattle.ob_typing.specs.Declarations.{state_names}
 use Rattle.ob_typing.specs.Permissions.{WrittenPermission, as_shared, as_unowned, as_owner, as_owner_in, Situation, in_state, in_other_state, in_no_state, other_situations, allows, same_mode, same_answer, agree}
 use Rattle.ob_typing.specs.Numbers.{numbers_of_states, whole, permission_on}
 use Rattle.ob_typing_laws.proofs.PermFacts.{same_mask_of}

@@ -14,10 +14,13 @@ use Rattle.ob_table.specs.declared.contract.Param.{Param as TableParam}
 use Rattle.ob_table.specs.declared.contract.Signature.{Signature}
 use Rattle.ob_table.specs.declared.seen.LocalKind.{LocalKind}
 use Rattle.ob_typing.specs.Names.{same, in_order_after, in_order}
-use Rattle.ob_typing.specs.Declared.{Program, part_of_named, contract_at, Param, params_of, Transaction, transactions_of_member, transactions_of, Constructor, constructors_of_member, constructor_forms, constructors_of, default_constructor, constructor_of}
-use Rattle.ob_typing.specs.Kinds.{Kind, nothing, unknown, kind_of_type, kind_of_result}
+use Rattle.ob_typing.specs.Declarations.{Program, part_of_named, contract_at, Param, params_of, Transaction, transactions_of_member, transactions_of, Constructor, constructors_of_member, constructor_forms, constructors_of, default_constructor, constructor_of}
+use Rattle.ob_typing.specs.declared.kind.Kind.{Kind}
+use Rattle.ob_typing.specs.declared.kind.Kind.TheVariants.{Nothing as nothing, Unknown as unknown}
+use Rattle.ob_typing.specs.Kinds.{kind_of_type, kind_of_result}
 use Rattle.ob_typing.specs.Visible.{visible_in}
-use Rattle.ob_typing.specs.Scopes.{Variable, param_variable, scope_of_params}
+use Rattle.ob_typing.specs.declared.variable.Variable.{Variable}
+use Rattle.ob_typing.specs.Scopes.{param_variable, scope_of_params}
 use Rattle.ob_typing.specs.Reached.{one_ends}
 use Rattle.ob_typing.specs.Sites.{closes}
 use Rattle.ob_typing.specs.TypeSites.{perm_sites, result_sites}

@@ -12,7 +12,7 @@ use Rattle.ob_tree.specs.declared.name.Subject.{Subject}
 use Rattle.ob_tree.specs.declared.name.Subject.TheVariants.{This, Name as NameSubject}
 use Rattle.ob_table.specs.Tables.{signature_of}
 use Rattle.ob_typing.specs.Names.{Name, same}
-use Rattle.ob_typing.specs.Declared.{Program, part_of_named, contract_at, fields_of, param_named, params_of, Transaction, transactions_of, transaction_named, Constructor, constructors_of_member, constructor_forms, constructors_of, default_constructor, constructor_of}
+use Rattle.ob_typing.specs.Declarations.{Program, part_of_named, contract_at, fields_of, param_named, params_of, Transaction, transactions_of, transaction_named, Constructor, constructors_of_member, constructor_forms, constructors_of, default_constructor, constructor_of}
 use Rattle.ob_typing.specs.Visible.{Visible, visible_in}
 use Rattle.ob_typing.specs.StatementSites.{place_of_subject}
 use Rattle.ob_typing.specs.MemberSites.{formal_type_sites, formals_sites, member_sites}

@@ -3,7 +3,7 @@ use Rattle.std.proofs.Common.{◌≡◌, ℕ, Bool, true, false, List, [], ◌�
 use Rattle.std.specs.Prelude.{◌++◌, if◌then◌else◌}
 use Rattle.std.specs.List.{flat_map}
 use Rattle.ob_base.specs.declared.fault.ProgramFault.{ProgramFault}
-use Rattle.ob_typing.specs.Declared.{Program}
+use Rattle.ob_typing.specs.Declarations.{Program}
 use Rattle.ob_typing.specs.Sites.{Site}
 use Rattle.ob_typing.specs.MemberSites.{sites_of}
 use Rattle.ob_typing.specs.Faults.{conditions, fault_at, faults_at, HasNoFault, is_unknown_name, is_duplicate, is_wrong_kind, is_no_state, is_not_field, is_type_mismatch, is_arg_count, is_bad_exit, is_non_asset_owner, is_interface_mismatch, is_past_limit, is_missing_return, is_unreachable, is_second_main, is_assigned_parameter}

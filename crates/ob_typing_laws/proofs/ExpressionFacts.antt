@@ -15,8 +15,10 @@ use Rattle.ob_tree.specs.declared.name.Subject.TheVariants.{This, Name as NameSu
 use Rattle.ob_table.specs.declared.seen.LocalKind.{LocalKind}
 use Rattle.ob_table.specs.declared.seen.LocalKind.TheVariants.{Reference}
 use Rattle.ob_typing.specs.Names.{Name}
-use Rattle.ob_typing.specs.Declared.{Program, part_of_named, contract_named, contract_at, Param, params_of, Transaction, transaction_named, constructor_of}
-use Rattle.ob_typing.specs.Kinds.{Kind, an_int, a_bool, a_text, a_reference, nothing, unknown, contract_of_name, contract_of_kind, kind_of_name, kind_of_type, kind_of_result, is_no_reference, is_no_value}
+use Rattle.ob_typing.specs.Declarations.{Program, part_of_named, contract_named, contract_at, Param, params_of, Transaction, transaction_named, constructor_of}
+use Rattle.ob_typing.specs.declared.kind.Kind.{Kind}
+use Rattle.ob_typing.specs.declared.kind.Kind.TheVariants.{Int as an_int, Bool as a_bool, Text as a_text, Reference as a_reference, Nothing as nothing, Unknown as unknown}
+use Rattle.ob_typing.specs.Kinds.{contract_of_name, contract_of_kind, kind_of_name, kind_of_type, kind_of_result, is_no_reference, is_no_value}
 use Rattle.ob_typing.specs.Visible.{a_variable, a_transaction, a_public_transaction, an_object, visible_behind_dot}
 use Rattle.ob_typing.specs.Scopes.{Around, Scope, visible_at, kind_of_this, kind_of_variable, public_transaction, called, constructed, kind_of_unary, kind_of_binary, kind_of}
 use Rattle.ob_typing.specs.Sites.{names}

@@ -14,7 +14,7 @@ use Rattle.ob_tree.specs.declared.name.PermNode.{PermNode}
 use Rattle.ob_perm.specs.States.{States, states_max}
 use Rattle.ob_perm.specs.Masks.{mask_below, mask_of, perm_of}
 use Rattle.ob_typing.specs.Names.{Name, same, is_among}
-use Rattle.ob_typing.specs.Declared.{Program, states_of_member, states_of, state_names, FieldDeclaration, field_inside, field_at_top, availability, fields_of_member, fields_of}
+use Rattle.ob_typing.specs.Declarations.{Program, states_of_member, states_of, state_names, FieldDeclaration, field_inside, field_at_top, availability, fields_of_member, fields_of}
 use Rattle.ob_typing.specs.Permissions.{WrittenPermission, as_shared, as_unowned, as_owner, as_owner_in, written_permission, known_permission, is_owning}
 use Rattle.ob_typing.specs.Visible.{visible_in}
 use Rattle.ob_typing.specs.Sites.{names_state, is_inside_state, holds}

@@ -14,7 +14,7 @@ use Rattle.ob_tree.specs.declared.name.PermNode.TheVariants.{Mode, States}
 use Rattle.ob_tree.specs.declared.name.Subject.{Subject}
 use Rattle.ob_tree.specs.declared.name.Subject.TheVariants.{This, Name as NameSubject}
 use Rattle.ob_typing.specs.Names.{Name, same, is_among, in_order_after}
-use Rattle.ob_typing.specs.Declared.{Program, part_of_named, contract_named, contract_at, state_names}
+use Rattle.ob_typing.specs.Declarations.{Program, part_of_named, contract_named, contract_at, state_names}
 use Rattle.ob_typing.specs.Permissions.{WrittenPermission, as_unowned, written_permission, is_of, known_permission, known_exit}
 use Rattle.ob_typing.specs.Kinds.{contract_of_name, kind_of_ref}
 use Rattle.ob_typing.specs.Interfaces.{is_this, is_this_subject, held_with, held_of_this}

@@ -7,8 +7,10 @@ use Rattle.ob_tree.specs.Names.{Named, ref_with, TypeExpr, int_type, bool_type, 
 use Rattle.ob_tree.specs.Members.{Contract}
 use Rattle.ob_tree.specs.declared.name.PermNode.{PermNode}
 use Rattle.ob_table.specs.declared.seen.LocalKind.{LocalKind}
-use Rattle.ob_typing.specs.Declared.{Program, contract_at}
-use Rattle.ob_typing.specs.Kinds.{Kind, an_int, a_bool, a_text, a_reference, nothing, unknown, kind_of_type, kind_of_result, interface_of, implements, differs}
+use Rattle.ob_typing.specs.Declarations.{Program, contract_at}
+use Rattle.ob_typing.specs.declared.kind.Kind.{Kind}
+use Rattle.ob_typing.specs.declared.kind.Kind.TheVariants.{Int as an_int, Bool as a_bool, Text as a_text, Reference as a_reference, Nothing as nothing, Unknown as unknown}
+use Rattle.ob_typing.specs.Kinds.{kind_of_type, kind_of_result, interface_of, implements, differs}
 use Rattle.ob_typing.specs.Visible.{Visible}
 use Rattle.ob_typing.specs.TypeSites.{type_sites, result_sites}
 use Rattle.ob_typing.specs.Bodies.{resolved_local}

@@ -4,7 +4,7 @@ use Rattle.std.specs.Prelude.{◌||◌, option_map, option_and_then, slice_get, 
 use Rattle.std.proofs.lemmas.List.{length-map}
 use Rattle.ob_tree.specs.Members.{Contract}
 use Rattle.ob_typing.specs.Names.{Name, same, is_among, number_of, first_named}
-use Rattle.ob_typing.specs.Declared.{Program, contract_named, contract_at}
+use Rattle.ob_typing.specs.Declarations.{Program, contract_named, contract_at}
 use Rattle.ob_typing.specs.Kinds.{contract_of_name}
 use Rattle.ob_typing_laws.proofs.NameFacts.{same_is}
 

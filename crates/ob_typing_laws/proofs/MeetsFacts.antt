@@ -18,9 +18,11 @@ use Rattle.ob_tree.specs.declared.name.PermNode.{PermNode}
 use Rattle.ob_tree.specs.declared.name.Subject.{Subject}
 use Rattle.ob_tree.specs.declared.name.Subject.TheVariants.{This, Name as NameSubject}
 use Rattle.ob_typing.specs.Names.{Name, same, is_among, firsts}
-use Rattle.ob_typing.specs.Declared.{Program, contract_at, state_names, Param, param_named, params_of, Transaction, transactions_of, transaction_named}
+use Rattle.ob_typing.specs.Declarations.{Program, contract_at, state_names, Param, param_named, params_of, Transaction, transactions_of, transaction_named}
 use Rattle.ob_typing.specs.Permissions.{WrittenPermission, written_permission, is_of, known_exit, agree, agree_if_known}
-use Rattle.ob_typing.specs.Kinds.{Kind, an_int, a_bool, a_text, a_reference, is_value_type, kind_of_ref, kind_of_type, same_kind, permission_in}
+use Rattle.ob_typing.specs.declared.kind.Kind.{Kind}
+use Rattle.ob_typing.specs.declared.kind.Kind.TheVariants.{Int as an_int, Bool as a_bool, Text as a_text, Reference as a_reference}
+use Rattle.ob_typing.specs.Kinds.{is_value_type, kind_of_ref, kind_of_type, same_kind, permission_in}
 use Rattle.ob_typing.specs.Interfaces.{Held, where_both_refer, same_type, exit_in, same_param, same_result, same_held, answers, meets}
 use Rattle.ob_typing.specs.Visible.{Visible, visible_in}
 use Rattle.ob_typing.specs.Sites.{exits as exits_site}

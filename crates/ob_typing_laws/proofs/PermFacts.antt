@@ -11,7 +11,7 @@ use Rattle.ob_perm.specs.Masks.{states_of, mask_below, mask_of, perm_of}
 use Rattle.ob_perm.proofs.MaskLemmas.{states_of-zero, states_of-or, states_of-pow}
 use Rattle.ob_perm.proofs.NamingLemmas.{below_passing, passing-none, passing_more, passing_same}
 use Rattle.ob_typing.specs.Names.{Name, is_among}
-use Rattle.ob_typing.specs.Declared.{Program, state_names}
+use Rattle.ob_typing.specs.Declarations.{Program, state_names}
 use Rattle.ob_typing.specs.Permissions.{WrittenPermission, as_shared, as_unowned, as_owner, as_owner_in, may_leave}
 use Rattle.ob_typing.specs.Numbers.{whole, numbers_of_states, permission_on}
 use Rattle.ob_typing.specs.TableOf.{contract_in_table}

@@ -14,7 +14,7 @@ use Rattle.ob_perm.specs.States.{States, all_states}
 use Rattle.ob_perm.specs.Masks.{states_of, permission_of, mask_of, perm_of}
 use Rattle.ob_perm.specs.Naming.{Names, called, seen, states_for_contract, for_contract}
 use Rattle.ob_typing.specs.Names.{Name, is_among, number_of}
-use Rattle.ob_typing.specs.Declared.{state_names}
+use Rattle.ob_typing.specs.Declarations.{state_names}
 use Rattle.ob_typing.specs.Permissions.{WrittenPermission, as_shared, as_unowned, as_owner, as_owner_in, in_state, in_other_state, in_no_state, other_situations, allows, agree}
 use Rattle.ob_typing.specs.Numbers.{numbers_of_states, whole, permission_on}
 use Rattle.ob_typing_laws.proofs.NameFacts.{same_is}

@@ -8,9 +8,12 @@ use Rattle.ob_tree.specs.Members.{Contract}
 use Rattle.ob_table.specs.declared.seen.LocalKind.{LocalKind}
 use Rattle.ob_table.specs.declared.seen.Seen.TheVariants.{This, Local, Field as FieldSeen}
 use Rattle.ob_typing.specs.Names.{Name, same, is_among, number_of, first_named}
-use Rattle.ob_typing.specs.Declared.{Program, contract_named, contract_at, field_names, fields_of}
-use Rattle.ob_typing.specs.Kinds.{Kind, a_reference, unknown, kind_of_type}
-use Rattle.ob_typing.specs.Scopes.{Around, Variable, Scope, variable_named, with_local, past, kind_of_this, kind_of_field, kind_of_variable}
+use Rattle.ob_typing.specs.Declarations.{Program, contract_named, contract_at, field_names, fields_of}
+use Rattle.ob_typing.specs.declared.kind.Kind.{Kind}
+use Rattle.ob_typing.specs.declared.kind.Kind.TheVariants.{Reference as a_reference, Unknown as unknown}
+use Rattle.ob_typing.specs.Kinds.{kind_of_type}
+use Rattle.ob_typing.specs.declared.variable.Variable.{Variable}
+use Rattle.ob_typing.specs.Scopes.{Around, Scope, variable_named, with_local, past, kind_of_this, kind_of_field, kind_of_variable}
 use Rattle.ob_typing.specs.Bodies.{resolved_local, seen_name}
 use Rattle.ob_typing.specs.TableOf.{field_in_table, contract_in_table, table_of}
 use Rattle.ob_typing.specs.WellMade.{Frame, Locals, local_kind, kind_of_seen, kind_of_table}

@@ -17,9 +17,10 @@ use Rattle.ob_tree.specs.declared.name.Subject.{Subject}
 use Rattle.ob_tree.specs.declared.name.Subject.TheVariants.{This, Name as NameSubject}
 use Rattle.ob_table.specs.declared.contract.Field.{Field as TableField}
 use Rattle.ob_typing.specs.Names.{Name, same, is_among, number_of, first_named, in_order, firsts}
-use Rattle.ob_typing.specs.Declared.{Program, part_of_named, contract_at, FieldDeclaration, fields_of, field_names, param_named, params_of}
+use Rattle.ob_typing.specs.Declarations.{Program, part_of_named, contract_at, FieldDeclaration, fields_of, field_names, param_named, params_of}
 use Rattle.ob_typing.specs.Permissions.{as_unowned}
-use Rattle.ob_typing.specs.Kinds.{a_reference, unknown, same_kind, contract_of_name, kind_of_ref, kind_of_type}
+use Rattle.ob_typing.specs.declared.kind.Kind.TheVariants.{Reference as a_reference, Unknown as unknown}
+use Rattle.ob_typing.specs.Kinds.{same_kind, contract_of_name, kind_of_ref, kind_of_type}
 use Rattle.ob_typing.specs.Scopes.{kind_of_field}
 use Rattle.ob_typing.specs.Visible.{visible_in, Visible}
 use Rattle.ob_typing.specs.Limits.{params_most}

@@ -17,10 +17,13 @@ use Rattle.ob_table.specs.declared.seen.LocalKind.TheVariants.{Reference}
 use Rattle.ob_table.specs.declared.contract.Contract.{Contract as TableContract}
 use Rattle.ob_table.specs.declared.contract.Field.{Field as TableField}
 use Rattle.ob_typing.specs.Names.{Name, same, is_among, in_order_after}
-use Rattle.ob_typing.specs.Declared.{part_of_named, contract_named, contract_at, state_names, field_names, fields_of}
-use Rattle.ob_typing.specs.Kinds.{Kind, an_int, a_bool, a_text, a_reference, nothing, unknown, contract_of_kind, kind_of_name, kind_of_type, kind_of_local, differs}
+use Rattle.ob_typing.specs.Declarations.{part_of_named, contract_named, contract_at, state_names, field_names, fields_of}
+use Rattle.ob_typing.specs.declared.kind.Kind.{Kind}
+use Rattle.ob_typing.specs.declared.kind.Kind.TheVariants.{Int as an_int, Bool as a_bool, Text as a_text, Reference as a_reference, Nothing as nothing, Unknown as unknown}
+use Rattle.ob_typing.specs.Kinds.{contract_of_kind, kind_of_name, kind_of_type, kind_of_local, differs}
 use Rattle.ob_typing.specs.Visible.{a_contract, a_variable}
-use Rattle.ob_typing.specs.Scopes.{Variable, Scope, variable_named, visible_at, locals_in, locals_in_block, past, after_stmt, kind_of_field, kind_of_variable, kind_of_subject, kind_of}
+use Rattle.ob_typing.specs.declared.variable.Variable.{Variable}
+use Rattle.ob_typing.specs.Scopes.{Scope, variable_named, visible_at, locals_in, locals_in_block, past, after_stmt, kind_of_field, kind_of_variable, kind_of_subject, kind_of}
 use Rattle.ob_typing.specs.Reached.{ends}
 use Rattle.ob_typing.specs.Sites.{declares, names, names_state, assigns}
 use Rattle.ob_typing.specs.TypeSites.{local_sites}

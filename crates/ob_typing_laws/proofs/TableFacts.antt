@@ -14,7 +14,7 @@ use Rattle.ob_tree.specs.Names.{Named}
 use Rattle.ob_tree.specs.Members.{Member, state_member, field_member, constructor_member, transaction_member, Contract}
 use Rattle.ob_tree.specs.declared.name.NamePart.{NamePart}
 use Rattle.ob_typing.specs.Names.{Name, in_order_after, firsts}
-use Rattle.ob_typing.specs.Declared.{Program, contract_name, part_of_named, contract_named, contract_at, states_of_member, states_of, state_names, fields_of, transactions_of, constructors_of}
+use Rattle.ob_typing.specs.Declarations.{Program, contract_name, part_of_named, contract_named, contract_at, states_of_member, states_of, state_names, fields_of, transactions_of, constructors_of}
 use Rattle.ob_typing.specs.Kinds.{interface_named, interface_of}
 use Rattle.ob_typing.specs.Limits.{contracts_most, states_most, fields_most, transactions_most}
 use Rattle.ob_typing.specs.Sites.{is_main, names, implements_one}

@@ -11,9 +11,9 @@ use Rattle.ob_perm.specs.Masks.{perm_of}
 use Rattle.ob_table.specs.declared.contract.Signature.{Signature}
 use Rattle.ob_tree.specs.Members.{Member, state_member, field_member, constructor_member, transaction_member, Contract}
 use Rattle.ob_typing.specs.Names.{same}
-use Rattle.ob_typing.specs.Declared.{Program, part_of_named, fields_of, Transaction, transactions_of_member, transactions_of, Constructor, constructors_of_member, constructor_forms, constructors_of, default_constructor, constructor_of, params_of}
+use Rattle.ob_typing.specs.Declarations.{Program, part_of_named, fields_of, Transaction, transactions_of_member, transactions_of, Constructor, constructors_of_member, constructor_forms, constructors_of, default_constructor, constructor_of, params_of}
 use Rattle.ob_typing.specs.Permissions.{WrittenPermission, as_shared, as_unowned, as_owner, as_owner_in, written_permission, known_permission, same_mode}
-use Rattle.ob_typing.specs.Kinds.{nothing}
+use Rattle.ob_typing.specs.declared.kind.Kind.TheVariants.{Nothing as nothing}
 use Rattle.ob_typing.specs.Visible.{visible_in}
 use Rattle.ob_typing.specs.Sites.{gives}
 use Rattle.ob_typing.specs.TypeSites.{perm_sites, place_of_perm, type_sites, result_sites}

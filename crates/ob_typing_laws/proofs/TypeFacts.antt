@@ -12,9 +12,10 @@ use Rattle.ob_tree.specs.declared.name.PermNode.TheVariants.{Mode, States}
 use Rattle.ob_base.specs.declared.permission.Mode.TheVariants.{Owned, Shared, Unowned}
 use Rattle.ob_perm.specs.Masks.{perm_of}
 use Rattle.ob_typing.specs.Names.{is_among}
-use Rattle.ob_typing.specs.Declared.{Program, part_of_named, contract_named, contract_at, state_names}
+use Rattle.ob_typing.specs.Declarations.{Program, part_of_named, contract_named, contract_at, state_names}
 use Rattle.ob_typing.specs.Permissions.{written_permission, is_of, known_permission, may_leave}
-use Rattle.ob_typing.specs.Kinds.{a_reference, contract_of_name, kind_of_ref}
+use Rattle.ob_typing.specs.declared.kind.Kind.TheVariants.{Reference as a_reference}
+use Rattle.ob_typing.specs.Kinds.{contract_of_name, kind_of_ref}
 use Rattle.ob_typing.specs.Visible.{Need, a_contract, Visible, is_visible, means}
 use Rattle.ob_typing.specs.Sites.{names, names_state, leaves}
 use Rattle.ob_typing.specs.TypeSites.{perm_sites, exit_sites, ref_sites, type_sites, place_of_perm}

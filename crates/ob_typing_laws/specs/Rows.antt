@@ -14,7 +14,7 @@ use Rattle.ob_table.specs.Statements.{resolved_assign, no_statements, and_statem
 use Rattle.ob_table.specs.Tables.{ClassTable}
 use Rattle.ob_table.specs.declared.seen.Seen.TheVariants.{Field as FieldSeen}
 use Rattle.ob_table.specs.declared.contract.Kind.TheVariants.{Int}
-use Rattle.ob_typing.specs.Declared.{Program}
+use Rattle.ob_typing.specs.Declarations.{Program}
 
 -- a place on the first line
 abbrev pub at : ℕ → ℕ → Span

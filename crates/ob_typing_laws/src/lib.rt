@@ -3,7 +3,7 @@
 #![tactic(auto)]
 
 ghost use Rattle.std.specs.Prelude.{◌≡◌, Some, None, All};
-ghost use Rattle.ob_typing.specs.Declared.{Program};
+ghost use Rattle.ob_typing.specs.Declarations.{Program};
 ghost use Rattle.ob_typing.specs.Faults.{HasNoFault};
 ghost use Rattle.ob_typing.specs.Least.{least_fault, LeastIs};
 ghost use Rattle.ob_typing.specs.Shape.{HasShape};

@@ -1,6 +1,6 @@
 -- By the sites of each body, at which no condition of a fault holds.
 use Rattle.std.proofs.lemmas.List.Elements.{All-from_recursion, recursion_from_All}
-use Rattle.ob_typing.specs.Declared.{Program}
+use Rattle.ob_typing.specs.Declarations.{Program}
 use Rattle.ob_typing.specs.Shape.{HasContractShape}
 use Rattle.ob_typing.specs.TableOf.{table_of}
 use Rattle.ob_typing.specs.WellMade.{IsWellMade}
