@@ -1,4 +1,5 @@
 pub mod Loops
+pub mod Nexts
 pub mod CodeItems
 pub mod CodeTokens
 pub mod CodeStatements

@@ -12,7 +12,7 @@ use Rattle.ob_grammar.specs.Readers.{Read, done, stop, deep, Reader}
 use Rattle.ob_grammar.specs.ContractReaders.{contract_first}
 use Rattle.ob_grammar.specs.AllReaders.{all_programs}
 use Rattle.ob_parser.specs.Answering.{Halts, not_halted, stopped_with, deep_with}
-use Rattle.ob_parser.specs.Parsing.{OnFault, whole, first_place, place_at, error_at}
+use Rattle.ob_parser.specs.Parsing.{OnFault, whole, place_or_end, place_at, error_at}
 use Rattle.ob_parser.specs.declared.halt.Halt.{Halt}
 use Rattle.ob_parser.specs.declared.halt.Halt.TheVariants as halt
 use Rattle.ob_grammar.proofs.Laws.{Laws, Case, is_done, is_stop, is_deep, case_of}
@@ -30,11 +30,11 @@ halts_whole (halt.TooDeep left) (deep rest) is = is
 halts_whole halt.Memory read is = tt
 
 -- the last tokens begin where the others end
-place_behind : (tokens front rest : List Token) (end : Span) → tokens ≡ front ++ rest → place_at tokens end (length rest) ≡ first_place rest end
+place_behind : (tokens front rest : List Token) (end : Span) → tokens ≡ front ++ rest → place_at tokens end (length rest) ≡ place_or_end rest end
 place_behind tokens front rest end parts =
     let count : length tokens ≡ length front + length rest = ap length parts ∙ length-append front rest in
     let before : length tokens - length rest ≡ length front = omega (arith, count) in
-    ap (λ n. first_place (drop n tokens) end) before ∙ ap (λ l. first_place (drop (length front) l) end) parts ∙ ap (λ l. first_place l end) (drop-append_seam front rest)
+    ap (λ n. place_or_end (drop n tokens) end) before ∙ ap (λ l. place_or_end (drop (length front) l) end) parts ∙ ap (λ l. place_or_end l end) (drop-append_seam front rest)
 
 -- some fault at a place
 abbrev At : ℕ → List Token → Span → Span → Type 0
@@ -51,7 +51,7 @@ module _ (run : Reader (List Contract)) (first more : List ℕ) (a : Laws 64 pro
   tree_at tree (is_deep rest is) h = let wrong : deep rest ≡ done tree [] = rw is at h in absurd cc
 
 module _ (run : Reader (List Contract)) (first more : List ℕ) (a : Laws 64 program run first more true) (tokens : List Token) (end : Span) where
-  at_first : (rest : List Token) → run tokens ≡ stop rest → At expected tokens end (first_place rest end)
+  at_first : (rest : List Token) → run tokens ≡ stop rest → At expected tokens end (place_or_end rest end)
   at_first [] is = refused_at_end run first more true a tokens end is
   at_first (t ∷ back) is = refused_at_token run first more true a tokens back t end is
 

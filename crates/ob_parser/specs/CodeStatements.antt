@@ -10,8 +10,8 @@ use Rattle.ob_parser.specs.declared.statements.QuestionPart.TheVariants as part
 use Rattle.ob_parser.specs.declared.statements.BranchesPart.{BranchesPart}
 
 -- a name, and the value that it is given
-abbrev pub named_value : NamePart → ExprNode → NamePart × Expr
-named_value name value = (name, expr_of value)
+abbrev pub named_value : NamePart × ExprNode → NamePart × Expr
+named_value parts = (parts.0, expr_of parts.1)
 
 -- what stands between the parentheses behind `if`
 abbrev pub question_of : QuestionPart → Question

@@ -33,13 +33,13 @@ AnswersWhole (Ok tree) read = whole read ≡ done (tree_of tree) []
 AnswersWhole (Err e) read = Halts e (whole read)
 
 -- the place of the first of these tokens, or the end behind them all
-abbrev pub first_place : List Token → Span → Span
-first_place [] end = end
-first_place (t ∷ ts) end = t.span
+abbrev pub place_or_end : List Token → Span → Span
+place_or_end [] end = end
+place_or_end (t ∷ ts) end = t.span
 
 -- the same of so many last tokens
 abbrev pub place_at : List Token → Span → ℕ → Span
-place_at tokens end left = first_place (drop (length tokens - left) tokens) end
+place_at tokens end left = place_or_end (drop (length tokens - left) tokens) end
 
 -- the fault where so many tokens are left
 abbrev pub error_at : Halt → List Token → Span → ParseError

@@ -33,9 +33,9 @@ abbrev pub title_part : TitlePart → Title
 title_part part = (part.name, part.param)
 
 -- members, and the place of the brace that closes them
-abbrev pub body_parts : List MemberNode → Span → List Member × Span
-body_parts members place = (map member_of members, place)
+abbrev pub body_parts : List MemberNode × Span → List Member × Span
+body_parts parts = (map member_of parts.0, parts.1)
 
 -- a contract or an interface from that word on
 abbrev pub kind_part : KindPart → Kind
-kind_part part = (part.interface, (title_part part.title, (option_map named_of part.implements, body_parts part.members part.end)))
+kind_part part = (part.interface, (title_part part.title, (option_map named_of part.implements, body_parts (part.members, part.end))))

@@ -15,11 +15,12 @@ ghost use Rattle.ob_grammar.specs.NameReaders.{read_named};
 ghost use Rattle.ob_grammar.specs.ContractReaders.{member_first, read_member, promise_first, read_interface_member, read_flag, read_bound, read_generic, read_maybe_generic, read_title, read_body, read_implements, read_contract_kind, read_interface_kind, read_kind, contract_of as made_contract, read_main, read_other, read_contract};
 ghost use Rattle.ob_grammar.specs.AllReaders.{all_refs, all_blocks, all_programs};
 ghost use Rattle.ob_parser.specs.Parts.{title_part, body_parts, kind_part};
-ghost use Rattle.ob_parser.specs.Answering.{Answers, AnswersBoth, as_it_is};
+ghost use Rattle.ob_parser.specs.Answering.{Answers, as_it_is};
 
 use crate::halt::Halt;
 use crate::members::{interface_member, member};
 use crate::names::{mode_word, name_part, named};
+use crate::parts::{before, with};
 use crate::tokens::{Symbol, fixed, place_between, starts_with, starts_with_one_of};
 use ob_base::{Items, Mode, Span};
 use ob_lexer::{Sign, Token, Word};
@@ -88,9 +89,11 @@ fn bound(alloc: Global, tokens: &[Token]) -> Result<(Option<(NamePart, Mode)>, &
     }
     let (_, rest) = fixed(Symbol::Word(Word::Where), tokens)?;
     let (name, rest) = name_part(alloc, rest)?;
-    let (_, rest) = fixed(Symbol::Word(Word::Is), rest)?;
-    let (mode, _, rest) = mode_word(rest)?;
-    Ok((Some((name, mode)), rest))
+    let (name, rest) = before(name, Symbol::Word(Word::Is), rest)?;
+    match mode_word(rest) {
+        Ok((mode, _, rest)) => Ok((Some((name, mode)), rest)),
+        Err(halt) => Err(halt),
+    }
 }
 
 /// `generic`
@@ -100,10 +103,11 @@ fn generic(alloc: Global, tokens: &[Token]) -> Result<(ParamNode, &[Token]), Hal
     let (_, rest) = fixed(Symbol::Sign(Sign::OpenBracket), tokens)?;
     let (asset, rest) = flag(Word::Asset, rest)?;
     let (name, rest) = name_part(alloc, rest)?;
-    let (_, rest) = fixed(Symbol::Sign(Sign::At), rest)?;
-    let (perm, rest) = name_part(alloc, rest)?;
-    let (bound, rest) = bound(alloc, rest)?;
-    let (_, rest) = fixed(Symbol::Sign(Sign::CloseBracket), rest)?;
+    let (name, rest) = before(name, Symbol::Sign(Sign::At), rest)?;
+    let (name, perm, rest) = with(name, name_part(alloc, rest))?;
+    let (names, bound, rest) = with((name, perm), bound(alloc, rest))?;
+    let (parts, rest) = before((names, bound), Symbol::Sign(Sign::CloseBracket), rest)?;
+    let ((name, perm), bound) = parts;
     Ok((
         ParamNode {
             asset,
@@ -134,7 +138,7 @@ fn title(alloc: Global, tokens: &[Token]) -> Result<(TitlePart, &[Token]), Halt>
     ensures { Answers title_part result (read_title tokens.now) }
 {
     let (name, rest) = name_part(alloc, tokens)?;
-    let (param, rest) = optional_generic(alloc, rest)?;
+    let (name, param, rest) = with(name, optional_generic(alloc, rest))?;
     Ok((TitlePart { name, param }, rest))
 }
 
@@ -191,13 +195,14 @@ fn contract_body(
     alloc: Global,
     room: u8,
     tokens: &[Token],
-) -> Result<(Items<Member>, Span, &[Token]), Halt>
-    ensures { AnswersBoth body_parts result (read_body member_first (read_member (all_refs room) (all_blocks room)) tokens.now) }
+) -> Result<((Items<Member>, Span), &[Token]), Halt>
+    ensures { Answers body_parts result (read_body member_first (read_member (all_refs room) (all_blocks room)) tokens.now) }
 {
     let (_, rest) = fixed(Symbol::Sign(Sign::OpenBrace), tokens)?;
     let (members, rest) = member_list(alloc, room, rest)?;
-    let (end, rest) = fixed(Symbol::Sign(Sign::CloseBrace), rest)?;
-    Ok((members, end, rest))
+    let close = fixed(Symbol::Sign(Sign::CloseBrace), rest);
+    let (members, end, rest) = with(members, close)?;
+    Ok(((members, end), rest))
 }
 
 /// `"{" {"state" NAME ";" | head ";"} "}"`, with the place of the closing brace.
@@ -205,13 +210,14 @@ fn interface_body(
     alloc: Global,
     room: u8,
     tokens: &[Token],
-) -> Result<(Items<Member>, Span, &[Token]), Halt>
-    ensures { AnswersBoth body_parts result (read_body promise_first (read_interface_member (all_refs room)) tokens.now) }
+) -> Result<((Items<Member>, Span), &[Token]), Halt>
+    ensures { Answers body_parts result (read_body promise_first (read_interface_member (all_refs room)) tokens.now) }
 {
     let (_, rest) = fixed(Symbol::Sign(Sign::OpenBrace), tokens)?;
     let (members, rest) = promise_list(alloc, room, rest)?;
-    let (end, rest) = fixed(Symbol::Sign(Sign::CloseBrace), rest)?;
-    Ok((members, end, rest))
+    let close = fixed(Symbol::Sign(Sign::CloseBrace), rest);
+    let (members, end, rest) = with(members, close)?;
+    Ok(((members, end), rest))
 }
 
 /// `"contract" NAME [generic] ["implements" named] "{" {member} "}"`
@@ -220,8 +226,10 @@ fn contract_kind(alloc: Global, room: u8, tokens: &[Token]) -> Result<(KindPart,
 {
     let (_, rest) = fixed(Symbol::Word(Word::Contract), tokens)?;
     let (title, rest) = title(alloc, rest)?;
-    let (implements, rest) = implemented(alloc, room, rest)?;
-    let (members, end, rest) = contract_body(alloc, room, rest)?;
+    let (title, implements, rest) = with(title, implemented(alloc, room, rest))?;
+    let (named, body, rest) = with((title, implements), contract_body(alloc, room, rest))?;
+    let (title, implements) = named;
+    let (members, end) = body;
     Ok((
         KindPart {
             interface: false,
@@ -240,7 +248,7 @@ fn interface_kind(alloc: Global, room: u8, tokens: &[Token]) -> Result<(KindPart
 {
     let (_, rest) = fixed(Symbol::Word(Word::Interface), tokens)?;
     let (title, rest) = title(alloc, rest)?;
-    let (members, end, rest) = interface_body(alloc, room, rest)?;
+    let (title, (members, end), rest) = with(title, interface_body(alloc, room, rest))?;
     Ok((
         KindPart {
             interface: true,

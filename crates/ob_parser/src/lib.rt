@@ -12,6 +12,7 @@ mod members;
 mod names;
 mod parameters;
 mod parsing;
+mod parts;
 mod primaries;
 mod simple;
 mod statements;

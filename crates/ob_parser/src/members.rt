@@ -23,6 +23,7 @@ ghost use Rattle.ob_parser.specs.Answering.{Answers, as_it_is};
 use crate::halt::Halt;
 use crate::names::{VALUE_TYPES, name_list, name_part, reference, type_node, value_type};
 use crate::parameters::{TYPES, listed_part, params};
+use crate::parts::{before, ended, with};
 use crate::statements::block;
 use crate::tokens::{Symbol, fixed, place_between, starts_with, starts_with_one_of};
 use ob_base::{Items, Span};
@@ -90,17 +91,14 @@ fn field(alloc: Global, room: u8, tokens: &[Token]) -> Result<(FieldNode, &[Toke
     ensures { Answers field_of result (read_field (all_refs room) tokens.now) }
 {
     let (of, rest) = type_node(alloc, room, tokens)?;
-    let (name, rest) = name_part(alloc, rest)?;
-    let (available, rest) = available(alloc, rest)?;
-    let (_, rest) = fixed(Symbol::Sign(Sign::Semicolon), rest)?;
-    Ok((
-        FieldNode {
-            of,
-            name,
-            available,
-        },
-        rest,
-    ))
+    let (of, name, rest) = with(of, name_part(alloc, rest))?;
+    let ((of, name), available, rest) = with((of, name), available(alloc, rest))?;
+    let field = FieldNode {
+        of,
+        name,
+        available,
+    };
+    before(field, Symbol::Sign(Sign::Semicolon), rest)
 }
 
 /// `field`, of a type that has no permission.
@@ -108,17 +106,14 @@ fn value_field(alloc: Global, tokens: &[Token]) -> Result<(FieldNode, &[Token]),
     ensures { Answers field_of result (read_value_field tokens.now) }
 {
     let (of, rest) = value_type(tokens)?;
-    let (name, rest) = name_part(alloc, rest)?;
-    let (available, rest) = available(alloc, rest)?;
-    let (_, rest) = fixed(Symbol::Sign(Sign::Semicolon), rest)?;
-    Ok((
-        FieldNode {
-            of,
-            name,
-            available,
-        },
-        rest,
-    ))
+    let (of, name, rest) = with(of, name_part(alloc, rest))?;
+    let ((of, name), available, rest) = with((of, name), available(alloc, rest))?;
+    let field = FieldNode {
+        of,
+        name,
+        available,
+    };
+    before(field, Symbol::Sign(Sign::Semicolon), rest)
 }
 
 /// `{field}`
@@ -151,8 +146,7 @@ fn braced_fields(
 {
     let (_, rest) = fixed(Symbol::Sign(Sign::OpenBrace), tokens)?;
     let (fields, rest) = field_list(alloc, room, rest)?;
-    let (_, rest) = fixed(Symbol::Sign(Sign::CloseBrace), rest)?;
-    Ok((fields, rest))
+    before(fields, Symbol::Sign(Sign::CloseBrace), rest)
 }
 
 /// `";" | "{" {field} "}"`
@@ -176,7 +170,7 @@ fn state(alloc: Global, room: u8, tokens: &[Token]) -> Result<(Member, &[Token])
 {
     let (_, rest) = fixed(Symbol::Word(Word::State), tokens)?;
     let (name, rest) = name_part(alloc, rest)?;
-    let (fields, rest) = state_fields(alloc, room, rest)?;
+    let (name, fields, rest) = with(name, state_fields(alloc, room, rest))?;
     let span = place_between(tokens, rest);
     Ok((Member::State { name, fields, span }, rest))
 }
@@ -187,12 +181,12 @@ fn bare_state(alloc: Global, tokens: &[Token]) -> Result<(Member, &[Token]), Hal
 {
     let (_, rest) = fixed(Symbol::Word(Word::State), tokens)?;
     let (name, rest) = name_part(alloc, rest)?;
-    let (_, rest) = fixed(Symbol::Sign(Sign::Semicolon), rest)?;
+    let (name, span, rest) = ended(name, tokens, rest)?;
     Ok((
         Member::State {
             name,
             fields: Items::new(alloc),
-            span: place_between(tokens, rest),
+            span,
         },
         rest,
     ))
@@ -242,10 +236,10 @@ fn head(alloc: Global, room: u8, tokens: &[Token]) -> Result<(HeadPart, &[Token]
 {
     let (_, rest) = fixed(Symbol::Word(Word::Transaction), tokens)?;
     let (name, rest) = name_part(alloc, rest)?;
-    let (_, rest) = fixed(Symbol::Sign(Sign::OpenParen), rest)?;
-    let (params, rest) = params(alloc, room, rest)?;
-    let (_, rest) = fixed(Symbol::Sign(Sign::CloseParen), rest)?;
-    let (result_type, rest) = returned(alloc, room, rest)?;
+    let (name, rest) = before(name, Symbol::Sign(Sign::OpenParen), rest)?;
+    let (name, params, rest) = with(name, params(alloc, room, rest))?;
+    let (parts, rest) = before((name, params), Symbol::Sign(Sign::CloseParen), rest)?;
+    let ((name, params), result_type, rest) = with(parts, returned(alloc, room, rest))?;
     Ok((
         HeadPart {
             name,
@@ -261,8 +255,8 @@ fn transaction(alloc: Global, room: u8, tokens: &[Token]) -> Result<(Member, &[T
     ensures { Answers member_of result (read_transaction (all_refs room) (all_blocks room) tokens.now) }
 {
     let (access, rest) = access(alloc, room, tokens)?;
-    let (head, rest) = head(alloc, room, rest)?;
-    let (body, rest) = block(alloc, room, rest)?;
+    let (access, head, rest) = with(access, head(alloc, room, rest))?;
+    let ((access, head), body, rest) = with((access, head), block(alloc, room, rest))?;
     Ok((
         Member::Transaction {
             private: access.private,
@@ -282,7 +276,7 @@ fn promise(alloc: Global, room: u8, tokens: &[Token]) -> Result<(Member, &[Token
     ensures { Answers member_of result (read_promise (all_refs room) tokens.now) }
 {
     let (head, rest) = head(alloc, room, tokens)?;
-    let (_, rest) = fixed(Symbol::Sign(Sign::Semicolon), rest)?;
+    let (head, span, rest) = ended(head, tokens, rest)?;
     Ok((
         Member::Transaction {
             private: false,
@@ -291,7 +285,7 @@ fn promise(alloc: Global, room: u8, tokens: &[Token]) -> Result<(Member, &[Token
             params: head.params,
             result: head.result,
             body: None,
-            span: place_between(tokens, rest),
+            span,
         },
         rest,
     ))
@@ -305,8 +299,8 @@ fn constructed(alloc: Global, room: u8, tokens: &[Token]) -> Result<(TailPart, &
 {
     let (_, rest) = fixed(Symbol::Sign(Sign::OpenParen), tokens)?;
     let (params, rest) = params(alloc, room, rest)?;
-    let (_, rest) = fixed(Symbol::Sign(Sign::CloseParen), rest)?;
-    let (body, rest) = block(alloc, room, rest)?;
+    let (params, rest) = before(params, Symbol::Sign(Sign::CloseParen), rest)?;
+    let (params, body, rest) = with(params, block(alloc, room, rest))?;
     Ok((TailPart::Constructed { params, body }, rest))
 }
 
@@ -315,9 +309,12 @@ fn held(alloc: Global, tokens: &[Token]) -> Result<(TailPart, &[Token]), Halt>
     ensures { Answers tail_part result (read_held tokens.now) }
 {
     let (name, rest) = name_part(alloc, tokens)?;
-    let (available, rest) = available(alloc, rest)?;
-    let (_, rest) = fixed(Symbol::Sign(Sign::Semicolon), rest)?;
-    Ok((TailPart::Held { name, available }, rest))
+    let (name, available, rest) = with(name, available(alloc, rest))?;
+    before(
+        TailPart::Held { name, available },
+        Symbol::Sign(Sign::Semicolon),
+        rest,
+    )
 }
 
 /// What stands behind `named "@" perm`.
@@ -355,7 +352,7 @@ fn behind_reference(alloc: Global, room: u8, tokens: &[Token]) -> Result<(Member
     ensures { Answers member_of result (read_behind_ref (all_refs room) (all_blocks room) tokens.now) }
 {
     let (of, rest) = reference(alloc, room, tokens)?;
-    let (tail, rest) = tail(alloc, room, rest)?;
+    let (of, tail, rest) = with(of, tail(alloc, room, rest))?;
     let span = place_between(tokens, rest);
     Ok((member_behind(of, tail, span), rest))
 }

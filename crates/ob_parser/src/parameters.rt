@@ -17,6 +17,7 @@ ghost use Rattle.ob_parser.specs.Answering.{Answers, as_it_is};
 
 use crate::halt::Halt;
 use crate::names::{name_part, permission, reference, subject, type_node};
+use crate::parts::{before, with};
 use crate::tokens::{Symbol, fixed, starts_with, starts_with_one_of};
 use ob_base::Items;
 use ob_lexer::{Sign, Token, Word};
@@ -48,8 +49,8 @@ fn param(alloc: Global, room: u8, tokens: &[Token]) -> Result<(FormalNode, &[Tok
     ensures { Answers formal_of result (read_param (all_refs room) tokens.now) }
 {
     let (of, rest) = type_node(alloc, room, tokens)?;
-    let (exit, rest) = exit(alloc, rest)?;
-    let (name, rest) = subject(alloc, rest)?;
+    let (of, exit, rest) = with(of, exit(alloc, rest))?;
+    let ((of, exit), name, rest) = with((of, exit), subject(alloc, rest))?;
     Ok((FormalNode { of, exit, name }, rest))
 }
 
@@ -100,8 +101,8 @@ fn listed(alloc: Global, room: u8, tokens: &[Token]) -> Result<(ListedNode, &[To
     ensures { Answers listed_of result (read_listed (all_refs room) tokens.now) }
 {
     let (of, rest) = reference(alloc, room, tokens)?;
-    let (exit, rest) = exit(alloc, rest)?;
-    let (name, rest) = name_part(alloc, rest)?;
+    let (of, exit, rest) = with(of, exit(alloc, rest))?;
+    let ((of, exit), name, rest) = with((of, exit), name_part(alloc, rest))?;
     Ok((ListedNode { of, exit, name }, rest))
 }
 
@@ -143,8 +144,7 @@ fn listed_in_parens(
 {
     let (_, rest) = fixed(Symbol::Sign(Sign::OpenParen), tokens)?;
     let (list, rest) = listed_list(alloc, room, rest)?;
-    let (_, rest) = fixed(Symbol::Sign(Sign::CloseParen), rest)?;
-    Ok((list, rest))
+    before(list, Symbol::Sign(Sign::CloseParen), rest)
 }
 
 /// `["(" listed {"," listed} ")"]`

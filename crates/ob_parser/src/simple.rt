@@ -24,13 +24,14 @@ ghost use Rattle.ob_grammar.specs.Primaries.{uncounted, expr_first, read_new};
 ghost use Rattle.ob_grammar.specs.MemberReaders.{read_maybe_parted};
 ghost use Rattle.ob_grammar.specs.StmtReaders.{value_local_if, read_assigned, read_declare, read_assign, read_stage, read_given, read_enclosed_given, read_all_given, read_change, read_called_name, read_called_this, read_call, read_return, read_revert, read_disown, read_assert, read_behind_name, read_simple};
 ghost use Rattle.ob_grammar.specs.AllReaders.{all_refs, all_counted, all_exprs};
-ghost use Rattle.ob_parser.specs.Answering.{Answers, AnswersBoth};
+ghost use Rattle.ob_parser.specs.Answering.{Answers};
 ghost use Rattle.ob_parser.specs.CodeStatements.{named_value};
 ghost use Rattle.ob_lexer.specs.declared.token.Sign.TheVariants.{Comma};
 
 use crate::expressions::{EXPRESSION_FIRST, creation, expression, named_call, this_call};
 use crate::halt::Halt;
 use crate::names::{VALUE_TYPES, name_part, named, permission, subject};
+use crate::parts::{before, ended, with};
 use crate::tokens::{
     Symbol, fixed, place_between, refused, starts_with, starts_with_both, starts_with_one_of,
 };
@@ -47,8 +48,7 @@ fn assigned(alloc: Global, room: u8, tokens: &[Token]) -> Result<(Expr, &[Token]
 {
     let (_, rest) = fixed(Symbol::Sign(Sign::Equals), tokens)?;
     let (value, rest) = expression(alloc, room, rest)?;
-    let (_, rest) = fixed(Symbol::Sign(Sign::Semicolon), rest)?;
-    Ok((value, rest))
+    before(value, Symbol::Sign(Sign::Semicolon), rest)
 }
 
 /// The parts of `NAME "=" expr ";"`.
@@ -56,12 +56,12 @@ fn name_assigned(
     alloc: Global,
     room: u8,
     tokens: &[Token],
-) -> Result<(NamePart, Expr, &[Token]), Halt>
-    ensures { AnswersBoth named_value result (read_both (read_token name_if) (read_assigned (all_exprs room)) tokens.now) }
+) -> Result<((NamePart, Expr), &[Token]), Halt>
+    ensures { Answers named_value result (read_both (read_token name_if) (read_assigned (all_exprs room)) tokens.now) }
 {
     let (name, rest) = name_part(alloc, tokens)?;
-    let (value, rest) = assigned(alloc, room, rest)?;
-    Ok((name, value, rest))
+    let (name, value, rest) = with(name, assigned(alloc, room, rest))?;
+    Ok(((name, value), rest))
 }
 
 /// `[expr]`
@@ -101,7 +101,7 @@ fn value_declaration(alloc: Global, room: u8, tokens: &[Token]) -> Result<(Stmt,
     ensures { Answers stmt_of result (read_declare (read_token value_local_if) (all_exprs room) tokens.now) }
 {
     let (of, rest) = value_local(tokens)?;
-    let (name, value, rest) = name_assigned(alloc, room, rest)?;
+    let (of, (name, value), rest) = with(of, name_assigned(alloc, room, rest))?;
     let span = place_between(tokens, rest);
     Ok((
         Stmt::Declare {
@@ -119,7 +119,7 @@ fn declaration(alloc: Global, room: u8, tokens: &[Token]) -> Result<(Stmt, &[Tok
     ensures { Answers stmt_of result (read_declare (read_as named_local (read_named all_refs room)) (all_exprs room) tokens.now) }
 {
     let (of, rest) = named(alloc, room, tokens)?;
-    let (name, value, rest) = name_assigned(alloc, room, rest)?;
+    let (of, (name, value), rest) = with(of, name_assigned(alloc, room, rest))?;
     let span = place_between(tokens, rest);
     Ok((
         Stmt::Declare {
@@ -136,7 +136,7 @@ fn declaration(alloc: Global, room: u8, tokens: &[Token]) -> Result<(Stmt, &[Tok
 fn assignment(alloc: Global, room: u8, tokens: &[Token]) -> Result<(Stmt, &[Token]), Halt>
     ensures { Answers stmt_of result (read_assign (all_exprs room) tokens.now) }
 {
-    let (name, value, rest) = name_assigned(alloc, room, tokens)?;
+    let ((name, value), rest) = name_assigned(alloc, room, tokens)?;
     let span = place_between(tokens, rest);
     Ok((Stmt::Assign { name, value, span }, rest))
 }
@@ -146,8 +146,8 @@ fn staging(alloc: Global, room: u8, tokens: &[Token]) -> Result<(Stmt, &[Token])
     ensures { Answers stmt_of result (read_stage (all_exprs room) tokens.now) }
 {
     let (state, rest) = name_part(alloc, tokens)?;
-    let (_, rest) = fixed(Symbol::Sign(Sign::DoubleColon), rest)?;
-    let (field, value, rest) = name_assigned(alloc, room, rest)?;
+    let (state, rest) = before(state, Symbol::Sign(Sign::DoubleColon), rest)?;
+    let (state, (field, value), rest) = with(state, name_assigned(alloc, room, rest))?;
     let span = place_between(tokens, rest);
     Ok((
         Stmt::Stage {
@@ -167,8 +167,8 @@ fn given(alloc: Global, room: u8, tokens: &[Token]) -> Result<(GivenNode, &[Toke
     ensures { Answers given_of result (read_given (all_exprs room) tokens.now) }
 {
     let (field, rest) = name_part(alloc, tokens)?;
-    let (_, rest) = fixed(Symbol::Sign(Sign::Equals), rest)?;
-    let (value, rest) = expression(alloc, room, rest)?;
+    let (field, rest) = before(field, Symbol::Sign(Sign::Equals), rest)?;
+    let (field, value, rest) = with(field, expression(alloc, room, rest))?;
     Ok((GivenNode { field, value }, rest))
 }
 
@@ -224,8 +224,7 @@ fn enclosed_given(
 {
     let (_, rest) = fixed(Symbol::Sign(Sign::OpenParen), tokens)?;
     let (list, rest) = optional_given_list(alloc, room, rest)?;
-    let (_, rest) = fixed(Symbol::Sign(Sign::CloseParen), rest)?;
-    Ok((list, rest))
+    before(list, Symbol::Sign(Sign::CloseParen), rest)
 }
 
 /// `["(" [NAME "=" expr {"," NAME "=" expr}] ")"]`
@@ -248,9 +247,8 @@ fn change(alloc: Global, room: u8, tokens: &[Token]) -> Result<(Stmt, &[Token]),
 {
     let (_, rest) = fixed(Symbol::Sign(Sign::Arrow), tokens)?;
     let (state, rest) = name_part(alloc, rest)?;
-    let (given, rest) = all_given(alloc, room, rest)?;
-    let (_, rest) = fixed(Symbol::Sign(Sign::Semicolon), rest)?;
-    let span = place_between(tokens, rest);
+    let (state, given, rest) = with(state, all_given(alloc, room, rest))?;
+    let ((state, given), span, rest) = ended((state, given), tokens, rest)?;
     Ok((Stmt::Change { state, given, span }, rest))
 }
 
@@ -261,8 +259,7 @@ fn name_call_statement(alloc: Global, room: u8, tokens: &[Token]) -> Result<(Stm
     ensures { Answers stmt_of result (read_call (read_called_name all_counted room) tokens.now) }
 {
     let (value, rest) = named_call(alloc, room, tokens)?;
-    let (_, rest) = fixed(Symbol::Sign(Sign::Semicolon), rest)?;
-    let span = place_between(tokens, rest);
+    let (value, span, rest) = ended(value, tokens, rest)?;
     Ok((Stmt::Call { value, span }, rest))
 }
 
@@ -271,8 +268,7 @@ fn this_call_statement(alloc: Global, room: u8, tokens: &[Token]) -> Result<(Stm
     ensures { Answers stmt_of result (read_call (read_called_this all_counted room) tokens.now) }
 {
     let (value, rest) = this_call(alloc, room, tokens)?;
-    let (_, rest) = fixed(Symbol::Sign(Sign::Semicolon), rest)?;
-    let span = place_between(tokens, rest);
+    let (value, span, rest) = ended(value, tokens, rest)?;
     Ok((Stmt::Call { value, span }, rest))
 }
 
@@ -281,8 +277,7 @@ fn creation_statement(alloc: Global, room: u8, tokens: &[Token]) -> Result<(Stmt
     ensures { Answers stmt_of result (read_call (read_as uncounted (read_new all_refs all_counted room)) tokens.now) }
 {
     let (value, rest) = creation(alloc, room, tokens)?;
-    let (_, rest) = fixed(Symbol::Sign(Sign::Semicolon), rest)?;
-    let span = place_between(tokens, rest);
+    let (value, span, rest) = ended(value, tokens, rest)?;
     Ok((Stmt::Call { value, span }, rest))
 }
 
@@ -294,8 +289,7 @@ fn returning(alloc: Global, room: u8, tokens: &[Token]) -> Result<(Stmt, &[Token
 {
     let (_, rest) = fixed(Symbol::Word(Word::Return), tokens)?;
     let (value, rest) = optional_value(alloc, room, rest)?;
-    let (_, rest) = fixed(Symbol::Sign(Sign::Semicolon), rest)?;
-    let span = place_between(tokens, rest);
+    let (value, span, rest) = ended(value, tokens, rest)?;
     Ok((Stmt::Return { value, span }, rest))
 }
 
@@ -305,8 +299,7 @@ fn reverting(alloc: Global, room: u8, tokens: &[Token]) -> Result<(Stmt, &[Token
 {
     let (_, rest) = fixed(Symbol::Word(Word::Revert), tokens)?;
     let (text, rest) = optional_value(alloc, room, rest)?;
-    let (_, rest) = fixed(Symbol::Sign(Sign::Semicolon), rest)?;
-    let span = place_between(tokens, rest);
+    let (text, span, rest) = ended(text, tokens, rest)?;
     Ok((Stmt::Revert { text, span }, rest))
 }
 
@@ -316,8 +309,7 @@ fn disowning(alloc: Global, tokens: &[Token]) -> Result<(Stmt, &[Token]), Halt>
 {
     let (_, rest) = fixed(Symbol::Word(Word::Disown), tokens)?;
     let (name, rest) = name_part(alloc, rest)?;
-    let (_, rest) = fixed(Symbol::Sign(Sign::Semicolon), rest)?;
-    let span = place_between(tokens, rest);
+    let (name, span, rest) = ended(name, tokens, rest)?;
     Ok((Stmt::Disown { name, span }, rest))
 }
 
@@ -327,11 +319,10 @@ fn assertion(alloc: Global, tokens: &[Token]) -> Result<(Stmt, &[Token]), Halt>
 {
     let (_, rest) = fixed(Symbol::Sign(Sign::OpenBracket), tokens)?;
     let (subject, rest) = subject(alloc, rest)?;
-    let (_, rest) = fixed(Symbol::Sign(Sign::At), rest)?;
-    let (perm, rest) = permission(alloc, rest)?;
-    let (_, rest) = fixed(Symbol::Sign(Sign::CloseBracket), rest)?;
-    let (_, rest) = fixed(Symbol::Sign(Sign::Semicolon), rest)?;
-    let span = place_between(tokens, rest);
+    let (subject, rest) = before(subject, Symbol::Sign(Sign::At), rest)?;
+    let (subject, perm, rest) = with(subject, permission(alloc, rest))?;
+    let (parts, rest) = before((subject, perm), Symbol::Sign(Sign::CloseBracket), rest)?;
+    let ((subject, perm), span, rest) = ended(parts, tokens, rest)?;
     Ok((
         Stmt::Assert {
             subject,

@@ -23,6 +23,7 @@ ghost use Rattle.ob_parser.specs.declared.halt.Halt.TheVariants.{Memory};
 use crate::expressions::expression;
 use crate::halt::Halt;
 use crate::names::{name_part, subject};
+use crate::parts::{before, with};
 use crate::simple::simple;
 use crate::tokens::{
     Symbol, fixed, opens, place_between, starts_with, starts_with_both, starts_with_one_of,
@@ -102,8 +103,8 @@ fn test(alloc: Global, tokens: &[Token]) -> Result<(QuestionPart, &[Token]), Hal
     ensures { Answers question_of result (read_tested tokens.now) }
 {
     let (subject, rest) = subject(alloc, tokens)?;
-    let (_, rest) = fixed(Symbol::Word(Word::In), rest)?;
-    let (state, rest) = name_part(alloc, rest)?;
+    let (subject, rest) = before(subject, Symbol::Word(Word::In), rest)?;
+    let (subject, state, rest) = with(subject, name_part(alloc, rest))?;
     Ok((QuestionPart::Test { subject, state }, rest))
 }
 
@@ -197,9 +198,10 @@ fn behind_if(alloc: Global, room: u8, tokens: &[Token]) -> Result<(BranchesPart,
 {
     let (_, rest) = fixed(Symbol::Sign(Sign::OpenParen), tokens)?;
     let (question, rest) = question(alloc, room, rest)?;
-    let (_, rest) = fixed(Symbol::Sign(Sign::CloseParen), rest)?;
-    let (then, rest) = block(alloc, room, rest)?;
-    let (otherwise, rest) = alternative(alloc, room, rest)?;
+    let (question, rest) = before(question, Symbol::Sign(Sign::CloseParen), rest)?;
+    let (question, then, rest) = with(question, block(alloc, room, rest))?;
+    let (parts, otherwise, rest) = with((question, then), alternative(alloc, room, rest))?;
+    let (question, then) = parts;
     Ok((
         BranchesPart {
             question,

@@ -1,12 +1,14 @@
 use Rattle.std.proofs.Common.{rules, ◌∙◌, sym}
 use Rattle.ob_lexer.specs.declared.token.Word.TheVariants.{If}
 use Rattle.ob_lexer.specs.declared.token.Sign.TheVariants.{OpenBrace}
-use Rattle.ob_tree.specs.StmtsView.{stmt_of, stmt_views}
+use Rattle.ob_tree.specs.StmtsView.{stmt_of, block_of, else_of, stmt_views}
 use Rattle.ob_grammar.specs.Symbols.{a_word, a_sign}
 use Rattle.ob_grammar.specs.Readers.{place_if, read_many}
-use Rattle.ob_grammar.specs.StmtReaders.{stmt_first, read_stmt}
-use Rattle.ob_grammar.specs.AllReaders.{all_refs, all_counted, all_branches, all_stmts}
+use Rattle.ob_grammar.specs.StmtReaders.{stmt_first, read_stmt, read_branches}
+use Rattle.ob_grammar.specs.AllReaders.{all_refs, all_counted, all_exprs, all_branches, all_stmts}
+use Rattle.ob_parser.specs.Answering.{Halts}
 use Rattle.ob_parser.proofs.Loops.{halts_bind, none_before, kept_as}
+use Rattle.ob_parser.proofs.Nexts.{next_done, next_halts}
 use Rattle.ob_grammar.proofs.Deeper.{branches_step}
 use Rattle.ob_parser.proofs.CodeTokens.{opened_is}
 use Rattle.ob_parser.proofs.CodeStatements.{stmt_consumes}
@@ -36,14 +38,21 @@ behind_if-returns-in_err-rest t c = rw (branches_step c.args.room c.ranges.room.
 pub behind_if-returns-in_err-question : goal.behind_if-returns-in_err-question
 behind_if-returns-in_err-question t c = rw (branches_step c.args.room c.ranges.room.fits c.args.tokens.now) (search (rules, halts_bind))
 
-pub behind_if-returns-in_err-rest-2 : goal.behind_if-returns-in_err-rest-2
-behind_if-returns-in_err-rest-2 t c = rw (branches_step c.args.room c.ranges.room.fits c.args.tokens.now) (search (rules, halts_bind))
+pub behind_if-returns-in_err-question-2 : goal.behind_if-returns-in_err-question-2
+behind_if-returns-in_err-question-2 t c = rw (branches_step c.args.room c.ranges.room.fits c.args.tokens.now) (search (rules, halts_bind))
 
-pub behind_if-returns-in_err-then : goal.behind_if-returns-in_err-then
-behind_if-returns-in_err-then t c = rw (branches_step c.args.room c.ranges.room.fits c.args.tokens.now) (search (rules, halts_bind))
+pub behind_if-returns-in_err-question-3 : goal.behind_if-returns-in_err-question-3
+behind_if-returns-in_err-question-3 t c =
+    let then = next_halts block_of c.block.result _ _ c.in_err-question-3.ensures.err c.block.ensures in
+    let why : Halts c.in_err-question-3.field-0.0 (read_branches (all_exprs c.args.room) all_stmts all_branches c.args.room c.args.tokens.now) = rw (c.in_ok-rest.ensures, c.in_ok-question.ensures, c.in_ok-question-2.ensures.ok) (halts_bind _ _ _ (halts_bind _ _ _ (halts_bind _ _ _ (halts_bind _ _ _ (halts_bind _ _ _ then))))) in
+    rw (branches_step c.args.room c.ranges.room.fits c.args.tokens.now) (search rules)
 
-pub behind_if-returns-in_err-otherwise : goal.behind_if-returns-in_err-otherwise
-behind_if-returns-in_err-otherwise t c = rw (branches_step c.args.room c.ranges.room.fits c.args.tokens.now) (search (rules, halts_bind))
+pub behind_if-returns-in_err-parts : goal.behind_if-returns-in_err-parts
+behind_if-returns-in_err-parts t c =
+    let then = next_done block_of c.block.result _ _ _ c.in_ok-question-3.ensures.ok c.block.ensures in
+    let otherwise = next_halts else_of c.alternative.result _ _ c.in_err-parts.ensures.err c.alternative.ensures in
+    let why : Halts c.in_err-parts.field-0.0 (read_branches (all_exprs c.args.room) all_stmts all_branches c.args.room c.args.tokens.now) = rw (c.in_ok-rest.ensures, c.in_ok-question.ensures, c.in_ok-question-2.ensures.ok, then) (halts_bind _ _ _ (halts_bind _ _ _ (halts_bind _ _ _ (halts_bind _ _ _ (halts_bind _ _ _ otherwise))))) in
+    rw (branches_step c.args.room c.ranges.room.fits c.args.tokens.now) (search rules)
 
 pub behind_if-returns : goal.behind_if-returns
 behind_if-returns t c = rw (branches_step c.args.room c.ranges.room.fits c.args.tokens.now) (search rules)
