@@ -5,7 +5,6 @@ pub mod FilesInMemory
 pub mod Lines
 pub mod LinesOfText
 pub mod Memory
-pub mod Real
 pub mod Sure
 pub mod Told
 pub mod Views

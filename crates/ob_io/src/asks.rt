@@ -11,9 +11,9 @@ struct Call {
     limit: usize,
 }
 
-// The calls so far. Contracts see what each asked.
+/// The calls so far. Contracts see what each asked.
 #[derive(Drop)]
-pub(crate) struct Asks {
+pub struct Asks {
     calls: Vec<Call>,
     alloc: Global,
 }
@@ -30,8 +30,8 @@ impl Model for Asks {
 }
 
 impl Asks {
-    // Nothing was asked yet.
-    pub(crate) fn new(alloc: Global) -> Self
+    /// Nothing was asked yet.
+    pub fn new(alloc: Global) -> Self
         ensures { result ≡ [] }
     {
         Asks {
@@ -40,8 +40,8 @@ impl Asks {
         }
     }
 
-    // Notes a call. Where memory runs out, it notes nothing.
-    pub(crate) fn note(&mut self, name: &str, limit: usize) -> Result<(), AllocError>
+    /// Notes a call. Where memory runs out, it notes nothing.
+    pub fn note(&mut self, name: &str, limit: usize) -> Result<(), AllocError>
         ensures ok { OnOk result (self.new ≡ self.old ++ record { name = name.now; limit = limit } ∷ []) }
         ensures err { OnErr result (self.new ≡ self.old) }
     {

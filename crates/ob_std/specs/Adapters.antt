@@ -1,9 +1,9 @@
 -- What std's readers, writers and files tell: how often they failed, how many bytes were taken and what was asked, and
 -- nothing of what the bytes are.
 use Rattle.std.specs.Prelude.{None}
-use Rattle.ob_io.specs.declared.real.StdSource.{StdSource}
-use Rattle.ob_io.specs.declared.real.StdSink.{StdSink}
-use Rattle.ob_io.specs.declared.real.StdFiles.{StdFiles}
+use Rattle.ob_std.specs.declared.adapters.StdSource.{StdSource}
+use Rattle.ob_std.specs.declared.adapters.StdSink.{StdSink}
+use Rattle.ob_std.specs.declared.adapters.StdFiles.{StdFiles}
 use Rattle.ob_io.specs.Views.{SourceView, SinkView, FilesView}
 
 -- what a reader of std has left isn't told

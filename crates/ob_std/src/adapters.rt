@@ -4,9 +4,8 @@ ghost use Rattle.std.specs.Io.KnownBytes.{ReadConsumes, WriteAppends};
 ghost use Rattle.ob_io.specs.Causes.{HasCause};
 ghost use Rattle.ob_io.specs.Told.{ReadTakes, WriteGives};
 
-use crate::asks::Asks;
-use crate::{FileError, Files, Sink, Source};
 use ob_base::Failed;
+use ob_io::{Asks, FileError, Files, Sink, Source};
 use std::alloc::Global;
 use std::fs;
 use std::io::{Read, Write};
@@ -20,7 +19,7 @@ pub struct StdSource<R> {
 }
 
 impl<R: Read> StdSource<R> {
-    ghost use Rattle.ob_io.specs.Real.{std_source_view};
+    ghost use Rattle.ob_std.specs.Adapters.{std_source_view};
 
     /// Nothing was read yet.
     pub fn new(inner: R) -> Self
@@ -43,7 +42,7 @@ impl<R: Read> StdSource<R> {
 }
 
 impl<R: Read> Source for StdSource<R> {
-    ghost use Rattle.ob_io.specs.Real.{std_source_view, std_source_inner};
+    ghost use Rattle.ob_std.specs.Adapters.{std_source_view, std_source_inner};
 
     ghost view = { std_source_view };
 
@@ -73,7 +72,7 @@ pub struct StdSink<W> {
 }
 
 impl<W: Write> StdSink<W> {
-    ghost use Rattle.ob_io.specs.Real.{std_sink_view};
+    ghost use Rattle.ob_std.specs.Adapters.{std_sink_view};
 
     /// Nothing has failed yet.
     pub fn new(inner: W) -> Self
@@ -91,7 +90,7 @@ impl<W: Write> StdSink<W> {
 }
 
 impl<W: Write> Sink for StdSink<W> {
-    ghost use Rattle.ob_io.specs.Real.{std_sink_view, std_sink_inner};
+    ghost use Rattle.ob_std.specs.Adapters.{std_sink_view, std_sink_inner};
 
     ghost view = { std_sink_view };
 
@@ -161,7 +160,7 @@ pub struct StdFiles<R> {
 }
 
 impl<R: fs::Files> StdFiles<R> {
-    ghost use Rattle.ob_io.specs.Real.{std_files_view};
+    ghost use Rattle.ob_std.specs.Adapters.{std_files_view};
 
     /// The files that a runtime opens, as `&HostRuntime`. Nothing was asked yet.
     pub fn new(alloc: Global, host: R) -> Self
@@ -184,7 +183,7 @@ impl<R: fs::Files> StdFiles<R> {
 }
 
 impl<R: fs::Files> Files for StdFiles<R> {
-    ghost use Rattle.ob_io.specs.Real.{std_files_view};
+    ghost use Rattle.ob_std.specs.Adapters.{std_files_view};
 
     ghost view = { std_files_view };
 

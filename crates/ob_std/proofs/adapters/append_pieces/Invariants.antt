@@ -1,5 +1,5 @@
 use Rattle.std.proofs.Common.{◌≡◌, ◌+◌, ◌++◌, ℕ, List, length}
-use Rattle.ob_io.proofs.real.append_pieces.Given as goal
+use Rattle.ob_std.proofs.adapters.append_pieces.Given as goal
 
 -- some bytes were appended, and there is room for the rest
 abbrev pub invariant-pieces : goal.invariant-pieces

@@ -1,6 +1,7 @@
 //! The adapters over std, whose bytes no contract tells.
-use crate::{FileError, Files, Lines, Next, Source, StdFiles, StdSink, StdSource, write_all};
+use crate::{StdFiles, StdSink, StdSource};
 use ob_base::Failed;
+use ob_io::{FileError, Files, Lines, Next, Source, write_all};
 use std::alloc::Global;
 use std::io::{Read, Write};
 use std::test::Fail;
@@ -98,7 +99,7 @@ fn sinks_of_std(rt: HostRuntime) -> Result<(), Fail> {
 #[test]
 fn files_of_std(rt: HostRuntime) -> Result<(), Fail> {
     let alloc = rt.alloc();
-    let name = "ob_io_files_of_std";
+    let name = "ob_std_files_of_std";
     let bytes = vec![in alloc; b'x'; 9000]?;
     fs::write(&rt, name, bytes.as_slice())?;
     let mut files = StdFiles::new(alloc, &rt);
