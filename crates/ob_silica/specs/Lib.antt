@@ -1,0 +1,3 @@
+pub mod Terms
+pub mod TermsView
+pub mod TermsBack
