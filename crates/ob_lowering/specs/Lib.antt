@@ -1,0 +1,4 @@
+pub mod Points
+pub mod ExpressionTerms
+pub mod StatementTerms
+pub mod BodyTerms
