@@ -1,0 +1,114 @@
+-- How a call or a `new` enters its body (Coblenz et al., TOPLAS 42(3), 2020, "Silica"; re-entry, shared entry and the order
+-- of units, tests and marks are this project's own).
+use Rattle.std.specs.Prelude.{ℕ, suc, Bool, true, false, ◌&&◌, nat_eq, nat_lt, List, [], ◌∷◌, length, position, Option, Some, None, option_map, option_and_then, slice_get, bytes_eq, if◌then◌else◌}
+use Rattle.std.specs.Option.{option_map_or}
+use Rattle.ob_base.specs.declared.id.ContractId.{ContractId}
+use Rattle.ob_base.specs.declared.id.TxId.{TxId}
+use Rattle.ob_base.specs.declared.permission.Perm.{Perm}
+use Rattle.ob_perm.specs.States.{only, stateless}
+use Rattle.ob_perm.specs.Permissions.{owned}
+use Rattle.ob_perm.specs.Masks.{permission_of}
+use Rattle.ob_table.specs.Tables.{ClassTable, contract_at, signature_of}
+use Rattle.ob_table.specs.declared.contract.Contract.{Contract}
+use Rattle.ob_table.specs.declared.contract.Kind.{Kind}
+use Rattle.ob_table.specs.declared.contract.Kind.TheVariants.{Reference as TypedReference}
+use Rattle.ob_table.specs.declared.contract.Signature.{Signature}
+use Rattle.ob_table.specs.declared.seen.LocalKind.TheVariants.{Reference}
+use Rattle.ob_content.specs.Values.{Value, reference, nothing}
+use Rattle.ob_content.specs.Objects.{Object, is_in_states, is_owned, is_shared}
+use Rattle.ob_content.specs.Contents.{object_at}
+use Rattle.ob_content.specs.Worlds.{World, objects_most, next_item, with_read, read_object, make_object, by_reentry, by_full}
+use Rattle.ob_content.specs.Marks.{is_in_progress, enter}
+use Rattle.ob_silica.specs.Terms.{SilicaTerms}
+use Rattle.ob_silica_steps.specs.Cells.{Cell, cell, value_in}
+use Rattle.ob_silica_steps.specs.Configurations.{SilicaProgram, terms_at, Slots, How, by_receiver, by_this, by_new, Frame, Waiting, runs, Notes, Next, goes, aborted, stuck}
+use Rattle.ob_silica_steps.specs.Here.{at, with_unit, if_there}
+use Rattle.ob_silica_steps.specs.Binding.{Parameter, parameters, all_parameters}
+
+-- whether an object is in one of the states of a permission on this contract, where it is an owner's
+abbrev pub owner_is_right : ClassTable → World → ContractId → Perm → ℕ → Bool
+owner_is_right table w id p n =
+    if is_owned p.mode then option_map_or (is_in_states table id p) (object_at w.objects n) false else true
+
+-- whether a value has a place of this type: where an owner is wanted, the object is in one of the states
+abbrev pub is_right : ClassTable → World → Kind → Option Value → Bool
+is_right table w (TypedReference id p) (Some (reference n)) = owner_is_right table w id p n
+is_right table w of value = true
+
+-- whether the slots from this number on are right for these parameters
+abbrev pub are_right : ClassTable → World → Slots → ℕ → List Parameter → Bool
+are_right table w slots k [] = true
+are_right table w slots k (p ∷ ps) = is_right table w p.of (value_in (slots k)) && are_right table w slots (suc k) ps
+
+-- which transaction of its own contract an object runs for one of its contract or interface: that of the same name
+abbrev pub transaction_of : ClassTable → ContractId → TxId → Object → Option TxId
+transaction_of table contract tx o =
+    if nat_eq contract.0 o.contract.0 then Some tx
+    else option_and_then (λ (s : Signature). option_and_then (λ (c : Contract).
+    option_map (λ n. record { 0 = n }) (position (λ (t : Signature). bytes_eq s.name t.name) c.transactions))
+    (contract_at table o.contract)) (signature_of table contract tx)
+
+-- what a body begins with: its slots, the frames that wait for it, the notes and the world
+pub record Entered : Type 0 where
+  pub slots : Slots
+  pub stack : List Waiting
+  pub notes : Notes
+  pub world : World
+
+-- the step into a body
+abbrev pub enters : SilicaProgram → Entered → ContractId → TxId → How → Bool → Next
+enters program e contract tx how shared_entry = if_there (terms_at program contract tx) (λ terms. goes (record {
+  frame = record { slots = e.slots; contract = contract; tx = tx; how = how; share_entered = shared_entry };
+  control = runs terms [];
+  stack = e.stack;
+  notes = e.notes;
+  world = e.world;
+}))
+
+-- the step into a body, where its owners' objects are in the declared states; else there is none
+abbrev pub enters_if_right : SilicaProgram → Entered → ℕ → List Parameter → ContractId → TxId → How → Bool → Next
+enters_if_right program e k ps contract tx how shared_entry =
+    if are_right program.table e.world e.slots k ps then enters program e contract tx how shared_entry else stuck
+
+-- `this` as its own contract declares it
+abbrev pub this_cell : ContractId → Perm → ℕ → Cell
+this_cell contract entry n = cell (reference n) (Reference contract) (permission_of entry)
+
+-- the body of an object with this number begins, and the object has a transaction in progress
+abbrev pub begins_on : SilicaProgram → Entered → ℕ → Object → TxId → Signature → Next
+begins_on program e n o tx s = enters_if_right program
+    (record e { slots = at e.slots 0 (Some (this_cell o.contract s.entry n)); world = enter n e.world })
+    0 (all_parameters o.contract s) o.contract tx by_receiver (is_shared s.entry.mode)
+
+-- a call of an object, once its unit is taken: the object is read, and mustn't have a transaction in progress
+abbrev pub calls_object : SilicaProgram → Entered → ContractId → TxId → ℕ → Next
+calls_object program e contract tx n =
+    if is_in_progress e.world n then aborted (by_reentry n) (read_object e.world n)
+    else if_there (object_at e.world.objects n) (λ o.
+    if_there (transaction_of program.table contract tx o) (λ own.
+    if_there (signature_of program.table o.contract own) (λ s.
+    begins_on program (record e { world = read_object e.world n }) n o own s)))
+
+-- a call on `this`, once its unit is taken: it isn't tested for re-entry, and is share-entered as its caller is
+abbrev pub calls_this : SilicaProgram → Entered → Frame → TxId → Signature → Next
+calls_this program e caller tx s =
+    enters_if_right program e 0 (all_parameters caller.contract s) caller.contract tx by_this caller.share_entered
+
+-- an object as a `new` makes it: in no state, without values
+abbrev pub new_object : ContractId → Object
+new_object contract = record { contract = contract; state = None; fields = nothing; shared = false; disowned = false }
+
+-- `this` of a constructor
+abbrev pub new_cell : ContractId → ℕ → Cell
+new_cell contract n = cell (reference n) (Reference contract) (owned (only stateless))
+
+-- a `new`, once its unit is taken: the next number is read and tested, and the constructor runs on a new object
+abbrev pub makes_object : SilicaProgram → Entered → ContractId → TxId → Signature → Next
+makes_object program e contract tx s =
+    if nat_lt (length e.world.objects) objects_most
+    then enters_if_right program
+    (record e {
+      slots = at e.slots 0 (Some (new_cell contract (length e.world.objects)));
+      world = make_object (with_read e.world next_item) (new_object contract);
+    }) 1 (parameters s) contract tx by_new false
+    else aborted by_full (with_read e.world next_item)

@@ -1,0 +1,134 @@
+-- How a body ends: in silent steps its result is taken, its tests end, what was lent goes back, and its caller goes on (this
+-- project's own).
+use Rattle.std.specs.Prelude.{ℕ, suc, Bool, true, ◌&&◌, ◌||◌, nat_eq, length, is_some, List, [], ◌∷◌, map, Option, Some, None, option_map, if◌then◌else◌}
+use Rattle.std.specs.Option.{option_map_or}
+use Rattle.ob_base.specs.declared.permission.Perm.{Perm}
+use Rattle.ob_perm.specs.Permissions.{Permission, unowned}
+use Rattle.ob_perm.specs.Masks.{permission_of}
+use Rattle.ob_table.specs.Tables.{ClassTable, contract_at, signature_of}
+use Rattle.ob_table.specs.declared.contract.Contract.{Contract}
+use Rattle.ob_table.specs.declared.contract.Kind.{Kind}
+use Rattle.ob_table.specs.declared.contract.Kind.TheVariants.{Reference as TypedReference}
+use Rattle.ob_table.specs.declared.contract.Signature.{Signature}
+use Rattle.ob_typing.specs.WellMade.{is_constructor}
+use Rattle.ob_content.specs.Objects.{Object, has_all_values}
+use Rattle.ob_content.specs.Worlds.{World}
+use Rattle.ob_content.specs.Marks.{leave}
+use Rattle.ob_silica_steps.specs.Cells.{Location, this, Cell, plain_cell, noted, value_in}
+use Rattle.ob_silica_steps.specs.Configurations.{SilicaProgram, Slots, How, by_receiver, by_this, by_new, Frame, Rest, Loan, Waiting, runs, leaves, Configuration, Next, goes, ended, stuck}
+use Rattle.ob_silica_steps.specs.Here.{Here, here, goes_to, if_there, self_of, self, read, at, set_permission, hand}
+use Rattle.ob_silica_steps.specs.Binding.{Parameter, all_parameters, bound_cell}
+use Rattle.ob_silica_steps.specs.Entering.{is_right, are_right}
+use Rattle.ob_silica_steps.specs.Testing.{end_branch}
+
+-- Whether a body may end so.
+
+-- the type of a parameter at the exit
+abbrev pub with_exit : Kind → Perm → Kind
+with_exit (TypedReference id entry) exit = TypedReference id exit
+with_exit of exit = of
+
+-- a parameter at the exit
+abbrev pub at_exit : Parameter → Parameter
+at_exit p = record { of = with_exit p.of p.exit; exit = p.exit }
+
+-- whether the object of each owning exit is in one of the declared states
+abbrev pub exits_are_right : ClassTable → Configuration → Signature → Bool
+exits_are_right table c s =
+    are_right table c.world c.frame.slots 0 (map at_exit (all_parameters c.frame.contract s))
+
+-- whether a constructor has made its object: a value in each available field, and a state if its contract has states
+abbrev pub is_made_whole : Contract → Object → Bool
+is_made_whole own o = has_all_values own o && (is_some o.state || nat_eq (length own.states) 0)
+
+-- The return.
+
+-- the frame leaves with this result
+abbrev pub leaves_with : Configuration → Here → Option Cell → List Rest → Next
+leaves_with c h result outer = goes_to c h (leaves result outer)
+
+-- a constructor gives `this` as it declares
+abbrev pub gives_this : SilicaProgram → Signature → List Rest → Configuration → Next
+gives_this program s outer c =
+    if_there (contract_at program.table c.frame.contract) (λ own. if_there (self (here c)) (λ o.
+    if_there (read program.table (here c) this) (λ x.
+    if is_made_whole own o
+    then leaves_with c (hand (TypedReference c.frame.contract s.exit) this x (here c))
+    (Some (bound_cell (TypedReference c.frame.contract s.exit) x.value)) outer
+    else stuck)))
+
+-- a value is given as the result is declared; where an owner is wanted, the object is in one of the states
+abbrev pub gives_value : SilicaProgram → Kind → Location → List Rest → Configuration → Next
+gives_value program of place outer c = if_there (read program.table (here c) place) (λ x.
+    if is_right program.table c.world of (Some x.value)
+    then leaves_with c (hand of place x (here c)) (Some (bound_cell of x.value)) outer
+    else stuck)
+
+-- the result is taken: without a place it is `this` of a constructor, and else there is none
+abbrev pub gives : SilicaProgram → Signature → Option Kind → Option Location → List Rest → Configuration → Next
+gives program s result None outer c =
+    if is_constructor program.table c.frame.contract c.frame.tx.0 then gives_this program s outer c
+    else leaves_with c (here c) None outer
+gives program s None (Some place) outer c =
+    if_there (read program.table (here c) place) (λ x. leaves_with c (here c) (Some (noted unowned x)) outer)
+gives program s (Some of) (Some place) outer c = gives_value program of place outer c
+
+-- the step of a return: the objects of owning exits are in the declared states
+abbrev pub return_step : SilicaProgram → Option Location → List Rest → Configuration → Next
+return_step program place outer c = if_there (signature_of program.table c.frame.contract c.frame.tx) (λ s.
+    if exits_are_right program.table c s then gives program s s.result place outer c else stuck)
+
+-- After it.
+
+-- the receiver of a call has no longer a transaction in progress
+abbrev pub leaves_progress : How → ℕ → World → World
+leaves_progress by_receiver n w = leave n w
+leaves_progress by_this n w = w
+leaves_progress by_new n w = w
+
+-- the world when a frame is left
+abbrev pub left_world : Configuration → World
+left_world c = leaves_progress c.frame.how (self_of c.frame.slots) c.world
+
+-- the result is set
+abbrev pub with_result : Option ℕ → Option Cell → Slots → Slots
+with_result None result slots = slots
+with_result (Some k) result slots = at slots k result
+
+-- the frame that waits goes on
+abbrev pub resumes : Waiting → Option Cell → List Waiting → Configuration → Next
+resumes h result stack c = goes (record {
+  frame = record h.frame { slots = with_result h.result result h.frame.slots };
+  control = runs h.terms h.outer;
+  stack = stack;
+  notes = c.notes;
+  world = left_world c;
+})
+
+-- a place that was lent has its exit, and the parameter that had it is Unowned
+abbrev pub returned_to : Waiting → Loan → Configuration → Here
+returned_to h loan c = set_permission loan.place loan.exit (record { slots = h.frame.slots; notes = c.notes; world = c.world })
+
+abbrev pub unlends : Option Cell → Waiting → Loan → List Loan → List Waiting → Configuration → Next
+unlends result h loan loans stack c = goes (record {
+  frame = record c.frame { slots = at c.frame.slots loan.param (option_map (noted unowned) (c.frame.slots loan.param)) };
+  control = leaves result [];
+  stack = record h { frame = record h.frame { slots = (returned_to h loan c).slots }; loans = loans } ∷ stack;
+  notes = (returned_to h loan c).notes;
+  world = c.world;
+})
+
+-- one loan after the other goes back, and then the frame that waits goes on
+abbrev pub gives_back : List Loan → Option Cell → Waiting → List Waiting → Configuration → Next
+gives_back [] result h stack c = resumes h result stack c
+gives_back (loan ∷ loans) result h stack c = unlends result h loan loans stack c
+
+-- to the frame that waits, if there is one; else the run ends
+abbrev pub goes_back : List Waiting → Option Cell → Configuration → Next
+goes_back [] result c = ended (value_in result) (left_world c)
+goes_back (h ∷ stack) result c = gives_back h.loans result h stack c
+
+-- the step of a frame that leaves: first the lists around it end
+abbrev pub leave_step : Option Cell → List Rest → Configuration → Next
+leave_step result [] c = goes_back c.stack result c
+leave_step result (r ∷ outer) c = goes_to c (end_branch r.ends (here c)) (leaves result outer)
