@@ -1,6 +1,6 @@
 -- The marks on objects, locks, and transactions in progress (Coblenz et al., TOPLAS 42(3), 2020, "Permissions" and "State
 -- tests"; marks and locks are this project's own).
-use Rattle.std.specs.Prelude.{ℕ, Bool, true, not, nat_eq, List, [], ◌∷◌, if◌then◌else◌}
+use Rattle.std.specs.Prelude.{ℕ, Bool, true, nat_eq, List, [], ◌∷◌, if◌then◌else◌}
 use Rattle.std.specs.Option.{option_map_or}
 use Rattle.std.specs.List.{list_any}
 use Rattle.ob_table.specs.declared.contract.Kind.{Kind}
@@ -8,20 +8,23 @@ use Rattle.ob_table.specs.declared.contract.Kind.TheVariants.{Reference}
 use Rattle.ob_content.specs.Values.{Value, reference}
 use Rattle.ob_content.specs.Objects.{Object, is_shared}
 use Rattle.ob_content.specs.Contents.{object_at}
-use Rattle.ob_content.specs.Worlds.{World, read_object, set_object}
+use Rattle.ob_content.specs.Worlds.{World, read_object, edit_object}
 
--- the object of a number is set to what f makes of it where a test holds of it
-abbrev pub set_where : (Object → Bool) → (Object → Object) → ℕ → World → World
-set_where test f n w =
-    option_map_or (λ o. if test o then set_object w n (f o) else w) (object_at w.objects n) w
+-- whether the mark of an object is there already, and one that there isn't has none to get
+abbrev pub has_mark : (Object → Bool) → World → ℕ → Bool
+has_mark mark w n = option_map_or mark (object_at w.objects n) true
 
 -- an object is marked as shared, for good; it is read
 abbrev pub mark_shared : ℕ → World → World
-mark_shared n w = set_where (λ o. not o.shared) (λ o. record o { shared = true }) n (read_object w n)
+mark_shared n w =
+    let w1 = read_object w n in
+    if has_mark (λ o. o.shared) w1 n then w1 else edit_object (λ o. record o { shared = true }) n w1
 
 -- an object is marked as disowned, for good; it is read
 abbrev pub mark_disowned : ℕ → World → World
-mark_disowned n w = set_where (λ o. not o.disowned) (λ o. record o { disowned = true }) n (read_object w n)
+mark_disowned n w =
+    let w1 = read_object w n in
+    if has_mark (λ o. o.disowned) w1 n then w1 else edit_object (λ o. record o { disowned = true }) n w1
 
 -- a value comes into a place of this type: a reference in a place declared Shared marks its object
 abbrev pub comes_into : Kind → Value → World → World

@@ -1,5 +1,6 @@
 -- The world on which a run works, and how a run ends (this project's own).
 use Rattle.std.specs.Prelude.{ℕ, zero, suc, ◌+◌, Bool, true, false, nat_le, List, [], ◌∷◌, ◌++◌, length, slice_set, Option, Some, None, if◌then◌else◌}
+use Rattle.std.specs.Option.{option_map_or}
 use Rattle.ob_base.specs.declared.id.StateId.{StateId}
 use Rattle.ob_content.specs.Objects.{Object}
 use Rattle.ob_content.specs.Contents.{object_at}
@@ -113,6 +114,10 @@ read_object w n = if is_made w n then w else with_read w (object_item n)
 -- an object is set
 abbrev pub set_object : World → ℕ → Object → World
 set_object w n o = record w { objects = slice_set w.objects n o; changed = n ∷ w.changed }
+
+-- what the object of a number is set to, made of what it was
+abbrev pub edit_object : (Object → Object) → ℕ → World → World
+edit_object f n w = option_map_or (λ o. set_object w n (f o)) (object_at w.objects n) w
 
 -- an object is made, with the next number
 abbrev pub make_object : World → Object → World
