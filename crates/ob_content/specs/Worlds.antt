@@ -51,18 +51,31 @@ pub data Cause : Type 0 where
   by_fuel : Cause
   by_full : Cause
 
--- how a part of a run ends: it gives a thing, and the world after it; it aborts, and leaves nothing but the cause; it goes
--- wrong
+-- what is told of a run that aborts beside the cause: the units that it has taken, and what it has read
+pub record Spent : Type 0 where
+  pub taken : ℕ
+  pub reads : List Item
+
+-- what a run has spent so far
+abbrev pub spent : World → Spent
+spent w = record { taken = w.taken; reads = w.reads }
+
+-- how a part of a run ends: it gives a thing, and the world after it; it aborts, and leaves the cause and what it has spent,
+-- and no world; it goes wrong
 pub data Outcome (A : Type 0) : Type 0 where
   gives : A → World → Outcome A
-  aborts : Cause → Outcome A
+  aborts : Cause → Spent → Outcome A
   wrong : Outcome A
+
+-- an abort in a world
+abbrev pub abort : {A : Type 0} → Cause → World → Outcome A
+abort cause w = aborts cause (spent w)
 
 -- a part, and then what follows from what it gives
 infixl 10 ◌>>=◌
 abbrev pub ◌>>=◌ : {A B : Type 0} → Outcome A → (A → World → Outcome B) → Outcome B
 (gives a w) >>= go = go a w
-(aborts cause) >>= go = aborts cause
+(aborts cause s) >>= go = aborts cause s
 wrong >>= go = wrong
 
 -- what follows where a test holds; else the run goes wrong
@@ -76,9 +89,9 @@ with_some None go = wrong
 with_some (Some a) go = go a
 
 -- what follows, unless a test holds: then the run aborts
-abbrev pub unless_aborted : {A : Type 0} → Bool → Cause → Outcome A → Outcome A
-unless_aborted true cause go = aborts cause
-unless_aborted false cause go = go
+abbrev pub unless_aborted : {A : Type 0} → Bool → Cause → World → Outcome A → Outcome A
+unless_aborted true cause w go = abort cause w
+unless_aborted false cause w go = go
 
 -- Units.
 
@@ -86,14 +99,14 @@ unless_aborted false cause go = go
 abbrev pub with_unit_taken : World → ℕ → World
 with_unit_taken w n = record w { fuel = n; taken = suc w.taken }
 
--- what follows where units are left
-abbrev pub with_fuel : {A : Type 0} → ℕ → (ℕ → Outcome A) → Outcome A
-with_fuel zero go = aborts by_fuel
-with_fuel (suc n) go = go n
+-- what follows where so many units are left, at least one; where none is left the run aborts
+abbrev pub with_fuel : {A : Type 0} → ℕ → World → (World → Outcome A) → Outcome A
+with_fuel zero w go = abort by_fuel w
+with_fuel (suc n) w go = go (with_unit_taken w n)
 
--- takes a unit; where none is left the run aborts
+-- takes a unit
 abbrev pub unit : {A : Type 0} → World → (World → Outcome A) → Outcome A
-unit w go = with_fuel w.fuel (λ n. go (with_unit_taken w n))
+unit w go = with_fuel w.fuel w go
 
 -- Reads.
 

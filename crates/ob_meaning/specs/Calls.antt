@@ -9,7 +9,7 @@ use Rattle.ob_table.specs.declared.contract.Contract.{Contract}
 use Rattle.ob_typing.specs.WellMade.{constructor_at}
 use Rattle.ob_content.specs.Values.{Value, reference, nothing}
 use Rattle.ob_content.specs.Objects.{Object, is_shared}
-use Rattle.ob_content.specs.Worlds.{World, objects_most, next_item, by_reentry, by_fuel, by_full, Outcome, gives, aborts, ◌>>=◌, if_right, with_some, unless_aborted, unit, with_read, read_object, make_object, with_object}
+use Rattle.ob_content.specs.Worlds.{World, objects_most, next_item, by_reentry, by_fuel, by_full, Outcome, gives, abort, ◌>>=◌, if_right, with_some, unless_aborted, unit, with_read, read_object, make_object, with_object}
 use Rattle.ob_content.specs.Marks.{is_in_progress, enter, leave}
 use Rattle.ob_meaning.specs.Frames.{Frame, of_object, of_this, of_new, Calls}
 use Rattle.ob_meaning.specs.GoingWrong.{is_finished, may_pass, may_begin}
@@ -50,7 +50,7 @@ dispatch table calls n declared tx asked args w =
 abbrev pub call_after_unit : ClassTable → Calls → ℕ → ContractId → TxId → Signature → List Value → World → Outcome (Option Value)
 call_after_unit table calls n declared tx asked args w =
     let w1 = read_object w n in
-    unless_aborted (is_in_progress w1 n) (by_reentry n) (dispatch table calls n declared tx asked args w1)
+    unless_aborted (is_in_progress w1 n) (by_reentry n) w1 (dispatch table calls n declared tx asked args w1)
 
 -- Calls on `this`.
 
@@ -82,7 +82,7 @@ abbrev pub new_after_unit : ClassTable → Calls → ContractId → Contract →
 new_after_unit table calls contract own s args w =
     let n = length w.objects in
     let w1 = with_read w next_item in
-    unless_aborted (nat_le objects_most n) by_full
+    unless_aborted (nat_le objects_most n) by_full w1
     (if_right (may_pass table w1.objects s.params args)
     (construct calls (constructing table n contract own) s args (make_object w1 (unfinished contract))))
 
@@ -104,7 +104,7 @@ call_with table calls (of_new contract) args w =
 
 -- no call means anything: none is reached where the units have run out
 abbrev pub no_calls : Calls
-no_calls callee args w = aborts by_fuel
+no_calls callee args w = abort by_fuel w
 
 -- the meaning of calls, where calls lie at most so deep in one another beside the first
 abbrev pub call_at : ClassTable → ℕ → Calls

@@ -11,14 +11,14 @@ use Rattle.ob_table.specs.declared.seen.Seen.{Seen}
 use Rattle.ob_table.specs.declared.seen.SeenAt.{SeenAt}
 use Rattle.ob_content.specs.Values.{Value, int_value, bool_value, text_value}
 use Rattle.ob_content.specs.Operations.{Operated, operated, overflows, other_kinds, between, before}
-use Rattle.ob_content.specs.Worlds.{World, by_overflow, Outcome, gives, aborts, wrong, ◌>>=◌, with_some}
+use Rattle.ob_content.specs.Worlds.{World, by_overflow, Outcome, gives, abort, wrong, ◌>>=◌, with_some}
 use Rattle.ob_meaning.specs.Frames.{Frame, Operand, known, named, Locals, Callee, of_object, of_this, of_new, Calls}
 use Rattle.ob_meaning.specs.Naming.{object_seen, read, reference_name, values_of_operands}
 
 -- what an operation comes to in a run; where the result is no `int` it aborts with the line of the operator
 abbrev pub after_operation : Span → Operated → World → Outcome Value
 after_operation sign (operated v) w = gives v w
-after_operation sign overflows w = aborts (by_overflow sign.line)
+after_operation sign overflows w = abort (by_overflow sign.line) w
 after_operation sign other_kinds w = wrong
 
 -- the value that the left operand alone decides, if it does

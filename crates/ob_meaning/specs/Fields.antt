@@ -67,4 +67,5 @@ move_this f s given ls w =
 abbrev pub change_state : Frame → StateId → List Given → Locals → World → Outcome Flow
 change_state f s given ls w =
     with_some (values_given f ls w given)
-    (λ values. unless_aborted (f.share_entered && is_locked w f.this) (by_state f.this None) (move_this f s values ls w))
+    (λ values. unless_aborted (f.share_entered && is_locked w f.this) (by_state f.this None) w
+    (move_this f s values ls w))

@@ -21,7 +21,7 @@ pub data Tested : Type 0 where
 abbrev pub test_this : Frame → StateId → World → Outcome Tested
 test_this f s w =
     let w1 = read_object w f.this in
-    unless_aborted (f.share_entered && is_locked w1 f.this) (by_state f.this None)
+    unless_aborted (f.share_entered && is_locked w1 f.this) (by_state f.this None) w1
     (with_object w1 f.this (λ o. gives (if is_in_state f.table f.here s o then holds else fails) w1))
 
 -- whether a test of another object would meet a lock or a transaction in progress: where it is shared
@@ -37,7 +37,7 @@ abbrev pub test_object : Frame → ContractId → StateId → ℕ → World → 
 test_object f declared s n w =
     let w1 = read_object w n in
     with_object w1 n
-    (λ o. unless_aborted (is_barred w1 n o) (by_state n None)
+    (λ o. unless_aborted (is_barred w1 n o) (by_state n None) w1
     (gives (tested_of (is_in_state f.table declared s o) n o) w1))
 
 -- a test of another name than `this`

@@ -6,7 +6,7 @@ use Rattle.ob_table.specs.Statements.{Statement, resolved_declare, resolved_assi
 use Rattle.ob_table.specs.declared.seen.Seen.{Seen}
 use Rattle.ob_table.specs.declared.seen.Seen.TheVariants.{This, Local, Field as FieldSeen}
 use Rattle.ob_content.specs.Values.{Value, bool_value, text_value, put}
-use Rattle.ob_content.specs.Worlds.{World, by_revert, Outcome, gives, aborts, wrong, ◌>>=◌, if_right, with_some, unit}
+use Rattle.ob_content.specs.Worlds.{World, by_revert, Outcome, gives, abort, wrong, ◌>>=◌, if_right, with_some, unit}
 use Rattle.ob_content.specs.Marks.{mark_disowned}
 use Rattle.ob_meaning.specs.Frames.{Frame, Variable, Given, Locals, Calls, Flow, goes_on, returns}
 use Rattle.ob_meaning.specs.GoingWrong.{is_followed}
@@ -43,14 +43,14 @@ return_with calls f None ls w = gives (returns None) w
 return_with calls f (Some e) ls w = value_of calls f e ls w >>= (λ v w1. gives (returns (Some v)) w1)
 
 -- an abort with a text
-abbrev pub abort_with : Value → Outcome Flow
-abort_with (text_value bytes) = aborts (by_revert bytes)
-abort_with v = wrong
+abbrev pub abort_with : Value → World → Outcome Flow
+abort_with (text_value bytes) w = abort (by_revert bytes) w
+abort_with v w = wrong
 
 -- `revert`, with its text if there is one
 abbrev pub revert_with : Calls → Frame → Option Expression → Locals → World → Outcome Flow
-revert_with calls f None ls w = aborts (by_revert [])
-revert_with calls f (Some e) ls w = value_of calls f e ls w >>= (λ v w1. abort_with v)
+revert_with calls f None ls w = abort (by_revert []) w
+revert_with calls f (Some e) ls w = value_of calls f e ls w >>= abort_with
 
 -- a staged statement has given a field
 abbrev pub with_staged : Given → Locals → Locals
