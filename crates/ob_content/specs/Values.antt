@@ -1,0 +1,32 @@
+-- The values of a run (the Obsidian language documentation, "Types"; the limits are this project's own).
+use Rattle.std.specs.Prelude.{ℕ, ℤ, pos, negsuc, Bool, ◌&&◌, nat_eq, List, Option, Some, None, int_le, if◌then◌else◌}
+
+-- a value: a whole number, a truth, a text, or a reference to the object of a number
+pub data Value : Type 0 where
+  int_value : ℤ → Value
+  bool_value : Bool → Value
+  text_value : List ℕ → Value
+  reference : ℕ → Value
+
+-- whether a whole number is an `int`: one of 64 bits with a sign
+abbrev pub is_int : ℤ → Bool
+is_int z = int_le (negsuc 9223372036854775807) z && int_le z (pos 9223372036854775807)
+
+-- the object to which a value refers, if it is a reference
+abbrev pub referred : Value → Option ℕ
+referred (int_value z) = None
+referred (bool_value b) = None
+referred (text_value bytes) = None
+referred (reference n) = Some n
+
+-- what stands at numbers, and at others nothing
+abbrev pub Numbered : Type 0 → Type 0
+Numbered A = ℕ → Option A
+
+-- nothing stands at any number
+abbrev pub nothing : {A : Type 0} → Numbered A
+nothing = λ i. None
+
+-- the same with another thing at one number
+abbrev pub put : {A : Type 0} → Numbered A → ℕ → A → Numbered A
+put xs k x = λ i. if nat_eq i k then Some x else xs i
