@@ -5,7 +5,7 @@ use Rattle.ob_base.specs.declared.id.TxId.{TxId}
 use Rattle.ob_perm.specs.Permissions.{Permission}
 use Rattle.ob_table.specs.Tables.{ClassTable}
 use Rattle.ob_content.specs.Values.{Value, Numbered}
-use Rattle.ob_content.specs.Worlds.{World, Cause}
+use Rattle.ob_content.specs.Worlds.{World, Cause, Spent, spent}
 use Rattle.ob_silica.specs.Terms.{SilicaTerms, SilicaBody}
 use Rattle.ob_silica_steps.specs.Cells.{Location, Known, Cell}
 
@@ -95,9 +95,14 @@ pub record Configuration : Type 0 where
   pub notes : Notes
   pub world : World
 
--- what a step leads to: another configuration; the end of the run, with its result; an abort; or there is none
+-- what a step leads to: another configuration; the end of the run, with its result; an abort, with what the run
+-- has spent; or there is none
 pub data Next : Type 0 where
   goes : Configuration → Next
   ended : Option Value → World → Next
-  aborted : Cause → World → Next
+  aborted : Cause → Spent → Next
   stuck : Next
+
+-- an abort in a world
+abbrev pub abort : Cause → World → Next
+abort cause w = aborted cause (spent w)

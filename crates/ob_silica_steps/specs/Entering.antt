@@ -1,6 +1,6 @@
 -- How a call or a `new` enters its body (Coblenz et al., TOPLAS 42(3), 2020, "Silica"; re-entry, shared entry and the order
 -- of units, tests and marks are this project's own).
-use Rattle.std.specs.Prelude.{ℕ, suc, Bool, true, false, ◌&&◌, nat_eq, nat_lt, List, [], ◌∷◌, length, position, Option, Some, None, option_map, option_and_then, slice_get, bytes_eq, if◌then◌else◌}
+use Rattle.std.specs.Prelude.{ℕ, suc, Bool, true, false, ◌&&◌, nat_eq, nat_le, List, [], ◌∷◌, length, position, Option, Some, None, option_map, option_and_then, slice_get, bytes_eq, if◌then◌else◌}
 use Rattle.std.specs.Option.{option_map_or}
 use Rattle.ob_base.specs.declared.id.ContractId.{ContractId}
 use Rattle.ob_base.specs.declared.id.TxId.{TxId}
@@ -21,7 +21,7 @@ use Rattle.ob_content.specs.Worlds.{World, objects_most, next_item, with_read, r
 use Rattle.ob_content.specs.Marks.{is_in_progress, enter}
 use Rattle.ob_silica.specs.Terms.{SilicaTerms}
 use Rattle.ob_silica_steps.specs.Cells.{Cell, cell, value_in}
-use Rattle.ob_silica_steps.specs.Configurations.{SilicaProgram, terms_at, Slots, How, by_receiver, by_this, by_new, Frame, Waiting, runs, Notes, Next, goes, aborted, stuck}
+use Rattle.ob_silica_steps.specs.Configurations.{SilicaProgram, terms_at, Slots, How, by_receiver, by_this, by_new, Frame, Waiting, runs, Notes, Next, goes, abort, stuck}
 use Rattle.ob_silica_steps.specs.Here.{at, with_unit, if_there}
 use Rattle.ob_silica_steps.specs.Binding.{Parameter, parameters, all_parameters}
 
@@ -65,34 +65,37 @@ enters program e contract tx how shared_entry = if_there (terms_at program contr
   world = e.world;
 }))
 
--- the step into a body, where its owners' objects are in the declared states; else there is none
-abbrev pub enters_if_right : SilicaProgram → Entered → ℕ → List Parameter → ContractId → TxId → How → Bool → Next
-enters_if_right program e k ps contract tx how shared_entry =
-    if are_right program.table e.world e.slots k ps then enters program e contract tx how shared_entry else stuck
-
 -- `this` as its own contract declares it
 abbrev pub this_cell : ContractId → Perm → ℕ → Cell
 this_cell contract entry n = cell (reference n) (Reference contract) (permission_of entry)
 
--- the body of an object with this number begins, and the object has a transaction in progress
+-- what the body of an object with this number begins with: `this` as its own contract declares it
+abbrev pub entered_on : Entered → ℕ → Object → Signature → Entered
+entered_on e n o s = record e { slots = at e.slots 0 (Some (this_cell o.contract s.entry n)) }
+
+-- such a body begins where its owners' objects are in the declared states; the object has a transaction in progress then
 abbrev pub begins_on : SilicaProgram → Entered → ℕ → Object → TxId → Signature → Next
-begins_on program e n o tx s = enters_if_right program
-    (record e { slots = at e.slots 0 (Some (this_cell o.contract s.entry n)); world = enter n e.world })
-    0 (all_parameters o.contract s) o.contract tx by_receiver (is_shared s.entry.mode)
+begins_on program e n o tx s =
+    if are_right program.table e.world (entered_on e n o s).slots 0 (all_parameters o.contract s)
+    then enters program (record (entered_on e n o s) { world = enter n e.world }) o.contract tx by_receiver (is_shared s.entry.mode)
+    else stuck
 
 -- a call of an object, once its unit is taken: the object is read, and mustn't have a transaction in progress
 abbrev pub calls_object : SilicaProgram → Entered → ContractId → TxId → ℕ → Next
 calls_object program e contract tx n =
-    if is_in_progress e.world n then aborted (by_reentry n) (read_object e.world n)
-    else if_there (object_at e.world.objects n) (λ o.
+    let w = read_object e.world n in
+    if is_in_progress w n then abort (by_reentry n) w
+    else if_there (object_at w.objects n) (λ o.
     if_there (transaction_of program.table contract tx o) (λ own.
     if_there (signature_of program.table o.contract own) (λ s.
-    begins_on program (record e { world = read_object e.world n }) n o own s)))
+    begins_on program (record e { world = w }) n o own s)))
 
 -- a call on `this`, once its unit is taken: it isn't tested for re-entry, and is share-entered as its caller is
 abbrev pub calls_this : SilicaProgram → Entered → Frame → TxId → Signature → Next
 calls_this program e caller tx s =
-    enters_if_right program e 0 (all_parameters caller.contract s) caller.contract tx by_this caller.share_entered
+    if are_right program.table e.world e.slots 0 (all_parameters caller.contract s)
+    then enters program e caller.contract tx by_this caller.share_entered
+    else stuck
 
 -- an object as a `new` makes it: in no state, without values
 abbrev pub new_object : ContractId → Object
@@ -102,13 +105,18 @@ new_object contract = record { contract = contract; state = None; fields = nothi
 abbrev pub new_cell : ContractId → ℕ → Cell
 new_cell contract n = cell (reference n) (Reference contract) (owned (only stateless))
 
--- a `new`, once its unit is taken: the next number is read and tested, and the constructor runs on a new object
+-- what a constructor begins with: a new object, with the next number
+abbrev pub entered_new : Entered → ContractId → Entered
+entered_new e contract = record e {
+  slots = at e.slots 0 (Some (new_cell contract (length e.world.objects)));
+  world = make_object e.world (new_object contract);
+}
+
+-- a `new`, once its unit is taken: the next number is read, and there must be one
 abbrev pub makes_object : SilicaProgram → Entered → ContractId → TxId → Signature → Next
 makes_object program e contract tx s =
-    if nat_lt (length e.world.objects) objects_most
-    then enters_if_right program
-    (record e {
-      slots = at e.slots 0 (Some (new_cell contract (length e.world.objects)));
-      world = make_object (with_read e.world next_item) (new_object contract);
-    }) 1 (parameters s) contract tx by_new false
-    else aborted by_full (with_read e.world next_item)
+    let w = with_read e.world next_item in
+    if nat_le objects_most (length e.world.objects) then abort by_full w
+    else if are_right program.table w e.slots 1 (parameters s)
+    then enters program (entered_new (record e { world = w }) contract) contract tx by_new false
+    else stuck

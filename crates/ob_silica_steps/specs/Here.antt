@@ -8,10 +8,10 @@ use Rattle.ob_table.specs.declared.contract.Kind.{Kind}
 use Rattle.ob_content.specs.Values.{Value, put}
 use Rattle.ob_content.specs.Objects.{Object, has_field}
 use Rattle.ob_content.specs.Contents.{object_at}
-use Rattle.ob_content.specs.Worlds.{World, set_object, with_unit_taken, by_fuel}
+use Rattle.ob_content.specs.Worlds.{World, edit_object, with_unit_taken, by_fuel}
 use Rattle.ob_content.specs.Marks.{comes_into}
 use Rattle.ob_silica_steps.specs.Cells.{Location, slot, field, Known, known, Cell, noted, permission_in, object_in, permission_of_kind}
-use Rattle.ob_silica_steps.specs.Configurations.{Slots, Frame, Notes, Control, Configuration, Next, goes, aborted, stuck}
+use Rattle.ob_silica_steps.specs.Configurations.{Slots, Frame, Notes, Control, Configuration, Next, goes, abort, stuck}
 
 -- what a form works on: the slots of its frame, the notes and the world
 pub record Here : Type 0 where
@@ -40,7 +40,7 @@ if_there (Some a) go = go a
 
 -- a unit of fuel is taken; where none is left the run aborts
 abbrev pub with_fuel_left : ℕ → World → (World → Next) → Next
-with_fuel_left zero w go = aborted by_fuel w
+with_fuel_left zero w go = abort by_fuel w
 with_fuel_left (suc n) w go = go (with_unit_taken w n)
 
 abbrev pub with_unit : World → (World → Next) → Next
@@ -99,12 +99,16 @@ with_field_note notes n k note = record notes { fields = at notes.fields n (at (
 abbrev pub set_slot : ℕ → Option Cell → Here → Here
 set_slot k c h = record h { slots = at h.slots k c }
 
+-- an object whose field has another value
+abbrev pub with_value : ℕ → Value → Object → Object
+with_value k v o = record o { fields = put o.fields k v }
+
 -- a field of `this` is set
 abbrev pub set_field : ℕ → Cell → Here → Here
 set_field k c h = record {
   slots = h.slots;
   notes = with_field_note h.notes (self_of h.slots) k c.note;
-  world = option_map_or (λ o. set_object h.world (self_of h.slots) (record o { fields = put o.fields k c.value })) (self h) h.world;
+  world = edit_object (with_value k c.value) (self_of h.slots) h.world;
 }
 
 -- a place keeps its value and gets this permission

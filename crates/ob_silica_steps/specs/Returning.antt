@@ -64,11 +64,15 @@ gives_value program of place outer c = if_there (read program.table (here c) pla
     then leaves_with c (hand of place x (here c)) (Some (bound_cell of x.value)) outer
     else stuck)
 
--- the result is taken: without a place it is `this` of a constructor, and else there is none
+-- a return without a value: a constructor gives `this`
+abbrev pub gives_none : How → SilicaProgram → Signature → List Rest → Configuration → Next
+gives_none by_receiver program s outer c = leaves_with c (here c) None outer
+gives_none by_this program s outer c = leaves_with c (here c) None outer
+gives_none by_new program s outer c = gives_this program s outer c
+
+-- the result is taken
 abbrev pub gives : SilicaProgram → Signature → Option Kind → Option Location → List Rest → Configuration → Next
-gives program s result None outer c =
-    if is_constructor program.table c.frame.contract c.frame.tx.0 then gives_this program s outer c
-    else leaves_with c (here c) None outer
+gives program s result None outer c = gives_none c.frame.how program s outer c
 gives program s None (Some place) outer c =
     if_there (read program.table (here c) place) (λ x. leaves_with c (here c) (Some (noted unowned x)) outer)
 gives program s (Some of) (Some place) outer c = gives_value program of place outer c

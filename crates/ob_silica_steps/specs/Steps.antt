@@ -21,7 +21,7 @@ use Rattle.ob_silica.specs.declared.place.Operand.{Operand}
 use Rattle.ob_silica.specs.declared.place.Place.{Place}
 use Rattle.ob_silica.specs.declared.place.Place.TheVariants.{This, Slot, Field as FieldPlace}
 use Rattle.ob_silica_steps.specs.Cells.{Location, slot, field, location_of, this, located, all_located, Cell, cell, plain_cell, value_of_constant, kind_of_constant, kind_of_operator}
-use Rattle.ob_silica_steps.specs.Configurations.{SilicaProgram, Ends, plain_end, Rest, Waiting, Control, runs, leaves, Configuration, Next, goes, ended, aborted, stuck}
+use Rattle.ob_silica_steps.specs.Configurations.{SilicaProgram, Ends, plain_end, Rest, Waiting, Control, runs, leaves, Configuration, Next, goes, ended, aborted, abort, stuck}
 use Rattle.ob_silica_steps.specs.Here.{Here, here, goes_to, if_there, with_unit, self, field_of, read, counted, set_slot, set_field, set_permission, hand}
 use Rattle.ob_silica_steps.specs.Converting.{converted, got_from}
 use Rattle.ob_silica_steps.specs.Binding.{Bound, unbound, bind_all, without_field_loans, parameters, all_parameters}
@@ -41,7 +41,7 @@ operate operator x y = between operator x y
 -- what follows an operation of this line
 abbrev pub with_operated : ℕ → World → Operated → (Value → Next) → Next
 with_operated line w (operated v) go = go v
-with_operated line w overflows go = aborted (by_overflow line) w
+with_operated line w overflows go = abort (by_overflow line) w
 with_operated line w other_kinds go = stuck
 
 -- what follows a truth
@@ -169,7 +169,7 @@ act program (drop_form k) rest outer c = goes_to c (set_slot k None (here c)) (r
 act program (return_form place) rest outer c = return_step program (option_map located place) outer c
 act program (revert_form text) rest outer c =
     if_there (read program.table (here c) (located text)) (λ x.
-    with_text x.value (λ bytes. aborted (by_revert bytes) c.world))
+    with_text x.value (λ bytes. abort (by_revert bytes) c.world))
 act program bad_row_form rest outer c = stuck
 
 -- Steps.

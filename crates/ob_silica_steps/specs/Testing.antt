@@ -14,7 +14,7 @@ use Rattle.ob_content.specs.Worlds.{World, read_object, by_state}
 use Rattle.ob_content.specs.Marks.{is_locked, is_in_progress, lock, unlock}
 use Rattle.ob_silica.specs.Terms.{SilicaTerms}
 use Rattle.ob_silica_steps.specs.Cells.{Location, Cell, this, same_location}
-use Rattle.ob_silica_steps.specs.Configurations.{Ends, plain_end, test_end, lock_end, Rest, runs, Configuration, Next, aborted, stuck}
+use Rattle.ob_silica_steps.specs.Configurations.{Ends, plain_end, test_end, lock_end, Rest, runs, Configuration, Next, abort, stuck}
 use Rattle.ob_silica_steps.specs.Here.{Here, here, goes_to, if_there, read, set_permission}
 use Rattle.ob_silica_steps.specs.Changing.{is_locked_out}
 
@@ -62,7 +62,7 @@ test_this_as unowned c h t x holds = tells c h t x holds
 -- in a share-entered frame a locked object aborts
 abbrev pub test_this : Configuration → Here → Tested → Cell → ℕ → Bool → Next
 test_this c h t x n holds =
-    if is_locked_out c.frame h then aborted (by_state n None) h.world else test_this_as x.note.permission c h t x holds
+    if is_locked_out c.frame h then abort (by_state n None) h.world else test_this_as x.note.permission c h t x holds
 
 -- a test of another place whose object is marked as shared locks it in the branch that holds
 abbrev pub test_shared : Configuration → Here → Tested → ℕ → Bool → Next
@@ -74,7 +74,7 @@ test_shared c h t n false = into_branch c h t false plain_end
 abbrev pub test_other : Configuration → Here → Tested → Cell → ℕ → Object → Bool → Next
 test_other c h t x n o holds =
     if o.shared
-    then (if is_locked h.world n || is_in_progress h.world n then aborted (by_state n None) h.world else test_shared c h t n holds)
+    then (if is_locked h.world n || is_in_progress h.world n then abort (by_state n None) h.world else test_shared c h t n holds)
     else tells c h t x holds
 
 -- `this`, or another place
