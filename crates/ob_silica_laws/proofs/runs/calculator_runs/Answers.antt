@@ -1,0 +1,16 @@
+-- The runs are computed.
+use Rattle.std.proofs.Common.{refl}
+use Rattle.ob_perm.specs.States.{states_max}
+use Rattle.ob_perm.specs.Masks.{states_of}
+use Rattle.ob_silica_laws.proofs.runs.calculator_runs.Goals as goal
+
+pub returns : goal.returns
+unfolding states_max states_of
+returns c = record {
+  least = refl;
+  zero = refl;
+  quotient = refl;
+  remainder = refl;
+  none_left = refl;
+  left_first = refl;
+}

@@ -1,0 +1,6 @@
+pub mod Spelled
+pub mod Vending
+pub mod Lights
+pub mod CallingBack
+pub mod Calculator
+pub mod Laws
