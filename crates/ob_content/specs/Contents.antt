@@ -5,6 +5,7 @@ use Rattle.std.specs.Ordering.{nat_cmp, ordering_then}
 use Rattle.std.specs.Cmp.Lexicographic.{slice_cmp}
 use Rattle.std.specs.declared.cmp.Ordering.{Ordering}
 use Rattle.std.specs.declared.cmp.Ordering.TheVariants.{Less}
+use Rattle.ob_base.specs.Numbers.{is_int}
 use Rattle.ob_base.specs.Names.{is_label, is_text}
 use Rattle.ob_base.specs.declared.id.StateId.{StateId}
 use Rattle.ob_base.specs.declared.permission.Mode.{Mode}
@@ -12,7 +13,7 @@ use Rattle.ob_table.specs.Tables.{ClassTable, contract_at}
 use Rattle.ob_table.specs.declared.contract.Contract.{Contract}
 use Rattle.ob_table.specs.declared.contract.Kind.{Kind}
 use Rattle.ob_table.specs.declared.contract.Kind.TheVariants.{Int, Bool as BoolKind, Text, Reference}
-use Rattle.ob_content.specs.Values.{Value, int_value, bool_value, text_value, reference, is_int}
+use Rattle.ob_content.specs.Values.{Value, int_value, bool_value, text_value, reference}
 use Rattle.ob_content.specs.Objects.{Object, has_field}
 
 -- the name of a handle: the client's, and the client's name for it

@@ -20,46 +20,57 @@ use Rattle.ob_meaning_laws.proofs.Alike.{Alike, later, alike_gives, alike_here, 
 use Rattle.ob_meaning_laws.proofs.StatementParts.{all_alike}
 
 module _ (m : ℕ) (c d : Calls) (called : CallsAlike m c d) where
-  body_alike : (f : Frame) (tx : TxId) (s : Signature) (args : List Value) (w : World) → w.fuel < m → Alike w (run_body c f tx s args w) (run_body d f tx s args w)
+  body_alike : (f : Frame) (tx : TxId) (s : Signature) (args : List Value) (w : World) → w.fuel < m
+      → Alike w (run_body c f tx s args w) (run_body d f tx s args w)
   body_alike f tx s args w lt =
       alike_some (body_at f.table f.here tx) _ _
       (λ body. alike_then m _ _ (all_alike m c d called f body.statements (first_locals s.params args) w lt) lt
       (λ flow w1 lt1. alike_right (may_return f.table w1.objects f.here s f.this args (result_of flow)) (alike_here w1 _)))
 
-  transaction_alike : (f : Frame) (tx : TxId) (s : Signature) (args : List Value) (w : World) → w.fuel < m → Alike w (run_transaction c f tx s args w) (run_transaction d f tx s args w)
+  transaction_alike : (f : Frame) (tx : TxId) (s : Signature) (args : List Value) (w : World) → w.fuel < m
+      → Alike w (run_transaction c f tx s args w) (run_transaction d f tx s args w)
   transaction_alike f tx s args w lt =
       alike_then m _ _ (body_alike f tx s args w lt) lt (λ r w1 lt1. alike_gives _ (follows_result w1 s.result r))
 
-  on_alike : (f : Frame) (tx : TxId) (s : Signature) (args : List Value) (w : World) → w.fuel < m → Alike w (run_on c f tx s args w) (run_on d f tx s args w)
+  on_alike : (f : Frame) (tx : TxId) (s : Signature) (args : List Value) (w : World) → w.fuel < m
+      → Alike w (run_on c f tx s args w) (run_on d f tx s args w)
   on_alike f tx s args w lt =
       alike_right (may_begin f.table w.objects f.here s f.this args)
       (ends_progress f.this (transaction_alike f tx s args (enter f.this w) lt))
 
-  dispatch_alike : (table : ClassTable) (n : ℕ) (declared : ContractId) (tx : TxId) (asked : Signature) (args : List Value) (w : World) → w.fuel < m → Alike w (dispatch table c n declared tx asked args w) (dispatch table d n declared tx asked args w)
+  dispatch_alike : (table : ClassTable) (n : ℕ) (declared : ContractId) (tx : TxId) (asked : Signature) (args : List Value) (w : World)
+      → w.fuel < m
+      → Alike w (dispatch table c n declared tx asked args w) (dispatch table d n declared tx asked args w)
   dispatch_alike table n declared tx asked args w lt =
       alike_object w n _ _
       (λ o. alike_some (contract_at table o.contract) _ _
       (λ own. alike_some (answering declared tx asked o.contract own) _ _
       (λ t. alike_some (signature_at own t) _ _ (λ s. on_alike (entered table n o own s) t s args w lt))))
 
-  called_alike : (table : ClassTable) (n : ℕ) (declared : ContractId) (tx : TxId) (asked : Signature) (args : List Value) (w : World) → w.fuel < m → Alike w (call_after_unit table c n declared tx asked args w) (call_after_unit table d n declared tx asked args w)
+  called_alike : (table : ClassTable) (n : ℕ) (declared : ContractId) (tx : TxId) (asked : Signature) (args : List Value) (w : World)
+      → w.fuel < m
+      → Alike w (call_after_unit table c n declared tx asked args w) (call_after_unit table d n declared tx asked args w)
   called_alike table n declared tx asked args w lt =
       let f = follows_read_object w n in
       later f
       (alike_unless (is_in_progress (read_object w n) n) (by_reentry n)
       (dispatch_alike table n declared tx asked args (read_object w n) (omega (arith, f.fuel, lt))))
 
-  this_alike : (f : Frame) (tx : TxId) (s : Signature) (args : List Value) (w : World) → w.fuel < m → Alike w (call_on_this c f tx s args w) (call_on_this d f tx s args w)
+  this_alike : (f : Frame) (tx : TxId) (s : Signature) (args : List Value) (w : World) → w.fuel < m
+      → Alike w (call_on_this c f tx s args w) (call_on_this d f tx s args w)
   this_alike f tx s args w lt =
       alike_right (may_begin f.table w.objects f.here s f.this args) (transaction_alike f tx s args w lt)
 
-  construct_alike : (f : Frame) (s : Signature) (args : List Value) (w : World) → w.fuel < m → Alike w (construct c f s args w) (construct d f s args w)
+  construct_alike : (f : Frame) (s : Signature) (args : List Value) (w : World) → w.fuel < m
+      → Alike w (construct c f s args w) (construct d f s args w)
   construct_alike f s args w lt =
       alike_then m _ _ (body_alike f _ s args w lt) lt
       (λ r w1 lt1. alike_object w1 f.this _ _
       (λ o. alike_right (is_finished f.own o) (alike_gives _ (follows_this w1 f.here s.exit f.this))))
 
-  new_alike : (table : ClassTable) (contract : ContractId) (own : Contract) (s : Signature) (args : List Value) (w : World) → w.fuel < m → Alike w (new_after_unit table c contract own s args w) (new_after_unit table d contract own s args w)
+  new_alike : (table : ClassTable) (contract : ContractId) (own : Contract) (s : Signature) (args : List Value) (w : World)
+      → w.fuel < m
+      → Alike w (new_after_unit table c contract own s args w) (new_after_unit table d contract own s args w)
   new_alike table contract own s args w lt =
       later (follows_read w next_item)
       (alike_unless (nat_le objects_most (length w.objects)) by_full
@@ -70,7 +81,8 @@ module _ (m : ℕ) (c d : Calls) (called : CallsAlike m c d) where
       w1 : World
       w1 = with_read w next_item
 
-  each_alike : (table : ClassTable) (callee : Callee) (args : List Value) (w : World) → w.fuel ≤ m → Alike w (call_with table c callee args w) (call_with table d callee args w)
+  each_alike : (table : ClassTable) (callee : Callee) (args : List Value) (w : World) → w.fuel ≤ m
+      → Alike w (call_with table c callee args w) (call_with table d callee args w)
   each_alike table (of_object n declared tx) args w le =
       alike_some (signature_of table declared tx) _ _
       (λ asked. let f = follows_in w declared asked n args in
@@ -112,7 +124,8 @@ nothing_alike : (c d : Calls) → CallsAlike 0 c d
 nothing_alike c d = record { by = λ callee args w lt. absurd (omega (arith, lt)) }
 
 -- calls of two depths, where no more units are left than the less deep one is deep
-pub deeper_alike : (table : ClassTable) (depth deeper : ℕ) → depth ≤ deeper → CallsAlike (suc depth) (call_at table depth) (call_at table deeper)
+pub deeper_alike : (table : ClassTable) (depth deeper : ℕ) → depth ≤ deeper
+    → CallsAlike (suc depth) (call_at table depth) (call_at table deeper)
 deeper_alike table zero zero le = calls_alike table 0 1
 deeper_alike table zero (suc deeper) le =
     with_alike 0 no_calls (call_at table deeper) (nothing_alike no_calls (call_at table deeper)) table

@@ -131,7 +131,8 @@ follows_set w k o = record {
   progress = refl;
 }
 
-edit_some : (w : World) (f : Object → Object) (n : ℕ) (o : Option Object) → Follows w (option_map_or (λ x. set_object w n (f x)) o w)
+edit_some : (w : World) (f : Object → Object) (n : ℕ) (o : Option Object)
+    → Follows w (option_map_or (λ x. set_object w n (f x)) o w)
 edit_some w f n None = follows_self w
 edit_some w f n (Some o) = follows_set w n (f o)
 

@@ -45,7 +45,8 @@ follows_into w Int v = follows_self w
 follows_into w BoolKind v = follows_self w
 follows_into w Text v = follows_self w
 
-field_some : (w : World) (v : Value) (f : Option Field) → Follows w (option_map_or (λ (field : Field). comes_into field.of v w) f w)
+field_some : (w : World) (v : Value) (f : Option Field)
+    → Follows w (option_map_or (λ (field : Field). comes_into field.of v w) f w)
 field_some w v None = follows_self w
 field_some w v (Some f) = follows_into w f.of v
 
@@ -66,7 +67,8 @@ follows_args w (p ∷ params) (v ∷ args) =
 pub follows_this : (w : World) (contract : ContractId) (p : Perm) (n : ℕ) → Follows w (this_comes contract p n w)
 follows_this w contract p n = marked_if (is_shared p.mode) w n
 
-pub follows_in : (w : World) (contract : ContractId) (s : Signature) (n : ℕ) (args : List Value) → Follows w (comes_in contract s n args w)
+pub follows_in : (w : World) (contract : ContractId) (s : Signature) (n : ℕ) (args : List Value)
+    → Follows w (comes_in contract s n args w)
 follows_in w contract s n args =
     follows_on (follows_args w s.params args) (follows_this (args_come s.params args w) contract s.entry n)
 

@@ -24,25 +24,29 @@ use Rattle.ob_meaning_laws.proofs.ExpressionParts.{value_alike, operand_of_alike
 
 -- Parts without calls.
 
-field_assigned : (f : Frame) (k : ℕ) (v : Value) (ls : Locals) (w : World) → Alike w (assign_field f k v ls w) (assign_field f k v ls w)
+field_assigned : (f : Frame) (k : ℕ) (v : Value) (ls : Locals) (w : World)
+    → Alike w (assign_field f k v ls w) (assign_field f k v ls w)
 field_assigned f k v ls w =
     alike_object w f.this _ _
     (λ o. alike_right (is_assignable f.own o k)
     (alike_gives _ (follows_on (follows_field w f.own k v) (follows_edit (comes_into_field f.own k v w) (with_field k v) f.this))))
 
-assigned : (f : Frame) (seen : Seen) (v : Value) (ls : Locals) (w : World) → Alike w (assign f seen v ls w) (assign f seen v ls w)
+assigned : (f : Frame) (seen : Seen) (v : Value) (ls : Locals) (w : World)
+    → Alike w (assign f seen v ls w) (assign f seen v ls w)
 assigned f This v ls w = alike_wrong w
 assigned f (Local n) v ls w = alike_some (ls.variables n) _ _ (λ x. alike_here w _)
 assigned f (FieldSeen id) v ls w = field_assigned f id.0 v ls w
 
-moved : (f : Frame) (s : StateId) (given : List (ℕ × Value)) (ls : Locals) (w : World) → Alike w (move_this f s given ls w) (move_this f s given ls w)
+moved : (f : Frame) (s : StateId) (given : List (ℕ × Value)) (ls : Locals) (w : World)
+    → Alike w (move_this f s given ls w) (move_this f s given ls w)
 moved f s given ls w =
     alike_right (list_all (λ g. is_givable f.own s g.0) given)
     (alike_object (edit_object (moved_to f.own s given) f.this (come_into_fields f.own given w)) f.this _ _
     (λ o. alike_right (has_all_values f.own o)
     (alike_gives _ (follows_on (follows_fields w f.own given) (follows_edit (come_into_fields f.own given w) (moved_to f.own s given) f.this)))))
 
-changed : (f : Frame) (s : StateId) (given : List Given) (ls : Locals) (w : World) → Alike w (change_state f s given ls w) (change_state f s given ls w)
+changed : (f : Frame) (s : StateId) (given : List Given) (ls : Locals) (w : World)
+    → Alike w (change_state f s given ls w) (change_state f s given ls w)
 changed f s given ls w =
     alike_some (values_given f ls w given) _ _
     (λ values. alike_unless (f.share_entered && is_locked w f.this) (by_state f.this None) (moved f s values ls w))
@@ -53,18 +57,21 @@ this_tested f s w =
     (alike_unless (f.share_entered && is_locked (read_object w f.this) f.this) (by_state f.this None)
     (alike_object (read_object w f.this) f.this _ _ (λ o. alike_here (read_object w f.this) _)))
 
-object_tested : (f : Frame) (declared : ContractId) (s : StateId) (n : ℕ) (w : World) → Alike w (test_object f declared s n w) (test_object f declared s n w)
+object_tested : (f : Frame) (declared : ContractId) (s : StateId) (n : ℕ) (w : World)
+    → Alike w (test_object f declared s n w) (test_object f declared s n w)
 object_tested f declared s n w =
     later (follows_read_object w n)
     (alike_object (read_object w n) n _ _
     (λ o. alike_unless (is_barred (read_object w n) n o) (by_state n None) (alike_here (read_object w n) _)))
 
-other_tested : (f : Frame) (ls : Locals) (seen : Seen) (s : StateId) (w : World) → Alike w (test_other f ls seen s w) (test_other f ls seen s w)
+other_tested : (f : Frame) (ls : Locals) (seen : Seen) (s : StateId) (w : World)
+    → Alike w (test_other f ls seen s w) (test_other f ls seen s w)
 other_tested f ls seen s w =
     alike_some (object_seen f ls w seen) _ _
     (λ n. alike_some (contract_seen f ls seen) _ _ (λ declared. object_tested f declared s n w))
 
-tested : (f : Frame) (ls : Locals) (seen : Seen) (s : StateId) (w : World) → Alike w (test_seen f ls seen s w) (test_seen f ls seen s w)
+tested : (f : Frame) (ls : Locals) (seen : Seen) (s : StateId) (w : World)
+    → Alike w (test_seen f ls seen s w) (test_seen f ls seen s w)
 tested f ls This s w = this_tested f s w
 tested f ls (Local n) s w = other_tested f ls (Local n) s w
 tested f ls (FieldSeen id) s w = other_tested f ls (FieldSeen id) s w
@@ -75,7 +82,8 @@ text_aborts (int_value z) w = alike_wrong w
 text_aborts (bool_value b) w = alike_wrong w
 text_aborts (reference n) w = alike_wrong w
 
-chosen : {w : World} (v : Value) {o p x y : Outcome Flow} → Alike w o p → Alike w x y → Alike w (choose v o x) (choose v p y)
+chosen : {w : World} (v : Value) {o p x y : Outcome Flow} → Alike w o p → Alike w x y
+    → Alike w (choose v o x) (choose v p y)
 chosen (bool_value true) a b = a
 chosen (bool_value false) a b = b
 chosen {w = w} (int_value z) a b = alike_wrong w
@@ -85,26 +93,33 @@ chosen {w = w} (reference n) a b = alike_wrong w
 -- Statements.
 
 module _ (m : ℕ) (c d : Calls) (called : CallsAlike m c d) (f : Frame) where
-  given_alike : (gs : List GivenField) (ls : Locals) (w : World) → w.fuel < m → Alike w (given_of c f gs ls w) (given_of d f gs ls w)
+  given_alike : (gs : List GivenField) (ls : Locals) (w : World) → w.fuel < m
+      → Alike w (given_of c f gs ls w) (given_of d f gs ls w)
   given_alike [] ls w lt = alike_here w []
   given_alike (g ∷ gs) ls w lt =
       alike_then m _ _ (operand_of_alike m c d called f g.value ls w lt) lt
       (λ x w1 lt1. alike_then m _ _ (given_alike gs ls w1 lt1) lt1 (λ xs w2 lt2. alike_here w2 _))
 
-  returned : (e : Option Expression) (ls : Locals) (w : World) → w.fuel < m → Alike w (return_with c f e ls w) (return_with d f e ls w)
+  returned : (e : Option Expression) (ls : Locals) (w : World) → w.fuel < m
+      → Alike w (return_with c f e ls w) (return_with d f e ls w)
   returned None ls w lt = alike_here w _
   returned (Some e) ls w lt = alike_then m _ _ (value_alike m c d called f e ls w lt) lt (λ v w1 lt1. alike_here w1 _)
 
-  reverted : (e : Option Expression) (ls : Locals) (w : World) → w.fuel < m → Alike w (revert_with c f e ls w) (revert_with d f e ls w)
+  reverted : (e : Option Expression) (ls : Locals) (w : World) → w.fuel < m
+      → Alike w (revert_with c f e ls w) (revert_with d f e ls w)
   reverted None ls w lt = alike_aborts w _
   reverted (Some e) ls w lt = alike_then m _ _ (value_alike m c d called f e ls w lt) lt (λ v w1 lt1. text_aborts v w1)
 
-  branched : (t : Tested) (w : World) (o p x y : World → Outcome Flow) → w.fuel < m → ((v : World) → v.fuel < m → Alike v (o v) (p v)) → ((v : World) → v.fuel < m → Alike v (x v) (y v)) → Alike w (branch t w o x) (branch t w p y)
+  branched : (t : Tested) (w : World) (o p x y : World → Outcome Flow) → w.fuel < m
+      → ((v : World) → v.fuel < m → Alike v (o v) (p v)) → ((v : World) → v.fuel < m → Alike v (x v) (y v))
+      → Alike w (branch t w o x) (branch t w p y)
   branched holds w o p x y lt a b = a w lt
   branched (holds_locking n) w o p x y lt a b = ends_lock n (a (lock n w) lt)
   branched fails w o p x y lt a b = b w lt
 
-  after_alike : (flow : Flow) (w : World) (o p : Locals → World → Outcome Flow) → w.fuel < m → ((ls : Locals) (v : World) → v.fuel < m → Alike v (o ls v) (p ls v)) → Alike w (after flow w o) (after flow w p)
+  after_alike : (flow : Flow) (w : World) (o p : Locals → World → Outcome Flow) → w.fuel < m
+      → ((ls : Locals) (v : World) → v.fuel < m → Alike v (o ls v) (p ls v))
+      → Alike w (after flow w o) (after flow w p)
   after_alike (goes_on ls) w o p lt a = a ls w lt
   after_alike (returns result) w o p lt a = alike_here w _
 
@@ -140,14 +155,17 @@ module _ (m : ℕ) (c d : Calls) (called : CallsAlike m c d) (f : Frame) where
         (λ w0 lt0. alike_some (object_seen f ls w0 subject.of) _ _ (λ n. alike_gives _ (follows_mark_disowned w0 n)))
     run_alike (resolved_assert subject perm span) ls w lt = alike_unit m w _ _ lt (λ w0 lt0. alike_here w0 _)
 
-    pub block_alike : (b : Block) (ls : Locals) (w : World) → w.fuel < m → Alike w (run_block c f b ls w) (run_block d f b ls w)
+    pub block_alike : (b : Block) (ls : Locals) (w : World) → w.fuel < m
+        → Alike w (run_block c f b ls w) (run_block d f b ls w)
     block_alike (resolved_block ss end) ls w lt = all_alike ss ls w lt
 
-    pub otherwise_alike : (b : Otherwise) (ls : Locals) (w : World) → w.fuel < m → Alike w (run_otherwise c f b ls w) (run_otherwise d f b ls w)
+    pub otherwise_alike : (b : Otherwise) (ls : Locals) (w : World) → w.fuel < m
+        → Alike w (run_otherwise c f b ls w) (run_otherwise d f b ls w)
     otherwise_alike no_otherwise ls w lt = alike_here w _
     otherwise_alike (otherwise_block b) ls w lt = block_alike b ls w lt
 
-    pub all_alike : (ss : Statements) (ls : Locals) (w : World) → w.fuel < m → Alike w (run_all c f ss ls w) (run_all d f ss ls w)
+    pub all_alike : (ss : Statements) (ls : Locals) (w : World) → w.fuel < m
+        → Alike w (run_all c f ss ls w) (run_all d f ss ls w)
     all_alike no_statements ls w lt = alike_here w _
     all_alike (and_statement s ss) ls w lt =
         alike_right (is_followed s ss)

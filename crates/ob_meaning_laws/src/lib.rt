@@ -1,69 +1,63 @@
 //! Laws of what bodies do, and what the bodies of a few small programs do.
 #![tactic(auto)]
 
-ghost use Rattle.std.specs.Prelude.{◌≡◌, ℕ, ◌≤◌, pos, negsuc, List, Some, IsTrue};
+ghost use Rattle.std.specs.Prelude.{◌≡◌, pos, negsuc, List};
 ghost use Rattle.ob_table.specs.Expressions.{Expression};
-ghost use Rattle.ob_base.specs.declared.id.TxId.{TxId};
-ghost use Rattle.ob_table.specs.Statements.{Statement, Statements, and_statement, ResolvedBody};
-ghost use Rattle.ob_table.specs.Tables.{ClassTable, body_at};
-ghost use Rattle.ob_table.specs.declared.contract.Signature.{Signature};
+ghost use Rattle.ob_table.specs.Statements.{Statements};
+ghost use Rattle.ob_table.specs.Tables.{ClassTable};
 ghost use Rattle.ob_content.specs.Values.{Value};
-ghost use Rattle.ob_content.specs.Worlds.{World, Cause, Spent, aborts};
-ghost use Rattle.ob_meaning.specs.Frames.{Frame, Locals, first_locals, Callee, Calls};
-ghost use Rattle.ob_meaning.specs.GoingWrong.{is_followed};
+ghost use Rattle.ob_meaning.specs.Frames.{Frame, Locals, Callee};
 ghost use Rattle.ob_meaning.specs.Expressions.{value_of};
-ghost use Rattle.ob_meaning.specs.Statements.{run, run_all};
-ghost use Rattle.ob_meaning.specs.Bodies.{run_body};
+ghost use Rattle.ob_meaning.specs.Statements.{run_all};
 ghost use Rattle.ob_meaning.specs.Calls.{call_at};
-ghost use Rattle.ob_meaning_laws.specs.Laws.{UnitsAddUp, ReadsGrow, OthersStay, LocksEnd, objects_after};
+ghost use Rattle.ob_meaning_laws.specs.Laws.{OfCalls, OfExpressions, OfStatements, UnitsAddUp, ReadsGrow, OthersStay, LocksEnd, DepthIsEnough, AbortEndsStatements, AbortEndsBody, AbortKeepsObjects};
 ghost use Rattle.ob_meaning_laws.specs.Written.{told};
 ghost use Rattle.ob_meaning_laws.specs.VendingMachine.{candy_bought, one_sold, out_of_units};
 ghost use Rattle.ob_meaning_laws.specs.Lights.{lights, flipped_under_test, flip_aborted, made_after_abort, second_light};
 ghost use Rattle.ob_meaning_laws.specs.Reentry.{round, round_aborted, direct, direct_gives_seven};
 ghost use Rattle.ob_meaning_laws.specs.Arithmetic.{calculated, gives_int, overflows_on, least_int};
 
-/// Units left and units taken add up to those that were there, for each call, expression and list of statements; an aborted
-/// run has taken no more than were there.
+/// Units left and units taken add up to those that were there; an aborted run has taken no more than were there.
 pub fn units_add_up()
-    ensures calls { (table : ClassTable) (depth : ℕ) (callee : Callee) (args : List Value) (w : World) → UnitsAddUp w (call_at table depth callee args w) }
-    ensures expressions { (table : ClassTable) (depth : ℕ) (f : Frame) (e : Expression) (ls : Locals) (w : World) → UnitsAddUp w (value_of (call_at table depth) f e ls w) }
-    ensures statements { (table : ClassTable) (depth : ℕ) (f : Frame) (ss : Statements) (ls : Locals) (w : World) → UnitsAddUp w (run_all (call_at table depth) f ss ls w) }
+    ensures calls { OfCalls UnitsAddUp }
+    ensures expressions { OfExpressions UnitsAddUp }
+    ensures statements { OfStatements UnitsAddUp }
 {}
 
 /// Where no more units are left than calls may be deep, a greater depth changes nothing.
 pub fn depth_is_enough()
-    ensures calls { (table : ClassTable) (depth deeper : ℕ) (callee : Callee) (args : List Value) (w : World) → w.fuel ≤ depth → depth ≤ deeper → call_at table depth callee args w ≡ call_at table deeper callee args w }
-    ensures expressions { (table : ClassTable) (depth deeper : ℕ) (f : Frame) (e : Expression) (ls : Locals) (w : World) → w.fuel ≤ depth → depth ≤ deeper → value_of (call_at table depth) f e ls w ≡ value_of (call_at table deeper) f e ls w }
-    ensures statements { (table : ClassTable) (depth deeper : ℕ) (f : Frame) (ss : Statements) (ls : Locals) (w : World) → w.fuel ≤ depth → depth ≤ deeper → run_all (call_at table depth) f ss ls w ≡ run_all (call_at table deeper) f ss ls w }
+    ensures calls { (table : ClassTable) (callee : Callee) (args : List Value) → DepthIsEnough (λ depth w. call_at table depth callee args w) }
+    ensures expressions { (table : ClassTable) (f : Frame) (e : Expression) (ls : Locals) → DepthIsEnough (λ depth w. value_of (call_at table depth) f e ls w) }
+    ensures statements { (table : ClassTable) (f : Frame) (ss : Statements) (ls : Locals) → DepthIsEnough (λ depth w. run_all (call_at table depth) f ss ls w) }
 {}
 
 /// What was read stays read, also where the run aborts.
 pub fn reads_grow()
-    ensures calls { (table : ClassTable) (depth : ℕ) (callee : Callee) (args : List Value) (w : World) → ReadsGrow w (call_at table depth callee args w) }
-    ensures expressions { (table : ClassTable) (depth : ℕ) (f : Frame) (e : Expression) (ls : Locals) (w : World) → ReadsGrow w (value_of (call_at table depth) f e ls w) }
-    ensures statements { (table : ClassTable) (depth : ℕ) (f : Frame) (ss : Statements) (ls : Locals) (w : World) → ReadsGrow w (run_all (call_at table depth) f ss ls w) }
+    ensures calls { OfCalls ReadsGrow }
+    ensures expressions { OfExpressions ReadsGrow }
+    ensures statements { OfStatements ReadsGrow }
 {}
 
 /// What a run doesn't set or make stays, and what it makes comes behind all that was there.
 pub fn others_stay()
-    ensures calls { (table : ClassTable) (depth : ℕ) (callee : Callee) (args : List Value) (w : World) → OthersStay w (call_at table depth callee args w) }
-    ensures expressions { (table : ClassTable) (depth : ℕ) (f : Frame) (e : Expression) (ls : Locals) (w : World) → OthersStay w (value_of (call_at table depth) f e ls w) }
-    ensures statements { (table : ClassTable) (depth : ℕ) (f : Frame) (ss : Statements) (ls : Locals) (w : World) → OthersStay w (run_all (call_at table depth) f ss ls w) }
+    ensures calls { OfCalls OthersStay }
+    ensures expressions { OfExpressions OthersStay }
+    ensures statements { OfStatements OthersStay }
 {}
 
 /// Locks, and transactions in progress, end with the part of the run that began them.
 pub fn locks_end()
-    ensures calls { (table : ClassTable) (depth : ℕ) (callee : Callee) (args : List Value) (w : World) → LocksEnd w (call_at table depth callee args w) }
-    ensures expressions { (table : ClassTable) (depth : ℕ) (f : Frame) (e : Expression) (ls : Locals) (w : World) → LocksEnd w (value_of (call_at table depth) f e ls w) }
-    ensures statements { (table : ClassTable) (depth : ℕ) (f : Frame) (ss : Statements) (ls : Locals) (w : World) → LocksEnd w (run_all (call_at table depth) f ss ls w) }
+    ensures calls { OfCalls LocksEnd }
+    ensures expressions { OfExpressions LocksEnd }
+    ensures statements { OfStatements LocksEnd }
 {}
 
-/// An abort of a statement ends its block, and that of a block its body, with the cause and what was spent alone; no world is
-/// told, and the objects are those from before.
+/// An abort of a statement ends its block, and that of a block its body, with the cause and what was spent alone: it
+/// tells of no world, and the objects are those from before.
 pub fn aborts_leave_nothing()
-    ensures statements { (calls : Calls) (f : Frame) (s : Statement) (ss : Statements) (ls : Locals) (w : World) (cause : Cause) (t : Spent) → IsTrue (is_followed s ss) → run calls f s ls w ≡ aborts cause t → run_all calls f (and_statement s ss) ls w ≡ aborts cause t }
-    ensures bodies { (calls : Calls) (f : Frame) (tx : TxId) (s : Signature) (args : List Value) (w : World) (cause : Cause) (t : Spent) (body : ResolvedBody) → body_at f.table f.here tx ≡ Some body → run_all calls f body.statements (first_locals s.params args) w ≡ aborts cause t → run_body calls f tx s args w ≡ aborts cause t }
-    ensures objects { (table : ClassTable) (depth : ℕ) (callee : Callee) (args : List Value) (w : World) (cause : Cause) (t : Spent) → call_at table depth callee args w ≡ aborts cause t → objects_after w.objects (call_at table depth callee args w) ≡ w.objects }
+    ensures statements { AbortEndsStatements }
+    ensures bodies { AbortEndsBody }
+    ensures objects { OfCalls AbortKeepsObjects }
 {}
 
 /// The vending machine sells a candy for a coin with 6 units, and aborts with 5.
@@ -72,7 +66,8 @@ pub fn vending_machine_sells_one_candy()
     ensures too_few { candy_bought 5 ≡ out_of_units }
 {}
 
-/// A shared light that is flipped under its test aborts the run, and the number of what that run made is the next one again.
+/// A shared light that is flipped under its test aborts the run, and the number of what that run made is the next one
+/// again.
 pub fn flip_under_test_aborts()
     ensures flip { told lights flipped_under_test ≡ flip_aborted }
     ensures next_number { told lights made_after_abort ≡ second_light }
@@ -84,8 +79,8 @@ pub fn call_back_aborts()
     ensures direct { direct ≡ direct_gives_seven }
 {}
 
-/// A quotient that is no `int` aborts with the line of its operator, the left one of two; else a quotient is rounded toward
-/// zero, and a remainder has the sign of the dividend.
+/// A quotient that is no `int` aborts with the line of its operator, the left one of two; else a quotient is rounded
+/// toward zero, and a remainder has the sign of the dividend.
 pub fn division_overflows()
     ensures least_by_minus_one { calculated 1 least_int (negsuc 0) ≡ overflows_on 2 }
     ensures by_zero { calculated 1 (pos 7) (pos 0) ≡ overflows_on 2 }

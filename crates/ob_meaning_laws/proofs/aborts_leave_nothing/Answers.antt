@@ -10,13 +10,16 @@ use Rattle.ob_meaning.specs.Statements.{run, run_all}
 use Rattle.ob_meaning_laws.specs.Laws.{objects_after}
 use Rattle.ob_meaning_laws.proofs.aborts_leave_nothing.Goals as goal
 
-then_aborts : {A B : Type 0} (o : Outcome A) (go : A → World → Outcome B) {cause : Cause} {t : Spent} → o ≡ aborts cause t → (o >>= go) ≡ aborts cause t
+then_aborts : {A B : Type 0} (o : Outcome A) (go : A → World → Outcome B) {cause : Cause} {t : Spent}
+    → o ≡ aborts cause t → (o >>= go) ≡ aborts cause t
 then_aborts o go e = ap (λ p. p >>= go) e
 
-right_aborts : {A : Type 0} (b : Bool) (o : Outcome A) {cause : Cause} {t : Spent} → b ≡ true → o ≡ aborts cause t → if_right b o ≡ aborts cause t
+right_aborts : {A : Type 0} (b : Bool) (o : Outcome A) {cause : Cause} {t : Spent} → b ≡ true → o ≡ aborts cause t
+    → if_right b o ≡ aborts cause t
 right_aborts b o held e = rw held e
 
-some_aborts : {A B : Type 0} (x : Option A) (a : A) (f : A → Outcome B) {cause : Cause} {t : Spent} → x ≡ Some a → f a ≡ aborts cause t → with_some x f ≡ aborts cause t
+some_aborts : {A B : Type 0} (x : Option A) (a : A) (f : A → Outcome B) {cause : Cause} {t : Spent} → x ≡ Some a
+    → f a ≡ aborts cause t → with_some x f ≡ aborts cause t
 some_aborts x a f there e = rw there e
 
 pub returns : goal.returns
