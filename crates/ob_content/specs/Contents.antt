@@ -1,5 +1,5 @@
--- What a store holds, and when it is of a class table (this project's own; Coblenz et al., TOPLAS 42(3), 2020, for what an
--- object has).
+-- What a store holds, and when it is of a class table (this project's own; Coblenz et al., TOPLAS 42(3), 2020, for what
+-- an object has).
 use Rattle.std.specs.Prelude.{◌≡◌, ◌↔◌, ℕ, ◌<◌, false, List, [], length, Option, Some, None, slice_get, IsTrue, IsSome, IsSomeAnd, IfSome, All, AllPairs, ⊤}
 use Rattle.std.specs.Ordering.{nat_cmp, ordering_then}
 use Rattle.std.specs.Cmp.Lexicographic.{slice_cmp}
@@ -56,8 +56,8 @@ abbrev pub IsStateOf : Contract → Option StateId → Type 0
 IsStateOf c None = c.states ≡ []
 IsStateOf c (Some s) = s.0 < length c.states
 
--- an object of a contract: a state where it has states, and a value of its kind in each field that is available, and in no
--- other
+-- an object of a contract: a state where it has states, and a value of its kind in each field that is available, and in
+-- no other
 pub record IsObjectOf (objects : List Object) (c : Contract) (o : Object) : Type 0 where
   pub contract : c.interface ≡ false
   pub state : IsStateOf c o.state

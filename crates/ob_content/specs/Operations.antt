@@ -1,5 +1,5 @@
--- What operators give (the Obsidian language documentation, "Expressions"; that a result must be an `int` is this project's
--- own). `&&` and `||` aren't among them where they stop early.
+-- What operators give (the Obsidian language documentation, "Expressions"; that a result must be an `int` is this
+-- project's own). `&&` and `||` aren't among them where they stop early.
 use Rattle.std.specs.Prelude.{ℕ, ℤ, pos, Bool, not, ◌&&◌, ◌||◌, List, ◌+ℤ◌, ◌-ℤ◌, ◌*ℤ◌, neg_ℤ, int_lt, int_le, int_div, int_rem, bytes_eq, if◌then◌else◌}
 use Rattle.std.specs.Ordering.{int_eq}
 use Rattle.ob_base.specs.Numbers.{is_int}

@@ -1,5 +1,5 @@
--- What calls and `new` do (Coblenz et al., TOPLAS 42(3), 2020, "Dynamic semantics"; marks, units, re-entry and the numbers of
--- objects are this project's own).
+-- What calls and `new` do (Coblenz et al., TOPLAS 42(3), 2020, "Dynamic semantics"; marks, units, re-entry and the
+-- numbers of objects are this project's own).
 use Rattle.std.specs.Prelude.{ℕ, zero, suc, false, ◌==◌, nat_le, List, length, position, Option, Some, None, option_map, bytes_eq, if◌then◌else◌}
 use Rattle.ob_base.specs.declared.id.ContractId.{ContractId}
 use Rattle.ob_base.specs.declared.id.TxId.{TxId}

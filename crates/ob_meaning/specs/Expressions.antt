@@ -1,5 +1,5 @@
--- What expressions give, evaluated from left to right (the Obsidian language documentation, "Expressions"; overflow is this
--- project's own).
+-- What expressions give, evaluated from left to right (the Obsidian language documentation, "Expressions"; overflow is
+-- this project's own).
 use Rattle.std.specs.Prelude.{true, false, List, [], ◌∷◌, Option, Some, None, option_map}
 use Rattle.ob_base.specs.declared.fault.Span.{Span}
 use Rattle.ob_base.specs.declared.id.ContractId.{ContractId}

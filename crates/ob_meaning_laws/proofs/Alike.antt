@@ -66,7 +66,8 @@ module _ (m : ℕ) where
   -- a part, and then what follows it
   pub alike_then : {A B : Type 0} {w : World} {o p : Outcome A} (f g : A → World → Outcome B) → Alike w o p
       → w.fuel < m → ((a : A) (v : World) → v.fuel < m → Alike v (f a v) (g a v)) → Alike w (o >>= f) (p >>= g)
-  alike_then {w = w} {o = o} f g a lt k = subst (λ p. Alike w (o >>= f) (p >>= g)) a.same (bind_self o f g a.follows lt k)
+  alike_then {w =
+      w} {o = o} f g a lt k = subst (λ p. Alike w (o >>= f) (p >>= g)) a.same (bind_self o f g a.follows lt k)
 
   fuel_taken : {A : Type 0} (w : World) (n : ℕ) (f g : World → Outcome A) → w.fuel ≡ n → n ≤ m
       → ((v : World) → v.fuel < m → Alike v (f v) (g v)) → Alike w (with_fuel n w f) (with_fuel n w g)
@@ -94,7 +95,12 @@ unlocked_ends w n wrong e = tt
 -- a part under a lock, and then its end
 pub ends_lock : {A : Type 0} {w : World} {o p : Outcome A} (n : ℕ) → Alike (lock n w) o p
     → Alike w (o >>= (λ x v. gives x (unlock n v))) (p >>= (λ x v. gives x (unlock n v)))
-ends_lock {w = w} {o = o} n a = record { follows = unlocked_ends w n o a.follows; same = ap (λ q. q >>= (λ x v. gives x (unlock n v))) a.same }
+ends_lock {w =
+    w} {o = o} n a = record {
+      follows = unlocked_ends w n o a.follows;
+      same = ap (λ q. q >>= (λ x v. gives x
+          (unlock n v))) a.same;
+    }
 
 left_ends : {A : Type 0} (w : World) (n : ℕ) (o : Outcome A) → EndsSo (Follows (enter n w)) (Tells (enter n w)) o
     → EndsSo (Follows w) (Tells w) (o >>= (λ x v. gives x (leave n v)))
@@ -105,7 +111,12 @@ left_ends w n wrong e = tt
 -- a transaction in progress, and then its end
 pub ends_progress : {A : Type 0} {w : World} {o p : Outcome A} (n : ℕ) → Alike (enter n w) o p
     → Alike w (o >>= (λ x v. gives x (leave n v))) (p >>= (λ x v. gives x (leave n v)))
-ends_progress {w = w} {o = o} n a = record { follows = left_ends w n o a.follows; same = ap (λ q. q >>= (λ x v. gives x (leave n v))) a.same }
+ends_progress {w =
+    w} {o = o} n a = record {
+      follows = left_ends w n o a.follows;
+      same = ap (λ q. q >>= (λ x v. gives x
+          (leave n v))) a.same;
+    }
 
 -- calls that mean the same, where fewer than m units are left
 pub record CallsAlike (m : ℕ) (c d : Calls) : Type 0 where

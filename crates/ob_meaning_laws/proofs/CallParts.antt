@@ -25,7 +25,8 @@ module _ (m : ℕ) (c d : Calls) (called : CallsAlike m c d) where
   body_alike f tx s args w lt =
       alike_some (body_at f.table f.here tx) _ _
       (λ body. alike_then m _ _ (all_alike m c d called f body.statements (first_locals s.params args) w lt) lt
-      (λ flow w1 lt1. alike_right (may_return f.table w1.objects f.here s f.this args (result_of flow)) (alike_here w1 _)))
+      (λ flow w1 lt1. alike_right (may_return f.table w1.objects f.here s f.this args (result_of flow))
+      (alike_here w1 _)))
 
   transaction_alike : (f : Frame) (tx : TxId) (s : Signature) (args : List Value) (w : World) → w.fuel < m
       → Alike w (run_transaction c f tx s args w) (run_transaction d f tx s args w)
@@ -38,7 +39,8 @@ module _ (m : ℕ) (c d : Calls) (called : CallsAlike m c d) where
       alike_right (may_begin f.table w.objects f.here s f.this args)
       (ends_progress f.this (transaction_alike f tx s args (enter f.this w) lt))
 
-  dispatch_alike : (table : ClassTable) (n : ℕ) (declared : ContractId) (tx : TxId) (asked : Signature) (args : List Value) (w : World)
+  dispatch_alike : (table : ClassTable) (n : ℕ) (declared : ContractId) (tx : TxId) (asked : Signature)
+      (args : List Value) (w : World)
       → w.fuel < m
       → Alike w (dispatch table c n declared tx asked args w) (dispatch table d n declared tx asked args w)
   dispatch_alike table n declared tx asked args w lt =
@@ -47,9 +49,11 @@ module _ (m : ℕ) (c d : Calls) (called : CallsAlike m c d) where
       (λ own. alike_some (answering declared tx asked o.contract own) _ _
       (λ t. alike_some (signature_at own t) _ _ (λ s. on_alike (entered table n o own s) t s args w lt))))
 
-  called_alike : (table : ClassTable) (n : ℕ) (declared : ContractId) (tx : TxId) (asked : Signature) (args : List Value) (w : World)
+  called_alike : (table : ClassTable) (n : ℕ) (declared : ContractId) (tx : TxId) (asked : Signature)
+      (args : List Value) (w : World)
       → w.fuel < m
-      → Alike w (call_after_unit table c n declared tx asked args w) (call_after_unit table d n declared tx asked args w)
+      → Alike w (call_after_unit table c n declared tx asked args w)
+      (call_after_unit table d n declared tx asked args w)
   called_alike table n declared tx asked args w lt =
       let f = follows_read_object w n in
       later f
@@ -68,7 +72,8 @@ module _ (m : ℕ) (c d : Calls) (called : CallsAlike m c d) where
       (λ r w1 lt1. alike_object w1 f.this _ _
       (λ o. alike_right (is_finished f.own o) (alike_gives _ (follows_this w1 f.here s.exit f.this))))
 
-  new_alike : (table : ClassTable) (contract : ContractId) (own : Contract) (s : Signature) (args : List Value) (w : World)
+  new_alike : (table : ClassTable) (contract : ContractId) (own : Contract) (s : Signature) (args : List Value)
+      (w : World)
       → w.fuel < m
       → Alike w (new_after_unit table c contract own s args w) (new_after_unit table d contract own s args w)
   new_alike table contract own s args w lt =
@@ -76,7 +81,8 @@ module _ (m : ℕ) (c d : Calls) (called : CallsAlike m c d) where
       (alike_unless (nat_le objects_most (length w.objects)) by_full
       (alike_right (may_pass table w.objects s.params args)
       (later (follows_make w1 (unfinished contract))
-      (construct_alike (constructing table (length w.objects) contract own) s args (make_object w1 (unfinished contract)) lt))))
+      (construct_alike (constructing table (length w.objects) contract own) s args (make_object w1
+      (unfinished contract)) lt))))
     where
       w1 : World
       w1 = with_read w next_item

@@ -18,7 +18,7 @@ use Rattle.ob_meaning_laws.proofs.CallParts.{calls_alike, deeper_alike}
 -- what follows from that a world follows another
 pub ends_so : {A : Type 0} (w : World) {P : World → Type 0} {Q : Spent → Type 0} (o : Outcome A)
     → ((v : World) → Follows w v → P v) → ((s : Spent) → Tells w s → Q s) → EndsSo (Follows w) (Tells w) o
-        → EndsSo P Q o
+    → EndsSo P Q o
 ends_so w (gives a v) p q e = p v e
 ends_so w (aborts cause s) p q e = q s e
 ends_so w wrong p q e = tt
@@ -30,7 +30,8 @@ calls_follow table depth callee args w = ((calls_alike table depth (suc w.fuel))
 pub values_follow : (table : ClassTable) (depth : ℕ) (f : Frame) (e : Expression) (ls : Locals) (w : World)
     → EndsSo (Follows w) (Tells w) (value_of (call_at table depth) f e ls w)
 values_follow table depth f e ls w =
-    (value_alike (suc w.fuel) (call_at table depth) (call_at table depth) (calls_alike table depth (suc w.fuel)) f e ls w
+    (value_alike (suc w.fuel) (call_at table depth) (call_at table depth) (calls_alike table depth
+    (suc w.fuel)) f e ls w
     (omega arith)).follows
 
 pub bodies_follow : (table : ClassTable) (depth : ℕ) (f : Frame) (ss : Statements) (ls : Locals) (w : World)
@@ -48,7 +49,8 @@ pub values_same : (table : ClassTable) (depth deeper : ℕ) (f : Frame) (e : Exp
     → w.fuel ≤ depth → depth ≤ deeper
     → value_of (call_at table depth) f e ls w ≡ value_of (call_at table deeper) f e ls w
 values_same table depth deeper f e ls w le more =
-    (value_alike (suc depth) (call_at table depth) (call_at table deeper) (deeper_alike table depth deeper more) f e ls w
+    (value_alike (suc depth) (call_at table depth) (call_at table deeper)
+    (deeper_alike table depth deeper more) f e ls w
     (omega (arith, le))).same
 
 pub bodies_same : (table : ClassTable) (depth deeper : ℕ) (f : Frame) (ss : Statements) (ls : Locals) (w : World)

@@ -34,7 +34,8 @@ module _ (m : ℕ) (c d : Calls) (called : CallsAlike m c d) (f : Frame) where
   operand_alike w (Some seen) lt a = alike_here w (named seen)
   operand_alike w None lt a = alike_then m _ _ a lt (λ v w1 lt1. alike_here w1 _)
 
-  pub started_alike : (ls : Locals) (receiver : Option SeenAt) (contract : ContractId) (tx : TxId) (xs : List Operand) (w : World)
+  pub started_alike : (ls : Locals) (receiver : Option SeenAt) (contract : ContractId) (tx : TxId) (xs : List Operand)
+      (w : World)
       → w.fuel < m → Alike w (started c f ls receiver contract tx xs w) (started d f ls receiver contract tx xs w)
   started_alike ls receiver contract tx xs w lt =
       alike_some (values_of_operands f ls w xs) _ _
@@ -42,7 +43,8 @@ module _ (m : ℕ) (c d : Calls) (called : CallsAlike m c d) (f : Frame) where
 
   pub constructed_alike : (ls : Locals) (contract : ContractId) (xs : List Operand) (w : World) → w.fuel < m
       → Alike w (constructed c f ls contract xs w) (constructed d f ls contract xs w)
-  constructed_alike ls contract xs w lt = alike_some (values_of_operands f ls w xs) _ _ (λ args. called.by (of_new contract) args w lt)
+  constructed_alike ls contract xs w lt =
+      alike_some (values_of_operands f ls w xs) _ _ (λ args. called.by (of_new contract) args w lt)
 
   mutual
     pub value_alike : (e : Expression) (ls : Locals) (w : World) → w.fuel < m
@@ -56,10 +58,12 @@ module _ (m : ℕ) (c d : Calls) (called : CallsAlike m c d) (f : Frame) where
     value_alike (resolved_binary operator sign left right span) ls w lt =
         alike_then m _ _ (value_alike left ls w lt) lt
         (λ x w1 lt1. decided_alike w1 (decided_early operator x)
-        (alike_then m _ _ (value_alike right ls w1 lt1) lt1 (λ y w2 lt2. operation_alike w2 sign (between operator x y))))
+        (alike_then m _ _ (value_alike right ls w1 lt1) lt1 (λ y w2 lt2. operation_alike w2 sign
+        (between operator x y))))
     value_alike (resolved_call receiver contract tx name args span) ls w lt =
         alike_then m _ _ (operands_alike args ls w lt) lt
-        (λ xs w1 lt1. alike_then m _ _ (started_alike ls receiver contract tx xs w1 lt1) lt1 (λ r w2 lt2. result_alike r w2))
+        (λ xs w1 lt1. alike_then m _ _ (started_alike ls receiver contract tx xs w1 lt1) lt1
+        (λ r w2 lt2. result_alike r w2))
     value_alike (resolved_new contract args span) ls w lt =
         alike_then m _ _ (operands_alike args ls w lt) lt
         (λ xs w1 lt1. alike_then m _ _ (constructed_alike ls contract xs w1 lt1) lt1 (λ r w2 lt2. result_alike r w2))

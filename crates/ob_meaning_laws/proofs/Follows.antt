@@ -37,7 +37,8 @@ neither : (n : ℕ) (a b : List ℕ) → is_among n (a ++ b) ≡ false → (is_a
 neither n a b e = or_false (is_among n a) (is_among n b) (sym (list_any-append (nat_eq n) a b) ∙ e)
 
 pub keeps_all : (w : World) → KeepsObjects w w
-keeps_all w = record { set = []; changed = refl; same = λ n lt none. refl; more = 0; made = omega arith; count = omega arith }
+keeps_all w =
+    record { set = []; changed = refl; same = λ n lt none. refl; more = 0; made = omega arith; count = omega arith }
 
 pub keeps_on : {w v u : World} → KeepsObjects w v → KeepsObjects v u → KeepsObjects w u
 keeps_on {w = w} {v = v} a b = record {
@@ -50,7 +51,8 @@ keeps_on {w = w} {v = v} a b = record {
 }
 
 pub follows_self : (w : World) → Follows w w
-follows_self w = record { fuel = omega arith; units = refl; reads = grows_none w.reads; objects = keeps_all w; locked = refl; progress = refl }
+follows_self w =
+    record { fuel = omega arith; units = refl; reads = grows_none w.reads; objects = keeps_all w; locked = refl; progress = refl }
 
 pub follows_on : {w v u : World} → Follows w v → Follows v u → Follows w u
 follows_on a b = record {
@@ -75,7 +77,8 @@ follows_unit w n e = record {
   fuel = omega (arith, e);
   units = omega (arith, e);
   reads = grows_none w.reads;
-  objects = record { set = []; changed = refl; same = λ n lt none. refl; more = 0; made = omega arith; count = omega arith };
+  objects =
+      record { set = []; changed = refl; same = λ n lt none. refl; more = 0; made = omega arith; count = omega arith };
   locked = refl;
   progress = refl;
 }
@@ -85,7 +88,8 @@ follows_read w item = record {
   fuel = omega arith;
   units = refl;
   reads = (item ∷ [], refl);
-  objects = record { set = []; changed = refl; same = λ n lt none. refl; more = 0; made = omega arith; count = omega arith };
+  objects =
+      record { set = []; changed = refl; same = λ n lt none. refl; more = 0; made = omega arith; count = omega arith };
   locked = refl;
   progress = refl;
 }
@@ -166,7 +170,8 @@ lock_ends {w = w} n a = record {
   fuel = a.fuel;
   units = a.units;
   reads = a.reads;
-  objects = record { set = a.objects.set; changed = a.objects.changed; same = a.objects.same; more = a.objects.more; made = a.objects.made; count = a.objects.count };
+  objects =
+      record { set = a.objects.set; changed = a.objects.changed; same = a.objects.same; more = a.objects.more; made = a.objects.made; count = a.objects.count };
   locked = ap (without_first n) a.locked ∙ without_it n w.locked;
   progress = a.progress;
 }
@@ -176,7 +181,8 @@ progress_ends {w = w} n a = record {
   fuel = a.fuel;
   units = a.units;
   reads = a.reads;
-  objects = record { set = a.objects.set; changed = a.objects.changed; same = a.objects.same; more = a.objects.more; made = a.objects.made; count = a.objects.count };
+  objects =
+      record { set = a.objects.set; changed = a.objects.changed; same = a.objects.same; more = a.objects.more; made = a.objects.made; count = a.objects.count };
   locked = a.locked;
   progress = ap (without_first n) a.progress ∙ without_it n w.progress;
 }

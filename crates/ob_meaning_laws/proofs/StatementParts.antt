@@ -29,7 +29,8 @@ field_assigned : (f : Frame) (k : ℕ) (v : Value) (ls : Locals) (w : World)
 field_assigned f k v ls w =
     alike_object w f.this _ _
     (λ o. alike_right (is_assignable f.own o k)
-    (alike_gives _ (follows_on (follows_field w f.own k v) (follows_edit (comes_into_field f.own k v w) (with_field k v) f.this))))
+    (alike_gives _ (follows_on (follows_field w f.own k v) (follows_edit (comes_into_field f.own k v w)
+    (with_field k v) f.this))))
 
 assigned : (f : Frame) (seen : Seen) (v : Value) (ls : Locals) (w : World)
     → Alike w (assign f seen v ls w) (assign f seen v ls w)
@@ -43,7 +44,8 @@ moved f s given ls w =
     alike_right (list_all (λ g. is_givable f.own s g.0) given)
     (alike_object (edit_object (moved_to f.own s given) f.this (come_into_fields f.own given w)) f.this _ _
     (λ o. alike_right (has_all_values f.own o)
-    (alike_gives _ (follows_on (follows_fields w f.own given) (follows_edit (come_into_fields f.own given w) (moved_to f.own s given) f.this)))))
+    (alike_gives _ (follows_on (follows_fields w f.own given) (follows_edit (come_into_fields f.own given w)
+    (moved_to f.own s given) f.this)))))
 
 changed : (f : Frame) (s : StateId) (given : List Given) (ls : Locals) (w : World)
     → Alike w (change_state f s given ls w) (change_state f s given ls w)
@@ -130,10 +132,12 @@ module _ (m : ℕ) (c d : Calls) (called : CallsAlike m c d) (f : Frame) where
         (λ w0 lt0. alike_then m _ _ (value_alike m c d called f e ls w0 lt0) lt0 (λ v w1 lt1. alike_here w1 _))
     run_alike (resolved_assign target e span) ls w lt =
         alike_unit m w _ _ lt
-        (λ w0 lt0. alike_then m _ _ (value_alike m c d called f e ls w0 lt0) lt0 (λ v w1 lt1. assigned f target.of v ls w1))
+        (λ w0 lt0. alike_then m _ _ (value_alike m c d called f e ls w0 lt0) lt0
+        (λ v w1 lt1. assigned f target.of v ls w1))
     run_alike (resolved_stage s g span) ls w lt =
         alike_unit m w _ _ lt
-        (λ w0 lt0. alike_then m _ _ (operand_of_alike m c d called f g.value ls w0 lt0) lt0 (λ v w1 lt1. alike_here w1 _))
+        (λ w0 lt0. alike_then m _ _ (operand_of_alike m c d called f g.value ls w0 lt0) lt0
+        (λ v w1 lt1. alike_here w1 _))
     run_alike (resolved_change s gs span) ls w lt =
         alike_unit m w _ _ lt
         (λ w0 lt0. alike_then m _ _ (given_alike gs ls w0 lt0) lt0 (λ xs w1 lt1. changed f s (ls.staged ++ xs) ls w1))

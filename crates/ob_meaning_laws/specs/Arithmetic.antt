@@ -46,7 +46,8 @@ arithmetic = record {
       ∷ body 0 1 (resolved_return (Some (between_at Div 2 1 2)) (on_line 2) ∷ [])
       ∷ body 0 2 (resolved_return (Some (between_at Rem 4 1 2)) (on_line 4) ∷ [])
       ∷ body 0 3
-      (resolved_return (Some (resolved_binary Add (on_line 7) (between_at Div 6 1 2) (between_at Div 7 2 2) (on_line 6)))
+      (resolved_return (Some (resolved_binary Add (on_line 7) (between_at Div 6 1 2) (between_at Div 7 2 2)
+      (on_line 6)))
       (on_line 6)
       ∷ [])
       ∷ [];

@@ -37,8 +37,8 @@ OfStatements Law =
     (table : ClassTable) (depth : ℕ) (f : Frame) (ss : Statements) (ls : Locals) (w : World)
     → Law w (run_all (call_at table depth) f ss ls w)
 
--- where a part of a run gives something, the first holds of the world after it; where it aborts, the second of what it has
--- spent
+-- where a part of a run gives something, the first holds of the world after it; where it aborts, the second of what it
+-- has spent
 abbrev pub EndsSo : {A : Type 0} → (World → Type 0) → (Spent → Type 0) → Outcome A → Type 0
 EndsSo P Q (gives a w) = P w
 EndsSo P Q (aborts cause s) = Q s
@@ -56,8 +56,8 @@ Grows {A} xs ys = (more : List A) × (ys ≡ more ++ xs)
 abbrev pub ReadsGrow : {A : Type 0} → World → Outcome A → Type 0
 ReadsGrow w o = EndsSo (λ w1. Grows w.reads w1.reads) (λ s. Grows w.reads s.reads) o
 
--- From one world to a later one some numbers were set, and some objects were made, behind all that were there; each object
--- of another number is as before.
+-- From one world to a later one some numbers were set, and some objects were made, behind all that were there; each
+-- object of another number is as before.
 pub record KeepsObjects (w w1 : World) : Type 0 where
   pub set : List ℕ
   pub changed : w1.changed ≡ set ++ w.changed
@@ -96,7 +96,8 @@ AbortEndsBody =
     → run_all calls f body.statements (first_locals s.params args) w ≡ aborts cause t
     → run_body calls f tx s args w ≡ aborts cause t
 
--- the objects after a run on a store with these: those of the world that it gives; an abort has none to give, and they stay
+-- the objects after a run on a store with these: those of the world that it gives; an abort has none to give, and they
+-- stay
 abbrev pub objects_after : {A : Type 0} → List Object → Outcome A → List Object
 objects_after objects (gives a w) = w.objects
 objects_after objects (aborts cause s) = objects

@@ -62,7 +62,8 @@ lights = record {
       (resolved_new (contract_number 0) (arguments []) (on_line 10)) (on_line 10)
       ∷ resolved_test (local_at 1 11) (state_of_number 0)
       (resolved_block (statements (resolved_discard
-      (resolved_call (Some (local_at 2 11)) (contract_number 0) (transaction_number 1) (on_line 11) (arguments []) (on_line 11))
+      (resolved_call (Some (local_at 2 11)) (contract_number 0) (transaction_number 1) (on_line 11) (arguments [])
+      (on_line 11))
       (on_line 11) ∷ [])) (on_line 11)) no_otherwise (on_line 11)
       ∷ [])
       ∷ [];

@@ -24,7 +24,8 @@ back_caller = record {
   constructor = Some (record { 0 = 0 });
   transactions =
       default_constructor
-      ∷ signature (98 ∷ []) as_unowned as_unowned (param (Reference (contract_number 1) as_shared) as_shared ∷ []) (Some Int)
+      ∷ signature (98 ∷ []) as_unowned as_unowned (param (Reference (contract_number 1) as_shared) as_shared ∷ [])
+      (Some Int)
       ∷ [];
 }
 
@@ -62,11 +63,13 @@ reentry = record {
       ∷ body 1 2
       (resolved_declare 1 (on_line 6) (ReferenceLocal (contract_number 0))
       (resolved_new (contract_number 0) (arguments []) (on_line 6)) (on_line 6)
-      ∷ resolved_return (Some (resolved_call (Some (local_at 1 6)) (contract_number 0) (transaction_number 1) (on_line 6)
+      ∷ resolved_return (Some (resolved_call (Some (local_at 1 6)) (contract_number 0) (transaction_number 1)
+      (on_line 6)
       (arguments (value_at (this_at 6) ∷ [])) (on_line 6))) (on_line 6)
       ∷ [])
       ∷ body 1 3
-      (resolved_return (Some (resolved_call None (contract_number 1) (transaction_number 1) (on_line 7) (arguments []) (on_line 7)))
+      (resolved_return (Some (resolved_call None (contract_number 1) (transaction_number 1) (on_line 7) (arguments [])
+      (on_line 7)))
       (on_line 7)
       ∷ [])
       ∷ [];

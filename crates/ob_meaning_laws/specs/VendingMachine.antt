@@ -29,8 +29,8 @@ coin = record {
 abbrev pub candy : Contract
 candy = record coin { name = 67 ∷ 97 ∷ 110 ∷ 100 ∷ 121 ∷ [] }
 
--- The machine has the states Full and Empty, the field `candy` in Full, and `sold` in both. Its first transaction here is
--- `buy(Machine@Full >> Empty this, Coin@Owned >> Unowned c) returns Candy@Owned`.
+-- The machine has the states Full and Empty, the field `candy` in Full, and `sold` in both. Its first transaction here
+-- is `buy(Machine@Full >> Empty this, Coin@Owned >> Unowned c) returns Candy@Owned`.
 abbrev pub machine : Contract
 machine = record {
   name = 77 ∷ [];
@@ -65,10 +65,12 @@ vending_machine = record {
       ∷ [])
       ∷ body 2 1
       (resolved_disown (local_at 1 14) (on_line 14)
-      ∷ resolved_declare 2 (on_line 15) (ReferenceLocal (contract_number 1)) (value_at (field_at_line 0 15)) (on_line 15)
+      ∷ resolved_declare 2 (on_line 15) (ReferenceLocal (contract_number 1)) (value_at (field_at_line 0 15))
+      (on_line 15)
       ∷ resolved_change (state_of_number 1) [] (on_line 16)
       ∷ resolved_assign (field_at_line 1 17)
-      (resolved_binary Add (on_line 17) (value_at (field_at_line 1 17)) (resolved_number (pos 1) (on_line 17)) (on_line 17))
+      (resolved_binary Add (on_line 17) (value_at (field_at_line 1 17)) (resolved_number (pos 1) (on_line 17))
+      (on_line 17))
       (on_line 17)
       ∷ resolved_return (Some (value_at (local_at 2 18))) (on_line 18)
       ∷ [])
@@ -98,7 +100,14 @@ abbrev pub one_sold : Told
 one_sold = tells (Some (reference 0))
     (record { contract = 1; state = 32; fields = []; shared = false; disowned = false }
     ∷ record { contract = 0; state = 32; fields = []; shared = false; disowned = true }
-    ∷ record { contract = 2; state = 1; fields = None ∷ Some (int_value (pos 1)) ∷ []; shared = false; disowned = false }
+    ∷ record {
+      contract = 2;
+      state = 1;
+      fields = None ∷ Some (int_value (pos 1))
+          ∷ [];
+      shared = false;
+      disowned = false;
+    }
     ∷ [])
     (spending 6 (object_item 1 ∷ object_item 2 ∷ []))
 

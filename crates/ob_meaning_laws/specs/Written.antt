@@ -129,4 +129,5 @@ spending units reads = record { taken = units; reads = reads }
 -- a transaction of an object of a contract on a store, with so many units
 abbrev pub run_on_store : ClassTable → ℕ → List Object → ℕ → ℕ → ℕ → List Value → Outcome (Option Value)
 run_on_store table units objects contract n tx args =
-    call_at table units (of_object n (contract_number contract) (transaction_number tx)) args (first_world objects units)
+    call_at table units (of_object n (contract_number contract) (transaction_number tx)) args
+    (first_world objects units)

@@ -9,9 +9,12 @@ use Rattle.ob_meaning_laws.proofs.others_stay.Goals as goal
 pub returns : goal.returns
 returns c = record {
   calls = λ table depth callee args (w : World).
-      ends_so w (call_at table depth callee args w) (λ v f. f.objects) (λ s t. tt) (calls_follow table depth callee args w);
+      ends_so w (call_at table depth callee args w) (λ v f. f.objects) (λ s t. tt)
+      (calls_follow table depth callee args w);
   expressions = λ table depth f e ls (w : World).
-      ends_so w (value_of (call_at table depth) f e ls w) (λ v f. f.objects) (λ s t. tt) (values_follow table depth f e ls w);
+      ends_so w (value_of (call_at table depth) f e ls w) (λ v f. f.objects) (λ s t. tt)
+      (values_follow table depth f e ls w);
   statements = λ table depth f ss ls (w : World).
-      ends_so w (run_all (call_at table depth) f ss ls w) (λ v f. f.objects) (λ s t. tt) (bodies_follow table depth f ss ls w);
+      ends_so w (run_all (call_at table depth) f ss ls w) (λ v f. f.objects) (λ s t. tt)
+      (bodies_follow table depth f ss ls w);
 }
