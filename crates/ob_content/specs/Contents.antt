@@ -1,10 +1,11 @@
--- What a store holds, and when it is of a class table (this project's own; Coblenz et al., TOPLAS 42(3), 2020, for what an
--- object has).
+-- What a store holds, and when it is of a class table (this project's own; Coblenz et al., TOPLAS 42(3), 2020, for what
+-- an object has).
 use Rattle.std.specs.Prelude.{◌≡◌, ◌↔◌, ℕ, ◌<◌, false, List, [], length, Option, Some, None, slice_get, IsTrue, IsSome, IsSomeAnd, IfSome, All, AllPairs, ⊤}
 use Rattle.std.specs.Ordering.{nat_cmp, ordering_then}
 use Rattle.std.specs.Cmp.Lexicographic.{slice_cmp}
 use Rattle.std.specs.declared.cmp.Ordering.{Ordering}
 use Rattle.std.specs.declared.cmp.Ordering.TheVariants.{Less}
+use Rattle.ob_base.specs.Numbers.{is_int}
 use Rattle.ob_base.specs.Names.{is_label, is_text}
 use Rattle.ob_base.specs.declared.id.StateId.{StateId}
 use Rattle.ob_base.specs.declared.permission.Mode.{Mode}
@@ -12,7 +13,7 @@ use Rattle.ob_table.specs.Tables.{ClassTable, contract_at}
 use Rattle.ob_table.specs.declared.contract.Contract.{Contract}
 use Rattle.ob_table.specs.declared.contract.Kind.{Kind}
 use Rattle.ob_table.specs.declared.contract.Kind.TheVariants.{Int, Bool as BoolKind, Text, Reference}
-use Rattle.ob_content.specs.Values.{Value, int_value, bool_value, text_value, reference, is_int}
+use Rattle.ob_content.specs.Values.{Value, int_value, bool_value, text_value, reference}
 use Rattle.ob_content.specs.Objects.{Object, has_field}
 
 -- the name of a handle: the client's, and the client's name for it
@@ -55,8 +56,8 @@ abbrev pub IsStateOf : Contract → Option StateId → Type 0
 IsStateOf c None = c.states ≡ []
 IsStateOf c (Some s) = s.0 < length c.states
 
--- an object of a contract: a state where it has states, and a value of its kind in each field that is available, and in no
--- other
+-- an object of a contract: a state where it has states, and a value of its kind in each field that is available, and in
+-- no other
 pub record IsObjectOf (objects : List Object) (c : Contract) (o : Object) : Type 0 where
   pub contract : c.interface ≡ false
   pub state : IsStateOf c o.state

@@ -1,5 +1,5 @@
--- The marks on objects, locks, and transactions in progress (Coblenz et al., TOPLAS 42(3), 2020, "Permissions" and "State
--- tests"; marks and locks are this project's own).
+-- The marks on objects, locks, and transactions in progress (Coblenz et al., TOPLAS 42(3), 2020, "Permissions" and
+-- "State tests"; marks and locks are this project's own).
 use Rattle.std.specs.Prelude.{ℕ, Bool, true, nat_eq, List, [], ◌∷◌, if◌then◌else◌}
 use Rattle.std.specs.Option.{option_map_or}
 use Rattle.std.specs.List.{list_any}

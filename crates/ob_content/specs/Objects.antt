@@ -1,5 +1,5 @@
--- Objects, and in which states they are (Coblenz et al., TOPLAS 42(3), 2020, "Contracts" and "Interfaces"; that states go by
--- name between a contract and its interface is this project's own).
+-- Objects, and in which states they are (Coblenz et al., TOPLAS 42(3), 2020, "Contracts" and "Interfaces"; that states
+-- go by name between a contract and its interface is this project's own).
 use Rattle.std.specs.Prelude.{ℕ, Bool, true, false, not, ◌==◌, ◌||◌, length, Option, Some, is_some, slice_get, if◌then◌else◌}
 use Rattle.std.specs.Option.{option_map_or}
 use Rattle.ob_base.specs.declared.id.ContractId.{ContractId}
@@ -16,8 +16,8 @@ use Rattle.ob_table.specs.declared.contract.Field.{Field}
 use Rattle.ob_typing.specs.Conditions.{naming}
 use Rattle.ob_content.specs.Values.{Value, Numbered}
 
--- An object: its contract, its state if it is in one, the values of its fields by their numbers, whether it is marked as
--- shared, and whether as disowned.
+-- An object: its contract, its state if it is in one, the values of its fields by their numbers, whether it is marked
+-- as shared, and whether as disowned.
 pub record Object : Type 0 where
   pub contract : ContractId
   pub state : Option StateId

@@ -1,10 +1,11 @@
--- What operators give (the Obsidian language documentation, "Expressions"; that a result must be an `int` is this project's
--- own). `&&` and `||` aren't among them where they stop early.
+-- What operators give (the Obsidian language documentation, "Expressions"; that a result must be an `int` is this
+-- project's own). `&&` and `||` aren't among them where they stop early.
 use Rattle.std.specs.Prelude.{ℕ, ℤ, pos, Bool, not, ◌&&◌, ◌||◌, List, ◌+ℤ◌, ◌-ℤ◌, ◌*ℤ◌, neg_ℤ, int_lt, int_le, int_div, int_rem, bytes_eq, if◌then◌else◌}
 use Rattle.std.specs.Ordering.{int_eq}
+use Rattle.ob_base.specs.Numbers.{is_int}
 use Rattle.ob_base.specs.declared.operator.Operator.{Operator}
 use Rattle.ob_base.specs.declared.operator.Operator.TheVariants.{Add, Sub, Mul, Div, Rem, Equal, NotEqual, Less, LessEqual, Greater, GreaterEqual, And, Or, Not, Negate}
-use Rattle.ob_content.specs.Values.{Value, int_value, bool_value, text_value, is_int}
+use Rattle.ob_content.specs.Values.{Value, int_value, bool_value, text_value}
 
 -- what an operation comes to: a value, no `int`, or nothing, since the operands have other kinds
 pub data Operated : Type 0 where

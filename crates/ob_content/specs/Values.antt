@@ -1,5 +1,5 @@
--- The values of a run (the Obsidian language documentation, "Types"; the limits are this project's own).
-use Rattle.std.specs.Prelude.{ℕ, ℤ, pos, negsuc, Bool, ◌&&◌, nat_eq, List, Option, Some, None, int_le, if◌then◌else◌}
+-- The values of a run (the Obsidian language documentation, "Types").
+use Rattle.std.specs.Prelude.{ℕ, ℤ, Bool, nat_eq, List, Option, Some, None, if◌then◌else◌}
 
 -- a value: a whole number, a truth, a text, or a reference to the object of a number
 pub data Value : Type 0 where
@@ -7,10 +7,6 @@ pub data Value : Type 0 where
   bool_value : Bool → Value
   text_value : List ℕ → Value
   reference : ℕ → Value
-
--- whether a whole number is an `int`: one of 64 bits with a sign
-abbrev pub is_int : ℤ → Bool
-is_int z = int_le (negsuc 9223372036854775807) z && int_le z (pos 9223372036854775807)
 
 -- the object to which a value refers, if it is a reference
 abbrev pub referred : Value → Option ℕ

@@ -14,9 +14,9 @@ pub data Item : Type 0 where
   object_item : ℕ → Item
   next_item : Item
 
--- The world of a run: the objects, of which the run has made the last ones, the numbers of the objects that it has set, of
--- those that are locked, and of those that have a transaction in progress, the units that it has left and has taken, and
--- what it has read. What came last stands first in these lists.
+-- The world of a run: the objects, of which the run has made the last ones, the numbers of the objects that it has set,
+-- of those that are locked, and of those that have a transaction in progress, the units that it has left and has taken,
+-- and what it has read. What came last stands first in these lists.
 pub record World : Type 0 where
   pub objects : List Object
   pub made : ℕ
@@ -40,9 +40,9 @@ first_world objects fuel = record {
   reads = [];
 }
 
--- why a run aborts: `revert` with its text; a state, of an object, which is told where the request's own object is outside
--- its states; a call of an object that has a transaction in progress; a result that is no `int`, with the operator's line;
--- no unit left; too many objects
+-- why a run aborts: `revert` with its text; a state, of an object, which is told where the request's own object is
+-- outside its states; a call of an object that has a transaction in progress; a result that is no `int`, with the
+-- operator's line; no unit left; too many objects
 pub data Cause : Type 0 where
   by_revert : List ℕ → Cause
   by_state : ℕ → Option StateId → Cause
@@ -60,8 +60,8 @@ pub record Spent : Type 0 where
 abbrev pub spent : World → Spent
 spent w = record { taken = w.taken; reads = w.reads }
 
--- how a part of a run ends: it gives a thing, and the world after it; it aborts, and leaves the cause and what it has spent,
--- and no world; it goes wrong
+-- how a part of a run ends: it gives a thing, and the world after it; it aborts, and leaves the cause and what it has
+-- spent, and no world; it goes wrong
 pub data Outcome (A : Type 0) : Type 0 where
   gives : A → World → Outcome A
   aborts : Cause → Spent → Outcome A

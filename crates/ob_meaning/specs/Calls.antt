@@ -1,5 +1,5 @@
--- What calls and `new` do (Coblenz et al., TOPLAS 42(3), 2020, "Dynamic semantics"; marks, units, re-entry and the numbers of
--- objects are this project's own).
+-- What calls and `new` do (Coblenz et al., TOPLAS 42(3), 2020, "Dynamic semantics"; marks, units, re-entry and the
+-- numbers of objects are this project's own).
 use Rattle.std.specs.Prelude.{ℕ, zero, suc, false, ◌==◌, nat_le, List, length, position, Option, Some, None, option_map, bytes_eq, if◌then◌else◌}
 use Rattle.ob_base.specs.declared.id.ContractId.{ContractId}
 use Rattle.ob_base.specs.declared.id.TxId.{TxId}
@@ -39,7 +39,8 @@ entered table n o own s =
     record { table = table; this = n; here = o.contract; own = own; share_entered = is_shared s.entry.mode }
 
 -- the object's transaction is found by its contract
-abbrev pub dispatch : ClassTable → Calls → ℕ → ContractId → TxId → Signature → List Value → World → Outcome (Option Value)
+abbrev pub dispatch : ClassTable → Calls → ℕ → ContractId → TxId → Signature → List Value → World
+    → Outcome (Option Value)
 dispatch table calls n declared tx asked args w =
     with_object w n
     (λ o. with_some (contract_at table o.contract)
@@ -47,7 +48,8 @@ dispatch table calls n declared tx asked args w =
     (λ t. with_some (signature_at own t) (λ s. run_on calls (entered table n o own s) t s args w))))
 
 -- a call with a receiver after its unit: the receiver is read, and has no transaction in progress
-abbrev pub call_after_unit : ClassTable → Calls → ℕ → ContractId → TxId → Signature → List Value → World → Outcome (Option Value)
+abbrev pub call_after_unit : ClassTable → Calls → ℕ → ContractId → TxId → Signature → List Value → World
+    → Outcome (Option Value)
 call_after_unit table calls n declared tx asked args w =
     let w1 = read_object w n in
     unless_aborted (is_in_progress w1 n) (by_reentry n) w1 (dispatch table calls n declared tx asked args w1)
@@ -78,7 +80,8 @@ construct calls f s args w =
     (λ o. if_right (is_finished f.own o) (gives (Some (reference f.this)) (this_comes f.here s.exit f.this w1))))
 
 -- a `new` after its unit: the next number is read, and the store isn't full
-abbrev pub new_after_unit : ClassTable → Calls → ContractId → Contract → Signature → List Value → World → Outcome (Option Value)
+abbrev pub new_after_unit : ClassTable → Calls → ContractId → Contract → Signature → List Value → World
+    → Outcome (Option Value)
 new_after_unit table calls contract own s args w =
     let n = length w.objects in
     let w1 = with_read w next_item in

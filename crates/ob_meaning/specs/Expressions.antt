@@ -1,5 +1,5 @@
--- What expressions give, evaluated from left to right (the Obsidian language documentation, "Expressions"; overflow is this
--- project's own).
+-- What expressions give, evaluated from left to right (the Obsidian language documentation, "Expressions"; overflow is
+-- this project's own).
 use Rattle.std.specs.Prelude.{true, false, List, [], ◌∷◌, Option, Some, None, option_map}
 use Rattle.ob_base.specs.declared.fault.Span.{Span}
 use Rattle.ob_base.specs.declared.id.ContractId.{ContractId}
@@ -47,7 +47,8 @@ callee_of f ls w None contract tx = Some (of_this f tx)
 callee_of f ls w (Some seen) contract tx = option_map (λ n. of_object n contract tx) (object_seen f ls w seen.of)
 
 -- a call starts: the names among its operands are read, and then the receiver
-abbrev pub started : Calls → Frame → Locals → Option SeenAt → ContractId → TxId → List Operand → World → Outcome (Option Value)
+abbrev pub started : Calls → Frame → Locals → Option SeenAt → ContractId → TxId → List Operand → World
+    → Outcome (Option Value)
 started calls f ls receiver contract tx operands w =
     with_some (values_of_operands f ls w operands)
     (λ args. with_some (callee_of f ls w receiver contract tx) (λ callee. calls callee args w))

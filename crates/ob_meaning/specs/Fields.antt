@@ -1,5 +1,5 @@
--- How fields are assigned, and how the state of `this` changes (Coblenz et al., TOPLAS 42(3), 2020, "State changes"; marks and
--- locks are this project's own).
+-- How fields are assigned, and how the state of `this` changes (Coblenz et al., TOPLAS 42(3), 2020, "State changes";
+-- marks and locks are this project's own).
 use Rattle.std.specs.Prelude.{ℕ, ◌&&◌, List, [], ◌∷◌, Some, None, slice_get, if◌then◌else◌}
 use Rattle.std.specs.Option.{option_map_or}
 use Rattle.std.specs.List.{list_all}
@@ -63,7 +63,8 @@ move_this f s given ls w =
     (with_object w1 f.this
     (λ o. if_right (has_all_values f.own o) (gives (goes_on (record ls { staged = [] })) w1)))
 
--- A state change starts: the names among what is given are read. In a share-entered body it aborts where `this` is locked.
+-- A state change starts: the names among what is given are read. In a share-entered body it aborts where `this` is
+-- locked.
 abbrev pub change_state : Frame → StateId → List Given → Locals → World → Outcome Flow
 change_state f s given ls w =
     with_some (values_given f ls w given)

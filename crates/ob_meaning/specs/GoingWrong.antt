@@ -1,5 +1,5 @@
--- The five ways in which a run goes wrong: each is a test that fails where it goes so (Coblenz et al., TOPLAS 42(3), 2020,
--- where the rules have no step; the list is this project's own).
+-- The five ways in which a run goes wrong: each is a test that fails where it goes so (Coblenz et al., TOPLAS 42(3),
+-- 2020, where the rules have no step; the list is this project's own).
 use Rattle.std.specs.Prelude.{ℕ, Bool, true, false, not, ◌&&◌, ◌||◌, ◌==◌, List, length, zip, Option, Some, is_some}
 use Rattle.std.specs.Option.{option_map_or, option_and_then}
 use Rattle.std.specs.List.{list_all}
@@ -17,8 +17,8 @@ use Rattle.ob_content.specs.Values.{Value, referred}
 use Rattle.ob_content.specs.Objects.{Object, has_field, has_all_values, is_in_states, is_owned}
 use Rattle.ob_content.specs.Contents.{object_at}
 
--- 1. A field of `this` is read that its state lacks or that has no value, or assigned that its state lacks, or given that
--- the new state lacks.
+-- 1. A field of `this` is read that its state lacks or that has no value, or assigned that its state lacks, or given
+-- that the new state lacks.
 
 -- whether the field of a number can be read of an object
 abbrev pub is_readable : Contract → Object → ℕ → Bool
@@ -32,8 +32,8 @@ is_assignable c o k = has_field c o.state k
 abbrev pub is_givable : Contract → StateId → ℕ → Bool
 is_givable c s k = has_field c (Some s) k
 
--- 2. A state change leaves an available field without a value (`has_all_values`), or the end of a constructor does, or that
--- end leaves an object of a contract with states in none.
+-- 2. A state change leaves an available field without a value (`has_all_values`), or the end of a constructor does, or
+-- that end leaves an object of a contract with states in none.
 
 -- whether an object is in a state, if those of its contract are
 abbrev pub has_its_state : Contract → Object → Bool
@@ -65,7 +65,8 @@ abbrev pub may_begin : ClassTable → List Object → ContractId → Signature �
 may_begin table objects here s this args =
     is_held_within table objects here s.entry (Some this) && may_pass table objects s.params args
 
--- 4. At a return, the object of an owning exit, of a result or of a constructor's result is in none of its declared states.
+-- 4. At a return, the object of an owning exit, of a result or of a constructor's result is in none of its declared
+-- states.
 
 -- the type of a parameter with the permission at the exit
 abbrev pub kind_at_exit : Kind → Perm → Kind

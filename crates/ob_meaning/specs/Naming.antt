@@ -1,5 +1,5 @@
--- What the names of a body stand for while it runs (the Obsidian language documentation, "Expressions"; that the name of a
--- reference is read last is this project's own).
+-- What the names of a body stand for while it runs (the Obsidian language documentation, "Expressions"; that the name
+-- of a reference is read last is this project's own).
 use Rattle.std.specs.Prelude.{ℕ, false, List, [], ◌∷◌, Option, Some, None, option_map, if◌then◌else◌}
 use Rattle.std.specs.Option.{option_map_or, option_and_then}
 use Rattle.ob_base.specs.declared.id.ContractId.{ContractId}

@@ -1,5 +1,5 @@
--- Tests of the state of `this` and of another object, with its lock (Coblenz et al., TOPLAS 42(3), 2020, "State tests"; locks
--- are this project's own).
+-- Tests of the state of `this` and of another object, with its lock (Coblenz et al., TOPLAS 42(3), 2020, "State tests";
+-- locks are this project's own).
 use Rattle.std.specs.Prelude.{ℕ, Bool, ◌&&◌, ◌||◌, None, if◌then◌else◌}
 use Rattle.ob_base.specs.declared.id.ContractId.{ContractId}
 use Rattle.ob_base.specs.declared.id.StateId.{StateId}

@@ -1,0 +1,6 @@
+pub mod Laws
+pub mod Written
+pub mod VendingMachine
+pub mod Lights
+pub mod Reentry
+pub mod Arithmetic
