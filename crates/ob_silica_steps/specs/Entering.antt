@@ -8,45 +8,30 @@ use Rattle.ob_base.specs.declared.permission.Perm.{Perm}
 use Rattle.ob_perm.specs.States.{only, stateless}
 use Rattle.ob_perm.specs.Permissions.{owned}
 use Rattle.ob_perm.specs.Masks.{permission_of}
-use Rattle.ob_table.specs.Tables.{ClassTable, contract_at, signature_of}
+use Rattle.ob_table.specs.Tables.{ClassTable, contract_at, signature_at}
 use Rattle.ob_table.specs.declared.contract.Contract.{Contract}
 use Rattle.ob_table.specs.declared.contract.Kind.{Kind}
 use Rattle.ob_table.specs.declared.contract.Kind.TheVariants.{Reference as TypedReference}
 use Rattle.ob_table.specs.declared.contract.Signature.{Signature}
 use Rattle.ob_table.specs.declared.seen.LocalKind.TheVariants.{Reference}
 use Rattle.ob_content.specs.Values.{Value, reference, nothing}
-use Rattle.ob_content.specs.Objects.{Object, is_in_states, is_owned, is_shared}
+use Rattle.ob_content.specs.Objects.{Object, is_shared}
 use Rattle.ob_content.specs.Contents.{object_at}
 use Rattle.ob_content.specs.Worlds.{World, objects_most, next_item, with_read, read_object, make_object, by_reentry, by_full}
 use Rattle.ob_content.specs.Marks.{is_in_progress, enter}
+use Rattle.ob_meaning.specs.GoingWrong.{is_within}
+use Rattle.ob_meaning.specs.Calls.{answering, unfinished}
 use Rattle.ob_silica.specs.Terms.{SilicaTerms}
 use Rattle.ob_silica_steps.specs.Cells.{Cell, cell, value_in}
 use Rattle.ob_silica_steps.specs.Configurations.{SilicaProgram, terms_at, Slots, How, by_receiver, by_this, by_new, Frame, Waiting, runs, Notes, Next, goes, abort, stuck}
 use Rattle.ob_silica_steps.specs.Here.{at, with_unit, if_there}
 use Rattle.ob_silica_steps.specs.Binding.{Parameter, parameters, all_parameters}
 
--- whether an object is in one of the states of a permission on this contract, where it is an owner's
-abbrev pub owner_is_right : ClassTable → World → ContractId → Perm → ℕ → Bool
-owner_is_right table w id p n =
-    if is_owned p.mode then option_map_or (is_in_states table id p) (object_at w.objects n) false else true
-
--- whether a value has a place of this type: where an owner is wanted, the object is in one of the states
-abbrev pub is_right : ClassTable → World → Kind → Option Value → Bool
-is_right table w (TypedReference id p) (Some (reference n)) = owner_is_right table w id p n
-is_right table w of value = true
-
--- whether the slots from this number on are right for these parameters
-abbrev pub are_right : ClassTable → World → Slots → ℕ → List Parameter → Bool
-are_right table w slots k [] = true
-are_right table w slots k (p ∷ ps) = is_right table w p.of (value_in (slots k)) && are_right table w slots (suc k) ps
-
--- which transaction of its own contract an object runs for one of its contract or interface: that of the same name
-abbrev pub transaction_of : ClassTable → ContractId → TxId → Object → Option TxId
-transaction_of table contract tx o =
-    if nat_eq contract.0 o.contract.0 then Some tx
-    else option_and_then (λ (s : Signature). option_and_then (λ (c : Contract).
-    option_map (λ n. record { 0 = n }) (position (λ (t : Signature). bytes_eq s.name t.name) c.transactions))
-    (contract_at table o.contract)) (signature_of table contract tx)
+-- whether the slots from this number on hold what these parameters need: an owner's object is in one of the declared states
+abbrev pub are_within : ClassTable → List Object → Slots → ℕ → List Parameter → Bool
+are_within table objects slots k [] = true
+are_within table objects slots k (p ∷ ps) =
+    option_map_or (is_within table objects p.of) (value_in (slots k)) true && are_within table objects slots (suc k) ps
 
 -- what a body begins with: its slots, the frames that wait for it, the notes and the world
 pub record Entered : Type 0 where
@@ -76,30 +61,27 @@ entered_on e n o s = record e { slots = at e.slots 0 (Some (this_cell o.contract
 -- such a body begins where its owners' objects are in the declared states; the object has a transaction in progress then
 abbrev pub begins_on : SilicaProgram → Entered → ℕ → Object → TxId → Signature → Next
 begins_on program e n o tx s =
-    if are_right program.table e.world (entered_on e n o s).slots 0 (all_parameters o.contract s)
+    if are_within program.table e.world.objects (entered_on e n o s).slots 0 (all_parameters o.contract s)
     then enters program (record (entered_on e n o s) { world = enter n e.world }) o.contract tx by_receiver (is_shared s.entry.mode)
     else stuck
 
--- a call of an object, once its unit is taken: the object is read, and mustn't have a transaction in progress
-abbrev pub calls_object : SilicaProgram → Entered → ContractId → TxId → ℕ → Next
-calls_object program e contract tx n =
+-- a call of an object, once its unit is taken: the object is read, and mustn't have a transaction in progress; it runs its
+-- own transaction for one of its contract or interface with this signature
+abbrev pub calls_object : SilicaProgram → Entered → ContractId → TxId → Signature → ℕ → Next
+calls_object program e contract tx asked n =
     let w = read_object e.world n in
     if is_in_progress w n then abort (by_reentry n) w
     else if_there (object_at w.objects n) (λ o.
-    if_there (transaction_of program.table contract tx o) (λ own.
-    if_there (signature_of program.table o.contract own) (λ s.
-    begins_on program (record e { world = w }) n o own s)))
+    if_there (contract_at program.table o.contract) (λ own.
+    if_there (answering contract tx asked o.contract own) (λ t.
+    if_there (signature_at own t) (λ s. begins_on program (record e { world = w }) n o t s))))
 
 -- a call on `this`, once its unit is taken: it isn't tested for re-entry, and is share-entered as its caller is
 abbrev pub calls_this : SilicaProgram → Entered → Frame → TxId → Signature → Next
 calls_this program e caller tx s =
-    if are_right program.table e.world e.slots 0 (all_parameters caller.contract s)
+    if are_within program.table e.world.objects e.slots 0 (all_parameters caller.contract s)
     then enters program e caller.contract tx by_this caller.share_entered
     else stuck
-
--- an object as a `new` makes it: in no state, without values
-abbrev pub new_object : ContractId → Object
-new_object contract = record { contract = contract; state = None; fields = nothing; shared = false; disowned = false }
 
 -- `this` of a constructor
 abbrev pub new_cell : ContractId → ℕ → Cell
@@ -109,7 +91,7 @@ new_cell contract n = cell (reference n) (Reference contract) (owned (only state
 abbrev pub entered_new : Entered → ContractId → Entered
 entered_new e contract = record e {
   slots = at e.slots 0 (Some (new_cell contract (length e.world.objects)));
-  world = make_object e.world (new_object contract);
+  world = make_object e.world (unfinished contract);
 }
 
 -- a `new`, once its unit is taken: the next number is read, and there must be one
@@ -117,6 +99,6 @@ abbrev pub makes_object : SilicaProgram → Entered → ContractId → TxId → 
 makes_object program e contract tx s =
     let w = with_read e.world next_item in
     if nat_le objects_most (length e.world.objects) then abort by_full w
-    else if are_right program.table w e.slots 1 (parameters s)
+    else if are_within program.table w.objects e.slots 1 (parameters s)
     then enters program (entered_new (record e { world = w }) contract) contract tx by_new false
     else stuck

@@ -10,6 +10,7 @@ use Rattle.ob_content.specs.Objects.{Object, has_field}
 use Rattle.ob_content.specs.Contents.{object_at}
 use Rattle.ob_content.specs.Worlds.{World, edit_object, with_unit_taken, by_fuel}
 use Rattle.ob_content.specs.Marks.{comes_into}
+use Rattle.ob_meaning.specs.Fields.{with_field}
 use Rattle.ob_silica_steps.specs.Cells.{Location, slot, field, Known, known, Cell, noted, permission_in, object_in, permission_of_kind}
 use Rattle.ob_silica_steps.specs.Configurations.{Slots, Frame, Notes, Control, Configuration, Next, goes, abort, stuck}
 
@@ -99,16 +100,12 @@ with_field_note notes n k note = record notes { fields = at notes.fields n (at (
 abbrev pub set_slot : ℕ → Option Cell → Here → Here
 set_slot k c h = record h { slots = at h.slots k c }
 
--- an object whose field has another value
-abbrev pub with_value : ℕ → Value → Object → Object
-with_value k v o = record o { fields = put o.fields k v }
-
 -- a field of `this` is set
 abbrev pub set_field : ℕ → Cell → Here → Here
 set_field k c h = record {
   slots = h.slots;
   notes = with_field_note h.notes (self_of h.slots) k c.note;
-  world = edit_object (with_value k c.value) (self_of h.slots) h.world;
+  world = edit_object (with_field k c.value) (self_of h.slots) h.world;
 }
 
 -- a place keeps its value and gets this permission

@@ -14,32 +14,24 @@ use Rattle.ob_typing.specs.WellMade.{is_constructor}
 use Rattle.ob_content.specs.Objects.{Object, has_all_values}
 use Rattle.ob_content.specs.Worlds.{World}
 use Rattle.ob_content.specs.Marks.{leave}
+use Rattle.ob_meaning.specs.GoingWrong.{is_within, kind_at_exit, is_finished}
 use Rattle.ob_silica_steps.specs.Cells.{Location, this, Cell, plain_cell, noted, value_in}
 use Rattle.ob_silica_steps.specs.Configurations.{SilicaProgram, Slots, How, by_receiver, by_this, by_new, Frame, Rest, Loan, Waiting, runs, leaves, Configuration, Next, goes, ended, stuck}
 use Rattle.ob_silica_steps.specs.Here.{Here, here, goes_to, if_there, self_of, self, read, at, set_permission, hand}
 use Rattle.ob_silica_steps.specs.Binding.{Parameter, all_parameters, bound_cell}
-use Rattle.ob_silica_steps.specs.Entering.{is_right, are_right}
+use Rattle.ob_silica_steps.specs.Entering.{are_within}
 use Rattle.ob_silica_steps.specs.Testing.{end_branch}
 
 -- Whether a body may end so.
 
--- the type of a parameter at the exit
-abbrev pub with_exit : Kind → Perm → Kind
-with_exit (TypedReference id entry) exit = TypedReference id exit
-with_exit of exit = of
-
 -- a parameter at the exit
 abbrev pub at_exit : Parameter → Parameter
-at_exit p = record { of = with_exit p.of p.exit; exit = p.exit }
+at_exit p = record { of = kind_at_exit p.of p.exit; exit = p.exit }
 
 -- whether the object of each owning exit is in one of the declared states
-abbrev pub exits_are_right : ClassTable → Configuration → Signature → Bool
-exits_are_right table c s =
-    are_right table c.world c.frame.slots 0 (map at_exit (all_parameters c.frame.contract s))
-
--- whether a constructor has made its object: a value in each available field, and a state if its contract has states
-abbrev pub is_made_whole : Contract → Object → Bool
-is_made_whole own o = has_all_values own o && (is_some o.state || nat_eq (length own.states) 0)
+abbrev pub exits_are_within : ClassTable → Configuration → Signature → Bool
+exits_are_within table c s =
+    are_within table c.world.objects c.frame.slots 0 (map at_exit (all_parameters c.frame.contract s))
 
 -- The return.
 
@@ -47,12 +39,12 @@ is_made_whole own o = has_all_values own o && (is_some o.state || nat_eq (length
 abbrev pub leaves_with : Configuration → Here → Option Cell → List Rest → Next
 leaves_with c h result outer = goes_to c h (leaves result outer)
 
--- a constructor gives `this` as it declares
+-- a constructor gives `this` as it declares, whose object is finished
 abbrev pub gives_this : SilicaProgram → Signature → List Rest → Configuration → Next
 gives_this program s outer c =
     if_there (contract_at program.table c.frame.contract) (λ own. if_there (self (here c)) (λ o.
     if_there (read program.table (here c) this) (λ x.
-    if is_made_whole own o
+    if is_finished own o
     then leaves_with c (hand (TypedReference c.frame.contract s.exit) this x (here c))
     (Some (bound_cell (TypedReference c.frame.contract s.exit) x.value)) outer
     else stuck)))
@@ -60,7 +52,7 @@ gives_this program s outer c =
 -- a value is given as the result is declared; where an owner is wanted, the object is in one of the states
 abbrev pub gives_value : SilicaProgram → Kind → Location → List Rest → Configuration → Next
 gives_value program of place outer c = if_there (read program.table (here c) place) (λ x.
-    if is_right program.table c.world of (Some x.value)
+    if is_within program.table c.world.objects of x.value
     then leaves_with c (hand of place x (here c)) (Some (bound_cell of x.value)) outer
     else stuck)
 
@@ -80,7 +72,7 @@ gives program s (Some of) (Some place) outer c = gives_value program of place ou
 -- the step of a return: the objects of owning exits are in the declared states
 abbrev pub return_step : SilicaProgram → Option Location → List Rest → Configuration → Next
 return_step program place outer c = if_there (signature_of program.table c.frame.contract c.frame.tx) (λ s.
-    if exits_are_right program.table c s then gives program s s.result place outer c else stuck)
+    if exits_are_within program.table c s then gives program s s.result place outer c else stuck)
 
 -- After it.
 

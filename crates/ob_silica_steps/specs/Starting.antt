@@ -54,7 +54,7 @@ abbrev pub started_call : SilicaProgram → ContractId → TxId → ℕ → List
 started_call program contract tx n args notes w =
     if_there (signature_of program.table contract tx) (λ s.
     pass_all (reference n ∷ args) 0 (this_parameter contract s ∷ parameters s) nothing w (λ slots v.
-    with_unit v (λ x. calls_object program (alone slots notes x) contract tx n)))
+    with_unit v (λ x. calls_object program (alone slots notes x) contract tx s n)))
 
 -- the run of a `new` from outside, with these arguments
 abbrev pub started_new : SilicaProgram → ContractId → List Value → Notes → World → Next

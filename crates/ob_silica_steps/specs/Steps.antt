@@ -109,7 +109,7 @@ call_step program result receiver contract tx args rest outer c =
     if_there (signature_of program.table contract tx) (λ s.
     if_there (read program.table (here c) receiver) (λ x. if_there (referred x.value) (λ n.
     bind_all program.table (unbound (here c)) (receiver ∷ args) 0 (all_parameters contract s) (λ b.
-    with_unit b.from.world (λ w. calls_object program (entered_with c b rest outer result w) contract tx n)))))
+    with_unit b.from.world (λ w. calls_object program (entered_with c b rest outer result w) contract tx s n)))))
 
 -- `this` and the arguments are handed over, and then a unit is taken; what fields lent is given back in its own way
 abbrev pub call_this_step : SilicaProgram → Option ℕ → TxId → List Location → SilicaTerms → List Rest → Configuration → Next
