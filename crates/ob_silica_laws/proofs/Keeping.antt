@@ -6,13 +6,14 @@ use Rattle.ob_content.specs.Values.{Value}
 use Rattle.ob_content.specs.Objects.{Object}
 use Rattle.ob_content.specs.Worlds.{World, Spent, Cause, by_fuel, spent, with_unit_taken, with_read, read_object, edit_object, make_object, Item}
 use Rattle.ob_content.specs.Marks.{comes_into, mark_disowned, lock, unlock, enter, leave}
+use Rattle.ob_meaning.specs.Fields.{with_field}
 use Rattle.ob_meaning_laws.specs.Laws.{Grows, KeepsObjects}
 use Rattle.ob_meaning_laws.proofs.Follows.{Follows, Tells, grows_none, grows_on, keeps_all, keeps_on, follows_unit, follows_read, follows_read_object, follows_edit, follows_make}
 use Rattle.ob_meaning_laws.proofs.Marking.{follows_into, follows_mark_disowned}
 use Rattle.ob_silica_steps.specs.Cells.{Location, slot, field, Cell}
 use Rattle.ob_silica_steps.specs.Configurations.{Configuration, Control, Ends, plain_end, test_end, lock_end, How, by_receiver, by_this, by_new, Next, goes, ended, aborted, abort, stuck}
 use Rattle.ob_perm.specs.Permissions.{Permission}
-use Rattle.ob_silica_steps.specs.Here.{Here, if_there, with_fuel_left, with_unit, set_permission, set_field, hand, self_of, with_value, goes_to}
+use Rattle.ob_silica_steps.specs.Here.{Here, if_there, with_fuel_left, with_unit, set_permission, set_field, hand, self_of, goes_to}
 use Rattle.ob_silica_steps.specs.Testing.{end_branch}
 use Rattle.ob_silica_steps.specs.Returning.{leaves_progress}
 use Rattle.ob_silica_laws.specs.Laws.{LeadsSo}
@@ -112,7 +113,7 @@ keeps_permission (slot k) p h a = a
 keeps_permission (field k) p h a = a
 
 pub keeps_field : {w : World} (k : ℕ) (c : Cell) (h : Here) → Keeps w h.world → Keeps w (set_field k c h).world
-keeps_field k c h a = then_follows a (follows_edit h.world (with_value k c.value) (self_of h.slots))
+keeps_field k c h a = then_follows a (follows_edit h.world (with_field k c.value) (self_of h.slots))
 
 pub keeps_hand : {w : World} (of : Kind) (place : Location) (c : Cell) (h : Here) → Keeps w h.world → Keeps w (hand of place c h).world
 keeps_hand of place c h a = keeps_permission place _ (record h { world = comes_into of c.value h.world }) (then_follows a (follows_into h.world of c.value))

@@ -5,7 +5,7 @@ use Rattle.ob_base.specs.declared.id.ContractId.{ContractId}
 use Rattle.ob_base.specs.declared.id.StateId.{StateId}
 use Rattle.ob_base.specs.declared.id.TxId.{TxId}
 use Rattle.ob_perm.specs.Permissions.{Permission, owned, shared, unowned}
-use Rattle.ob_table.specs.Tables.{ClassTable, contract_at, signature_of}
+use Rattle.ob_table.specs.Tables.{ClassTable, contract_at, signature_at, signature_of}
 use Rattle.ob_table.specs.declared.contract.Contract.{Contract}
 use Rattle.ob_table.specs.declared.contract.Field.{Field}
 use Rattle.ob_table.specs.declared.contract.Kind.{Kind}
@@ -18,6 +18,8 @@ use Rattle.ob_content.specs.Contents.{object_at}
 use Rattle.ob_content.specs.Operations.{Operated, operated, overflows, other_kinds}
 use Rattle.ob_content.specs.Worlds.{World, by_state, by_reentry, next_item, with_read, read_object}
 use Rattle.ob_content.specs.Marks.{comes_into, is_locked, is_in_progress}
+use Rattle.ob_meaning.specs.Calls.{answering, unfinished}
+use Rattle.ob_meaning.specs.GoingWrong.{is_within, is_finished}
 use Rattle.ob_meaning_laws.proofs.Follows.{follows_read, follows_read_object, follows_edit, follows_make}
 use Rattle.ob_meaning_laws.proofs.Marking.{follows_into, follows_mark_disowned}
 use Rattle.ob_silica.specs.Terms.{SilicaForm, unit_form, const_form, op_form, copy_form, move_form, new_form, call_form, call_this_form, change_form, test_form, if_form, assert_form, disown_form, drop_form, return_form, revert_form, bad_row_form, SilicaTerms, no_terms, and_term}
@@ -27,10 +29,10 @@ use Rattle.ob_silica_steps.specs.Configurations.{SilicaProgram, Slots, Notes, Re
 use Rattle.ob_silica_steps.specs.Here.{Here, at, here, if_there, with_unit, goes_to, self_of, self, read, hand}
 use Rattle.ob_silica_steps.specs.Converting.{got_from}
 use Rattle.ob_silica_steps.specs.Binding.{Parameter, bound_cell, this_parameter, Bound, bind_one, bind_all, unbound, parameters, all_parameters, without_field_loans}
-use Rattle.ob_silica_steps.specs.Entering.{is_right, Entered, transaction_of, enters, entered_on, begins_on, calls_object, calls_this, makes_object, entered_new, new_object}
+use Rattle.ob_silica_steps.specs.Entering.{Entered, enters, entered_on, begins_on, calls_object, calls_this, makes_object, entered_new}
 use Rattle.ob_silica_steps.specs.Changing.{all_there, fill_one, fill_all, changed_object, changed_here, is_locked_out, change_with, change_step}
 use Rattle.ob_silica_steps.specs.Testing.{Tested, tells, test_shared_this, test_this_as, test_this, test_shared, test_other, test_object, is_in, reads_object, test_step}
-use Rattle.ob_silica_steps.specs.Returning.{exits_are_right, is_made_whole, gives_this, gives_value, gives_none, gives, return_step, returned_to, gives_back, goes_back, leave_step, left_world}
+use Rattle.ob_silica_steps.specs.Returning.{exits_are_within, gives_this, gives_value, gives_none, gives, return_step, returned_to, gives_back, goes_back, leave_step, left_world}
 use Rattle.ob_silica_steps.specs.Steps.{with_operated, with_truth, with_text, available_field, copy_to, move_to_slot, move_to, disowns, entered_with, constructor_id, call_step, call_this_step, new_step, act, pop_step, run_step, control_step, step, then_steps, steps}
 use Rattle.ob_silica_steps.specs.Starting.{pass_all, alone, started_call, started_new}
 use Rattle.ob_silica_laws.proofs.Keeping.{Keeps, Leads, tells_then, keeps_self, keeps_then, then_follows, keeps_lock, keeps_enter, keeps_progress, leads_abort, leads_there, leads_if, leads_unit, leads_goes, leads_to, leads_ended, leads_stuck, keeps_permission, keeps_field, keeps_hand, keeps_end}
@@ -50,15 +52,16 @@ enters_keeps program e contract tx how entry a = leads_there _ _ (λ terms. lead
 begins_keeps : {w : World} (program : SilicaProgram) (e : Entered) (n : ℕ) (o : Object) (tx : TxId) (s : Signature) → Keeps w e.world → Leads w (begins_on program e n o tx s)
 begins_keeps program e n o tx s a = leads_if _ _ stuck (enters_keeps program _ o.contract tx by_receiver _ (keeps_enter n a)) (leads_stuck _)
 
-pub calls_keep : {w : World} (program : SilicaProgram) (e : Entered) (contract : ContractId) (tx : TxId) (n : ℕ) → Keeps w e.world → Leads w (calls_object program e contract tx n)
-calls_keep program e contract tx n a =
+pub calls_keep : {w : World} (program : SilicaProgram) (e : Entered) (contract : ContractId) (tx : TxId) (asked : Signature) (n : ℕ) → Keeps w e.world → Leads w (calls_object program e contract tx asked n)
+calls_keep program e contract tx asked n a =
     let w = read_object e.world n in
     let k = then_follows a (follows_read_object e.world n) in
     leads_if (is_in_progress w n) _ _ (leads_abort (by_reentry n) k)
     (leads_there (object_at w.objects n) _ (λ o.
-    leads_there (transaction_of program.table contract tx o) _ (λ own.
-    leads_there (signature_of program.table o.contract own) _ (λ s.
-    begins_keeps program (record e { world = w }) n o own s k))))
+    leads_there (contract_at program.table o.contract) _ (λ own.
+    leads_there (answering contract tx asked o.contract own) _ (λ t.
+    leads_there (signature_at own t) _ (λ s.
+    begins_keeps program (record e { world = w }) n o t s k)))))
 
 calls_this_keep : {w : World} (program : SilicaProgram) (e : Entered) (caller : Frame) (tx : TxId) (s : Signature) → Keeps w e.world → Leads w (calls_this program e caller tx s)
 calls_this_keep program e caller tx s a = leads_if _ _ stuck (enters_keeps program e caller.contract tx by_this _ a) (leads_stuck _)
@@ -67,7 +70,7 @@ pub makes_keep : {w : World} (program : SilicaProgram) (e : Entered) (contract :
 makes_keep program e contract tx s a =
     let k = then_follows a (follows_read e.world next_item) in
     leads_if _ _ _ (leads_abort _ k)
-    (leads_if _ _ stuck (enters_keeps program _ contract tx by_new false (then_follows k (follows_make (with_read e.world next_item) (new_object contract)))) (leads_stuck _))
+    (leads_if _ _ stuck (enters_keeps program _ contract tx by_new false (then_follows k (follows_make (with_read e.world next_item) (unfinished contract)))) (leads_stuck _))
 
 -- Changes.
 
@@ -137,7 +140,7 @@ gives_this_keeps : (program : SilicaProgram) (s : Signature) (outer : List Rest)
 gives_this_keeps program s outer c =
     leads_there (contract_at program.table c.frame.contract) _ (λ own. leads_there (self (here c)) _ (λ o.
     leads_there (read program.table (here c) this) _ (λ x.
-    leads_if (is_made_whole own o) _ stuck
+    leads_if (is_finished own o) _ stuck
     (leads_goes _ (keeps_hand (TypedReference c.frame.contract s.exit) this x (here c) (keeps_self c.world))) (leads_stuck _))))
 
 gives_none_keeps : (how : How) (program : SilicaProgram) (s : Signature) (outer : List Rest) (c : Configuration) → Leads c.world (gives_none how program s outer c)
@@ -151,12 +154,12 @@ gives_keep program s None (Some place) outer c =
     leads_there (read program.table (here c) place) _ (λ x. leads_goes _ (keeps_self c.world))
 gives_keep program s (Some of) (Some place) outer c =
     leads_there (read program.table (here c) place) _ (λ x.
-    leads_if (is_right program.table c.world of (Some x.value)) _ stuck
+    leads_if (is_within program.table c.world.objects of x.value) _ stuck
     (leads_goes _ (keeps_hand of place x (here c) (keeps_self c.world))) (leads_stuck _))
 
 return_keeps : (program : SilicaProgram) (place : Option Location) (outer : List Rest) (c : Configuration) → Leads c.world (return_step program place outer c)
 return_keeps program place outer c = leads_there (signature_of program.table c.frame.contract c.frame.tx) _ (λ s.
-    leads_if (exits_are_right program.table c s) _ stuck (gives_keep program s s.result place outer c) (leads_stuck _))
+    leads_if (exits_are_within program.table c s) _ stuck (gives_keep program s s.result place outer c) (leads_stuck _))
 
 left_keeps : (c : Configuration) → Keeps c.world (left_world c)
 left_keeps c = keeps_progress c.frame.how (self_of c.frame.slots) (keeps_self c.world)
@@ -215,7 +218,7 @@ call_keeps program result receiver contract tx args rest outer c =
     leads_there (signature_of program.table contract tx) _ (λ s.
     leads_there (read program.table (here c) receiver) _ (λ x. leads_there (referred x.value) _ (λ n.
     bound_keeps program.table (unbound (here c)) (receiver ∷ args) 0 (all_parameters contract s) _ (keeps_self c.world) (λ b a.
-    leads_unit b.from.world _ a (λ u k. calls_keep program (entered_with c b rest outer result u) contract tx n k)))))
+    leads_unit b.from.world _ a (λ u k. calls_keep program (entered_with c b rest outer result u) contract tx s n k)))))
 
 call_this_keeps : (program : SilicaProgram) (result : Option ℕ) (tx : TxId) (args : List Location) (rest : SilicaTerms) (outer : List Rest) (c : Configuration) → Leads c.world (call_this_step program result tx args rest outer c)
 call_this_keeps program result tx args rest outer c =
@@ -301,7 +304,7 @@ pub started_call_keeps : (program : SilicaProgram) (contract : ContractId) (tx :
 started_call_keeps program contract tx n args notes w =
     leads_there (signature_of program.table contract tx) _ (λ s.
     passed_keeps (reference n ∷ args) 0 (this_parameter contract s ∷ parameters s) nothing w _ (keeps_self w) (λ slots v a.
-    leads_unit v _ a (λ u k. calls_keep program (alone slots notes u) contract tx n k)))
+    leads_unit v _ a (λ u k. calls_keep program (alone slots notes u) contract tx s n k)))
 
 pub started_new_keeps : (program : SilicaProgram) (contract : ContractId) (args : List Value) (notes : Notes) (w : World) → Leads w (started_new program contract args notes w)
 started_new_keeps program contract args notes w =
