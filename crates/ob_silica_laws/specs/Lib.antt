@@ -1,6 +1,6 @@
-pub mod Spelled
-pub mod Vending
-pub mod Lights
-pub mod CallingBack
-pub mod Calculator
 pub mod Laws
+pub mod Spelled
+pub mod VendingMachine
+pub mod Lights
+pub mod Reentry
+pub mod Arithmetic

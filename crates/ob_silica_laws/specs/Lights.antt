@@ -1,64 +1,73 @@
--- A light that is flipped while it is tested:
--- `contract Light { state On; state Off; Light@Shared() { ->On; } transaction flip(Light@Shared this) { ->Off; } }`
--- `main contract Room { transaction make() returns Light@Shared { return new Light(); }`
--- `transaction both(Light@Shared x, Light@Shared y) { Light z = new Light(); if (x in On) { y.flip(); } } }`
-use Rattle.std.specs.Prelude.{ℕ, false, true, List, [], ◌∷◌, Some, None}
-use Rattle.ob_table.specs.declared.contract.Contract.{Contract}
-use Rattle.ob_table.specs.declared.contract.Kind.TheVariants.{Reference}
-use Rattle.ob_content.specs.Values.{nothing}
+-- The light that is flipped while its state is tested, as terms (this project's own program).
+use Rattle.std.specs.Prelude.{ℕ, true, false, List, [], ◌∷◌, ◌++◌, Option, Some, None}
+use Rattle.ob_content.specs.Values.{Value, reference, nothing}
 use Rattle.ob_content.specs.Objects.{Object}
+use Rattle.ob_content.specs.Worlds.{object_item, next_item}
+use Rattle.ob_meaning_laws.specs.Written.{on_line, contract_number, state_of_number, transaction_number, ToldObject, Told, tells, spending}
+use Rattle.ob_meaning_laws.specs.Lights.{lights, lit_store}
 use Rattle.ob_silica.specs.Terms.{unit_form, move_form, new_form, call_form, change_form, test_form, drop_form, return_form, SilicaTerms, no_terms}
 use Rattle.ob_silica.specs.declared.place.Place.TheVariants.{Slot}
 use Rattle.ob_silica_steps.specs.Configurations.{SilicaProgram}
-use Rattle.ob_silica_laws.specs.Spelled.{contract, transaction, state, nowhere, in_slot, ◌>>◌, body, shared_perm, unowned_perm, owned_perm, no_state_bits, param, constructor_giving, signature, contract_of, object, Seen}
-use Rattle.ob_silica_laws.specs.Vending.{no_more}
+use Rattle.ob_silica_laws.specs.Spelled.{slot_on, on, body_end, terms_body, steps_on_store}
 
--- contract 0: states 0 `On` and 1 `Off`, the constructor 0 and the transaction 1 `flip`
-abbrev pub light : Contract
-light = contract_of (76 ∷ []) false ((78 ∷ []) ∷ (70 ∷ []) ∷ []) []
-    (constructor_giving shared_perm ∷ signature (102 ∷ []) shared_perm shared_perm [] None ∷ [])
+-- `return new Light();`
+abbrev pub make_terms : SilicaTerms
+make_terms = on 8 (unit_form ∷ new_form 1 (contract_number 0) [] ∷ return_form (Some (slot_on 1 8)) ∷ []) no_terms
 
--- contract 1: the constructor 0 and the transactions 1 `make` and 2 `both`
-abbrev pub room : Contract
-room = contract_of (82 ∷ []) false [] []
-    (constructor_giving (owned_perm no_state_bits)
-    ∷ signature (109 ∷ []) unowned_perm unowned_perm [] (Some (Reference (contract 0) shared_perm))
-    ∷ signature (98 ∷ []) unowned_perm unowned_perm
-    (param (120 ∷ []) (Reference (contract 0) shared_perm) shared_perm
-    ∷ param (121 ∷ []) (Reference (contract 0) shared_perm) shared_perm ∷ []) None ∷ [])
+-- `y.flip();`
+abbrev pub flip_y_terms : SilicaTerms
+flip_y_terms = on 11 (unit_form ∷ call_form None (slot_on 2 11) (contract_number 0) (transaction_number 1) [] ∷ []) no_terms
 
--- the body of the light's constructor
-abbrev pub made_on : SilicaTerms
-made_on = unit_form >> change_form (state 0) [] >> no_more
-
--- the body of `flip`
-abbrev pub flip : SilicaTerms
-flip = unit_form >> change_form (state 1) [] >> no_more
-
--- the body of `make`
-abbrev pub make : SilicaTerms
-make = unit_form >> new_form 1 (contract 0) [] >> return_form (Some (in_slot 1)) >> no_terms
-
--- the body of `both`
-abbrev pub both : SilicaTerms
-both =
-    unit_form >> new_form 4 (contract 0) [] >> move_form (Slot 3) (in_slot 4) (Some (contract 0)) >> drop_form 4
-    >> unit_form
-    >> test_form (in_slot 1) (state 0) (unit_form >> call_form None (in_slot 2) (contract 0) (transaction 1) [] >> no_terms) no_terms nowhere
-    >> drop_form 3
-    >> no_more
+-- `Light z = new Light(); if (x in On) { y.flip(); }`
+abbrev pub both_terms : SilicaTerms
+both_terms =
+    on 10
+    (unit_form ∷ new_form 4 (contract_number 0) [] ∷ move_form (Slot 3) (slot_on 4 10) (Some (contract_number 0)) ∷ drop_form 4 ∷ [])
+    (on 11 (unit_form ∷ test_form (slot_on 1 11) (state_of_number 0) flip_y_terms no_terms (on_line 11) ∷ [])
+    (on 1 (drop_form 3 ∷ []) body_end))
 
 -- the program
-abbrev pub lights : SilicaProgram
-lights = record {
-  table = record { contracts = light ∷ room ∷ []; bodies = [] };
-  bodies = body 0 0 made_on 1 ∷ body 0 1 flip 1 ∷ body 1 0 no_more 1 ∷ body 1 1 make 2 ∷ body 1 2 both 5 ∷ [];
+abbrev pub light_terms : SilicaProgram
+light_terms = record {
+  table = lights;
+  bodies =
+      terms_body 0 0 (on 4 (unit_form ∷ change_form (state_of_number 0) [] ∷ []) body_end) 1
+      ∷ terms_body 0 1 (on 5 (unit_form ∷ change_form (state_of_number 1) [] ∷ []) body_end) 1
+      ∷ terms_body 1 0 body_end 1
+      ∷ terms_body 1 1 make_terms 2
+      ∷ terms_body 1 2 both_terms 5
+      ∷ [];
 }
 
--- a store with two lights that are on, and a room
-abbrev pub lit : List Object
-lit = object 0 (Some (state 0)) nothing true ∷ object 0 (Some (state 0)) nothing true ∷ object 1 None nothing false ∷ []
+-- `both` with the light twice, and `make`, on the store with one light
+abbrev pub flipped_by_steps : Option Told
+flipped_by_steps = steps_on_store light_terms 20 lit_store 1 0 2 (reference 1 ∷ reference 1 ∷ [])
 
--- a light in a state, as it is seen
-abbrev pub a_light : ℕ → Seen
-a_light s = record { state = Some (state s); values = None ∷ None ∷ []; shared = true; disowned = false }
+abbrev pub made_by_steps : Option Told
+made_by_steps = steps_on_store light_terms 20 lit_store 1 0 1 []
+
+-- a store with a second light that is on
+abbrev pub two_lit_store : List Object
+two_lit_store = lit_store ++ record {
+  contract = contract_number 0;
+  state = Some (state_of_number 0);
+  fields = nothing;
+  shared = true;
+  disowned = false;
+} ∷ []
+
+-- `both` with two lights: the first is tested, and the second flipped
+abbrev pub other_flipped_by_steps : Option Told
+other_flipped_by_steps = steps_on_store light_terms 20 two_lit_store 1 0 2 (reference 1 ∷ reference 2 ∷ [])
+
+-- what is told of a light in a state
+abbrev pub told_light : ℕ → ToldObject
+told_light state = record { contract = 0; state = state; fields = []; shared = true; disowned = false }
+
+-- the first light is on, the second off, and the third, which was made, is on
+abbrev pub other_flipped : Told
+other_flipped = tells None
+    (record { contract = 1; state = 32; fields = []; shared = false; disowned = false }
+    ∷ told_light 0 ∷ told_light 1 ∷ told_light 0 ∷ [])
+    (spending 8
+    (object_item 2 ∷ object_item 2 ∷ object_item 1 ∷ next_item ∷ object_item 0 ∷ object_item 2 ∷ object_item 1 ∷ []))

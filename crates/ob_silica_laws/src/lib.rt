@@ -5,4 +5,6 @@ mod laws;
 mod runs;
 
 pub use laws::{others_stay, reads_grow, steps_are_enough, units_add_up};
-pub use runs::{calculator_runs, calling_back_runs, light_runs, vending_runs};
+pub use runs::{
+    call_back_aborts, division_overflows, flip_under_test_aborts, vending_machine_sells_one_candy,
+};

@@ -2,11 +2,11 @@
 use Rattle.std.proofs.Common.{refl}
 use Rattle.ob_perm.specs.States.{states_max}
 use Rattle.ob_perm.specs.Masks.{states_of}
-use Rattle.ob_silica_laws.proofs.runs.calling_back_runs.Goals as goal
+use Rattle.ob_silica_laws.proofs.runs.vending_machine_sells_one_candy.Goals as goal
 
 pub returns : goal.returns
 unfolding states_max states_of
 returns c = record {
-  round = refl;
-  direct = refl;
+  enough = refl;
+  too_few = refl;
 }

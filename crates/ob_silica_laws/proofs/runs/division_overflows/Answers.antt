@@ -2,15 +2,15 @@
 use Rattle.std.proofs.Common.{refl}
 use Rattle.ob_perm.specs.States.{states_max}
 use Rattle.ob_perm.specs.Masks.{states_of}
-use Rattle.ob_silica_laws.proofs.runs.calculator_runs.Goals as goal
+use Rattle.ob_silica_laws.proofs.runs.division_overflows.Goals as goal
 
 pub returns : goal.returns
 unfolding states_max states_of
 returns c = record {
-  least = refl;
-  zero = refl;
+  least_by_minus_one = refl;
+  by_zero = refl;
   quotient = refl;
   remainder = refl;
-  none_left = refl;
+  least_remainder = refl;
   left_first = refl;
 }
