@@ -36,11 +36,13 @@ abbrev pub ending : Statements → Span → SilicaTerms
 ending statements end = if one_ends_there statements then no_terms else one_term (return_form None) end
 
 -- a body with this signature, of this contract
-pub record LowersWith (table : ClassTable) (own : Contract) (s : Signature) (body : ResolvedBody) (lowered : SilicaBody) : Type 0 where
+pub record LowersWith (table : ClassTable) (own : Contract) (s : Signature) (body : ResolvedBody)
+    (lowered : SilicaBody) : Type 0 where
   pub contract : lowered.contract ≡ body.contract
   pub tx : lowered.tx ≡ body.tx
   pub block : SilicaTerms
-  pub statements : LowersBlock (frame_of table body.contract own s) (beginning s.params) (resolved_block body.statements body.end) block
+  pub statements : LowersBlock (frame_of table body.contract own s) (beginning s.params)
+      (resolved_block body.statements body.end) block
   pub terms : lowered.terms ≡ then_terms block (ending body.statements body.end)
   pub slots : lowered.slots ≡ slots_of (length s.params) lowered.terms
   pub end : lowered.end ≡ body.end

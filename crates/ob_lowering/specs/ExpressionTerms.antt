@@ -1,5 +1,6 @@
--- To which terms an expression may be lowered (this project's own; the order is that of the Obsidian language documentation,
--- "Expressions"). Each temporary gets any slot that isn't in use, and keeps it up to the end of its statement.
+-- To which terms an expression may be lowered (this project's own; the order is that of the Obsidian language
+-- documentation, "Expressions"). Each temporary gets any slot that isn't in use, and keeps it up to the end of its
+-- statement.
 use Rattle.std.specs.Prelude.{◌≡◌, ℕ, Bool, true, false, List, [], ◌∷◌, ◌++◌, Option, Some, None}
 use Rattle.ob_base.specs.declared.fault.Span.{Span}
 use Rattle.ob_base.specs.declared.id.ContractId.{ContractId}
@@ -62,21 +63,26 @@ LowersName a used false o l = (k : ℕ) × IsFree k used × (l ≡ into a no_ter
 pub data IsCall (a : Around) : Option ℕ → Option SeenAt → ContractId → TxId → List Operand → SilicaForm → Type 0 where
   calls_this : {k : Option ℕ} {contract : ContractId} {tx : TxId} {args : List Operand}
       → IsCall a k None contract tx args (call_this_form k tx args)
-  calls_other : {k : Option ℕ} {receiver : SeenAt} {contract : ContractId} {tx : TxId} {args : List Operand} {place : Place}
-      → place_of a.variables receiver.of ≡ Some place
+  calls_other : {k : Option ℕ} {receiver : SeenAt} {contract : ContractId} {tx : TxId} {args : List Operand}
+      {place : Place} → place_of a.variables receiver.of ≡ Some place
       → IsCall a k (Some receiver) contract tx args (call_form k (operand place receiver.span) contract tx args)
 
--- the left side of `&&` or `||`, and then the right side in the branch that needs it, copied into the left side's temporary
+-- the terms of a right side, whose value is copied into the left side's temporary
+abbrev pub copied_into : Around → Lowered → Lowered → SilicaTerms
+copied_into a x y = then_terms y.terms (one_term (copy_form x.operand.place y.operand) a.place)
+
+-- `&&`: the left side, and where it is true the right side, which is copied into the left side's temporary
 abbrev pub when_true : Around → Lowered → Lowered → Span → Span → Lowered
 when_true a x y sign span = record {
-  terms = then_terms x.terms (one_term (if_form x.operand (then_terms y.terms (one_term (copy_form x.operand.place y.operand) a.place)) no_terms sign) a.place);
+  terms = then_terms x.terms (one_term (if_form x.operand (copied_into a x y) no_terms sign) a.place);
   operand = operand x.operand.place span;
   made = x.made ++ y.made;
 }
 
+-- `||`: the left side, and where it is false the right side, which is copied into the left side's temporary
 abbrev pub when_false : Around → Lowered → Lowered → Span → Span → Lowered
 when_false a x y sign span = record {
-  terms = then_terms x.terms (one_term (if_form x.operand no_terms (then_terms y.terms (one_term (copy_form x.operand.place y.operand) a.place)) sign) a.place);
+  terms = then_terms x.terms (one_term (if_form x.operand no_terms (copied_into a x y) sign) a.place);
   operand = operand x.operand.place span;
   made = x.made ++ y.made;
 }
@@ -110,7 +116,8 @@ abbrev mutual
       (x : Lowered) × LowersExpression a used left x
       × (y : Lowered) × LowersExpression a (in_use x.made used) right y
       × (k : ℕ) × IsFree k (in_use (x.made ++ y.made) used)
-      × (l ≡ into a (then_terms x.terms y.terms) (x.made ++ y.made) (op_form k operator x.operand y.operand sign.line) k false span)
+      × (l ≡ into a (then_terms x.terms y.terms) (x.made ++ y.made)
+      (op_form k operator x.operand y.operand sign.line) k false span)
   LowersExpression a used (resolved_call receiver contract tx name args span) l =
       (x : LoweredArguments) × LowersArguments a used args x
       × (kind : LocalKind) × (kind_around a (resolved_call receiver contract tx name args span) ≡ Some kind)
@@ -146,4 +153,5 @@ LowersPlainCall a used e l = ⊥
 -- a call or a `new` as a statement, by the kind of its value
 abbrev pub LowersDiscarded : Around → List ℕ → Option LocalKind → Expression → LoweredCall → Type 0
 LowersDiscarded a used None e l = LowersPlainCall a used e l
-LowersDiscarded a used (Some kind) e l = (x : Lowered) × LowersExpression a used e x × (l ≡ record { terms = x.terms; made = x.made })
+LowersDiscarded a used (Some kind) e l =
+    (x : Lowered) × LowersExpression a used e x × (l ≡ record { terms = x.terms; made = x.made })

@@ -67,15 +67,15 @@ place_of variables (FieldSeen f) = Some (Field f)
 
 -- Staged statements.
 
--- What stands before a statement: no staged one; staged ones, with the place of the first, the fields given so far and the
--- temporaries made; or staged ones that are refused, since no change of state to their state follows.
+-- What stands before a statement: no staged one; staged ones, with the place of the first, the fields given so far
+-- and the temporaries made; or staged ones that are refused, since no change of state to their state follows.
 pub data Row : Type 0 where
   no_row : Row
   staged_row : Span → List Given → List Temporary → Row
   refused_row : Row
 
--- The place of the first staged statement that isn't followed by another one for the same state or by the change to it, if
--- there is one, of a row that begins with one for this state and at this place.
+-- The place of the first staged statement that isn't followed by another one for the same state or by the change to
+-- it, if there is one, of a row that begins with one for this state and at this place.
 abbrev pub refused_at : StateId → Span → Statements → Option Span
 refused_at state at no_statements = Some at
 refused_at state at (and_statement (resolved_stage next given span) rest) =
@@ -104,8 +104,8 @@ made_before refused_row = []
 
 -- Points.
 
--- A point of a block: what is visible, the slots in use, the slots of the block's own variables (the last declared first),
--- and the staged statements before it.
+-- A point of a block: what is visible, the slots in use, the slots of the block's own variables (the last declared
+-- first), and the staged statements before it.
 pub record Point : Type 0 where
   pub variables : List Variable
   pub used : List ℕ
@@ -118,7 +118,12 @@ passed p = record { variables = p.variables; used = p.used; declared = p.declare
 
 -- the point behind a declaration
 abbrev pub declares : Point → Variable → Point
-declares p v = record { variables = v ∷ p.variables; used = v.slot ∷ p.used; declared = v.slot ∷ p.declared; row = no_row }
+declares p v = record {
+  variables = v ∷ p.variables;
+  used = v.slot ∷ p.used;
+  declared = v.slot ∷ p.declared;
+  row = no_row;
+}
 
 -- the point with these staged statements before it
 abbrev pub with_row : Point → Row → Point

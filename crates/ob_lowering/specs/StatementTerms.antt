@@ -1,5 +1,5 @@
--- To which terms statements may be lowered (this project's own). Each statement takes a unit of fuel first, and drops its
--- temporaries at its end.
+-- To which terms statements may be lowered (this project's own). Each statement takes a unit of fuel first, and drops
+-- its temporaries at its end.
 use Rattle.std.specs.Prelude.{◌≡◌, ℕ, Bool, true, false, List, [], ◌∷◌, ◌++◌, Option, Some, None, option_map, if◌then◌else◌}
 use Rattle.ob_base.specs.declared.fault.Span.{Span}
 use Rattle.ob_base.specs.declared.id.ContractId.{ContractId}
@@ -59,16 +59,21 @@ LowersGiven a used [] l = l ≡ record { terms = no_terms; given = []; made = []
 LowersGiven a used (g ∷ gs) l =
     (x : Lowered) × LowersExpression a used g.value x
     × (y : LoweredGiven) × LowersGiven a (in_use x.made used) gs y
-    × (l ≡ record { terms = then_terms x.terms y.terms; given = given_from g x.operand ∷ y.given; made = x.made ++ y.made })
+    × (l ≡ record {
+      terms = then_terms x.terms y.terms;
+      given = given_from g x.operand ∷ y.given;
+      made = x.made ++ y.made;
+    })
 
--- A staged statement: the first of a row that is refused is one bad row, and no other of it has a term; else it takes a unit
--- and evaluates its value, and the field waits for the change of state.
+-- The first staged statement of a row: if the row is refused it is one bad row; else it takes a unit and evaluates
+-- its value, and the field waits for the change of state.
 abbrev pub LowersFirstStage : Frame → Point → Option Span → GivenField → Span → SilicaTerms → Point → Type 0
 LowersFirstStage f p (Some at) given span ts q = (ts ≡ one_term bad_row_form at) × (q ≡ with_row p refused_row)
 LowersFirstStage f p None given span ts q =
     (x : Lowered) × LowersExpression (around f p span) p.used given.value x
     × (ts ≡ with_unit span x.terms) × (q ≡ with_row p (staged_row span (given_from given x.operand ∷ []) x.made))
 
+-- a staged statement behind such a row; of a refused row the others have no term
 abbrev pub LowersStage : Frame → Point → Row → Option Span → GivenField → Span → SilicaTerms → Point → Type 0
 LowersStage f p no_row refused given span ts q = LowersFirstStage f p refused given span ts q
 LowersStage f p refused_row refused given span ts q = (ts ≡ no_terms) × (q ≡ p)
@@ -81,7 +86,8 @@ LowersStage f p (staged_row first givens made) refused given span ts q =
 abbrev pub LowersReturn : Around → List ℕ → Option Expression → SilicaTerms → Type 0
 LowersReturn a used None ts = ts ≡ one_term (return_form None) a.place
 LowersReturn a used (Some e) ts =
-    (x : Lowered) × LowersExpression a used e x × (ts ≡ then_terms x.terms (one_term (return_form (Some x.operand)) a.place))
+    (x : Lowered) × LowersExpression a used e x
+    × (ts ≡ then_terms x.terms (one_term (return_form (Some x.operand)) a.place))
 
 -- a `revert`; without a text it has an empty one
 abbrev pub LowersRevert : Around → List ℕ → Option Expression → SilicaTerms → Type 0
@@ -91,10 +97,11 @@ LowersRevert a used None ts =
 LowersRevert a used (Some e) ts =
     (x : Lowered) × LowersExpression a used e x × (ts ≡ then_terms x.terms (one_term (revert_form x.operand) a.place))
 
--- where the branches join: the closing brace of the last block
+-- the closing brace of a block
 abbrev pub block_end : Block → Span
 block_end (resolved_block statements end) = end
 
+-- where two branches join: the closing brace of the last block
 abbrev pub join_of : Block → Otherwise → Span
 join_of branch no_otherwise = block_end branch
 join_of branch (otherwise_block other) = block_end other

@@ -36,8 +36,8 @@ abbrev pub slots_of_returned : Option Operand → ℕ
 slots_of_returned None = 0
 slots_of_returned (Some o) = slots_of_operand o
 
--- one more than the greatest slot that a form names, and terms
 abbrev mutual
+  -- one more than the greatest slot that a form names
   pub slots_of_form : SilicaForm → ℕ
   slots_of_form unit_form = 0
   slots_of_form (const_form k value) = k + 1
@@ -60,6 +60,7 @@ abbrev mutual
   slots_of_form (revert_form text) = slots_of_operand text
   slots_of_form bad_row_form = 0
 
+  -- one more than the greatest slot that terms name
   pub slots_of_terms : SilicaTerms → ℕ
   slots_of_terms no_terms = 0
   slots_of_terms (and_term form span rest) = max (slots_of_form form) (slots_of_terms rest)

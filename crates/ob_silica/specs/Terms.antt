@@ -1,5 +1,5 @@
--- The terms of Silica as plain data, with each part and place, in their order (Coblenz et al., TOPLAS 42(3), 2020, "Silica";
--- that they stand in lists and name places is this project's own).
+-- The terms of Silica as plain data, with each part and place, in their order (Coblenz et al., TOPLAS 42(3), 2020,
+-- "Silica"; that they stand in lists and name places is this project's own).
 use Rattle.std.specs.Prelude.{ℕ, List, [], ◌∷◌, Option}
 use Rattle.ob_base.specs.declared.fault.Span.{Span}
 use Rattle.ob_base.specs.declared.id.ContractId.{ContractId}

@@ -1,5 +1,5 @@
-//! Silica, the core that bodies are lowered to (Coblenz et al., TOPLAS 42(3), 2020, "Silica"): its terms, with copies of all
-//! of them and their plain data.
+//! Silica, the core that bodies are lowered to (Coblenz et al., TOPLAS 42(3), 2020, "Silica"): its terms, with copies
+//! of all of them and their plain data.
 #![tactic(auto)]
 
 mod body;

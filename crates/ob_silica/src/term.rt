@@ -1,11 +1,13 @@
-//! Terms (Coblenz et al., TOPLAS 42(3), 2020, "Silica"; that they stand in lists and name places is this project's own).
+//! Terms (Coblenz et al., TOPLAS 42(3), 2020, "Silica"; that they stand in lists and name places is this project's
+//! own).
 ghost use Rattle.std.specs.Prelude.{◌≡◌, IfOk};
 
 use crate::place::{Constant, Given, Operand, Place};
 use ob_base::{ContractId, Duplicate, Items, Memory, Operator, Perm, Span, StateId, TxId};
 use std::alloc::Global;
 
-/// A form, and its place in the text: that of those of its faults that aren't an operand's, a given field's or a join's.
+/// A form, and its place in the text: that of those of its faults that aren't an operand's, a given field's or a
+/// join's.
 #[derive(Drop)]
 #[cycle(term)]
 pub struct Term {
@@ -20,7 +22,10 @@ pub enum Form {
     /// Takes a unit of fuel.
     Unit,
     /// Sets a slot to a value of the text.
-    Const { slot: u8, value: Constant },
+    Const {
+        slot: u8,
+        value: Constant,
+    },
     /// Sets a slot to an operator's value. Of one operand, `b` equals `a`.
     Op {
         slot: u8,
@@ -31,7 +36,10 @@ pub enum Form {
         line: u32,
     },
     /// Copies a value that is no reference.
-    Copy { to: Place, from: Operand },
+    Copy {
+        to: Place,
+        from: Operand,
+    },
     /// Moves a reference.
     Move {
         to: Place,
@@ -63,7 +71,10 @@ pub enum Form {
         args: Items<Operand>,
     },
     /// Changes the state of `this`.
-    Change { state: StateId, given: Items<Given> },
+    Change {
+        state: StateId,
+        given: Items<Given>,
+    },
     /// Tests the state of an object.
     Test {
         place: Operand,
@@ -83,15 +94,26 @@ pub enum Form {
         join: Span,
     },
     /// Says what a place holds, and does nothing.
-    Assert { place: Operand, perm: Perm },
+    Assert {
+        place: Operand,
+        perm: Perm,
+    },
     /// Gives up ownership.
-    Disown { place: Operand },
+    Disown {
+        place: Operand,
+    },
     /// Ends a local variable or a temporary.
-    Drop { slot: u8 },
+    Drop {
+        slot: u8,
+    },
     /// Ends the body, with the value of a place or with none.
-    Return { place: Option<Operand> },
+    Return {
+        place: Option<Operand>,
+    },
     /// Ends the run and undoes it, with a `string`.
-    Revert { text: Operand },
+    Revert {
+        text: Operand,
+    },
     /// A staged field without its change of state behind it, which has no step.
     BadRow,
 }

@@ -13,12 +13,14 @@ use Rattle.ob_silica_laws.specs.Spelled.{slot_on, on, body_end, terms_body, step
 -- an operator on a line between two parameters, into the third of three slots from this one on
 abbrev pub operated_on : Operator → ℕ → ℕ → ℕ → ℕ → ℕ → ℕ → List SilicaForm
 operated_on operator n a b x y z =
-    copy_form (Slot x) (slot_on a n) ∷ copy_form (Slot y) (slot_on b n) ∷ op_form z operator (slot_on x n) (slot_on y n) n ∷ []
+    copy_form (Slot x) (slot_on a n) ∷ copy_form (Slot y) (slot_on b n)
+    ∷ op_form z operator (slot_on x n) (slot_on y n) n ∷ []
 
 -- `return a / b;` or `return a % b;`
 abbrev pub operation_terms : Operator → ℕ → SilicaTerms
 operation_terms operator n =
-    on n (unit_form ∷ []) (on n (operated_on operator n 1 2 3 4 5) (on n (return_form (Some (slot_on 5 n)) ∷ []) no_terms))
+    on n (unit_form ∷ [])
+    (on n (operated_on operator n 1 2 3 4 5) (on n (return_form (Some (slot_on 5 n)) ∷ []) no_terms))
 
 -- `return a / b` on line 6 `+ b / b;` on line 7
 abbrev pub sum_terms : SilicaTerms

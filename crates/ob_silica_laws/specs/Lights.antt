@@ -16,13 +16,15 @@ make_terms = on 8 (unit_form ∷ new_form 1 (contract_number 0) [] ∷ return_fo
 
 -- `y.flip();`
 abbrev pub flip_y_terms : SilicaTerms
-flip_y_terms = on 11 (unit_form ∷ call_form None (slot_on 2 11) (contract_number 0) (transaction_number 1) [] ∷ []) no_terms
+flip_y_terms =
+    on 11 (unit_form ∷ call_form None (slot_on 2 11) (contract_number 0) (transaction_number 1) [] ∷ []) no_terms
 
 -- `Light z = new Light(); if (x in On) { y.flip(); }`
 abbrev pub both_terms : SilicaTerms
 both_terms =
     on 10
-    (unit_form ∷ new_form 4 (contract_number 0) [] ∷ move_form (Slot 3) (slot_on 4 10) (Some (contract_number 0)) ∷ drop_form 4 ∷ [])
+    (unit_form ∷ new_form 4 (contract_number 0) [] ∷ move_form (Slot 3) (slot_on 4 10) (Some (contract_number 0))
+    ∷ drop_form 4 ∷ [])
     (on 11 (unit_form ∷ test_form (slot_on 1 11) (state_of_number 0) flip_y_terms no_terms (on_line 11) ∷ [])
     (on 1 (drop_form 3 ∷ []) body_end))
 
@@ -39,10 +41,11 @@ light_terms = record {
       ∷ [];
 }
 
--- `both` with the light twice, and `make`, on the store with one light
+-- `both` with the light twice, on the store with one light
 abbrev pub flipped_by_steps : Option Told
 flipped_by_steps = steps_on_store light_terms 20 lit_store 1 0 2 (reference 1 ∷ reference 1 ∷ [])
 
+-- `make` on that store
 abbrev pub made_by_steps : Option Told
 made_by_steps = steps_on_store light_terms 20 lit_store 1 0 1 []
 

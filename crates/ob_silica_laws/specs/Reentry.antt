@@ -1,4 +1,5 @@
--- The call back to an object whose transaction is in progress, and the call on `this`, as terms (this project's own program).
+-- The call back to an object whose transaction is in progress, and the call on `this`, as terms (this project's own
+-- program).
 use Rattle.std.specs.Prelude.{pos, List, [], ◌∷◌, Option, Some, None}
 use Rattle.ob_meaning_laws.specs.Written.{contract_number, field_number, transaction_number, Told}
 use Rattle.ob_meaning_laws.specs.Reentry.{reentry, seven_store}
@@ -18,7 +19,8 @@ back_terms =
 
 -- `n = 7;`
 abbrev pub seven_terms : SilicaTerms
-seven_terms = on 4 (unit_form ∷ const_form 1 (Int (pos 7)) ∷ copy_form (Field (field_number 0)) (slot_on 1 4) ∷ []) body_end
+seven_terms =
+    on 4 (unit_form ∷ const_form 1 (Int (pos 7)) ∷ copy_form (Field (field_number 0)) (slot_on 1 4) ∷ []) body_end
 
 -- `return n;`
 abbrev pub get_terms : SilicaTerms
@@ -28,14 +30,17 @@ get_terms = on 5 (unit_form ∷ copy_form (Slot 1) (field_on 0 5) ∷ return_for
 abbrev pub round_terms : SilicaTerms
 round_terms =
     on 6
-    (unit_form ∷ new_form 2 (contract_number 0) [] ∷ move_form (Slot 1) (slot_on 2 6) (Some (contract_number 0)) ∷ drop_form 2
+    (unit_form ∷ new_form 2 (contract_number 0) [] ∷ move_form (Slot 1) (slot_on 2 6) (Some (contract_number 0))
+    ∷ drop_form 2
     ∷ unit_form ∷ call_form (Some 2) (slot_on 1 6) (contract_number 0) (transaction_number 1) (this_on 6 ∷ [])
     ∷ return_form (Some (slot_on 2 6)) ∷ [])
     no_terms
 
 -- `return get();`
 abbrev pub direct_terms : SilicaTerms
-direct_terms = on 7 (unit_form ∷ call_this_form (Some 1) (transaction_number 1) [] ∷ return_form (Some (slot_on 1 7)) ∷ []) no_terms
+direct_terms =
+    on 7 (unit_form ∷ call_this_form (Some 1) (transaction_number 1) [] ∷ return_form (Some (slot_on 1 7)) ∷ [])
+    no_terms
 
 -- the program
 abbrev pub reentry_terms : SilicaProgram
@@ -51,9 +56,10 @@ reentry_terms = record {
       ∷ [];
 }
 
--- `round`, and `direct`
+-- `round`
 abbrev pub round_by_steps : Option Told
 round_by_steps = steps_on_store reentry_terms 20 seven_store 1 0 2 []
 
+-- `direct`
 abbrev pub direct_by_steps : Option Told
 direct_by_steps = steps_on_store reentry_terms 20 seven_store 1 0 3 []

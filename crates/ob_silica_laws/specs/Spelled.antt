@@ -14,13 +14,15 @@ use Rattle.ob_silica_steps.specs.Starting.{first_notes, started_call}
 
 -- Terms.
 
--- operands on a line: `this`, a slot, a field
+-- `this` as an operand on a line
 abbrev pub this_on : ℕ → Operand
 this_on n = record { place = This; span = on_line n }
 
+-- a slot as an operand on a line
 abbrev pub slot_on : ℕ → ℕ → Operand
 slot_on k n = record { place = Slot k; span = on_line n }
 
+-- a field of `this` as an operand on a line
 abbrev pub field_on : ℕ → ℕ → Operand
 field_on k n = record { place = Field (field_number k); span = on_line n }
 
@@ -35,8 +37,13 @@ body_end = on 1 (return_form None ∷ []) no_terms
 
 -- the body of a transaction of a contract, with so many slots
 abbrev pub terms_body : ℕ → ℕ → SilicaTerms → ℕ → SilicaBody
-terms_body contract tx terms slots =
-    record { contract = contract_number contract; tx = transaction_number tx; terms = terms; slots = slots; end = on_line 1 }
+terms_body contract tx terms slots = record {
+  contract = contract_number contract;
+  tx = transaction_number tx;
+  terms = terms;
+  slots = slots;
+  end = on_line 1;
+}
 
 -- Runs.
 
@@ -47,10 +54,11 @@ told_steps table (ended result w) = Some (tells result (map (told_object table) 
 told_steps table (aborted cause s) = Some (tells_abort cause s)
 told_steps table stuck = Some tells_wrong
 
--- what is told of the run of a transaction of an object of a contract on a store, with so many units, by at most 60 steps
+-- what is told of the run of a transaction of an object of a contract on a store, with so many units, by at most 60
+-- steps
 abbrev pub steps_on_store : SilicaProgram → ℕ → List Object → ℕ → ℕ → ℕ → List Value → Option Told
 steps_on_store program units objects contract n tx args = told_steps program.table
     (then_steps
-    (started_call program (contract_number contract) (transaction_number tx) n args (first_notes program.table objects [])
-    (first_world objects units))
+    (started_call program (contract_number contract) (transaction_number tx) n args
+    (first_notes program.table objects []) (first_world objects units))
     (steps program 60))

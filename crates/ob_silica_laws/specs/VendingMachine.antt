@@ -33,7 +33,12 @@ buy_terms =
 abbrev pub vending_terms : SilicaProgram
 vending_terms = record {
   table = vending_machine;
-  bodies = terms_body 0 0 body_end 1 ∷ terms_body 1 0 body_end 1 ∷ terms_body 2 0 machine_terms 2 ∷ terms_body 2 1 buy_terms 6 ∷ [];
+  bodies =
+      terms_body 0 0 body_end 1
+      ∷ terms_body 1 0 body_end 1
+      ∷ terms_body 2 0 machine_terms 2
+      ∷ terms_body 2 1 buy_terms 6
+      ∷ [];
 }
 
 -- the coin is given to `buy` with so many units

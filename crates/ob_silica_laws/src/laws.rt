@@ -9,15 +9,15 @@ ghost use Rattle.ob_silica_steps.specs.Steps.{then_steps, steps};
 ghost use Rattle.ob_silica_steps.specs.Starting.{started_call, started_new};
 ghost use Rattle.ob_silica_laws.specs.Laws.{UnitsAddUp, ReadsGrow, OthersStay, IsOver};
 
-/// Units left and units taken add up to those that were there, after any number of steps and for each run from outside; an
-/// aborted run has taken no more than were there.
+/// Units left and units taken add up to those that were there, after any number of steps and for each run from
+/// outside; an aborted run has taken no more than were there.
 pub fn units_add_up()
     ensures steps { (program : SilicaProgram) (n : ℕ) (c : Configuration) → UnitsAddUp c.world (steps program n c) }
     ensures calls { (program : SilicaProgram) (most : ℕ) (contract : ContractId) (tx : TxId) (n : ℕ) (args : List Value)
         (notes : Notes) (w : World)
         → UnitsAddUp w (then_steps (started_call program contract tx n args notes w) (steps program most)) }
-    ensures news { (program : SilicaProgram) (most : ℕ) (contract : ContractId) (args : List Value) (notes : Notes) (w : World)
-        → UnitsAddUp w (then_steps (started_new program contract args notes w) (steps program most)) }
+    ensures news { (program : SilicaProgram) (most : ℕ) (contract : ContractId) (args : List Value) (notes : Notes)
+        (w : World) → UnitsAddUp w (then_steps (started_new program contract args notes w) (steps program most)) }
 {}
 
 /// So many steps and then so many are their sum, and where no further step follows, more of them change nothing.
@@ -34,8 +34,8 @@ pub fn reads_grow()
     ensures calls { (program : SilicaProgram) (most : ℕ) (contract : ContractId) (tx : TxId) (n : ℕ) (args : List Value)
         (notes : Notes) (w : World)
         → ReadsGrow w (then_steps (started_call program contract tx n args notes w) (steps program most)) }
-    ensures news { (program : SilicaProgram) (most : ℕ) (contract : ContractId) (args : List Value) (notes : Notes) (w : World)
-        → ReadsGrow w (then_steps (started_new program contract args notes w) (steps program most)) }
+    ensures news { (program : SilicaProgram) (most : ℕ) (contract : ContractId) (args : List Value) (notes : Notes)
+        (w : World) → ReadsGrow w (then_steps (started_new program contract args notes w) (steps program most)) }
 {}
 
 /// What the steps don't set or make stays, and what they make comes behind all that was there.
@@ -44,6 +44,6 @@ pub fn others_stay()
     ensures calls { (program : SilicaProgram) (most : ℕ) (contract : ContractId) (tx : TxId) (n : ℕ) (args : List Value)
         (notes : Notes) (w : World)
         → OthersStay w (then_steps (started_call program contract tx n args notes w) (steps program most)) }
-    ensures news { (program : SilicaProgram) (most : ℕ) (contract : ContractId) (args : List Value) (notes : Notes) (w : World)
-        → OthersStay w (then_steps (started_new program contract args notes w) (steps program most)) }
+    ensures news { (program : SilicaProgram) (most : ℕ) (contract : ContractId) (args : List Value) (notes : Notes)
+        (w : World) → OthersStay w (then_steps (started_new program contract args notes w) (steps program most)) }
 {}

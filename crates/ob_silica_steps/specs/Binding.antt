@@ -55,7 +55,11 @@ unbound h = record { from = h; slots = nothing; loans = [] }
 abbrev pub loan_of : ClassTable → Location → ℕ → Parameter → Known → List Loan
 loan_of table place k p note =
     if owns (permission_of_kind p.of)
-    then record { place = place; param = k; exit = converted table (kind_of_table p.of) note.kind (permission_of p.exit) } ∷ []
+    then record {
+      place = place;
+      param = k;
+      exit = converted table (kind_of_table p.of) note.kind (permission_of p.exit);
+    } ∷ []
     else []
 
 -- a place with this cell is handed over to one parameter
@@ -74,15 +78,16 @@ bind_all table b (place ∷ places) k [] go = stuck
 bind_all table b (place ∷ places) k (p ∷ ps) go =
     if_there (read table b.from place) (λ c. bind_all table (bind_one table b place c k p) places (suc k) ps go)
 
--- the loans of slots: a call on `this` gives fields back in its own way
+-- a loan more, if its place is a slot
 abbrev pub if_slot : Location → Loan → List Loan → List Loan
 if_slot (slot k) loan loans = loan ∷ loans
 if_slot (field k) loan loans = loans
 
+-- the loans of slots alone
 abbrev pub slot_loans : List Loan → List Loan
 slot_loans [] = []
 slot_loans (loan ∷ loans) = if_slot loan.place loan (slot_loans loans)
 
--- the same of what is bound
+-- what is bound, where fields aren't lent: a call on `this` gives them back as it declares them
 abbrev pub without_field_loans : Bound → Bound
 without_field_loans b = record { from = b.from; slots = b.slots; loans = slot_loans b.loans }

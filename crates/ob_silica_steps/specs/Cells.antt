@@ -1,5 +1,5 @@
--- Where a run finds its values, and what is noted there (Coblenz et al., TOPLAS 42(3), 2020, "Silica", where a reference
--- carries its permission; slots and notes are this project's own).
+-- Where a run finds its values, and what is noted there (Coblenz et al., TOPLAS 42(3), 2020, "Silica", where a
+-- reference carries its permission; slots and notes are this project's own).
 use Rattle.std.specs.Prelude.{ℕ, Bool, false, nat_eq, List, map, Option, Some, None, option_map, if◌then◌else◌}
 use Rattle.ob_base.specs.declared.operator.Operator.{Operator}
 use Rattle.ob_base.specs.declared.operator.Operator.TheVariants.{Not, Negate}
@@ -109,6 +109,10 @@ abbrev pub kind_of_constant : Constant → LocalKind
 kind_of_constant (constant.Int z) = kind.Int
 kind_of_constant (constant.Bool b) = kind.Bool
 kind_of_constant (constant.Text bytes) = kind.Text
+
+-- a constant as a cell
+abbrev pub constant_cell : Constant → Cell
+constant_cell value = plain_cell (value_of_constant value) (kind_of_constant value)
 
 -- the kind of an operator's value
 abbrev pub kind_of_operator : Operator → LocalKind

@@ -1,4 +1,5 @@
--- Changes of the state of `this` (Coblenz et al., TOPLAS 42(3), 2020, "Silica"; the test of a lock is this project's own).
+-- Changes of the state of `this` (Coblenz et al., TOPLAS 42(3), 2020, "Silica"; the test of a lock is this project's
+-- own).
 use Rattle.std.specs.Prelude.{ℕ, Bool, true, ◌&&◌, List, [], ◌∷◌, Option, Some, None, option_map, is_some, slice_get, if◌then◌else◌}
 use Rattle.std.specs.Option.{option_map_or}
 use Rattle.ob_base.specs.declared.id.StateId.{StateId}
@@ -32,7 +33,8 @@ fill_one table c state h g go =
     else stuck))
 
 -- fields are given their values one after the other, which are kept until all are given
-abbrev pub fill_all : ClassTable → Contract → StateId → Here → List Given → Numbered Cell → (Here → Numbered Cell → Next) → Next
+abbrev pub fill_all : ClassTable → Contract → StateId → Here → List Given → Numbered Cell
+    → (Here → Numbered Cell → Next) → Next
 fill_all table c state h [] got go = go h got
 fill_all table c state h (g ∷ gs) got go =
     fill_one table c state h g (λ next x. fill_all table c state next gs (put got g.field.0 x) go)
@@ -50,11 +52,12 @@ values_after c state got old = λ k. value_after (got k) (if has_field c (Some s
 abbrev pub changed_object : Contract → StateId → Numbered Cell → Object → Object
 changed_object c state got o = record o { state = Some state; fields = values_after c state got o.fields }
 
--- what is noted of a given field is what it got
+-- what is noted of a field after a change: of one that was given, what it got
 abbrev pub note_after : Option Cell → Known → Known
 note_after None old = old
 note_after (Some x) old = x.note
 
+-- the notes after a change, of the fields of an object
 abbrev pub notes_after : ℕ → Numbered Cell → Notes → Notes
 notes_after n got notes = record notes { fields = at notes.fields n (λ k. note_after (got k) (notes.fields n k)) }
 

@@ -1,4 +1,5 @@
--- The configurations of a run of terms (this project's own; Coblenz et al., TOPLAS 42(3), 2020, "Silica", for the frames).
+-- The configurations of a run of terms (this project's own; Coblenz et al., TOPLAS 42(3), 2020, "Silica", for the
+-- frames).
 use Rattle.std.specs.Prelude.{ℕ, Bool, ◌&&◌, nat_eq, List, find, Option, option_map}
 use Rattle.ob_base.specs.declared.id.ContractId.{ContractId}
 use Rattle.ob_base.specs.declared.id.TxId.{TxId}
@@ -22,7 +23,8 @@ is_terms_of contract tx body = nat_eq body.contract.0 contract.0 && nat_eq body.
 
 -- the terms of a constructor or transaction
 abbrev pub terms_at : SilicaProgram → ContractId → TxId → Option SilicaTerms
-terms_at program contract tx = option_map (λ (body : SilicaBody). body.terms) (find (is_terms_of contract tx) program.bodies)
+terms_at program contract tx =
+    option_map (λ (body : SilicaBody). body.terms) (find (is_terms_of contract tx) program.bodies)
 
 -- Frames.
 
@@ -44,7 +46,8 @@ pub record Frame : Type 0 where
   pub how : How
   pub share_entered : Bool
 
--- What ends where a list of terms ends: nothing more; the test of a place; the test of a place with the lock of an object.
+-- What ends where a list of terms ends: nothing more; the test of a place; the test of a place with the lock of an
+-- object.
 pub data Ends : Type 0 where
   plain_end : Ends
   test_end : Location → Ends
@@ -69,8 +72,8 @@ pub record Waiting : Type 0 where
   pub result : Option ℕ
   pub loans : List Loan
 
--- what a frame is about to do: it runs the current list of terms with the lists around it, or it leaves with a result, if
--- it has one, and has still to end these lists
+-- what a frame is about to do: it runs the current list of terms with the lists around it, or it leaves with a
+-- result, if it has one, and has still to end these lists
 pub data Control : Type 0 where
   runs : SilicaTerms → List Rest → Control
   leaves : Option Cell → List Rest → Control
@@ -82,7 +85,8 @@ pub record HandleNote : Type 0 where
   pub object : ℕ
   pub permission : Permission
 
--- what is noted beside the world: of each object's fields, by the numbers of both, and of the handles, which no step changes
+-- what is noted beside the world: of each object's fields, by the numbers of both, and of the handles, which no step
+-- changes
 pub record Notes : Type 0 where
   pub fields : ℕ → ℕ → Known
   pub handles : List HandleNote

@@ -13,11 +13,12 @@ use Rattle.ob_typing.specs.WellMade.{is_implemented, kind_of_table}
 use Rattle.ob_silica_steps.specs.Cells.{Location, Cell, cell, permission_of_kind}
 use Rattle.ob_silica_steps.specs.Here.{Here, counted}
 
--- a permission on a contract said for another, of which the one is the interface of the other
+-- a permission on a contract said for its interface
 abbrev pub said_up : Option Contract → Option Contract → Permission → Permission
 said_up (Some c) (Some interface) p = for_interface (naming interface c) p
 said_up c interface p = p
 
+-- a permission on an interface said for a contract that implements it
 abbrev pub said_down : Option Contract → Option Contract → Permission → Permission
 said_down (Some interface) (Some c) p = for_contract (naming interface c) p
 said_down interface c p = p

@@ -1,5 +1,5 @@
--- How a call or a `new` enters its body (Coblenz et al., TOPLAS 42(3), 2020, "Silica"; re-entry, shared entry and the order
--- of units, tests and marks are this project's own).
+-- How a call or a `new` enters its body (Coblenz et al., TOPLAS 42(3), 2020, "Silica"; re-entry, shared entry and the
+-- order of units, tests and marks are this project's own).
 use Rattle.std.specs.Prelude.{ℕ, suc, Bool, true, false, ◌&&◌, nat_eq, nat_le, List, [], ◌∷◌, length, position, Option, Some, None, option_map, option_and_then, slice_get, bytes_eq, if◌then◌else◌}
 use Rattle.std.specs.Option.{option_map_or}
 use Rattle.ob_base.specs.declared.id.ContractId.{ContractId}
@@ -27,7 +27,8 @@ use Rattle.ob_silica_steps.specs.Configurations.{SilicaProgram, terms_at, Slots,
 use Rattle.ob_silica_steps.specs.Here.{at, with_unit, if_there}
 use Rattle.ob_silica_steps.specs.Binding.{Parameter, parameters, all_parameters}
 
--- whether the slots from this number on hold what these parameters need: an owner's object is in one of the declared states
+-- whether the slots from this number on hold what these parameters need: an owner's object is in one of the declared
+-- states
 abbrev pub are_within : ClassTable → List Object → Slots → ℕ → List Parameter → Bool
 are_within table objects slots k [] = true
 are_within table objects slots k (p ∷ ps) =
@@ -58,15 +59,17 @@ this_cell contract entry n = cell (reference n) (Reference contract) (permission
 abbrev pub entered_on : Entered → ℕ → Object → Signature → Entered
 entered_on e n o s = record e { slots = at e.slots 0 (Some (this_cell o.contract s.entry n)) }
 
--- such a body begins where its owners' objects are in the declared states; the object has a transaction in progress then
+-- such a body begins where its owners' objects are in the declared states; the object has a transaction in progress
+-- then
 abbrev pub begins_on : SilicaProgram → Entered → ℕ → Object → TxId → Signature → Next
 begins_on program e n o tx s =
     if are_within program.table e.world.objects (entered_on e n o s).slots 0 (all_parameters o.contract s)
-    then enters program (record (entered_on e n o s) { world = enter n e.world }) o.contract tx by_receiver (is_shared s.entry.mode)
+    then enters program (record (entered_on e n o s) { world = enter n e.world }) o.contract tx by_receiver
+    (is_shared s.entry.mode)
     else stuck
 
--- a call of an object, once its unit is taken: the object is read, and mustn't have a transaction in progress; it runs its
--- own transaction for one of its contract or interface with this signature
+-- a call of an object, once its unit is taken: the object is read, and mustn't have a transaction in progress; it
+-- runs its own transaction for one of its contract or interface with this signature
 abbrev pub calls_object : SilicaProgram → Entered → ContractId → TxId → Signature → ℕ → Next
 calls_object program e contract tx asked n =
     let w = read_object e.world n in

@@ -39,11 +39,12 @@ abbrev pub if_there : {A : Type 0} → Option A → (A → Next) → Next
 if_there None go = stuck
 if_there (Some a) go = go a
 
--- a unit of fuel is taken; where none is left the run aborts
+-- what follows where so many units are left, at least one, of which one is taken; where none is left the run aborts
 abbrev pub with_fuel_left : ℕ → World → (World → Next) → Next
 with_fuel_left zero w go = abort by_fuel w
 with_fuel_left (suc n) w go = go (with_unit_taken w n)
 
+-- a unit is taken
 abbrev pub with_unit : World → (World → Next) → Next
 with_unit w go = with_fuel_left w.fuel w go
 
@@ -65,7 +66,8 @@ field_of table o k = option_and_then (λ c. slice_get c.fields k) (contract_at t
 
 -- the value of an object's field that is available in its state
 abbrev pub field_value : ClassTable → Object → ℕ → Option Value
-field_value table o k = if option_map_or (λ c. has_field c o.state k) (contract_at table o.contract) false then o.fields k else None
+field_value table o k =
+    if option_map_or (λ c. has_field c o.state k) (contract_at table o.contract) false then o.fields k else None
 
 -- the value of a place with its note, if it is there: a slot that is set, a field that is available and has a value
 abbrev pub read : ClassTable → Here → Location → Option Cell
@@ -74,7 +76,7 @@ read table h (field k) =
     option_map (λ v. record { value = v; note = h.notes.fields (self_of h.slots) k })
     (option_and_then (λ o. field_value table o k) (self h))
 
--- a permission as it counts: an owning field counts as Unowned while `this` is Unowned
+-- a field's permission as it counts under that of `this`: an owner's as Unowned where `this` is Unowned
 abbrev pub unowned_under : Permission → Permission → Permission
 unowned_under (owned a) p = p
 unowned_under shared p = p
@@ -82,6 +84,7 @@ unowned_under unowned (owned a) = unowned
 unowned_under unowned shared = shared
 unowned_under unowned unowned = unowned
 
+-- the permission of a place with this cell, as it counts
 abbrev pub counted : Here → Location → Cell → Permission
 counted h (slot k) c = c.note.permission
 counted h (field k) c = unowned_under (permission_in (h.slots 0)) c.note.permission
@@ -114,8 +117,9 @@ set_permission (slot k) p h = record h { slots = at h.slots k (option_map (noted
 set_permission (field k) p h =
     record h { notes = with_field_note h.notes (self_of h.slots) k (known (h.notes.fields (self_of h.slots) k).kind p) }
 
--- A place with this cell hands its value over where one of this type is wanted: first the object is marked if the type is
--- declared Shared, then the place keeps what a giver keeps.
+-- A place with this cell hands its value over where one of this type is wanted: first the object is marked if the
+-- type is declared Shared, then the place keeps what a giver keeps.
 abbrev pub hand : Kind → Location → Cell → Here → Here
 hand of place c h =
-    set_permission place (kept c.note.permission (permission_of_kind of)) (record h { world = comes_into of c.value h.world })
+    set_permission place (kept c.note.permission (permission_of_kind of))
+    (record h { world = comes_into of c.value h.world })

@@ -1,5 +1,5 @@
--- How a body ends: in silent steps its result is taken, its tests end, what was lent goes back, and its caller goes on (this
--- project's own).
+-- How a body ends: in silent steps its result is taken, its tests end, what was lent goes back, and its caller goes
+-- on (this project's own).
 use Rattle.std.specs.Prelude.{ℕ, suc, Bool, true, ◌&&◌, ◌||◌, nat_eq, length, is_some, List, [], ◌∷◌, map, Option, Some, None, option_map, if◌then◌else◌}
 use Rattle.std.specs.Option.{option_map_or}
 use Rattle.ob_base.specs.declared.permission.Perm.{Perm}
@@ -101,13 +101,19 @@ resumes h result stack c = goes (record {
   world = left_world c;
 })
 
--- a place that was lent has its exit, and the parameter that had it is Unowned
-abbrev pub returned_to : Waiting → Loan → Configuration → Here
-returned_to h loan c = set_permission loan.place loan.exit (record { slots = h.frame.slots; notes = c.notes; world = c.world })
+-- a slot keeps its value and is Unowned
+abbrev pub without_owner : ℕ → Slots → Slots
+without_owner k slots = at slots k (option_map (noted unowned) (slots k))
 
+-- what the waiting frame works on once the place of a loan has its exit
+abbrev pub returned_to : Waiting → Loan → Configuration → Here
+returned_to h loan c =
+    set_permission loan.place loan.exit (record { slots = h.frame.slots; notes = c.notes; world = c.world })
+
+-- the step in which a loan goes back: its place has the exit, and the parameter that had it is Unowned
 abbrev pub unlends : Option Cell → Waiting → Loan → List Loan → List Waiting → Configuration → Next
 unlends result h loan loans stack c = goes (record {
-  frame = record c.frame { slots = at c.frame.slots loan.param (option_map (noted unowned) (c.frame.slots loan.param)) };
+  frame = record c.frame { slots = without_owner loan.param c.frame.slots };
   control = leaves result [];
   stack = record h { frame = record h.frame { slots = (returned_to h loan c).slots }; loans = loans } ∷ stack;
   notes = (returned_to h loan c).notes;

@@ -31,7 +31,8 @@ no_note = known Int unowned
 -- what is noted of the fields of a store's objects: what they declare
 abbrev pub declared_notes : ClassTable → List Object → ℕ → ℕ → Known
 declared_notes table objects n k =
-    option_map_or (λ o. option_map_or (λ f. declared_note f.of) (field_of table o k) no_note) (object_at objects n) no_note
+    option_map_or (λ o. option_map_or (λ f. declared_note f.of) (field_of table o k) no_note)
+    (object_at objects n) no_note
 
 -- the notes at the start of a run, with these handles
 abbrev pub first_notes : ClassTable → List Object → List HandleNote → Notes

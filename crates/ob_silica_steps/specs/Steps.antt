@@ -1,5 +1,5 @@
--- Silica steps: one case for each form (Coblenz et al., TOPLAS 42(3), 2020, "Silica"; locks, re-entry, units and what is
--- read are this project's own).
+-- Silica steps: one case for each form (Coblenz et al., TOPLAS 42(3), 2020, "Silica"; locks, re-entry, units and what
+-- is read are this project's own).
 use Rattle.std.specs.Prelude.{ℕ, zero, suc, Bool, true, false, ◌==◌, List, [], ◌∷◌, Option, Some, None, option_map, option_and_then, if◌then◌else◌}
 use Rattle.std.specs.Option.{option_map_or}
 use Rattle.ob_base.specs.declared.id.ContractId.{ContractId}
@@ -20,7 +20,7 @@ use Rattle.ob_silica.specs.Terms.{SilicaForm, unit_form, const_form, op_form, co
 use Rattle.ob_silica.specs.declared.place.Operand.{Operand}
 use Rattle.ob_silica.specs.declared.place.Place.{Place}
 use Rattle.ob_silica.specs.declared.place.Place.TheVariants.{This, Slot, Field as FieldPlace}
-use Rattle.ob_silica_steps.specs.Cells.{Location, slot, field, location_of, this, located, all_located, Cell, cell, plain_cell, value_of_constant, kind_of_constant, kind_of_operator}
+use Rattle.ob_silica_steps.specs.Cells.{Location, slot, field, location_of, this, located, all_located, Cell, cell, plain_cell, constant_cell, kind_of_operator}
 use Rattle.ob_silica_steps.specs.Configurations.{SilicaProgram, Ends, plain_end, Rest, Waiting, Control, runs, leaves, Configuration, Next, goes, ended, aborted, abort, stuck}
 use Rattle.ob_silica_steps.specs.Here.{Here, here, goes_to, if_there, with_unit, self, field_of, read, counted, set_slot, set_field, set_permission, hand}
 use Rattle.ob_silica_steps.specs.Converting.{converted, got_from}
@@ -60,7 +60,8 @@ with_text value go = stuck
 -- the field of `this` that has this number, where it is available
 abbrev pub available_field : ClassTable → Here → ℕ → Option Field
 available_field table h k =
-    option_and_then (λ o. option_and_then (λ f. if is_available o.state f then Some f else None) (field_of table o k)) (self h)
+    option_and_then (λ o.
+    option_and_then (λ f. if is_available o.state f then Some f else None) (field_of table o k)) (self h)
 
 -- a value that is no reference is copied
 abbrev pub copy_to : ClassTable → Location → Cell → Here → (Here → Next) → Next
@@ -68,14 +69,14 @@ copy_to table (slot k) x h go = go (set_slot k (Some (plain_cell x.value x.note.
 copy_to table (field k) x h go =
     if_there (available_field table h k) (λ f. go (set_field k (plain_cell x.value (kind_of_table f.of)) h))
 
--- A reference is moved: an owner's permission goes over, and else what is kept stays. A slot has the contract of the move;
--- a field is handed what it declares.
+-- a reference is moved to a slot, which has this contract; an owner's permission goes over
 abbrev pub move_to_slot : ClassTable → ℕ → Option ContractId → Location → Cell → Here → (Here → Next) → Next
 move_to_slot table k None place x h go = stuck
 move_to_slot table k (Some id) place x h go = go
     (set_slot k (Some (cell x.value (Reference id) (converted table x.note.kind (Reference id) (counted h place x))))
     (set_permission place (kept x.note.permission (counted h place x)) h))
 
+-- a reference is moved; a field gets what it declares
 abbrev pub move_to : ClassTable → Location → Option ContractId → Location → Cell → Here → (Here → Next) → Next
 move_to table (slot k) contract place x h go = move_to_slot table k contract place x h go
 move_to table (field k) contract place x h go =
@@ -104,7 +105,8 @@ entered_with c b rest outer result w =
     record { slots = b.slots; stack = waits c b rest outer result; notes = b.from.notes; world = w }
 
 -- the receiver and the arguments are handed over, and then a unit is taken
-abbrev pub call_step : SilicaProgram → Option ℕ → Location → ContractId → TxId → List Location → SilicaTerms → List Rest → Configuration → Next
+abbrev pub call_step : SilicaProgram → Option ℕ → Location → ContractId → TxId → List Location → SilicaTerms
+    → List Rest → Configuration → Next
 call_step program result receiver contract tx args rest outer c =
     if_there (signature_of program.table contract tx) (λ s.
     if_there (read program.table (here c) receiver) (λ x. if_there (referred x.value) (λ n.
@@ -112,7 +114,8 @@ call_step program result receiver contract tx args rest outer c =
     with_unit b.from.world (λ w. calls_object program (entered_with c b rest outer result w) contract tx s n)))))
 
 -- `this` and the arguments are handed over, and then a unit is taken; what fields lent is given back in its own way
-abbrev pub call_this_step : SilicaProgram → Option ℕ → TxId → List Location → SilicaTerms → List Rest → Configuration → Next
+abbrev pub call_this_step : SilicaProgram → Option ℕ → TxId → List Location → SilicaTerms → List Rest
+    → Configuration → Next
 call_this_step program result tx args rest outer c =
     if_there (signature_of program.table c.frame.contract tx) (λ s.
     bind_all program.table (unbound (here c)) (this ∷ args) 0 (all_parameters c.frame.contract s) (λ b.
@@ -138,7 +141,7 @@ abbrev pub act : SilicaProgram → SilicaForm → SilicaTerms → List Rest → 
 act program unit_form rest outer c =
     with_unit c.world (λ w. goes_to c (record (here c) { world = w }) (runs rest outer))
 act program (const_form k value) rest outer c =
-    goes_to c (set_slot k (Some (plain_cell (value_of_constant value) (kind_of_constant value))) (here c)) (runs rest outer)
+    goes_to c (set_slot k (Some (constant_cell value)) (here c)) (runs rest outer)
 act program (op_form k operator a b line) rest outer c =
     if_there (read program.table (here c) (located a)) (λ x. if_there (read program.table (here c) (located b)) (λ y.
     with_operated line c.world (operate operator x.value y.value) (λ v.
@@ -155,8 +158,14 @@ act program (call_form result receiver contract tx args) rest outer c =
 act program (call_this_form result tx args) rest outer c =
     call_this_step program result tx (all_located args) rest outer c
 act program (change_form state given) rest outer c = change_step program.table state given rest outer c
-act program (test_form place state branch other join) rest outer c = test_step program.table
-    (record { place = located place; state = state.0; branch = branch; other = other; rest = rest; outer = outer }) state c
+act program (test_form place state branch other join) rest outer c = test_step program.table (record {
+  place = located place;
+  state = state.0;
+  branch = branch;
+  other = other;
+  rest = rest;
+  outer = outer;
+}) state c
 act program (if_form a branch other join) rest outer c =
     if_there (read program.table (here c) (located a)) (λ x. with_truth x.value
     (goes_to c (here c) (runs branch (record { terms = rest; ends = plain_end } ∷ outer)))

@@ -43,17 +43,19 @@ into_branch c h t holds ends = goes_to c h (runs (branch_of t holds) (record { t
 
 -- without a lock an owner knows more in each branch, and others know no more
 abbrev pub tells : Configuration → Here → Tested → Cell → Bool → Next
-tells c h t x holds = into_branch c (set_permission t.place (narrowed x.note.permission t.state holds) h) t holds plain_end
+tells c h t x holds =
+    into_branch c (set_permission t.place (narrowed x.note.permission t.state holds) h) t holds plain_end
 
 -- from here on the place is under test, and owns its object in the tested state
 abbrev pub tests_from : Here → Tested → Here
 tests_from h t = set_permission t.place (owned (only t.state)) h
 
--- a test of `this` takes no lock: a shared `this` is under test in the branch that holds
+-- a `this` that is Shared is under test in the branch that holds
 abbrev pub test_shared_this : Configuration → Here → Tested → Bool → Next
 test_shared_this c h t true = into_branch c (tests_from h t) t true (test_end t.place)
 test_shared_this c h t false = into_branch c h t false plain_end
 
+-- a test of `this` with this permission takes no lock
 abbrev pub test_this_as : Permission → Configuration → Here → Tested → Cell → Bool → Next
 test_this_as shared c h t x holds = test_shared_this c h t holds
 test_this_as (owned a) c h t x holds = tells c h t x holds
@@ -74,7 +76,8 @@ test_shared c h t n false = into_branch c h t false plain_end
 abbrev pub test_other : Configuration → Here → Tested → Cell → ℕ → Object → Bool → Next
 test_other c h t x n o holds =
     if o.shared
-    then (if is_locked h.world n || is_in_progress h.world n then abort (by_state n None) h.world else test_shared c h t n holds)
+    then (if is_locked h.world n || is_in_progress h.world n then abort (by_state n None) h.world
+    else test_shared c h t n holds)
     else tells c h t x holds
 
 -- `this`, or another place
