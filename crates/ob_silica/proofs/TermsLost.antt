@@ -4,7 +4,7 @@ use Rattle.ob_silica.specs.Terms.{and_term}
 use Rattle.ob_silica.specs.TermsView.{form_of, terms_of, silica_body_of, form_of-Unit, form_of-Const, form_of-Op, form_of-Copy, form_of-Move, form_of-New, form_of-Call, form_of-CallThis, form_of-Change, form_of-Test, form_of-If, form_of-Assert, form_of-Disown, form_of-Drop, form_of-Return, form_of-Revert, form_of-BadRow, term_of-fields}
 use Rattle.ob_silica.specs.TermsBack.{form_back, terms_back, silica_body_back}
 use Rattle.ob_silica.specs.declared.body.TermBody.{TermBody}
-use Rattle.ob_silica.specs.declared.term.Term.{Term, Term-F, map-Term, roll-Term}
+use Rattle.ob_silica.specs.declared.term.Term.{Term, roll-Term}
 use Rattle.ob_silica.specs.declared.term.Form as made
 use Rattle.ob_silica.specs.declared.term.Form.TheOpen as open'
 use Rattle.ob_silica.specs.declared.term.Form.TheVariants.{rolls-Unit, rolls-Const, rolls-Op, rolls-Copy, rolls-Move, rolls-New, rolls-Call, rolls-CallThis, rolls-Change, rolls-Test, rolls-If, rolls-Assert, rolls-Disown, rolls-Drop, rolls-Return, rolls-Revert, rolls-BadRow}

@@ -2,9 +2,8 @@
 use Rattle.std.specs.Prelude.{◌≡◌, List, [], ◌∷◌}
 use Rattle.std.specs.Coded.{Coded, coded_list, code_by}
 use Rattle.std.proofs.Common.{ap, ◌∙◌, refl}
-use Rattle.ob_base.specs.declared.fault.Span.{Span}
 use Rattle.ob_silica.specs.Terms.{SilicaForm, unit_form, const_form, op_form, copy_form, move_form, new_form, call_form, call_this_form, change_form, test_form, if_form, assert_form, disown_form, drop_form, return_form, revert_form, bad_row_form, SilicaTerms, no_terms, and_term, SilicaBody}
-use Rattle.ob_silica.specs.TermsView.{form_of, term_of, terms_of, silica_body_of, form_of-Unit, form_of-Const, form_of-Op, form_of-Copy, form_of-Move, form_of-New, form_of-Call, form_of-CallThis, form_of-Change, form_of-Test, form_of-If, form_of-Assert, form_of-Disown, form_of-Drop, form_of-Return, form_of-Revert, form_of-BadRow, term_of-fields}
+use Rattle.ob_silica.specs.TermsView.{form_of, terms_of, silica_body_of, form_of-Unit, form_of-Const, form_of-Op, form_of-Copy, form_of-Move, form_of-New, form_of-Call, form_of-CallThis, form_of-Change, form_of-Test, form_of-If, form_of-Assert, form_of-Disown, form_of-Drop, form_of-Return, form_of-Revert, form_of-BadRow, term_of-fields}
 use Rattle.ob_silica.specs.declared.body.TermBody.{TermBody}
 use Rattle.ob_silica.specs.declared.term.Term.{Term}
 use Rattle.ob_silica.specs.declared.term.Form as made
