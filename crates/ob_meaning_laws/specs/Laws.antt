@@ -19,19 +19,19 @@ use Rattle.ob_meaning.specs.Calls.{call_at}
 
 -- Parts of a run.
 
--- this holds of each call, begun in any world
+-- a law holds of each call, begun in any world
 abbrev pub OfCalls : (World → Outcome (Option Value) → Type 0) → Type 0
 OfCalls Law =
     (table : ClassTable) (depth : ℕ) (callee : Callee) (args : List Value) (w : World)
     → Law w (call_at table depth callee args w)
 
--- this holds of each expression
+-- a law holds of each expression, begun in any world
 abbrev pub OfExpressions : (World → Outcome Value → Type 0) → Type 0
 OfExpressions Law =
     (table : ClassTable) (depth : ℕ) (f : Frame) (e : Expression) (ls : Locals) (w : World)
     → Law w (value_of (call_at table depth) f e ls w)
 
--- this holds of each list of statements
+-- a law holds of each list of statements, begun in any world
 abbrev pub OfStatements : (World → Outcome Flow → Type 0) → Type 0
 OfStatements Law =
     (table : ClassTable) (depth : ℕ) (f : Frame) (ss : Statements) (ls : Locals) (w : World)
