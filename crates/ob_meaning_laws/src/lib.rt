@@ -92,13 +92,14 @@ pub fn division_overflows()
     ensures left_first { calculated 3 (pos 7) (pos 0) ≡ overflows_on 6 }
 {}
 
-/// A transaction that is called through an interface is the object's own of that name, and a state that is tested through
-/// it is the object's of that name.
+/// A transaction that is called through an interface is the object's own of that name, and a state that is tested
+/// through it is the object's of that name.
 pub fn interface_calls_by_name()
     ensures { lamp_flipped ≡ lamp_is_on }
 {}
 
-/// Each of the five ways of going wrong is met by some body, and a staged field with its change of state behind it by none.
+/// Each of the five ways of going wrong is met by some body, and none by a staged field with its change of state behind
+/// it.
 pub fn mistakes_go_wrong()
     ensures field_is_lacking { of_shut_jar 1 ≡ tells_wrong }
     ensures value_is_missing { of_shut_jar 2 ≡ tells_wrong }
