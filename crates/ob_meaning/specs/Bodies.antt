@@ -33,9 +33,9 @@ abbrev pub result_goes : Option Kind → Option Value → World → World
 result_goes (Some kind) (Some v) w = comes_into kind v w
 result_goes kind v w = w
 
--- what comes into a call: the arguments, and then the receiver
+-- what comes into a call: the receiver, and then the arguments
 abbrev pub comes_in : ContractId → Signature → ℕ → List Value → World → World
-comes_in contract s n args w = this_comes contract s.entry n (args_come s.params args w)
+comes_in contract s n args w = args_come s.params args (this_comes contract s.entry n w)
 
 -- Bodies.
 

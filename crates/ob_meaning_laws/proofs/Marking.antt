@@ -71,7 +71,7 @@ follows_this w contract p n = marked_if (is_shared (permission_of p)) w n
 pub follows_in : (w : World) (contract : ContractId) (s : Signature) (n : ℕ) (args : List Value)
     → Follows w (comes_in contract s n args w)
 follows_in w contract s n args =
-    follows_on (follows_args w s.params args) (follows_this (args_come s.params args w) contract s.entry n)
+    follows_on (follows_this w contract s.entry n) (follows_args (this_comes contract s.entry n w) s.params args)
 
 pub follows_result : (w : World) (kind : Option Kind) (v : Option Value) → Follows w (result_goes kind v w)
 follows_result w (Some kind) (Some v) = follows_into w kind v
