@@ -1,6 +1,6 @@
 -- What a store holds, and when it is of a class table (this project's own; Coblenz et al., TOPLAS 42(3), 2020, for what
 -- an object has).
-use Rattle.std.specs.Prelude.{◌≡◌, ◌↔◌, ℕ, ◌<◌, false, List, [], length, Option, Some, None, slice_get, IsTrue, IsSome, IsSomeAnd, IfSome, All, AllPairs, ⊤}
+use Rattle.std.specs.Prelude.{◌≡◌, ℕ, ◌<◌, false, List, [], length, Option, Some, None, slice_get, is_some, IsTrue, IsSomeAnd, IfSome, All, AllPairs, ⊤}
 use Rattle.std.specs.Ordering.{nat_cmp, ordering_then}
 use Rattle.std.specs.Cmp.Lexicographic.{slice_cmp}
 use Rattle.std.specs.declared.cmp.Ordering.{Ordering}
@@ -61,7 +61,7 @@ IsStateOf c (Some s) = s.0 < length c.states
 pub record IsObjectOf (objects : List Object) (c : Contract) (o : Object) : Type 0 where
   pub contract : c.interface ≡ false
   pub state : IsStateOf c o.state
-  pub fields : (k : ℕ) → IsSome (o.fields k) ↔ IsTrue (has_field c o.state k)
+  pub fields : (k : ℕ) → is_some (o.fields k) ≡ has_field c o.state k
   pub values : (k : ℕ) → IfSome (o.fields k) (λ v. IsSomeAnd (slice_get c.fields k) (λ f. IsValueOf objects f.of v))
 
 -- an object is one of the contract of the table that it names

@@ -6,13 +6,14 @@ ghost use Rattle.ob_table.specs.Expressions.{Expression};
 ghost use Rattle.ob_table.specs.Statements.{Statements};
 ghost use Rattle.ob_table.specs.Tables.{ClassTable};
 ghost use Rattle.ob_content.specs.Values.{Value};
+ghost use Rattle.ob_content.specs.Contents.{IsContent};
 ghost use Rattle.ob_meaning.specs.Frames.{Frame, Locals, Callee};
 ghost use Rattle.ob_meaning.specs.Expressions.{value_of};
 ghost use Rattle.ob_meaning.specs.Statements.{run_all};
 ghost use Rattle.ob_meaning.specs.Calls.{call_at};
 ghost use Rattle.ob_meaning_laws.specs.Laws.{OfCalls, OfExpressions, OfStatements, UnitsAddUp, ReadsGrow, OthersStay, LocksEnd, DepthIsEnough, AbortEndsStatements, AbortEndsBody, AbortKeepsObjects};
 ghost use Rattle.ob_meaning_laws.specs.Written.{told, tells_wrong};
-ghost use Rattle.ob_meaning_laws.specs.VendingMachine.{candy_bought, one_sold, out_of_units};
+ghost use Rattle.ob_meaning_laws.specs.VendingMachine.{vending_machine, vending_content, candy_bought, one_sold, out_of_units};
 ghost use Rattle.ob_meaning_laws.specs.Lights.{lights, flipped_under_test, flip_aborted, made_after_abort, second_light};
 ghost use Rattle.ob_meaning_laws.specs.Reentry.{round, round_aborted, direct, direct_gives_seven};
 ghost use Rattle.ob_meaning_laws.specs.Switches.{lamp_flipped, lamp_is_on};
@@ -60,6 +61,11 @@ pub fn aborts_leave_nothing()
     ensures statements { AbortEndsStatements }
     ensures bodies { AbortEndsBody }
     ensures objects { OfCalls AbortKeepsObjects }
+{}
+
+/// A store with a candy, a coin and a full machine is one of the vending machine's class table.
+pub fn vending_store_is_content()
+    ensures { IsContent vending_machine vending_content }
 {}
 
 /// The vending machine sells a candy for a coin with 6 units, and aborts with 5.
