@@ -40,9 +40,9 @@ first_world objects fuel = record {
   reads = [];
 }
 
--- why a run aborts: `revert` with its text; a state, of an object, which is told where the request's own object is
--- outside its states; a call of an object that has a transaction in progress; a result that is no `int`, with the
--- operator's line; no unit left; too many objects
+-- why a run aborts: by `revert`, with its text; by the state of the object of a number, and by which one where a request
+-- finds its object outside the declared ones; by a call of an object that has a transaction in progress; by a result
+-- that is no `int`, of an operator on a line; since no unit is left; since there are as many objects as there may be
 pub data Cause : Type 0 where
   by_revert : List ℕ → Cause
   by_state : ℕ → Option StateId → Cause

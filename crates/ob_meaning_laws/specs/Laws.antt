@@ -78,6 +78,24 @@ LocksEnd w o = EndsSo (λ w1. (w1.locked ≡ w.locked) × (w1.progress ≡ w.pro
 abbrev pub DepthIsEnough : {A : Type 0} → (ℕ → World → Outcome A) → Type 0
 DepthIsEnough part = (depth deeper : ℕ) (w : World) → w.fuel ≤ depth → depth ≤ deeper → part depth w ≡ part deeper w
 
+-- A greater depth changes no call.
+abbrev pub DepthIsEnoughForCalls : Type 0
+DepthIsEnoughForCalls =
+    (table : ClassTable) (callee : Callee) (args : List Value)
+    → DepthIsEnough (λ depth w. call_at table depth callee args w)
+
+-- A greater depth of calls changes no expression.
+abbrev pub DepthIsEnoughForExpressions : Type 0
+DepthIsEnoughForExpressions =
+    (table : ClassTable) (f : Frame) (e : Expression) (ls : Locals)
+    → DepthIsEnough (λ depth w. value_of (call_at table depth) f e ls w)
+
+-- A greater depth of calls changes no list of statements.
+abbrev pub DepthIsEnoughForStatements : Type 0
+DepthIsEnoughForStatements =
+    (table : ClassTable) (f : Frame) (ss : Statements) (ls : Locals)
+    → DepthIsEnough (λ depth w. run_all (call_at table depth) f ss ls w)
+
 -- Aborts.
 
 -- Where a statement aborts, the statements that it begins do, with the same cause, having spent the same.

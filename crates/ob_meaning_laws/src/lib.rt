@@ -1,17 +1,9 @@
 //! Laws of what bodies do, and what the bodies of a few small programs do.
 #![tactic(auto)]
 
-ghost use Rattle.std.specs.Prelude.{◌≡◌, pos, negsuc, List};
-ghost use Rattle.ob_table.specs.Expressions.{Expression};
-ghost use Rattle.ob_table.specs.Statements.{Statements};
-ghost use Rattle.ob_table.specs.Tables.{ClassTable};
-ghost use Rattle.ob_content.specs.Values.{Value};
+ghost use Rattle.std.specs.Prelude.{◌≡◌, pos, negsuc};
 ghost use Rattle.ob_content.specs.Contents.{IsContent};
-ghost use Rattle.ob_meaning.specs.Frames.{Frame, Locals, Callee};
-ghost use Rattle.ob_meaning.specs.Expressions.{value_of};
-ghost use Rattle.ob_meaning.specs.Statements.{run_all};
-ghost use Rattle.ob_meaning.specs.Calls.{call_at};
-ghost use Rattle.ob_meaning_laws.specs.Laws.{OfCalls, OfExpressions, OfStatements, UnitsAddUp, ReadsGrow, OthersStay, LocksEnd, DepthIsEnough, AbortEndsStatements, AbortEndsBody, AbortKeepsObjects};
+ghost use Rattle.ob_meaning_laws.specs.Laws.{OfCalls, OfExpressions, OfStatements, UnitsAddUp, ReadsGrow, OthersStay, LocksEnd, DepthIsEnoughForCalls, DepthIsEnoughForExpressions, DepthIsEnoughForStatements, AbortEndsStatements, AbortEndsBody, AbortKeepsObjects};
 ghost use Rattle.ob_meaning_laws.specs.Written.{told, tells_wrong};
 ghost use Rattle.ob_meaning_laws.specs.VendingMachine.{vending_machine, vending_content, candy_bought, one_sold, out_of_units};
 ghost use Rattle.ob_meaning_laws.specs.Lights.{lights, flipped_under_test, flip_aborted, made_after_abort, second_light};
@@ -29,9 +21,9 @@ pub fn units_add_up()
 
 /// Where no more units are left than calls may be deep, a greater depth changes nothing.
 pub fn depth_is_enough()
-    ensures calls { (table : ClassTable) (callee : Callee) (args : List Value) → DepthIsEnough (λ depth w. call_at table depth callee args w) }
-    ensures expressions { (table : ClassTable) (f : Frame) (e : Expression) (ls : Locals) → DepthIsEnough (λ depth w. value_of (call_at table depth) f e ls w) }
-    ensures statements { (table : ClassTable) (f : Frame) (ss : Statements) (ls : Locals) → DepthIsEnough (λ depth w. run_all (call_at table depth) f ss ls w) }
+    ensures calls { DepthIsEnoughForCalls }
+    ensures expressions { DepthIsEnoughForExpressions }
+    ensures statements { DepthIsEnoughForStatements }
 {}
 
 /// What was read stays read, also where the run aborts.
