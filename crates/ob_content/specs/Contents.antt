@@ -1,6 +1,6 @@
 -- What a store holds, and when it is of a class table (this project's own; Coblenz et al., TOPLAS 42(3), 2020, for what
 -- an object has).
-use Rattle.std.specs.Prelude.{◌≡◌, ◌↔◌, ℕ, ◌<◌, false, List, [], length, Option, Some, None, slice_get, IsTrue, IsSome, IsSomeAnd, IfSome, All, AllPairs, ⊤}
+use Rattle.std.specs.Prelude.{◌≡◌, ℕ, ◌<◌, false, List, [], length, Option, Some, None, slice_get, is_some, IsTrue, IsSomeAnd, IfSome, All, AllPairs, ⊤}
 use Rattle.std.specs.Ordering.{nat_cmp, ordering_then}
 use Rattle.std.specs.Cmp.Lexicographic.{slice_cmp}
 use Rattle.std.specs.declared.cmp.Ordering.{Ordering}
@@ -16,7 +16,7 @@ use Rattle.ob_table.specs.declared.contract.Kind.TheVariants.{Int, Bool as BoolK
 use Rattle.ob_content.specs.Values.{Value, int_value, bool_value, text_value, reference}
 use Rattle.ob_content.specs.Objects.{Object, has_field}
 
--- the name of a handle: the client's, and the client's name for it
+-- what names a handle: the client's name, and the client's name for the handle
 pub record HandleName : Type 0 where
   pub who : List ℕ
   pub name : List ℕ
@@ -35,7 +35,7 @@ pub record Content : Type 0 where
 abbrev pub empty_content : Content
 empty_content = record { objects = []; handles = [] }
 
--- what stands at a number
+-- the object of a number, if there is one
 abbrev pub object_at : List Object → ℕ → Option Object
 object_at objects n = slice_get objects n
 
@@ -43,7 +43,7 @@ object_at objects n = slice_get objects n
 abbrev pub name_order : HandleName → HandleName → Ordering
 name_order a b = ordering_then (slice_cmp nat_cmp a.who b.who) (slice_cmp nat_cmp a.name b.name)
 
--- a value is one of its kind: an `int`, a truth, a text of at most 1,024 bytes, or a reference to one of the objects
+-- a value is one of its kind: an `int`, a `bool`, a text of at most 1,024 bytes, or a reference to one of the objects
 abbrev pub IsValueOf : List Object → Kind → Value → Type 0
 IsValueOf objects Int (int_value z) = IsTrue (is_int z)
 IsValueOf objects BoolKind (bool_value b) = ⊤
@@ -56,19 +56,19 @@ abbrev pub IsStateOf : Contract → Option StateId → Type 0
 IsStateOf c None = c.states ≡ []
 IsStateOf c (Some s) = s.0 < length c.states
 
--- an object of a contract: a state where it has states, and a value of its kind in each field that is available, and in
--- no other
+-- an object is one of a contract: it has a state where it has states, and a value of its kind in each field that is
+-- available, and in no other
 pub record IsObjectOf (objects : List Object) (c : Contract) (o : Object) : Type 0 where
   pub contract : c.interface ≡ false
   pub state : IsStateOf c o.state
-  pub fields : (k : ℕ) → IsSome (o.fields k) ↔ IsTrue (has_field c o.state k)
+  pub fields : (k : ℕ) → is_some (o.fields k) ≡ has_field c o.state k
   pub values : (k : ℕ) → IfSome (o.fields k) (λ v. IsSomeAnd (slice_get c.fields k) (λ f. IsValueOf objects f.of v))
 
--- an object of a contract of the table
+-- an object is one of the contract of the table that it names
 abbrev pub IsObject : ClassTable → List Object → Object → Type 0
 IsObject table objects o = IsSomeAnd (contract_at table o.contract) (λ c. IsObjectOf objects c o)
 
--- a handle with its name: two labels, and one of the objects
+-- a handle with its name is one on these objects: the name is two labels, and the object is one of them
 pub record IsHandle (objects : List Object) (h : HandleName × Handle) : Type 0 where
   pub who : IsTrue (is_label h.0.who)
   pub name : IsTrue (is_label h.0.name)

@@ -3,14 +3,16 @@
 use Rattle.std.specs.Prelude.{ℕ, Bool, true, nat_eq, List, [], ◌∷◌, if◌then◌else◌}
 use Rattle.std.specs.Option.{option_map_or}
 use Rattle.std.specs.List.{list_any}
+use Rattle.ob_perm.specs.Permissions.{is_shared}
+use Rattle.ob_perm.specs.Masks.{permission_of}
 use Rattle.ob_table.specs.declared.contract.Kind.{Kind}
 use Rattle.ob_table.specs.declared.contract.Kind.TheVariants.{Reference}
 use Rattle.ob_content.specs.Values.{Value, reference}
-use Rattle.ob_content.specs.Objects.{Object, is_shared}
+use Rattle.ob_content.specs.Objects.{Object}
 use Rattle.ob_content.specs.Contents.{object_at}
 use Rattle.ob_content.specs.Worlds.{World, read_object, edit_object}
 
--- whether the mark of an object is there already, and one that there isn't has none to get
+-- whether the object of a number has a mark already; where there is no object there is none to set
 abbrev pub has_mark : (Object → Bool) → World → ℕ → Bool
 has_mark mark w n = option_map_or mark (object_at w.objects n) true
 
@@ -28,7 +30,7 @@ mark_disowned n w =
 
 -- a value comes into a place of this type: a reference in a place declared Shared marks its object
 abbrev pub comes_into : Kind → Value → World → World
-comes_into (Reference id p) (reference n) w = if is_shared p.mode then mark_shared n w else w
+comes_into (Reference id p) (reference n) w = if is_shared (permission_of p) then mark_shared n w else w
 comes_into kind value w = w
 
 -- whether a number is among these

@@ -1,11 +1,9 @@
 -- Objects, and in which states they are (Coblenz et al., TOPLAS 42(3), 2020, "Contracts" and "Interfaces"; that states
 -- go by name between a contract and its interface is this project's own).
-use Rattle.std.specs.Prelude.{ℕ, Bool, true, false, not, ◌==◌, ◌||◌, length, Option, Some, is_some, slice_get, if◌then◌else◌}
+use Rattle.std.specs.Prelude.{ℕ, Bool, false, not, ◌==◌, ◌||◌, length, Option, Some, is_some, slice_get, if◌then◌else◌}
 use Rattle.std.specs.Option.{option_map_or}
 use Rattle.ob_base.specs.declared.id.ContractId.{ContractId}
 use Rattle.ob_base.specs.declared.id.StateId.{StateId}
-use Rattle.ob_base.specs.declared.permission.Mode.{Mode}
-use Rattle.ob_base.specs.declared.permission.Mode.TheVariants.{Owned, Shared, Unowned}
 use Rattle.ob_base.specs.declared.permission.Perm.{Perm}
 use Rattle.ob_perm.specs.States.{stateless, unnamed, all_below}
 use Rattle.ob_perm.specs.Masks.{states_of}
@@ -37,7 +35,7 @@ is_available state field = states_of field.available (state_number state)
 abbrev pub has_field : Contract → Option StateId → ℕ → Bool
 has_field c state k = option_map_or (is_available state) (slice_get c.fields k) false
 
--- as which state a contract or interface sees that of an object of another contract: by name
+-- as which state a contract or interface sees a state of another contract: by its name
 abbrev pub seen_between : Option Contract → Option Contract → ℕ → ℕ
 seen_between (Some declared) (Some own) s = seen (naming declared own) s
 seen_between declared own s = unnamed
@@ -55,18 +53,6 @@ is_in_state table declared s o = seen_state table declared o == s.0
 -- whether an object is in one of the states of a permission on a contract or interface
 abbrev pub is_in_states : ClassTable → ContractId → Perm → Object → Bool
 is_in_states table declared p o = states_of p.states (seen_state table declared o)
-
--- whether a permission is the owner's
-abbrev pub is_owned : Mode → Bool
-is_owned Owned = true
-is_owned Shared = false
-is_owned Unowned = false
-
--- whether a permission is that of one of those that share the object
-abbrev pub is_shared : Mode → Bool
-is_shared Owned = false
-is_shared Shared = true
-is_shared Unowned = false
 
 -- whether an object has a value in each field that is available in its state
 abbrev pub has_all_values : Contract → Object → Bool

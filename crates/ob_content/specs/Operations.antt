@@ -7,58 +7,58 @@ use Rattle.ob_base.specs.declared.operator.Operator.{Operator}
 use Rattle.ob_base.specs.declared.operator.Operator.TheVariants.{Add, Sub, Mul, Div, Rem, Equal, NotEqual, Less, LessEqual, Greater, GreaterEqual, And, Or, Not, Negate}
 use Rattle.ob_content.specs.Values.{Value, int_value, bool_value, text_value}
 
--- what an operation comes to: a value, no `int`, or nothing, since the operands have other kinds
+-- what an operation comes to: a value; a result that is no `int`, or none; nothing, since the operands have other kinds
 pub data Operated : Type 0 where
   operated : Value → Operated
   overflows : Operated
   other_kinds : Operated
 
--- a whole number, if it is an `int`
-abbrev pub sized : ℤ → Operated
-sized z = if is_int z then operated (int_value z) else overflows
+-- a whole number as an `int`, if it is one
+abbrev pub as_int : ℤ → Operated
+as_int z = if is_int z then operated (int_value z) else overflows
 
--- a truth
-abbrev pub told : Bool → Operated
-told b = operated (bool_value b)
+-- a truth value as a `bool`
+abbrev pub as_bool : Bool → Operated
+as_bool b = operated (bool_value b)
 
--- a quotient or remainder, which there is of no division by zero
+-- a quotient or a remainder; a division by zero has none
 abbrev pub divided : ℤ → ℤ → Operated
-divided divisor z = if int_eq divisor (pos 0) then overflows else sized z
+divided divisor z = if int_eq divisor (pos 0) then overflows else as_int z
 
 -- an operator between two whole numbers: `/` rounds toward zero, and `%` has the dividend's sign
 abbrev pub between_ints : Operator → ℤ → ℤ → Operated
-between_ints Add x y = sized (x +ℤ y)
-between_ints Sub x y = sized (x -ℤ y)
-between_ints Mul x y = sized (x *ℤ y)
+between_ints Add x y = as_int (x +ℤ y)
+between_ints Sub x y = as_int (x -ℤ y)
+between_ints Mul x y = as_int (x *ℤ y)
 between_ints Div x y = divided y (int_div x y)
 between_ints Rem x y = divided y (int_rem x y)
-between_ints Equal x y = told (int_eq x y)
-between_ints NotEqual x y = told (not (int_eq x y))
-between_ints Less x y = told (int_lt x y)
-between_ints LessEqual x y = told (int_le x y)
-between_ints Greater x y = told (int_lt y x)
-between_ints GreaterEqual x y = told (int_le y x)
+between_ints Equal x y = as_bool (int_eq x y)
+between_ints NotEqual x y = as_bool (not (int_eq x y))
+between_ints Less x y = as_bool (int_lt x y)
+between_ints LessEqual x y = as_bool (int_le x y)
+between_ints Greater x y = as_bool (int_lt y x)
+between_ints GreaterEqual x y = as_bool (int_le y x)
 between_ints And x y = other_kinds
 between_ints Or x y = other_kinds
 between_ints Not x y = other_kinds
 between_ints Negate x y = other_kinds
 
--- whether two truths are the same
+-- whether two truth values are the same
 abbrev pub same_truth : Bool → Bool → Bool
 same_truth x y = if x then y else not y
 
--- an operator between two truths
+-- an operator between two truth values
 abbrev pub between_bools : Operator → Bool → Bool → Operated
-between_bools Equal x y = told (same_truth x y)
-between_bools NotEqual x y = told (not (same_truth x y))
-between_bools And x y = told (x && y)
-between_bools Or x y = told (x || y)
+between_bools Equal x y = as_bool (same_truth x y)
+between_bools NotEqual x y = as_bool (not (same_truth x y))
+between_bools And x y = as_bool (x && y)
+between_bools Or x y = as_bool (x || y)
 between_bools operator x y = other_kinds
 
 -- an operator between two texts
 abbrev pub between_texts : Operator → List ℕ → List ℕ → Operated
-between_texts Equal x y = told (bytes_eq x y)
-between_texts NotEqual x y = told (not (bytes_eq x y))
+between_texts Equal x y = as_bool (bytes_eq x y)
+between_texts NotEqual x y = as_bool (not (bytes_eq x y))
 between_texts operator x y = other_kinds
 
 -- an operator between two values
@@ -70,12 +70,12 @@ between operator x y = other_kinds
 
 -- an operator before a whole number
 abbrev pub before_int : Operator → ℤ → Operated
-before_int Negate x = sized (neg_ℤ x)
+before_int Negate x = as_int (neg_ℤ x)
 before_int operator x = other_kinds
 
--- an operator before a truth
+-- an operator before a truth value
 abbrev pub before_bool : Operator → Bool → Operated
-before_bool Not x = told (not x)
+before_bool Not x = as_bool (not x)
 before_bool operator x = other_kinds
 
 -- an operator before a value

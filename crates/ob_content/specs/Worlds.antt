@@ -40,9 +40,9 @@ first_world objects fuel = record {
   reads = [];
 }
 
--- why a run aborts: `revert` with its text; a state, of an object, which is told where the request's own object is
--- outside its states; a call of an object that has a transaction in progress; a result that is no `int`, with the
--- operator's line; no unit left; too many objects
+-- why a run aborts: by `revert`, with its text; by the state of the object of a number, and by which one where a request
+-- finds its object outside the declared ones; by a call of an object that has a transaction in progress; by a result
+-- that is no `int`, of an operator on a line; since no unit is left; since there are as many objects as there may be
 pub data Cause : Type 0 where
   by_revert : List ℕ → Cause
   by_state : ℕ → Option StateId → Cause
@@ -104,7 +104,7 @@ abbrev pub with_fuel : {A : Type 0} → ℕ → World → (World → Outcome A) 
 with_fuel zero w go = abort by_fuel w
 with_fuel (suc n) w go = go (with_unit_taken w n)
 
--- takes a unit
+-- a unit is taken at the start of what follows
 abbrev pub unit : {A : Type 0} → World → (World → Outcome A) → Outcome A
 unit w go = with_fuel w.fuel w go
 
@@ -124,11 +124,11 @@ read_object w n = if is_made w n then w else with_read w (object_item n)
 
 -- Objects.
 
--- an object is set
+-- the object of a number becomes this one
 abbrev pub set_object : World → ℕ → Object → World
 set_object w n o = record w { objects = slice_set w.objects n o; changed = n ∷ w.changed }
 
--- what the object of a number is set to, made of what it was
+-- the object of a number becomes what f makes of it
 abbrev pub edit_object : (Object → Object) → ℕ → World → World
 edit_object f n w = option_map_or (λ o. set_object w n (f o)) (object_at w.objects n) w
 

@@ -24,7 +24,7 @@ args_come [] args w = w
 args_come (p ∷ params) [] w = w
 args_come (p ∷ params) (v ∷ args) w = args_come params args (comes_into p.of v w)
 
--- the object of a number comes in or goes out as `this` with a permission
+-- the object of a number comes into a call as `this`, or out of a constructor, with this permission
 abbrev pub this_comes : ContractId → Perm → ℕ → World → World
 this_comes contract p n w = comes_into (Reference contract p) (reference n) w
 

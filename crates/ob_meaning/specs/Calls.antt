@@ -3,12 +3,14 @@
 use Rattle.std.specs.Prelude.{ℕ, zero, suc, false, ◌==◌, nat_le, List, length, position, Option, Some, None, option_map, bytes_eq, if◌then◌else◌}
 use Rattle.ob_base.specs.declared.id.ContractId.{ContractId}
 use Rattle.ob_base.specs.declared.id.TxId.{TxId}
+use Rattle.ob_perm.specs.Permissions.{is_shared}
+use Rattle.ob_perm.specs.Masks.{permission_of}
 use Rattle.ob_table.specs.Tables.{ClassTable, contract_at, signature_at, signature_of}
 use Rattle.ob_table.specs.declared.contract.Signature.{Signature}
 use Rattle.ob_table.specs.declared.contract.Contract.{Contract}
 use Rattle.ob_typing.specs.WellMade.{constructor_at}
 use Rattle.ob_content.specs.Values.{Value, reference, nothing}
-use Rattle.ob_content.specs.Objects.{Object, is_shared}
+use Rattle.ob_content.specs.Objects.{Object}
 use Rattle.ob_content.specs.Worlds.{World, objects_most, next_item, by_reentry, by_fuel, by_full, Outcome, gives, abort, ◌>>=◌, if_right, with_some, unless_aborted, unit, with_read, read_object, make_object, with_object}
 use Rattle.ob_content.specs.Marks.{is_in_progress, enter, leave}
 use Rattle.ob_meaning.specs.Frames.{Frame, of_object, of_this, of_new, Calls}
@@ -36,9 +38,9 @@ run_on calls f tx s args w =
 -- the frame of a transaction that is called with a receiver: it is share-entered where it declares `this` Shared
 abbrev pub entered : ClassTable → ℕ → Object → Contract → Signature → Frame
 entered table n o own s =
-    record { table = table; this = n; here = o.contract; own = own; share_entered = is_shared s.entry.mode }
+    record { table = table; this = n; here = o.contract; own = own; share_entered = is_shared (permission_of s.entry) }
 
--- the object's transaction is found by its contract
+-- the transaction of the object's contract is found, and runs
 abbrev pub dispatch : ClassTable → Calls → ℕ → ContractId → TxId → Signature → List Value → World
     → Outcome (Option Value)
 dispatch table calls n declared tx asked args w =
@@ -105,11 +107,11 @@ call_with table calls (of_new contract) args w =
     (λ own. with_some (constructor_at table contract)
     (λ s. unit (args_come s.params args w) (λ w1. new_after_unit table calls contract own s args w1)))
 
--- no call means anything: none is reached where the units have run out
+-- calls that are never reached, since no unit is left for them
 abbrev pub no_calls : Calls
 no_calls callee args w = abort by_fuel w
 
--- the meaning of calls, where calls lie at most so deep in one another beside the first
+-- the meaning of calls in whose bodies calls lie at most so deep in one another
 abbrev pub call_at : ClassTable → ℕ → Calls
 call_at table zero = call_with table no_calls
 call_at table (suc depth) = call_with table (call_at table depth)

@@ -37,7 +37,7 @@ abbrev pub operand_or : Option Seen → World → Outcome Value → Outcome Oper
 operand_or (Some seen) w value = gives (named seen) w
 operand_or None w value = value >>= (λ v w1. gives (known v) w1)
 
--- the result of a call that must have one
+-- the result of a call in an expression; without one the run goes wrong
 abbrev pub with_result : Option Value → World → Outcome Value
 with_result result w = with_some result (λ v. gives v w)
 
@@ -58,8 +58,8 @@ abbrev pub constructed : Calls → Frame → Locals → ContractId → List Oper
 constructed calls f ls contract operands w =
     with_some (values_of_operands f ls w operands) (λ args. calls (of_new contract) args w)
 
--- the value of an expression, and the operands of arguments, from left to right
 abbrev mutual
+  -- the value of an expression; its parts are evaluated from left to right
   pub value_of : Calls → Frame → Expression → Locals → World → Outcome Value
   value_of calls f (resolved_number z span) ls w = gives (int_value z) w
   value_of calls f (resolved_text bytes span) ls w = gives (text_value bytes) w
@@ -77,6 +77,7 @@ abbrev mutual
   value_of calls f (resolved_new contract args span) ls w =
       operands_of calls f args ls w >>= (λ operands w1. constructed calls f ls contract operands w1 >>= with_result)
 
+  -- arguments as operands, from left to right
   pub operands_of : Calls → Frame → Arguments → Locals → World → Outcome (List Operand)
   operands_of calls f no_arguments ls w = gives [] w
   operands_of calls f (and_argument e es) ls w =

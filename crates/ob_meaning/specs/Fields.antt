@@ -41,7 +41,7 @@ given_of calls f (g ∷ gs) ls w =
 abbrev pub cut_to : Contract → StateId → Numbered Value → Numbered Value
 cut_to c s values = λ k. if has_field c (Some s) k then values k else None
 
--- values with those that are given, each in its order
+-- the values of fields, with those that are given put in, in their order
 abbrev pub put_all : Numbered Value → List (ℕ × Value) → Numbered Value
 put_all values [] = values
 put_all values ((k, v) ∷ given) = put_all (put values k v) given

@@ -46,7 +46,7 @@ variables_from k (p ∷ params) [] = nothing
 variables_from k (p ∷ params) (v ∷ values) =
     put (variables_from (suc k) params values) k (record { value = v; kind = kind_of_table p.of })
 
--- what a body starts with: its parameters, from 1
+-- what a body starts with: its parameters, numbered from 1
 abbrev pub first_locals : List Param → List Value → Locals
 first_locals params values = record { variables = variables_from 1 params values; staged = [] }
 

@@ -20,7 +20,7 @@ abbrev pub after : Flow → World → (Locals → World → Outcome Flow) → Ou
 after (goes_on ls) w go = go ls w
 after (returns result) w go = gives (returns result) w
 
--- a variable has this value
+-- a variable becomes this one
 abbrev pub with_variable : ℕ → Variable → Locals → Locals
 with_variable n x ls = record ls { variables = put ls.variables n x }
 
@@ -42,7 +42,7 @@ abbrev pub return_with : Calls → Frame → Option Expression → Locals → Wo
 return_with calls f None ls w = gives (returns None) w
 return_with calls f (Some e) ls w = value_of calls f e ls w >>= (λ v w1. gives (returns (Some v)) w1)
 
--- an abort with a text
+-- an abort with the text that `revert` has
 abbrev pub abort_with : Value → World → Outcome Flow
 abort_with (text_value bytes) w = abort (by_revert bytes) w
 abort_with v w = wrong
@@ -52,12 +52,12 @@ abbrev pub revert_with : Calls → Frame → Option Expression → Locals → Wo
 revert_with calls f None ls w = abort (by_revert []) w
 revert_with calls f (Some e) ls w = value_of calls f e ls w >>= abort_with
 
--- a staged statement has given a field
+-- one more field is given by a staged statement
 abbrev pub with_staged : Given → Locals → Locals
 with_staged given ls = record ls { staged = ls.staged ++ given ∷ [] }
 
--- a statement, a block, what stands behind `else`, and statements one after another
 abbrev mutual
+  -- what a statement does: it takes a unit, and then does its work
   pub run : Calls → Frame → Statement → Locals → World → Outcome Flow
   run calls f (resolved_declare n name kind e span) ls w =
       unit w
@@ -87,13 +87,16 @@ abbrev mutual
       unit w (λ w0. with_some (object_seen f ls w0 subject.of) (λ n. gives (goes_on ls) (mark_disowned n w0)))
   run calls f (resolved_assert subject perm span) ls w = unit w (λ w0. gives (goes_on ls) w0)
 
+  -- what a block does
   pub run_block : Calls → Frame → Block → Locals → World → Outcome Flow
   run_block calls f (resolved_block statements end) ls w = run_all calls f statements ls w
 
+  -- what the block behind `else` does, if there is one
   pub run_otherwise : Calls → Frame → Otherwise → Locals → World → Outcome Flow
   run_otherwise calls f no_otherwise ls w = gives (goes_on ls) w
   run_otherwise calls f (otherwise_block block) ls w = run_block calls f block ls w
 
+  -- what statements do one after another, up to one that returns
   pub run_all : Calls → Frame → Statements → Locals → World → Outcome Flow
   run_all calls f no_statements ls w = gives (goes_on ls) w
   run_all calls f (and_statement s rest) ls w =

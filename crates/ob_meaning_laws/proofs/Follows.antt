@@ -52,7 +52,14 @@ keeps_on {w = w} {v = v} a b = record {
 
 pub follows_self : (w : World) → Follows w w
 follows_self w =
-    record { fuel = omega arith; units = refl; reads = grows_none w.reads; objects = keeps_all w; locked = refl; progress = refl }
+    record {
+      fuel = omega arith;
+      units = refl;
+      reads = grows_none w.reads;
+      objects = keeps_all w;
+      locked = refl;
+      progress = refl;
+    }
 
 pub follows_on : {w v u : World} → Follows w v → Follows v u → Follows w u
 follows_on a b = record {
@@ -171,7 +178,14 @@ lock_ends {w = w} n a = record {
   units = a.units;
   reads = a.reads;
   objects =
-      record { set = a.objects.set; changed = a.objects.changed; same = a.objects.same; more = a.objects.more; made = a.objects.made; count = a.objects.count };
+      record {
+        set = a.objects.set;
+        changed = a.objects.changed;
+        same = a.objects.same;
+        more = a.objects.more;
+        made = a.objects.made;
+        count = a.objects.count;
+      };
   locked = ap (without_first n) a.locked ∙ without_it n w.locked;
   progress = a.progress;
 }
@@ -182,7 +196,14 @@ progress_ends {w = w} n a = record {
   units = a.units;
   reads = a.reads;
   objects =
-      record { set = a.objects.set; changed = a.objects.changed; same = a.objects.same; more = a.objects.more; made = a.objects.made; count = a.objects.count };
+      record {
+        set = a.objects.set;
+        changed = a.objects.changed;
+        same = a.objects.same;
+        more = a.objects.more;
+        made = a.objects.made;
+        count = a.objects.count;
+      };
   locked = a.locked;
   progress = ap (without_first n) a.progress ∙ without_it n w.progress;
 }

@@ -4,6 +4,8 @@ use Rattle.std.specs.Prelude.{if◌then◌else◌, slice_get}
 use Rattle.std.specs.Option.{option_map_or}
 use Rattle.ob_base.specs.declared.id.ContractId.{ContractId}
 use Rattle.ob_base.specs.declared.permission.Perm.{Perm}
+use Rattle.ob_perm.specs.Permissions.{is_shared}
+use Rattle.ob_perm.specs.Masks.{permission_of}
 use Rattle.ob_table.specs.declared.contract.Kind.{Kind}
 use Rattle.ob_table.specs.declared.contract.Kind.TheVariants.{Int, Bool as BoolKind, Text, Reference}
 use Rattle.ob_table.specs.declared.contract.Field.{Field}
@@ -11,7 +13,6 @@ use Rattle.ob_table.specs.declared.contract.Param.{Param}
 use Rattle.ob_table.specs.declared.contract.Contract.{Contract}
 use Rattle.ob_table.specs.declared.contract.Signature.{Signature}
 use Rattle.ob_content.specs.Values.{Value, int_value, bool_value, text_value, reference}
-use Rattle.ob_content.specs.Objects.{is_shared}
 use Rattle.ob_content.specs.Worlds.{World, read_object}
 use Rattle.ob_content.specs.Marks.{has_mark, mark_shared, mark_disowned, comes_into}
 use Rattle.ob_meaning.specs.Fields.{comes_into_field, come_into_fields}
@@ -37,7 +38,7 @@ marked_if true w n = follows_mark_shared w n
 marked_if false w n = follows_self w
 
 pub follows_into : (w : World) (kind : Kind) (v : Value) → Follows w (comes_into kind v w)
-follows_into w (Reference id p) (reference n) = marked_if (is_shared p.mode) w n
+follows_into w (Reference id p) (reference n) = marked_if (is_shared (permission_of p)) w n
 follows_into w (Reference id p) (int_value z) = follows_self w
 follows_into w (Reference id p) (bool_value b) = follows_self w
 follows_into w (Reference id p) (text_value bytes) = follows_self w
@@ -65,7 +66,7 @@ follows_args w (p ∷ params) (v ∷ args) =
     follows_on (follows_into w p.of v) (follows_args (comes_into p.of v w) params args)
 
 pub follows_this : (w : World) (contract : ContractId) (p : Perm) (n : ℕ) → Follows w (this_comes contract p n w)
-follows_this w contract p n = marked_if (is_shared p.mode) w n
+follows_this w contract p n = marked_if (is_shared (permission_of p)) w n
 
 pub follows_in : (w : World) (contract : ContractId) (s : Signature) (n : ℕ) (args : List Value)
     → Follows w (comes_in contract s n args w)

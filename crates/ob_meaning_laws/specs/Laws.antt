@@ -19,19 +19,19 @@ use Rattle.ob_meaning.specs.Calls.{call_at}
 
 -- Parts of a run.
 
--- this holds of each call, begun in any world
+-- a law holds of each call, begun in any world
 abbrev pub OfCalls : (World → Outcome (Option Value) → Type 0) → Type 0
 OfCalls Law =
     (table : ClassTable) (depth : ℕ) (callee : Callee) (args : List Value) (w : World)
     → Law w (call_at table depth callee args w)
 
--- this holds of each expression
+-- a law holds of each expression, begun in any world
 abbrev pub OfExpressions : (World → Outcome Value → Type 0) → Type 0
 OfExpressions Law =
     (table : ClassTable) (depth : ℕ) (f : Frame) (e : Expression) (ls : Locals) (w : World)
     → Law w (value_of (call_at table depth) f e ls w)
 
--- this holds of each list of statements
+-- a law holds of each list of statements, begun in any world
 abbrev pub OfStatements : (World → Outcome Flow → Type 0) → Type 0
 OfStatements Law =
     (table : ClassTable) (depth : ℕ) (f : Frame) (ss : Statements) (ls : Locals) (w : World)
@@ -77,6 +77,24 @@ LocksEnd w o = EndsSo (λ w1. (w1.locked ≡ w.locked) × (w1.progress ≡ w.pro
 -- Where no more units are left than calls may be deep, a greater depth changes nothing.
 abbrev pub DepthIsEnough : {A : Type 0} → (ℕ → World → Outcome A) → Type 0
 DepthIsEnough part = (depth deeper : ℕ) (w : World) → w.fuel ≤ depth → depth ≤ deeper → part depth w ≡ part deeper w
+
+-- A greater depth changes no call.
+abbrev pub DepthIsEnoughForCalls : Type 0
+DepthIsEnoughForCalls =
+    (table : ClassTable) (callee : Callee) (args : List Value)
+    → DepthIsEnough (λ depth w. call_at table depth callee args w)
+
+-- A greater depth of calls changes no expression.
+abbrev pub DepthIsEnoughForExpressions : Type 0
+DepthIsEnoughForExpressions =
+    (table : ClassTable) (f : Frame) (e : Expression) (ls : Locals)
+    → DepthIsEnough (λ depth w. value_of (call_at table depth) f e ls w)
+
+-- A greater depth of calls changes no list of statements.
+abbrev pub DepthIsEnoughForStatements : Type 0
+DepthIsEnoughForStatements =
+    (table : ClassTable) (f : Frame) (ss : Statements) (ls : Locals)
+    → DepthIsEnough (λ depth w. run_all (call_at table depth) f ss ls w)
 
 -- Aborts.
 

@@ -4,3 +4,5 @@ pub mod VendingMachine
 pub mod Lights
 pub mod Reentry
 pub mod Arithmetic
+pub mod Switches
+pub mod Mistakes

@@ -1,6 +1,7 @@
 -- The vending machine of the article (Coblenz et al., TOPLAS 42(3), 2020, section 2), written by hand.
 use Rattle.std.specs.Prelude.{ℕ, pos, true, false, List, [], ◌∷◌, Some, None}
 use Rattle.ob_base.specs.declared.operator.Operator.TheVariants.{Add}
+use Rattle.ob_base.specs.declared.permission.Mode.TheVariants.{Owned}
 use Rattle.ob_table.specs.Expressions.{resolved_number, resolved_binary}
 use Rattle.ob_table.specs.Statements.{resolved_declare, resolved_assign, resolved_change, resolved_return, resolved_disown}
 use Rattle.ob_table.specs.Tables.{ClassTable}
@@ -9,6 +10,7 @@ use Rattle.ob_table.specs.declared.contract.Kind.TheVariants.{Int, Reference}
 use Rattle.ob_table.specs.declared.contract.Contract.{Contract}
 use Rattle.ob_content.specs.Values.{int_value, reference, nothing, put}
 use Rattle.ob_content.specs.Objects.{Object}
+use Rattle.ob_content.specs.Contents.{Content}
 use Rattle.ob_content.specs.Worlds.{object_item, by_fuel}
 use Rattle.ob_meaning_laws.specs.Written.{on_line, contract_number, state_of_number, owner_in, as_unowned, stateless_bit, anywhere_bits, local_at, field_at_line, value_at, param, signature, default_constructor, body, Told, tells, tells_abort, told, spending, run_on_store}
 
@@ -77,19 +79,33 @@ vending_machine = record {
       ∷ [];
 }
 
--- a store with a candy, a coin, and a machine that owns the candy
+-- a machine that owns the candy of number 0, and has sold none
+abbrev pub full_machine : Object
+full_machine = record {
+  contract = contract_number 2;
+  state = Some (state_of_number 0);
+  fields = put (put nothing 0 (reference 0)) 1 (int_value (pos 0));
+  shared = false;
+  disowned = false;
+}
+
+-- a store with a candy, a coin, and that machine
 abbrev pub vending_store : List Object
 vending_store =
     record { contract = contract_number 1; state = None; fields = nothing; shared = false; disowned = false }
     ∷ record { contract = contract_number 0; state = None; fields = nothing; shared = false; disowned = false }
-    ∷ record {
-      contract = contract_number 2;
-      state = Some (state_of_number 0);
-      fields = put (put nothing 0 (reference 0)) 1 (int_value (pos 0));
-      shared = false;
-      disowned = false;
-    }
+    ∷ full_machine
     ∷ []
+
+-- the same with two handles: a client owns the coin and the machine
+abbrev pub vending_content : Content
+vending_content = record {
+  objects = vending_store;
+  handles =
+      (record { who = 97 ∷ []; name = 99 ∷ [] }, record { object = 1; mode = Owned })
+      ∷ (record { who = 97 ∷ []; name = 109 ∷ [] }, record { object = 2; mode = Owned })
+      ∷ [];
+}
 
 -- the coin is given to `buy` with so many units
 abbrev pub candy_bought : ℕ → Told

@@ -87,7 +87,12 @@ default_constructor = signature [] as_unowned (owner_in stateless_bit) [] None
 -- the body of a transaction of a contract
 abbrev pub body : ℕ → ℕ → List Statement → ResolvedBody
 body contract tx ss =
-    record { contract = contract_number contract; tx = transaction_number tx; statements = statements ss; end = on_line 1 }
+    record {
+      contract = contract_number contract;
+      tx = transaction_number tx;
+      statements = statements ss;
+      end = on_line 1;
+    }
 
 -- the numbers below a bound
 abbrev pub below : ℕ → List ℕ

@@ -1,20 +1,15 @@
 //! Laws of what bodies do, and what the bodies of a few small programs do.
 #![tactic(auto)]
 
-ghost use Rattle.std.specs.Prelude.{◌≡◌, pos, negsuc, List};
-ghost use Rattle.ob_table.specs.Expressions.{Expression};
-ghost use Rattle.ob_table.specs.Statements.{Statements};
-ghost use Rattle.ob_table.specs.Tables.{ClassTable};
-ghost use Rattle.ob_content.specs.Values.{Value};
-ghost use Rattle.ob_meaning.specs.Frames.{Frame, Locals, Callee};
-ghost use Rattle.ob_meaning.specs.Expressions.{value_of};
-ghost use Rattle.ob_meaning.specs.Statements.{run_all};
-ghost use Rattle.ob_meaning.specs.Calls.{call_at};
-ghost use Rattle.ob_meaning_laws.specs.Laws.{OfCalls, OfExpressions, OfStatements, UnitsAddUp, ReadsGrow, OthersStay, LocksEnd, DepthIsEnough, AbortEndsStatements, AbortEndsBody, AbortKeepsObjects};
-ghost use Rattle.ob_meaning_laws.specs.Written.{told};
-ghost use Rattle.ob_meaning_laws.specs.VendingMachine.{candy_bought, one_sold, out_of_units};
+ghost use Rattle.std.specs.Prelude.{◌≡◌, pos, negsuc};
+ghost use Rattle.ob_content.specs.Contents.{IsContent};
+ghost use Rattle.ob_meaning_laws.specs.Laws.{OfCalls, OfExpressions, OfStatements, UnitsAddUp, ReadsGrow, OthersStay, LocksEnd, DepthIsEnoughForCalls, DepthIsEnoughForExpressions, DepthIsEnoughForStatements, AbortEndsStatements, AbortEndsBody, AbortKeepsObjects};
+ghost use Rattle.ob_meaning_laws.specs.Written.{told, tells_wrong};
+ghost use Rattle.ob_meaning_laws.specs.VendingMachine.{vending_machine, vending_content, candy_bought, one_sold, out_of_units};
 ghost use Rattle.ob_meaning_laws.specs.Lights.{lights, flipped_under_test, flip_aborted, made_after_abort, second_light};
 ghost use Rattle.ob_meaning_laws.specs.Reentry.{round, round_aborted, direct, direct_gives_seven};
+ghost use Rattle.ob_meaning_laws.specs.Switches.{lamp_flipped, lamp_is_on};
+ghost use Rattle.ob_meaning_laws.specs.Mistakes.{of_shut_jar, jar_is_filled};
 ghost use Rattle.ob_meaning_laws.specs.Arithmetic.{calculated, gives_int, overflows_on, least_int};
 
 /// Units left and units taken add up to those that were there; an aborted run has taken no more than were there.
@@ -26,9 +21,9 @@ pub fn units_add_up()
 
 /// Where no more units are left than calls may be deep, a greater depth changes nothing.
 pub fn depth_is_enough()
-    ensures calls { (table : ClassTable) (callee : Callee) (args : List Value) → DepthIsEnough (λ depth w. call_at table depth callee args w) }
-    ensures expressions { (table : ClassTable) (f : Frame) (e : Expression) (ls : Locals) → DepthIsEnough (λ depth w. value_of (call_at table depth) f e ls w) }
-    ensures statements { (table : ClassTable) (f : Frame) (ss : Statements) (ls : Locals) → DepthIsEnough (λ depth w. run_all (call_at table depth) f ss ls w) }
+    ensures calls { DepthIsEnoughForCalls }
+    ensures expressions { DepthIsEnoughForExpressions }
+    ensures statements { DepthIsEnoughForStatements }
 {}
 
 /// What was read stays read, also where the run aborts.
@@ -60,6 +55,11 @@ pub fn aborts_leave_nothing()
     ensures objects { OfCalls AbortKeepsObjects }
 {}
 
+/// A store with a candy, a coin and a full machine is one of the vending machine's class table.
+pub fn vending_store_is_content()
+    ensures { IsContent vending_machine vending_content }
+{}
+
 /// The vending machine sells a candy for a coin with 6 units, and aborts with 5.
 pub fn vending_machine_sells_one_candy()
     ensures enough { candy_bought 6 ≡ one_sold }
@@ -88,4 +88,21 @@ pub fn division_overflows()
     ensures remainder { calculated 2 (negsuc 6) (pos 2) ≡ gives_int (negsuc 0) }
     ensures least_remainder { calculated 2 least_int (negsuc 0) ≡ gives_int (pos 0) }
     ensures left_first { calculated 3 (pos 7) (pos 0) ≡ overflows_on 6 }
+{}
+
+/// A transaction that is called through an interface is the object's own of that name, and a state that is tested
+/// through it is the object's of that name.
+pub fn interface_calls_by_name()
+    ensures { lamp_flipped ≡ lamp_is_on }
+{}
+
+/// Each of the five ways of going wrong is met by some body, and none by a staged field with its change of state behind
+/// it.
+pub fn mistakes_go_wrong()
+    ensures field_is_lacking { of_shut_jar 1 ≡ tells_wrong }
+    ensures value_is_missing { of_shut_jar 2 ≡ tells_wrong }
+    ensures receiver_is_outside { of_shut_jar 3 ≡ tells_wrong }
+    ensures exit_is_outside { of_shut_jar 4 ≡ tells_wrong }
+    ensures row_is_broken { of_shut_jar 5 ≡ tells_wrong }
+    ensures row_is_whole { of_shut_jar 6 ≡ jar_is_filled }
 {}
