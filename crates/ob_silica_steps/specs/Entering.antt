@@ -6,7 +6,7 @@ use Rattle.ob_base.specs.declared.id.ContractId.{ContractId}
 use Rattle.ob_base.specs.declared.id.TxId.{TxId}
 use Rattle.ob_base.specs.declared.permission.Perm.{Perm}
 use Rattle.ob_perm.specs.States.{only, stateless}
-use Rattle.ob_perm.specs.Permissions.{owned}
+use Rattle.ob_perm.specs.Permissions.{owned, is_shared}
 use Rattle.ob_perm.specs.Masks.{permission_of}
 use Rattle.ob_table.specs.Tables.{ClassTable, contract_at, signature_at}
 use Rattle.ob_table.specs.declared.contract.Contract.{Contract}
@@ -15,7 +15,7 @@ use Rattle.ob_table.specs.declared.contract.Kind.TheVariants.{Reference as Typed
 use Rattle.ob_table.specs.declared.contract.Signature.{Signature}
 use Rattle.ob_table.specs.declared.seen.LocalKind.TheVariants.{Reference}
 use Rattle.ob_content.specs.Values.{Value, reference, nothing}
-use Rattle.ob_content.specs.Objects.{Object, is_shared}
+use Rattle.ob_content.specs.Objects.{Object}
 use Rattle.ob_content.specs.Contents.{object_at}
 use Rattle.ob_content.specs.Worlds.{World, objects_most, next_item, with_read, read_object, make_object, by_reentry, by_full}
 use Rattle.ob_content.specs.Marks.{is_in_progress, enter}
@@ -65,7 +65,7 @@ abbrev pub begins_on : SilicaProgram → Entered → ℕ → Object → TxId →
 begins_on program e n o tx s =
     if are_within program.table e.world.objects (entered_on e n o s).slots 0 (all_parameters o.contract s)
     then enters program (record (entered_on e n o s) { world = enter n e.world }) o.contract tx by_receiver
-    (is_shared s.entry.mode)
+    (is_shared (permission_of s.entry))
     else stuck
 
 -- a call of an object, once its unit is taken: the object is read, and mustn't have a transaction in progress; it
