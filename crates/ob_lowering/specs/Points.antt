@@ -1,12 +1,12 @@
 -- What stands around a part of a body while it is lowered: variables, temporaries, staged fields (this project's own).
-use Rattle.std.specs.Prelude.{◌≢◌, ℕ, Bool, true, false, List, [], ◌∷◌, ◌++◌, map, Option, Some, None, option_map, ⊤, nat_eq, if◌then◌else◌}
+use Rattle.std.specs.Prelude.{◌≢◌, ℕ, Bool, List, [], ◌∷◌, ◌++◌, map, Option, Some, None, option_map, ⊤, nat_eq, if◌then◌else◌}
 use Rattle.ob_base.specs.declared.fault.Span.{Span}
 use Rattle.ob_base.specs.declared.id.StateId.{StateId}
-use Rattle.ob_table.specs.Statements.{Statement, resolved_stage, resolved_change, Statements, no_statements, and_statement}
+use Rattle.ob_table.specs.Statements.{resolved_stage, resolved_change, Statements, no_statements, and_statement}
 use Rattle.ob_table.specs.declared.seen.LocalKind.{LocalKind}
 use Rattle.ob_table.specs.declared.seen.Seen.{Seen}
 use Rattle.ob_table.specs.declared.seen.Seen.TheVariants.{This as ThisSeen, Local, Field as FieldSeen}
-use Rattle.ob_typing.specs.WellMade.{Frame, Locals, kind_of_expression, kind_of_seen}
+use Rattle.ob_typing.specs.WellMade.{Frame, Locals}
 use Rattle.ob_silica.specs.Terms.{SilicaTerms, no_terms, and_term, drop_form}
 use Rattle.ob_silica.specs.declared.place.Given.{Given}
 use Rattle.ob_silica.specs.declared.place.Place.{Place}

@@ -1,8 +1,7 @@
 -- To which terms statements may be lowered (this project's own). Each statement takes a unit of fuel first, and drops
 -- its temporaries at its end.
-use Rattle.std.specs.Prelude.{◌≡◌, ℕ, Bool, true, false, List, [], ◌∷◌, ◌++◌, Option, Some, None, option_map, if◌then◌else◌}
+use Rattle.std.specs.Prelude.{◌≡◌, ℕ, List, [], ◌∷◌, ◌++◌, Option, Some, None, if◌then◌else◌}
 use Rattle.ob_base.specs.declared.fault.Span.{Span}
-use Rattle.ob_base.specs.declared.id.ContractId.{ContractId}
 use Rattle.ob_table.specs.Expressions.{Expression}
 use Rattle.ob_table.specs.Statements.{GivenField, Statement, resolved_declare, resolved_assign, resolved_stage, resolved_change, resolved_discard, resolved_test, resolved_if, resolved_return, resolved_revert, resolved_disown, resolved_assert, Block, resolved_block, Otherwise, no_otherwise, otherwise_block, Statements, no_statements, and_statement}
 use Rattle.ob_table.specs.declared.seen.LocalKind.{LocalKind}
@@ -14,8 +13,8 @@ use Rattle.ob_silica.specs.declared.place.Constant.TheVariants.{Text as TextCons
 use Rattle.ob_silica.specs.declared.place.Given.{Given}
 use Rattle.ob_silica.specs.declared.place.Operand.{Operand}
 use Rattle.ob_silica.specs.declared.place.Place.{Place}
-use Rattle.ob_silica.specs.declared.place.Place.TheVariants.{This, Slot, Field}
-use Rattle.ob_lowering.specs.Points.{IsFree, in_use, drops, drops_of, Temporary, Variable, locals_of, place_of, Row, no_row, staged_row, refused_row, refused_at, place_in, given_before, made_before, Point, passed, declares, with_row, used_at, inside, Around, around}
+use Rattle.ob_silica.specs.declared.place.Place.TheVariants.{Slot, Field}
+use Rattle.ob_lowering.specs.Points.{IsFree, in_use, drops, drops_of, Temporary, locals_of, place_of, Row, no_row, staged_row, refused_row, refused_at, place_in, given_before, made_before, Point, passed, declares, with_row, used_at, inside, Around, around}
 use Rattle.ob_lowering.specs.ExpressionTerms.{Lowered, LoweredCall, operand, slot_operand, kind_around, LowersExpression, LowersDiscarded}
 
 -- a unit of fuel, and then these terms

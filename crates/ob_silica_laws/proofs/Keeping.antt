@@ -1,17 +1,16 @@
 -- What each effect of a step keeps of a world.
-use Rattle.std.proofs.Common.{◌≡◌, ℕ, zero, suc, ◌+◌, ◌≤◌, Bool, true, false, List, [], ◌∷◌, Option, Some, None, refl, sym, ap, subst, ◌∙◌, arith}
+use Rattle.std.proofs.Common.{◌≡◌, ℕ, zero, suc, ◌+◌, Bool, true, false, Option, Some, None, refl, ◌∙◌, arith}
 use Rattle.std.specs.Prelude.{if◌then◌else◌}
 use Rattle.ob_table.specs.declared.contract.Kind.{Kind}
 use Rattle.ob_content.specs.Values.{Value}
-use Rattle.ob_content.specs.Objects.{Object}
-use Rattle.ob_content.specs.Worlds.{World, Spent, Cause, by_fuel, spent, with_unit_taken, with_read, read_object, edit_object, make_object, Item}
-use Rattle.ob_content.specs.Marks.{comes_into, mark_disowned, lock, unlock, enter, leave}
+use Rattle.ob_content.specs.Worlds.{World, Spent, Cause, by_fuel, with_unit_taken}
+use Rattle.ob_content.specs.Marks.{comes_into, lock, unlock, enter, leave}
 use Rattle.ob_meaning.specs.Fields.{with_field}
 use Rattle.ob_meaning_laws.specs.Laws.{Grows, KeepsObjects}
-use Rattle.ob_meaning_laws.proofs.Follows.{Follows, Tells, grows_none, grows_on, keeps_all, keeps_on, follows_unit, follows_read, follows_read_object, follows_edit, follows_make}
-use Rattle.ob_meaning_laws.proofs.Marking.{follows_into, follows_mark_disowned}
+use Rattle.ob_meaning_laws.proofs.Follows.{Follows, Tells, grows_none, grows_on, keeps_all, keeps_on, follows_unit, follows_edit}
+use Rattle.ob_meaning_laws.proofs.Marking.{follows_into}
 use Rattle.ob_silica_steps.specs.Cells.{Location, slot, field, Cell}
-use Rattle.ob_silica_steps.specs.Configurations.{Configuration, Control, Ends, plain_end, test_end, lock_end, How, by_receiver, by_this, by_new, Next, goes, ended, aborted, abort, stuck}
+use Rattle.ob_silica_steps.specs.Configurations.{Configuration, Control, Ends, plain_end, test_end, lock_end, How, by_receiver, by_this, by_new, Next, goes, ended, abort, stuck}
 use Rattle.ob_perm.specs.Permissions.{Permission}
 use Rattle.ob_silica_steps.specs.Here.{Here, if_there, with_fuel_left, with_unit, set_permission, set_field, hand, self_of, goes_to}
 use Rattle.ob_silica_steps.specs.Testing.{end_branch}

@@ -1,5 +1,5 @@
 -- Each step keeps what all steps keep.
-use Rattle.std.proofs.Common.{◌≡◌, ℕ, zero, suc, ◌+◌, ◌≤◌, Bool, true, false, List, [], ◌∷◌, Option, Some, None, refl}
+use Rattle.std.proofs.Common.{ℕ, zero, suc, Bool, true, false, List, [], ◌∷◌, Option, Some, None}
 use Rattle.std.specs.Prelude.{option_map, ◌||◌, slice_get}
 use Rattle.ob_base.specs.declared.id.ContractId.{ContractId}
 use Rattle.ob_base.specs.declared.id.StateId.{StateId}
@@ -26,13 +26,13 @@ use Rattle.ob_silica.specs.Terms.{SilicaForm, unit_form, const_form, op_form, co
 use Rattle.ob_silica.specs.declared.place.Given.{Given}
 use Rattle.ob_silica_steps.specs.Cells.{Location, slot, field, located, all_located, location_of, this, same_location, Cell, plain_cell}
 use Rattle.ob_silica_steps.specs.Configurations.{SilicaProgram, Slots, Notes, Rest, Loan, Waiting, Control, runs, leaves, How, by_receiver, by_this, by_new, Frame, Configuration, Next, goes, ended, aborted, stuck}
-use Rattle.ob_silica_steps.specs.Here.{Here, at, here, if_there, with_unit, goes_to, self_of, self, read, hand}
+use Rattle.ob_silica_steps.specs.Here.{Here, at, here, goes_to, self_of, self, read, hand}
 use Rattle.ob_silica_steps.specs.Converting.{got_from}
 use Rattle.ob_silica_steps.specs.Binding.{Parameter, bound_cell, this_parameter, Bound, bind_one, bind_all, unbound, parameters, all_parameters, without_field_loans}
-use Rattle.ob_silica_steps.specs.Entering.{Entered, enters, entered_on, begins_on, calls_object, calls_this, makes_object, entered_new}
-use Rattle.ob_silica_steps.specs.Changing.{all_there, fill_one, fill_all, changed_object, changed_here, is_locked_out, change_with, change_step}
+use Rattle.ob_silica_steps.specs.Entering.{Entered, enters, begins_on, calls_object, calls_this, makes_object}
+use Rattle.ob_silica_steps.specs.Changing.{all_there, fill_all, changed_object, changed_here, is_locked_out, change_with, change_step}
 use Rattle.ob_silica_steps.specs.Testing.{Tested, tells, test_shared_this, test_this_as, test_this, test_shared, test_other, test_object, is_in, reads_object, test_step}
-use Rattle.ob_silica_steps.specs.Returning.{exits_are_within, gives_this, gives_value, gives_none, gives, return_step, returned_to, gives_back, goes_back, leave_step, left_world}
+use Rattle.ob_silica_steps.specs.Returning.{exits_are_within, gives_this, gives_none, gives, return_step, gives_back, goes_back, leave_step, left_world}
 use Rattle.ob_silica_steps.specs.Steps.{with_operated, with_truth, with_text, available_field, copy_to, move_to_slot, move_to, disowns, entered_with, constructor_id, call_step, call_this_step, new_step, act, pop_step, run_step, control_step, step, then_steps, steps}
 use Rattle.ob_silica_steps.specs.Starting.{pass_all, alone, started_call, started_new}
 use Rattle.ob_silica_laws.proofs.Keeping.{Keeps, Leads, tells_then, keeps_self, keeps_then, then_follows, keeps_lock, keeps_enter, keeps_progress, leads_abort, leads_there, leads_if, leads_unit, leads_goes, leads_to, leads_ended, leads_stuck, keeps_permission, keeps_field, keeps_hand, keeps_end}

@@ -1,8 +1,8 @@
 -- Where a run finds its values, and what is noted there (Coblenz et al., TOPLAS 42(3), 2020, "Silica", where a
 -- reference carries its permission; slots and notes are this project's own).
-use Rattle.std.specs.Prelude.{ℕ, Bool, false, nat_eq, List, map, Option, Some, None, option_map, if◌then◌else◌}
+use Rattle.std.specs.Prelude.{ℕ, Bool, false, nat_eq, List, map, Option, Some, None, option_map}
 use Rattle.ob_base.specs.declared.operator.Operator.{Operator}
-use Rattle.ob_base.specs.declared.operator.Operator.TheVariants.{Not, Negate}
+use Rattle.ob_base.specs.declared.operator.Operator.TheVariants.{Negate}
 use Rattle.ob_perm.specs.Permissions.{Permission, unowned}
 use Rattle.ob_perm.specs.Masks.{permission_of}
 use Rattle.ob_table.specs.declared.contract.Kind.{Kind}

@@ -1,10 +1,9 @@
 -- Changes of the state of `this` (Coblenz et al., TOPLAS 42(3), 2020, "Silica"; the test of a lock is this project's
 -- own).
 use Rattle.std.specs.Prelude.{ℕ, Bool, true, ◌&&◌, List, [], ◌∷◌, Option, Some, None, option_map, is_some, slice_get, if◌then◌else◌}
-use Rattle.std.specs.Option.{option_map_or}
 use Rattle.ob_base.specs.declared.id.StateId.{StateId}
 use Rattle.ob_perm.specs.States.{only}
-use Rattle.ob_perm.specs.Permissions.{Permission, owned, owns}
+use Rattle.ob_perm.specs.Permissions.{owned, owns}
 use Rattle.ob_table.specs.Tables.{ClassTable, contract_at}
 use Rattle.ob_table.specs.declared.contract.Contract.{Contract}
 use Rattle.ob_table.specs.declared.contract.Field.{Field}
@@ -14,7 +13,7 @@ use Rattle.ob_content.specs.Worlds.{edit_object, by_state}
 use Rattle.ob_content.specs.Marks.{is_locked}
 use Rattle.ob_silica.specs.Terms.{SilicaTerms}
 use Rattle.ob_silica.specs.declared.place.Given.{Given}
-use Rattle.ob_silica_steps.specs.Cells.{located, Known, Cell, noted, this}
+use Rattle.ob_silica_steps.specs.Cells.{located, Known, Cell, noted}
 use Rattle.ob_silica_steps.specs.Configurations.{Frame, Rest, runs, Notes, Configuration, Next, abort, stuck}
 use Rattle.ob_silica_steps.specs.Here.{Here, here, goes_to, if_there, self_of, self, read, at, hand}
 use Rattle.ob_silica_steps.specs.Converting.{got_from}

@@ -1,5 +1,5 @@
 -- Permissions between a contract and its interface, and what a place gets (this project's own).
-use Rattle.std.specs.Prelude.{ℕ, nat_eq, Option, Some, None, if◌then◌else◌}
+use Rattle.std.specs.Prelude.{nat_eq, Option, Some, if◌then◌else◌}
 use Rattle.ob_base.specs.declared.id.ContractId.{ContractId}
 use Rattle.ob_perm.specs.Naming.{for_interface, for_contract}
 use Rattle.ob_perm.specs.Permissions.{Permission, owned, shared, unowned}
@@ -7,7 +7,7 @@ use Rattle.ob_table.specs.Tables.{ClassTable, contract_at}
 use Rattle.ob_table.specs.declared.contract.Contract.{Contract}
 use Rattle.ob_table.specs.declared.contract.Kind.{Kind}
 use Rattle.ob_table.specs.declared.seen.LocalKind.{LocalKind}
-use Rattle.ob_table.specs.declared.seen.LocalKind.TheVariants.{Int, Bool, Text, Reference}
+use Rattle.ob_table.specs.declared.seen.LocalKind.TheVariants.{Reference}
 use Rattle.ob_typing.specs.Conditions.{naming}
 use Rattle.ob_typing.specs.WellMade.{is_implemented, kind_of_table}
 use Rattle.ob_silica_steps.specs.Cells.{Location, Cell, cell, permission_of_kind}

@@ -1,6 +1,6 @@
 -- How a call or a `new` enters its body (Coblenz et al., TOPLAS 42(3), 2020, "Silica"; re-entry, shared entry and the
 -- order of units, tests and marks are this project's own).
-use Rattle.std.specs.Prelude.{ℕ, suc, Bool, true, false, ◌&&◌, nat_eq, nat_le, List, [], ◌∷◌, length, position, Option, Some, None, option_map, option_and_then, slice_get, bytes_eq, if◌then◌else◌}
+use Rattle.std.specs.Prelude.{ℕ, suc, Bool, true, false, ◌&&◌, nat_le, List, [], ◌∷◌, length, Some, if◌then◌else◌}
 use Rattle.std.specs.Option.{option_map_or}
 use Rattle.ob_base.specs.declared.id.ContractId.{ContractId}
 use Rattle.ob_base.specs.declared.id.TxId.{TxId}
@@ -9,22 +9,18 @@ use Rattle.ob_perm.specs.States.{only, stateless}
 use Rattle.ob_perm.specs.Permissions.{owned, is_shared}
 use Rattle.ob_perm.specs.Masks.{permission_of}
 use Rattle.ob_table.specs.Tables.{ClassTable, contract_at, signature_at}
-use Rattle.ob_table.specs.declared.contract.Contract.{Contract}
-use Rattle.ob_table.specs.declared.contract.Kind.{Kind}
-use Rattle.ob_table.specs.declared.contract.Kind.TheVariants.{Reference as TypedReference}
 use Rattle.ob_table.specs.declared.contract.Signature.{Signature}
 use Rattle.ob_table.specs.declared.seen.LocalKind.TheVariants.{Reference}
-use Rattle.ob_content.specs.Values.{Value, reference, nothing}
+use Rattle.ob_content.specs.Values.{reference}
 use Rattle.ob_content.specs.Objects.{Object}
 use Rattle.ob_content.specs.Contents.{object_at}
 use Rattle.ob_content.specs.Worlds.{World, objects_most, next_item, with_read, read_object, make_object, by_reentry, by_full}
 use Rattle.ob_content.specs.Marks.{is_in_progress, enter}
 use Rattle.ob_meaning.specs.GoingWrong.{is_within}
 use Rattle.ob_meaning.specs.Calls.{answering, unfinished}
-use Rattle.ob_silica.specs.Terms.{SilicaTerms}
 use Rattle.ob_silica_steps.specs.Cells.{Cell, cell, value_in}
 use Rattle.ob_silica_steps.specs.Configurations.{SilicaProgram, terms_at, Slots, How, by_receiver, by_this, by_new, Frame, Waiting, runs, Notes, Next, goes, abort, stuck}
-use Rattle.ob_silica_steps.specs.Here.{at, with_unit, if_there}
+use Rattle.ob_silica_steps.specs.Here.{at, if_there}
 use Rattle.ob_silica_steps.specs.Binding.{Parameter, parameters, all_parameters}
 
 -- whether the slots from this number on hold what these parameters need: an owner's object is in one of the declared

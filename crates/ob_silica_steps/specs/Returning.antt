@@ -1,22 +1,16 @@
 -- How a body ends: in silent steps its result is taken, its tests end, what was lent goes back, and its caller goes
 -- on (this project's own).
-use Rattle.std.specs.Prelude.{ℕ, suc, Bool, true, ◌&&◌, ◌||◌, nat_eq, length, is_some, List, [], ◌∷◌, map, Option, Some, None, option_map, if◌then◌else◌}
-use Rattle.std.specs.Option.{option_map_or}
-use Rattle.ob_base.specs.declared.permission.Perm.{Perm}
-use Rattle.ob_perm.specs.Permissions.{Permission, unowned}
-use Rattle.ob_perm.specs.Masks.{permission_of}
+use Rattle.std.specs.Prelude.{ℕ, Bool, List, [], ◌∷◌, map, Option, Some, None, option_map, if◌then◌else◌}
+use Rattle.ob_perm.specs.Permissions.{unowned}
 use Rattle.ob_table.specs.Tables.{ClassTable, contract_at, signature_of}
-use Rattle.ob_table.specs.declared.contract.Contract.{Contract}
 use Rattle.ob_table.specs.declared.contract.Kind.{Kind}
 use Rattle.ob_table.specs.declared.contract.Kind.TheVariants.{Reference as TypedReference}
 use Rattle.ob_table.specs.declared.contract.Signature.{Signature}
-use Rattle.ob_typing.specs.WellMade.{is_constructor}
-use Rattle.ob_content.specs.Objects.{Object, has_all_values}
 use Rattle.ob_content.specs.Worlds.{World}
 use Rattle.ob_content.specs.Marks.{leave}
 use Rattle.ob_meaning.specs.GoingWrong.{is_within, kind_at_exit, is_finished}
-use Rattle.ob_silica_steps.specs.Cells.{Location, this, Cell, plain_cell, noted, value_in}
-use Rattle.ob_silica_steps.specs.Configurations.{SilicaProgram, Slots, How, by_receiver, by_this, by_new, Frame, Rest, Loan, Waiting, runs, leaves, Configuration, Next, goes, ended, stuck}
+use Rattle.ob_silica_steps.specs.Cells.{Location, this, Cell, noted, value_in}
+use Rattle.ob_silica_steps.specs.Configurations.{SilicaProgram, Slots, How, by_receiver, by_this, by_new, Rest, Loan, Waiting, runs, leaves, Configuration, Next, goes, ended, stuck}
 use Rattle.ob_silica_steps.specs.Here.{Here, here, goes_to, if_there, self_of, self, read, at, set_permission, hand}
 use Rattle.ob_silica_steps.specs.Binding.{Parameter, all_parameters, bound_cell}
 use Rattle.ob_silica_steps.specs.Entering.{are_within}

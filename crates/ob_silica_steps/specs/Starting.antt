@@ -1,5 +1,5 @@
 -- How a run of terms starts from outside, by a call of an object or by a `new` (this project's own).
-use Rattle.std.specs.Prelude.{ℕ, suc, List, [], ◌∷◌, Option, Some, None, slice_get}
+use Rattle.std.specs.Prelude.{ℕ, suc, List, [], ◌∷◌, Some}
 use Rattle.std.specs.Option.{option_map_or}
 use Rattle.ob_base.specs.declared.id.ContractId.{ContractId}
 use Rattle.ob_base.specs.declared.id.TxId.{TxId}

@@ -1,7 +1,6 @@
 -- Silica steps: one case for each form (Coblenz et al., TOPLAS 42(3), 2020, "Silica"; locks, re-entry, units and what
 -- is read are this project's own).
-use Rattle.std.specs.Prelude.{ℕ, zero, suc, Bool, true, false, ◌==◌, List, [], ◌∷◌, Option, Some, None, option_map, option_and_then, if◌then◌else◌}
-use Rattle.std.specs.Option.{option_map_or}
+use Rattle.std.specs.Prelude.{ℕ, zero, suc, true, false, List, [], ◌∷◌, Option, Some, None, option_map, option_and_then, if◌then◌else◌}
 use Rattle.ob_base.specs.declared.id.ContractId.{ContractId}
 use Rattle.ob_base.specs.declared.id.TxId.{TxId}
 use Rattle.ob_base.specs.declared.operator.Operator.{Operator}
@@ -11,17 +10,14 @@ use Rattle.ob_table.specs.Tables.{ClassTable, signature_of}
 use Rattle.ob_table.specs.declared.contract.Field.{Field}
 use Rattle.ob_table.specs.declared.seen.LocalKind.TheVariants.{Reference}
 use Rattle.ob_typing.specs.WellMade.{kind_of_table}
-use Rattle.ob_content.specs.Values.{Value, int_value, bool_value, text_value, reference, referred}
+use Rattle.ob_content.specs.Values.{Value, bool_value, text_value, referred}
 use Rattle.ob_content.specs.Objects.{is_available}
 use Rattle.ob_content.specs.Operations.{Operated, operated, overflows, other_kinds, before, between}
 use Rattle.ob_content.specs.Worlds.{World, by_revert, by_overflow}
 use Rattle.ob_content.specs.Marks.{mark_disowned}
 use Rattle.ob_silica.specs.Terms.{SilicaForm, unit_form, const_form, op_form, copy_form, move_form, new_form, call_form, call_this_form, change_form, test_form, if_form, assert_form, disown_form, drop_form, return_form, revert_form, bad_row_form, SilicaTerms, no_terms, and_term}
-use Rattle.ob_silica.specs.declared.place.Operand.{Operand}
-use Rattle.ob_silica.specs.declared.place.Place.{Place}
-use Rattle.ob_silica.specs.declared.place.Place.TheVariants.{This, Slot, Field as FieldPlace}
 use Rattle.ob_silica_steps.specs.Cells.{Location, slot, field, location_of, this, located, all_located, Cell, cell, plain_cell, constant_cell, kind_of_operator}
-use Rattle.ob_silica_steps.specs.Configurations.{SilicaProgram, Ends, plain_end, Rest, Waiting, Control, runs, leaves, Configuration, Next, goes, ended, aborted, abort, stuck}
+use Rattle.ob_silica_steps.specs.Configurations.{SilicaProgram, plain_end, Rest, Waiting, Control, runs, leaves, Configuration, Next, goes, ended, aborted, abort, stuck}
 use Rattle.ob_silica_steps.specs.Here.{Here, here, goes_to, if_there, with_unit, self, field_of, read, counted, set_slot, set_field, set_permission, hand}
 use Rattle.ob_silica_steps.specs.Converting.{converted, got_from}
 use Rattle.ob_silica_steps.specs.Binding.{Bound, unbound, bind_all, without_field_loans, parameters, all_parameters}

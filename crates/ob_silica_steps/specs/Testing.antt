@@ -1,6 +1,6 @@
 -- Tests of states, and what ends with their branches (Coblenz et al., TOPLAS 42(3), 2020, "State tests"; locks are this
 -- project's own).
-use Rattle.std.specs.Prelude.{ℕ, Bool, true, false, ◌||◌, List, [], ◌∷◌, Option, None, if◌then◌else◌}
+use Rattle.std.specs.Prelude.{ℕ, Bool, true, false, ◌||◌, List, ◌∷◌, None, if◌then◌else◌}
 use Rattle.ob_base.specs.declared.id.StateId.{StateId}
 use Rattle.ob_perm.specs.States.{only}
 use Rattle.ob_perm.specs.Permissions.{Permission, owned, shared, unowned, permission_within, permission_without}
@@ -10,11 +10,11 @@ use Rattle.ob_table.specs.declared.seen.LocalKind.TheVariants.{Reference}
 use Rattle.ob_content.specs.Values.{referred}
 use Rattle.ob_content.specs.Objects.{Object, is_in_state}
 use Rattle.ob_content.specs.Contents.{object_at}
-use Rattle.ob_content.specs.Worlds.{World, read_object, by_state}
+use Rattle.ob_content.specs.Worlds.{read_object, by_state}
 use Rattle.ob_content.specs.Marks.{is_locked, is_in_progress, lock, unlock}
 use Rattle.ob_silica.specs.Terms.{SilicaTerms}
 use Rattle.ob_silica_steps.specs.Cells.{Location, Cell, this, same_location}
-use Rattle.ob_silica_steps.specs.Configurations.{Ends, plain_end, test_end, lock_end, Rest, runs, Configuration, Next, abort, stuck}
+use Rattle.ob_silica_steps.specs.Configurations.{Ends, plain_end, test_end, lock_end, Rest, runs, Configuration, Next, abort}
 use Rattle.ob_silica_steps.specs.Here.{Here, here, goes_to, if_there, read, set_permission}
 use Rattle.ob_silica_steps.specs.Changing.{is_locked_out}
 
