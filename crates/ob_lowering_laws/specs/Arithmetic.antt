@@ -8,7 +8,7 @@ use Rattle.ob_meaning_laws.specs.Arithmetic.{arithmetic, calculator_store}
 use Rattle.ob_silica.specs.Terms.{SilicaForm, unit_form, op_form, copy_form, return_form, SilicaTerms, no_terms}
 use Rattle.ob_silica.specs.declared.place.Place.TheVariants.{Slot}
 use Rattle.ob_silica_steps.specs.Configurations.{SilicaProgram}
-use Rattle.ob_silica_laws.specs.Spelled.{slot_on, on, body_end, terms_body, steps_on_store}
+use Rattle.ob_lowering_laws.specs.Spelled.{slot_on, on, body_end, terms_body, steps_on_store}
 
 -- an operator on a line between two parameters, into the third of three slots from this one on
 abbrev pub operated_on : Operator → ℕ → ℕ → ℕ → ℕ → ℕ → ℕ → List SilicaForm

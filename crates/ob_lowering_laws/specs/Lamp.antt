@@ -1,6 +1,6 @@
 -- A lamp whose bodies have what the other programs don't: early stops, branches, staged statements, a text, a row of staged
 -- statements that is refused (this project's own program).
-use Rattle.std.specs.Prelude.{ℕ, ℤ, pos, negsuc, true, false, Bool, List, [], ◌∷◌, Option, Some, None}
+use Rattle.std.specs.Prelude.{ℕ, ℤ, pos, true, false, Bool, List, [], ◌∷◌, Option, Some, None}
 use Rattle.ob_base.specs.declared.operator.Operator.{Operator}
 use Rattle.ob_base.specs.declared.operator.Operator.TheVariants.{Add, Greater, And, Or, Not, Negate}
 use Rattle.ob_table.specs.Expressions.{Expression, resolved_number, resolved_text, resolved_bool, resolved_unary, resolved_binary, resolved_call, arguments}
@@ -12,14 +12,14 @@ use Rattle.ob_table.specs.declared.seen.LocalKind.TheVariants.{Int as IntLocal}
 use Rattle.ob_content.specs.Values.{Value, int_value, bool_value, nothing, put}
 use Rattle.ob_content.specs.Objects.{Object}
 use Rattle.ob_content.specs.Worlds.{by_revert, object_item}
-use Rattle.ob_meaning_laws.specs.Written.{on_line, contract_number, field_number, state_of_number, transaction_number, owner_in, as_unowned, anywhere_bits, local_at, field_at_line, value_at, param, signature, body, ToldObject, Told, tells, tells_abort, told, spending, run_on_store}
+use Rattle.ob_meaning_laws.specs.Written.{on_line, contract_number, field_number, state_of_number, transaction_number, owner_in, as_unowned, anywhere_bits, local_at, field_at_line, value_at, param, signature, body, Told, tells, tells_abort, told, spending, run_on_store}
 use Rattle.ob_silica.specs.Terms.{SilicaForm, unit_form, const_form, op_form, copy_form, call_this_form, change_form, if_form, drop_form, return_form, revert_form, bad_row_form, SilicaTerms, no_terms}
 use Rattle.ob_silica.specs.declared.place.Constant.TheVariants.{Int as IntConstant, Bool as BoolConstant, Text as TextConstant}
 use Rattle.ob_silica.specs.declared.place.Given.{Given}
 use Rattle.ob_silica.specs.declared.place.Operand.{Operand}
 use Rattle.ob_silica.specs.declared.place.Place.TheVariants.{Slot, Field}
 use Rattle.ob_silica_steps.specs.Configurations.{SilicaProgram}
-use Rattle.ob_silica_laws.specs.Spelled.{slot_on, field_on, on, body_end, terms_body, steps_on_store}
+use Rattle.ob_lowering_laws.specs.Spelled.{slot_on, field_on, on, body_end, terms_body, steps_on_store}
 
 -- The program.
 

@@ -1,6 +1,6 @@
 -- The light that is flipped while its state is tested, as terms (this project's own program).
 use Rattle.std.specs.Prelude.{ℕ, true, false, List, [], ◌∷◌, ◌++◌, Option, Some, None}
-use Rattle.ob_content.specs.Values.{Value, reference, nothing}
+use Rattle.ob_content.specs.Values.{reference, nothing}
 use Rattle.ob_content.specs.Objects.{Object}
 use Rattle.ob_content.specs.Worlds.{object_item, next_item}
 use Rattle.ob_meaning_laws.specs.Written.{on_line, contract_number, state_of_number, transaction_number, ToldObject, Told, tells, spending}
@@ -8,7 +8,7 @@ use Rattle.ob_meaning_laws.specs.Lights.{lights, lit_store}
 use Rattle.ob_silica.specs.Terms.{unit_form, move_form, new_form, call_form, change_form, test_form, drop_form, return_form, SilicaTerms, no_terms}
 use Rattle.ob_silica.specs.declared.place.Place.TheVariants.{Slot}
 use Rattle.ob_silica_steps.specs.Configurations.{SilicaProgram}
-use Rattle.ob_silica_laws.specs.Spelled.{slot_on, on, body_end, terms_body, steps_on_store}
+use Rattle.ob_lowering_laws.specs.Spelled.{slot_on, on, body_end, terms_body, steps_on_store}
 
 -- `return new Light();`
 abbrev pub make_terms : SilicaTerms

@@ -1,13 +1,13 @@
 -- The call back to an object whose transaction is in progress, and the call on `this`, as terms (this project's own
 -- program).
-use Rattle.std.specs.Prelude.{pos, List, [], ◌∷◌, Option, Some, None}
+use Rattle.std.specs.Prelude.{pos, [], ◌∷◌, Option, Some}
 use Rattle.ob_meaning_laws.specs.Written.{contract_number, field_number, transaction_number, Told}
 use Rattle.ob_meaning_laws.specs.Reentry.{reentry, seven_store}
 use Rattle.ob_silica.specs.Terms.{unit_form, const_form, copy_form, move_form, new_form, call_form, call_this_form, drop_form, return_form, SilicaTerms, no_terms}
 use Rattle.ob_silica.specs.declared.place.Constant.TheVariants.{Int}
 use Rattle.ob_silica.specs.declared.place.Place.TheVariants.{Slot, Field}
 use Rattle.ob_silica_steps.specs.Configurations.{SilicaProgram}
-use Rattle.ob_silica_laws.specs.Spelled.{this_on, slot_on, field_on, on, body_end, terms_body, steps_on_store}
+use Rattle.ob_lowering_laws.specs.Spelled.{this_on, slot_on, field_on, on, body_end, terms_body, steps_on_store}
 
 -- `return a.get();`
 abbrev pub back_terms : SilicaTerms

@@ -1,5 +1,5 @@
 -- The vending machine of the article as terms (Coblenz et al., TOPLAS 42(3), 2020, section 2).
-use Rattle.std.specs.Prelude.{ℕ, pos, List, [], ◌∷◌, Option, Some, None}
+use Rattle.std.specs.Prelude.{ℕ, pos, [], ◌∷◌, Option, Some}
 use Rattle.ob_base.specs.declared.operator.Operator.TheVariants.{Add}
 use Rattle.ob_content.specs.Values.{reference}
 use Rattle.ob_meaning_laws.specs.Written.{contract_number, field_number, state_of_number, Told}
@@ -8,7 +8,7 @@ use Rattle.ob_silica.specs.Terms.{unit_form, const_form, op_form, copy_form, mov
 use Rattle.ob_silica.specs.declared.place.Constant.TheVariants.{Int}
 use Rattle.ob_silica.specs.declared.place.Place.TheVariants.{Slot, Field}
 use Rattle.ob_silica_steps.specs.Configurations.{SilicaProgram}
-use Rattle.ob_silica_laws.specs.Spelled.{slot_on, field_on, on, body_end, terms_body, steps_on_store}
+use Rattle.ob_lowering_laws.specs.Spelled.{slot_on, field_on, on, body_end, terms_body, steps_on_store}
 
 -- `sold = 0; ->Empty;`
 abbrev pub machine_terms : SilicaTerms

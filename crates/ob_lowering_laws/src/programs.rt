@@ -1,16 +1,14 @@
-//! Laws of the lowering relation.
-#![tactic(auto)]
-
+//! Small programs, whose bodies may be lowered to their terms.
 ghost use Rattle.std.specs.Prelude.{◌≡◌, pos, negsuc, true, [], Some};
 ghost use Rattle.ob_meaning_laws.specs.Written.{tells_wrong};
 ghost use Rattle.ob_meaning_laws.specs.VendingMachine.{vending_machine};
 ghost use Rattle.ob_meaning_laws.specs.Lights.{lights};
 ghost use Rattle.ob_meaning_laws.specs.Reentry.{reentry};
 ghost use Rattle.ob_meaning_laws.specs.Arithmetic.{arithmetic};
-ghost use Rattle.ob_silica_laws.specs.VendingMachine.{vending_terms};
-ghost use Rattle.ob_silica_laws.specs.Lights.{light_terms};
-ghost use Rattle.ob_silica_laws.specs.Reentry.{reentry_terms};
-ghost use Rattle.ob_silica_laws.specs.Arithmetic.{arithmetic_terms};
+ghost use Rattle.ob_lowering_laws.specs.VendingMachine.{vending_terms};
+ghost use Rattle.ob_lowering_laws.specs.Lights.{light_terms};
+ghost use Rattle.ob_lowering_laws.specs.Reentry.{reentry_terms};
+ghost use Rattle.ob_lowering_laws.specs.Arithmetic.{arithmetic_terms};
 ghost use Rattle.ob_lowering_laws.specs.Lamp.{lamp, lamp_terms, by_meaning, by_steps, number_and_truth, lit_with, reverted};
 ghost use Rattle.ob_lowering.specs.BodyTerms.{AllLower};
 

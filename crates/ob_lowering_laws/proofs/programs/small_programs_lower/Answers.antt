@@ -1,17 +1,17 @@
 -- Each body has its terms by the cases of the relation; the slots are named where one is chosen.
-use Rattle.std.proofs.Common.{List, [], ◌∷◌, refl}
+use Rattle.std.proofs.Common.{[], ◌∷◌, refl}
 use Rattle.ob_meaning_laws.specs.VendingMachine.{vending_machine}
-use Rattle.ob_silica_laws.specs.VendingMachine.{vending_terms}
+use Rattle.ob_lowering_laws.specs.VendingMachine.{vending_terms}
 use Rattle.ob_meaning_laws.specs.Lights.{lights}
-use Rattle.ob_silica_laws.specs.Lights.{light_terms}
+use Rattle.ob_lowering_laws.specs.Lights.{light_terms}
 use Rattle.ob_meaning_laws.specs.Reentry.{reentry}
-use Rattle.ob_silica_laws.specs.Reentry.{reentry_terms}
+use Rattle.ob_lowering_laws.specs.Reentry.{reentry_terms}
 use Rattle.ob_meaning_laws.specs.Arithmetic.{arithmetic}
-use Rattle.ob_silica_laws.specs.Arithmetic.{arithmetic_terms}
-use Rattle.ob_lowering.specs.ExpressionTerms.{IsCall, calls_this, calls_other}
-use Rattle.ob_lowering.specs.BodyTerms.{AllLower, LowersWith}
+use Rattle.ob_lowering_laws.specs.Arithmetic.{arithmetic_terms}
+use Rattle.ob_lowering.specs.ExpressionTerms.{calls_this, calls_other}
+use Rattle.ob_lowering.specs.BodyTerms.{AllLower}
 use Rattle.ob_lowering_laws.proofs.Free.{free}
-use Rattle.ob_lowering_laws.proofs.small_programs_lower.Goals as goal
+use Rattle.ob_lowering_laws.proofs.programs.small_programs_lower.Goals as goal
 
 vending : AllLower vending_machine vending_machine.bodies vending_terms.bodies
 vending = (

@@ -2,7 +2,7 @@
 use Rattle.std.proofs.Common.{refl}
 use Rattle.ob_perm.specs.States.{states_max}
 use Rattle.ob_perm.specs.Masks.{states_of}
-use Rattle.ob_silica_laws.proofs.runs.vending_machine_sells_one_candy.Goals as goal
+use Rattle.ob_lowering_laws.proofs.runs.vending_machine_sells_one_candy.Goals as goal
 
 pub returns : goal.returns
 unfolding states_max states_of
