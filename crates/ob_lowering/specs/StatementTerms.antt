@@ -3,23 +3,19 @@
 use Rattle.std.specs.Prelude.{◌≡◌, ℕ, List, [], ◌∷◌, ◌++◌, Option, Some, None, if◌then◌else◌}
 use Rattle.ob_base.specs.declared.fault.Span.{Span}
 use Rattle.ob_table.specs.Expressions.{Expression}
-use Rattle.ob_table.specs.Statements.{GivenField, Statement, resolved_declare, resolved_assign, resolved_stage, resolved_change, resolved_discard, resolved_test, resolved_if, resolved_return, resolved_revert, resolved_disown, resolved_assert, Block, resolved_block, Otherwise, no_otherwise, otherwise_block, Statements, no_statements, and_statement}
+use Rattle.ob_table.specs.Statements.{Statement, resolved_declare, resolved_assign, resolved_stage, resolved_change, resolved_discard, resolved_test, resolved_if, resolved_return, resolved_revert, resolved_disown, resolved_assert, Block, resolved_block, Otherwise, no_otherwise, otherwise_block, Statements, no_statements, and_statement}
 use Rattle.ob_table.specs.declared.seen.LocalKind.{LocalKind}
 use Rattle.ob_table.specs.declared.seen.LocalKind.TheVariants.{Int, Bool as BoolKind, Text, Reference}
 use Rattle.ob_table.specs.declared.seen.SeenAt.{SeenAt}
 use Rattle.ob_typing.specs.WellMade.{Frame, kind_of_seen, one_ends_there}
-use Rattle.ob_silica.specs.Terms.{SilicaForm, unit_form, const_form, copy_form, move_form, change_form, test_form, if_form, assert_form, disown_form, return_form, revert_form, bad_row_form, SilicaTerms, no_terms, and_term, one_term, then_terms}
+use Rattle.ob_silica.specs.Terms.{SilicaForm, const_form, copy_form, move_form, change_form, test_form, if_form, assert_form, disown_form, return_form, revert_form, SilicaTerms, no_terms, and_term, one_term, then_terms}
 use Rattle.ob_silica.specs.declared.place.Constant.TheVariants.{Text as TextConstant}
-use Rattle.ob_silica.specs.declared.place.Given.{Given}
 use Rattle.ob_silica.specs.declared.place.Operand.{Operand}
 use Rattle.ob_silica.specs.declared.place.Place.{Place}
 use Rattle.ob_silica.specs.declared.place.Place.TheVariants.{Slot, Field}
-use Rattle.ob_lowering.specs.Points.{IsFree, in_use, drops, drops_of, Temporary, locals_of, place_of, Row, no_row, staged_row, refused_row, refused_at, place_in, given_before, made_before, Point, passed, declares, with_row, used_at, inside, Around, around}
+use Rattle.ob_lowering.specs.Points.{IsFree, drops, drops_of, Temporary, locals_of, place_of, refused_at, place_in, given_before, made_before, Point, passed, declares, used_at, inside, Around, around}
 use Rattle.ob_lowering.specs.ExpressionTerms.{Lowered, LoweredCall, operand, slot_operand, kind_around, LowersExpression, LowersDiscarded}
-
--- a unit of fuel, and then these terms
-abbrev pub with_unit : Span → SilicaTerms → SilicaTerms
-with_unit span terms = and_term unit_form span terms
+use Rattle.ob_lowering.specs.GivenTerms.{with_unit, LoweredGiven, LowersGiven, LowersStage}
 
 -- these terms, then the form, then its temporaries end
 abbrev pub ended_by : Span → SilicaTerms → SilicaForm → List Temporary → SilicaTerms
@@ -41,45 +37,6 @@ set_place kind place from = copy_form place from
 -- a name as an operand
 abbrev pub IsNamed : Around → SeenAt → Operand → Type 0
 IsNamed a seen o = (place : Place) × (place_of a.variables seen.of ≡ Some place) × (o ≡ operand place seen.span)
-
--- what fields are given: the terms of the values, the fields, and the temporaries in the order made
-pub record LoweredGiven : Type 0 where
-  pub terms : SilicaTerms
-  pub given : List Given
-  pub made : List Temporary
-
--- a field and the operand that it is given
-abbrev pub given_from : GivenField → Operand → Given
-given_from g from = record { field = g.field; span = g.span; from = from }
-
--- the given fields from left to right
-abbrev pub LowersGiven : Around → List ℕ → List GivenField → LoweredGiven → Type 0
-LowersGiven a used [] l = l ≡ record { terms = no_terms; given = []; made = [] }
-LowersGiven a used (g ∷ gs) l =
-    (x : Lowered) × LowersExpression a used g.value x
-    × (y : LoweredGiven) × LowersGiven a (in_use x.made used) gs y
-    × (l ≡ record {
-      terms = then_terms x.terms y.terms;
-      given = given_from g x.operand ∷ y.given;
-      made = x.made ++ y.made;
-    })
-
--- The first staged statement of a row: if the row is refused it is one bad row; else it takes a unit and evaluates
--- its value, and the field waits for the change of state.
-abbrev pub LowersFirstStage : Frame → Point → Option Span → GivenField → Span → SilicaTerms → Point → Type 0
-LowersFirstStage f p (Some at) given span ts q = (ts ≡ one_term bad_row_form at) × (q ≡ with_row p refused_row)
-LowersFirstStage f p None given span ts q =
-    (x : Lowered) × LowersExpression (around f p span) p.used given.value x
-    × (ts ≡ with_unit span x.terms) × (q ≡ with_row p (staged_row span (given_from given x.operand ∷ []) x.made))
-
--- a staged statement behind such a row; of a refused row the others have no term
-abbrev pub LowersStage : Frame → Point → Row → Option Span → GivenField → Span → SilicaTerms → Point → Type 0
-LowersStage f p no_row refused given span ts q = LowersFirstStage f p refused given span ts q
-LowersStage f p refused_row refused given span ts q = (ts ≡ no_terms) × (q ≡ p)
-LowersStage f p (staged_row first givens made) refused given span ts q =
-    (x : Lowered) × LowersExpression (around f p first) (in_use made p.used) given.value x
-    × (ts ≡ with_unit first x.terms)
-    × (q ≡ with_row p (staged_row first (givens ++ given_from given x.operand ∷ []) (made ++ x.made)))
 
 -- a `return` with a value or with none
 abbrev pub LowersReturn : Around → List ℕ → Option Expression → SilicaTerms → Type 0

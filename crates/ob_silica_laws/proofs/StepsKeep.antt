@@ -33,7 +33,9 @@ use Rattle.ob_silica_steps.specs.Entering.{Entered, enters, begins_on, calls_obj
 use Rattle.ob_silica_steps.specs.Changing.{all_there, fill_all, changed_object, changed_here, is_locked_out, change_with, change_step}
 use Rattle.ob_silica_steps.specs.Testing.{Tested, tells, test_shared_this, test_this_as, test_this, test_shared, test_other, test_object, is_in, reads_object, test_step}
 use Rattle.ob_silica_steps.specs.Returning.{exits_are_within, gives_this, gives_none, gives, return_step, gives_back, goes_back, leave_step, left_world}
-use Rattle.ob_silica_steps.specs.Steps.{with_operated, with_truth, with_text, available_field, copy_to, move_to_slot, move_to, disowns, entered_with, constructor_id, call_step, call_this_step, new_step, act, pop_step, run_step, control_step, step, then_steps, steps}
+use Rattle.ob_silica_steps.specs.Straight.{with_operated, with_truth, with_text, available_field, copy_to, move_to_slot, move_to, disowns}
+use Rattle.ob_silica_steps.specs.Calling.{entered_with, constructor_id, call_step, call_this_step, new_step}
+use Rattle.ob_silica_steps.specs.Steps.{act, pop_step, run_step, control_step, step, then_steps, steps}
 use Rattle.ob_silica_steps.specs.Starting.{pass_all, alone, started_call, started_new}
 use Rattle.ob_silica_laws.proofs.Keeping.{Keeps, Leads, tells_then, keeps_self, keeps_then, then_follows, keeps_lock, keeps_enter, keeps_progress, leads_abort, leads_there, leads_if, leads_unit, leads_goes, leads_to, leads_ended, leads_stuck, keeps_permission, keeps_field, keeps_hand, keeps_end}
 

@@ -7,5 +7,7 @@ pub mod Entering
 pub mod Changing
 pub mod Testing
 pub mod Returning
+pub mod Straight
+pub mod Calling
 pub mod Steps
 pub mod Starting

@@ -18,7 +18,7 @@ use Rattle.ob_silica_steps.specs.Configurations.{SilicaProgram, Slots, HandleNot
 use Rattle.ob_silica_steps.specs.Here.{at, if_there, field_of, with_unit}
 use Rattle.ob_silica_steps.specs.Binding.{Parameter, parameters, this_parameter, bound_cell}
 use Rattle.ob_silica_steps.specs.Entering.{Entered, calls_object, makes_object}
-use Rattle.ob_silica_steps.specs.Steps.{constructor_id}
+use Rattle.ob_silica_steps.specs.Calling.{constructor_id}
 
 -- what is noted of a declared field
 abbrev pub declared_note : Kind → Known
