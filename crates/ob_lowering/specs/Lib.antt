@@ -1,0 +1,5 @@
+pub mod Points
+pub mod ExpressionTerms
+pub mod GivenTerms
+pub mod StatementTerms
+pub mod BodyTerms

@@ -1,0 +1,7 @@
+pub mod Spelled
+pub mod VendingMachine
+pub mod Lights
+pub mod Reentry
+pub mod Arithmetic
+pub mod Lamp
+pub mod Shop

@@ -1,0 +1,35 @@
+//! Small programs, whose bodies may be lowered to their terms.
+ghost use Rattle.std.specs.Prelude.{◌≡◌, pos, negsuc, true, [], Some};
+ghost use Rattle.ob_meaning_laws.specs.Written.{tells_wrong};
+ghost use Rattle.ob_meaning_laws.specs.VendingMachine.{vending_machine};
+ghost use Rattle.ob_meaning_laws.specs.Lights.{lights};
+ghost use Rattle.ob_meaning_laws.specs.Reentry.{reentry};
+ghost use Rattle.ob_meaning_laws.specs.Arithmetic.{arithmetic};
+ghost use Rattle.ob_lowering_laws.specs.VendingMachine.{vending_terms};
+ghost use Rattle.ob_lowering_laws.specs.Lights.{light_terms};
+ghost use Rattle.ob_lowering_laws.specs.Reentry.{reentry_terms};
+ghost use Rattle.ob_lowering_laws.specs.Arithmetic.{arithmetic_terms};
+ghost use Rattle.ob_lowering_laws.specs.Lamp.{lamp, lamp_terms, by_meaning, by_steps, number_and_truth, lit_with, reverted};
+ghost use Rattle.ob_lowering.specs.BodyTerms.{AllLower};
+
+/// The bodies of small programs may be lowered to the terms that are run elsewhere.
+pub fn small_programs_lower()
+    ensures vending { AllLower vending_machine vending_machine.bodies vending_terms.bodies }
+    ensures light { AllLower lights lights.bodies light_terms.bodies }
+    ensures calling { AllLower reentry reentry.bodies reentry_terms.bodies }
+    ensures dividing { AllLower arithmetic arithmetic.bodies arithmetic_terms.bodies }
+{}
+
+/// A program with early stops, branches, staged statements and texts: its bodies may be lowered to its terms, and what a
+/// transaction tells by the source meaning it tells by steps. A row of staged statements that is refused goes wrong.
+pub fn lamp_lowers()
+    ensures lowers { AllLower lamp lamp.bodies lamp_terms.bodies }
+    ensures lit { by_meaning 1 (number_and_truth (pos 3) true) ≡ lit_with (pos 7) (pos 4) (pos 3) 10 }
+    ensures steps_lit { by_steps 1 (number_and_truth (pos 3) true) ≡ Some (lit_with (pos 7) (pos 4) (pos 3) 10) }
+    ensures other_lit { by_meaning 1 (number_and_truth (negsuc 2) true) ≡ lit_with (pos 5) (pos 2) (pos 3) 8 }
+    ensures steps_other { by_steps 1 (number_and_truth (negsuc 2) true) ≡ Some (lit_with (pos 5) (pos 2) (pos 3) 8) }
+    ensures fails { by_meaning 3 [] ≡ reverted }
+    ensures steps_fail { by_steps 3 [] ≡ Some reverted }
+    ensures refused { by_meaning 4 [] ≡ tells_wrong }
+    ensures steps_refused { by_steps 4 [] ≡ Some tells_wrong }
+{}

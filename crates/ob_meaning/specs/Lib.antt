@@ -1,0 +1,9 @@
+pub mod Frames
+pub mod GoingWrong
+pub mod Naming
+pub mod Expressions
+pub mod Fields
+pub mod StateTests
+pub mod Statements
+pub mod Bodies
+pub mod Calls

@@ -1,0 +1,4 @@
+pub mod Terms
+pub mod Slots
+pub mod TermsView
+pub mod TermsBack

@@ -1,0 +1,4 @@
+pub mod Keeping
+pub mod StepsKeep
+pub mod Counting
+pub mod Parts

@@ -1,0 +1,6 @@
+//! Laws of Silica steps: what each of them keeps, and how their numbers add up.
+#![tactic(auto)]
+
+mod laws;
+
+pub use laws::{others_stay, reads_grow, steps_are_enough, units_add_up};

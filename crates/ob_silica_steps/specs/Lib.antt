@@ -1,0 +1,13 @@
+pub mod Cells
+pub mod Configurations
+pub mod Here
+pub mod Converting
+pub mod Binding
+pub mod Entering
+pub mod Changing
+pub mod Testing
+pub mod Returning
+pub mod Straight
+pub mod Calling
+pub mod Steps
+pub mod Starting
