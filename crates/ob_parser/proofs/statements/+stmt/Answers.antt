@@ -33,13 +33,19 @@ pub statement_list-statements-preserved : goal.statement_list-statements-preserv
 statement_list-statements-preserved t c = kept_as stmt_first (read_stmt all_refs all_counted all_branches c.args.room) stmt_of c.statements.statements c.push.new.self c.statements.rest.now c.in_ok-statement.after.now c.in_ok-statement.statement _ (stmt_consumes c.args.room c.ranges.room.fits) c.statements.invariant c.in_ok-push.ensures.ok (sym c.starts_with_one_of.ensures ∙ c.statements-test.true) c.in_ok-statement.ensures
 
 pub behind_if-returns-in_err-rest : goal.behind_if-returns-in_err-rest
-behind_if-returns-in_err-rest t c = rw (branches_step c.args.room c.ranges.room.fits c.args.tokens.now) (search rules)
+behind_if-returns-in_err-rest t c =
+    let why : Halts c.in_err-rest.field-0.0 (read_branches (all_exprs c.args.room) all_stmts all_branches c.args.room c.args.tokens.now) = halts_bind _ _ _ (halts_bind _ _ _ c.in_err-rest.ensures) in
+    rw (branches_step c.args.room c.ranges.room.fits c.args.tokens.now) (search rules)
 
 pub behind_if-returns-in_err-question : goal.behind_if-returns-in_err-question
-behind_if-returns-in_err-question t c = rw (branches_step c.args.room c.ranges.room.fits c.args.tokens.now) (search (rules, halts_bind))
+behind_if-returns-in_err-question t c =
+    let why : Halts c.in_err-question.field-0.0 (read_branches (all_exprs c.args.room) all_stmts all_branches c.args.room c.args.tokens.now) = rw c.in_ok-rest.ensures (halts_bind _ _ _ (halts_bind _ _ _ (halts_bind _ _ _ c.in_err-question.ensures))) in
+    rw (branches_step c.args.room c.ranges.room.fits c.args.tokens.now) (search rules)
 
 pub behind_if-returns-in_err-question-2 : goal.behind_if-returns-in_err-question-2
-behind_if-returns-in_err-question-2 t c = rw (branches_step c.args.room c.ranges.room.fits c.args.tokens.now) (search (rules, halts_bind))
+behind_if-returns-in_err-question-2 t c =
+    let why : Halts c.in_err-question-2.field-0.0 (read_branches (all_exprs c.args.room) all_stmts all_branches c.args.room c.args.tokens.now) = rw (c.in_ok-rest.ensures, c.in_ok-question.ensures) (halts_bind _ _ _ (halts_bind _ _ _ (halts_bind _ _ _ (halts_bind _ _ _ c.in_err-question-2.ensures.err)))) in
+    rw (branches_step c.args.room c.ranges.room.fits c.args.tokens.now) (search rules)
 
 pub behind_if-returns-in_err-question-3 : goal.behind_if-returns-in_err-question-3
 behind_if-returns-in_err-question-3 t c =
