@@ -1,0 +1,5 @@
+pub mod Numbered
+pub mod Types
+pub mod Members
+pub mod Around
+pub mod Params

@@ -1,0 +1,37 @@
+//! What the members of a contract declare.
+use crate::names::Names;
+use ob_base::Items;
+use ob_typing::Kind;
+
+/// The states of a contract: a name has the number of the first that has it.
+#[derive(Drop)]
+pub struct States {
+    pub names: Names,
+    /// How many states the contract names, a second one of one name too.
+    pub count: usize,
+}
+
+/// A transaction without its body.
+#[derive(Drop)]
+pub struct Heading {
+    pub private: bool,
+    /// The kinds of the parameters beside `this`.
+    pub params: Items<Kind>,
+    /// `Kind::Nothing` where there is no result.
+    pub result: Kind,
+}
+
+/// The fields and transactions of a contract. A name has the number of the first that has it, which is its place in the
+/// list behind the names.
+#[derive(Drop)]
+pub struct Members {
+    pub fields: Names,
+    /// The kinds of the fields.
+    pub kinds: Items<Kind>,
+    pub transactions: Names,
+    pub headings: Items<Heading>,
+    /// The places of the transactions among the members of the contract.
+    pub places: Items<usize>,
+    /// The kinds of the parameters of the constructor, written or default.
+    pub constructor: Items<Kind>,
+}
