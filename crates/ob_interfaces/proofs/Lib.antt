@@ -1,0 +1,4 @@
+pub mod AgreeLemmas
+pub mod HeldLemmas
+pub mod SameLemmas
+pub mod AskedLemmas
