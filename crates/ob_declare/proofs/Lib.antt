@@ -1,0 +1,4 @@
+pub mod NameTurns
+pub mod MemberLemmas
+pub mod ContractLemmas
+pub mod ProgramLemmas
