@@ -4,4 +4,4 @@ pub mod NamingLemmas
 pub mod FitLemmas
 mod JoinLemmas
 mod SaidLemmas
-mod StandsLemmas
+pub mod StandsLemmas

@@ -1,0 +1,4 @@
+pub mod NumbersLemmas
+pub mod StatesLemmas
+pub mod ResolvedLemmas
+pub mod ScopeLemmas

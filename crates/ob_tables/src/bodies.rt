@@ -1,0 +1,145 @@
+//! The bodies of a contract (the Obsidian language documentation, "Transactions").
+ghost use Rattle.std.specs.Prelude.{◌≡◌, ◌+◌, [], ◌∷◌, ◌++◌, length, map, flat_map, option_map, IfOk, OnOk};
+ghost use Rattle.ob_tree.specs.NamesView.{type_of};
+ghost use Rattle.ob_tree.specs.Stmts.{block_with};
+ghost use Rattle.ob_tree.specs.StmtsView.{block_of, stmts_of};
+ghost use Rattle.ob_tree.specs.MembersView.{formal_of, member_of, contract_of};
+ghost use Rattle.ob_table.specs.StatementsView.{resolved_body_of};
+ghost use Rattle.ob_typing.specs.Declarations.{Transaction, transactions_of_member, constructor_of};
+ghost use Rattle.ob_typing.specs.Kinds.{kind_of_result};
+ghost use Rattle.ob_typing.specs.TableOf.{body_with, constructor_body, transaction_bodies, bodies_of};
+ghost use Rattle.ob_scope.specs.Types.{program_of};
+ghost use Rattle.ob_tables.specs.Parts.{bodies_from};
+
+use crate::constructors::written_constructor;
+use ob_base::{Items, Memory, Span, TxId};
+use ob_bodies::{contract_id, resolve_stmts, wide};
+use ob_scope::{Around, scope_of_params};
+use ob_table::Body;
+use ob_tree::{FormalNode, Member, Stmt};
+use ob_typing::Kind;
+use std::alloc::Global;
+
+// The body at this number of the contract around, with these parameters.
+#[tactic(auto, using(ob_tree::specs::MembersView::views))]
+fn body_with(
+    around: &Around<'_>,
+    tx: usize,
+    params: &[FormalNode],
+    statements: &[Stmt],
+    end: Span,
+    alloc: Global,
+) -> Result<Body, Memory>
+    ensures { IfOk result (λ b. resolved_body_of b ≡ body_with (program_of around.now.program)
+        (contract_of around.now.own) tx around.now.result (map formal_of params.now)
+        (block_with (stmts_of statements.now) end)) }
+{
+    let types = around.declared().types();
+    let contract = contract_id(types.find(around.node().name.as_bytes()))?;
+    let mut scope = scope_of_params(alloc, types, params)?;
+    let statements = resolve_stmts(statements, around, &mut scope, alloc)?;
+    Ok(Body {
+        contract,
+        tx: TxId(wide(tx)?),
+        statements,
+        end,
+    })
+}
+
+// The body of the constructor of the contract around, written or default.
+#[tactic(auto, using(ob_tree::specs::MembersView::views))]
+fn constructor_body(around: &Around<'_>, alloc: Global) -> Result<Body, Memory>
+    ensures { IfOk result (λ b. resolved_body_of b ≡ constructor_body (program_of around.now.program)
+        (contract_of around.now.own) (constructor_of (contract_of around.now.own))) }
+{
+    let around = around.giving(Kind::Nothing);
+    match written_constructor(&around) {
+        Some(written) => {
+            let statements = written.body.statements.as_slice();
+            body_with(
+                &around,
+                0,
+                written.params,
+                statements,
+                written.body.end,
+                alloc,
+            )
+        }
+        None => body_with(&around, 0, &[], &[], around.node().span, alloc),
+    }
+}
+
+// The body of the transaction that a member is, if it is one, at this number; the number behind it.
+#[tactic(auto, using(ob_tree::specs::MembersView::views))]
+fn add_body(
+    around: &Around<'_>,
+    member: &Member,
+    tx: usize,
+    bodies: &mut Items<Body>,
+    alloc: Global,
+) -> Result<usize, Memory>
+    ensures next { IfOk result (λ next. next ≡ tx + length (transactions_of_member (member_of member.now))) }
+    ensures bodies { OnOk result (map resolved_body_of bodies.new
+        ≡ map resolved_body_of bodies.old ++ bodies_from (program_of around.now.program) (contract_of around.now.own) tx
+        (transactions_of_member (member_of member.now))) }
+{
+    match member {
+        Member::Transaction {
+            params,
+            result,
+            body,
+            ..
+        } => {
+            if let Some(body) = body {
+                let gives = around.declared().types().kind_of_result(result);
+                let statements = body.statements.as_slice();
+                let around = around.giving(gives);
+                bodies.push(body_with(
+                    &around,
+                    tx,
+                    params.as_slice(),
+                    statements,
+                    body.end,
+                    alloc,
+                )?)?;
+            }
+            tx.checked_add(1).ok_or(Memory)
+        }
+        _ => Ok(tx),
+    }
+}
+
+// The bodies of the transactions among these members.
+fn add_transaction_bodies(
+    around: &Around<'_>,
+    members: &[Member],
+    bodies: &mut Items<Body>,
+    alloc: Global,
+) -> Result<(), Memory>
+    ensures { OnOk result (map resolved_body_of bodies.new
+        ≡ map resolved_body_of bodies.old ++ bodies_from (program_of around.now.program) (contract_of around.now.own) 1
+        (flat_map transactions_of_member (map member_of members.now))) }
+{
+    let mut tx = 1;
+    for member in members {
+        tx = add_body(around, member, tx, bodies, alloc)?;
+    }
+    Ok(())
+}
+
+/// The bodies of the contract around, its constructor's first; an interface has none.
+pub fn add_bodies(
+    around: &Around<'_>,
+    bodies: &mut Items<Body>,
+    alloc: Global,
+) -> Result<(), Memory>
+    ensures { OnOk result (map resolved_body_of bodies.new
+        ≡ map resolved_body_of bodies.old ++ bodies_of (program_of around.now.program) (contract_of around.now.own)) }
+{
+    let node = around.node();
+    if node.interface {
+        return Ok(());
+    }
+    bodies.push(constructor_body(around, alloc)?)?;
+    add_transaction_bodies(around, node.members.as_slice(), bodies, alloc)
+}
