@@ -20,3 +20,4 @@ pub mod ExpressionFacts
 pub mod EndFacts
 pub mod StatementFacts
 pub mod BodyFacts
+pub mod TableLaws

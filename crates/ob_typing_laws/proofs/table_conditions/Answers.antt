@@ -1,7 +1,5 @@
--- No condition of a fault holds at any site, so each part of the table is as it must be.
-use Rattle.ob_typing_laws.proofs.Clean.{clean_sites}
-use Rattle.ob_typing_laws.proofs.TableFacts.{table_is}
+use Rattle.ob_typing_laws.proofs.TableLaws.{table_conditions_lem}
 use Rattle.ob_typing_laws.proofs.table_conditions.Goals as goal
 
 pub returns : goal.returns
-returns c = λ program shape none. table_is program shape (clean_sites program none)
+returns c = table_conditions_lem

@@ -1,0 +1,4 @@
+mod TokenNames
+mod RowFacts
+mod MemberShapes
+pub mod ContractShapes
