@@ -1,6 +1,6 @@
 //! The kinds of cases. A new one is a variant, its word in `of`, the names of its parts, and what it answers.
 use crate::case::Case;
-use crate::kinds::{base, fronts, run, tokens, tree, wire};
+use crate::kinds::{base, fronts, run, table, tokens, tree, wire};
 use crate::trouble::Trouble;
 use std::alloc::Global;
 
@@ -9,6 +9,8 @@ use std::alloc::Global;
 pub enum Kind {
     /// What `check` writes of it.
     Check,
+    /// Its class table, with the bodies of its transactions.
+    Table,
     /// Whether `check` writes one line of each front of its bytes.
     Cuts,
     /// The fault that `serve` tells of it.
@@ -46,6 +48,7 @@ impl Kind {
     pub fn of(word: &str) -> Option<Kind> {
         match word {
             "check" => Some(Kind::Check),
+            "table" => Some(Kind::Table),
             "cuts" => Some(Kind::Cuts),
             "serve" => Some(Kind::Serve),
             "run" => Some(Kind::Run),
@@ -98,6 +101,7 @@ impl Kind {
     pub fn answer(self, alloc: Global, case: &Case, asked: &[u8]) -> Result<Vec<u8>, Trouble> {
         match self {
             Kind::Check => run::check(alloc, asked),
+            Kind::Table => table::table(alloc, asked),
             Kind::Cuts => run::cuts(alloc, asked),
             Kind::Serve => run::serve(alloc, asked),
             Kind::Run => run::whole_run(alloc, case, asked),

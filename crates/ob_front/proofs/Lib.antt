@@ -1,6 +1,2 @@
-pub mod EachLoop
-pub mod BodyLaws
-pub mod MemberLaws
-pub mod PartsLoop
-pub mod ResolvedLaws
-pub mod FormLaws
+pub mod BracketsLoop
+pub mod StagesLaws

@@ -1,6 +1,3 @@
-pub mod Conditions
-pub mod Resolved
-pub mod BuiltForm
-pub mod Building
-pub mod Form
+pub mod Brackets
+pub mod Stages
 pub mod Compiling

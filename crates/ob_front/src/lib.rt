@@ -1,13 +1,7 @@
-//! From a program's text to the program.
+//! From a program's text to its class table, stage by stage, or to its first fault.
 #![tactic(auto)]
 
-mod built;
-mod compiling;
-mod conditions;
-mod resolver;
-mod tree;
+mod brackets;
+mod stages;
 
-pub use compiling::{
-    CompileError, accepted_or_fault, compile_plain, form_or_fault, one_fault, one_program,
-    one_text_fault, syntax_tree,
-};
+pub use stages::{CompileError, accepted_or_fault, class_table, one_text_fault, syntax_tree};

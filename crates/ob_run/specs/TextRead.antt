@@ -1,7 +1,7 @@
 -- What was read of a file, and what is done with it; for private clauses.
 use Rattle.std.specs.Prelude.{ℕ, ◌≡◌, ◌≤◌, List, length, take, Option, None, Some}
 use Rattle.ob_base.specs.declared.fault.ProgramFault.{ProgramFault}
-use Rattle.ob_front.specs.Form.{IsAccepted}
+use Rattle.ob_front.specs.Stages.{IsAccepted}
 use Rattle.ob_io.specs.Views.{SourceView, SinkView}
 use Rattle.ob_run.specs.Commands.{Command, check}
 use Rattle.ob_run.specs.Statuses.{IsToldBy, Treats}
@@ -21,6 +21,6 @@ TreatsAlone command text old new exit =
 abbrev pub Refuses : ProgramFault → SinkView → SinkView → Exit → Type 0
 Refuses fault old new exit = (command : Command) (text : List ℕ) → IsToldBy command text fault → TreatsAlone command text old new exit
 
--- so `check` accepts each text that has a tree
+-- so `check` accepts each text without a fault
 abbrev pub Accepts : SinkView → SinkView → Exit → Type 0
 Accepts old new exit = (name text : List ℕ) → IsAccepted text → TreatsAlone (check name) text old new exit

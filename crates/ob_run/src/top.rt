@@ -1,6 +1,7 @@
 //! The top call.
 ghost use Rattle.std.specs.Prelude.{◌≡◌, ◌≢◌, ◌+◌, ◌≤◌, ◌⊎◌, None, Some, List, ℕ, map, string_bytes, IfOk, IsErrOf};
-ghost use Rattle.ob_front.specs.Form.{IsAccepted, IsOfForm};
+ghost use Rattle.ob_front.specs.Stages.{IsAccepted};
+ghost use Rattle.ob_plain.specs.Form.{IsOfForm};
 ghost use Rattle.ob_io.specs.Causes.{Rose};
 ghost use Rattle.ob_io.specs.Files.{NotesAsk};
 ghost use Rattle.ob_run.specs.Asked.{AsksFor, program_ask};
@@ -14,8 +15,9 @@ use crate::command::Command;
 use crate::exit::Exit;
 use crate::fault_line::fault_line;
 use ob_base::ProgramFault;
-use ob_front::{CompileError, compile_plain, syntax_tree};
+use ob_front::{CompileError, class_table};
 use ob_io::{FileError, Files, Sink, Source, write_all};
+use ob_plain::compile_plain;
 use ob_serve::{Served, serve};
 use std::alloc::Global;
 
@@ -76,7 +78,7 @@ fn check_text<K: Sink>(alloc: Global, text: &[u8], output: &mut K) -> Exit
     ensures calm { result ≢ Exit.WriteFault → (K.view output.new).faults ≡ (K.view output.old).faults }
     ensures once { (K.view output.new).faults ≤ (K.view output.old).faults + 1 }
 {
-    match syntax_tree(alloc, text) {
+    match class_table(alloc, text) {
         Ok(_) => accept(output),
         Err(CompileError::Fault(fault)) => refuse(alloc, fault, output),
         Err(CompileError::Memory) => Exit::Memory,

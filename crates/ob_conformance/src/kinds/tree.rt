@@ -2,8 +2,9 @@
 use crate::kinds::tokens::fault_line;
 use crate::trouble::Trouble;
 use ob_base::Duplicate;
-use ob_front::{CompileError, compile_plain, syntax_tree};
+use ob_front::{CompileError, syntax_tree};
 use ob_layout::print;
+use ob_plain::compile_plain;
 use ob_tree::Tree;
 use std::alloc::Global;
 

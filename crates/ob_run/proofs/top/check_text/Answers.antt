@@ -1,12 +1,11 @@
 use Rattle.std.proofs.Common.{inl, refl}
-use Rattle.ob_tree.specs.MembersView.{tree_of}
 use Rattle.ob_run.specs.Commands.{check}
 use Rattle.ob_run.proofs.top.check_text.Goals as goal
 use Rattle.ob_run.proofs.top.check_text.Goals.{in-Ok, in-Err-Fault, in-Err-Memory}
 
 pub returns-clause-treats : goal.returns-clause-treats
-returns-clause-treats g c = λ name input. elim c.match-syntax_tree.branch [
-  | in-Ok w ↦ rw (w.result-is, w.output-is) (w.accept.ensures.accepts name c.args.text.now (tree_of w.in-Ok.field-0, w.in-Ok.ensures.tree) input)
+returns-clause-treats g c = λ name input. elim c.match-class_table.branch [
+  | in-Ok w ↦ rw (w.result-is, w.output-is) (w.accept.ensures.accepts name c.args.text.now w.in-Ok.ensures.table.accepted input)
   | in-Err-Fault w ↦ rw (w.result-is, w.output-is) (w.refuse.ensures.refuses (check name) c.args.text.now (rw w.in-Err-Fault.field-0-is at w.in-Err-Fault.ensures.fault) input)
   | in-Err-Memory w ↦ rw (w.result-is, w.output-is) (inl refl)
 ]

@@ -1,0 +1,32 @@
+//! Type parameters and type arguments, which aren't built yet.
+ghost use Rattle.std.specs.Prelude.{◌≡◌, slice_get};
+ghost use Rattle.ob_front.specs.Brackets.{is_a_name, is_open_bracket, brackets};
+
+use ob_base::Span;
+use ob_lexer::{Sign, Token, TokenKind};
+
+fn is_a_name(kind: &TokenKind) -> bool
+    ensures { result ≡ is_a_name kind.now }
+{
+    matches!(kind, TokenKind::Name(_))
+}
+
+fn is_open_bracket(kind: &TokenKind) -> bool
+    ensures { result ≡ is_open_bracket kind.now }
+{
+    matches!(kind, TokenKind::Sign(Sign::OpenBracket))
+}
+
+/// The place of the first `[` directly behind a name.
+pub fn first_bracket(tokens: &[Token]) -> Option<Span>
+    ensures { result ≡ slice_get (brackets tokens.now) 0 }
+{
+    let mut behind_name = false;
+    for token in tokens {
+        if behind_name && is_open_bracket(&token.kind) {
+            return Some(token.span);
+        }
+        behind_name = is_a_name(&token.kind);
+    }
+    None
+}

@@ -1,0 +1,23 @@
+-- The fault that is computed is the first, and there is one exactly where the program has a fault.
+use Rattle.std.proofs.Common.{◌≡◌, Option, Some, None, sym, ◌∙◌, ap, subst}
+use Rattle.ob_base.specs.declared.fault.ProgramFault.{ProgramFault}
+use Rattle.ob_typing.specs.Declarations.{Program}
+use Rattle.ob_typing.specs.Faults.{HasNoFault, faults_of}
+use Rattle.ob_typing.specs.Least.{least_fault, least_from, LeastIs}
+use Rattle.ob_typing_laws.proofs.LeastFacts.{least_fault_is}
+use Rattle.ob_resolve.specs.Resolving.{IsFirstFault}
+
+some_injective : {A : Type 0} (a b : A) → Some a ≡ Some b → a ≡ b
+some_injective a b e = cc
+
+pub clean : (program : Program) (least : Option ProgramFault) → least ≡ least_fault program → least ≡ None → HasNoFault program
+clean program least is none = subst (LeastIs program) (sym is ∙ none) (least_fault_is program)
+
+pub told : (program : Program) (least : Option ProgramFault) (fault : ProgramFault) → least ≡ least_fault program → least ≡ Some fault → IsFirstFault program fault
+told program least fault is some = record { least = subst (LeastIs program) (sym is ∙ some) (least_fault_is program); first = sym is ∙ some }
+
+pub table_or_fault_lem : (program : Program) (fault : ProgramFault) → IsFirstFault program fault → ¬ (HasNoFault program)
+table_or_fault_lem program fault is none = let e : least_from None (faults_of program) ≡ None = ap (least_from None) none in let f = is.first in cc
+
+pub one_first_fault_lem : (program : Program) (a b : ProgramFault) → IsFirstFault program a → IsFirstFault program b → a ≡ b
+one_first_fault_lem program a b one other = some_injective a b (sym one.first ∙ other.first)
