@@ -55,7 +55,7 @@ LowersRevert a used (Some e) ts =
 
 -- the closing brace of a block
 abbrev pub block_end : Block → Span
-block_end (resolved_block statements end) = end
+block_end (resolved_block body end) = end
 
 -- where two branches join: the closing brace of the last block
 abbrev pub join_of : Block → Otherwise → Span
