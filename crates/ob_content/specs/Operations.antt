@@ -83,3 +83,9 @@ abbrev pub before : Operator → Value → Operated
 before operator (int_value x) = before_int operator x
 before operator (bool_value x) = before_bool operator x
 before operator x = other_kinds
+
+-- what an operator gives of its operands; of one operand the second is the first again
+abbrev pub operate : Operator → Value → Value → Operated
+operate Not x y = before Not x
+operate Negate x y = before Negate x
+operate operator x y = between operator x y

@@ -10,7 +10,7 @@ use Rattle.ob_table.specs.Expressions.{Expression, resolved_number, resolved_tex
 use Rattle.ob_table.specs.declared.seen.Seen.{Seen}
 use Rattle.ob_table.specs.declared.seen.SeenAt.{SeenAt}
 use Rattle.ob_content.specs.Values.{Value, int_value, bool_value, text_value}
-use Rattle.ob_content.specs.Operations.{Operated, operated, overflows, other_kinds, between, before}
+use Rattle.ob_content.specs.Operations.{Operated, operated, overflows, other_kinds, operate}
 use Rattle.ob_content.specs.Worlds.{World, by_overflow, Outcome, gives, abort, wrong, ◌>>=◌, with_some}
 use Rattle.ob_meaning.specs.Frames.{Frame, Operand, known, named, Locals, Callee, of_object, of_this, of_new, Calls}
 use Rattle.ob_meaning.specs.Naming.{object_seen, read, reference_name, values_of_operands}
@@ -21,16 +21,38 @@ after_operation sign (operated v) w = gives v w
 after_operation sign overflows w = abort (by_overflow sign.line) w
 after_operation sign other_kinds w = wrong
 
--- the value that the left operand alone decides, if it does
-abbrev pub decided_early : Operator → Value → Option Value
-decided_early And (bool_value false) = Some (bool_value false)
-decided_early Or (bool_value true) = Some (bool_value true)
-decided_early operator x = None
+-- what the left side of an operator settles: the value, where it decides alone; that the value is the right side's; that
+-- the operator works on both sides; or nothing, where `&&` or `||` stands behind what is no truth
+pub data Settled : Type 0 where
+  decides : Value → Settled
+  gives_right : Settled
+  works : Settled
+  unfit : Settled
 
--- the value that is decided, or else what is left to do
-abbrev pub unless_decided : Option Value → World → Outcome Value → Outcome Value
-unless_decided (Some v) w go = gives v w
-unless_decided None w go = go
+-- what the left side of `&&` settles
+abbrev pub settled_by_and : Value → Settled
+settled_by_and (bool_value true) = gives_right
+settled_by_and (bool_value false) = decides (bool_value false)
+settled_by_and x = unfit
+
+-- what the left side of `||` settles
+abbrev pub settled_by_or : Value → Settled
+settled_by_or (bool_value true) = decides (bool_value true)
+settled_by_or (bool_value false) = gives_right
+settled_by_or x = unfit
+
+-- what the left side of an operator settles: `&&` and `||` alone may stop early
+abbrev pub settled : Operator → Value → Settled
+settled And x = settled_by_and x
+settled Or x = settled_by_or x
+settled operator x = works
+
+-- the value of both sides, of which the left one is evaluated
+abbrev pub after_left : Operator → Span → Value → Settled → World → Outcome Value → Outcome Value
+after_left operator sign x (decides v) w right = gives v w
+after_left operator sign x gives_right w right = right
+after_left operator sign x works w right = right >>= (λ y w1. after_operation sign (operate operator x y) w1)
+after_left operator sign x unfit w right = wrong
 
 -- an operand: a reference's name as it is, and else the value
 abbrev pub operand_or : Option Seen → World → Outcome Value → Outcome Operand
@@ -66,11 +88,10 @@ abbrev mutual
   value_of calls f (resolved_bool b span) ls w = gives (bool_value b) w
   value_of calls f (resolved_seen seen span) ls w = read f ls seen.of w
   value_of calls f (resolved_unary operator sign e span) ls w =
-      value_of calls f e ls w >>= (λ x w1. after_operation sign (before operator x) w1)
+      value_of calls f e ls w >>= (λ x w1. after_operation sign (operate operator x x) w1)
   value_of calls f (resolved_binary operator sign left right span) ls w =
       value_of calls f left ls w
-      >>= (λ x w1. unless_decided (decided_early operator x) w1
-      (value_of calls f right ls w1 >>= (λ y w2. after_operation sign (between operator x y) w2)))
+      >>= (λ x w1. after_left operator sign x (settled operator x) w1 (value_of calls f right ls w1))
   value_of calls f (resolved_call receiver contract tx name args span) ls w =
       operands_of calls f args ls w
       >>= (λ operands w1. started calls f ls receiver contract tx operands w1 >>= with_result)
@@ -88,10 +109,14 @@ abbrev mutual
 abbrev pub operand_of : Calls → Frame → Expression → Locals → World → Outcome Operand
 operand_of calls f e ls w = operand_or (reference_name f ls e) w (value_of calls f e ls w)
 
--- a call or a `new` that stands alone: its result is let go
+-- an operand is let go
+abbrev pub let_go : Operand → World → Outcome (Option Value)
+let_go x w = gives None w
+
+-- a call or a `new` that stands alone: its result is let go, as an operand is
 abbrev pub run_alone : Calls → Frame → Expression → Locals → World → Outcome (Option Value)
 run_alone calls f (resolved_call receiver contract tx name args span) ls w =
     operands_of calls f args ls w >>= (λ operands w1. started calls f ls receiver contract tx operands w1)
 run_alone calls f (resolved_new contract args span) ls w =
     operands_of calls f args ls w >>= (λ operands w1. constructed calls f ls contract operands w1)
-run_alone calls f e ls w = wrong
+run_alone calls f e ls w = operand_of calls f e ls w >>= let_go

@@ -3,15 +3,16 @@ use Rattle.std.proofs.Common.{ℕ, ◌<◌, List, [], ◌∷◌, Option, Some, N
 use Rattle.ob_base.specs.declared.fault.Span.{Span}
 use Rattle.ob_base.specs.declared.id.ContractId.{ContractId}
 use Rattle.ob_base.specs.declared.id.TxId.{TxId}
+use Rattle.ob_base.specs.declared.operator.Operator.{Operator}
 use Rattle.ob_table.specs.Expressions.{Expression, resolved_number, resolved_text, resolved_bool, resolved_seen, resolved_unary, resolved_binary, resolved_call, resolved_new, Arguments, no_arguments, and_argument}
 use Rattle.ob_table.specs.declared.seen.Seen.{Seen}
 use Rattle.ob_table.specs.declared.seen.SeenAt.{SeenAt}
 use Rattle.ob_content.specs.Values.{Value}
-use Rattle.ob_content.specs.Operations.{Operated, operated, overflows, other_kinds, between, before}
+use Rattle.ob_content.specs.Operations.{Operated, operated, overflows, other_kinds, operate}
 use Rattle.ob_content.specs.Worlds.{World, by_overflow, Outcome}
 use Rattle.ob_meaning.specs.Frames.{Frame, Operand, named, Locals, of_new, Calls}
 use Rattle.ob_meaning.specs.Naming.{value_seen, reference_name, values_of_operands}
-use Rattle.ob_meaning.specs.Expressions.{after_operation, decided_early, unless_decided, operand_or, with_result, callee_of, started, constructed, value_of, operands_of, operand_of, run_alone}
+use Rattle.ob_meaning.specs.Expressions.{after_operation, Settled, decides, gives_right, works, unfit, settled, after_left, operand_or, with_result, callee_of, started, constructed, value_of, operands_of, operand_of, let_go, run_alone}
 use Rattle.ob_meaning_laws.proofs.Alike.{Alike, alike_here, alike_aborts, alike_wrong, alike_some, alike_then, CallsAlike}
 
 operation_alike : (w : World) (sign : Span) (x : Operated)
@@ -19,11 +20,6 @@ operation_alike : (w : World) (sign : Span) (x : Operated)
 operation_alike w sign (operated v) = alike_here w v
 operation_alike w sign overflows = alike_aborts w (by_overflow sign.line)
 operation_alike w sign other_kinds = alike_wrong w
-
-decided_alike : (w : World) (x : Option Value) {o p : Outcome Value} → Alike w o p
-    → Alike w (unless_decided x w o) (unless_decided x w p)
-decided_alike w (Some v) a = alike_here w v
-decided_alike w None a = a
 
 pub result_alike : (x : Option Value) (w : World) → Alike w (with_result x w) (with_result x w)
 result_alike x w = alike_some x _ _ (λ v. alike_here w v)
@@ -33,6 +29,14 @@ module _ (m : ℕ) (c d : Calls) (called : CallsAlike m c d) (f : Frame) where
       → Alike w (operand_or x w o) (operand_or x w p)
   operand_alike w (Some seen) lt a = alike_here w (named seen)
   operand_alike w None lt a = alike_then m _ _ a lt (λ v w1 lt1. alike_here w1 _)
+
+  left_alike : (operator : Operator) (sign : Span) (x : Value) (s : Settled) (w : World) {o p : Outcome Value}
+      → w.fuel < m → Alike w o p → Alike w (after_left operator sign x s w o) (after_left operator sign x s w p)
+  left_alike operator sign x (decides v) w lt a = alike_here w v
+  left_alike operator sign x gives_right w lt a = a
+  left_alike operator sign x works w lt a =
+      alike_then m _ _ a lt (λ y w1 lt1. operation_alike w1 sign (operate operator x y))
+  left_alike operator sign x unfit w lt a = alike_wrong w
 
   pub started_alike : (ls : Locals) (receiver : Option SeenAt) (contract : ContractId) (tx : TxId) (xs : List Operand)
       (w : World)
@@ -54,12 +58,10 @@ module _ (m : ℕ) (c d : Calls) (called : CallsAlike m c d) (f : Frame) where
     value_alike (resolved_bool b span) ls w lt = alike_here w _
     value_alike (resolved_seen seen span) ls w lt = alike_some (value_seen f ls w seen.of) _ _ (λ v. alike_here w v)
     value_alike (resolved_unary operator sign e span) ls w lt =
-        alike_then m _ _ (value_alike e ls w lt) lt (λ x w1 lt1. operation_alike w1 sign (before operator x))
+        alike_then m _ _ (value_alike e ls w lt) lt (λ x w1 lt1. operation_alike w1 sign (operate operator x x))
     value_alike (resolved_binary operator sign left right span) ls w lt =
         alike_then m _ _ (value_alike left ls w lt) lt
-        (λ x w1 lt1. decided_alike w1 (decided_early operator x)
-        (alike_then m _ _ (value_alike right ls w1 lt1) lt1 (λ y w2 lt2. operation_alike w2 sign
-        (between operator x y))))
+        (λ x w1 lt1. left_alike operator sign x (settled operator x) w1 lt1 (value_alike right ls w1 lt1))
     value_alike (resolved_call receiver contract tx name args span) ls w lt =
         alike_then m _ _ (operands_alike args ls w lt) lt
         (λ xs w1 lt1. alike_then m _ _ (started_alike ls receiver contract tx xs w1 lt1) lt1
@@ -85,9 +87,15 @@ module _ (m : ℕ) (c d : Calls) (called : CallsAlike m c d) (f : Frame) where
       alike_then m _ _ (operands_alike args ls w lt) lt (λ xs w1 lt1. started_alike ls receiver contract tx xs w1 lt1)
   alone_alike (resolved_new contract args span) ls w lt =
       alike_then m _ _ (operands_alike args ls w lt) lt (λ xs w1 lt1. constructed_alike ls contract xs w1 lt1)
-  alone_alike (resolved_number z span) ls w lt = alike_wrong w
-  alone_alike (resolved_text bytes span) ls w lt = alike_wrong w
-  alone_alike (resolved_bool b span) ls w lt = alike_wrong w
-  alone_alike (resolved_seen seen span) ls w lt = alike_wrong w
-  alone_alike (resolved_unary operator sign e span) ls w lt = alike_wrong w
-  alone_alike (resolved_binary operator sign left right span) ls w lt = alike_wrong w
+  alone_alike (resolved_number z span) ls w lt =
+      alike_then m let_go let_go (operand_of_alike (resolved_number z span) ls w lt) lt (λ x w1 lt1. alike_here w1 None)
+  alone_alike (resolved_text bytes span) ls w lt =
+      alike_then m let_go let_go (operand_of_alike (resolved_text bytes span) ls w lt) lt (λ x w1 lt1. alike_here w1 None)
+  alone_alike (resolved_bool b span) ls w lt =
+      alike_then m let_go let_go (operand_of_alike (resolved_bool b span) ls w lt) lt (λ x w1 lt1. alike_here w1 None)
+  alone_alike (resolved_seen seen span) ls w lt =
+      alike_then m let_go let_go (operand_of_alike (resolved_seen seen span) ls w lt) lt (λ x w1 lt1. alike_here w1 None)
+  alone_alike (resolved_unary operator sign e span) ls w lt =
+      alike_then m let_go let_go (operand_of_alike (resolved_unary operator sign e span) ls w lt) lt (λ x w1 lt1. alike_here w1 None)
+  alone_alike (resolved_binary operator sign left right span) ls w lt =
+      alike_then m let_go let_go (operand_of_alike (resolved_binary operator sign left right span) ls w lt) lt (λ x w1 lt1. alike_here w1 None)

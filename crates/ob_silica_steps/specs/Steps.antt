@@ -1,6 +1,7 @@
 -- Silica steps: one case for each form (Coblenz et al., TOPLAS 42(3), 2020, "Silica"; locks, re-entry, units and what
 -- is read are this project's own).
 use Rattle.std.specs.Prelude.{ℕ, zero, suc, List, [], ◌∷◌, Some, None, option_map}
+use Rattle.ob_content.specs.Operations.{operate}
 use Rattle.ob_content.specs.Worlds.{by_revert}
 use Rattle.ob_silica.specs.Terms.{SilicaForm, unit_form, const_form, op_form, copy_form, move_form, new_form, call_form, call_this_form, change_form, test_form, if_form, assert_form, disown_form, drop_form, return_form, revert_form, bad_row_form, SilicaTerms, no_terms, and_term}
 use Rattle.ob_silica_steps.specs.Cells.{location_of, located, all_located, plain_cell, constant_cell, kind_of_operator}
@@ -9,7 +10,7 @@ use Rattle.ob_silica_steps.specs.Here.{here, goes_to, if_there, with_unit, read,
 use Rattle.ob_silica_steps.specs.Changing.{change_step}
 use Rattle.ob_silica_steps.specs.Testing.{test_step, end_branch}
 use Rattle.ob_silica_steps.specs.Returning.{return_step, leave_step}
-use Rattle.ob_silica_steps.specs.Straight.{operate, with_operated, with_truth, with_text, copy_to, move_to, disowns}
+use Rattle.ob_silica_steps.specs.Straight.{with_operated, with_truth, with_text, copy_to, move_to, disowns}
 use Rattle.ob_silica_steps.specs.Calling.{call_step, call_this_step, new_step}
 
 -- All forms.

@@ -2,8 +2,6 @@
 -- own).
 use Rattle.std.specs.Prelude.{ℕ, true, false, List, Option, Some, None, option_and_then, if◌then◌else◌}
 use Rattle.ob_base.specs.declared.id.ContractId.{ContractId}
-use Rattle.ob_base.specs.declared.operator.Operator.{Operator}
-use Rattle.ob_base.specs.declared.operator.Operator.TheVariants.{Not, Negate}
 use Rattle.ob_perm.specs.Permissions.{unowned, kept}
 use Rattle.ob_table.specs.Tables.{ClassTable}
 use Rattle.ob_table.specs.declared.contract.Field.{Field}
@@ -11,7 +9,7 @@ use Rattle.ob_table.specs.declared.seen.LocalKind.TheVariants.{Reference}
 use Rattle.ob_typing.specs.WellMade.{kind_of_table}
 use Rattle.ob_content.specs.Values.{Value, bool_value, text_value, referred}
 use Rattle.ob_content.specs.Objects.{is_available}
-use Rattle.ob_content.specs.Operations.{Operated, operated, overflows, other_kinds, before, between}
+use Rattle.ob_content.specs.Operations.{Operated, operated, overflows, other_kinds}
 use Rattle.ob_content.specs.Worlds.{World, by_overflow}
 use Rattle.ob_content.specs.Marks.{mark_disowned}
 use Rattle.ob_silica_steps.specs.Cells.{Location, slot, field, Cell, cell, plain_cell}
@@ -20,12 +18,6 @@ use Rattle.ob_silica_steps.specs.Here.{Here, if_there, self, field_of, counted, 
 use Rattle.ob_silica_steps.specs.Converting.{converted, got_from}
 
 -- Values.
-
--- an operator's value; of one operand the second is the first again
-abbrev pub operate : Operator → Value → Value → Operated
-operate Not x y = before Not x
-operate Negate x y = before Negate x
-operate operator x y = between operator x y
 
 -- what follows an operation of this line
 abbrev pub with_operated : ℕ → World → Operated → (Value → Next) → Next

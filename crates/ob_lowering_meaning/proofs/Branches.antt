@@ -1,0 +1,214 @@
+-- Branches: what ends with them, and tests of states.
+use Rattle.std.proofs.Common.{◌≡◌, ◌≢◌, ℕ, zero, suc, ◌+◌, ◌<◌, ◌≤◌, Bool, true, false, List, [], ◌∷◌, ◌++◌, map, length, Option, Some, None, refl, sym, ap, ◌∙◌, subst, arith, true≢false, eq-eqb, eqb-true, ◌⊎◌, inl, inr}
+use Rattle.std.proofs.lemmas.Bool.{ne_eqb}
+use Rattle.std.specs.Prelude.{nat_eq, option_map, option_and_then, IsSome, IsSomeAnd, IsTrue, ⊤, if◌then◌else◌}
+use Rattle.std.specs.Option.{option_map_or}
+use Rattle.ob_base.specs.declared.fault.Span.{Span}
+use Rattle.ob_base.specs.declared.id.StateId.{StateId}
+use Rattle.ob_table.specs.Expressions.{Expression, resolved_number, resolved_text, resolved_bool, resolved_seen, resolved_unary, resolved_binary, resolved_call, resolved_new}
+use Rattle.ob_table.specs.Statements.{Statement, resolved_declare, resolved_assign, resolved_discard, resolved_return, resolved_revert, resolved_disown, resolved_assert, Statements, and_statement}
+use Rattle.ob_base.specs.declared.id.FieldId.{FieldId}
+use Rattle.ob_table.specs.declared.seen.SeenAt.{SeenAt}
+use Rattle.ob_table.specs.Tables.{ClassTable, contract_at, field_at}
+use Rattle.ob_table.specs.declared.seen.LocalKind.{LocalKind}
+use Rattle.ob_table.specs.declared.seen.Seen.{Seen}
+use Rattle.ob_table.specs.declared.seen.Seen.TheVariants.{This as ThisSeen, Local, Field as FieldSeen}
+use Rattle.ob_silica.specs.declared.place.Operand.{Operand}
+use Rattle.ob_silica.specs.declared.place.Place.{Place}
+use Rattle.ob_silica.specs.declared.place.Place.TheVariants.{This, Slot, Field}
+use Rattle.ob_typing.specs.WellMade as made
+use Rattle.ob_typing.specs.WellMade.{local_kind, kind_of_seen, kind_of_table, is_reference, IsMade, IsReturned, IsCalled, Pass, constructor_at}
+use Rattle.ob_content.specs.Values.{Value, int_value, bool_value, text_value, reference, referred, put}
+use Rattle.ob_content.specs.Worlds.{World, by_revert, Outcome, gives, aborts, abort, wrong, ◌>>=◌, with_some, unit}
+use Rattle.ob_content.specs.Marks.{mark_disowned, unlock}
+use Rattle.ob_meaning.specs.Frames as meaning
+use Rattle.ob_meaning.specs.Frames.{Calls, Flow, goes_on, returns, known, named, Given}
+use Rattle.ob_meaning.specs.GoingWrong.{is_row}
+use Rattle.ob_meaning.specs.Naming.{value_seen, object_seen}
+use Rattle.ob_meaning.specs.Expressions.{value_of, operand_of, operands_of, let_go, started, constructed, run_alone}
+use Rattle.ob_meaning.specs.Statements.{with_variable, assign, return_with, abort_with, revert_with, run}
+use Rattle.ob_meaning.specs.Fields.{assign_field}
+use Rattle.ob_silica.specs.Terms.{SilicaTerms, no_terms, and_term, then_terms, unit_form, SilicaForm, one_term, const_form, copy_form, move_form, assert_form, disown_form, return_form, revert_form}
+use Rattle.ob_silica.specs.declared.place.Given as silica
+use Rattle.ob_silica_steps.specs.Cells.{Cell, plain_cell, constant_cell, Location, slot, field, location_of, located, value_in}
+use Rattle.ob_silica_steps.specs.Configurations.{SilicaProgram, Slots, Notes, Rest, Control, runs, leaves, Configuration, Next, goes}
+use Rattle.ob_silica_steps.specs.Here.{Here, at, if_there, read, set_permission}
+use Rattle.ob_silica_steps.specs.Steps.{step}
+use Rattle.ob_silica_steps.specs.Straight.{with_text, disowns}
+use Rattle.ob_lowering.specs.Points.{around, declares, IsFree, Temporary, in_use, references, drops, drops_of, Variable, locals_of, slot_of, place_of, Row, no_row, staged_row, refused_row, made_before, Point, passed, used_at, Around}
+use Rattle.ob_lowering.specs.ExpressionTerms.{Lowered, LoweredArguments, LoweredCall, operand, slot_operand, into, IsCall, kind_around, LowersExpression, LowersArguments, LowersPlainCall, LowersDiscarded}
+use Rattle.ob_lowering.specs.GivenTerms.{with_unit}
+use Rattle.ob_lowering.specs.StatementTerms.{ended_by, set_slot as set_slot_form, set_place, IsNamed, LowersReturn, LowersRevert, LowersStatement}
+use Rattle.ob_lowering.specs.BodyTerms.{slots_below}
+use Rattle.ob_lowering_meaning.proofs.Slots.{Used, free_differs, free_within, slots_made, Within, within_self, within_on, within_use}
+use Rattle.ob_lowering_meaning.proofs.Runs.{Leads, Ends, stays, leads_on, one_step, ends_map, ends_later, ends_then, join}
+use Rattle.ob_lowering_meaning.proofs.Standing.{same_value, Setting, frame_in, made_in, config, shape, Kept, Later, Noted, Stands, Comes, Reached, later_self, kept_self, kept_on, kept_fewer, at_other, none_some, some_same, stands_on, comes_self, comes_on, comes_fewer, reached_closed, after_part}
+use Rattle.ob_lowering_meaning.proofs.Names.{Held, Visible, visible_on}
+use Rattle.ob_lowering_meaning.proofs.Plain.{Plain}
+use Rattle.ob_lowering_meaning.proofs.Calling.{CallsRun}
+use Rattle.ob_lowering_meaning.proofs.Operands.{Means, means_on, means_read, Fits, operand_from}
+use Rattle.ob_lowering_meaning.proofs.Expressions.{value_runs}
+use Rattle.ob_lowering_meaning.proofs.Fresh.{Fresh}
+use Rattle.ob_lowering_meaning.proofs.Flows.{Gave, RowStands, RowOpen, Placed, At, Left, Flows, flows_closed, flows_from, left_closed, then_flows, step_flows, at_on, unit_flows, value_then, Dropped, drops_run}
+use Rattle.ob_lowering_meaning.proofs.Changes.{noted_quiet, quiet_self, quiet_disowned, quiet_later, same_or, permission_alike}
+use Rattle.ob_lowering_meaning.proofs.Placing.{slot_sets, slot_stuck, field_set}
+use Rattle.ob_lowering_meaning.proofs.Fresh.{expression_fresh, references_within, discarded_fresh}
+use Rattle.ob_lowering_meaning.proofs.Values.{read_one, there, not_there}
+use Rattle.ob_lowering_meaning.proofs.Names.{name_read}
+use Rattle.ob_lowering_meaning.proofs.Setting.{slot_place, placed_passed, slot_value}
+use Rattle.ob_lowering_meaning.proofs.Operands.{answers_by, started_runs, constructed_runs}
+use Rattle.ob_lowering_meaning.proofs.Calling.{Called, Answers}
+use Rattle.ob_lowering_meaning.proofs.Expressions.{operands_run, called_so}
+use Rattle.ob_lowering_meaning.proofs.Plain.{as_many}
+use Rattle.ob_lowering_meaning.proofs.Ending.{Finishes}
+use Rattle.ob_lowering_meaning.proofs.Changes.{Alike, alike_self, alike_on, Quiet, quiet_read, bare}
+use Rattle.ob_lowering_meaning.proofs.Placing.{moved_world}
+use Rattle.ob_lowering_meaning.proofs.Standing.{later_on, self_is, none_some}
+use Rattle.ob_silica_steps.specs.Configurations.{Ends as BranchEnds, plain_end, test_end, lock_end, Frame, stuck, abort as abort_next}
+use Rattle.ob_silica_steps.specs.Testing.{Tested, branch_of, narrowed, into_branch, tells, tests_from, test_shared_this, test_this_as, test_this, test_shared, test_other, test_object, is_in, reads_object, test_step, end_branch}
+use Rattle.ob_silica_steps.specs.Cells.{this, same_location}
+use Rattle.ob_silica_steps.specs.Here.{self_of, self, field_value}
+use Rattle.ob_silica_steps.specs.Changing.{is_locked_out}
+use Rattle.ob_silica.specs.Terms.{test_form}
+use Rattle.ob_perm.specs.Permissions.{Permission, owned, shared, unowned}
+use Rattle.ob_perm.specs.States.{only}
+use Rattle.ob_base.specs.declared.id.ContractId.{ContractId}
+use Rattle.ob_table.specs.declared.seen.LocalKind.TheVariants.{Int, Bool as BoolKind, Text, Reference}
+use Rattle.ob_table.specs.declared.contract.Field.{Field as TableField}
+use Rattle.ob_typing.specs.WellMade.{RefersTo, Refers}
+use Rattle.ob_content.specs.Objects.{Object, is_in_state, has_field}
+use Rattle.ob_content.specs.Contents.{object_at}
+use Rattle.ob_content.specs.Worlds.{by_state, unless_aborted, with_object, read_object, is_made, with_read, object_item}
+use Rattle.ob_content.specs.Marks.{is_locked, is_in_progress, lock}
+use Rattle.ob_meaning.specs.StateTests as tests
+use Rattle.ob_meaning.specs.StateTests.{test_seen, branch, is_barred, tested_of}
+use Rattle.ob_meaning.specs.Naming.{contract_seen, contract_of_kind, kind_seen}
+use Rattle.ob_lowering_meaning.proofs.Names.{name_kind}
+use Rattle.ob_table.specs.Statements.{Block, Otherwise, resolved_test}
+use Rattle.ob_meaning.specs.Statements.{run_block, run_otherwise}
+use Rattle.ob_table.specs.declared.contract.Contract.{Contract}
+
+-- at the end of a branch only permissions change, and the world so
+pub record EndsTo (e : BranchEnds) (change : World → World) : Type 0 where
+  pub alike : (t : Here) → Alike t (end_branch e t)
+  pub world : (t : Here) → (end_branch e t).world ≡ change t.world
+
+pub read_objects : (w : World) (n : ℕ) → (read_object w n).objects ≡ w.objects
+read_objects w n = go (is_made w n)
+  where
+    go : (b : Bool) → (if b then w else with_read w (object_item n)).objects ≡ w.objects
+    go true = refl
+    go false = refl
+
+pub quiet_same : (w v : World) → v.objects ≡ w.objects → v.fuel ≡ w.fuel → Quiet w v
+quiet_same w v e h = record { by = λ n. ap (λ xs. option_map bare (object_at xs n)) e; fuel = h }
+
+pub some_map : {A B : Type 0} (o : Option A) (g : A → B) (b : B) → option_map g o ≡ Some b → (a : A) × (o ≡ Some a) × (g a ≡ b)
+some_map None g b e = absurd (none_some e)
+some_map (Some a) g b e = (a, refl, some_same (g a) b e)
+
+pub if_some : {A : Type 0} (b : Bool) (o : Option A) (a : A) → (if b then o else None) ≡ Some a → o ≡ Some a
+if_some true o a e = e
+if_some false o a e = absurd (none_some e)
+
+pub then_gives : {A : Type 0} (o : Outcome A) → (o >>= (λ v w. gives v w)) ≡ o
+then_gives (gives v w) = refl
+then_gives (aborts cause s) = refl
+then_gives wrong = refl
+
+module _ (program : SilicaProgram) (most : ℕ) (calls : Calls) (called : CallsRun program most calls) (s : Setting) (found : contract_at program.table s.here ≡ Some s.own)
+    (start : Slots) (finish : Option Value → World → Outcome (Option Value)) (fixed : List ℕ) (zero_fixed : Used 0 fixed) where
+  abbrev table : ClassTable
+  table = program.table
+
+  abbrev f : meaning.Frame
+  f = frame_in program.table s
+
+  abbrev F : made.Frame
+  F = made_in program.table s
+
+  abbrev Stand : Point → meaning.Locals → Here → Type 0
+  Stand p ls h = At program most calls called s found start finish fixed zero_fixed p ls h
+
+  abbrev Runs : Point → SilicaTerms → List Rest → Here → Configuration → Outcome Flow → Type 0
+  Runs q rest outer h c o = Ends program (Flows program most calls called s found start finish fixed zero_fixed q rest outer h) c o
+
+  abbrev Places : Point → made.Locals → Type 0
+  Places p ws = Placed (length s.signature.params) fixed p ws
+
+  pub plain_ends : EndsTo plain_end (λ w. w)
+  plain_ends = record { alike = λ t. alike_self t; world = λ t. refl }
+
+  pub test_ends : (place : Location) → EndsTo (test_end place) (λ w. w)
+  test_ends place = record { alike = λ t. permission_alike place shared t; world = λ t. moved_world program most place shared t }
+
+  pub lock_ends : (place : Location) (n : ℕ) → EndsTo (lock_end place n) (unlock n)
+  lock_ends place n = record {
+    alike = λ t. let a = permission_alike place shared t in record { slots = a.slots; notes = a.notes };
+    world = λ t. ap (unlock n) (moved_world program most place shared t);
+  }
+
+  -- a branch has ended
+  pub flow_ended : (p : Point) (rest : SilicaTerms) (outer : List Rest) (h : Here) (e : BranchEnds) (change : World → World) (c : Configuration)
+      → EndsTo e change → ((w : World) → ((change w).objects ≡ w.objects) × ((change w).fuel ≡ w.fuel)) → ((r : Option Value) (w : World) → finish r (change w) ≡ (finish r w >>= (λ v w1. gives v (change w1)))) → Within fixed p.used
+      → (flow : Flow) (w : World) → Flows program most calls called s found start finish fixed zero_fixed (passed p) no_terms (record { terms = rest; ends = e } ∷ outer) h flow w c → Flows program most calls called s found start finish fixed zero_fixed (passed p) rest outer h flow (change w) c
+  flow_ended p rest outer h e change c ends same commutes within (goes_on ls) w r =
+      let t : Here = record { slots = r.by.slots; notes = r.by.notes; world = w } in
+      let t2 = end_branch e t in
+      let comes : Comes table most p.used t (record { slots = t2.slots; notes = t2.notes; world = change w }) = record {
+        kept = record { by = λ n u. (ends.alike t).slots n };
+        later = record { by = λ n o eo. (o, ap (λ xs. object_at xs n) (same w).0 ∙ eo, refl) };
+        noted = noted_quiet {w = w} {v = change w} r.by.comes.noted (quiet_same w (change w) (same w).0 (same w).1) (ends.alike t).notes;
+        fuel = subst (λ n. n ≤ most) (sym (same w).1) r.by.comes.fuel;
+      } in
+      record {
+        by = record {
+          slots = t2.slots;
+          notes = t2.notes;
+          comes = comes_on table most r.by.comes (comes_fewer table most within comes);
+          holds = at_on program most calls called s found start finish fixed zero_fixed within (within_self p.used) r.by.holds comes;
+          leads = leads_on program r.by.leads (one_step program (ap (λ v. goes (config s (record { slots = t2.slots; notes = t2.notes; world = v }) (runs rest outer))) (ends.world t)));
+        };
+      }
+  flow_ended p rest outer h e change c ends same commutes within (returns v) w r =
+      record {
+        by = rw (commutes v w) (ends_then program (finish v w) (λ u w1. gives u (change w1)) r.by (λ u w1 l.
+            let t : Here = record { slots = l.slots; notes = l.notes; world = w1 } in
+            let t2 = end_branch e t in
+            record {
+              by = record {
+                slots = t2.slots;
+                notes = t2.notes;
+                cell = l.cell;
+                value = l.value;
+                answers = l.answers;
+                comes = record {
+                  kept = kept_on l.comes.kept (record { by = λ n z. (ends.alike t).slots n });
+                  later = later_on l.comes.later (record { by = λ n o eo. (o, ap (λ xs. object_at xs n) (same w1).0 ∙ eo, refl) });
+                  noted = noted_quiet {w = w1} {v = change w1} l.comes.noted (quiet_same w1 (change w1) (same w1).0 (same w1).1) (ends.alike t).notes;
+                  fuel = subst (λ n. n ≤ most) (sym (same w1).1) l.comes.fuel;
+                };
+                leads = leads_on program l.leads (one_step program (ap (λ v. goes (config s (record { slots = t2.slots; notes = t2.notes; world = v }) (leaves l.cell outer))) (ends.world t)));
+              };
+            }));
+      }
+
+  -- a branch without a lock
+  pub branch_runs : (p : Point) (rest : SilicaTerms) (outer : List Rest) (h h2 : Here) (w : World) (e : BranchEnds) (ts : SilicaTerms) (c : Configuration) (go : World → Outcome Flow)
+      → EndsTo e (λ w. w) → Within fixed p.used → Comes table most fixed h (record { slots = h2.slots; notes = h2.notes; world = w })
+      → step program c ≡ goes (config s (record { slots = h2.slots; notes = h2.notes; world = w }) (runs ts (record { terms = rest; ends = e } ∷ outer)))
+      → Runs (passed p) no_terms (record { terms = rest; ends = e } ∷ outer) (record { slots = h2.slots; notes = h2.notes; world = w }) (config s (record { slots = h2.slots; notes = h2.notes; world = w }) (runs ts (record { terms = rest; ends = e } ∷ outer))) (go w)
+      → Runs (passed p) rest outer h c (go w)
+  branch_runs p rest outer h h2 w e ts c go ends within comes st r =
+      step_flows program most calls called s found start finish fixed zero_fixed (go w) comes st
+      (ends_map program (go w) (λ flow w1 x. flow_ended p rest outer _ e (λ v. v) _ ends (λ v. (refl, refl)) (λ v w2. sym (then_gives (finish v w2))) within flow w1 x) r)
+
+  -- a branch with a lock
+  pub locked_runs : (finishes : Finishes program most calls called s found start finish fixed zero_fixed) (p : Point) (rest : SilicaTerms) (outer : List Rest) (h h2 : Here) (w : World) (place : Location) (n : ℕ) (ts : SilicaTerms) (c : Configuration) (go : World → Outcome Flow)
+      → Within fixed p.used → Comes table most fixed h (record { slots = h2.slots; notes = h2.notes; world = w })
+      → step program c ≡ goes (config s (record { slots = h2.slots; notes = h2.notes; world = w }) (runs ts (record { terms = rest; ends = lock_end place n } ∷ outer)))
+      → Runs (passed p) no_terms (record { terms = rest; ends = lock_end place n } ∷ outer) (record { slots = h2.slots; notes = h2.notes; world = w }) (config s (record { slots = h2.slots; notes = h2.notes; world = w }) (runs ts (record { terms = rest; ends = lock_end place n } ∷ outer))) (go w)
+      → Runs (passed p) rest outer h c (go w >>= (λ flow w1. gives flow (unlock n w1)))
+  locked_runs finishes p rest outer h h2 w place n ts c go within comes st r =
+      step_flows program most calls called s found start finish fixed zero_fixed (go w >>= (λ flow w1. gives flow (unlock n w1))) comes st
+      (ends_then program (go w) _ r (λ flow w1 x. record { by = flow_ended p rest outer _ (lock_end place n) (unlock n) _ (lock_ends place n) (λ v. (refl, refl)) (λ v w2. finishes.unlocks v n w2) within flow w1 x }))

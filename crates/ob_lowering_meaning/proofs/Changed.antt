@@ -1,0 +1,187 @@
+-- Changes of the state of `this`.
+use Rattle.std.proofs.Common.{◌≡◌, ◌≢◌, ℕ, zero, suc, ◌+◌, ◌<◌, ◌≤◌, Bool, true, false, ◌&&◌, List, [], ◌∷◌, ◌++◌, map, length, Option, Some, None, refl, sym, ap, ◌∙◌, subst, arith, true≢false, eq-eqb, eqb-true, ◌⊎◌, inl, inr}
+use Rattle.std.proofs.lemmas.Bool.{ne_eqb}
+use Rattle.std.specs.Prelude.{nat_eq, is_some, slice_get, option_map, option_and_then, IsSome, IsSomeAnd, IsTrue, ⊤, if◌then◌else◌}
+use Rattle.std.specs.Option.{option_map_or}
+use Rattle.ob_base.specs.declared.fault.Span.{Span}
+use Rattle.ob_base.specs.declared.id.StateId.{StateId}
+use Rattle.ob_table.specs.Expressions.{Expression, resolved_number, resolved_text, resolved_bool, resolved_seen, resolved_unary, resolved_binary, resolved_call, resolved_new}
+use Rattle.ob_table.specs.Statements.{GivenField, resolved_stage, resolved_change}
+use Rattle.ob_base.specs.declared.id.FieldId.{FieldId}
+use Rattle.ob_table.specs.declared.contract.Field.{Field}
+use Rattle.ob_table.specs.declared.seen.LocalKind.TheVariants.{Reference}
+use Rattle.ob_table.specs.declared.seen.SeenAt.{SeenAt}
+use Rattle.ob_table.specs.Tables.{ClassTable, contract_at, field_at}
+use Rattle.ob_table.specs.declared.seen.LocalKind.{LocalKind}
+use Rattle.ob_table.specs.declared.seen.Seen.{Seen}
+use Rattle.ob_table.specs.declared.seen.Seen.TheVariants.{This as ThisSeen, Local, Field as FieldSeen}
+use Rattle.ob_silica.specs.declared.place.Operand.{Operand}
+use Rattle.ob_silica.specs.declared.place.Place.{Place}
+use Rattle.ob_silica.specs.declared.place.Place.TheVariants.{This, Slot}
+use Rattle.ob_typing.specs.WellMade as made
+use Rattle.ob_typing.specs.WellMade.{local_kind, kind_of_seen, kind_of_table, is_reference, IsMade, IsReturned, IsCalled, Pass, constructor_at}
+use Rattle.ob_content.specs.Values.{Value, Numbered, int_value, bool_value, text_value, reference, referred, put}
+use Rattle.ob_content.specs.Worlds.{World, by_state, unless_aborted, if_right, with_object, edit_object, by_revert, Outcome, gives, aborts, abort, wrong, ◌>>=◌, with_some, unit}
+use Rattle.ob_content.specs.Marks.{mark_disowned, unlock}
+use Rattle.ob_meaning.specs.Frames as meaning
+use Rattle.ob_meaning.specs.Frames.{Calls, Flow, goes_on, returns, known, named, Given}
+use Rattle.ob_meaning.specs.GoingWrong.{is_row}
+use Rattle.ob_meaning.specs.Naming.{values_given, value_of_operand}
+use Rattle.ob_meaning.specs.Expressions.{value_of, operand_of}
+use Rattle.ob_meaning.specs.Statements.{with_staged, run}
+use Rattle.ob_meaning.specs.Fields.{given_of, cut_to, put_all, moved_to, come_into_fields, comes_into_field, move_this, change_state}
+use Rattle.ob_silica.specs.Terms.{SilicaTerms, no_terms, and_term, then_terms, unit_form, SilicaForm, one_term, const_form, copy_form, move_form, assert_form, disown_form, return_form, revert_form}
+use Rattle.ob_silica.specs.declared.place.Given as silica
+use Rattle.ob_silica_steps.specs.Cells.{Known, noted, Cell, plain_cell, constant_cell, Location, slot, field, location_of, located, value_in}
+use Rattle.ob_silica_steps.specs.Configurations.{SilicaProgram, Slots, Notes, Rest, Control, runs, leaves, Configuration, Next, goes}
+use Rattle.ob_silica_steps.specs.Here.{Here, at, if_there, read, set_permission}
+use Rattle.ob_silica_steps.specs.Steps.{step}
+use Rattle.ob_silica_steps.specs.Straight.{with_text, disowns}
+use Rattle.ob_lowering.specs.Points.{with_row, around, declares, IsFree, Temporary, in_use, references, drops, drops_of, Variable, locals_of, slot_of, place_of, Row, no_row, staged_row, refused_row, made_before, Point, passed, used_at, Around}
+use Rattle.ob_lowering.specs.ExpressionTerms.{Lowered, LoweredArguments, LoweredCall, operand, slot_operand, into, IsCall, kind_around, LowersExpression, LowersArguments, LowersPlainCall, LowersDiscarded}
+use Rattle.ob_lowering.specs.GivenTerms.{given_from, LoweredGiven, LowersGiven, with_unit}
+use Rattle.ob_lowering.specs.StatementTerms.{ended_by, set_slot as set_slot_form, set_place, IsNamed, LowersReturn, LowersRevert, LowersStatement}
+use Rattle.ob_lowering.specs.BodyTerms.{slots_below}
+use Rattle.ob_lowering_meaning.proofs.Slots.{Used, free_differs, free_within, slots_made, Within, within_self, within_on, within_use}
+use Rattle.ob_lowering_meaning.proofs.Runs.{Leads, Ends, stays, leads_on, one_step, ends_map, ends_later, join}
+use Rattle.ob_lowering_meaning.proofs.Standing.{same_value, Setting, frame_in, made_in, config, shape, Kept, Later, Noted, Stands, Comes, Reached, later_self, kept_self, kept_on, kept_fewer, at_other, none_some, some_same, stands_on, comes_self, comes_on, comes_fewer, reached_closed, after_part, bind, self_is, self_shape, at_same}
+use Rattle.ob_lowering_meaning.proofs.Names.{Held, Visible, visible_on}
+use Rattle.ob_lowering_meaning.proofs.Plain.{Plain}
+use Rattle.ob_lowering_meaning.proofs.Calling.{CallsRun}
+use Rattle.ob_lowering_meaning.proofs.Operands.{Means, means_on, means_read, Fits, operand_from}
+use Rattle.ob_lowering_meaning.proofs.Expressions.{value_runs}
+use Rattle.ob_lowering_meaning.proofs.Fresh.{Fresh}
+use Rattle.ob_lowering_meaning.proofs.Flows.{Gave, RowStands, RowOpen, Placed, At, Left, Flows, flows_closed, flows_from, left_closed, then_flows, step_flows, at_on, unit_flows, value_then, Dropped, drops_run}
+use Rattle.ob_lowering_meaning.proofs.Changes.{noted_quiet, quiet_self, quiet_disowned, quiet_later, same_or, permission_alike}
+use Rattle.ob_lowering_meaning.proofs.Placing.{slot_sets, slot_stuck, field_set}
+use Rattle.ob_lowering_meaning.proofs.Fresh.{expression_fresh, references_within, discarded_fresh}
+use Rattle.ob_lowering_meaning.proofs.Values.{read_one, there, not_there}
+use Rattle.ob_lowering_meaning.proofs.Names.{name_read}
+use Rattle.ob_lowering_meaning.proofs.Setting.{slot_place, placed_passed, slot_value}
+use Rattle.ob_lowering_meaning.proofs.Operands.{answers_by, started_runs, constructed_runs}
+use Rattle.ob_lowering_meaning.proofs.Calling.{Called, Answers}
+use Rattle.ob_lowering_meaning.proofs.Expressions.{called_so}
+use Rattle.ob_lowering_meaning.proofs.Flows.{gave_on, gave_more}
+use Rattle.ob_lowering_meaning.proofs.Slots.{within_first, within_second}
+use Rattle.ob_lowering_meaning.proofs.Plain.{as_many}
+use Rattle.ob_lowering_meaning.proofs.Staging.{given_runs}
+use Rattle.ob_lowering_meaning.proofs.Filling.{ReadBy, Got, Filled, Fills, fills, lacks, fill_runs}
+use Rattle.ob_silica_steps.specs.Changing.{all_there, fill_all, value_after, changed_object, note_after, notes_after, narrowed_this, changed_here, is_locked_out, change_with, change_step}
+use Rattle.ob_silica_steps.specs.Here.{self_of, self, field_of}
+use Rattle.ob_perm.specs.Permissions.{owned, owns}
+use Rattle.ob_perm.specs.States.{only}
+use Rattle.std.proofs.Math.Path.{fun_ext}
+use Rattle.std.specs.List.{list_all}
+use Rattle.ob_content.specs.Objects.{Object, has_field, has_all_values}
+use Rattle.ob_content.specs.Contents.{object_at}
+use Rattle.ob_content.specs.Marks.{is_locked}
+use Rattle.ob_content.specs.Values.{nothing}
+use Rattle.ob_meaning.specs.GoingWrong.{is_givable}
+use Rattle.ob_silica.specs.Terms.{change_form}
+use Rattle.ob_lowering_meaning.proofs.Changes.{edited, edited_fuel, later_edit, noted_edit, quiet_object, bare, Quiet, at_alike, quiet_on}
+use Rattle.ob_lowering_meaning.proofs.Fresh.{Fresh, fresh_append, given_fresh}
+use Rattle.ob_lowering_meaning.proofs.Standing.{later_on}
+
+is_there : (c : Option Cell) (o : Option Value) → value_in c ≡ o → is_some c ≡ is_some o
+is_there None None e = refl
+is_there (Some x) (Some v) e = refl
+is_there None (Some v) e = absurd (none_some e)
+is_there (Some x) None e = absurd (none_some (sym e))
+
+narrowed_shape : (state : StateId) (c : Option Cell) → shape (option_map (narrowed_this state) c) ≡ shape c
+narrowed_shape state None = refl
+narrowed_shape state (Some x) = go (owns x.note.permission)
+  where
+    go : (b : Bool) → shape (Some (if b then noted (owned (only state.0)) x else x)) ≡ shape (Some x)
+    go true = refl
+    go false = refl
+
+module _ (program : SilicaProgram) (most : ℕ) (calls : Calls) (called : CallsRun program most calls) (s : Setting) (found : contract_at program.table s.here ≡ Some s.own)
+    (start : Slots) (finish : Option Value → World → Outcome (Option Value)) (fixed : List ℕ) (zero_fixed : Used 0 fixed) where
+  abbrev table : ClassTable
+  table = program.table
+
+  abbrev f : meaning.Frame
+  f = frame_in program.table s
+
+  abbrev F : made.Frame
+  F = made_in program.table s
+
+  abbrev Stand : Point → meaning.Locals → Here → Type 0
+  Stand p ls h = At program most calls called s found start finish fixed zero_fixed p ls h
+
+  abbrev Runs : Point → SilicaTerms → List Rest → Here → Configuration → Outcome Flow → Type 0
+  Runs q rest outer h c o = Ends program (Flows program most calls called s found start finish fixed zero_fixed q rest outer h) c o
+
+  abbrev Places : Point → made.Locals → Type 0
+  Places p ws = Placed (length s.signature.params) fixed p ws
+
+  -- the given values are all there, or aren't
+  abbrev pub GivenRead : Here → List silica.Given → Option (List (ℕ × Value)) → Type 0
+  GivenRead t gs None = all_there table t gs ≡ false
+  GivenRead t gs (Some xs) = (all_there table t gs ≡ true) × ReadBy table t gs xs
+
+  one_read : (t : Here) (g : silica.Given) (gs : List silica.Given) (n : ℕ) (r : Option Value) (rest : Option (List (ℕ × Value))) → g.field.0 ≡ n → value_in (read table t (located g.from)) ≡ r → GivenRead t gs rest
+      → GivenRead t (g ∷ gs) (option_and_then (λ v. option_map (λ vs. (n, v) ∷ vs) rest) r)
+  one_read t g gs n None rest en er m = ap (λ b. b && all_there table t gs) (is_there (read table t (located g.from)) None er)
+  one_read t g gs n (Some v) None en er m = ap (λ b. b && all_there table t gs) (is_there (read table t (located g.from)) (Some v) er) ∙ m
+  one_read t g gs n (Some v) (Some xs) en er m = (ap (λ b. b && all_there table t gs) (is_there (read table t (located g.from)) (Some v) er) ∙ m.0, (en, er, m.1))
+
+  pub given_read : (p : Point) (ws : made.Locals) (ls : meaning.Locals) (place : Span) (used : List ℕ) (t : Here) (xs : List Given) (gs : List silica.Given) → Places p ws → Stands table most s t → Visible p.variables p.used ls t.slots → Gave p.variables xs gs used t
+      → GivenRead t gs (values_given f ls t.world xs)
+  given_read p ws ls place used t [] [] placed st vis g = (refl, tt)
+  given_read p ws ls place used t (x ∷ xs) (g ∷ gs) placed st vis m =
+      one_read t g gs x.0 (value_of_operand f ls t.world x.1) (values_given f ls t.world xs) m.by.0
+      (means_read program most calls called s found p.variables ws placed.agree p.used (placed.fixed.by 0 zero_fixed) place ls x.1 g.from used t m.by.1 (record { stands = st; visible = vis }))
+      (given_read p ws ls place used t xs gs placed st vis (record { by = m.by.2 }))
+  given_read p ws ls place used t [] (g ∷ gs) placed st vis m = absurd m.by
+  given_read p ws ls place used t (x ∷ xs) [] placed st vis m = absurd m.by
+
+  -- `this` after a change, once its fields are filled
+  pub changed_world : (state : StateId) (t t1 : Here) (xs : List (ℕ × Value)) (all : Numbered Cell) → Stands table most s t → Filled s.own t nothing xs t1 all
+      → (changed_here s.own state all t1).world ≡ edit_object (moved_to s.own state xs) s.this (come_into_fields s.own xs t.world)
+  changed_world state t t1 xs all st filled =
+      let self : self_of t1.slots ≡ s.this = self_shape t1.slots s.this (Reference s.here) (filled.alike.slots 0 ∙ st.this) in
+      let same : changed_object s.own state all ≡ moved_to s.own state xs = fun_ext (λ o. ap (λ (values : Numbered Value). record o { state = Some state; fields = values }) (fun_ext (λ k. filled.values (cut_to s.own state o.fields) k))) in
+      ap (λ g. edit_object g (self_of t1.slots) t1.world) same ∙ ap (λ n. edit_object (moved_to s.own state xs) n t1.world) self ∙ ap (edit_object (moved_to s.own state xs) s.this) filled.world
+
+  changed_noted : (state : StateId) (t t1 : Here) (xs : List (ℕ × Value)) (all : Numbered Cell) → Stands table most s t → Filled s.own t nothing xs t1 all
+      → Noted table (changed_here s.own state all t1).notes (changed_here s.own state all t1).world.objects
+  changed_noted state t t1 xs all st filled =
+      let self : self_of t1.slots ≡ s.this = self_shape t1.slots s.this (Reference s.here) (filled.alike.slots 0 ∙ st.this) in
+      let before : Noted table t1.notes t1.world.objects = noted_quiet st.noted filled.quiet filled.alike.notes in
+      let now = quiet_object filled.quiet s.this st.object.0 st.object.1 in
+      noted_edit table t1.notes (notes_after (self_of t1.slots) all t1.notes) (changed_object s.own state all) (self_of t1.slots) t1.world before
+      (λ m d k. ap (λ (g : ℕ → Known). (g k).kind) (at_other t1.notes.fields (self_of t1.slots) _ m d))
+      (λ o eo k fd v ef ev.
+      ap (λ (g : ℕ → Known). (g k).kind) (at_same t1.notes.fields (self_of t1.slots) (λ k. note_after (all k) (t1.notes.fields (self_of t1.slots) k)))
+      ∙ by_cell o k fd v (all k) refl before eo
+      (ap (λ c. option_and_then (λ d. slice_get d.fields k) (contract_at table c)) (sym (ap (λ b. b.0) (ap bare (some_same o now.0 (sym eo ∙ ap (λ n. object_at t1.world.objects n) self ∙ now.1)) ∙ now.2) ∙ st.object.2)) ∙ ef) found ef ev)
+    where
+      by_cell : (o : Object) (k : ℕ) (fd : Field) (v : Value) (x : Option Cell) → all k ≡ x → Noted table t1.notes t1.world.objects → object_at t1.world.objects (self_of t1.slots) ≡ Some o
+          → option_and_then (λ d. slice_get d.fields k) (contract_at table s.here) ≡ Some fd → contract_at table s.here ≡ Some s.own → field_of table o k ≡ Some fd
+          → value_after (all k) (if has_field s.own (Some state) k then o.fields k else None) ≡ Some v
+          → (note_after (all k) (t1.notes.fields (self_of t1.slots) k)).kind ≡ kind_of_table fd.of
+      by_cell o k fd v (Some x) ex before eo eh own ef ev =
+          ap (λ y. (note_after y (t1.notes.fields (self_of t1.slots) k)).kind) ex
+          ∙ filled.kinds.by k x fd ex (sym (ap (option_and_then (λ d. slice_get d.fields k)) own) ∙ eh)
+      by_cell o k fd v None ex before eo eh own ef ev =
+          ap (λ y. (note_after y (t1.notes.fields (self_of t1.slots) k)).kind) ex
+          ∙ before.by (self_of t1.slots) k o fd v eo ef (was (has_field s.own (Some state) k) (sym (ap (λ y. value_after y (if has_field s.own (Some state) k then o.fields k else None)) ex) ∙ ev))
+        where
+          was : (b : Bool) → (if b then o.fields k else None) ≡ Some v → o.fields k ≡ Some v
+          was true e = e
+          was false e = absurd (none_some e)
+
+  -- what is reached once `this` has changed
+  pub changed_comes : (state : StateId) (t t1 : Here) (used : List ℕ) (xs : List (ℕ × Value)) (all : Numbered Cell) → Stands table most s t → Filled s.own t nothing xs t1 all
+      → Comes table most used t (changed_here s.own state all t1)
+  changed_comes state t t1 used xs all st filled =
+      let world_is = changed_world state t t1 xs all st filled in
+      let quiet : Quiet t.world (come_into_fields s.own xs t.world) = subst (Quiet t.world) filled.world filled.quiet in
+      record {
+        kept = record { by = λ n u. at_alike shape t1.slots 0 (option_map (narrowed_this state) (t1.slots 0)) (narrowed_shape state (t1.slots 0)) n ∙ filled.alike.slots n };
+        later = subst (Later t.world) (sym world_is) (later_on (quiet_later quiet) (later_edit (moved_to s.own state xs) (λ o. refl) s.this (come_into_fields s.own xs t.world)));
+        noted = changed_noted state t t1 xs all st filled;
+        fuel = subst (λ n. n ≤ most) (sym (ap (λ (w : World). w.fuel) world_is ∙ edited_fuel (moved_to s.own state xs) s.this (come_into_fields s.own xs t.world) ∙ quiet.fuel)) st.fuel;
+      }

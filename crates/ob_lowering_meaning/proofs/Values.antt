@@ -1,0 +1,149 @@
+-- The terms of an expression do what the expression does.
+use Rattle.std.proofs.Common.{◌≡◌, ◌≢◌, ℕ, Bool, true, false, List, [], ◌∷◌, ◌++◌, map, length, Option, Some, None, refl, sym, ap, ◌∙◌, subst, ◌⊎◌, inl, inr}
+use Rattle.std.specs.Prelude.{option_map, option_and_then, IsSome, IsSomeAnd, ⊤, if◌then◌else◌}
+use Rattle.std.specs.Option.{option_map_or}
+use Rattle.ob_base.specs.declared.fault.Span.{Span}
+use Rattle.ob_base.specs.declared.id.ContractId.{ContractId}
+use Rattle.ob_base.specs.declared.id.TxId.{TxId}
+use Rattle.ob_base.specs.declared.operator.Operator.{Operator}
+use Rattle.ob_base.specs.declared.operator.Operator.TheVariants.{Add, Sub, Mul, Div, Rem, Equal, NotEqual, Less, LessEqual, Greater, GreaterEqual, And, Or, Not, Negate}
+use Rattle.ob_table.specs.Expressions.{Expression, resolved_number, resolved_text, resolved_bool, resolved_seen, resolved_unary, resolved_binary, resolved_call, resolved_new, Arguments, no_arguments, and_argument}
+use Rattle.ob_table.specs.Tables.{ClassTable, contract_at, signature_of}
+use Rattle.ob_table.specs.declared.contract.Signature.{Signature}
+use Rattle.ob_table.specs.declared.seen.LocalKind.{LocalKind}
+use Rattle.ob_table.specs.declared.seen.Seen.{Seen}
+use Rattle.ob_table.specs.declared.seen.SeenAt.{SeenAt}
+use Rattle.ob_typing.specs.WellMade as made
+use Rattle.ob_typing.specs.WellMade.{kind_of_table, local_kind, kind_of_seen, is_reference, IsMade, AreMade, HasOperands, IsCalled, Pass, constructor_at, kind_of_expression}
+use Rattle.ob_content.specs.Values.{Value, int_value, bool_value, text_value, reference, referred}
+use Rattle.ob_content.specs.Operations.{Operated, operated, overflows, other_kinds, operate}
+use Rattle.ob_content.specs.Worlds.{World, Outcome, gives, aborts, wrong, ◌>>=◌, with_some}
+use Rattle.ob_meaning.specs.Frames as meaning
+use Rattle.ob_meaning.specs.Frames.{known, named, of_object, of_this, of_new, Calls}
+use Rattle.ob_meaning.specs.Naming.{value_seen, object_seen, kind_seen, read as read_name, reference_name, value_of_operand, values_of_operands}
+use Rattle.ob_meaning.specs.Expressions.{after_operation, Settled, decides, gives_right, works, unfit, settled, settled_by_and, settled_by_or, after_left, operand_or, with_result, callee_of, started, constructed, value_of, operands_of, operand_of}
+use Rattle.ob_silica.specs.Terms.{SilicaForm, const_form, op_form, copy_form, new_form, call_form, call_this_form, if_form, SilicaTerms, no_terms, and_term, one_term, then_terms}
+use Rattle.ob_silica.specs.declared.place.Operand.{Operand}
+use Rattle.ob_silica.specs.declared.place.Place.{Place}
+use Rattle.ob_silica.specs.declared.place.Place.TheVariants.{This, Slot, Field}
+use Rattle.ob_silica.specs.declared.place.Constant.TheVariants.{Int, Bool as BoolConstant, Text}
+use Rattle.ob_silica_steps.specs.Cells.{Cell, plain_cell, constant_cell, kind_of_operator, located, location_of, all_located, value_in, slot}
+use Rattle.ob_silica_steps.specs.Configurations.{SilicaProgram, Slots, Notes, Rest, plain_end, Control, runs, Configuration, Next, goes, stuck}
+use Rattle.ob_silica_steps.specs.Here.{Here, at, read, set_slot, goes_to, if_there}
+use Rattle.ob_silica_steps.specs.Steps.{step, act}
+use Rattle.ob_silica_steps.specs.Straight.{with_operated, with_truth, copy_to}
+use Rattle.ob_lowering.specs.Points.{IsFree, Temporary, in_use, Variable, locals_of, place_of, Around}
+use Rattle.ob_lowering.specs.ExpressionTerms.{Lowered, LoweredArguments, operand, slot_operand, kind_around, temporary, into, LowersName, IsCall, calls_this, calls_other, copied_into, when_true, when_false, LowersExpression, LowersArguments}
+use Rattle.ob_lowering_meaning.proofs.Slots.{Used, used_left, used_right, free_differs, slots_made, made_append, Within, within_self, within_on, within_use, within_first, within_second, free_within}
+use Rattle.ob_lowering_meaning.proofs.Runs.{Leads, Ends, stays, leads_on, one_step, ends_map, ends_later, join}
+use Rattle.ob_lowering_meaning.proofs.Standing.{Setting, frame_in, made_in, config, shape, Kept, Later, Noted, Stands, Comes, Reached, later_self, kept_self, kept_fewer, at_same, at_other, same_value, none_some, some_same, stands_on, comes_self, comes_on, comes_fewer, reached_closed, bind}
+use Rattle.ob_lowering_meaning.proofs.Names.{Visible, visible_on, name_read, name_kind}
+use Rattle.ob_lowering_meaning.proofs.Plain.{Plain, operands_plain, unary_plain, as_many}
+use Rattle.ob_lowering_meaning.proofs.Calling.{read_values, Called, Passes, Answers, CallsRun}
+
+-- the value of an operand stands in this slot, which is in use
+pub record InSlot (o : Operand) (v : Value) (used : List ℕ) (t : Here) : Type 0 where
+  pub slot : ℕ
+  pub place : o.place ≡ Slot slot
+  pub inside : Used slot used
+  pub value : value_in (t.slots slot) ≡ Some v
+
+-- the value of an expression stands in a temporary that it made
+pub record Result (l : Lowered) (used : List ℕ) (t : Here) (v : Value) : Type 0 where
+  pub slot : ℕ
+  pub place : l.operand.place ≡ Slot slot
+  pub inside : Used slot (in_use l.made used)
+  pub fresh : IsFree slot used
+  pub value : value_in (t.slots slot) ≡ Some v
+
+pub in_slot_on : {o : Operand} {v : Value} {used : List ℕ} {t r : Here} → InSlot o v used t → Kept used t.slots r.slots → InSlot o v used r
+in_slot_on {t = t} {r = r} i k = record { slot = i.slot; place = i.place; inside = i.inside; value = same_value (r.slots i.slot) (t.slots i.slot) (k.by i.slot i.inside) ∙ i.value }
+
+pub in_slot_wide : {o : Operand} {v : Value} {used more : List ℕ} {t : Here} → InSlot o v used t → Within used more → InSlot o v more t
+in_slot_wide i w = record { slot = i.slot; place = i.place; inside = w.by i.slot i.inside; value = i.value }
+
+pub in_slot : {l : Lowered} {used : List ℕ} {t : Here} {v : Value} → Result l used t v → InSlot l.operand v (in_use l.made used) t
+in_slot r = record { slot = r.slot; place = r.place; inside = r.inside; value = r.value }
+
+pub read_in_slot : (table : ClassTable) {o : Operand} {v : Value} {used : List ℕ} {t : Here} → InSlot o v used t → value_in (read table t (located o)) ≡ Some v
+read_in_slot table {t = t} i = ap (λ q. value_in (read table t (location_of q))) i.place ∙ i.value
+
+-- What reading leads to.
+
+pub read_one : (c : Option Cell) (v : Value) (go : Value → Next) → value_in c ≡ Some v → if_there c (λ x. go x.value) ≡ go v
+read_one None v go e = absurd (none_some e)
+read_one (Some x) v go e = ap go (some_same x.value v e)
+
+pub read_two : (c d : Option Cell) (v u : Value) (go : Value → Value → Next) → value_in c ≡ Some v → value_in d ≡ Some u → if_there c (λ x. if_there d (λ y. go x.value y.value)) ≡ go v u
+read_two None d v u go e h = absurd (none_some e)
+read_two (Some x) None v u go e h = absurd (none_some h)
+read_two (Some x) (Some y) v u go e h = ap (λ z. go z y.value) (some_same x.value v e) ∙ ap (go v) (some_same y.value u h)
+
+-- what is there, with its cell
+pub there : (c : Option Cell) (v : Value) → value_in c ≡ Some v → (x : Cell) × (c ≡ Some x) × (x.value ≡ v)
+there None v e = absurd (none_some e)
+there (Some x) v e = (x, refl, some_same x.value v e)
+
+pub not_there : (c : Option Cell) (go : Cell → Next) → value_in c ≡ None → if_there c go ≡ stuck
+not_there None go e = refl
+not_there (Some x) go e = absurd (none_some (sym e))
+
+pub used_last : (k : ℕ) (b : Bool) (made : List Temporary) (used : List ℕ) → Used k (in_use (made ++ temporary k b ∷ []) used)
+used_last k b made used = used_left k (slots_made (made ++ temporary k b ∷ [])) used
+    (subst (Used k) (sym (made_append made (temporary k b ∷ []))) (used_right k (slots_made made) (k ∷ []) (inl refl)))
+
+module _ (program : SilicaProgram) (most : ℕ) where
+  pub comes_set : {s : Setting} {h : Here} {used : List ℕ} (k : ℕ) (x : Option Cell) → IsFree k used → Stands program.table most s h → Comes program.table most used h (set_slot k x h)
+  comes_set {h = h} {used = used} k x free st = record {
+    kept = record { by = λ n u. ap shape (at_other h.slots k x n (free_differs k used free n u)) };
+    later = later_self h.world;
+    noted = st.noted;
+    fuel = st.fuel;
+  }
+
+  -- one form that sets a temporary
+  pub sets : {s : Setting} {h : Here} {used : List ℕ} {control : Control} {c : Configuration} (l : Lowered) (k : ℕ) (x : Cell) (v : Value)
+      → l.operand.place ≡ Slot k → Used k (in_use l.made used) → IsFree k used → x.value ≡ v → Stands program.table most s h
+      → Leads program c (goes (config s (set_slot k (Some x) h) control))
+      → Ends program (Reached program most (λ t u. Result l used t u) used s h control) c (gives v h.world)
+  sets {h = h} l k x v place inside free e st leads = record {
+    by = record {
+      slots = at h.slots k (Some x);
+      notes = h.notes;
+      comes = comes_set k (Some x) free st;
+      holds = record { slot = k; place = place; inside = inside; fresh = free; value = ap value_in (at_same h.slots k (Some x)) ∙ ap Some e };
+      leads = leads;
+    };
+  }
+
+  operated_runs : {s : Setting} {h : Here} {used : List ℕ} {rest : SilicaTerms} {outer : List Rest} {c : Configuration} (l : Lowered) (k : ℕ) (kind : LocalKind) (sign : Span) (r : Operated)
+      → l.operand.place ≡ Slot k → Used k (in_use l.made used) → IsFree k used → Stands program.table most s h
+      → step program c ≡ with_operated sign.line h.world r (λ v. goes (config s (set_slot k (Some (plain_cell v kind)) h) (runs rest outer)))
+      → Ends program (Reached program most (λ t u. Result l used t u) used s h (runs rest outer)) c (after_operation sign r h.world)
+  operated_runs l k kind sign (operated v) place inside free st e = sets l k (plain_cell v kind) v place inside free refl st (one_step program e)
+  operated_runs l k kind sign overflows place inside free st e = record { by = one_step program e }
+  operated_runs l k kind sign other_kinds place inside free st e = record { by = one_step program e }
+
+  -- an operator's form
+  pub op_runs : (s : Setting) (h : Here) (used : List ℕ) (rest : SilicaTerms) (outer : List Rest) (span : Span) (l : Lowered) (k : ℕ) (o : Operator) (a b : Operand) (sign : Span) (x y : Value)
+      → l.operand.place ≡ Slot k → Used k (in_use l.made used) → IsFree k used → Stands program.table most s h
+      → value_in (read program.table h (located a)) ≡ Some x → value_in (read program.table h (located b)) ≡ Some y
+      → Ends program (Reached program most (λ t u. Result l used t u) used s h (runs rest outer))
+      (config s h (runs (and_term (op_form k o a b sign.line) span rest) outer)) (after_operation sign (operate o x y) h.world)
+  op_runs s h used rest outer span l k o a b sign x y place inside free st ea eb =
+      operated_runs l k (kind_of_operator o) sign (operate o x y) place inside free st
+      (read_two (read program.table h (located a)) (read program.table h (located b)) x y
+      (λ u v. with_operated sign.line h.world (operate o u v) (λ z. goes (config s (set_slot k (Some (plain_cell z (kind_of_operator o))) h) (runs rest outer)))) ea eb)
+
+  -- a copy of a place that may have no value, into a slot
+  pub copy_runs : (s : Setting) (h : Here) (used : List ℕ) (rest : SilicaTerms) (outer : List Rest) (span : Span) (l : Lowered) (k : ℕ) (from : Operand) (o : Option Value)
+      → l.operand.place ≡ Slot k → Used k (in_use l.made used) → IsFree k used → Stands program.table most s h
+      → value_in (read program.table h (located from)) ≡ o
+      → Ends program (Reached program most (λ t u. Result l used t u) used s h (runs rest outer))
+      (config s h (runs (and_term (copy_form (Slot k) from) span rest) outer)) (with_some o (λ v. gives v h.world))
+  copy_runs s h used rest outer span l k from None place inside free st e =
+      record { by = one_step program (not_there (read program.table h (located from)) (λ x. copy_to program.table (slot k) x h (λ n. goes (config s n (runs rest outer)))) e) }
+  copy_runs s h used rest outer span l k from (Some v) place inside free st e =
+      let x = there (read program.table h (located from)) v e in
+      sets l k (plain_cell x.0.value x.0.note.kind) v place inside free x.2 st
+      (one_step program (ap (λ c. if_there c (λ x. copy_to program.table (slot k) x h (λ n. goes (config s n (runs rest outer))))) x.1))
