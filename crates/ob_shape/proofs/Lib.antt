@@ -1,4 +1,6 @@
 mod TokenNames
 mod RowFacts
+mod ExprShapes
+mod StmtShapes
 mod MemberShapes
 pub mod ContractShapes

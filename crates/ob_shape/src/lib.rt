@@ -8,8 +8,9 @@ ghost use Rattle.ob_tree.specs.Members.{Contract};
 ghost use Rattle.ob_grammar.specs.Grammar.{HasTree};
 ghost use Rattle.ob_typing.specs.Shape.{HasShape};
 
-/// The tree that the tokens of a text spell has the shape of a program: its names are names, only private transactions
-/// list fields, and an interface isn't main, implements nothing, and has states and heads alone.
+/// The tree that the tokens of a text spell has the shape of a program: its names are names, its operators have as many
+/// operands as they need, only private transactions list fields, and an interface isn't main, implements nothing, and
+/// has states and heads alone.
 pub fn parsed_trees_have_shape()
     ensures { (text : List ℕ) (lexed : Lexed) (tree : List Contract) → HasTokens text lexed → HasTree lexed.tokens tree
         → HasShape tree }

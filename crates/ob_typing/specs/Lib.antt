@@ -18,6 +18,7 @@ pub mod Numbers
 pub mod Bodies
 pub mod TableOf
 pub mod Conditions
+pub mod Operators
 pub mod Shape
 pub mod Generics
 pub mod WellMade

@@ -20,6 +20,7 @@ use Rattle.ob_table.specs.declared.contract.Param.{Param}
 use Rattle.ob_table.specs.declared.contract.Signature.{Signature}
 use Rattle.ob_table.specs.declared.contract.Contract.{Contract}
 use Rattle.ob_typing.specs.Conditions.{IsPermOn}
+use Rattle.ob_typing.specs.Operators.{AllHaveOperators}
 
 -- Kinds, which are types without permissions.
 
@@ -288,10 +289,12 @@ frame_of table here own s = record {
       option_map kind_of_table s.result;
 }
 
--- the body of a constructor or transaction: its statements are made, and where there is a result its end isn't reached
+-- the body of a constructor or transaction: its statements are made, their operators have as many operands as they need,
+-- and where there is a result its end isn't reached
 pub record IsBodyOf (table : ClassTable) (body : ResolvedBody) (own : Contract) (s : Signature) : Type 0 where
   pub contract : own.interface ≡ false
   pub statements : AreStatements (frame_of table body.contract own s) (params_from 1 s.params) [] body.statements
+  pub operators : AllHaveOperators body.statements
   pub returns : IsSome s.result → one_ends_there body.statements ≡ true
 
 -- a body is that of a constructor or transaction of a contract of the table, and is made as it must be

@@ -1,7 +1,7 @@
 -- The bodies of a program without faults are well made.
 use Rattle.std.proofs.Common.{◌≡◌, ℕ, suc, ◌+◌, ◌<◌, ◌≤◌, Bool, true, false, List, [], ◌∷◌, ◌++◌, map, length, Option, Some, None, refl, sym, ap, subst, arith, ◌∙◌, cond, append_assoc, length-append}
 use Rattle.std.proofs.lemmas.List.{map-append, length-map}
-use Rattle.std.specs.Prelude.{option_map, slice_get, unwrap_or, is_some, IsSome, if◌then◌else◌}
+use Rattle.std.specs.Prelude.{IfSome, option_map, slice_get, unwrap_or, is_some, IsSome, if◌then◌else◌}
 use Rattle.std.specs.Option.{option_map_or}
 use Rattle.std.specs.List.{flat_map, range_with_len}
 use Rattle.std.proofs.lemmas.List.Elements.{recursion_from_All}
@@ -29,7 +29,8 @@ use Rattle.ob_typing.specs.MemberSites.{around, formals_sites, listed_sites, bod
 use Rattle.ob_typing.specs.Bodies.{resolved_local, resolved_stmts}
 use Rattle.ob_typing.specs.Numbers.{contract_id}
 use Rattle.ob_typing.specs.TableOf.{param_in_table, transaction_in_table, constructor_in_table, signatures_of, contract_in_table, body_with, constructor_body, transaction_bodies, bodies_of, table_of}
-use Rattle.ob_typing.specs.Shape.{HasMemberShape, HasContractShape}
+use Rattle.ob_typing.specs.Shape.{HasBlockShape, HaveStmtShapes, HasMemberShape, HasContractShape}
+use Rattle.ob_typing.specs.Operators.{AllHaveOperators}
 use Rattle.ob_typing.specs.WellMade.{kind_of_table, one_ends_there, params_from, frame_of, AreStatements, IsWellMade, place_of_body, places_from, HasBodies}
 use Rattle.ob_typing_laws.proofs.Each.{Each, each_left, each_right, each_both, each_weaker, each_of_flat_map, each_flat_map, each_filter, each_of_both, each_at}
 use Rattle.ob_typing_laws.proofs.Clean.{Clean}
@@ -42,6 +43,7 @@ use Rattle.ob_typing_laws.proofs.CallFacts.{world_of, world_number, params_known
 use Rattle.ob_typing_laws.proofs.ExpressionFacts.{Here}
 use Rattle.ob_typing_laws.proofs.EndFacts.{one_ends_same}
 use Rattle.ob_typing_laws.proofs.StatementFacts.{Result, body_fact}
+use Rattle.ob_typing_laws.proofs.OperatorFacts.{stmts_operators}
 
 -- Parameters are the first variables.
 
@@ -107,6 +109,7 @@ pub record BodyFact (program : Program) (own : Contract) (w : World program own)
     (formals : List Formal) (statements : Stmts) : Type 0 where
   pub made : AreStatements (frame_of (table_of program) (record { 0 = w.number }) (contract_in_table program own) s)
       (params_from 1 s.params) [] (resolved_stmts (around program own k) (scope_of_params program formals) statements)
+  pub operators : AllHaveOperators (resolved_stmts (around program own k) (scope_of_params program formals) statements)
   pub ends : IsSome s.result → one_ends_there
       (resolved_stmts (around program own k) (scope_of_params program formals) statements) ≡ true
 
@@ -116,8 +119,8 @@ one_body : (program : Program) (clear : Clear program) (own : Contract) (w : Wor
     → s.params ≡ map (param_in_table program) (params_of formals) → IsKnownKind program k
     → option_map kind_of_table s.result ≡ as_local k
     → Each Clean (body_of_params_sites program own k formals (block_with statements end))
-    → BodyFact program own w s k formals statements
-one_body program clear own w s k formals statements end params e known there c =
+    → HaveStmtShapes statements → BodyFact program own w s k formals statements
+one_body program clear own w s k formals statements end params e known there c shaped =
     let A = around program own k in
     let S = scope_of_params program formals in
     let h : Here = record {
@@ -137,6 +140,7 @@ one_body program clear own w s k formals statements end params e known there c =
     record {
       made = subst (λ ls. AreStatements (frame_of (table_of program) (record { 0 = w.number })
           (contract_in_table program own) s) ls [] (resolved_stmts A S statements)) numbered f;
+      operators = stmts_operators A S statements shaped;
       ends = λ some. one_ends_same A S statements
           ∙ closed k (option_map kind_of_table s.result) (one_ends statements) end there
           (each_right Clean sites (closes k (one_ends statements) end ∷ []) c).0 (mapped s.result some);
@@ -155,7 +159,7 @@ well_made_at program own w tx s k formals b is at statements end e f =
     subst (λ b. IsWellMade (table_of program) (body_with program own tx k formals b)) (sym e)
     (subst (λ o. WellMadeWith (contract_id o)) (sym w.numbered)
     (some_and _ (contract_in_table program own) _ (in_table program w.number own w.at)
-    (some_and _ s _ at (record { contract = is; statements = f.made; returns = f.ends }))))
+    (some_and _ s _ at (record { contract = is; statements = f.made; operators = f.operators; returns = f.ends }))))
   where
     body_at : ContractId → ResolvedBody
     body_at id = record {
@@ -178,6 +182,7 @@ pub record BodySites (program : Program) (own : Contract) (t : Transaction) : Ty
   pub body : Each Clean (option_map_or (body_of_params_sites program own (kind_of_result program t.result) t.params)
       t.body [])
   pub whole : own.interface ≡ false → IsSome t.body
+  pub shaped : IfSome t.body HasBlockShape
 
 body_sites_of_member : (program : Program) (own : Contract) (m : Member) → HasMemberShape own.interface m
     → Each Clean (member_sites program own m) → Each (BodySites program own) (transactions_of_member m)
@@ -195,6 +200,7 @@ body_sites_of_member program own (transaction_member private listed name params 
         result = each_right Clean (L ++ F) R lfr;
         body = each_right Clean (L ++ F ++ R) B h;
         whole = shape.whole;
+        shaped = shape.operators;
       },
       tt,
     )
@@ -237,7 +243,8 @@ transaction_made program clear own w t k (Some (block_with statements end)) e is
       well_made_at program own w (k + 1) s (kind_of_result program t.result) t.params (block_with statements end) is
           (behind program own k t is at) statements end refl
           (one_body program clear own w s (kind_of_result program t.result) t.params statements end
-          (params_known program own false t.params sites.formals) refl r.kind r.in_table_as c),
+          (params_known program own false t.params sites.formals) refl r.kind r.in_table_as c
+          (subst (λ o. IfSome o HasBlockShape) e sites.shaped)),
       tt,
     )
 
@@ -258,18 +265,18 @@ transactions_made program clear own w before (t ∷ ts) is e h =
 abbrev MadeConstructor : Program → Contract → Constructor → Type 0
 MadeConstructor program own m =
     Each Clean (formals_sites program own true m.params)
-    × Each Clean (body_of_params_sites program own nothing m.params m.body)
+    × Each Clean (body_of_params_sites program own nothing m.params m.body) × HasBlockShape m.body
 
-constructors_of_member_made : (program : Program) (own : Contract) (m : Member)
+constructors_of_member_made : (program : Program) (own : Contract) (m : Member) → HasMemberShape own.interface m
     → Each Clean (member_sites program own m) → Each (MadeConstructor program own) (constructors_of_member m)
-constructors_of_member_made program own (state_member name fields span) h = tt
-constructors_of_member_made program own (field_member field) h = tt
-constructors_of_member_made program own (constructor_member of perm params body span) h =
+constructors_of_member_made program own (state_member name fields span) shape h = tt
+constructors_of_member_made program own (field_member field) shape h = tt
+constructors_of_member_made program own (constructor_member of perm params body span) shape h =
     let P = perm_sites own perm in
     let F = formals_sites program own true params in
     let B = body_of_params_sites program own nothing params body in
-    ((each_right Clean P F (each_left Clean (P ++ F) B h.1.1), each_right Clean (P ++ F) B h.1.1), tt)
-constructors_of_member_made program own (transaction_member private listed name params result body span) h = tt
+    ((each_right Clean P F (each_left Clean (P ++ F) B h.1.1), each_right Clean (P ++ F) B h.1.1, shape.1), tt)
+constructors_of_member_made program own (transaction_member private listed name params result body span) shape h = tt
 
 constructor_made : (program : Program) (clear : Clear program) (own : Contract) (w : World program own)
     (m : Constructor) (b : Block) → m.body ≡ b → own.interface ≡ false → constructor_of own ≡ m
@@ -281,7 +288,7 @@ constructor_made program clear own w m (block_with statements end) e is made h =
     let c = subst (λ b. Each Clean (body_of_params_sites program own nothing m.params b)) e h.1 in
     well_made_at program own w 0 s nothing m.params (block_with statements end) is at statements end refl
     (one_body program clear own w s nothing m.params statements end (params_known program own true m.params h.0)
-    refl tt refl c)
+    refl tt refl c (subst HasBlockShape e h.2))
 
 default_made : (program : Program) (own : Contract) (w : World program own) → own.interface ≡ false
     → constructor_of own ≡ default_constructor own
@@ -290,7 +297,7 @@ default_made program own w is made =
     let s = constructor_in_table program own (default_constructor own) in
     let at : slice_get (signatures_of program own) 0 ≡ Some s = rw (is, made) refl in
     well_made_at program own w 0 s nothing [] (block_with no_stmts own.span) is at no_stmts own.span refl
-    (record { made = tt; ends = λ h. absurd (cc) })
+    (record { made = tt; operators = tt; ends = λ h. absurd (cc) })
 
 first_made : (program : Program) (clear : Clear program) (own : Contract) (w : World program own)
     (ms : List Constructor) → constructors_of own ≡ ms → own.interface ≡ false → Each (MadeConstructor program own) ms
@@ -316,7 +323,7 @@ bodies_made program clear own w shape h = at own.interface refl
     constructors =
         each_filter _ (λ m. same own.name (part_of_named m.of).name) (constructor_forms own)
         (each_flat_map _ constructors_of_member own.members
-        (each_weaker _ _ (constructors_of_member_made program own) own.members
+        (each_of_both _ _ _ (constructors_of_member_made program own) own.members shape
         (each_of_flat_map Clean (member_sites program own) own.members h)))
 
     at : (b : Bool) → own.interface ≡ b → Each (IsWellMade (table_of program))

@@ -19,5 +19,6 @@ pub mod CallFacts
 pub mod ExpressionFacts
 pub mod EndFacts
 pub mod StatementFacts
+pub mod OperatorFacts
 pub mod BodyFacts
 pub mod TableLaws
