@@ -3,7 +3,7 @@ use Rattle.std.proofs.Common.{◌≡◌, ◌≢◌, ℕ, zero, suc, ◌<◌, Boo
 use Rattle.std.proofs.lemmas.Option.{get_or_from_slice_get, slice_get-get_or}
 use Rattle.std.proofs.lemmas.List.Sums.{passes_at_first}
 use Rattle.std.proofs.lemmas.Slice.Eq.{bytes_eq-Decides}
-use Rattle.std.specs.Prelude.{option_map, option_and_then, slice_get, slice_index_or, nat_eq, nat_lt, ◌==◌, position, bytes_eq, IsTrue, IsSomeAnd, IfSome, MatchBool, All, AllPairs, Contains, if◌then◌else◌}
+use Rattle.std.specs.Prelude.{option_map, option_and_then, slice_get, slice_index_or, nat_eq, nat_lt, ◌==◌, position, bytes_eq, IsTrue, IsSomeAnd, IfSome, MatchBool, All, Contains, if◌then◌else◌}
 use Rattle.std.specs.Option.{option_map_or}
 use Rattle.std.specs.List.{position_or_len}
 use Rattle.ob_base.specs.Names.{is_name}
@@ -12,8 +12,8 @@ use Rattle.ob_base.specs.declared.id.TxId.{TxId}
 use Rattle.ob_table.specs.Tables.{ClassTable, contract_at, signature_at, signature_of}
 use Rattle.ob_table.specs.declared.contract.Contract.{Contract}
 use Rattle.ob_table.specs.declared.contract.Signature.{Signature}
-use Rattle.ob_typing.specs.Conditions.{IsClassTable, IsContract, IsTransaction, IsConstructor, HasConstructor, transactions_in, Meets, Answers, asked_of, AreDistinct}
-use Rattle.ob_meaning.specs.Calls.{answering, implements_it, transaction_named}
+use Rattle.ob_typing.specs.Conditions.{IsClassTable, IsContract, IsTransaction, IsConstructor, transactions_in, Meets, Answers, asked_of, AreDistinct}
+use Rattle.ob_meaning.specs.Calls.{implements_it, transaction_named}
 use Rattle.ob_lowering_meaning.proofs.Standing.{none_some, some_same}
 use Rattle.ob_lowering_meaning.proofs.Changes.{same_or}
 use Rattle.ob_lowering_meaning.proofs.Expressions.{called_so}

@@ -1,28 +1,18 @@
 -- What a call hands over.
-use Rattle.std.proofs.Common.{◌≡◌, ◌≢◌, ℕ, zero, suc, ◌+◌, ◌<◌, ◌≤◌, Bool, true, false, ◌&&◌, List, [], ◌∷◌, map, length, Option, Some, None, refl, sym, ap, ◌∙◌, subst, arith, ◌⊎◌, inl, inr}
-use Rattle.std.specs.Prelude.{option_map, option_and_then, zip}
-use Rattle.std.specs.Option.{option_map_or}
-use Rattle.std.specs.List.{list_all}
-use Rattle.ob_base.specs.declared.id.ContractId.{ContractId}
-use Rattle.ob_perm.specs.Permissions.{kept}
+use Rattle.std.proofs.Common.{◌≡◌, ℕ, suc, ◌<◌, ◌≤◌, List, [], ◌∷◌, map, length, Option, Some, None, refl, sym, ap, ◌∙◌, subst, arith, ◌⊎◌, inl, inr}
+use Rattle.std.specs.Prelude.{option_map, option_and_then}
 use Rattle.ob_table.specs.Tables.{ClassTable}
 use Rattle.ob_table.specs.declared.contract.Kind.{Kind}
-use Rattle.ob_table.specs.declared.contract.Kind.TheVariants.{Reference}
 use Rattle.ob_table.specs.declared.contract.Param.{Param}
-use Rattle.ob_table.specs.declared.contract.Signature.{Signature}
-use Rattle.ob_typing.specs.WellMade.{kind_of_table}
-use Rattle.ob_content.specs.Values.{Value, reference}
-use Rattle.ob_content.specs.Objects.{Object}
+use Rattle.ob_content.specs.Values.{Value}
 use Rattle.ob_content.specs.Worlds.{World}
 use Rattle.ob_content.specs.Marks.{comes_into}
-use Rattle.ob_meaning.specs.GoingWrong.{is_within, is_held_within, may_pass, may_leave_args, kind_at_exit}
 use Rattle.ob_meaning.specs.Bodies.{args_come}
-use Rattle.ob_silica_steps.specs.Cells.{Location, Cell, cell, value_in, permission_of_kind}
+use Rattle.ob_silica_steps.specs.Cells.{Location, Cell, value_in}
 use Rattle.ob_silica_steps.specs.Configurations.{SilicaProgram, Slots, Next, stuck}
 use Rattle.ob_silica_steps.specs.Here.{Here, at, read, if_there, hand}
-use Rattle.ob_silica_steps.specs.Binding.{Parameter, parameter_of, parameters, bound_cell, Bound, bind_one, bind_all}
-use Rattle.ob_silica_steps.specs.Entering.{are_within}
-use Rattle.ob_silica_steps.specs.Returning.{at_exit}
+use Rattle.ob_silica_steps.specs.Binding.{Parameter, parameter_of, bound_cell, Bound, bind_one, bind_all}
+pub use Rattle.ob_lowering_meaning.specs.Bodies.{HoldsFrom}
 use Rattle.ob_lowering_meaning.proofs.Standing.{shape, none_some, some_same, at_same, at_other}
 use Rattle.ob_lowering_meaning.proofs.Changes.{Alike, alike_self, alike_on, Quiet, quiet_self, quiet_on, quiet_into}
 use Rattle.ob_lowering_meaning.proofs.Placing.{hand_alike, hand_world}
@@ -139,12 +129,6 @@ module _ (program : SilicaProgram) (most : ℕ) where
       one_less e = omega (arith, e)
 
 -- The slots of what is handed over.
-
--- the values of slots from a number on, with the kinds of parameters
-abbrev pub HoldsFrom : Slots → ℕ → List Parameter → List Value → Type 0
-HoldsFrom slots k [] [] = Unit {0}
-HoldsFrom slots k (p ∷ ps) (v ∷ vs) = (shape (slots k) ≡ Some (v, kind_of_table p.of)) × HoldsFrom slots (suc k) ps vs
-HoldsFrom slots k ps vs = ⊥
 
 pub bound_below : (ps : List Parameter) (vs : List Value) (slots : Slots) (k n : ℕ) → n < k → bound_slots slots k ps vs n ≡ slots n
 bound_below [] vs slots k n lt = refl

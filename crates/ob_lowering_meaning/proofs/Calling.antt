@@ -1,5 +1,5 @@
 -- What is said of calls, before it is shown of them.
-use Rattle.std.proofs.Common.{◌≡◌, ◌≢◌, ℕ, ◌≤◌, Bool, true, false, List, [], ◌∷◌, map, length, Option, Some, None, refl, sym, ap, ◌∙◌, subst}
+use Rattle.std.proofs.Common.{◌≡◌, ◌≢◌, ℕ, ◌≤◌, List, [], ◌∷◌, length, Option, Some}
 use Rattle.std.specs.Prelude.{option_map, option_and_then, IsSome, IsSomeAnd, ⊤}
 use Rattle.ob_base.specs.declared.fault.Span.{Span}
 use Rattle.ob_base.specs.declared.id.ContractId.{ContractId}
@@ -7,14 +7,14 @@ use Rattle.ob_base.specs.declared.id.TxId.{TxId}
 use Rattle.ob_table.specs.Tables.{ClassTable, contract_at, signature_of}
 use Rattle.ob_typing.specs.WellMade.{constructor_at}
 use Rattle.ob_content.specs.Values.{Value, referred}
-use Rattle.ob_content.specs.Worlds.{World, Outcome, with_some}
+use Rattle.ob_content.specs.Worlds.{World, with_some}
 use Rattle.ob_meaning.specs.Frames.{of_object, of_this, of_new, Calls}
 use Rattle.ob_silica.specs.Terms.{SilicaTerms, and_term, call_form, call_this_form, new_form}
 use Rattle.ob_silica.specs.declared.place.Operand.{Operand}
 use Rattle.ob_silica_steps.specs.Cells.{Location, located, all_located, value_in}
 use Rattle.ob_silica_steps.specs.Configurations.{SilicaProgram, Slots, Notes, Rest, Control, runs, Configuration, goes}
 use Rattle.ob_silica_steps.specs.Here.{Here, read}
-use Rattle.ob_lowering_meaning.proofs.Runs.{Leads, leads_on, Ends}
+use Rattle.ob_lowering_meaning.proofs.Runs.{Leads, Ends}
 use Rattle.ob_lowering_meaning.proofs.Standing.{Setting, frame_in, config, shape, Later, Noted, Stands}
 
 -- the values of places, if each has one

@@ -1,41 +1,35 @@
 -- A `new` by its terms.
-use Rattle.std.proofs.Common.{◌≡◌, ◌≢◌, ℕ, zero, suc, ◌+◌, ◌<◌, ◌≤◌, Bool, true, false, ◌&&◌, List, [], ◌∷◌, map, length, Option, Some, None, refl, sym, ap, ◌∙◌, subst, arith, true≢false, ◌⊎◌, inl, inr}
-use Rattle.std.specs.Prelude.{option_map, option_and_then, IsSome, IsSomeAnd, is_some, ⊤, if◌then◌else◌}
-use Rattle.std.specs.Option.{option_map_or}
+use Rattle.std.proofs.Common.{◌≡◌, ◌≢◌, ℕ, zero, suc, ◌≤◌, Bool, true, false, List, [], ◌∷◌, map, length, Option, Some, None, refl, sym, ap, ◌∙◌, subst, arith, ◌⊎◌, inl, inr}
+use Rattle.std.specs.Prelude.{option_and_then, IsSomeAnd, ⊤, if◌then◌else◌}
 use Rattle.ob_base.specs.declared.fault.Span.{Span}
 use Rattle.ob_base.specs.declared.id.ContractId.{ContractId}
 use Rattle.ob_base.specs.declared.id.TxId.{TxId}
 use Rattle.ob_table.specs.Tables.{ClassTable, contract_at, signature_at, signature_of}
 use Rattle.ob_table.specs.declared.contract.Contract.{Contract}
-use Rattle.ob_table.specs.declared.contract.Kind.TheVariants as typed
-use Rattle.ob_table.specs.declared.contract.Param.{Param}
 use Rattle.ob_table.specs.declared.contract.Signature.{Signature}
-use Rattle.ob_table.specs.declared.seen.LocalKind.TheVariants.{Reference}
 use Rattle.ob_content.specs.Values.{Value, reference, nothing}
 use Rattle.ob_content.specs.Objects.{Object}
 use Rattle.ob_content.specs.Contents.{object_at}
-use Rattle.ob_content.specs.Worlds.{World, objects_most, next_item, by_full, with_read, make_object, unless_aborted, with_object, Outcome, gives, aborts, wrong, ◌>>=◌, if_right, with_some, unit, with_unit_taken}
-use Rattle.ob_content.specs.Marks.{comes_into}
+use Rattle.ob_content.specs.Worlds.{World, objects_most, next_item, by_full, with_read, make_object, with_object, Outcome, gives, aborts, wrong, ◌>>=◌, if_right, with_some, unit, with_unit_taken}
 use Rattle.ob_meaning.specs.Frames.{of_new, Calls, Flow, first_locals}
 use Rattle.ob_meaning.specs.GoingWrong.{may_pass, may_return, is_finished}
 use Rattle.ob_meaning.specs.Bodies.{args_come, this_comes, result_of}
-use Rattle.ob_meaning.specs.Calls.{unfinished, constructing, construct, new_after_unit, call_with}
+use Rattle.ob_meaning.specs.Calls.{unfinished, construct, new_after_unit, call_with}
 use Rattle.ob_silica.specs.Terms.{SilicaTerms, and_term, new_form}
 use Rattle.ob_silica.specs.declared.place.Operand.{Operand}
-use Rattle.ob_silica_steps.specs.Cells.{Location, all_located, slot, this, value_in}
-use Rattle.ob_silica_steps.specs.Configurations.{SilicaProgram, How, abort as abort_next, by_receiver, by_this, by_new, Rest, Waiting, Control, runs, Configuration, Next, goes, stuck}
+use Rattle.ob_silica_steps.specs.Cells.{all_located}
+use Rattle.ob_silica_steps.specs.Configurations.{SilicaProgram, abort as abort_next, by_new, Rest, runs, Configuration, Next, stuck}
 use Rattle.ob_silica_steps.specs.Here.{Here, field_of, at, if_there, with_unit}
-use Rattle.ob_silica_steps.specs.Binding.{Parameter, parameter_of, parameters, all_parameters, bound_cell, Bound, unbound, bind_all, slot_loans, without_field_loans}
+use Rattle.ob_silica_steps.specs.Binding.{Parameter, parameter_of, parameters, Bound, unbound, bind_all}
 use Rattle.ob_silica_steps.specs.Entering.{Entered, are_within, new_cell, entered_new, makes_object, enters}
 use Rattle.ob_silica_steps.specs.Steps.{step}
 use Rattle.ob_silica_steps.specs.Calling.{constructor_id, entered_with}
-use Rattle.ob_lowering_meaning.proofs.Slots.{Used}
-use Rattle.ob_lowering_meaning.proofs.Runs.{Leads, Ends, one_step}
-use Rattle.ob_lowering_meaning.proofs.Standing.{Setting, frame_in, config, shape, shape_value, Stands, Later, kept_self, none_some, this_value, at_same}
+use Rattle.ob_lowering_meaning.proofs.Runs.{Ends, one_step}
+use Rattle.ob_lowering_meaning.proofs.Standing.{Setting, frame_in, config, shape, Stands, Later, none_some, at_same}
 use Rattle.ob_lowering_meaning.proofs.Changes.{noted_quiet, quiet_later, Quiet}
-use Rattle.ob_lowering_meaning.proofs.Binding.{HandedOver, bind_stuck, binds, come_all, come_args, quiet_all, bound_slots, bound_below, bound_holds, read_length, HoldsFrom}
+use Rattle.ob_lowering_meaning.proofs.Binding.{HandedOver, bind_stuck, binds, come_args, quiet_all, bound_holds, read_length, HoldsFrom}
 use Rattle.ob_lowering_meaning.proofs.Beginning.{within_args}
-use Rattle.ob_lowering_meaning.proofs.Calling.{read_values, Called, Passes, Answers, CallsRun}
+use Rattle.ob_lowering_meaning.proofs.Calling.{read_values, Called, CallsRun}
 use Rattle.ob_lowering_meaning.proofs.Expressions.{called_so}
 use Rattle.ob_lowering_meaning.proofs.Returning.{gives_object, new_finishes}
 use Rattle.ob_lowering_meaning.proofs.Leaving.{called_from}
@@ -48,7 +42,7 @@ use Rattle.ob_typing.specs.WellMade.{kind_of_table, constructor_at}
 use Rattle.ob_table.specs.declared.contract.Field.{Field}
 use Rattle.ob_meaning.specs.Statements.{run_all}
 use Rattle.ob_lowering_meaning.proofs.CallsThis.{parameters_length, located_length, waiting}
-use Rattle.ob_lowering_meaning.proofs.Standing.{Noted, at_other, later_on, some_same}
+use Rattle.ob_lowering_meaning.proofs.Standing.{Noted, at_other, some_same}
 use Rattle.ob_lowering_meaning.proofs.Binding.{holds_on}
 
 -- What a new object leaves.
@@ -68,10 +62,10 @@ made_or [] x y (suc n) e = absurd (none_some e)
 made_or (z ∷ xs) x y zero e = inl e
 made_or (z ∷ xs) x y (suc n) e = made_or xs x y n e
 
-pub construct_is : (table : ClassTable) (calls : Calls) (cs : Setting) (args : List Value) (w : World) → cs.share_entered ≡ false → cs.tx ≡ constructor_id
-    → construct calls (constructing table cs.this cs.here cs.own) cs.signature args w
+pub construct_is : (table : ClassTable) (calls : Calls) (cs : Setting) (args : List Value) (w : World) → cs.tx ≡ constructor_id
+    → construct calls (frame_in table cs) cs.signature args w
     ≡ with_some (body_at table cs.here cs.tx) (λ body. run_all calls (frame_in table cs) body.statements (first_locals cs.signature.params args) w >>= (λ flow w1. gives_object table cs args (result_of flow) w1))
-construct_is table calls cs args w es et = rw (es, et) (by_body (body_at table cs.here constructor_id))
+construct_is table calls cs args w et = rw et (by_body (body_at table cs.here constructor_id))
   where
     by_outcome : (o : Outcome Flow) → ((o >>= (λ flow w1. if_right (may_return table w1.objects cs.here cs.signature cs.this args (result_of flow)) (gives (result_of flow) w1)))
         >>= (λ r w1. with_object w1 cs.this (λ o. if_right (is_finished cs.own o) (gives (Some (reference cs.this)) (this_comes cs.here cs.signature.exit cs.this w1)))))
@@ -80,11 +74,11 @@ construct_is table calls cs args w es et = rw (es, et) (by_body (body_at table c
     by_outcome (aborts cause s) = refl
     by_outcome wrong = refl
 
-    by_body : (b : Option ResolvedBody) → (with_some b (λ body. run_all calls (constructing table cs.this cs.here cs.own) body.statements (first_locals cs.signature.params args) w >>= (λ flow w1. if_right (may_return table w1.objects cs.here cs.signature cs.this args (result_of flow)) (gives (result_of flow) w1)))
+    by_body : (b : Option ResolvedBody) → (with_some b (λ body. run_all calls (frame_in table cs) body.statements (first_locals cs.signature.params args) w >>= (λ flow w1. if_right (may_return table w1.objects cs.here cs.signature cs.this args (result_of flow)) (gives (result_of flow) w1)))
         >>= (λ r w1. with_object w1 cs.this (λ o. if_right (is_finished cs.own o) (gives (Some (reference cs.this)) (this_comes cs.here cs.signature.exit cs.this w1)))))
-        ≡ with_some b (λ body. run_all calls (constructing table cs.this cs.here cs.own) body.statements (first_locals cs.signature.params args) w >>= (λ flow w1. gives_object table cs args (result_of flow) w1))
+        ≡ with_some b (λ body. run_all calls (frame_in table cs) body.statements (first_locals cs.signature.params args) w >>= (λ flow w1. gives_object table cs args (result_of flow) w1))
     by_body None = refl
-    by_body (Some body) = by_outcome (run_all calls (constructing table cs.this cs.here cs.own) body.statements (first_locals cs.signature.params args) w)
+    by_body (Some body) = by_outcome (run_all calls (frame_in table cs) body.statements (first_locals cs.signature.params args) w)
 
 pub constructor_is : (c : Option Contract) (g : Signature) → option_and_then (λ c. if c.interface then None else slice_get c.transactions 0) c ≡ Some g → (own : Contract) × (c ≡ Some own) × (own.interface ≡ false) × (slice_get own.transactions 0 ≡ Some g)
 constructor_is None g e = absurd (none_some e)
@@ -177,7 +171,7 @@ module _ (program : SilicaProgram) (n : ℕ) (inner : Calls) (inner_runs : (m : 
       made false true eb ec e =
           let run = inner_runs m en in
           let o = body_ends program m inner run cs eown (gives_object table cs vs) vs (make_object w2 (unfinished contract)) in
-          rw (eb, ec, construct_is table inner cs vs (make_object w2 (unfinished contract)) refl refl, sym (then_gives o))
+          rw (eb, ec, construct_is table inner cs vs (make_object w2 (unfinished contract)) refl, sym (then_gives o))
           (called_from program n m inner run cs eown h0.slots (gives_object table cs vs) (fixed_slots g) (zero_fixed g) ⊤ s h d.from rest outer (Some k) d.loans h0 C o
           less_most over.alike.slots stands later (λ x. inr refl) refl
           (entered_runs program m inner run cs eown (gives_object table cs vs) vs h0 C (bodies contract own constructor_id g eown eg) stands holds

@@ -1,6 +1,6 @@
 -- A call on `this` by its terms.
-use Rattle.std.proofs.Common.{◌≡◌, ◌≢◌, ℕ, zero, suc, ◌+◌, ◌<◌, ◌≤◌, Bool, true, false, ◌&&◌, List, [], ◌∷◌, map, length, Option, Some, None, refl, sym, ap, ◌∙◌, subst, arith, true≢false, ◌⊎◌, inl, inr}
-use Rattle.std.specs.Prelude.{option_map, option_and_then, IsSome, IsSomeAnd, is_some, if◌then◌else◌}
+use Rattle.std.proofs.Common.{◌≡◌, ℕ, suc, ◌≤◌, Bool, true, false, ◌&&◌, List, [], ◌∷◌, map, length, Option, Some, None, refl, sym, ap, ◌∙◌, subst, arith, true≢false, ◌⊎◌, inl}
+use Rattle.std.specs.Prelude.{option_map, option_and_then, IsSome, IsSomeAnd, if◌then◌else◌}
 use Rattle.std.specs.Option.{option_map_or}
 use Rattle.ob_base.specs.declared.fault.Span.{Span}
 use Rattle.ob_base.specs.declared.id.ContractId.{ContractId}
@@ -12,28 +12,24 @@ use Rattle.ob_table.specs.declared.contract.Param.{Param}
 use Rattle.ob_table.specs.declared.contract.Signature.{Signature}
 use Rattle.ob_table.specs.declared.seen.LocalKind.TheVariants.{Reference}
 use Rattle.ob_content.specs.Values.{Value, reference, nothing}
-use Rattle.ob_content.specs.Objects.{Object}
-use Rattle.ob_content.specs.Contents.{object_at}
-use Rattle.ob_content.specs.Worlds.{World, Outcome, gives, ◌>>=◌, if_right, with_some, unit, with_unit_taken}
+use Rattle.ob_content.specs.Worlds.{World, with_some, with_unit_taken}
 use Rattle.ob_content.specs.Marks.{comes_into}
 use Rattle.ob_meaning.specs.Frames.{of_this, Calls}
-use Rattle.ob_meaning.specs.GoingWrong.{is_within, is_held_within, may_pass, may_begin}
-use Rattle.ob_meaning.specs.Bodies.{comes_in}
+use Rattle.ob_meaning.specs.GoingWrong.{is_within, is_held_within, may_begin}
 use Rattle.ob_meaning.specs.Calls.{call_on_this, call_with}
 use Rattle.ob_silica.specs.Terms.{SilicaTerms, and_term, call_this_form}
 use Rattle.ob_silica.specs.declared.place.Operand.{Operand}
-use Rattle.ob_silica_steps.specs.Cells.{Location, all_located, slot, this, value_in}
-use Rattle.ob_silica_steps.specs.Configurations.{SilicaProgram, How, by_receiver, by_this, by_new, Rest, Waiting, Control, runs, Configuration, Next, goes, stuck}
+use Rattle.ob_silica_steps.specs.Cells.{Location, all_located, this, value_in}
+use Rattle.ob_silica_steps.specs.Configurations.{SilicaProgram, How, by_receiver, by_this, by_new, Rest, Waiting, runs, Configuration, Next, stuck}
 use Rattle.ob_silica_steps.specs.Here.{Here, read, at, if_there, with_unit}
-use Rattle.ob_silica_steps.specs.Binding.{Parameter, parameter_of, parameters, all_parameters, bound_cell, Bound, unbound, bind_all, slot_loans, without_field_loans}
+use Rattle.ob_silica_steps.specs.Binding.{Parameter, parameter_of, all_parameters, bound_cell, Bound, unbound, bind_all, without_field_loans}
 use Rattle.ob_silica_steps.specs.Entering.{are_within, calls_this, enters}
 use Rattle.ob_silica_steps.specs.Steps.{step}
 use Rattle.ob_silica_steps.specs.Calling.{entered_with}
-use Rattle.ob_lowering_meaning.proofs.Slots.{Used}
-use Rattle.ob_lowering_meaning.proofs.Runs.{Leads, Ends, one_step}
-use Rattle.ob_lowering_meaning.proofs.Standing.{Setting, frame_in, config, shape, shape_value, Stands, Later, kept_self, none_some, this_value, at_same}
+use Rattle.ob_lowering_meaning.proofs.Runs.{Ends, one_step}
+use Rattle.ob_lowering_meaning.proofs.Standing.{Setting, frame_in, config, shape, shape_value, Stands, this_value, at_same}
 use Rattle.ob_lowering_meaning.proofs.Changes.{noted_quiet, quiet_later, Quiet}
-use Rattle.ob_lowering_meaning.proofs.Binding.{HandedOver, bind_stuck, binds, come_all, come_args, quiet_all, bound_slots, bound_below, bound_holds, read_length, HoldsFrom}
+use Rattle.ob_lowering_meaning.proofs.Binding.{HandedOver, bind_stuck, binds, come_args, quiet_all, bound_below, bound_holds, read_length, HoldsFrom}
 use Rattle.ob_lowering_meaning.proofs.Beginning.{within_args}
 use Rattle.ob_lowering_meaning.proofs.Calling.{read_values, Called, Passes, Answers, CallsRun}
 use Rattle.ob_lowering_meaning.proofs.Expressions.{called_so}

@@ -16,8 +16,8 @@ use Rattle.ob_content.specs.Contents.{object_at}
 use Rattle.ob_content.specs.Worlds.{World, object_item, is_made, with_read, read_object, set_object, edit_object}
 use Rattle.ob_content.specs.Marks.{has_mark, mark_shared, mark_disowned, comes_into}
 use Rattle.ob_silica_steps.specs.Cells.{Location, slot, field, Known, known, Cell, noted}
-use Rattle.ob_silica_steps.specs.Configurations.{Slots, Notes}
-use Rattle.ob_silica_steps.specs.Here.{Here, at, self_of, field_of, set_permission, hand}
+use Rattle.ob_silica_steps.specs.Configurations.{Notes}
+use Rattle.ob_silica_steps.specs.Here.{Here, at, self_of, field_of, set_permission}
 use Rattle.ob_lowering_meaning.proofs.Standing.{shape, Later, Noted, none_some, some_same}
 
 -- Numbers.

@@ -1,39 +1,38 @@
 -- How a call enters its body.
-use Rattle.std.proofs.Common.{◌≡◌, ◌≢◌, ℕ, zero, suc, ◌+◌, ◌<◌, ◌≤◌, Bool, true, false, ◌&&◌, List, [], ◌∷◌, map, length, Option, Some, None, refl, sym, ap, ◌∙◌, subst, arith, true≢false, ◌⊎◌, inl, inr}
-use Rattle.std.specs.Prelude.{option_map, IsSome, IsSomeAnd, is_some}
-use Rattle.ob_base.specs.declared.fault.Span.{Span}
+use Rattle.std.proofs.Common.{◌≡◌, ℕ, zero, suc, ◌+◌, ◌≤◌, Bool, true, false, List, [], map, length, Option, Some, None, refl, sym, ap, ◌∙◌, subst, arith, true≢false}
+use Rattle.std.specs.Prelude.{IsSome}
 use Rattle.ob_base.specs.declared.id.ContractId.{ContractId}
 use Rattle.ob_base.specs.declared.id.TxId.{TxId}
 use Rattle.ob_table.specs.Statements.{resolved_block, ResolvedBody}
 use Rattle.ob_lowering.specs.StatementTerms.{LowersBlock}
-use Rattle.ob_table.specs.Tables.{ClassTable, contract_at, signature_at, signature_of, body_at}
+use Rattle.ob_table.specs.Tables.{ClassTable, contract_at, body_at}
 use Rattle.ob_table.specs.declared.contract.Kind.{Kind}
 use Rattle.ob_table.specs.declared.contract.Contract.{Contract}
 use Rattle.ob_table.specs.declared.contract.Signature.{Signature}
 use Rattle.ob_typing.specs.WellMade as made
 use Rattle.ob_typing.specs.WellMade.{IsBodyOf, AreStatements, one_ends_there}
-use Rattle.ob_content.specs.Values.{Value, reference}
-use Rattle.ob_content.specs.Worlds.{World, Outcome, gives, aborts, wrong, ◌>>=◌, if_right, with_some, with_object, unit, with_fuel, with_unit_taken}
+use Rattle.ob_content.specs.Values.{Value}
+use Rattle.ob_content.specs.Worlds.{World, Outcome, gives, aborts, wrong, ◌>>=◌, if_right, with_some, with_fuel, with_unit_taken}
 use Rattle.ob_meaning.specs.Frames.{Calls, Flow, first_locals}
 use Rattle.ob_meaning.specs.Statements.{run_all}
-use Rattle.ob_meaning.specs.GoingWrong.{may_return, is_finished}
-use Rattle.ob_meaning.specs.Bodies.{result_of, result_goes, this_comes, run_body, run_transaction}
-use Rattle.ob_silica.specs.Terms.{SilicaTerms, SilicaBody}
-use Rattle.ob_silica_steps.specs.Configurations.{SilicaProgram, terms_at, Slots, Rest, Control, runs, Configuration, Next, goes, stuck}
-use Rattle.ob_silica_steps.specs.Here.{Here, if_there, with_unit, with_fuel_left}
+use Rattle.ob_meaning.specs.GoingWrong.{may_return}
+use Rattle.ob_meaning.specs.Bodies.{result_of, result_goes, run_transaction}
+use Rattle.ob_silica.specs.Terms.{SilicaBody}
+use Rattle.ob_silica_steps.specs.Configurations.{SilicaProgram, terms_at, runs, Configuration, Next, goes}
+use Rattle.ob_silica_steps.specs.Here.{Here, if_there, with_fuel_left}
 use Rattle.ob_silica_steps.specs.Binding.{parameter_of}
 use Rattle.ob_silica_steps.specs.Steps.{step}
 use Rattle.ob_lowering.specs.BodyTerms as low
 use Rattle.ob_lowering.specs.BodyTerms.{LowersWith}
 use Rattle.ob_lowering_meaning.proofs.Slots.{Used}
-use Rattle.ob_lowering_meaning.proofs.Runs.{Leads, Ends, one_step, ends_later}
-use Rattle.ob_lowering_meaning.proofs.Standing.{Setting, frame_in, config, Stands, kept_self, none_some}
+use Rattle.ob_lowering_meaning.proofs.Runs.{Ends, one_step, ends_later}
+use Rattle.ob_lowering_meaning.proofs.Standing.{Setting, frame_in, config, Stands, kept_self}
 use Rattle.ob_lowering_meaning.proofs.Binding.{HoldsFrom}
 use Rattle.ob_lowering_meaning.proofs.Beginning.{used_below, body_runs}
 use Rattle.ob_lowering_meaning.proofs.Calling.{CallsRun}
 use Rattle.ob_lowering_meaning.proofs.Flows.{Left, left_closed}
 use Rattle.ob_lowering_meaning.proofs.Ending.{Finishes}
-use Rattle.ob_lowering_meaning.proofs.Returning.{gives_back, gives_object}
+use Rattle.ob_lowering_meaning.proofs.Returning.{gives_back}
 
 -- the body of a transaction or constructor, with what it is lowered to
 pub data BodyPair (program : SilicaProgram) (contract : ContractId) (own : Contract) (tx : TxId) (s : Signature) : Type 0 where

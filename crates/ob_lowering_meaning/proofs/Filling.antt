@@ -1,35 +1,30 @@
 -- Changes of the state of `this`: what is given comes into the fields.
-use Rattle.std.proofs.Common.{◌≡◌, ◌≢◌, ℕ, zero, suc, ◌≤◌, Bool, true, false, ◌&&◌, List, [], ◌∷◌, ◌++◌, Option, Some, None, refl, sym, ap, ◌∙◌, subst, true≢false, ◌⊎◌, inl, inr, eq-eqb}
+use Rattle.std.proofs.Common.{◌≡◌, ◌≢◌, ℕ, Bool, true, false, ◌&&◌, List, [], ◌∷◌, Option, Some, None, refl, sym, ap, ◌∙◌, subst, ◌⊎◌, inl, inr, eq-eqb}
 use Rattle.std.proofs.Math.Path.{fun_ext}
-use Rattle.std.proofs.lemmas.Bool.{ne_eqb}
-use Rattle.std.specs.Prelude.{option_map, option_and_then, slice_get, nat_eq, is_some, if◌then◌else◌}
+use Rattle.std.specs.Prelude.{option_map, option_and_then, slice_get, nat_eq, if◌then◌else◌}
 use Rattle.std.specs.Option.{option_map_or}
 use Rattle.std.specs.List.{list_all}
-use Rattle.ob_base.specs.declared.fault.Span.{Span}
 use Rattle.ob_base.specs.declared.id.StateId.{StateId}
-use Rattle.ob_perm.specs.Permissions.{kept}
 use Rattle.ob_table.specs.Tables.{ClassTable, contract_at}
 use Rattle.ob_table.specs.declared.contract.Contract.{Contract}
 use Rattle.ob_table.specs.declared.contract.Field.{Field}
-use Rattle.ob_table.specs.declared.seen.LocalKind.TheVariants.{Reference}
 use Rattle.ob_typing.specs.WellMade.{kind_of_table}
-use Rattle.ob_content.specs.Values.{Value, Numbered, nothing, put}
-use Rattle.ob_content.specs.Objects.{Object, is_available, has_field, has_all_values}
+use Rattle.ob_content.specs.Values.{Value, Numbered, put}
+use Rattle.ob_content.specs.Objects.{Object, is_available, has_field}
 use Rattle.ob_content.specs.Contents.{object_at}
-use Rattle.ob_content.specs.Worlds.{World, edit_object}
 use Rattle.ob_content.specs.Marks.{comes_into}
 use Rattle.ob_meaning.specs.GoingWrong.{is_givable}
-use Rattle.ob_meaning.specs.Fields.{cut_to, put_all, moved_to, comes_into_field, come_into_fields}
+use Rattle.ob_meaning.specs.Fields.{put_all, come_into_fields}
 use Rattle.ob_silica.specs.declared.place.Given.{Given}
-use Rattle.ob_silica_steps.specs.Cells.{Cell, Location, slot, field, located, value_in, permission_of_kind}
-use Rattle.ob_silica_steps.specs.Configurations.{SilicaProgram, Slots, Notes, Next, stuck}
-use Rattle.ob_silica_steps.specs.Here.{Here, at, if_there, self_of, self, read, field_of, field_value, hand}
-use Rattle.ob_silica_steps.specs.Changing.{all_there, fill_one, fill_all, value_after, values_after, changed_object, note_after}
+use Rattle.ob_silica_steps.specs.Cells.{Cell, Location, slot, field, located, value_in}
+use Rattle.ob_silica_steps.specs.Configurations.{SilicaProgram, Slots, Next, stuck}
+use Rattle.ob_silica_steps.specs.Here.{Here, if_there, self_of, self, read, field_value, hand}
+use Rattle.ob_silica_steps.specs.Changing.{fill_one, fill_all, value_after}
 use Rattle.ob_silica_steps.specs.Converting.{got_from}
-use Rattle.ob_lowering_meaning.proofs.Standing.{shape, same_value, none_some, some_same, at_same, at_other, value_shape}
-use Rattle.ob_lowering_meaning.proofs.Changes.{Alike, alike_self, alike_on, Quiet, quiet_self, quiet_on, quiet_into, quiet_object, bare, bare_at, same_or}
+use Rattle.ob_lowering_meaning.proofs.Standing.{shape, same_value, none_some, some_same}
+use Rattle.ob_lowering_meaning.proofs.Changes.{Alike, alike_self, alike_on, Quiet, quiet_self, quiet_on, quiet_into, bare, same_or}
 use Rattle.ob_lowering_meaning.proofs.Placing.{hand_alike, hand_world, put_other}
-use Rattle.ob_lowering_meaning.proofs.Values.{there, not_there}
+use Rattle.ob_lowering_meaning.proofs.Values.{there}
 
 -- Reads are the same where only marks and permissions differ.
 

@@ -1,11 +1,11 @@
 -- How statements run: what stands at a point of a body, and how a statement goes on or returns.
-use Rattle.std.proofs.Common.{◌≡◌, ◌≢◌, ℕ, zero, suc, ◌+◌, ◌<◌, ◌≤◌, Bool, true, false, List, [], ◌∷◌, ◌++◌, map, length, Option, Some, None, refl, sym, ap, ◌∙◌, subst, arith, true≢false, ◌⊎◌, inl, inr}
-use Rattle.std.specs.Prelude.{option_map, option_and_then, IsSome, IsSomeAnd, IsTrue, ⊤, if◌then◌else◌}
+use Rattle.std.proofs.Common.{◌≡◌, ℕ, zero, suc, ◌<◌, Bool, true, false, List, [], ◌∷◌, ◌++◌, length, Option, Some, None, refl, ap, ◌∙◌, arith, ◌⊎◌, inl, inr}
+use Rattle.std.specs.Prelude.{IsSome, IsTrue, ⊤, if◌then◌else◌}
 use Rattle.std.specs.Option.{option_map_or}
 use Rattle.ob_base.specs.declared.fault.Span.{Span}
 use Rattle.ob_base.specs.declared.id.StateId.{StateId}
 use Rattle.ob_table.specs.Expressions.{Expression, resolved_number, resolved_text, resolved_bool, resolved_seen, resolved_unary, resolved_binary, resolved_call, resolved_new}
-use Rattle.ob_table.specs.Statements.{Statement, Statements}
+use Rattle.ob_table.specs.Statements.{Statements}
 use Rattle.ob_table.specs.Tables.{ClassTable, contract_at}
 use Rattle.ob_typing.specs.WellMade as made
 use Rattle.ob_typing.specs.WellMade.{local_kind, is_reference, IsMade}
@@ -14,22 +14,20 @@ use Rattle.ob_content.specs.Worlds.{World, Outcome, gives, aborts, wrong, ◌>>=
 use Rattle.ob_meaning.specs.Frames as meaning
 use Rattle.ob_meaning.specs.Frames.{Calls, Flow, goes_on, returns, known, named, Given}
 use Rattle.ob_meaning.specs.GoingWrong.{is_row}
-use Rattle.ob_meaning.specs.Naming.{value_seen, kind_seen, read as read_name, reference_name, value_of_operand}
+use Rattle.ob_meaning.specs.Naming.{value_seen, kind_seen, read as read_name, value_of_operand}
 use Rattle.ob_meaning.specs.Expressions.{operand_or, value_of, operand_of}
-use Rattle.ob_silica.specs.Terms.{SilicaTerms, no_terms, and_term, then_terms, unit_form}
+use Rattle.ob_silica.specs.Terms.{SilicaTerms, and_term, then_terms, unit_form}
 use Rattle.ob_silica.specs.declared.place.Given as silica
 use Rattle.ob_silica_steps.specs.Cells.{Cell, located, value_in}
-use Rattle.ob_silica_steps.specs.Configurations.{SilicaProgram, Slots, Notes, Rest, Control, by_new, runs, leaves, Configuration, Next, goes}
+use Rattle.ob_silica_steps.specs.Configurations.{SilicaProgram, Slots, Notes, Rest, Control, by_new, runs, leaves, Configuration, goes}
 use Rattle.ob_silica_steps.specs.Here.{Here, at, read, with_fuel_left}
 use Rattle.ob_silica_steps.specs.Steps.{step}
-use Rattle.ob_lowering.specs.Points.{IsFree, Temporary, in_use, references, drops, drops_of, Variable, locals_of, slot_of, place_of, Row, no_row, staged_row, refused_row, made_before, Point, passed, used_at, Around}
+use Rattle.ob_lowering.specs.Points.{IsFree, in_use, drops, Variable, locals_of, slot_of, Row, no_row, staged_row, refused_row, made_before, Point, used_at}
 use Rattle.ob_lowering.specs.ExpressionTerms.{Lowered, LowersExpression}
-use Rattle.ob_lowering.specs.BodyTerms.{slots_below}
-use Rattle.ob_lowering_meaning.proofs.Slots.{Used, free_differs, slots_made, Within, within_self, within_on, within_use}
-use Rattle.ob_lowering_meaning.proofs.Runs.{Leads, Ends, stays, leads_on, one_step, ends_map, ends_later, join}
-use Rattle.ob_lowering_meaning.proofs.Standing.{Setting, frame_in, made_in, config, shape, Kept, Later, Noted, Stands, Comes, Reached, later_self, kept_self, kept_on, kept_fewer, at_other, none_some, some_same, stands_on, comes_self, comes_on, comes_fewer, reached_closed, after_part}
-use Rattle.ob_lowering_meaning.proofs.Names.{Held, Visible, visible_on}
-use Rattle.ob_lowering_meaning.proofs.Plain.{Plain}
+use Rattle.ob_lowering_meaning.proofs.Slots.{Used, free_differs, Within, within_self, within_on, within_use}
+use Rattle.ob_lowering_meaning.proofs.Runs.{Leads, Ends, stays, leads_on, one_step, ends_map, ends_later}
+use Rattle.ob_lowering_meaning.proofs.Standing.{Setting, frame_in, made_in, config, shape, Kept, Stands, Comes, Reached, kept_self, kept_on, kept_fewer, at_other, stands_on, comes_on, comes_fewer, reached_closed, after_part}
+use Rattle.ob_lowering_meaning.proofs.Names.{Visible, visible_on}
 use Rattle.ob_lowering_meaning.proofs.Calling.{CallsRun}
 use Rattle.ob_lowering_meaning.proofs.Operands.{Means, means_on, means_read, Fits, operand_from}
 use Rattle.ob_lowering_meaning.proofs.Expressions.{value_runs}

@@ -1,19 +1,15 @@
 -- The temporaries of an expression had been free.
-use Rattle.std.proofs.Common.{◌≡◌, ◌≢◌, ℕ, Bool, true, false, List, [], ◌∷◌, ◌++◌, map, length, Option, Some, None, refl, sym, ap, ◌∙◌, subst, ◌⊎◌, inl, inr, true≢false}
-use Rattle.std.specs.Prelude.{option_map, option_and_then, IsSome, IsSomeAnd, IsTrue, ⊤, if◌then◌else◌}
-use Rattle.ob_base.specs.declared.fault.Span.{Span}
-use Rattle.ob_base.specs.declared.operator.Operator.{Operator}
+use Rattle.std.proofs.Common.{◌≡◌, ◌≢◌, ℕ, Bool, true, false, List, [], ◌∷◌, ◌++◌, Option, Some, None, refl, sym, ap, ◌∙◌, subst, ◌⊎◌, inl, inr}
+use Rattle.std.specs.Prelude.{if◌then◌else◌}
 use Rattle.ob_base.specs.declared.operator.Operator.TheVariants.{Add, Sub, Mul, Div, Rem, Equal, NotEqual, Less, LessEqual, Greater, GreaterEqual, And, Or, Not, Negate}
 use Rattle.ob_table.specs.Expressions.{Expression, resolved_number, resolved_text, resolved_bool, resolved_seen, resolved_unary, resolved_binary, resolved_call, resolved_new, Arguments, no_arguments, and_argument}
 use Rattle.ob_table.specs.Statements.{GivenField}
 use Rattle.ob_table.specs.declared.seen.LocalKind.{LocalKind}
-use Rattle.ob_typing.specs.WellMade.{is_reference, kind_of_seen, kind_of_expression}
-use Rattle.ob_silica.specs.Terms.{SilicaForm}
+use Rattle.ob_typing.specs.WellMade.{is_reference}
 use Rattle.ob_silica.specs.declared.place.Operand.{Operand}
-use Rattle.ob_silica.specs.declared.place.Place.{Place}
 use Rattle.ob_silica.specs.declared.place.Place.TheVariants.{Slot}
-use Rattle.ob_lowering.specs.Points.{IsFree, Temporary, in_use, references, Around, locals_of}
-use Rattle.ob_lowering.specs.ExpressionTerms.{Lowered, LoweredArguments, LoweredCall, temporary, LowersName, operand, IsCall, LowersExpression, LowersArguments, LowersDiscarded, LowersPlainCall}
+use Rattle.ob_lowering.specs.Points.{IsFree, Temporary, in_use, references, Around}
+use Rattle.ob_lowering.specs.ExpressionTerms.{Lowered, LoweredArguments, LoweredCall, temporary, LowersName, operand, LowersExpression, LowersArguments, LowersDiscarded, LowersPlainCall}
 use Rattle.ob_lowering.specs.GivenTerms.{LoweredGiven, LowersGiven}
 use Rattle.ob_lowering_meaning.proofs.Slots.{Used, used_left, used_right, used_split, free_differs, free_by, slots_made, made_append, Within, within_use, free_within}
 

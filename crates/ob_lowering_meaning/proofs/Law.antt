@@ -1,21 +1,19 @@
 -- Lowering keeps the meaning.
-use Rattle.std.proofs.Common.{◌≡◌, ℕ, zero, suc, ◌≤◌, List, ◌∷◌, length, Option, Some, None, refl, sym, ap, ◌∙◌, subst}
-use Rattle.std.specs.Prelude.{IfSome, IsSomeAnd}
-use Rattle.ob_base.specs.declared.id.ContractId.{ContractId}
-use Rattle.ob_base.specs.declared.id.TxId.{TxId}
+use Rattle.std.proofs.Common.{◌≡◌, ℕ, zero, suc, ◌∷◌, length, Option, Some, None, refl, sym, ap, subst}
+use Rattle.std.specs.Prelude.{IfSome}
 use Rattle.ob_table.specs.Tables.{contract_at, signature_of}
 use Rattle.ob_table.specs.declared.contract.Signature.{Signature}
 use Rattle.ob_typing.specs.WellMade.{constructor_at}
-use Rattle.ob_content.specs.Values.{Value, reference, nothing}
-use Rattle.ob_content.specs.Worlds.{World, with_some, unit}
-use Rattle.ob_meaning.specs.Frames.{of_object, of_new, Calls}
+use Rattle.ob_content.specs.Values.{reference, nothing}
+use Rattle.ob_content.specs.Worlds.{with_some, unit}
+use Rattle.ob_meaning.specs.Frames.{of_object, Calls}
 use Rattle.ob_meaning.specs.Bodies.{comes_in}
 use Rattle.ob_meaning.specs.Calls.{call_after_unit, call_with, no_calls, call_at}
 use Rattle.ob_silica_steps.specs.Binding.{all_parameters}
-use Rattle.ob_silica_steps.specs.Configurations.{SilicaProgram, HandleNote, Next}
+use Rattle.ob_silica_steps.specs.Configurations.{SilicaProgram}
 use Rattle.ob_silica_steps.specs.Entering.{calls_object}
 use Rattle.ob_silica_steps.specs.Here.{if_there, with_unit}
-use Rattle.ob_silica_steps.specs.Starting.{first_notes, pass_all, alone, started_call, started_new}
+use Rattle.ob_silica_steps.specs.Starting.{first_notes, pass_all, alone, started_call}
 use Rattle.ob_silica_steps.specs.Steps.{then_steps, steps}
 use Rattle.ob_lowering_meaning.specs.Law.{IsLoweredProgram, EndsAs, CallsKeepMeaning, NewsKeepMeaning}
 use Rattle.ob_lowering_meaning.proofs.Calling.{CallsRun}
@@ -27,7 +25,7 @@ use Rattle.ob_lowering_meaning.proofs.Depth.{Fitting, calls_run, no_less, less_o
 use Rattle.ob_lowering_meaning.proofs.Outside.{first_noted, call_over}
 use Rattle.ob_lowering_meaning.proofs.OutsideNew.{new_over}
 
-fitting : (program : SilicaProgram) → IsLoweredProgram program → Fitting program
+pub fitting : (program : SilicaProgram) → IsLoweredProgram program → Fitting program
 fitting program is = record {
   bodies = bodies_pair program is.lowered is.made;
   agrees = agrees program.table is.table;

@@ -1,22 +1,21 @@
 -- How a call comes back: what was lent goes back, and the caller goes on.
-use Rattle.std.proofs.Common.{◌≡◌, ◌≢◌, ℕ, ◌≤◌, Bool, true, false, List, [], ◌∷◌, Option, Some, None, refl, sym, ap, ◌∙◌, subst, arith, ◌⊎◌, inl, inr}
+use Rattle.std.proofs.Common.{◌≡◌, ◌≢◌, ℕ, ◌≤◌, List, [], ◌∷◌, Option, Some, None, refl, sym, ap, ◌∙◌, subst, arith, ◌⊎◌}
 use Rattle.std.specs.Prelude.{option_map, IsSome}
 use Rattle.ob_perm.specs.Permissions.{unowned}
-use Rattle.ob_table.specs.Tables.{ClassTable, contract_at}
+use Rattle.ob_table.specs.Tables.{contract_at}
 use Rattle.ob_content.specs.Values.{Value}
 use Rattle.ob_content.specs.Contents.{object_at}
 use Rattle.ob_content.specs.Worlds.{World, Outcome, gives, aborts, wrong, ◌>>=◌}
-use Rattle.ob_content.specs.Marks.{leave}
 use Rattle.ob_meaning.specs.Frames.{Calls}
 use Rattle.ob_silica.specs.Terms.{SilicaTerms}
 use Rattle.ob_silica_steps.specs.Cells.{Cell, noted, value_in}
-use Rattle.ob_silica_steps.specs.Configurations.{SilicaProgram, Slots, Notes, How, by_receiver, by_this, by_new, Frame, Rest, Loan, Waiting, Control, runs, leaves, Configuration, goes}
-use Rattle.ob_silica_steps.specs.Here.{Here, at, self_of}
+use Rattle.ob_silica_steps.specs.Configurations.{SilicaProgram, Slots, Notes, How, by_receiver, by_this, by_new, Rest, Loan, Waiting, runs, leaves, Configuration, goes}
+use Rattle.ob_silica_steps.specs.Here.{Here, self_of}
 use Rattle.ob_silica_steps.specs.Returning.{leaves_progress, with_result, without_owner, returned_to}
 use Rattle.ob_lowering_meaning.proofs.Slots.{Used}
-use Rattle.ob_lowering_meaning.proofs.Runs.{Leads, Ends, stays, leads_on, one_step, ends_then}
-use Rattle.ob_lowering_meaning.proofs.Standing.{Setting, config, shape, Later, Noted, Stands, Comes, later_on, at_same, at_other, none_some, some_same, self_is, stands_on}
-use Rattle.ob_lowering_meaning.proofs.Changes.{Alike, at_alike, permission_alike, noted_quiet, Quiet}
+use Rattle.ob_lowering_meaning.proofs.Runs.{Leads, Ends, leads_on, one_step}
+use Rattle.ob_lowering_meaning.proofs.Standing.{Setting, config, shape, Later, Stands, later_on, at_same, at_other, none_some, some_same, self_is, stands_on}
+use Rattle.ob_lowering_meaning.proofs.Changes.{at_alike, permission_alike, noted_quiet}
 use Rattle.ob_lowering_meaning.proofs.Filling.{self_value}
 use Rattle.ob_lowering_meaning.proofs.Branches.{quiet_same}
 use Rattle.ob_lowering_meaning.proofs.Calling.{Called, CallsRun}
@@ -79,16 +78,16 @@ loans_back program cs w stack cell (loan ∷ loans) slots t =
       }))) self rest.leads);
     }
 
-leave_objects : (how : How) (n : ℕ) (w : World) → ((leaves_progress how n w).objects ≡ w.objects) × ((leaves_progress how n w).fuel ≡ w.fuel)
+pub leave_objects : (how : How) (n : ℕ) (w : World) → ((leaves_progress how n w).objects ≡ w.objects) × ((leaves_progress how n w).fuel ≡ w.fuel)
 leave_objects by_receiver n w = (refl, refl)
 leave_objects by_this n w = (refl, refl)
 leave_objects by_new n w = (refl, refl)
 
-result_others : (k : Option ℕ) (cell : Option Cell) (slots : Slots) (n : ℕ) → k ≢ Some n → shape (with_result k cell slots n) ≡ shape (slots n)
+pub result_others : (k : Option ℕ) (cell : Option Cell) (slots : Slots) (n : ℕ) → k ≢ Some n → shape (with_result k cell slots n) ≡ shape (slots n)
 result_others None cell slots n d = refl
 result_others (Some j) cell slots n d = ap shape (at_other slots j cell n (λ e. d (ap Some (sym e))))
 
-result_there : (k : Option ℕ) (cell : Option Cell) (slots : Slots) (n : ℕ) → k ≡ Some n → with_result k cell slots n ≡ cell
+pub result_there : (k : Option ℕ) (cell : Option Cell) (slots : Slots) (n : ℕ) → k ≡ Some n → with_result k cell slots n ≡ cell
 result_there None cell slots n e = absurd (none_some e)
 result_there (Some j) cell slots n e = ap (with_result (Some j) cell slots) (sym (some_same j n e)) ∙ at_same slots j cell
 

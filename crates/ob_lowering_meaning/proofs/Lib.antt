@@ -37,3 +37,4 @@ pub mod Pairing
 pub mod Outside
 pub mod OutsideNew
 pub mod Law
+pub mod Bodies

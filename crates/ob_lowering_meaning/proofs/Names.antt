@@ -1,30 +1,25 @@
 -- The names of a body, and where their values stand.
-use Rattle.std.proofs.Common.{◌≡◌, ◌≢◌, ℕ, Bool, true, false, ◌&&◌, List, [], ◌∷◌, Option, Some, None, refl, sym, ap, ◌∙◌, subst}
-use Rattle.std.specs.Prelude.{option_map, option_and_then, is_some, slice_get, if◌then◌else◌}
+use Rattle.std.proofs.Common.{◌≡◌, ◌≢◌, ℕ, Bool, true, false, ◌&&◌, List, Option, Some, None, refl, sym, ap, ◌∙◌}
+use Rattle.std.specs.Prelude.{option_map, option_and_then, is_some, if◌then◌else◌}
 use Rattle.std.specs.Option.{option_map_or}
-use Rattle.ob_table.specs.Tables.{ClassTable, contract_at, field_at}
-use Rattle.ob_table.specs.declared.contract.Contract.{Contract}
-use Rattle.ob_table.specs.declared.seen.LocalKind.{LocalKind}
-use Rattle.ob_table.specs.declared.seen.LocalKind.TheVariants.{Reference}
+use Rattle.ob_table.specs.Tables.{ClassTable, contract_at}
 use Rattle.ob_table.specs.declared.seen.Seen.{Seen}
 use Rattle.ob_table.specs.declared.seen.Seen.TheVariants.{This as ThisSeen, Local, Field as FieldSeen}
-use Rattle.ob_typing.specs.WellMade as made
-use Rattle.ob_typing.specs.WellMade.{kind_of_table, local_kind, kind_of_seen, is_reference}
-use Rattle.ob_content.specs.Values.{Value, reference}
-use Rattle.ob_content.specs.Objects.{Object, has_field}
+use Rattle.ob_typing.specs.WellMade.{local_kind, kind_of_seen, is_reference}
+use Rattle.ob_content.specs.Values.{Value}
+use Rattle.ob_content.specs.Objects.{has_field}
 use Rattle.ob_content.specs.Contents.{object_at}
-use Rattle.ob_content.specs.Worlds.{World}
 use Rattle.ob_meaning.specs.Frames as meaning
 use Rattle.ob_meaning.specs.GoingWrong.{is_readable}
 use Rattle.ob_meaning.specs.Naming.{value_of_field, value_seen, kind_seen}
 use Rattle.ob_silica.specs.declared.place.Place.{Place}
 use Rattle.ob_silica.specs.declared.place.Place.TheVariants.{This, Slot, Field}
-use Rattle.ob_silica_steps.specs.Cells.{Cell, Location, slot, field, location_of, value_in}
+use Rattle.ob_silica_steps.specs.Cells.{Cell, field, location_of, value_in}
 use Rattle.ob_silica_steps.specs.Configurations.{Slots}
-use Rattle.ob_silica_steps.specs.Here.{Here, self_of, self, field_value, read}
+use Rattle.ob_silica_steps.specs.Here.{Here, self, field_value, read}
 use Rattle.ob_lowering.specs.Points.{Variable, locals_of, slot_of, place_of}
-use Rattle.ob_lowering_meaning.proofs.Slots.{Used, Within}
-use Rattle.ob_lowering_meaning.proofs.Standing.{Setting, frame_in, made_in, shape, Kept, Stands, this_value, self_is, none_some, some_same, same_value, Comes}
+use Rattle.ob_lowering_meaning.proofs.Slots.{Used}
+use Rattle.ob_lowering_meaning.proofs.Standing.{Setting, frame_in, made_in, shape, Kept, Stands, this_value, self_is, none_some, some_same, same_value}
 
 -- a visible variable: its value stands in its slot, with its kind if it is that of a reference
 pub record Held (vs : List Variable) (used : List ℕ) (ls : meaning.Locals) (s : Slots) (n k : ℕ) : Type 0 where

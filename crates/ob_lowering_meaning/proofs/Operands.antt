@@ -1,46 +1,39 @@
 -- The terms of an expression do what the expression does, whatever calls do that their forms do.
-use Rattle.std.proofs.Common.{◌≡◌, ◌≢◌, ℕ, Bool, true, false, List, [], ◌∷◌, ◌++◌, map, length, Option, Some, None, refl, sym, ap, ◌∙◌, subst, ◌⊎◌, inl, inr, true≢false}
+use Rattle.std.proofs.Common.{◌≡◌, ℕ, Bool, true, false, List, [], ◌∷◌, length, Option, Some, None, refl, sym, ap, ◌∙◌, subst, true≢false}
 use Rattle.std.specs.Prelude.{option_map, option_and_then, IsSome, IsSomeAnd, ⊤, if◌then◌else◌}
 use Rattle.std.specs.Option.{option_map_or}
 use Rattle.ob_base.specs.declared.fault.Span.{Span}
 use Rattle.ob_base.specs.declared.id.ContractId.{ContractId}
 use Rattle.ob_base.specs.declared.id.TxId.{TxId}
-use Rattle.ob_base.specs.declared.operator.Operator.{Operator}
-use Rattle.ob_base.specs.declared.operator.Operator.TheVariants.{Add, Sub, Mul, Div, Rem, Equal, NotEqual, Less, LessEqual, Greater, GreaterEqual, And, Or, Not, Negate}
-use Rattle.ob_table.specs.Expressions.{Expression, resolved_number, resolved_text, resolved_bool, resolved_seen, resolved_unary, resolved_binary, resolved_call, resolved_new, Arguments, no_arguments, and_argument}
-use Rattle.ob_table.specs.Tables.{ClassTable, contract_at, signature_of}
+use Rattle.ob_table.specs.Expressions.{Expression, resolved_number, resolved_text, resolved_bool, resolved_seen, resolved_unary, resolved_binary, resolved_call, resolved_new}
+use Rattle.ob_table.specs.Tables.{ClassTable, contract_at}
 use Rattle.ob_table.specs.declared.contract.Signature.{Signature}
 use Rattle.ob_table.specs.declared.seen.LocalKind.{LocalKind}
-use Rattle.ob_table.specs.declared.seen.Seen.{Seen}
 use Rattle.ob_table.specs.declared.seen.SeenAt.{SeenAt}
 use Rattle.ob_typing.specs.WellMade as made
 use Rattle.ob_typing.specs.WellMade.{kind_of_table, local_kind, kind_of_seen, is_reference, IsMade, AreMade, HasOperands, IsCalled, Pass, constructor_at, kind_of_expression}
-use Rattle.ob_content.specs.Values.{Value, int_value, bool_value, text_value, reference, referred}
-use Rattle.ob_content.specs.Operations.{Operated, operated, overflows, other_kinds, operate}
-use Rattle.ob_content.specs.Worlds.{World, Outcome, gives, aborts, wrong, ◌>>=◌, with_some}
+use Rattle.ob_content.specs.Values.{Value, referred}
+use Rattle.ob_content.specs.Worlds.{Outcome, gives, aborts, wrong, ◌>>=◌, with_some}
 use Rattle.ob_meaning.specs.Frames as meaning
 use Rattle.ob_meaning.specs.Frames.{known, named, of_object, of_this, of_new, Calls}
-use Rattle.ob_meaning.specs.Naming.{value_seen, object_seen, kind_seen, read as read_name, reference_name, value_of_operand, values_of_operands}
-use Rattle.ob_meaning.specs.Expressions.{after_operation, Settled, decides, gives_right, works, unfit, settled, settled_by_and, settled_by_or, after_left, operand_or, with_result, callee_of, started, constructed, value_of, operands_of, operand_of}
-use Rattle.ob_silica.specs.Terms.{SilicaForm, const_form, op_form, copy_form, new_form, call_form, call_this_form, if_form, SilicaTerms, no_terms, and_term, one_term, then_terms}
+use Rattle.ob_meaning.specs.Naming.{object_seen, value_of_operand, values_of_operands}
+use Rattle.ob_meaning.specs.Expressions.{operand_or, with_result, started, constructed, value_of, operand_of}
+use Rattle.ob_silica.specs.Terms.{SilicaForm, new_form, call_form, call_this_form, SilicaTerms, and_term, then_terms}
 use Rattle.ob_silica.specs.declared.place.Operand.{Operand}
 use Rattle.ob_silica.specs.declared.place.Place.{Place}
-use Rattle.ob_silica.specs.declared.place.Place.TheVariants.{This, Slot, Field}
-use Rattle.ob_silica.specs.declared.place.Constant.TheVariants.{Int, Bool as BoolConstant, Text}
-use Rattle.ob_silica_steps.specs.Cells.{Cell, plain_cell, constant_cell, kind_of_operator, located, location_of, all_located, value_in, slot}
-use Rattle.ob_silica_steps.specs.Configurations.{SilicaProgram, Slots, Notes, Rest, plain_end, Control, runs, Configuration, Next, goes, stuck}
-use Rattle.ob_silica_steps.specs.Here.{Here, at, read, set_slot, goes_to, if_there}
-use Rattle.ob_silica_steps.specs.Steps.{step, act}
-use Rattle.ob_silica_steps.specs.Straight.{with_operated, with_truth, copy_to}
-use Rattle.ob_lowering.specs.Points.{IsFree, Temporary, in_use, Variable, locals_of, place_of, Around}
-use Rattle.ob_lowering.specs.ExpressionTerms.{Lowered, LoweredArguments, operand, slot_operand, kind_around, temporary, into, LowersName, IsCall, calls_this, calls_other, copied_into, when_true, when_false, LowersExpression, LowersArguments}
-use Rattle.ob_lowering_meaning.proofs.Slots.{Used, used_left, used_right, free_differs, slots_made, made_append, Within, within_self, within_on, within_use, within_first, within_second, free_within}
-use Rattle.ob_lowering_meaning.proofs.Runs.{Leads, Ends, stays, leads_on, one_step, ends_map, ends_later, join}
-use Rattle.ob_lowering_meaning.proofs.Standing.{Setting, frame_in, made_in, config, shape, Kept, Later, Noted, Stands, Comes, Reached, later_self, kept_self, kept_fewer, at_same, at_other, same_value, none_some, some_same, stands_on, comes_self, comes_on, comes_fewer, reached_closed, bind}
+use Rattle.ob_silica.specs.declared.place.Place.TheVariants.{Slot}
+use Rattle.ob_silica_steps.specs.Cells.{located, all_located, value_in}
+use Rattle.ob_silica_steps.specs.Configurations.{SilicaProgram, Rest, runs, Configuration}
+use Rattle.ob_silica_steps.specs.Here.{Here, read}
+use Rattle.ob_lowering.specs.Points.{IsFree, in_use, Variable, locals_of, place_of, Around}
+use Rattle.ob_lowering.specs.ExpressionTerms.{Lowered, LoweredArguments, operand, LowersName, IsCall, calls_this, calls_other, LowersExpression}
+use Rattle.ob_lowering_meaning.proofs.Slots.{Used, free_differs, Within}
+use Rattle.ob_lowering_meaning.proofs.Runs.{Ends, stays}
+use Rattle.ob_lowering_meaning.proofs.Standing.{Setting, frame_in, made_in, config, Kept, Stands, Comes, Reached, kept_fewer, none_some, some_same, stands_on, comes_self}
 use Rattle.ob_lowering_meaning.proofs.Names.{Visible, visible_on, name_read, name_kind}
-use Rattle.ob_lowering_meaning.proofs.Plain.{Plain, operands_plain, unary_plain, as_many}
+use Rattle.ob_lowering_meaning.proofs.Plain.{Plain}
 use Rattle.ob_lowering_meaning.proofs.Calling.{read_values, Called, Passes, Answers, CallsRun}
-use Rattle.ob_lowering_meaning.proofs.Values.{InSlot, Result, in_slot_on, in_slot_wide, in_slot, read_in_slot, read_one, used_last, sets, op_runs, copy_runs}
+use Rattle.ob_lowering_meaning.proofs.Values.{InSlot, Result, in_slot_on, in_slot_wide, in_slot, read_in_slot}
 
 -- an operand stands for what the operand of a term does
 abbrev pub MeansBy : List Variable → meaning.Operand → Operand → List ℕ → Here → Type 0

@@ -1,67 +1,51 @@
 -- A call from outside by its terms.
-use Rattle.std.proofs.Common.{◌≡◌, ◌≢◌, ℕ, zero, suc, ◌+◌, ◌<◌, ◌≤◌, Bool, true, false, ◌&&◌, List, [], ◌∷◌, map, length, Option, Some, None, refl, sym, ap, ◌∙◌, subst, arith, true≢false, ◌⊎◌, inl, inr}
-use Rattle.std.specs.Prelude.{option_map, option_and_then, IsSome, IsSomeAnd, is_some, if◌then◌else◌}
+use Rattle.std.proofs.Common.{◌≡◌, ◌≢◌, ℕ, zero, suc, ◌≤◌, Bool, true, false, ◌&&◌, List, [], ◌∷◌, map, length, Option, Some, None, refl, sym, ap, ◌∙◌, subst, arith, true≢false}
+use Rattle.std.specs.Prelude.{option_and_then, if◌then◌else◌}
 use Rattle.std.specs.Option.{option_map_or}
-use Rattle.ob_base.specs.declared.fault.Span.{Span}
 use Rattle.ob_base.specs.declared.id.ContractId.{ContractId}
 use Rattle.ob_base.specs.declared.id.TxId.{TxId}
 use Rattle.ob_table.specs.Tables.{ClassTable, contract_at, signature_at, signature_of}
 use Rattle.ob_table.specs.declared.contract.Contract.{Contract}
 use Rattle.ob_table.specs.declared.contract.Kind.TheVariants as typed
-use Rattle.ob_table.specs.declared.contract.Param.{Param}
 use Rattle.ob_table.specs.declared.contract.Signature.{Signature}
 use Rattle.ob_table.specs.declared.seen.LocalKind.TheVariants.{Reference}
-use Rattle.ob_content.specs.Values.{Value, int_value, bool_value, text_value, reference, referred, nothing}
+use Rattle.ob_content.specs.Values.{Value, reference, nothing}
 use Rattle.ob_content.specs.Objects.{Object}
 use Rattle.ob_content.specs.Contents.{object_at}
-use Rattle.ob_content.specs.Worlds.{World, by_reentry, read_object, unless_aborted, with_object, Outcome, gives, ◌>>=◌, if_right, with_some, unit, with_unit_taken}
-use Rattle.ob_content.specs.Marks.{comes_into, is_in_progress, enter, leave}
+use Rattle.ob_content.specs.Worlds.{World, by_reentry, read_object, Outcome, gives, ◌>>=◌, with_some, unit, with_unit_taken}
+use Rattle.ob_content.specs.Marks.{comes_into, is_in_progress, enter}
 use Rattle.ob_meaning.specs.Frames.{of_object, Calls}
-use Rattle.ob_meaning.specs.GoingWrong.{is_within, is_held_within, may_pass, may_begin}
+use Rattle.ob_meaning.specs.GoingWrong.{is_within, is_held_within, may_begin}
 use Rattle.ob_meaning.specs.Bodies.{comes_in}
-use Rattle.ob_meaning.specs.Calls.{answering, run_on, entered as entered_frame, dispatch, call_after_unit, call_with}
-use Rattle.ob_silica.specs.Terms.{SilicaTerms, and_term, call_form}
-use Rattle.ob_silica.specs.declared.place.Operand.{Operand}
-use Rattle.ob_silica_steps.specs.Cells.{Location, all_located, located, slot, this, Cell, value_in}
-use Rattle.ob_silica_steps.specs.Configurations.{SilicaProgram, How, abort as abort_next, by_receiver, by_this, by_new, Rest, Waiting, Control, runs, Configuration, Next, goes, stuck}
-use Rattle.ob_silica_steps.specs.Here.{Here, read, at, if_there, with_unit}
-use Rattle.ob_silica_steps.specs.Binding.{Parameter, parameter_of, parameters, all_parameters, bound_cell, Bound, unbound, bind_all, slot_loans, without_field_loans}
-use Rattle.ob_silica_steps.specs.Entering.{Entered, are_within, calls_object, begins_on, entered_on, this_cell, enters}
-use Rattle.ob_silica_steps.specs.Steps.{step}
-use Rattle.ob_silica_steps.specs.Calling.{entered_with}
+use Rattle.ob_meaning.specs.Calls.{answering, run_on, entered as entered_frame, call_after_unit, call_with}
+use Rattle.ob_silica_steps.specs.Configurations.{SilicaProgram, How, abort as abort_next, by_receiver, by_this, by_new, runs, Configuration, Next, goes, stuck}
+use Rattle.ob_silica_steps.specs.Here.{Here, at, if_there, with_unit}
+use Rattle.ob_silica_steps.specs.Binding.{Parameter, parameter_of, all_parameters, bound_cell}
+use Rattle.ob_silica_steps.specs.Entering.{Entered, are_within, calls_object, begins_on, this_cell, enters}
 use Rattle.ob_lowering_meaning.proofs.Slots.{Used}
-use Rattle.ob_lowering_meaning.proofs.Runs.{Leads, Ends, one_step}
-use Rattle.ob_lowering_meaning.proofs.Standing.{Setting, frame_in, config, shape, shape_value, Stands, Later, kept_self, none_some, this_value, at_same}
-use Rattle.ob_lowering_meaning.proofs.Changes.{noted_quiet, quiet_later, Quiet}
-use Rattle.ob_lowering_meaning.proofs.Binding.{HandedOver, bind_stuck, binds, come_all, come_args, quiet_all, bound_slots, bound_below, bound_holds, read_length, HoldsFrom}
+use Rattle.ob_lowering_meaning.proofs.Runs.{Ends, one_step}
+use Rattle.ob_lowering_meaning.proofs.Standing.{Setting, config, shape, shape_value, Stands, at_same}
+use Rattle.ob_lowering_meaning.proofs.Changes.{noted_quiet, Quiet}
+use Rattle.ob_lowering_meaning.proofs.Binding.{come_all, come_args, quiet_all, bound_slots, bound_holds, HoldsFrom}
 use Rattle.ob_lowering_meaning.proofs.Beginning.{within_args}
-use Rattle.ob_lowering_meaning.proofs.Calling.{read_values, Called, Passes, Answers, CallsRun}
-use Rattle.ob_lowering_meaning.proofs.Expressions.{called_so}
+use Rattle.ob_lowering_meaning.proofs.Calling.{CallsRun}
 use Rattle.ob_lowering_meaning.proofs.Returning.{gives_back, plain_finishes}
-use Rattle.ob_lowering_meaning.proofs.Leaving.{called_from}
-use Rattle.ob_lowering_meaning.proofs.Branches.{then_gives}
 use Rattle.ob_lowering_meaning.proofs.Entering.{BodyPair, neither, pair, terms_run, fixed_slots, zero_fixed, body_ends, transaction_is}
 use Rattle.ob_lowering_meaning.proofs.Ending.{Finishes}
 use Rattle.ob_silica_steps.specs.Returning.{goes_back}
 use Rattle.ob_silica_steps.specs.Cells.{Known}
 use Rattle.ob_silica_steps.specs.Configurations.{Slots}
-use Rattle.ob_typing.specs.Conditions.{asked_of}
-use Rattle.ob_base.specs.declared.permission.Perm.{Perm}
-use Rattle.ob_lowering_meaning.proofs.CallsThis.{first_read, parameters_length, located_length, waiting}
-use Rattle.ob_lowering_meaning.proofs.Changes.{quiet_read, quiet_on}
-use Rattle.ob_lowering_meaning.proofs.Branches.{read_objects}
-use Rattle.ob_lowering_meaning.proofs.Standing.{at_other, some_same, later_on}
+use Rattle.ob_lowering_meaning.proofs.CallsThis.{parameters_length}
+use Rattle.ob_lowering_meaning.proofs.Changes.{quiet_read}
+use Rattle.ob_lowering_meaning.proofs.Standing.{at_other}
 use Rattle.ob_lowering_meaning.proofs.Binding.{holds_on}
-use Rattle.ob_lowering_meaning.proofs.Values.{there, not_there}
-use Rattle.ob_meaning.specs.Calls.{no_calls, call_at}
-use Rattle.ob_silica_steps.specs.Configurations.{Notes, HandleNote, ended, aborted, leaves}
+use Rattle.ob_silica_steps.specs.Configurations.{Notes, HandleNote, ended, leaves}
 use Rattle.ob_silica_steps.specs.Returning.{leaves_progress}
 use Rattle.ob_silica_steps.specs.Steps.{then_steps, steps}
 use Rattle.ob_silica_steps.specs.Here.{self_of, field_of, with_fuel_left}
 use Rattle.ob_silica_steps.specs.Starting.{first_notes, declared_note, no_note, pass_all, alone, started_call}
 use Rattle.ob_content.specs.Worlds.{aborts, wrong, with_fuel}
 use Rattle.ob_table.specs.declared.contract.Field.{Field}
-use Rattle.ob_typing.specs.WellMade.{kind_of_table}
 use Rattle.ob_lowering_meaning.specs.Law.{EndsAs}
 use Rattle.ob_lowering_meaning.proofs.Runs.{leads_on}
 use Rattle.ob_lowering_meaning.proofs.Standing.{Noted, self_is, stands_on}

@@ -1,54 +1,37 @@
 -- A `new` from outside by its terms.
-use Rattle.std.proofs.Common.{◌≡◌, ◌≢◌, ℕ, zero, suc, ◌+◌, ◌<◌, ◌≤◌, Bool, true, false, ◌&&◌, List, [], ◌∷◌, map, length, Option, Some, None, refl, sym, ap, ◌∙◌, subst, arith, true≢false, ◌⊎◌, inl, inr}
-use Rattle.std.specs.Prelude.{option_map, option_and_then, IsSome, IsSomeAnd, is_some, ⊤, if◌then◌else◌}
-use Rattle.std.specs.Option.{option_map_or}
-use Rattle.ob_base.specs.declared.fault.Span.{Span}
+use Rattle.std.proofs.Common.{◌≡◌, ◌≢◌, ℕ, zero, suc, ◌≤◌, Bool, true, false, List, [], ◌∷◌, map, length, Some, None, refl, sym, ap, ◌∙◌, subst, arith, ◌⊎◌, inl, inr}
+use Rattle.std.specs.Prelude.{option_and_then, if◌then◌else◌}
 use Rattle.ob_base.specs.declared.id.ContractId.{ContractId}
 use Rattle.ob_base.specs.declared.id.TxId.{TxId}
 use Rattle.ob_table.specs.Tables.{ClassTable, contract_at, signature_at, signature_of}
 use Rattle.ob_table.specs.declared.contract.Contract.{Contract}
-use Rattle.ob_table.specs.declared.contract.Kind.TheVariants as typed
-use Rattle.ob_table.specs.declared.contract.Param.{Param}
 use Rattle.ob_table.specs.declared.contract.Signature.{Signature}
-use Rattle.ob_table.specs.declared.seen.LocalKind.TheVariants.{Reference}
-use Rattle.ob_content.specs.Values.{Value, reference, nothing}
+use Rattle.ob_content.specs.Values.{Value, nothing}
 use Rattle.ob_content.specs.Objects.{Object}
 use Rattle.ob_content.specs.Contents.{object_at}
-use Rattle.ob_content.specs.Worlds.{World, objects_most, next_item, by_full, with_read, make_object, unless_aborted, with_object, Outcome, gives, aborts, wrong, ◌>>=◌, if_right, with_some, unit, with_unit_taken}
-use Rattle.ob_content.specs.Marks.{comes_into}
-use Rattle.ob_meaning.specs.Frames.{of_new, Calls, Flow, first_locals}
-use Rattle.ob_meaning.specs.GoingWrong.{may_pass, may_return, is_finished}
-use Rattle.ob_meaning.specs.Bodies.{args_come, this_comes, result_of}
-use Rattle.ob_meaning.specs.Calls.{unfinished, constructing, construct, new_after_unit, call_with}
-use Rattle.ob_silica.specs.Terms.{SilicaTerms, and_term, new_form}
-use Rattle.ob_silica.specs.declared.place.Operand.{Operand}
-use Rattle.ob_silica_steps.specs.Cells.{Location, all_located, slot, this, value_in}
-use Rattle.ob_silica_steps.specs.Configurations.{SilicaProgram, How, abort as abort_next, by_receiver, by_this, by_new, Rest, Waiting, Control, runs, Configuration, Next, goes, stuck}
+use Rattle.ob_content.specs.Worlds.{World, objects_most, next_item, by_full, with_read, make_object, with_some, unit, with_unit_taken}
+use Rattle.ob_meaning.specs.Frames.{of_new, Calls}
+use Rattle.ob_meaning.specs.GoingWrong.{may_pass}
+use Rattle.ob_meaning.specs.Bodies.{args_come}
+use Rattle.ob_meaning.specs.Calls.{unfinished, new_after_unit, call_with}
+use Rattle.ob_silica_steps.specs.Configurations.{SilicaProgram, abort as abort_next, by_new, Next, stuck}
 use Rattle.ob_silica_steps.specs.Here.{Here, field_of, at, if_there, with_unit}
-use Rattle.ob_silica_steps.specs.Binding.{Parameter, parameter_of, parameters, all_parameters, bound_cell, Bound, unbound, bind_all, slot_loans, without_field_loans}
+use Rattle.ob_silica_steps.specs.Binding.{Parameter, parameter_of, parameters}
 use Rattle.ob_silica_steps.specs.Entering.{Entered, are_within, new_cell, entered_new, makes_object, enters}
-use Rattle.ob_silica_steps.specs.Steps.{step}
-use Rattle.ob_silica_steps.specs.Calling.{constructor_id, entered_with}
-use Rattle.ob_lowering_meaning.proofs.Slots.{Used}
-use Rattle.ob_lowering_meaning.proofs.Runs.{Leads, Ends, one_step}
-use Rattle.ob_lowering_meaning.proofs.Standing.{Setting, frame_in, config, shape, shape_value, Stands, Later, kept_self, none_some, this_value, at_same}
-use Rattle.ob_lowering_meaning.proofs.Changes.{noted_quiet, quiet_later, Quiet}
-use Rattle.ob_lowering_meaning.proofs.Binding.{HandedOver, bind_stuck, binds, come_all, come_args, quiet_all, bound_slots, bound_below, bound_holds, read_length, HoldsFrom}
+use Rattle.ob_silica_steps.specs.Calling.{constructor_id}
+use Rattle.ob_lowering_meaning.proofs.Standing.{Setting, shape, Stands, none_some, at_same}
+use Rattle.ob_lowering_meaning.proofs.Changes.{noted_quiet, Quiet}
+use Rattle.ob_lowering_meaning.proofs.Binding.{come_all, come_args, quiet_all, bound_slots, bound_holds, HoldsFrom}
 use Rattle.ob_lowering_meaning.proofs.Beginning.{within_args}
-use Rattle.ob_lowering_meaning.proofs.Calling.{read_values, Called, Passes, Answers, CallsRun}
-use Rattle.ob_lowering_meaning.proofs.Expressions.{called_so}
+use Rattle.ob_lowering_meaning.proofs.Calling.{CallsRun}
 use Rattle.ob_lowering_meaning.proofs.Returning.{gives_object, new_finishes}
-use Rattle.ob_lowering_meaning.proofs.Leaving.{called_from}
 use Rattle.ob_lowering_meaning.proofs.Branches.{then_gives}
-use Rattle.ob_lowering_meaning.proofs.Entering.{BodyPair, fixed_slots, zero_fixed, body_ends, entered_runs, back_test, unit_called}
+use Rattle.ob_lowering_meaning.proofs.Entering.{BodyPair, fixed_slots, zero_fixed, body_ends}
 use Rattle.std.specs.Prelude.{◌++◌, slice_get, nat_le}
-use Rattle.ob_table.specs.Statements.{ResolvedBody}
-use Rattle.ob_table.specs.Tables.{body_at}
 use Rattle.ob_typing.specs.WellMade.{kind_of_table, constructor_at}
 use Rattle.ob_table.specs.declared.contract.Field.{Field}
-use Rattle.ob_meaning.specs.Statements.{run_all}
-use Rattle.ob_lowering_meaning.proofs.CallsThis.{parameters_length, located_length, waiting}
-use Rattle.ob_lowering_meaning.proofs.Standing.{Noted, at_other, later_on, some_same}
+use Rattle.ob_lowering_meaning.proofs.CallsThis.{parameters_length}
+use Rattle.ob_lowering_meaning.proofs.Standing.{Noted, at_other}
 use Rattle.ob_lowering_meaning.proofs.Binding.{holds_on}
 use Rattle.ob_content.specs.Worlds.{with_fuel}
 use Rattle.ob_silica_steps.specs.Configurations.{Slots, Notes}
@@ -56,7 +39,7 @@ use Rattle.ob_silica_steps.specs.Steps.{then_steps, steps}
 use Rattle.ob_silica_steps.specs.Here.{with_fuel_left}
 use Rattle.ob_silica_steps.specs.Starting.{pass_all, alone, started_new}
 use Rattle.ob_lowering_meaning.specs.Law.{EndsAs}
-use Rattle.ob_lowering_meaning.proofs.CallsNew.{at_end, before_end, made_or, construct_is}
+use Rattle.ob_lowering_meaning.proofs.CallsNew.{at_end, made_or, construct_is}
 use Rattle.ob_lowering_meaning.proofs.Outside.{passes, body_over}
 
 module _ (program : SilicaProgram) (n : ℕ) (inner : Calls) (inner_runs : (m : ℕ) → n ≡ suc m → CallsRun program m inner)
@@ -140,7 +123,7 @@ module _ (program : SilicaProgram) (n : ℕ) (inner : Calls) (inner_runs : (m : 
       made next false true eb ec e =
           let run = inner_runs m en in
           let o = body_ends program m inner run cs eown (gives_object table cs vs) vs (make_object w2 (unfinished contract)) in
-          rw (eb, ec, construct_is table inner cs vs (make_object w2 (unfinished contract)) refl refl, sym (then_gives o))
+          rw (eb, ec, construct_is table inner cs vs (make_object w2 (unfinished contract)) refl, sym (then_gives o))
           (body_over program m inner run cs eown (gives_object table cs vs) vs h0 next refl (bodies contract own constructor_id g eown eg) stands holds
           (new_finishes program m inner run cs eown h0.slots vs (fixed_slots g) (zero_fixed g) refl signed holds refl (constructors contract own g eown is_object eg))
           (e ∙ ap (λ b. if b then abort_next by_full w2 else if are_within table w2.objects S 1 (parameters g) then enters program (entered_new (E w2) contract) contract constructor_id by_new false else stuck) eb

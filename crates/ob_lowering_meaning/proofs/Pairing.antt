@@ -1,22 +1,21 @@
 -- The bodies of a class table and what they are lowered to.
-use Rattle.std.proofs.Common.{◌≡◌, ℕ, zero, suc, ◌<◌, Bool, true, false, ◌&&◌, List, [], ◌∷◌, length, Option, Some, None, refl, sym, ap, ◌∙◌, subst, arith, eqb-true, true≢false, cond}
-use Rattle.std.specs.Prelude.{option_map, nat_eq, find, All, IsSomeAnd, if◌then◌else◌}
+use Rattle.std.proofs.Common.{◌≡◌, suc, Bool, true, false, ◌&&◌, List, [], ◌∷◌, Some, None, refl, sym, ap, ◌∙◌, subst, arith, eqb-true, true≢false, cond}
+use Rattle.std.specs.Prelude.{option_map, nat_eq, find, All, IsSomeAnd}
 use Rattle.ob_base.specs.declared.id.ContractId.{ContractId}
 use Rattle.ob_base.specs.declared.id.TxId.{TxId}
 use Rattle.ob_table.specs.Statements.{ResolvedBody}
-use Rattle.ob_table.specs.Tables.{ClassTable, contract_at, signature_at, is_body_of, body_at}
+use Rattle.ob_table.specs.Tables.{ClassTable, contract_at, signature_at, is_body_of}
 use Rattle.ob_table.specs.declared.contract.Contract.{Contract}
 use Rattle.ob_table.specs.declared.contract.Signature.{Signature}
 use Rattle.ob_typing.specs.WellMade.{IsBodyOf, IsWellMade}
 use Rattle.ob_silica.specs.Terms.{SilicaBody}
-use Rattle.ob_silica_steps.specs.Configurations.{SilicaProgram, is_terms_of, terms_at}
+use Rattle.ob_silica_steps.specs.Configurations.{SilicaProgram, is_terms_of}
 use Rattle.ob_lowering.specs.BodyTerms.{LowersWith, Lowers, AllLower}
-use Rattle.ob_lowering_meaning.proofs.Standing.{none_some, some_same}
 use Rattle.ob_lowering_meaning.proofs.Expressions.{called_so}
 use Rattle.ob_lowering_meaning.proofs.Entering.{BodyPair, neither, pair}
 
 -- what is found of a body on both sides
-data FoundPair (table : ClassTable) (contract : ContractId) (tx : TxId) (bs : List ResolvedBody) (ls : List SilicaBody) : Type 0 where
+pub data FoundPair (table : ClassTable) (contract : ContractId) (tx : TxId) (bs : List ResolvedBody) (ls : List SilicaBody) : Type 0 where
   no_body : find (is_body_of contract tx) bs ≡ None → find (is_terms_of contract tx) ls ≡ None → FoundPair table contract tx bs ls
   body_pair : (b : ResolvedBody) (l : SilicaBody) → find (is_body_of contract tx) bs ≡ Some b → find (is_terms_of contract tx) ls ≡ Some l → is_body_of contract tx b ≡ true → Lowers table b l → IsWellMade table b → FoundPair table contract tx bs ls
 
@@ -29,7 +28,7 @@ lowered_names table b l low =
 all_tail : {A : Type 0} (P : A → Type 0) (x : A) (xs : List A) → All P (x ∷ xs) → All P xs
 all_tail P x xs all = λ k d lt. all (suc k) d (omega (arith, lt))
 
-find_pair : (table : ClassTable) (contract : ContractId) (tx : TxId) (bs : List ResolvedBody) (ls : List SilicaBody) → AllLower table bs ls → All (IsWellMade table) bs → FoundPair table contract tx bs ls
+pub find_pair : (table : ClassTable) (contract : ContractId) (tx : TxId) (bs : List ResolvedBody) (ls : List SilicaBody) → AllLower table bs ls → All (IsWellMade table) bs → FoundPair table contract tx bs ls
 find_pair table contract tx [] [] low well = no_body refl refl
 find_pair table contract tx (b ∷ bs) (l ∷ ls) low well =
     let names = lowered_names table b l low.0 in
@@ -44,7 +43,7 @@ find_pair table contract tx (b ∷ bs) (l ∷ ls) low well =
 find_pair table contract tx [] (l ∷ ls) low well = absurd low
 find_pair table contract tx (b ∷ bs) [] low well = absurd low
 
-both : (a b : Bool) → (a && b) ≡ true → (a ≡ true) × (b ≡ true)
+pub both : (a b : Bool) → (a && b) ≡ true → (a ≡ true) × (b ≡ true)
 both true b e = (refl, e)
 both false b e = absurd (true≢false (sym e))
 

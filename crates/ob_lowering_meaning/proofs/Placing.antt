@@ -1,24 +1,23 @@
 -- How a value comes into a place: a slot, or a field of `this`.
-use Rattle.std.proofs.Common.{◌≡◌, ◌≢◌, ℕ, ◌≤◌, Bool, true, false, List, [], ◌∷◌, Option, Some, None, refl, sym, ap, ◌∙◌, subst, true≢false, ◌⊎◌, inl, inr}
+use Rattle.std.proofs.Common.{◌≡◌, ◌≢◌, ℕ, ◌≤◌, Bool, true, false, List, Option, Some, None, refl, sym, ap, ◌∙◌, subst, true≢false, ◌⊎◌, inl, inr}
 use Rattle.std.proofs.lemmas.Bool.{ne_eqb}
-use Rattle.std.specs.Prelude.{option_map, option_and_then, unwrap_or, slice_get, nat_eq, if◌then◌else◌}
+use Rattle.std.specs.Prelude.{option_and_then, slice_get, if◌then◌else◌}
 use Rattle.std.specs.Option.{option_map_or}
 use Rattle.ob_base.specs.declared.fault.Span.{Span}
 use Rattle.ob_base.specs.declared.id.ContractId.{ContractId}
 use Rattle.ob_base.specs.declared.id.FieldId.{FieldId}
 use Rattle.ob_perm.specs.Permissions.{Permission, kept}
 use Rattle.ob_table.specs.Tables.{ClassTable, contract_at}
-use Rattle.ob_table.specs.declared.contract.Contract.{Contract}
 use Rattle.ob_table.specs.declared.contract.Field.{Field}
 use Rattle.ob_table.specs.declared.contract.Kind.{Kind}
 use Rattle.ob_table.specs.declared.contract.Kind.TheVariants as typed
 use Rattle.ob_table.specs.declared.seen.LocalKind.{LocalKind}
 use Rattle.ob_table.specs.declared.seen.LocalKind.TheVariants.{Int, Bool as BoolKind, Text, Reference}
 use Rattle.ob_typing.specs.WellMade.{kind_of_table, is_reference}
-use Rattle.ob_content.specs.Values.{Value, reference, put}
+use Rattle.ob_content.specs.Values.{Value, put}
 use Rattle.ob_content.specs.Objects.{Object, is_available, has_field}
 use Rattle.ob_content.specs.Contents.{object_at}
-use Rattle.ob_content.specs.Worlds.{World, Outcome, gives, wrong, if_right, with_some, with_object, edit_object}
+use Rattle.ob_content.specs.Worlds.{World, gives, if_right, with_some, edit_object}
 use Rattle.ob_content.specs.Marks.{comes_into}
 use Rattle.ob_meaning.specs.Frames as meaning
 use Rattle.ob_meaning.specs.Frames.{Flow, goes_on}
@@ -26,17 +25,17 @@ use Rattle.ob_meaning.specs.Fields.{comes_into_field, with_field, assign_field}
 use Rattle.ob_silica.specs.Terms.{SilicaForm, SilicaTerms, and_term, copy_form, move_form}
 use Rattle.ob_silica.specs.declared.place.Operand.{Operand}
 use Rattle.ob_silica.specs.declared.place.Place.{Place}
-use Rattle.ob_silica.specs.declared.place.Place.TheVariants.{This, Slot, Field as FieldPlace}
+use Rattle.ob_silica.specs.declared.place.Place.TheVariants.{Slot, Field as FieldPlace}
 use Rattle.ob_silica_steps.specs.Cells.{Location, slot, field, location_of, located, Known, Cell, plain_cell, value_in, permission_of_kind}
 use Rattle.ob_silica_steps.specs.Configurations.{SilicaProgram, Slots, Notes, Rest, runs, Configuration, Next, goes, stuck}
-use Rattle.ob_silica_steps.specs.Here.{Here, at, with_field_note, if_there, read, self_of, self, field_of, set_slot, set_field, set_permission, hand, counted}
+use Rattle.ob_silica_steps.specs.Here.{Here, at, with_field_note, if_there, read, self_of, field_of, set_slot, set_field, set_permission, hand, counted}
 use Rattle.ob_silica_steps.specs.Converting.{got_from, converted}
-use Rattle.ob_silica_steps.specs.Steps.{step, act}
-use Rattle.ob_silica_steps.specs.Straight.{copy_to, move_to, move_to_slot, available_field}
+use Rattle.ob_silica_steps.specs.Steps.{step}
+use Rattle.ob_silica_steps.specs.Straight.{copy_to, move_to, available_field}
 use Rattle.ob_lowering.specs.StatementTerms.{set_slot as set_slot_form, set_place}
-use Rattle.ob_lowering_meaning.proofs.Runs.{Leads, Ends, one_step}
-use Rattle.ob_lowering_meaning.proofs.Standing.{Setting, frame_in, config, Reached, later_on, shape, Kept, Later, Noted, Stands, Comes, at_same, at_other, none_some, some_same, self_is, self_shape, this_value}
-use Rattle.ob_lowering_meaning.proofs.Changes.{Alike, alike_on, alike_self, permission_alike, at_alike, Quiet, quiet_into, quiet_later, quiet_object, quiet_on, noted_quiet, edited, edited_other, edited_fuel, same_or, bare, later_edit, noted_edit}
+use Rattle.ob_lowering_meaning.proofs.Runs.{Ends, one_step}
+use Rattle.ob_lowering_meaning.proofs.Standing.{Setting, frame_in, config, Reached, later_on, shape, Noted, Stands, at_same, at_other, some_same, self_is, self_shape}
+use Rattle.ob_lowering_meaning.proofs.Changes.{Alike, alike_self, permission_alike, Quiet, quiet_into, quiet_later, quiet_object, noted_quiet, edited_fuel, same_or, bare, later_edit, noted_edit}
 use Rattle.ob_lowering_meaning.proofs.Values.{there, not_there}
 
 pub put_other : {A : Type 0} (xs : ℕ → Option A) (k : ℕ) (x : A) (n : ℕ) → n ≢ k → put xs k x n ≡ xs n

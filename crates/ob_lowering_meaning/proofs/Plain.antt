@@ -1,6 +1,6 @@
 -- Which expressions are no names of references: those whose value an operator, a test or a text needs.
-use Rattle.std.proofs.Common.{◌≡◌, ◌≢◌, ℕ, suc, Bool, true, false, List, [], ◌∷◌, ◌++◌, map, length, Option, Some, None, refl, sym, ap, ◌∙◌, subst, true≢false}
-use Rattle.std.specs.Prelude.{option_map, option_and_then, IsSome, IsSomeAnd, IsTrue, ⊤}
+use Rattle.std.proofs.Common.{◌≡◌, ℕ, suc, false, List, [], ◌∷◌, length, Option, Some, None, refl, sym, ap, ◌∙◌, subst, true≢false}
+use Rattle.std.specs.Prelude.{IsSomeAnd, IsTrue, ⊤}
 use Rattle.ob_base.specs.declared.operator.Operator.{Operator}
 use Rattle.ob_base.specs.declared.operator.Operator.TheVariants.{Add, Sub, Mul, Div, Rem, Equal, NotEqual, Less, LessEqual, Greater, GreaterEqual, And, Or, Not, Negate}
 use Rattle.ob_table.specs.Expressions.{Expression, resolved_number, resolved_text, resolved_bool, resolved_seen, resolved_unary, resolved_binary, resolved_call, resolved_new, Arguments, no_arguments, and_argument}
@@ -12,8 +12,8 @@ use Rattle.ob_table.specs.declared.seen.Seen.{Seen}
 use Rattle.ob_table.specs.declared.seen.Seen.TheVariants.{This, Local, Field}
 use Rattle.ob_typing.specs.WellMade.{Frame, Locals, local_kind, kind_of_seen, kind_of_expression, kind_of_unary, Serves, serves, is_reference, HasOperands, Pass}
 use Rattle.ob_lowering.specs.Points.{Around, in_use}
-use Rattle.ob_lowering.specs.ExpressionTerms.{Lowered, LoweredArguments, LowersExpression, LowersArguments}
-use Rattle.ob_lowering_meaning.proofs.Standing.{none_some, some_same}
+use Rattle.ob_lowering.specs.ExpressionTerms.{LoweredArguments, LowersArguments}
+use Rattle.ob_lowering_meaning.proofs.Standing.{some_same}
 
 -- the name of no reference
 abbrev pub Plain : Frame → Locals → Expression → Type 0

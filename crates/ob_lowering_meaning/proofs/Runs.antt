@@ -1,9 +1,8 @@
 -- How the steps come from one configuration to what follows.
-use Rattle.std.proofs.Common.{◌≡◌, ℕ, zero, suc, ◌+◌, ◌≤◌, Bool, List, [], ◌∷◌, Option, Some, None, refl, sym, ap, ◌∙◌, arith}
-use Rattle.ob_base.specs.declared.fault.Span.{Span}
-use Rattle.ob_silica.specs.Terms.{SilicaForm, SilicaTerms, no_terms, and_term, one_term, then_terms}
-use Rattle.ob_content.specs.Worlds.{World, Cause, Spent, Outcome, gives, aborts, wrong, ◌>>=◌}
-use Rattle.ob_silica_steps.specs.Configurations.{SilicaProgram, Configuration, Next, goes, ended, aborted, stuck}
+use Rattle.std.proofs.Common.{◌≡◌, ℕ, suc, ◌≤◌, refl, ap, ◌∙◌, arith}
+use Rattle.ob_silica.specs.Terms.{SilicaTerms, no_terms, and_term, then_terms}
+use Rattle.ob_content.specs.Worlds.{World, Outcome, gives, aborts, wrong, ◌>>=◌}
+use Rattle.ob_silica_steps.specs.Configurations.{SilicaProgram, Configuration, Next, goes, aborted, stuck}
 use Rattle.ob_silica_steps.specs.Steps.{step, then_steps, steps}
 
 -- after some steps the run goes on as from there, or has ended so

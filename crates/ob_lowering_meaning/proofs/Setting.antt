@@ -1,58 +1,40 @@
 -- Statements that set a variable or a field, and those that end a body.
-use Rattle.std.proofs.Common.{◌≡◌, ◌≢◌, ℕ, zero, suc, ◌+◌, ◌<◌, ◌≤◌, Bool, true, false, List, [], ◌∷◌, ◌++◌, map, length, Option, Some, None, refl, sym, ap, ◌∙◌, subst, arith, true≢false, eq-eqb, eqb-true, ◌⊎◌, inl, inr}
-use Rattle.std.proofs.lemmas.Bool.{ne_eqb}
-use Rattle.std.specs.Prelude.{nat_eq, option_map, option_and_then, IsSome, IsSomeAnd, IsTrue, ⊤, if◌then◌else◌}
-use Rattle.std.specs.Option.{option_map_or}
+use Rattle.std.proofs.Common.{◌≡◌, ◌≢◌, ℕ, ◌<◌, Bool, true, false, List, [], ◌∷◌, ◌++◌, length, Option, Some, None, refl, sym, ap, ◌∙◌, subst, true≢false, eqb-true, ◌⊎◌, inl, inr}
+use Rattle.std.specs.Prelude.{nat_eq, option_map, if◌then◌else◌}
 use Rattle.ob_base.specs.declared.fault.Span.{Span}
 use Rattle.ob_base.specs.declared.id.StateId.{StateId}
-use Rattle.ob_table.specs.Expressions.{Expression, resolved_number, resolved_text, resolved_bool, resolved_seen, resolved_unary, resolved_binary, resolved_call, resolved_new}
-use Rattle.ob_table.specs.Statements.{Statement, resolved_declare, resolved_assign, resolved_discard, resolved_return, resolved_revert, resolved_disown, resolved_assert, Statements, and_statement}
+use Rattle.ob_table.specs.Expressions.{Expression}
+use Rattle.ob_table.specs.Statements.{resolved_declare, Statements}
 use Rattle.ob_table.specs.Tables.{ClassTable, contract_at}
 use Rattle.ob_table.specs.declared.seen.LocalKind.{LocalKind}
-use Rattle.ob_table.specs.declared.seen.Seen.{Seen}
-use Rattle.ob_table.specs.declared.seen.Seen.TheVariants.{This as ThisSeen, Local, Field as FieldSeen}
 use Rattle.ob_silica.specs.declared.place.Operand.{Operand}
 use Rattle.ob_silica.specs.declared.place.Place.{Place}
-use Rattle.ob_silica.specs.declared.place.Place.TheVariants.{This, Slot, Field}
+use Rattle.ob_silica.specs.declared.place.Place.TheVariants.{Slot}
 use Rattle.ob_typing.specs.WellMade as made
 use Rattle.ob_typing.specs.WellMade.{local_kind, kind_of_seen, kind_of_table, is_reference, IsMade, IsReturned, IsCalled, Pass, constructor_at}
-use Rattle.ob_content.specs.Values.{Value, int_value, bool_value, text_value, reference, referred, put}
-use Rattle.ob_content.specs.Worlds.{World, by_revert, Outcome, gives, aborts, abort, wrong, ◌>>=◌, with_some, unit}
-use Rattle.ob_content.specs.Marks.{mark_disowned, unlock}
+use Rattle.ob_content.specs.Values.{Value}
+use Rattle.ob_content.specs.Worlds.{World, Outcome, gives, with_some}
 use Rattle.ob_meaning.specs.Frames as meaning
 use Rattle.ob_meaning.specs.Frames.{Calls, Flow, goes_on, returns, known, named, Given}
 use Rattle.ob_meaning.specs.GoingWrong.{is_row}
-use Rattle.ob_meaning.specs.Naming.{value_seen, object_seen}
-use Rattle.ob_meaning.specs.Expressions.{value_of, operand_of, operands_of, let_go, started, constructed, run_alone}
-use Rattle.ob_meaning.specs.Statements.{with_variable, assign, return_with, abort_with, revert_with, run}
-use Rattle.ob_meaning.specs.Fields.{assign_field}
-use Rattle.ob_silica.specs.Terms.{SilicaTerms, no_terms, and_term, then_terms, unit_form, SilicaForm, one_term, const_form, copy_form, move_form, assert_form, disown_form, return_form, revert_form}
-use Rattle.ob_silica.specs.declared.place.Given as silica
-use Rattle.ob_silica_steps.specs.Cells.{Cell, plain_cell, constant_cell, Location, slot, field, location_of, located, value_in}
-use Rattle.ob_silica_steps.specs.Configurations.{SilicaProgram, Slots, Notes, Rest, Control, runs, leaves, Configuration, Next, goes}
-use Rattle.ob_silica_steps.specs.Here.{Here, at, if_there, read, set_permission}
-use Rattle.ob_silica_steps.specs.Steps.{step}
-use Rattle.ob_silica_steps.specs.Straight.{with_text, disowns}
-use Rattle.ob_lowering.specs.Points.{around, declares, IsFree, Temporary, in_use, references, drops, drops_of, Variable, locals_of, slot_of, place_of, Row, no_row, staged_row, refused_row, made_before, Point, passed, used_at, Around}
-use Rattle.ob_lowering.specs.ExpressionTerms.{Lowered, LoweredArguments, LoweredCall, operand, slot_operand, into, IsCall, kind_around, LowersExpression, LowersArguments, LowersPlainCall, LowersDiscarded}
+use Rattle.ob_meaning.specs.Statements.{with_variable, run}
+use Rattle.ob_silica.specs.Terms.{SilicaTerms, and_term, then_terms}
+use Rattle.ob_silica_steps.specs.Cells.{located, value_in}
+use Rattle.ob_silica_steps.specs.Configurations.{SilicaProgram, Slots, Rest, runs, Configuration}
+use Rattle.ob_silica_steps.specs.Here.{Here, read}
+use Rattle.ob_lowering.specs.Points.{around, declares, IsFree, Temporary, references, drops_of, locals_of, slot_of, Row, no_row, staged_row, refused_row, Point, passed}
+use Rattle.ob_lowering.specs.ExpressionTerms.{Lowered, LowersExpression}
 use Rattle.ob_lowering.specs.GivenTerms.{with_unit}
-use Rattle.ob_lowering.specs.StatementTerms.{ended_by, set_slot as set_slot_form, set_place, IsNamed, LowersReturn, LowersRevert, LowersStatement}
-use Rattle.ob_lowering.specs.BodyTerms.{slots_below}
-use Rattle.ob_lowering_meaning.proofs.Slots.{Used, free_differs, free_within, slots_made, Within, within_self, within_on, within_use}
-use Rattle.ob_lowering_meaning.proofs.Runs.{Leads, Ends, stays, leads_on, one_step, ends_map, ends_later, join}
-use Rattle.ob_lowering_meaning.proofs.Standing.{same_value, Setting, frame_in, made_in, config, shape, Kept, Later, Noted, Stands, Comes, Reached, later_self, kept_self, kept_on, kept_fewer, at_other, none_some, some_same, stands_on, comes_self, comes_on, comes_fewer, reached_closed, after_part}
-use Rattle.ob_lowering_meaning.proofs.Names.{Held, Visible, visible_on}
-use Rattle.ob_lowering_meaning.proofs.Plain.{Plain}
+use Rattle.ob_lowering.specs.StatementTerms.{ended_by, set_slot as set_slot_form}
+use Rattle.ob_lowering_meaning.proofs.Slots.{Used, free_differs, free_within, Within}
+use Rattle.ob_lowering_meaning.proofs.Runs.{Ends, leads_on, one_step, join}
+use Rattle.ob_lowering_meaning.proofs.Standing.{same_value, Setting, frame_in, made_in, config, shape, Comes, later_self, kept_on, none_some, some_same, stands_on}
+use Rattle.ob_lowering_meaning.proofs.Names.{Held, Visible}
 use Rattle.ob_lowering_meaning.proofs.Calling.{CallsRun}
-use Rattle.ob_lowering_meaning.proofs.Operands.{Means, means_on, means_read, Fits, operand_from}
-use Rattle.ob_lowering_meaning.proofs.Expressions.{value_runs}
-use Rattle.ob_lowering_meaning.proofs.Fresh.{Fresh}
-use Rattle.ob_lowering_meaning.proofs.Flows.{Gave, RowStands, RowOpen, Placed, At, Left, Flows, flows_closed, flows_from, left_closed, then_flows, step_flows, at_on, unit_flows, value_then, Dropped, drops_run}
-use Rattle.ob_lowering_meaning.proofs.Changes.{noted_quiet, quiet_self, quiet_disowned, quiet_later, same_or, permission_alike}
-use Rattle.ob_lowering_meaning.proofs.Placing.{slot_sets, slot_stuck, field_set}
-use Rattle.ob_lowering_meaning.proofs.Fresh.{expression_fresh, references_within, discarded_fresh}
-use Rattle.ob_lowering_meaning.proofs.Values.{read_one, there, not_there}
-use Rattle.ob_lowering_meaning.proofs.Names.{name_read}
+use Rattle.ob_lowering_meaning.proofs.Flows.{RowStands, RowOpen, Placed, At, Flows, unit_flows, value_then, drops_run}
+use Rattle.ob_lowering_meaning.proofs.Changes.{noted_quiet, quiet_self}
+use Rattle.ob_lowering_meaning.proofs.Placing.{slot_sets, slot_stuck}
+use Rattle.ob_lowering_meaning.proofs.Fresh.{expression_fresh, references_within}
 
 -- a name that stands behind one that isn't visible
 pub kind_behind : (ws : made.Locals) (l : ℕ × LocalKind) (n : ℕ) → local_kind ws n ≡ None → local_kind (ws ++ l ∷ []) n ≡ local_kind (l ∷ []) n

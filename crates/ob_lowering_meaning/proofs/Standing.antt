@@ -1,12 +1,11 @@
 -- What a frame of the meaning and one of the steps have to do with one another.
-use Rattle.std.proofs.Common.{◌≡◌, ◌≢◌, ℕ, zero, suc, ◌+◌, ◌≤◌, Bool, true, false, List, [], ◌∷◌, Option, Some, None, refl, sym, ap, ◌∙◌, subst, arith, eq-eqb, true≢false}
+use Rattle.std.proofs.Common.{◌≡◌, ◌≢◌, ℕ, ◌≤◌, Bool, List, Option, Some, None, refl, sym, ap, ◌∙◌, eq-eqb, true≢false}
 use Rattle.std.proofs.lemmas.Bool.{ne_eqb}
-use Rattle.std.specs.Prelude.{option_map, unwrap_or, is_some, slice_get, nat_eq, if◌then◌else◌}
+use Rattle.std.specs.Prelude.{option_map, unwrap_or, is_some}
 use Rattle.ob_base.specs.declared.id.ContractId.{ContractId}
 use Rattle.ob_base.specs.declared.id.TxId.{TxId}
-use Rattle.ob_table.specs.Tables.{ClassTable, contract_at}
+use Rattle.ob_table.specs.Tables.{ClassTable}
 use Rattle.ob_table.specs.declared.contract.Contract.{Contract}
-use Rattle.ob_table.specs.declared.contract.Field.{Field}
 use Rattle.ob_table.specs.declared.contract.Signature.{Signature}
 use Rattle.ob_table.specs.declared.seen.LocalKind.{LocalKind}
 use Rattle.ob_table.specs.declared.seen.LocalKind.TheVariants.{Reference}
@@ -18,8 +17,9 @@ use Rattle.ob_content.specs.Contents.{object_at}
 use Rattle.ob_content.specs.Worlds.{World, Outcome, ◌>>=◌}
 use Rattle.ob_meaning.specs.Frames as meaning
 use Rattle.ob_silica_steps.specs.Cells.{Cell, value_in, object_in}
-use Rattle.ob_silica_steps.specs.Configurations.{SilicaProgram, Slots, How, Waiting, Control, Notes, Configuration, Next, goes}
-use Rattle.ob_silica_steps.specs.Here.{Here, at, self_of, field_of}
+use Rattle.ob_silica_steps.specs.Configurations.{SilicaProgram, Slots, How, Waiting, Control, Notes, Configuration, goes}
+use Rattle.ob_silica_steps.specs.Here.{Here, at, self_of}
+pub use Rattle.ob_lowering_meaning.specs.Bodies.{shape, Noted}
 use Rattle.ob_lowering_meaning.proofs.Slots.{Used, Within}
 use Rattle.ob_lowering_meaning.proofs.Runs.{Leads, leads_on, Ends, ends_then, ends_later, ends_map}
 
@@ -52,10 +52,6 @@ config s h control = record {
   world = h.world;
 }
 
--- what a cell holds beside its permission
-abbrev pub shape : Option Cell → Option (Value × LocalKind)
-shape c = option_map (λ (x : Cell). (x.value, x.note.kind)) c
-
 -- slots in use have the same values and kinds
 pub record Kept (used : List ℕ) (s t : Slots) : Type 0 where
   pub by : (n : ℕ) → Used n used → shape (t n) ≡ shape (s n)
@@ -64,11 +60,6 @@ pub record Kept (used : List ℕ) (s t : Slots) : Type 0 where
 pub record Later (w v : World) : Type 0 where
   pub by : (n : ℕ) (o : Object) → object_at w.objects n ≡ Some o
       → (p : Object) × (object_at v.objects n ≡ Some p) × (p.contract ≡ o.contract)
-
--- of each field that has a value, the kind that is noted is the declared one
-pub record Noted (table : ClassTable) (notes : Notes) (objects : List Object) : Type 0 where
-  pub by : (n k : ℕ) (o : Object) (f : Field) (v : Value) → object_at objects n ≡ Some o → field_of table o k ≡ Some f
-      → o.fields k ≡ Some v → (notes.fields n k).kind ≡ kind_of_table f.of
 
 -- a frame stands so in a configuration
 pub record Stands (table : ClassTable) (most : ℕ) (s : Setting) (h : Here) : Type 0 where
