@@ -3,3 +3,4 @@ pub mod ExpressionTerms
 pub mod GivenTerms
 pub mod StatementTerms
 pub mod BodyTerms
+pub mod SlotNeeds
