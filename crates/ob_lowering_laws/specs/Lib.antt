@@ -5,3 +5,4 @@ pub mod Reentry
 pub mod Arithmetic
 pub mod Lamp
 pub mod Shop
+pub mod MadeTerms

@@ -1,0 +1,12 @@
+mod Sets
+mod Ways
+mod Effects
+mod Operands
+mod Expressions
+mod Points
+mod Setting
+mod Ending
+mod Staging
+mod Statements
+mod Bodies
+mod Law

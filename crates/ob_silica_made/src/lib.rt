@@ -1,0 +1,2 @@
+//! What a well-made body of terms is: what the flow check and the code generator need of a body.
+#![tactic(auto)]
