@@ -1,0 +1,3 @@
+pub mod Terms
+pub mod Statements
+pub mod Law

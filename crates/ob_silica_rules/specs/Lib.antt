@@ -1,0 +1,13 @@
+pub mod Premises
+pub mod Contexts
+pub mod Uses
+pub mod Binding
+pub mod Filling
+pub mod Straight
+pub mod Calling
+pub mod Changing
+pub mod Returning
+pub mod Joining
+pub mod Testing
+pub mod Deriving
+pub mod Numbered
