@@ -1,0 +1,4 @@
+pub mod BodiesLemmas
+pub mod CountsLemmas
+pub mod DropsLemmas
+pub mod KeptLemmas

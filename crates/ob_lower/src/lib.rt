@@ -1,0 +1,14 @@
+//! Lowering: from bodies with numbers in place of names to the terms of Silica, with one slot after the other (Coblenz et
+//! al., TOPLAS 42(3), 2020, "Silica"; that temporaries have numbers is this project's own).
+#![tactic(auto)]
+
+mod bodies;
+mod counts;
+mod error;
+mod position;
+mod rows;
+mod simple;
+mod statements;
+
+pub use bodies::lower;
+pub use error::LowerError;

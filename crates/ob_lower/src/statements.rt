@@ -1,0 +1,205 @@
+//! Statements and blocks (the Obsidian language documentation, "Statements").
+ghost use Rattle.std.specs.Prelude.{◌≡◌, IfOk, OnOk};
+ghost use Rattle.ob_table.specs.Statements.{resolved_block};
+ghost use Rattle.ob_table.specs.StatementsView.{statement_of, statements_of, resolved_block_of, otherwise_of};
+ghost use Rattle.ob_typing.specs.WellMade.{ends_there, one_ends_there, block_ends_there, other_ends_there};
+ghost use Rattle.ob_silica.specs.Terms.{then_terms};
+ghost use Rattle.ob_silica.specs.TermsView.{terms_of};
+ghost use Rattle.ob_lowering.specs.Points.{drops};
+ghost use Rattle.ob_lowering.specs.StatementTerms.{join_of};
+ghost use Rattle.ob_lowering_slots.specs.StatementCode.{settled, statement_code, statements_code};
+ghost use Rattle.ob_lowering_slots.specs.StatementCode.{slots_between, block_code, otherwise_code};
+ghost use Rattle.ob_lower_parts.specs.Makes.{Makes};
+
+use crate::position::Position;
+use crate::simple::{begin_named, lower_condition, lower_plain};
+use ob_base::{Items, Memory, Span};
+use ob_lower_parts::{Code, Frame, Stopped};
+use ob_silica::{Form, Term};
+use ob_table::{ResolvedBlock, ResolvedStmt};
+use std::alloc::Global;
+
+/// The terms of a block, and whether nothing is reached behind it.
+#[derive(Drop)]
+pub struct Branch {
+    pub terms: Items<Term>,
+    pub ends: bool,
+}
+
+// Where two branches join: the closing brace of the last block.
+#[tactic(auto, using(ob_table::specs::StatementsView::statement_views))]
+fn join_of(then: &ResolvedBlock, otherwise: &Option<ResolvedBlock>) -> Span
+    ensures { result ≡ join_of (resolved_block_of then.now) (otherwise_of otherwise.now) }
+{
+    match otherwise {
+        None => then.end,
+        Some(block) => block.end,
+    }
+}
+
+// The slots of a block's own variables, from the first number up to the second, are dropped, the last declared first.
+fn drop_locals(low: u8, high: u8, span: Span, out: &mut Code) -> Result<(), Memory>
+    ensures { OnOk result (out.new ≡ then_terms out.old (drops (slots_between low high) span)) }
+{
+    for slot in (low..high).rev() {
+        out.put_drop(slot, span)?;
+    }
+    Ok(())
+}
+
+// A statement before these: whether nothing is reached behind it.
+#[cycle(lower_statement)]
+#[tactic(auto, using(ob_table::specs::StatementsView::statement_views))]
+fn lower_statement(
+    statement: &ResolvedStmt,
+    rest: &[ResolvedStmt],
+    frame: &Frame<'_>,
+    position: &mut Position,
+    out: &mut Code,
+) -> Result<bool, Stopped>
+    ensures code { Makes result (λ _. (position.new, out.new))
+        (statement_code frame.now (statement_of statement.now) (statements_of rest.now) position.old out.old) }
+    ensures ends { IfOk result (λ ends. ends ≡ ends_there (statement_of statement.now)) }
+{
+    match statement {
+        ResolvedStmt::Test {
+            subject,
+            state,
+            then,
+            otherwise,
+            span,
+        } => {
+            let place = begin_named(*subject, *span, position, out)?;
+            let yes = lower_block(then, frame, position, out.alloc())?;
+            let no = lower_otherwise(otherwise, frame, position, out.alloc())?;
+            let form = Form::Test {
+                place,
+                state: *state,
+                then: yes.terms,
+                otherwise: no.terms,
+                join: join_of(then, otherwise),
+            };
+            out.put(form, *span)?;
+            Ok(yes.ends && no.ends)
+        }
+        ResolvedStmt::If {
+            condition,
+            then,
+            otherwise,
+            span,
+        } => {
+            let a = lower_condition(condition, *span, frame, position, out)?;
+            let yes = lower_block(then, frame, position, out.alloc())?;
+            let no = lower_otherwise(otherwise, frame, position, out.alloc())?;
+            let form = Form::If {
+                a,
+                then: yes.terms,
+                otherwise: no.terms,
+                join: join_of(then, otherwise),
+            };
+            out.put(form, *span)?;
+            Ok(yes.ends && no.ends)
+        }
+        _ => lower_plain(statement, rest, frame, position, out),
+    }
+}
+
+// Statements: whether nothing is reached behind them.
+#[cycle(lower_statement)]
+#[tactic(auto, using(ob_table::specs::StatementsView::statement_views))]
+fn lower_statements(
+    statements: &[ResolvedStmt],
+    frame: &Frame<'_>,
+    position: &mut Position,
+    out: &mut Code,
+) -> Result<bool, Stopped>
+    ensures code { Makes result (λ _. (position.new, out.new))
+        (statements_code frame.now (statements_of statements.now) position.old out.old) }
+    ensures ends { IfOk result (λ ends. ends ≡ one_ends_there (statements_of statements.now)) }
+{
+    let mut ends = false;
+    for (index, statement) in statements.iter().enumerate() {
+        let rest = &statements[index + 1..];
+        if lower_statement(statement, rest, frame, position, out)? {
+            ends = true;
+        }
+    }
+    Ok(ends)
+}
+
+/// The statements of a block or a body, with the place of its closing brace.
+#[cycle(lower_statement)]
+#[tactic(auto, using(ob_table::specs::StatementsView::statement_views))]
+pub fn lower_scope(
+    statements: &[ResolvedStmt],
+    end: Span,
+    frame: &Frame<'_>,
+    position: &mut Position,
+    alloc: Global,
+) -> Result<Branch, Stopped>
+    ensures code { Makes result (λ b. terms_of b.terms)
+        (block_code frame.now (resolved_block (statements_of statements.now) end) position.old) }
+    ensures ends { IfOk result (λ b. b.ends ≡ one_ends_there (statements_of statements.now)) }
+    ensures position { OnOk result (position.new ≡ settled position.old) }
+{
+    let mut out = Code::new(alloc);
+    let visible = position.visible();
+    let slots = position.slots();
+    position.settle();
+    let ends = lower_statements(statements, frame, position, &mut out)?;
+    if !ends {
+        drop_locals(slots, position.slots(), end, &mut out)?;
+    }
+    position.leave(visible, slots);
+    Ok(Branch {
+        terms: out.into_terms(),
+        ends,
+    })
+}
+
+#[cycle(lower_statement)]
+#[tactic(auto, using(ob_table::specs::StatementsView::statement_views))]
+fn lower_block(
+    block: &ResolvedBlock,
+    frame: &Frame<'_>,
+    position: &mut Position,
+    alloc: Global,
+) -> Result<Branch, Stopped>
+    ensures code { Makes result (λ b. terms_of b.terms)
+        (block_code frame.now (resolved_block_of block.now) position.old) }
+    ensures ends { IfOk result (λ b. b.ends ≡ block_ends_there (resolved_block_of block.now)) }
+    ensures position { OnOk result (position.new ≡ settled position.old) }
+{
+    lower_scope(
+        block.statements.as_slice(),
+        block.end,
+        frame,
+        position,
+        alloc,
+    )
+}
+
+#[cycle(lower_statement)]
+#[tactic(auto, using(ob_table::specs::StatementsView::statement_views))]
+fn lower_otherwise(
+    otherwise: &Option<ResolvedBlock>,
+    frame: &Frame<'_>,
+    position: &mut Position,
+    alloc: Global,
+) -> Result<Branch, Stopped>
+    ensures code { Makes result (λ b. terms_of b.terms)
+        (otherwise_code frame.now (otherwise_of otherwise.now) position.old) }
+    ensures ends { IfOk result (λ b. b.ends ≡ other_ends_there (otherwise_of otherwise.now)) }
+    ensures position { OnOk result (position.new ≡ settled position.old) }
+{
+    match otherwise {
+        Some(block) => lower_block(block, frame, position, alloc),
+        None => {
+            position.settle();
+            Ok(Branch {
+                terms: Items::new(alloc),
+                ends: false,
+            })
+        }
+    }
+}

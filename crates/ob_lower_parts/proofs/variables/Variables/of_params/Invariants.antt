@@ -1,0 +1,7 @@
+use Rattle.std.proofs.Common.{◌≡◌, ◌+◌, drop}
+use Rattle.ob_lowering.specs.BodyTerms.{params_from}
+use Rattle.ob_lower_parts.specs.Makes.{newest_first}
+use Rattle.ob_lower_parts.proofs.variables.Variables.of_params.Given as goal
+
+abbrev pub invariant-loop-index : goal.invariant-loop-index
+invariant-loop-index l = newest_first l.items.items ≡ params_from (l.index + 1) (drop l.index l.params)
