@@ -1,0 +1,6 @@
+pub mod TestedLemmas
+pub mod KnownLemmas
+pub mod NamingLemmas
+pub mod FrameLemmas
+pub mod BeginningLemmas
+pub mod PremiseLemmas
