@@ -1,0 +1,3 @@
+pub mod OutcomeLemmas
+pub mod TermLemmas
+pub mod BodyLemmas

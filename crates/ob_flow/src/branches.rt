@@ -1,0 +1,104 @@
+//! Where forms end, and what follows behind branches.
+ghost use Rattle.std.specs.Prelude.{◌≡◌, IfOk};
+ghost use Rattle.ob_perm.specs.Masks.{permission_of};
+ghost use Rattle.ob_silica_steps.specs.Cells.{location_of};
+ghost use Rattle.ob_silica_rules.specs.Joining.{joined_branches};
+ghost use Rattle.ob_silica_rules.specs.Testing.{tested_with, first_branch_ended, this_left};
+ghost use Rattle.ob_context.specs.View.{context_of, tested_of};
+ghost use Rattle.ob_flow.specs.Outcomes.{reached, DerivesTo};
+
+use ob_base::{Items, Memory, Mode, Perm, Span};
+use ob_context::{BodyFrame, Context, FlowError};
+use ob_flow_forms::{end_test, join};
+use ob_perm::unowned;
+use ob_silica::{Operand, Place};
+use std::alloc::Global;
+
+/// Whether the point behind forms is reached.
+#[derive(Clone, Copy, PartialEq, Eq, Debug)]
+pub enum Flow {
+    On,
+    /// They return or revert.
+    Ended,
+}
+
+/// The places under test in the first branch of a test of a place of this permission; the innermost stands last.
+#[tactic(auto, using(ob_context::proofs::TestedLemmas::tested))]
+pub(crate) fn tested_with(
+    alloc: Global,
+    permission: Perm,
+    place: Place,
+    tested: &[Place],
+) -> Result<Items<Place>, Memory>
+    ensures { IfOk result (λ places. tested_of places
+        ≡ tested_with (permission_of permission) (location_of place) (tested_of tested.now)) }
+{
+    let mut places = Items::from_slice(alloc, tested)?;
+    match permission.mode {
+        Mode::Shared => {
+            places.push(place)?;
+            Ok(places)
+        }
+        Mode::Owned | Mode::Unowned => Ok(places),
+    }
+}
+
+/// Ends the first branch of a test of a place of this permission.
+#[tactic(auto, using(crate::proofs::OutcomeLemmas::outcomes))]
+pub(crate) fn end_branch(
+    permission: Perm,
+    place: Operand,
+    flow: Flow,
+    context: &mut Context,
+) -> Result<Flow, FlowError>
+    ensures { DerivesTo result (context_of context.new)
+        (first_branch_ended (permission_of permission) place (reached flow (context_of context.old))) }
+{
+    match (permission.mode, flow) {
+        (Mode::Shared, Flow::On) => {
+            end_test(context, place)?;
+            Ok(Flow::On)
+        }
+        (Mode::Shared, Flow::Ended) => Ok(Flow::Ended),
+        (Mode::Owned, _) | (Mode::Unowned, _) => Ok(flow),
+    }
+}
+
+/// The permission on `this` where a branch ends.
+pub(crate) fn this_left(flow: Flow, context: &Context) -> Perm
+    ensures { permission_of result ≡ this_left (reached flow (context_of context.now)) }
+{
+    match flow {
+        Flow::On => context.permission(Place::This),
+        Flow::Ended => unowned(),
+    }
+}
+
+/// Joins two branches; `under` is the permission on `this` where the first ends.
+#[tactic(auto, using(crate::proofs::OutcomeLemmas::outcomes))]
+pub(crate) fn join_branches(
+    alloc: Global,
+    frame: &BodyFrame<'_>,
+    under: Perm,
+    first: Flow,
+    context: &mut Context,
+    second: Flow,
+    other: Context,
+    at: Span,
+) -> Result<Flow, FlowError>
+    ensures { DerivesTo result (context_of context.new)
+        (joined_branches frame.now (permission_of under) (reached first (context_of context.old))
+        (reached second (context_of other)) at) }
+{
+    match (first, second) {
+        (Flow::Ended, _) => {
+            *context = other;
+            Ok(second)
+        }
+        (Flow::On, Flow::Ended) => Ok(Flow::On),
+        (Flow::On, Flow::On) => {
+            join(alloc, frame, under, context, &other, at)?;
+            Ok(Flow::On)
+        }
+    }
+}

@@ -1,0 +1,10 @@
+//! The check of permissions: whether a body derives by the permission rules, or the fault of the first premise that fails
+//! (Coblenz et al., TOPLAS 42(3), 2020, "Silica").
+#![tactic(auto)]
+
+mod bodies;
+mod branches;
+mod forms;
+
+pub use bodies::check;
+pub use ob_context::FlowError;

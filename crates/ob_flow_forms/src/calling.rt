@@ -1,0 +1,368 @@
+//! Calls, and `new`.
+ghost use Rattle.std.specs.Prelude.{◌≡◌, option_map, IfOk};
+ghost use Rattle.ob_silica_steps.specs.Binding.{all_parameters};
+ghost use Rattle.ob_silica_rules.specs.Premises.{each};
+ghost use Rattle.ob_silica_rules.specs.Contexts.{field_count};
+ghost use Rattle.ob_silica_rules.specs.Binding.{reads_of, given_all, passed};
+ghost use Rattle.ob_silica_rules.specs.Calling.{makes, made, all_reads, calls, called, reads_with_this, enters_field};
+ghost use Rattle.ob_silica_rules.specs.Calling.{calls_this, fields_left, called_this};
+ghost use Rattle.ob_context.specs.View.{known_of, known_at, context_of, tested_of};
+ghost use Rattle.ob_context.specs.Checking.{Meets, Leaves};
+ghost use Rattle.ob_giving.specs.View.{plain_parameters};
+ghost use Rattle.ob_flow_forms.specs.Calls.{passes, may_call, calls_with, may_call_this, enters, field_after};
+ghost use Rattle.ob_flow_forms.specs.Calls.{fields_after};
+
+use ob_base::{
+    ContractId, Duplicate, FIELD_MISMATCH, FieldId, Items, Memory, Span, THIS_IN_CONSTRUCTOR,
+    UNDER_TEST,
+};
+use ob_context::{BodyFrame, Context, FlowError, Known, kind_of, known_as, must, tests_field};
+use ob_giving::{
+    Parameter, all_operands, all_parameters, each_once, get_back_all, give_all, keeps_fields,
+    parameters, put_result, uses,
+};
+use ob_silica::{Operand, Place};
+use ob_table::{Kind, Signature};
+use std::alloc::Global;
+
+// Places are given to parameters, and get back what those give back.
+#[tactic(auto, using(ob_context::proofs::PremiseLemmas::premises))]
+fn pass(
+    alloc: Global,
+    frame: &BodyFrame<'_>,
+    tested: &[Place],
+    context: &mut Context,
+    reads: &[Operand],
+    params: &[Parameter],
+) -> Result<(), FlowError>
+    ensures { Leaves result (context_of context.new)
+        (passes frame.now (tested_of tested.now) (context_of context.old) (reads_of reads.now)
+        (plain_parameters params.now))
+        (passed frame.now (context_of context.old) (reads_of reads.now) (plain_parameters params.now)) }
+{
+    each_once(reads, params)?;
+    give_all(alloc, frame, tested, context, reads, params)?;
+    get_back_all(alloc, frame, context, reads, params)?;
+    Ok(())
+}
+
+/// Makes an object: the slot has what the constructor gives.
+pub fn make(
+    alloc: Global,
+    frame: &BodyFrame<'_>,
+    tested: &[Place],
+    context: &mut Context,
+    slot: u8,
+    contract: ContractId,
+    signature: &Signature,
+    args: &[Operand],
+) -> Result<(), FlowError>
+    ensures { Leaves result (context_of context.new)
+        (makes frame.now (tested_of tested.now) (context_of context.old) signature.now args.now)
+        (made frame.now (context_of context.old) slot contract signature.now args.now) }
+{
+    let params = parameters(alloc, signature)?;
+    pass(alloc, frame, tested, context, args, params.as_slice())?;
+    let known = known_as(Kind::Reference(contract, signature.exit));
+    context.put(Place::Slot(slot), Some(known))?;
+    Ok(())
+}
+
+// What a call is asked for before anything is given.
+#[tactic(auto, using(ob_context::proofs::PremiseLemmas::premises))]
+fn may_call(
+    frame: &BodyFrame<'_>,
+    context: &Context,
+    receiver: Operand,
+    reads: &[Operand],
+    params: &[Parameter],
+) -> Result<(), FlowError>
+    ensures { Meets result (may_call frame.now (context_of context.now) receiver (reads_of reads.now)
+        (plain_parameters params.now)) }
+{
+    uses(frame, context, receiver)?;
+    each_once(reads, params)
+}
+
+// Calls a transaction of another object with these places, the receiver first.
+#[tactic(auto, using(ob_context::proofs::PremiseLemmas::premises))]
+fn call_with(
+    alloc: Global,
+    frame: &BodyFrame<'_>,
+    tested: &[Place],
+    context: &mut Context,
+    receiver: Operand,
+    reads: &[Operand],
+    params: &[Parameter],
+) -> Result<(), FlowError>
+    ensures { Leaves result (context_of context.new)
+        (calls_with frame.now (tested_of tested.now) (context_of context.old) receiver (reads_of reads.now)
+        (plain_parameters params.now))
+        (passed frame.now (context_of context.old) (reads_of reads.now) (plain_parameters params.now)) }
+{
+    may_call(frame, context, receiver, reads, params)?;
+    give_all(alloc, frame, tested, context, reads, params)?;
+    get_back_all(alloc, frame, context, reads, params)?;
+    Ok(())
+}
+
+// Gives a receiver and arguments, which get back what they do.
+fn pass_with(
+    alloc: Global,
+    frame: &BodyFrame<'_>,
+    tested: &[Place],
+    context: &mut Context,
+    receiver: Operand,
+    contract: ContractId,
+    signature: &Signature,
+    args: &[Operand],
+) -> Result<(), FlowError>
+    ensures { Leaves result (context_of context.new)
+        (calls frame.now (tested_of tested.now) (context_of context.old) receiver contract signature.now args.now)
+        (passed frame.now (context_of context.old) (all_reads receiver args.now)
+        (all_parameters contract signature.now)) }
+{
+    let reads = all_operands(alloc, receiver, args)?;
+    let params = all_parameters(alloc, contract, signature)?;
+    call_with(
+        alloc,
+        frame,
+        tested,
+        context,
+        receiver,
+        reads.as_slice(),
+        params.as_slice(),
+    )?;
+    Ok(())
+}
+
+/// Calls a transaction of another object.
+pub fn call(
+    alloc: Global,
+    frame: &BodyFrame<'_>,
+    tested: &[Place],
+    context: &mut Context,
+    slot: Option<u8>,
+    receiver: Operand,
+    contract: ContractId,
+    signature: &Signature,
+    args: &[Operand],
+) -> Result<(), FlowError>
+    ensures { Leaves result (context_of context.new)
+        (calls frame.now (tested_of tested.now) (context_of context.old) receiver contract signature.now args.now)
+        (called frame.now (context_of context.old) slot receiver contract signature.now args.now) }
+{
+    pass_with(
+        alloc, frame, tested, context, receiver, contract, signature, args,
+    )?;
+    put_result(context, slot, signature.result)?;
+    Ok(())
+}
+
+// A field that may be there is held as the call wants it.
+fn enters_field(
+    frame: &BodyFrame<'_>,
+    before: &Context,
+    context: &Context,
+    at: Span,
+    signature: &Signature,
+    field: FieldId,
+) -> Result<(), FlowError>
+    ensures { Meets result (enters_field frame.now (context_of before.now) (context_of context.now) at signature.now
+        field.0) }
+{
+    let entry = frame.entry_of_field(signature, field);
+    let held = context.is_held_as(Place::Field(field), entry);
+    must(
+        FIELD_MISMATCH,
+        at,
+        !frame.maybe_there(before, field) || held,
+    )
+}
+
+#[tactic(auto, using(ob_context::proofs::PremiseLemmas::for_each))]
+fn enter_fields(
+    frame: &BodyFrame<'_>,
+    before: &Context,
+    context: &Context,
+    at: Span,
+    signature: &Signature,
+) -> Result<(), FlowError>
+    ensures { Meets result (each (field_count frame.now)
+        (enters_field frame.now (context_of before.now) (context_of context.now) at signature.now)) }
+{
+    for number in 0..frame.field_count() {
+        enters_field(frame, before, context, at, signature, FieldId(number))?;
+    }
+    Ok(())
+}
+
+// What a call on `this` is asked for before anything is given.
+#[tactic(auto, using(ob_context::proofs::PremiseLemmas::premises))]
+fn may_call_this(
+    frame: &BodyFrame<'_>,
+    tested: &[Place],
+    at: Span,
+    signature: &Signature,
+    args: &[Operand],
+    reads: &[Operand],
+    params: &[Parameter],
+) -> Result<(), FlowError>
+    ensures { Meets result (may_call_this frame.now (tested_of tested.now) at signature.now args.now
+        (reads_of reads.now) (plain_parameters params.now)) }
+{
+    must(THIS_IN_CONSTRUCTOR, at, !frame.constructs())?;
+    each_once(reads, params)?;
+    keeps_fields(args, signature.params.as_slice())?;
+    must(UNDER_TEST, at, !tests_field(tested))
+}
+
+// What is known of a field that a call on `this` leaves.
+fn field_after(frame: &BodyFrame<'_>, signature: &Signature, field: FieldId) -> Option<Known>
+    ensures { option_map known_of result ≡ field_after frame.now signature.now field.0 }
+{
+    Some(Known {
+        kind: kind_of(frame.type_of_field(field)),
+        permission: frame.exit_of_field(signature, field),
+    })
+}
+
+// What is known of the fields that a call on `this` leaves.
+fn fields_after(
+    alloc: Global,
+    frame: &BodyFrame<'_>,
+    signature: &Signature,
+) -> Result<Items<Option<Known>>, Memory>
+    ensures { IfOk result (λ fields. known_at fields ≡ fields_after frame.now signature.now) }
+{
+    let mut fields = Items::new(alloc);
+    for number in 0..frame.field_count() {
+        fields.push(field_after(frame, signature, FieldId(number)))?;
+    }
+    Ok(fields)
+}
+
+fn copy_slots(alloc: Global, context: &Context) -> Result<Items<Option<Known>>, Memory>
+    ensures { IfOk result (λ slots. slots ≡ context.now.slots) }
+{
+    Ok(Items::from_slice(alloc, context.slots())?)
+}
+
+// Each field has the permission with which the call leaves it.
+fn leave_fields(
+    alloc: Global,
+    frame: &BodyFrame<'_>,
+    signature: &Signature,
+    context: &Context,
+) -> Result<Context, Memory>
+    ensures { IfOk result (λ after. context_of after
+        ≡ fields_left frame.now signature.now (context_of context.now)) }
+{
+    let slots = copy_slots(alloc, context)?;
+    let fields = fields_after(alloc, frame, signature)?;
+    Ok(Context::of(slots, fields))
+}
+
+// Gives `this` and arguments, and asks for the fields that the call wants.
+#[tactic(auto, using(ob_context::proofs::PremiseLemmas::premises))]
+fn enter(
+    alloc: Global,
+    frame: &BodyFrame<'_>,
+    tested: &[Place],
+    context: &mut Context,
+    at: Span,
+    signature: &Signature,
+    args: &[Operand],
+    reads: &[Operand],
+    params: &[Parameter],
+) -> Result<(), FlowError>
+    ensures { Leaves result (context_of context.new)
+        (enters frame.now (tested_of tested.now) (context_of context.old) at signature.now args.now
+        (reads_of reads.now) (plain_parameters params.now))
+        (given_all (context_of context.old) (reads_of reads.now) (plain_parameters params.now)) }
+{
+    let before = context.copy(alloc)?;
+    may_call_this(frame, tested, at, signature, args, reads, params)?;
+    give_all(alloc, frame, tested, context, reads, params)?;
+    enter_fields(frame, &before, context, at, signature)
+}
+
+// Gives these places, `this` first, which get back what they do.
+fn pass_this_with(
+    alloc: Global,
+    frame: &BodyFrame<'_>,
+    tested: &[Place],
+    context: &mut Context,
+    at: Span,
+    signature: &Signature,
+    args: &[Operand],
+    reads: &[Operand],
+    params: &[Parameter],
+) -> Result<(), FlowError>
+    ensures { Leaves result (context_of context.new)
+        (enters frame.now (tested_of tested.now) (context_of context.old) at signature.now args.now
+        (reads_of reads.now) (plain_parameters params.now))
+        (passed frame.now (context_of context.old) (reads_of reads.now) (plain_parameters params.now)) }
+{
+    enter(
+        alloc, frame, tested, context, at, signature, args, reads, params,
+    )?;
+    get_back_all(alloc, frame, context, reads, params)?;
+    Ok(())
+}
+
+// Gives `this` and arguments, which get back what they do.
+fn pass_this(
+    alloc: Global,
+    frame: &BodyFrame<'_>,
+    tested: &[Place],
+    context: &mut Context,
+    at: Span,
+    signature: &Signature,
+    args: &[Operand],
+) -> Result<(), FlowError>
+    ensures { Leaves result (context_of context.new)
+        (calls_this frame.now (tested_of tested.now) (context_of context.old) at signature.now args.now)
+        (passed frame.now (context_of context.old) (reads_with_this at args.now)
+        (all_parameters frame.now.here signature.now)) }
+{
+    let this = Operand {
+        place: Place::This,
+        span: at,
+    };
+    let reads = all_operands(alloc, this, args)?;
+    let params = all_parameters(alloc, frame.here(), signature)?;
+    pass_this_with(
+        alloc,
+        frame,
+        tested,
+        context,
+        at,
+        signature,
+        args,
+        reads.as_slice(),
+        params.as_slice(),
+    )?;
+    Ok(())
+}
+
+/// Calls a transaction of `this`, whose place in the text is that of the form.
+pub fn call_this(
+    alloc: Global,
+    frame: &BodyFrame<'_>,
+    tested: &[Place],
+    context: &mut Context,
+    at: Span,
+    slot: Option<u8>,
+    signature: &Signature,
+    args: &[Operand],
+) -> Result<(), FlowError>
+    ensures { Leaves result (context_of context.new)
+        (calls_this frame.now (tested_of tested.now) (context_of context.old) at signature.now args.now)
+        (called_this frame.now (context_of context.old) at slot signature.now args.now) }
+{
+    pass_this(alloc, frame, tested, context, at, signature, args)?;
+    *context = leave_fields(alloc, frame, signature, context)?;
+    put_result(context, slot, signature.result)?;
+    Ok(())
+}

@@ -1,0 +1,353 @@
+//! The forms without branches and calls.
+ghost use Rattle.std.specs.Prelude.{◌≡◌, None, OnOk};
+ghost use Rattle.ob_silica_steps.specs.Cells.{location_of, located, slot, kind_of_constant, kind_of_operator};
+ghost use Rattle.ob_perm.specs.Permissions.{unowned};
+ghost use Rattle.ob_silica_rules.specs.Contexts.{now};
+ghost use Rattle.ob_silica_rules.specs.Straight.{put_value, operates, copies, copied, moves_to_slot, moved_kind};
+ghost use Rattle.ob_silica_rules.specs.Straight.{moved_to_slot, moves_to_field, moved_to_field, moves, moved};
+ghost use Rattle.ob_silica_rules.specs.Straight.{asserts, disowns, drops_slot};
+ghost use Rattle.ob_silica_rules.specs.Contexts.{put};
+ghost use Rattle.ob_context.specs.View.{context_of, tested_of};
+ghost use Rattle.ob_context.specs.Checking.{Meets, Leaves};
+ghost use Rattle.ob_flow_forms.specs.Forms.{copied_kind};
+
+use crate::changing::may_change;
+use crate::modes::is_owner;
+use ob_base::{
+    ASSERT_FAILS, ASSET_LOST, ASSET_OVERWRITTEN, ContractId, FieldId, Memory, NOT_ACCESSIBLE,
+    NOT_OWNING, Operator, Perm, Span, UNDER_TEST,
+};
+use ob_context::{BodyFrame, Context, FlowError, Known, is_tested, kind_of, must};
+use ob_giving::{fill, got, reads, uses};
+use ob_perm::{give, matches, unowned};
+use ob_silica::{Constant, Operand, Place};
+use ob_table::LocalKind;
+use std::alloc::Global;
+
+// Sets a slot to a value that is no reference.
+fn put_value(context: &mut Context, slot: u8, kind: LocalKind) -> Result<(), Memory>
+    ensures { OnOk result (context_of context.new ≡ put_value (context_of context.old) slot kind) }
+{
+    let known = Known {
+        kind,
+        permission: unowned(),
+    };
+    context.put(Place::Slot(slot), Some(known))
+}
+
+fn kind_of_constant(value: &Constant) -> LocalKind
+    ensures { result ≡ kind_of_constant value.now }
+{
+    match value {
+        Constant::Int(_) => LocalKind::Int,
+        Constant::Bool(_) => LocalKind::Bool,
+        Constant::Text(_) => LocalKind::Text,
+    }
+}
+
+fn kind_of_operator(operator: Operator) -> LocalKind
+    ensures { result ≡ kind_of_operator operator }
+{
+    match operator {
+        Operator::Add | Operator::Sub | Operator::Mul | Operator::Div => LocalKind::Int,
+        Operator::Rem | Operator::Negate => LocalKind::Int,
+        _ => LocalKind::Bool,
+    }
+}
+
+/// Sets a slot to a value of the text.
+pub fn put_constant(context: &mut Context, slot: u8, value: &Constant) -> Result<(), Memory>
+    ensures { OnOk result (context_of context.new
+        ≡ put_value (context_of context.old) slot (kind_of_constant value.now)) }
+{
+    put_value(context, slot, kind_of_constant(value))
+}
+
+// An operator's operands are used.
+#[tactic(auto, using(ob_context::proofs::PremiseLemmas::premises))]
+fn operates(
+    frame: &BodyFrame<'_>,
+    context: &Context,
+    a: Operand,
+    b: Operand,
+) -> Result<(), FlowError>
+    ensures { Meets result (operates frame.now (context_of context.now) a b) }
+{
+    uses(frame, context, a)?;
+    uses(frame, context, b)
+}
+
+/// Sets a slot to an operator's value.
+pub fn operate(
+    frame: &BodyFrame<'_>,
+    context: &mut Context,
+    slot: u8,
+    operator: Operator,
+    a: Operand,
+    b: Operand,
+) -> Result<(), FlowError>
+    ensures { Leaves result (context_of context.new) (operates frame.now (context_of context.old) a b)
+        (put_value (context_of context.old) slot (kind_of_operator operator)) }
+{
+    operates(frame, context, a, b)?;
+    put_value(context, slot, kind_of_operator(operator))?;
+    Ok(())
+}
+
+// What a copy is asked for.
+#[tactic(auto, using(ob_context::proofs::PremiseLemmas::premises))]
+fn copies(
+    frame: &BodyFrame<'_>,
+    context: &Context,
+    at: Span,
+    to: Place,
+    from: Operand,
+) -> Result<(), FlowError>
+    ensures { Meets result (copies frame.now (context_of context.now) at (location_of to) from) }
+{
+    uses(frame, context, from)?;
+    match to {
+        Place::This | Place::Slot(_) => Ok(()),
+        Place::Field(field) => {
+            may_change(context, at)?;
+            must(NOT_ACCESSIBLE, at, frame.accessible(context, field))
+        }
+    }
+}
+
+// The kind of a place to which a value is copied.
+fn copied_kind(frame: &BodyFrame<'_>, context: &Context, to: Place, from: Operand) -> LocalKind
+    ensures { result ≡ copied_kind frame.now (context_of context.now) (location_of to) from }
+{
+    match to {
+        Place::This | Place::Slot(_) => context.kind(from.place),
+        Place::Field(field) => kind_of(frame.type_of_field(field)),
+    }
+}
+
+/// Copies a value that is no reference.
+#[tactic(auto, using(crate::proofs::FormsLemmas::copied_is))]
+pub fn copy(
+    frame: &BodyFrame<'_>,
+    context: &mut Context,
+    at: Span,
+    to: Place,
+    from: Operand,
+) -> Result<(), FlowError>
+    ensures { Leaves result (context_of context.new)
+        (copies frame.now (context_of context.old) at (location_of to) from)
+        (copied frame.now (context_of context.old) (location_of to) from) }
+{
+    copies(frame, context, at, to, from)?;
+    let known = Known {
+        kind: copied_kind(frame, context, to, from),
+        permission: unowned(),
+    };
+    context.put(to, Some(known))?;
+    Ok(())
+}
+
+// What a move into a slot is asked for.
+#[tactic(auto, using(ob_context::proofs::PremiseLemmas::premises))]
+fn moves_to_slot(
+    frame: &BodyFrame<'_>,
+    tested: &[Place],
+    context: &Context,
+    at: Span,
+    slot: u8,
+    from: Operand,
+) -> Result<(), FlowError>
+    ensures { Meets result (moves_to_slot frame.now (tested_of tested.now) (context_of context.now) at slot from) }
+{
+    uses(frame, context, from)?;
+    must(UNDER_TEST, from.span, !is_tested(tested, from.place))?;
+    must(UNDER_TEST, at, !is_tested(tested, Place::Slot(slot)))?;
+    must(
+        ASSET_OVERWRITTEN,
+        at,
+        !frame.owns_asset(context, Place::Slot(slot)),
+    )
+}
+
+// The kind of a slot of this contract, or else of the place from which it is set.
+fn moved_kind(context: &Context, from: Operand, contract: Option<ContractId>) -> LocalKind
+    ensures { result ≡ moved_kind (context_of context.now) from contract }
+{
+    match contract {
+        Some(contract) => LocalKind::Reference(contract),
+        None => context.kind(from.place),
+    }
+}
+
+// Moves a reference into a slot: an owner's permission goes over.
+fn moved_to_slot(
+    alloc: Global,
+    frame: &BodyFrame<'_>,
+    context: &mut Context,
+    slot: u8,
+    from: Operand,
+    contract: Option<ContractId>,
+) -> Result<(), Memory>
+    ensures { OnOk result (context_of context.new
+        ≡ moved_to_slot frame.now (context_of context.old) slot from contract) }
+{
+    let kind = moved_kind(context, from, contract);
+    let counted = context.counted(from.place);
+    let permission = frame.converted(alloc, context.kind(from.place), kind, counted)?;
+    let kept = give(context.permission(from.place), counted);
+    context.set_permission(from.place, kept);
+    context.put(Place::Slot(slot), Some(Known { kind, permission }))
+}
+
+// Moves a reference into a field.
+#[tactic(auto, using(ob_context::proofs::PremiseLemmas::premises))]
+fn move_to_field(
+    alloc: Global,
+    frame: &BodyFrame<'_>,
+    tested: &[Place],
+    context: &mut Context,
+    at: Span,
+    field: FieldId,
+    from: Operand,
+) -> Result<(), FlowError>
+    ensures { Leaves result (context_of context.new)
+        (moves_to_field frame.now (tested_of tested.now) (context_of context.old) at field.0 from)
+        (moved_to_field frame.now (context_of context.old) field.0 from) }
+{
+    must(NOT_ACCESSIBLE, at, frame.accessible(context, field))?;
+    must(UNDER_TEST, at, !is_tested(tested, Place::Field(field)))?;
+    let known = got(alloc, frame, context, field, from.place)?;
+    fill(alloc, frame, tested, context, at, field, from)?;
+    let overwrites = frame.owns_asset(context, Place::Field(field));
+    must(ASSET_OVERWRITTEN, at, !overwrites)?;
+    context.put(Place::Field(field), Some(known))?;
+    Ok(())
+}
+
+// Moves a reference into a slot.
+fn move_to_slot(
+    alloc: Global,
+    frame: &BodyFrame<'_>,
+    tested: &[Place],
+    context: &mut Context,
+    at: Span,
+    slot: u8,
+    from: Operand,
+    contract: Option<ContractId>,
+) -> Result<(), FlowError>
+    ensures { Leaves result (context_of context.new)
+        (moves_to_slot frame.now (tested_of tested.now) (context_of context.old) at slot from)
+        (moved_to_slot frame.now (context_of context.old) slot from contract) }
+{
+    moves_to_slot(frame, tested, context, at, slot, from)?;
+    moved_to_slot(alloc, frame, context, slot, from, contract)?;
+    Ok(())
+}
+
+/// Moves a reference.
+pub fn move_reference(
+    alloc: Global,
+    frame: &BodyFrame<'_>,
+    tested: &[Place],
+    context: &mut Context,
+    at: Span,
+    to: Place,
+    from: Operand,
+    contract: Option<ContractId>,
+) -> Result<(), FlowError>
+    ensures { Leaves result (context_of context.new)
+        (moves frame.now (tested_of tested.now) (context_of context.old) at (location_of to) from)
+        (moved frame.now (context_of context.old) (location_of to) from contract) }
+{
+    match to {
+        Place::This => move_to_slot(alloc, frame, tested, context, at, 0, from, contract),
+        Place::Slot(slot) => move_to_slot(alloc, frame, tested, context, at, slot, from, contract),
+        Place::Field(field) => move_to_field(alloc, frame, tested, context, at, field, from),
+    }
+}
+
+/// Says what a place holds.
+#[tactic(auto, using(ob_context::proofs::PremiseLemmas::premises))]
+pub fn assert_held(
+    frame: &BodyFrame<'_>,
+    context: &Context,
+    place: Operand,
+    permission: Perm,
+) -> Result<(), FlowError>
+    ensures { Meets result (asserts frame.now (context_of context.now) place permission) }
+{
+    reads(frame, context, place)?;
+    let held = matches(context.counted(place.place), permission);
+    must(ASSERT_FAILS, place.span, held)
+}
+
+// What giving ownership up is asked for.
+#[tactic(auto, using(ob_context::proofs::PremiseLemmas::premises))]
+fn disowns(
+    frame: &BodyFrame<'_>,
+    tested: &[Place],
+    context: &Context,
+    place: Operand,
+) -> Result<(), FlowError>
+    ensures { Meets result (disowns frame.now (tested_of tested.now) (context_of context.now) place) }
+{
+    uses(frame, context, place)?;
+    must(
+        NOT_OWNING,
+        place.span,
+        is_owner(context.counted(place.place)),
+    )?;
+    must(UNDER_TEST, place.span, !is_tested(tested, place.place))
+}
+
+/// Gives ownership up.
+pub fn disown(
+    frame: &BodyFrame<'_>,
+    tested: &[Place],
+    context: &mut Context,
+    place: Operand,
+) -> Result<(), FlowError>
+    ensures { Leaves result (context_of context.new)
+        (disowns frame.now (tested_of tested.now) (context_of context.old) place)
+        (now (context_of context.old) (located place) unowned) }
+{
+    disowns(frame, tested, context, place)?;
+    context.set_permission(place.place, unowned());
+    Ok(())
+}
+
+// What ending a slot is asked for.
+#[tactic(auto, using(ob_context::proofs::PremiseLemmas::premises))]
+fn drops_slot(
+    frame: &BodyFrame<'_>,
+    tested: &[Place],
+    context: &Context,
+    at: Span,
+    slot: u8,
+) -> Result<(), FlowError>
+    ensures { Meets result (drops_slot frame.now (tested_of tested.now) (context_of context.now) at slot) }
+{
+    must(
+        ASSET_LOST,
+        at,
+        !frame.owns_asset(context, Place::Slot(slot)),
+    )?;
+    must(UNDER_TEST, at, !is_tested(tested, Place::Slot(slot)))
+}
+
+/// Ends a slot.
+pub fn drop_slot(
+    frame: &BodyFrame<'_>,
+    tested: &[Place],
+    context: &mut Context,
+    at: Span,
+    number: u8,
+) -> Result<(), FlowError>
+    ensures { Leaves result (context_of context.new)
+        (drops_slot frame.now (tested_of tested.now) (context_of context.old) at number)
+        (put (context_of context.old) (slot number) None) }
+{
+    drops_slot(frame, tested, context, at, number)?;
+    context.put(Place::Slot(number), None)?;
+    Ok(())
+}
