@@ -1,4 +1,4 @@
--- A text has one tree at most, and one first fault.
+-- A text has one tree at most, one class table, and one first fault up to names and types.
 use Rattle.std.proofs.Common.{ℕ, ◌≡◌, List, [], ◌∷◌, Some, None, refl, sym, ap, ◌∙◌, subst}
 use Rattle.std.specs.Prelude.{slice_get}
 use Rattle.ob_base.specs.Faults.{not_built}
@@ -28,10 +28,8 @@ use Rattle.ob_resolve.specs.declared.resolving.ResolveError.{ResolveError}
 use Rattle.ob_resolve.specs.declared.resolving.ResolveError.TheVariants as resolving
 use Rattle.ob_resolve.proofs.ResolvingLaws.{table_or_fault_lem, one_first_fault_lem}
 use Rattle.ob_front.specs.Brackets.{brackets}
-use Rattle.ob_front.specs.Stages.{IsTreeOf, IsPlainTreeOf, IsAccepted, HasTable, IsWellMadeTable, HasBracket, HasTreeFault, at_token, at_row, HasTextFault, at_tree, at_bracket, at_site}
+use Rattle.ob_front.specs.Stages.{IsTreeOf, IsPlainTreeOf, IsResolved, HasTable, IsWellMadeTable, HasBracket, HasTreeFault, at_token, at_row, HasTableFault, at_tree, at_bracket, at_site}
 use Rattle.ob_front.specs.Compiling.{of_lexing, of_parsing, of_resolving, OnFault}
-use Rattle.ob_front.specs.declared.stages.CompileError.{CompileError}
-use Rattle.ob_front.specs.declared.stages.CompileError.TheVariants as compiling
 
 -- ---- trees
 
@@ -55,7 +53,7 @@ pub no_tokens : (text : List ℕ) (cause : LexError) → OnLexFault cause (HasFa
 no_tokens text (lexing.Fault fault) has = at_token has
 no_tokens text lexing.Memory has = tt
 
-pub told_of_text : (text : List ℕ) (cause : LexError) → OnLexFault cause (HasFault text) → OnFault (of_lexing cause) (HasTextFault text)
+pub told_of_text : (text : List ℕ) (cause : LexError) → OnLexFault cause (HasFault text) → OnFault (of_lexing cause) (HasTableFault text)
 told_of_text text (lexing.Fault fault) has = at_tree (at_token has)
 told_of_text text lexing.Memory has = tt
 
@@ -67,12 +65,12 @@ pub no_tree : (text : List ℕ) (lexed : Lexed) (slice : List Token) (cause : Pa
 no_tree text lexed slice (parsing.Fault fault) spelled whole has = row_of text lexed slice fault spelled whole has
 no_tree text lexed slice parsing.Memory spelled whole has = tt
 
-pub told_of_tokens : (text : List ℕ) (lexed : Lexed) (slice : List Token) (cause : ParseError) → HasTokens text lexed → slice ≡ lexed.tokens → OnParseFault cause (HasSyntaxFault slice lexed.end) → OnFault (of_parsing cause) (HasTextFault text)
+pub told_of_tokens : (text : List ℕ) (lexed : Lexed) (slice : List Token) (cause : ParseError) → HasTokens text lexed → slice ≡ lexed.tokens → OnParseFault cause (HasSyntaxFault slice lexed.end) → OnFault (of_parsing cause) (HasTableFault text)
 told_of_tokens text lexed slice (parsing.Fault fault) spelled whole has = at_tree (row_of text lexed slice fault spelled whole has)
 told_of_tokens text lexed slice parsing.Memory spelled whole has = tt
 
 -- of one whose tree has a fault
-pub told_of_tree : (text : List ℕ) (tree : List Contract) (cause : ResolveError) → IsPlainTreeOf text tree → OnResolveFault cause (IsFirstFault tree) → OnFault (of_resolving cause) (HasTextFault text)
+pub told_of_tree : (text : List ℕ) (tree : List Contract) (cause : ResolveError) → IsPlainTreeOf text tree → OnResolveFault cause (IsFirstFault tree) → OnFault (of_resolving cause) (HasTableFault text)
 told_of_tree text tree (resolving.Fault fault) is has = at_site tree is has
 told_of_tree text tree resolving.Memory is has = tt
 
@@ -94,14 +92,14 @@ plain_is text lexed slice other tree spelled whole whole' has none = record {
   plain = sym (ap brackets whole) ∙ none_of (brackets slice) none;
 }
 
-pub bracket_is : (text : List ℕ) (lexed : Lexed) (slice other : List Token) (tree : List Contract) (fault : ProgramFault) → HasTokens text lexed → slice ≡ lexed.tokens → other ≡ lexed.tokens → HasTree other tree → slice_get (brackets slice) 0 ≡ Some fault.span → fault.number ≡ not_built → HasTextFault text fault
+pub bracket_is : (text : List ℕ) (lexed : Lexed) (slice other : List Token) (tree : List Contract) (fault : ProgramFault) → HasTokens text lexed → slice ≡ lexed.tokens → other ≡ lexed.tokens → HasTree other tree → slice_get (brackets slice) 0 ≡ Some fault.span → fault.number ≡ not_built → HasTableFault text fault
 bracket_is text lexed slice other tree fault spelled whole whole' has some is =
     let first = first_of (brackets slice) fault.span some in
     at_bracket (record { tree = tree; of = tree_is text lexed other tree spelled whole' has; more = first.0; first = sym (ap brackets whole) ∙ first.1 }) is
 
 -- the class table of a tree is that of its text
 pub table_is : (text : List ℕ) (tree : List Contract) (table : ClassTable) → IsPlainTreeOf text tree → HasClassTable tree table → HasTable text table
-table_is text tree table is has = record { accepted = record { tree = tree; is = is; clean = has.clean }; is = has.is }
+table_is text tree table is has = record { resolved = record { tree = tree; is = is; clean = has.clean }; is = has.is }
 
 -- a program that is the tree of a text has the shape of one, so its table is well made
 made_of : (text : List ℕ) (tree : List Contract) → IsTreeOf text tree → HasNoFault tree → IsWellMadeTable (table_of tree)
@@ -110,7 +108,7 @@ made_of text tree is clean =
     record { conditions = table_conditions_lem tree shape clean; bodies = bodies_made_lem tree shape clean; each = bodies_there_lem tree shape clean }
 
 pub made : (text : List ℕ) (table : ClassTable) → HasTable text table → IsWellMadeTable table
-made text table has = subst IsWellMadeTable (sym has.is) (made_of text has.accepted.tree has.accepted.is.of has.accepted.clean)
+made text table has = subst IsWellMadeTable (sym has.is) (made_of text has.resolved.tree has.resolved.is.of has.resolved.clean)
 
 -- ---- laws
 
@@ -160,11 +158,11 @@ pub tree_or_none : (text : List ℕ) (tree : List Contract) (fault : ProgramFaul
 tree_or_none text tree fault is (at_token has) = tree_or_token text tree fault is has
 tree_or_none text tree fault is (at_row lexed spelled has) = tree_or_row text tree lexed fault is spelled has
 
--- a text that is accepted has no first fault
-pub accepted_or_fault_lem : (text : List ℕ) (fault : ProgramFault) → HasTextFault text fault → ¬ (IsAccepted text)
-accepted_or_fault_lem text fault (at_tree has) is = tree_or_none text is.tree fault is.is.of has
-accepted_or_fault_lem text fault (at_bracket has number) is = plain_or_bracket text is.tree fault.span is.is has
-accepted_or_fault_lem text fault (at_site tree of has) is =
+-- a text without a fault up to names and types has none of these
+pub resolved_or_fault_lem : (text : List ℕ) (fault : ProgramFault) → HasTableFault text fault → ¬ (IsResolved text)
+resolved_or_fault_lem text fault (at_tree has) is = tree_or_none text is.tree fault is.is.of has
+resolved_or_fault_lem text fault (at_bracket has number) is = plain_or_bracket text is.tree fault.span is.is has
+resolved_or_fault_lem text fault (at_site tree of has) is =
     table_or_fault_lem is.tree fault (subst (λ t. IsFirstFault t fault) (one_tree text tree is.tree of.of is.is.of) has) is.clean
 
 one_tree_fault : (text : List ℕ) (a b : ProgramFault) → HasTreeFault text a → HasTreeFault text b → a ≡ b
@@ -173,14 +171,23 @@ one_tree_fault text a b (at_token p) (at_row lexed spelled q) = absurd (lexed'.t
 one_tree_fault text a b (at_row lexed spelled p) (at_token q) = absurd (lexed'.tokens_or_fault_lem text lexed b spelled q)
 one_tree_fault text a b (at_row lexed spelled p) (at_row other spelled' q) = one_row_fault text lexed other a b spelled spelled' p q
 
--- nor has any text two
-pub one_text_fault_lem : (text : List ℕ) (a b : ProgramFault) → HasTextFault text a → HasTextFault text b → a ≡ b
-one_text_fault_lem text a b (at_tree p) (at_tree q) = one_tree_fault text a b p q
-one_text_fault_lem text a b (at_tree p) (at_bracket q number) = absurd (tree_or_none text q.tree a q.of p)
-one_text_fault_lem text a b (at_tree p) (at_site tree is q) = absurd (tree_or_none text tree a is.of p)
-one_text_fault_lem text a b (at_bracket p number) (at_tree q) = absurd (tree_or_none text p.tree b p.of q)
-one_text_fault_lem text a b (at_bracket p number) (at_bracket q number') = one_bracket text a b p q number number'
-one_text_fault_lem text a b (at_bracket p number) (at_site tree is q) = absurd (plain_or_bracket text tree a.span is p)
-one_text_fault_lem text a b (at_site tree is p) (at_tree q) = absurd (tree_or_none text tree b is.of q)
-one_text_fault_lem text a b (at_site tree is p) (at_bracket q number) = absurd (plain_or_bracket text tree b.span is q)
-one_text_fault_lem text a b (at_site tree is p) (at_site other is' q) = one_site text tree other a b is.of is'.of p q
+-- nor has any text two of them
+pub one_table_fault_lem : (text : List ℕ) (a b : ProgramFault) → HasTableFault text a → HasTableFault text b → a ≡ b
+one_table_fault_lem text a b (at_tree p) (at_tree q) = one_tree_fault text a b p q
+one_table_fault_lem text a b (at_tree p) (at_bracket q number) = absurd (tree_or_none text q.tree a q.of p)
+one_table_fault_lem text a b (at_tree p) (at_site tree is q) = absurd (tree_or_none text tree a is.of p)
+one_table_fault_lem text a b (at_bracket p number) (at_tree q) = absurd (tree_or_none text p.tree b p.of q)
+one_table_fault_lem text a b (at_bracket p number) (at_bracket q number') = one_bracket text a b p q number number'
+one_table_fault_lem text a b (at_bracket p number) (at_site tree is q) = absurd (plain_or_bracket text tree a.span is p)
+one_table_fault_lem text a b (at_site tree is p) (at_tree q) = absurd (tree_or_none text tree b is.of q)
+one_table_fault_lem text a b (at_site tree is p) (at_bracket q number) = absurd (plain_or_bracket text tree b.span is q)
+one_table_fault_lem text a b (at_site tree is p) (at_site other is' q) = one_site text tree other a b is.of is'.of p q
+
+-- a text has one class table at most
+pub one_table : (text : List ℕ) (a b : ClassTable) → HasTable text a → HasTable text b → a ≡ b
+one_table text a b one other =
+    one.is ∙ ap table_of (one_tree text one.resolved.tree other.resolved.tree one.resolved.is.of other.resolved.is.of) ∙ sym other.is
+
+-- one with a class table has no fault up to names and types
+pub table_or_none : (text : List ℕ) (table : ClassTable) (fault : ProgramFault) → HasTable text table → ¬ (HasTableFault text fault)
+table_or_none text table fault has none = resolved_or_fault_lem text fault none has.resolved

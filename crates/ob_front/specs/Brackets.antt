@@ -3,8 +3,7 @@ use Rattle.std.specs.Prelude.{Bool, true, false, ◌&&◌, List, [], ◌∷◌, 
 use Rattle.ob_base.specs.declared.fault.Span.{Span}
 use Rattle.ob_lexer.specs.declared.token.Token.{Token}
 use Rattle.ob_lexer.specs.declared.token.TokenKind.{TokenKind}
-use Rattle.ob_lexer.specs.declared.token.TokenKind.TheVariants.{Name, Number, Text, Word, Sign}
-use Rattle.ob_lexer.specs.declared.token.Sign.{Sign as SignKind}
+use Rattle.ob_lexer.specs.declared.token.TokenKind.TheVariants.{Name, Sign}
 use Rattle.ob_lexer.specs.declared.token.Sign.TheVariants.{OpenBracket}
 
 -- whether a token is a name

@@ -1,4 +1,4 @@
--- The steps from a text to its class table.
+-- The steps from a text to its program.
 use Rattle.std.specs.Prelude.{⊤}
 use Rattle.ob_base.specs.declared.fault.ProgramFault.{ProgramFault}
 use Rattle.ob_lexer.specs.declared.lexer.LexError.{LexError}
@@ -7,6 +7,10 @@ use Rattle.ob_parser.specs.declared.parsing.ParseError.{ParseError}
 use Rattle.ob_parser.specs.declared.parsing.ParseError.TheVariants as parsing
 use Rattle.ob_resolve.specs.declared.resolving.ResolveError.{ResolveError}
 use Rattle.ob_resolve.specs.declared.resolving.ResolveError.TheVariants as resolving
+use Rattle.ob_lower.specs.declared.error.LowerError.{LowerError}
+use Rattle.ob_lower.specs.declared.error.LowerError.TheVariants as lowering
+use Rattle.ob_context.specs.declared.checking.FlowError.{FlowError}
+use Rattle.ob_context.specs.declared.checking.FlowError.TheVariants as checking
 use Rattle.ob_front.specs.declared.stages.CompileError.{CompileError}
 use Rattle.ob_front.specs.declared.stages.CompileError.TheVariants as compiling
 
@@ -24,6 +28,16 @@ of_parsing parsing.Memory = compiling.Memory
 abbrev pub of_resolving : ResolveError → CompileError
 of_resolving (resolving.Fault fault) = compiling.Fault fault
 of_resolving resolving.Memory = compiling.Memory
+
+-- what a cause of the lowering is to a caller
+abbrev pub of_lowering : LowerError → CompileError
+of_lowering (lowering.Fault fault) = compiling.Fault fault
+of_lowering lowering.Memory = compiling.Memory
+
+-- what a cause of the flow check is to a caller
+abbrev pub of_checking : FlowError → CompileError
+of_checking (checking.Fault fault) = compiling.Fault fault
+of_checking checking.Memory = compiling.Memory
 
 -- a fact of the fault that is answered. Where memory runs out nothing is said
 abbrev pub OnFault : CompileError → (ProgramFault → Type 0) → Type 0

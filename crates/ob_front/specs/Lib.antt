@@ -1,3 +1,4 @@
 pub mod Brackets
 pub mod Stages
+pub mod Programs
 pub mod Compiling

@@ -1,4 +1,4 @@
--- What the stages that are built find in a text: its class table, or its first fault.
+-- What the stages up to names and types find in a text: its class table, or its first fault.
 use Rattle.std.specs.Prelude.{ℕ, ◌≡◌, List, [], ◌∷◌, All}
 use Rattle.ob_base.specs.Faults.{not_built}
 use Rattle.ob_base.specs.declared.fault.Span.{Span}
@@ -27,16 +27,16 @@ pub record IsPlainTreeOf (text : List ℕ) (tree : List Contract) : Type 0 where
   pub of : IsTreeOf text tree
   pub plain : brackets of.lexed.tokens ≡ []
 
--- the stages that are built find no fault in the text: it has such a tree, and that has no fault of names and types
-pub record IsAccepted (text : List ℕ) : Type 0 where
+-- the text has such a tree, and that has no fault of names and types
+pub record IsResolved (text : List ℕ) : Type 0 where
   pub tree : List Contract
   pub is : IsPlainTreeOf text tree
   pub clean : HasNoFault tree
 
--- the text is accepted, and this is its class table
+-- the text has no fault up to names and types, and this is its class table
 pub record HasTable (text : List ℕ) (table : ClassTable) : Type 0 where
-  pub accepted : IsAccepted text
-  pub is : table ≡ table_of accepted.tree
+  pub resolved : IsResolved text
+  pub is : table ≡ table_of resolved.tree
 
 -- what the later stages need of a class table: it meets its conditions, and its bodies are well made, one for each constructor
 -- and transaction
@@ -57,9 +57,9 @@ pub data HasTreeFault (text : List ℕ) (fault : ProgramFault) : Type 0 where
   at_token : HasFault text fault → HasTreeFault text fault
   at_row : (lexed : Lexed) → HasTokens text lexed → HasSyntaxFault lexed.tokens lexed.end fault → HasTreeFault text fault
 
--- The first fault of a text that isn't accepted, stage by stage: that of a text without a tree; or, where it has a tree, the
--- first type parameter or type argument; or, where it has none of these, the first fault of names and types.
-pub data HasTextFault (text : List ℕ) (fault : ProgramFault) : Type 0 where
-  at_tree : HasTreeFault text fault → HasTextFault text fault
-  at_bracket : HasBracket text fault.span → fault.number ≡ not_built → HasTextFault text fault
-  at_site : (tree : List Contract) → IsPlainTreeOf text tree → IsFirstFault tree fault → HasTextFault text fault
+-- The first fault of a text that has no class table, stage by stage: that of a text without a tree; or, where it has a tree,
+-- the first type parameter or type argument; or, where it has none of these, the first fault of names and types.
+pub data HasTableFault (text : List ℕ) (fault : ProgramFault) : Type 0 where
+  at_tree : HasTreeFault text fault → HasTableFault text fault
+  at_bracket : HasBracket text fault.span → fault.number ≡ not_built → HasTableFault text fault
+  at_site : (tree : List Contract) → IsPlainTreeOf text tree → IsFirstFault tree fault → HasTableFault text fault

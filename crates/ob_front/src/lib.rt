@@ -1,7 +1,9 @@
-//! From a program's text to its class table, stage by stage, or to its first fault.
+//! From a program's text to the program, stage by stage, or to its first fault.
 #![tactic(auto)]
 
 mod brackets;
+mod programs;
 mod stages;
 
-pub use stages::{CompileError, accepted_or_fault, class_table, one_text_fault, syntax_tree};
+pub use programs::{Compiled, accepted_or_fault, compile, lowered, one_text_fault};
+pub use stages::{CompileError, class_table, syntax_tree};

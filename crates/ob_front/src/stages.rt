@@ -1,13 +1,14 @@
 //! The stages from a program's text to its class table.
-ghost use Rattle.std.specs.Prelude.{◌≡◌, ℕ, List, IfOk, IfErr};
-ghost use Rattle.ob_base.specs.declared.fault.ProgramFault.{ProgramFault};
+ghost use Rattle.std.specs.Prelude.{IfOk, IfErr};
 ghost use Rattle.ob_tree.specs.MembersView.{tree_of};
-ghost use Rattle.ob_front.specs.Stages.{IsTreeOf, IsPlainTreeOf, IsAccepted, HasTable, IsWellMadeTable, HasTreeFault, HasTextFault};
+ghost use Rattle.ob_front.specs.Stages.{IsTreeOf, IsPlainTreeOf, HasTable, IsWellMadeTable, HasTreeFault, HasTableFault};
 ghost use Rattle.ob_front.specs.Compiling.{OnFault};
 
 use crate::brackets::first_bracket;
 use ob_base::{Memory, NOT_BUILT, ProgramFault};
+use ob_context::FlowError;
 use ob_lexer::{LexError, lex};
+use ob_lower::LowerError;
 use ob_parser::{ParseError, parse};
 use ob_resolve::{ResolveError, resolve};
 use ob_table::Table;
@@ -78,6 +79,34 @@ impl From<ResolveError> for CompileError {
     }
 }
 
+impl From<LowerError> for CompileError {
+    ghost use Rattle.std.specs.Prelude.{◌≡◌};
+    ghost use Rattle.ob_front.specs.Compiling.{of_lowering};
+
+    ghost from_gives = { λ cause e. e ≡ of_lowering cause };
+
+    fn from(cause: LowerError) -> CompileError {
+        match cause {
+            LowerError::Fault(fault) => CompileError::Fault(fault),
+            LowerError::Memory => CompileError::Memory,
+        }
+    }
+}
+
+impl From<FlowError> for CompileError {
+    ghost use Rattle.std.specs.Prelude.{◌≡◌};
+    ghost use Rattle.ob_front.specs.Compiling.{of_checking};
+
+    ghost from_gives = { λ cause e. e ≡ of_checking cause };
+
+    fn from(cause: FlowError) -> CompileError {
+        match cause {
+            FlowError::Fault(fault) => CompileError::Fault(fault),
+            FlowError::Memory => CompileError::Memory,
+        }
+    }
+}
+
 /// The tree of a text, or the first fault of its tokens or of the grammar.
 pub fn syntax_tree(alloc: Global, text: &[u8]) -> Result<Tree, CompileError>
     ensures tree { IfOk result (λ tree. IsTreeOf text.now (tree_of tree)) }
@@ -90,7 +119,7 @@ pub fn syntax_tree(alloc: Global, text: &[u8]) -> Result<Tree, CompileError>
 // The tree of a text without type parameters and type arguments.
 fn plain_tree(alloc: Global, text: &[u8]) -> Result<Tree, CompileError>
     ensures tree { IfOk result (λ tree. IsPlainTreeOf text.now (tree_of tree)) }
-    ensures fault { IfErr result (λ e. OnFault e (HasTextFault text.now)) }
+    ensures fault { IfErr result (λ e. OnFault e (HasTableFault text.now)) }
 {
     let lexed = lex(alloc, text)?;
     let bracket = first_bracket(lexed.tokens.as_slice());
@@ -109,18 +138,8 @@ fn plain_tree(alloc: Global, text: &[u8]) -> Result<Tree, CompileError>
 pub fn class_table(alloc: Global, text: &[u8]) -> Result<Table, CompileError>
     ensures table { IfOk result (HasTable text.now) }
     ensures made { IfOk result IsWellMadeTable }
-    ensures fault { IfErr result (λ e. OnFault e (HasTextFault text.now)) }
+    ensures fault { IfErr result (λ e. OnFault e (HasTableFault text.now)) }
 {
     let tree = plain_tree(alloc, text)?;
     Ok(resolve(alloc, &tree)?)
 }
-
-/// A text that is accepted has no first fault.
-pub fn accepted_or_fault()
-    ensures { (text : List ℕ) (fault : ProgramFault) → HasTextFault text fault → ¬ (IsAccepted text) }
-{}
-
-/// A text has one first fault at most.
-pub fn one_text_fault()
-    ensures { (text : List ℕ) (a b : ProgramFault) → HasTextFault text a → HasTextFault text b → a ≡ b }
-{}

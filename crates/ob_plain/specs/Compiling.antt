@@ -4,7 +4,7 @@ use Rattle.ob_base.specs.Faults.{not_built}
 use Rattle.ob_base.specs.declared.fault.ProgramFault.{ProgramFault}
 use Rattle.ob_lexer.specs.Places.{fault_at}
 use Rattle.ob_tree.specs.Members.{Contract}
-use Rattle.ob_front.specs.Stages.{IsAccepted, HasTextFault}
+use Rattle.ob_front.specs.Programs.{IsAccepted, HasTextFault}
 use Rattle.ob_plain.specs.BuiltForm.{program_of}
 use Rattle.ob_plain.specs.Resolved.{plain_of}
 use Rattle.ob_plain.specs.Form.{is_valid}

@@ -7,8 +7,9 @@ use Rattle.ob_io.specs.Told.{Takes}
 use Rattle.ob_machine.specs.declared.plain.Plain.{Plain}
 use Rattle.ob_base.specs.declared.fault.ProgramFault.{ProgramFault}
 use Rattle.ob_lexer.specs.Flaws.{HasFault, too_long, no_utf8, flawed}
-use Rattle.ob_front.specs.Stages.{IsAccepted, HasTreeFault, at_token, at_row, HasTextFault, at_tree, at_bracket, at_site}
-use Rattle.ob_front.proofs.StagesLaws.{accepted_or_fault_lem}
+use Rattle.ob_front.specs.Stages.{at_token, at_row, HasTableFault, at_tree, at_bracket, at_site}
+use Rattle.ob_front.specs.Programs.{HasTermsFault, at_table, at_slot, IsAccepted, HasTextFault, at_terms, at_premise}
+use Rattle.ob_front.proofs.ProgramsLaws.{accepted_or_fault_lem}
 use Rattle.ob_plain.specs.Form.{IsOfForm, IsFaulty, in_text, in_form}
 use Rattle.ob_plain.proofs.FormLaws.{form_or_fault_lem}
 use Rattle.ob_serve.specs.Served.{Streams, IsAll, Finishes, FailsToRead, FailsToWrite, GivesUp, ReachesLimit}
@@ -32,18 +33,26 @@ module _ (content : List ℕ) (long : 1048576 < length (take 1048577 content)) w
   too_long_tokens fault (no_utf8 f) = absurd (long_and_short (take 1048577 content) long f.short)
   too_long_tokens fault (flawed f) = absurd (long_and_short (take 1048577 content) long f.short)
 
+  too_long_table : (fault : ProgramFault) → HasTableFault (take 1048577 content) fault → HasTableFault content fault
+  too_long_table fault (at_tree (at_token has)) = at_tree (at_token (too_long_tokens fault has))
+  too_long_table fault (at_tree (at_row lexed spelled has)) = absurd (long_and_short (take 1048577 content) long spelled.short)
+  too_long_table fault (at_bracket has number) = absurd (long_and_short (take 1048577 content) long has.of.spelled.short)
+  too_long_table fault (at_site tree is has) = absurd (long_and_short (take 1048577 content) long is.of.spelled.short)
+
+  too_long_terms : (fault : ProgramFault) → HasTermsFault (take 1048577 content) fault → HasTermsFault content fault
+  too_long_terms fault (at_table has) = at_table (too_long_table fault has)
+  too_long_terms fault (at_slot table has lacks) = absurd (long_and_short (take 1048577 content) long has.resolved.is.of.spelled.short)
+
   too_long_text : (fault : ProgramFault) → HasTextFault (take 1048577 content) fault → HasTextFault content fault
-  too_long_text fault (at_tree (at_token has)) = at_tree (at_token (too_long_tokens fault has))
-  too_long_text fault (at_tree (at_row lexed spelled has)) = absurd (long_and_short (take 1048577 content) long spelled.short)
-  too_long_text fault (at_bracket has number) = absurd (long_and_short (take 1048577 content) long has.of.spelled.short)
-  too_long_text fault (at_site tree is has) = absurd (long_and_short (take 1048577 content) long is.of.spelled.short)
+  too_long_text fault (at_terms has) = at_terms (too_long_terms fault has)
+  too_long_text fault (at_premise table bodies terms fails) = absurd (long_and_short (take 1048577 content) long terms.has.resolved.is.of.spelled.short)
 
   too_long_form : ¬ (IsOfForm content)
   too_long_form of = long_and_short content (omega (arith, length-take 1048577 content)) of.1.spelled.short
 
   too_long_program : (fault : ProgramFault) → IsFaulty (take 1048577 content) fault → IsFaulty content fault
   too_long_program fault (in_text has none) = in_text (too_long_text fault has) too_long_form
-  too_long_program fault (in_form is none e) = absurd (long_and_short (take 1048577 content) long is.is.of.spelled.short)
+  too_long_program fault (in_form is none e) = absurd (long_and_short (take 1048577 content) long is.is.terms.has.resolved.is.of.spelled.short)
 
   too_long_told : (command : Command) (fault : ProgramFault) → IsToldBy command (take 1048577 content) fault → IsToldBy command content fault
   too_long_told (serve name) fault told = too_long_program fault told
@@ -54,7 +63,7 @@ module _ (content : List ℕ) (long : 1048576 < length (take 1048577 content)) w
 
   not_found : (command : Command) (bytes : List ℕ) → IsFinding command (take 1048577 content) bytes → ⊥
   not_found (serve name) bytes h = h
-  not_found (check name) bytes h = long_and_short (take 1048577 content) long h.0.is.of.spelled.short
+  not_found (check name) bytes h = long_and_short (take 1048577 content) long h.0.is.terms.has.resolved.is.of.spelled.short
 
   not_served : (command : Command) (says : Option Plain → Type 0) → ServesProgram command (take 1048577 content) says → ⊥
   not_served command says h = long_and_short (take 1048577 content) long h.has.spelled.short

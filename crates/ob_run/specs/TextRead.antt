@@ -1,7 +1,7 @@
 -- What was read of a file, and what is done with it; for private clauses.
 use Rattle.std.specs.Prelude.{ℕ, ◌≡◌, ◌≤◌, List, length, take, Option, None, Some}
 use Rattle.ob_base.specs.declared.fault.ProgramFault.{ProgramFault}
-use Rattle.ob_front.specs.Stages.{IsAccepted}
+use Rattle.ob_front.specs.Programs.{IsAccepted}
 use Rattle.ob_io.specs.Views.{SourceView, SinkView}
 use Rattle.ob_run.specs.Commands.{Command, check}
 use Rattle.ob_run.specs.Statuses.{IsToldBy, Treats}

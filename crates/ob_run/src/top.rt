@@ -1,6 +1,6 @@
 //! The top call.
 ghost use Rattle.std.specs.Prelude.{◌≡◌, ◌≢◌, ◌+◌, ◌≤◌, ◌⊎◌, None, Some, List, ℕ, map, string_bytes, IfOk, IsErrOf};
-ghost use Rattle.ob_front.specs.Stages.{IsAccepted};
+ghost use Rattle.ob_front.specs.Programs.{IsAccepted};
 ghost use Rattle.ob_plain.specs.Form.{IsOfForm};
 ghost use Rattle.ob_io.specs.Causes.{Rose};
 ghost use Rattle.ob_io.specs.Files.{NotesAsk};
@@ -15,7 +15,7 @@ use crate::command::Command;
 use crate::exit::Exit;
 use crate::fault_line::fault_line;
 use ob_base::ProgramFault;
-use ob_front::{CompileError, class_table};
+use ob_front::{CompileError, compile};
 use ob_io::{FileError, Files, Sink, Source, write_all};
 use ob_plain::compile_plain;
 use ob_serve::{Served, serve};
@@ -78,7 +78,7 @@ fn check_text<K: Sink>(alloc: Global, text: &[u8], output: &mut K) -> Exit
     ensures calm { result ≢ Exit.WriteFault → (K.view output.new).faults ≡ (K.view output.old).faults }
     ensures once { (K.view output.new).faults ≤ (K.view output.old).faults + 1 }
 {
-    match class_table(alloc, text) {
+    match compile(alloc, text) {
         Ok(_) => accept(output),
         Err(CompileError::Fault(fault)) => refuse(alloc, fault, output),
         Err(CompileError::Memory) => Exit::Memory,

@@ -1,0 +1,146 @@
+-- A text is one program at most, or has one first fault.
+use native.Mathlib.Omega.{arith}
+use Rattle.std.proofs.Common.{ℕ, ◌≡◌, suc, List, [], ◌∷◌, Some, None, map, sym, ap, ◌∙◌, subst}
+use Rattle.std.specs.Prelude.{All}
+use Rattle.ob_base.specs.declared.fault.ProgramFault.{ProgramFault}
+use Rattle.ob_table.specs.Tables.{ClassTable}
+use Rattle.ob_silica.specs.Terms.{SilicaBody}
+use Rattle.ob_silica.specs.TermsView.{silica_body_of}
+use Rattle.ob_silica.specs.declared.body.TermBody.{TermBody}
+use Rattle.ob_silica_rules.specs.Deriving.{Derives}
+use Rattle.ob_front.specs.Stages.{HasTable, HasTableFault}
+use Rattle.std.proofs.lemmas.List.Elements.{All-cons}
+use Rattle.ob_table.specs.Statements.{ResolvedBody}
+use Rattle.ob_typing.specs.Conditions.{IsClassTable}
+use Rattle.ob_typing.specs.WellMade.{IsWellMade}
+use Rattle.ob_silica_rules.specs.Numbered.{AllNameStates}
+use Rattle.ob_lowering_states.proofs.Law.{lowered_terms_name_states_lem}
+use Rattle.ob_lower.specs.Lowering.{OnFault as OnSlotFault}
+use Rattle.ob_lower.specs.declared.error.LowerError.{LowerError}
+use Rattle.ob_lower.specs.declared.error.LowerError.TheVariants as lowering
+use Rattle.ob_context.specs.declared.checking.FlowError.{FlowError}
+use Rattle.ob_context.specs.declared.checking.FlowError.TheVariants as checking
+use Rattle.ob_context.specs.Checking.{OnFault as OnFlowFault}
+use Rattle.ob_middle.specs.Lowered.{AreLoweredTo, first_slot_past, LacksSlots}
+use Rattle.ob_middle.specs.Checked.{AllNumbered, first_flow_fault, FailsPremise}
+use Rattle.ob_front.specs.Compiling.{OnFault, of_lowering, of_checking}
+use Rattle.ob_front.specs.declared.stages.CompileError.{CompileError}
+use Rattle.ob_front.specs.declared.stages.CompileError.TheVariants as compiling
+use Rattle.ob_middle.proofs.MiddleLaws.{some_is, one_lowering, none_past, one_slot_fault, none_fails}
+use Rattle.ob_front.specs.Programs.{HasTerms, HasTermsFault, at_table, at_slot, IsProgram, IsAccepted, HasTextFault, at_terms, at_premise}
+use Rattle.ob_front.proofs.StagesLaws.{one_table, table_or_none, one_table_fault_lem, made}
+
+terms_or_slot : (text : List ℕ) (table other : ClassTable) (bodies : List SilicaBody) (fault : ProgramFault) → HasTerms text table bodies → HasTable text other → ¬ (LacksSlots other fault)
+terms_or_slot text table other bodies fault is has lacks =
+    let same = one_table text table other is.has has in
+    let e : first_slot_past other other.bodies ≡ None = subst (λ (t : ClassTable). first_slot_past t t.bodies ≡ None) same (none_past table table.bodies bodies is.lowered) in
+    let f : None ≡ Some fault.span = sym e ∙ lacks.place in
+    cc
+
+-- a text whose bodies have terms has no fault up to them
+terms_or_fault : (text : List ℕ) (table : ClassTable) (bodies : List SilicaBody) (fault : ProgramFault) → HasTerms text table bodies → ¬ (HasTermsFault text fault)
+terms_or_fault text table bodies fault is (at_table none) = table_or_none text table fault is.has none
+terms_or_fault text table bodies fault is (at_slot other has lacks) = terms_or_slot text table other bodies fault is has lacks
+
+one_terms_fault : (text : List ℕ) (a b : ProgramFault) → HasTermsFault text a → HasTermsFault text b → a ≡ b
+one_terms_fault text a b (at_table p) (at_table q) = one_table_fault_lem text a b p q
+one_terms_fault text a b (at_table p) (at_slot table has q) = absurd (table_or_none text table a has p)
+one_terms_fault text a b (at_slot table has p) (at_table q) = absurd (table_or_none text table b has q)
+one_terms_fault text a b (at_slot table has p) (at_slot other has' q) =
+    one_slot_fault other a b (subst (λ t. LacksSlots t a) (one_table text table other has has') p) q
+
+-- ---- programs
+
+-- the terms of a text's bodies are one list at most
+one_terms : (text : List ℕ) (table other : ClassTable) (bodies more : List SilicaBody) → HasTerms text table bodies → HasTerms text other more
+    → first_flow_fault table bodies ≡ first_flow_fault other more
+one_terms text table other bodies more one two =
+    let same = one_table text table other one.has two.has in
+    let there : AreLoweredTo other other.bodies bodies = subst (λ (t : ClassTable). AreLoweredTo t t.bodies bodies) same one.lowered in
+    ap (λ t. first_flow_fault t bodies) same ∙ ap (first_flow_fault other) (one_lowering other other.bodies bodies more there two.lowered)
+
+program_or_premise : (text : List ℕ) (table other : ClassTable) (bodies more : List SilicaBody) (fault : ProgramFault) → IsProgram text table bodies
+    → HasTerms text other more → ¬ (first_flow_fault other more ≡ Some fault)
+program_or_premise text table other bodies more fault is terms fails =
+    let f : None ≡ Some fault = sym (none_fails table bodies is.derive) ∙ one_terms text table other bodies more is.terms terms ∙ fails in
+    cc
+
+-- a text that is accepted has no first fault
+pub accepted_or_fault_lem : (text : List ℕ) (fault : ProgramFault) → HasTextFault text fault → ¬ (IsAccepted text)
+accepted_or_fault_lem text fault (at_terms has) is = terms_or_fault text is.table is.bodies fault is.is.terms has
+accepted_or_fault_lem text fault (at_premise table bodies terms fails) is = program_or_premise text is.table table is.bodies bodies fault is.is terms fails
+
+-- nor has any text two
+pub one_text_fault_lem : (text : List ℕ) (a b : ProgramFault) → HasTextFault text a → HasTextFault text b → a ≡ b
+one_text_fault_lem text a b (at_terms p) (at_terms q) = one_terms_fault text a b p q
+one_text_fault_lem text a b (at_terms p) (at_premise table bodies terms fails) = absurd (terms_or_fault text table bodies a terms p)
+one_text_fault_lem text a b (at_premise table bodies terms fails) (at_terms q) = absurd (terms_or_fault text table bodies b terms q)
+one_text_fault_lem text a b (at_premise table bodies terms fails) (at_premise other more terms' fails') =
+    some_is a b (sym fails ∙ one_terms text table other bodies more terms terms' ∙ fails')
+
+pub accepted_program : (text : List ℕ) (table : ClassTable) (bodies : List SilicaBody) → IsProgram text table bodies → IsAccepted text
+accepted_program text table bodies is = record { table = table; bodies = bodies; is = is }
+
+-- ---- what is told of a text, stage by stage
+
+-- of a text without a class table
+pub table_told : (text : List ℕ) (cause : CompileError) → OnFault cause (HasTableFault text) → OnFault cause (HasTermsFault text)
+table_told text (compiling.Fault fault) has = at_table has
+table_told text compiling.Memory has = tt
+
+-- of one whose bodies need too many slots
+pub slot_told : (text : List ℕ) (table : ClassTable) (cause : LowerError) → HasTable text table → OnSlotFault cause (LacksSlots table)
+    → OnFault (of_lowering cause) (HasTermsFault text)
+slot_told text table (lowering.Fault fault) has lacks = at_slot table has lacks
+slot_told text table lowering.Memory has lacks = tt
+
+-- of one whose bodies have no terms
+pub terms_told : (text : List ℕ) (cause : CompileError) → OnFault cause (HasTermsFault text) → OnFault cause (HasTextFault text)
+terms_told text (compiling.Fault fault) has = at_terms has
+terms_told text compiling.Memory has = tt
+
+-- of one of whose bodies a premise fails
+pub premise_told : (text : List ℕ) (table : ClassTable) (bodies : List SilicaBody) (cause : FlowError) → HasTerms text table bodies
+    → OnFlowFault cause (FailsPremise table bodies) → OnFault (of_checking cause) (HasTextFault text)
+premise_told text table bodies (checking.Fault fault) terms fails = at_premise table bodies terms fails
+premise_told text table bodies checking.Memory terms fails = tt
+
+-- ---- what the check of permissions needs
+
+pub conditions_met : (text : List ℕ) (table : ClassTable) (bodies : List SilicaBody) → HasTerms text table bodies → IsClassTable table
+conditions_met text table bodies terms = (made text table terms.has).conditions
+
+-- terms of well made bodies name states by their numbers
+numbered_of : (table : ClassTable) (bs : List ResolvedBody) (ls : List SilicaBody) → IsClassTable table → All (IsWellMade table) bs
+    → AreLoweredTo table bs ls → AllNumbered ls
+numbered_of table [] [] is made lowered = λ k d h. absurd (omega (arith, h))
+numbered_of table [] (l ∷ ls) is made lowered = absurd lowered
+numbered_of table (b ∷ bs) [] is made lowered = absurd lowered
+numbered_of table (b ∷ bs) (l ∷ ls) is made lowered =
+    All-cons (λ body. AllNameStates body.terms) l ls
+    (lowered_terms_name_states_lem table b l is (made 0 b (omega arith)) lowered.0.lowers)
+    (numbered_of table bs ls is (λ k d h. made (suc k) d (omega (arith, h))) lowered.1)
+
+pub all_numbered : (text : List ℕ) (table : ClassTable) (bodies : List SilicaBody) → HasTerms text table bodies → AllNumbered bodies
+all_numbered text table bodies terms =
+    numbered_of table table.bodies bodies (conditions_met text table bodies terms) (made text table terms.has).bodies terms.lowered
+
+-- ---- the same of a slice of the bodies
+
+pub numbered_slice : (text : List ℕ) (table : ClassTable) (bodies slice : List TermBody) → HasTerms text table (map silica_body_of bodies) → slice ≡ bodies
+    → AllNumbered (map silica_body_of slice)
+numbered_slice text table bodies slice terms whole =
+    subst (λ bs. AllNumbered (map silica_body_of bs)) (sym whole) (all_numbered text table (map silica_body_of bodies) terms)
+
+pub slice_told : (text : List ℕ) (table : ClassTable) (bodies slice : List TermBody) (cause : FlowError) → HasTerms text table (map silica_body_of bodies)
+    → slice ≡ bodies → OnFlowFault cause (FailsPremise table (map silica_body_of slice)) → OnFault (of_checking cause) (HasTextFault text)
+slice_told text table bodies slice cause terms whole fails =
+    premise_told text table (map silica_body_of bodies) cause terms
+    (subst (λ bs. OnFlowFault cause (FailsPremise table (map silica_body_of bs))) whole fails)
+
+pub slice_derives : (text : List ℕ) (table : ClassTable) (bodies slice : List TermBody) → HasTerms text table (map silica_body_of bodies) → slice ≡ bodies
+    → All (Derives table) (map silica_body_of slice) → IsProgram text table (map silica_body_of bodies)
+slice_derives text table bodies slice terms whole derive = record {
+  terms = terms;
+  derive = subst (λ bs. All (Derives table) (map silica_body_of bs)) whole derive;
+}

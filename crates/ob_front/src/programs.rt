@@ -1,0 +1,52 @@
+//! The stages from a program's text to a program whose bodies are lowered and checked.
+ghost use Rattle.std.specs.Prelude.{◌≡◌, ℕ, List, map, IfOk, IfErr};
+ghost use Rattle.ob_base.specs.declared.fault.ProgramFault.{ProgramFault};
+ghost use Rattle.ob_silica.specs.TermsView.{silica_body_of};
+ghost use Rattle.ob_front.specs.Programs.{HasTerms, HasTermsFault, IsProgram, IsAccepted, HasTextFault};
+ghost use Rattle.ob_front.specs.Compiling.{OnFault};
+
+use crate::stages::{CompileError, class_table};
+use ob_base::Items;
+use ob_middle::{check_bodies, lower_bodies};
+use ob_silica::TermBody;
+use ob_table::Table;
+use std::alloc::Global;
+
+/// A program: its class table, and the terms of the bodies of its constructors and transactions, in the table's order.
+#[derive(Drop)]
+pub struct Compiled {
+    pub table: Table,
+    pub bodies: Items<TermBody>,
+}
+
+/// The class table of a text and the terms of its bodies, or its first fault: one that `class_table` tells, or `LIMIT` where a
+/// body needs more slots than it may have. The permission rules aren't asked.
+pub fn lowered(alloc: Global, text: &[u8]) -> Result<Compiled, CompileError>
+    ensures terms { IfOk result (λ c. HasTerms text.now c.table (map silica_body_of c.bodies)) }
+    ensures fault { IfErr result (λ e. OnFault e (HasTermsFault text.now)) }
+{
+    let table = class_table(alloc, text)?;
+    let bodies = lower_bodies(alloc, &table)?;
+    Ok(Compiled { table, bodies })
+}
+
+/// The program of a text, or its first fault: one that `lowered` tells, or the first premise of the permission rules that
+/// fails, body by body.
+pub fn compile(alloc: Global, text: &[u8]) -> Result<Compiled, CompileError>
+    ensures program { IfOk result (λ c. IsProgram text.now c.table (map silica_body_of c.bodies)) }
+    ensures fault { IfErr result (λ e. OnFault e (HasTextFault text.now)) }
+{
+    let program = lowered(alloc, text)?;
+    check_bodies(alloc, &program.table, program.bodies.as_slice())?;
+    Ok(program)
+}
+
+/// A text that is accepted has no first fault.
+pub fn accepted_or_fault()
+    ensures { (text : List ℕ) (fault : ProgramFault) → HasTextFault text fault → ¬ (IsAccepted text) }
+{}
+
+/// A text has one first fault at most.
+pub fn one_text_fault()
+    ensures { (text : List ℕ) (a b : ProgramFault) → HasTextFault text a → HasTextFault text b → a ≡ b }
+{}

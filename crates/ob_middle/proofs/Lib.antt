@@ -1,0 +1,2 @@
+pub mod MiddleLaws
+pub mod MiddleTurns
