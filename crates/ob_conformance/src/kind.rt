@@ -1,6 +1,6 @@
 //! The kinds of cases. A new one is a variant, its word in `of`, the names of its parts, and what it answers.
 use crate::case::Case;
-use crate::kinds::{base, fronts, run, table, tokens, tree, wire};
+use crate::kinds::{base, fronts, run, table, terms, tokens, tree, wire};
 use crate::trouble::Trouble;
 use std::alloc::Global;
 
@@ -11,6 +11,8 @@ pub enum Kind {
     Check,
     /// Its class table, with the bodies of its transactions.
     Table,
+    /// The terms that the bodies of its transactions are lowered to.
+    Terms,
     /// Whether `check` writes one line of each front of its bytes.
     Cuts,
     /// The fault that `serve` tells of it.
@@ -49,6 +51,7 @@ impl Kind {
         match word {
             "check" => Some(Kind::Check),
             "table" => Some(Kind::Table),
+            "terms" => Some(Kind::Terms),
             "cuts" => Some(Kind::Cuts),
             "serve" => Some(Kind::Serve),
             "run" => Some(Kind::Run),
@@ -102,6 +105,7 @@ impl Kind {
         match self {
             Kind::Check => run::check(alloc, asked),
             Kind::Table => table::table(alloc, asked),
+            Kind::Terms => terms::terms(alloc, asked),
             Kind::Cuts => run::cuts(alloc, asked),
             Kind::Serve => run::serve(alloc, asked),
             Kind::Run => run::whole_run(alloc, case, asked),

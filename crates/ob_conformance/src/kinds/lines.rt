@@ -1,4 +1,4 @@
-//! Lines in which a class table is shown, and their parts.
+//! Lines in which class tables and terms are shown, and their parts.
 use crate::kinds::tokens::text_of;
 use crate::trouble::Trouble;
 use ob_base::{ContractId, Mode, NO_STATE_BIT, OTHER_STATE_BIT, Perm, Span};
@@ -63,6 +63,16 @@ impl Lines {
     pub fn put_name(&mut self, name: &[u8]) -> Result<(), Trouble> {
         self.put(" ")?;
         self.put(if name.is_empty() { "-" } else { text_of(name)? })
+    }
+
+    /// A word, and behind a blank the number of what it speaks of, or `none`.
+    pub fn put_number(&mut self, word: &str, number: Option<u32>) -> Result<(), Trouble> {
+        self.put(word)?;
+        match number {
+            None => self.put(" none")?,
+            Some(number) => write!(self.text, " {number}")?,
+        }
+        Ok(())
     }
 
     /// A line and a column.

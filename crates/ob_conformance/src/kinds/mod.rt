@@ -6,6 +6,7 @@ pub mod lines;
 pub mod outside;
 pub mod run;
 pub mod table;
+pub mod terms;
 pub mod tokens;
 pub mod tree;
 pub mod wire;

@@ -133,16 +133,6 @@ fn put_signatures(lines: &mut Lines, contract: &Contract) -> Result<(), Trouble>
     Ok(())
 }
 
-// What a number stands for, or `none`.
-fn put_number(lines: &mut Lines, word: &str, number: Option<u32>) -> Result<(), Trouble> {
-    lines.put(word)?;
-    match number {
-        None => lines.put(" none")?,
-        Some(number) => write!(lines.text, " {number}")?,
-    }
-    Ok(())
-}
-
 fn put_head(lines: &mut Lines, number: usize, contract: &Contract) -> Result<(), Trouble> {
     let Contract {
         asset,
@@ -157,8 +147,8 @@ fn put_head(lines: &mut Lines, number: usize, contract: &Contract) -> Result<(),
         lines.text,
         " asset {asset} main {main} interface {interface}"
     )?;
-    put_number(lines, " implements", contract.implements.map(|id| id.0))?;
-    put_number(lines, " constructor", contract.constructor.map(|id| id.0))?;
+    lines.put_number(" implements", contract.implements.map(|id| id.0))?;
+    lines.put_number(" constructor", contract.constructor.map(|id| id.0))?;
     lines.end()
 }
 
