@@ -1,54 +1,12 @@
 -- Parts of the rules, worked out on their own.
-use Rattle.std.proofs.Common.{◌≡◌, ℕ, zero, suc, ◌+◌, ◌<◌, ◌≤◌, Bool, true, false, List, [], ◌∷◌, ◌++◌, Option, Some, None, refl, ap, sym, ◌∙◌, arith, cond, nat_eq}
-use Rattle.std.proofs.Math.Path.{fun_ext}
-use Rattle.std.specs.Prelude.{not, ◌&&◌, ◌||◌, nat_lt, if◌then◌else◌, is_some}
-use Rattle.ob_base.specs.Faults.{under_test}
-use Rattle.ob_base.specs.declared.fault.ProgramFault.{ProgramFault}
-use Rattle.ob_base.specs.declared.fault.Span.{Span}
-use Rattle.ob_base.specs.declared.id.StateId.{StateId}
-use Rattle.ob_perm.specs.Permissions.{Permission, owned, shared, unowned, owns}
-use Rattle.ob_perm.specs.Masks.{permission_of}
+use Rattle.std.proofs.Common.{◌≡◌, Some, refl}
+use Rattle.ob_perm.specs.Permissions.{unowned}
 use Rattle.ob_silica.specs.declared.place.Operand.{Operand}
-use Rattle.ob_silica.specs.declared.place.Given.{Given}
-use Rattle.ob_silica_steps.specs.Cells.{Location, slot, field, this, same_location, known, Known}
-use Rattle.ob_silica_rules.specs.Premises.{Premise, one, for_all, first_failing}
-use Rattle.ob_silica_rules.specs.Contexts.{BodyFrame, Context, put, now, with_permission, permission_at, Tested, is_tested, is_held_as, is_owned_asset, owns_asset, field_count, available}
+use Rattle.ob_silica_steps.specs.Cells.{Location, slot, field, known}
+use Rattle.ob_silica_rules.specs.Contexts.{BodyFrame, Context, put}
 use Rattle.ob_silica_rules.specs.Straight.{copied}
-use Rattle.ob_silica_rules.specs.Changing.{given_at, is_given, got_all, filled_all, refilled, in_state, changed, shares_as_declared}
-use Rattle.ob_silica_rules.specs.Returning.{still_owns, leaves_as, tests_ended}
-use Rattle.ob_flow_forms.specs.Forms.{copied_kind, all_own, all_got, put_got, leaves_known_as}
-use Rattle.ob_flow_forms.specs.Changes.{this_in_state, field_in_state, fields_in_state}
-
--- Copies.
+use Rattle.ob_flow_forms.specs.Forms.{copied_kind}
 
 pub copied_is : (b : BodyFrame) (g : Context) (p : Location) (from : Operand) → copied b g p from ≡ put g p (Some (known (copied_kind b g p from) unowned))
 copied_is b g (slot k) from = refl
 copied_is b g (field f) from = refl
-
--- Given fields.
-
-given_or : (b : Bool) (x : Given) (o : Option Given) (r : Bool) → r ≡ is_some o → (b || r) ≡ is_some (if b then Some x else o)
-given_or true x o r e = refl
-given_or false x o r e = e
-
-pub is_given_at : (f : ℕ) (xs : List Given) → is_given f xs ≡ is_some (given_at f xs)
-is_given_at f [] = refl
-is_given_at f (x ∷ xs) = given_or (nat_eq x.field.0 f) x (given_at f xs) (is_given f xs) (is_given_at f xs)
-
--- Exits.
-
-pub leaves_known : (b : BodyFrame) (g : Context) (at : Span) (p : Location) (w : Permission) → leaves_as b g at p w ≡ leaves_known_as b (g p) at w
-leaves_known b g at p (owned a) = refl
-leaves_known b g at p shared = refl
-leaves_known b g at p unowned = refl
-
--- Places under test.
-
-own_so : (a c : Bool) (at : Span) (ps : List Premise) → first_failing ps ≡ first_failing (one under_test at c)
-    → first_failing (one under_test at a ++ ps) ≡ first_failing (one under_test at (a && c))
-own_so true c at ps e = e
-own_so false c at ps e = refl
-
-pub still_own : (g : Context) (at : Span) (ts : Tested) → first_failing (for_all ts (still_owns g at)) ≡ first_failing (one under_test at (all_own g ts))
-still_own g at [] = refl
-still_own g at (p ∷ ps) = own_so (owns (permission_at g p)) (all_own g ps) at (for_all ps (still_owns g at)) (still_own g at ps)

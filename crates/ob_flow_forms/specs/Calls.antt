@@ -1,14 +1,12 @@
 -- Parts of the rule of a call on `this` that the check works out on their own.
-use Rattle.std.specs.Prelude.{ℕ, not, List, ◌++◌, Option, Some, None, nat_lt, if◌then◌else◌}
+use Rattle.std.specs.Prelude.{not, List, ◌++◌}
 use Rattle.ob_base.specs.Faults.{under_test, this_in_constructor}
 use Rattle.ob_base.specs.declared.fault.Span.{Span}
 use Rattle.ob_table.specs.declared.contract.Signature.{Signature}
-use Rattle.ob_typing.specs.WellMade.{kind_of_table}
 use Rattle.ob_silica.specs.declared.place.Operand.{Operand}
 use Rattle.ob_silica_steps.specs.Binding.{Parameter, parameters}
-use Rattle.ob_silica_steps.specs.Cells.{Known, known}
 use Rattle.ob_silica_rules.specs.Premises.{Premise, one, each}
-use Rattle.ob_silica_rules.specs.Contexts.{BodyFrame, constructs, field_count, type_of_field, exit_of_field, Context, Tested, tests_field}
+use Rattle.ob_silica_rules.specs.Contexts.{BodyFrame, constructs, field_count, Context, Tested, tests_field}
 use Rattle.ob_silica_rules.specs.Uses.{Read, uses}
 use Rattle.ob_silica_rules.specs.Binding.{read_of, reads_of, each_once, keeps_fields, gives_all, given_all}
 use Rattle.ob_silica_rules.specs.Calling.{enters_field}
@@ -41,11 +39,3 @@ enters b ts g at s args rs ps =
     may_call_this b ts at s args rs ps
     ++ gives_all b ts g rs ps
     ++ each (field_count b) (enters_field b g (given_all g rs ps) at s)
-
--- what is known of a field that a call on `this` leaves
-abbrev pub field_after : BodyFrame → Signature → ℕ → Option Known
-field_after b s f = Some (known (kind_of_table (type_of_field b f)) (exit_of_field b s f))
-
--- the same for all of the contract's fields, and nothing of others
-abbrev pub fields_after : BodyFrame → Signature → ℕ → Option Known
-fields_after b s f = if nat_lt f (field_count b) then field_after b s f else None

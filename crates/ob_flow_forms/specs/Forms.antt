@@ -1,44 +1,12 @@
 -- Parts of the rules that the check works out on their own.
-use Rattle.std.specs.Prelude.{ℕ, Bool, true, ◌&&◌, ◌||◌, not, List, [], ◌∷◌, Option, Some}
-use Rattle.std.specs.List.{list_all}
-use Rattle.ob_base.specs.Faults.{asset_lost, field_mismatch, exit_mismatch}
-use Rattle.ob_base.specs.declared.fault.Span.{Span}
-use Rattle.ob_perm.specs.Permissions.{Permission, owned, shared, unowned, owns, is_shared}
 use Rattle.ob_table.specs.declared.seen.LocalKind.{LocalKind}
 use Rattle.ob_typing.specs.WellMade.{kind_of_table}
 use Rattle.ob_silica.specs.declared.place.Operand.{Operand}
-use Rattle.ob_silica.specs.declared.place.Given.{Given}
-use Rattle.ob_silica_steps.specs.Cells.{Location, slot, field, Known, known, located}
-use Rattle.ob_silica_rules.specs.Premises.{Premise, one}
-use Rattle.ob_silica_rules.specs.Contexts.{BodyFrame, type_of_field, Context, put, permission_at, Tested, is_held_as, is_owned_asset, accessible_under, declared_permission}
+use Rattle.ob_silica_steps.specs.Cells.{Location, slot, field, located}
+use Rattle.ob_silica_rules.specs.Contexts.{BodyFrame, type_of_field, Context}
 use Rattle.ob_silica_rules.specs.Uses.{kind_known}
-use Rattle.ob_silica_rules.specs.Filling.{filled, got}
-use Rattle.ob_silica_rules.specs.Changing.{given_from}
 
 -- the kind of a place to which a value is copied
 abbrev pub copied_kind : BodyFrame → Context → Location → Operand → LocalKind
 copied_kind b g (slot k) from = kind_known (g (located from))
 copied_kind b g (field f) from = kind_of_table (type_of_field b f)
-
--- whether each of these places owns
-abbrev pub all_own : Context → Tested → Bool
-all_own g [] = true
-all_own g (p ∷ ps) = owns (permission_at g p) && all_own g ps
-
--- what the given fields get, each of its place once those before it were filled
-abbrev pub all_got : BodyFrame → Context → List Given → List (Option Known)
-all_got b g [] = []
-all_got b g (x ∷ xs) =
-    got b g x.field.0 (given_from x) ∷ all_got b (filled b g x.field.0 (given_from x)) xs
-
--- the context once the given fields have got these
-abbrev pub put_got : Context → List Given → List (Option Known) → Context
-put_got h [] ks = h
-put_got h (x ∷ xs) [] = h
-put_got h (x ∷ xs) (k ∷ ks) = put_got (put h (field x.field.0) k) xs ks
-
--- a place of which this is known is left with an exit
-abbrev pub leaves_known_as : BodyFrame → Option Known → Span → Permission → List Premise
-leaves_known_as b x at (owned a) = one exit_mismatch at (is_held_as x (owned a))
-leaves_known_as b x at shared = one exit_mismatch at (is_held_as x shared)
-leaves_known_as b x at unowned = one asset_lost at (not (is_owned_asset b.table x))

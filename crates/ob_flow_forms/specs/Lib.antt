@@ -1,4 +1,3 @@
 pub mod Forms
 pub mod Calls
 pub mod Changes
-pub mod Joins

@@ -1,22 +1,16 @@
 //! Calls, and `new`.
-ghost use Rattle.std.specs.Prelude.{◌≡◌, option_map, IfOk};
 ghost use Rattle.ob_silica_steps.specs.Binding.{all_parameters};
-ghost use Rattle.ob_silica_rules.specs.Premises.{each};
-ghost use Rattle.ob_silica_rules.specs.Contexts.{field_count};
 ghost use Rattle.ob_silica_rules.specs.Binding.{reads_of, given_all, passed};
-ghost use Rattle.ob_silica_rules.specs.Calling.{makes, made, all_reads, calls, called, reads_with_this, enters_field};
-ghost use Rattle.ob_silica_rules.specs.Calling.{calls_this, fields_left, called_this};
-ghost use Rattle.ob_context.specs.View.{known_of, known_at, context_of, tested_of};
+ghost use Rattle.ob_silica_rules.specs.Calling.{makes, made, all_reads, calls, called, reads_with_this};
+ghost use Rattle.ob_silica_rules.specs.Calling.{calls_this, called_this};
+ghost use Rattle.ob_context.specs.View.{context_of, tested_of};
 ghost use Rattle.ob_context.specs.Checking.{Meets, Leaves};
 ghost use Rattle.ob_giving.specs.View.{plain_parameters};
-ghost use Rattle.ob_flow_forms.specs.Calls.{passes, may_call, calls_with, may_call_this, enters, field_after};
-ghost use Rattle.ob_flow_forms.specs.Calls.{fields_after};
+ghost use Rattle.ob_flow_forms.specs.Calls.{passes, may_call, calls_with, may_call_this, enters};
 
-use ob_base::{
-    ContractId, Duplicate, FIELD_MISMATCH, FieldId, Items, Memory, Span, THIS_IN_CONSTRUCTOR,
-    UNDER_TEST,
-};
-use ob_context::{BodyFrame, Context, FlowError, Known, kind_of, known_as, must, tests_field};
+use ob_base::{ContractId, Duplicate, Span, THIS_IN_CONSTRUCTOR, UNDER_TEST};
+use ob_context::{BodyFrame, Context, FlowError, known_as, must, tests_field};
+use ob_flow_premises::{enter_fields, leave_fields};
 use ob_giving::{
     Parameter, all_operands, all_parameters, each_once, get_back_all, give_all, keeps_fields,
     parameters, put_result, uses,
@@ -159,44 +153,6 @@ pub fn call(
     Ok(())
 }
 
-// A field that may be there is held as the call wants it.
-fn enters_field(
-    frame: &BodyFrame<'_>,
-    before: &Context,
-    context: &Context,
-    at: Span,
-    signature: &Signature,
-    field: FieldId,
-) -> Result<(), FlowError>
-    ensures { Meets result (enters_field frame.now (context_of before.now) (context_of context.now) at signature.now
-        field.0) }
-{
-    let entry = frame.entry_of_field(signature, field);
-    let held = context.is_held_as(Place::Field(field), entry);
-    must(
-        FIELD_MISMATCH,
-        at,
-        !frame.maybe_there(before, field) || held,
-    )
-}
-
-#[tactic(auto, using(ob_context::proofs::PremiseLemmas::for_each))]
-fn enter_fields(
-    frame: &BodyFrame<'_>,
-    before: &Context,
-    context: &Context,
-    at: Span,
-    signature: &Signature,
-) -> Result<(), FlowError>
-    ensures { Meets result (each (field_count frame.now)
-        (enters_field frame.now (context_of before.now) (context_of context.now) at signature.now)) }
-{
-    for number in 0..frame.field_count() {
-        enters_field(frame, before, context, at, signature, FieldId(number))?;
-    }
-    Ok(())
-}
-
 // What a call on `this` is asked for before anything is given.
 #[tactic(auto, using(ob_context::proofs::PremiseLemmas::premises))]
 fn may_call_this(
@@ -215,52 +171,6 @@ fn may_call_this(
     each_once(reads, params)?;
     keeps_fields(args, signature.params.as_slice())?;
     must(UNDER_TEST, at, !tests_field(tested))
-}
-
-// What is known of a field that a call on `this` leaves.
-fn field_after(frame: &BodyFrame<'_>, signature: &Signature, field: FieldId) -> Option<Known>
-    ensures { option_map known_of result ≡ field_after frame.now signature.now field.0 }
-{
-    Some(Known {
-        kind: kind_of(frame.type_of_field(field)),
-        permission: frame.exit_of_field(signature, field),
-    })
-}
-
-// What is known of the fields that a call on `this` leaves.
-fn fields_after(
-    alloc: Global,
-    frame: &BodyFrame<'_>,
-    signature: &Signature,
-) -> Result<Items<Option<Known>>, Memory>
-    ensures { IfOk result (λ fields. known_at fields ≡ fields_after frame.now signature.now) }
-{
-    let mut fields = Items::new(alloc);
-    for number in 0..frame.field_count() {
-        fields.push(field_after(frame, signature, FieldId(number)))?;
-    }
-    Ok(fields)
-}
-
-fn copy_slots(alloc: Global, context: &Context) -> Result<Items<Option<Known>>, Memory>
-    ensures { IfOk result (λ slots. slots ≡ context.now.slots) }
-{
-    Ok(Items::from_slice(alloc, context.slots())?)
-}
-
-// Each field has the permission with which the call leaves it.
-fn leave_fields(
-    alloc: Global,
-    frame: &BodyFrame<'_>,
-    signature: &Signature,
-    context: &Context,
-) -> Result<Context, Memory>
-    ensures { IfOk result (λ after. context_of after
-        ≡ fields_left frame.now signature.now (context_of context.now)) }
-{
-    let slots = copy_slots(alloc, context)?;
-    let fields = fields_after(alloc, frame, signature)?;
-    Ok(Context::of(slots, fields))
 }
 
 // Gives `this` and arguments, and asks for the fields that the call wants.

@@ -5,7 +5,6 @@
 mod calling;
 mod changing;
 mod joining;
-mod modes;
 mod returning;
 mod straight;
 mod testing;
@@ -13,7 +12,7 @@ mod testing;
 pub use calling::{call, call_this, make};
 pub use changing::change;
 pub use joining::join;
-pub use modes::is_owner;
+pub use ob_flow_premises::is_owner;
 pub use returning::leave;
 pub use straight::{assert_held, copy, disown, drop_slot, move_reference, operate, put_constant};
 pub use testing::{end_test, in_other_state, in_tested_state, test};

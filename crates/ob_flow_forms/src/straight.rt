@@ -11,14 +11,13 @@ ghost use Rattle.ob_context.specs.View.{context_of, tested_of};
 ghost use Rattle.ob_context.specs.Checking.{Meets, Leaves};
 ghost use Rattle.ob_flow_forms.specs.Forms.{copied_kind};
 
-use crate::changing::may_change;
-use crate::modes::is_owner;
 use ob_base::{
-    ASSERT_FAILS, ASSET_LOST, ASSET_OVERWRITTEN, ContractId, FieldId, Memory, NOT_ACCESSIBLE,
-    NOT_OWNING, Operator, Perm, Span, UNDER_TEST,
+    ASSERT_FAILS, ASSET_OVERWRITTEN, ContractId, FieldId, Memory, NOT_ACCESSIBLE, Operator, Perm,
+    Span, UNDER_TEST,
 };
 use ob_context::{BodyFrame, Context, FlowError, Known, is_tested, kind_of, must};
-use ob_giving::{fill, got, reads, uses};
+use ob_flow_premises::{copies, disowns, drops_slot, moves_to_slot, operates};
+use ob_giving::{fill, got, reads};
 use ob_perm::{give, matches, unowned};
 use ob_silica::{Constant, Operand, Place};
 use ob_table::LocalKind;
@@ -63,20 +62,6 @@ pub fn put_constant(context: &mut Context, slot: u8, value: &Constant) -> Result
     put_value(context, slot, kind_of_constant(value))
 }
 
-// An operator's operands are used.
-#[tactic(auto, using(ob_context::proofs::PremiseLemmas::premises))]
-fn operates(
-    frame: &BodyFrame<'_>,
-    context: &Context,
-    a: Operand,
-    b: Operand,
-) -> Result<(), FlowError>
-    ensures { Meets result (operates frame.now (context_of context.now) a b) }
-{
-    uses(frame, context, a)?;
-    uses(frame, context, b)
-}
-
 /// Sets a slot to an operator's value.
 pub fn operate(
     frame: &BodyFrame<'_>,
@@ -92,27 +77,6 @@ pub fn operate(
     operates(frame, context, a, b)?;
     put_value(context, slot, kind_of_operator(operator))?;
     Ok(())
-}
-
-// What a copy is asked for.
-#[tactic(auto, using(ob_context::proofs::PremiseLemmas::premises))]
-fn copies(
-    frame: &BodyFrame<'_>,
-    context: &Context,
-    at: Span,
-    to: Place,
-    from: Operand,
-) -> Result<(), FlowError>
-    ensures { Meets result (copies frame.now (context_of context.now) at (location_of to) from) }
-{
-    uses(frame, context, from)?;
-    match to {
-        Place::This | Place::Slot(_) => Ok(()),
-        Place::Field(field) => {
-            may_change(context, at)?;
-            must(NOT_ACCESSIBLE, at, frame.accessible(context, field))
-        }
-    }
 }
 
 // The kind of a place to which a value is copied.
@@ -145,28 +109,6 @@ pub fn copy(
     };
     context.put(to, Some(known))?;
     Ok(())
-}
-
-// What a move into a slot is asked for.
-#[tactic(auto, using(ob_context::proofs::PremiseLemmas::premises))]
-fn moves_to_slot(
-    frame: &BodyFrame<'_>,
-    tested: &[Place],
-    context: &Context,
-    at: Span,
-    slot: u8,
-    from: Operand,
-) -> Result<(), FlowError>
-    ensures { Meets result (moves_to_slot frame.now (tested_of tested.now) (context_of context.now) at slot from) }
-{
-    uses(frame, context, from)?;
-    must(UNDER_TEST, from.span, !is_tested(tested, from.place))?;
-    must(UNDER_TEST, at, !is_tested(tested, Place::Slot(slot)))?;
-    must(
-        ASSET_OVERWRITTEN,
-        at,
-        !frame.owns_asset(context, Place::Slot(slot)),
-    )
 }
 
 // The kind of a slot of this contract, or else of the place from which it is set.
@@ -281,25 +223,6 @@ pub fn assert_held(
     must(ASSERT_FAILS, place.span, held)
 }
 
-// What giving ownership up is asked for.
-#[tactic(auto, using(ob_context::proofs::PremiseLemmas::premises))]
-fn disowns(
-    frame: &BodyFrame<'_>,
-    tested: &[Place],
-    context: &Context,
-    place: Operand,
-) -> Result<(), FlowError>
-    ensures { Meets result (disowns frame.now (tested_of tested.now) (context_of context.now) place) }
-{
-    uses(frame, context, place)?;
-    must(
-        NOT_OWNING,
-        place.span,
-        is_owner(context.counted(place.place)),
-    )?;
-    must(UNDER_TEST, place.span, !is_tested(tested, place.place))
-}
-
 /// Gives ownership up.
 pub fn disown(
     frame: &BodyFrame<'_>,
@@ -314,25 +237,6 @@ pub fn disown(
     disowns(frame, tested, context, place)?;
     context.set_permission(place.place, unowned());
     Ok(())
-}
-
-// What ending a slot is asked for.
-#[tactic(auto, using(ob_context::proofs::PremiseLemmas::premises))]
-fn drops_slot(
-    frame: &BodyFrame<'_>,
-    tested: &[Place],
-    context: &Context,
-    at: Span,
-    slot: u8,
-) -> Result<(), FlowError>
-    ensures { Meets result (drops_slot frame.now (tested_of tested.now) (context_of context.now) at slot) }
-{
-    must(
-        ASSET_LOST,
-        at,
-        !frame.owns_asset(context, Place::Slot(slot)),
-    )?;
-    must(UNDER_TEST, at, !is_tested(tested, Place::Slot(slot)))
 }
 
 /// Ends a slot.

@@ -1,4 +1,4 @@
-use Rattle.std.proofs.Common.{◌≡◌, ap, ◌∙◌}
+use Rattle.std.proofs.Common.{ap, ◌∙◌}
 use Rattle.ob_silica_steps.specs.Binding.{all_parameters}
 use Rattle.ob_silica_rules.specs.Binding.{reads_of}
 use Rattle.ob_context.specs.View.{context_of, tested_of}

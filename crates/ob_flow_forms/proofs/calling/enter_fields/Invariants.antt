@@ -1,8 +1,0 @@
-use Rattle.std.proofs.Common.{◌≡◌, None}
-use Rattle.ob_silica_rules.specs.Premises.{each, first_failing}
-use Rattle.ob_silica_rules.specs.Calling.{enters_field}
-use Rattle.ob_context.specs.View.{context_of}
-use Rattle.ob_flow_forms.proofs.calling.enter_fields.Given as goal
-
-abbrev pub invariant-loop-number : goal.invariant-loop-number
-invariant-loop-number l = first_failing (each l.number (enters_field l.frame (context_of l.before) (context_of l.context) l.at l.signature)) ≡ None

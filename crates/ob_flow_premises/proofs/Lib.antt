@@ -1,0 +1,5 @@
+pub mod FormsLemmas
+pub mod GivenLemmas
+pub mod JoinLemmas
+pub mod StateLemmas
+pub mod ParamLemmas

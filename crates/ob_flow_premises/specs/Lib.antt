@@ -1,0 +1,4 @@
+pub mod Forms
+pub mod Calls
+pub mod Changes
+pub mod Joins

@@ -1,0 +1,97 @@
+//! What a call on `this` is asked of the fields, and what it leaves them as.
+ghost use Rattle.std.specs.Prelude.{◌≡◌, option_map, IfOk};
+ghost use Rattle.ob_silica_rules.specs.Premises.{each};
+ghost use Rattle.ob_silica_rules.specs.Contexts.{field_count};
+ghost use Rattle.ob_silica_rules.specs.Calling.{enters_field, fields_left};
+ghost use Rattle.ob_context.specs.View.{known_of, known_at, context_of};
+ghost use Rattle.ob_context.specs.Checking.{Meets};
+ghost use Rattle.ob_flow_premises.specs.Calls.{field_after, fields_after};
+
+use crate::modes::room_for;
+use ob_base::{FIELD_MISMATCH, FieldId, Items, Memory, Span};
+use ob_context::{BodyFrame, Context, FlowError, Known, kind_of, must};
+use ob_silica::Place;
+use ob_table::Signature;
+use std::alloc::Global;
+
+// A field that may be there is held as the call wants it.
+fn enters_field(
+    frame: &BodyFrame<'_>,
+    before: &Context,
+    context: &Context,
+    at: Span,
+    signature: &Signature,
+    field: FieldId,
+) -> Result<(), FlowError>
+    ensures { Meets result (enters_field frame.now (context_of before.now) (context_of context.now) at signature.now
+        field.0) }
+{
+    let place = Place::Field(field);
+    let enters = !frame.maybe_there(before, field)
+        || context.is_held_as(place, frame.entry_of_field(signature, field));
+    must(FIELD_MISMATCH, at, enters)
+}
+
+/// Each field that may be there is held as the call wants it.
+#[tactic(auto, using(ob_context::proofs::PremiseLemmas::for_each))]
+pub fn enter_fields(
+    frame: &BodyFrame<'_>,
+    before: &Context,
+    context: &Context,
+    at: Span,
+    signature: &Signature,
+) -> Result<(), FlowError>
+    ensures { Meets result (each (field_count frame.now)
+        (enters_field frame.now (context_of before.now) (context_of context.now) at signature.now)) }
+{
+    for number in 0..frame.field_count() {
+        enters_field(frame, before, context, at, signature, FieldId(number))?;
+    }
+    Ok(())
+}
+
+// What is known of a field that a call on `this` leaves.
+fn field_after(frame: &BodyFrame<'_>, signature: &Signature, field: FieldId) -> Option<Known>
+    ensures { option_map known_of result ≡ field_after frame.now signature.now field.0 }
+{
+    Some(Known {
+        kind: kind_of(frame.type_of_field(field)),
+        permission: frame.exit_of_field(signature, field),
+    })
+}
+
+// What is known of the fields that a call on `this` leaves.
+fn fields_after(
+    alloc: Global,
+    frame: &BodyFrame<'_>,
+    signature: &Signature,
+) -> Result<Items<Option<Known>>, Memory>
+    ensures { IfOk result (λ fields. known_at fields ≡ fields_after frame.now signature.now) }
+{
+    let mut fields = room_for(alloc, usize::from(frame.field_count()))?;
+    for number in 0..frame.field_count() {
+        fields.push(field_after(frame, signature, FieldId(number)))?;
+    }
+    Ok(fields)
+}
+
+fn copy_slots(alloc: Global, context: &Context) -> Result<Items<Option<Known>>, Memory>
+    ensures { IfOk result (λ slots. slots ≡ context.now.slots) }
+{
+    Ok(Items::from_slice(alloc, context.slots())?)
+}
+
+/// Each field has the permission with which the call leaves it.
+pub fn leave_fields(
+    alloc: Global,
+    frame: &BodyFrame<'_>,
+    signature: &Signature,
+    context: &Context,
+) -> Result<Context, Memory>
+    ensures { IfOk result (λ after. context_of after
+        ≡ fields_left frame.now signature.now (context_of context.now)) }
+{
+    let slots = copy_slots(alloc, context)?;
+    let fields = fields_after(alloc, frame, signature)?;
+    Ok(Context::of(slots, fields))
+}

@@ -1,0 +1,22 @@
+//! What the forms are asked for: the premises of their rules, place by place and field by field, and what becomes of the
+//! fields (Coblenz et al., TOPLAS 42(3), 2020, "Silica").
+#![tactic(auto)]
+
+mod calling;
+mod changing;
+mod joining;
+mod modes;
+mod returning;
+mod straight;
+
+pub use calling::{enter_fields, leave_fields};
+pub use changing::{
+    all_have_values, all_lose_none, all_of_state, all_overwrite_none, all_share_as_declared,
+    all_stay_under_test, fill_all, fills_once, in_state, may_change, put_got,
+};
+pub use joining::{joined_context, joins_fields, joins_slots, same_mode};
+pub use modes::{is_owner, is_unowned};
+pub use returning::{
+    all_let_go, end_tests, leaves_fields, leaves_params, leaves_this, sets_fields, still_own,
+};
+pub use straight::{copies, disowns, drops_slot, moves_to_slot, operates};

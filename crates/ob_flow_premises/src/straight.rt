@@ -1,0 +1,107 @@
+//! What the forms without branches and calls are asked for.
+ghost use Rattle.ob_silica_steps.specs.Cells.{location_of, slot};
+ghost use Rattle.ob_silica_rules.specs.Straight.{operates, copies, moves_to_slot, disowns, drops_slot};
+ghost use Rattle.ob_context.specs.View.{context_of, tested_of};
+ghost use Rattle.ob_context.specs.Checking.{Meets};
+
+use crate::changing::may_change;
+use crate::modes::is_owner;
+use ob_base::{ASSET_LOST, ASSET_OVERWRITTEN, NOT_ACCESSIBLE, NOT_OWNING, Span, UNDER_TEST};
+use ob_context::{BodyFrame, Context, FlowError, is_tested, must};
+use ob_giving::uses;
+use ob_silica::{Operand, Place};
+
+/// An operator's operands are used.
+#[tactic(auto, using(ob_context::proofs::PremiseLemmas::premises))]
+pub fn operates(
+    frame: &BodyFrame<'_>,
+    context: &Context,
+    a: Operand,
+    b: Operand,
+) -> Result<(), FlowError>
+    ensures { Meets result (operates frame.now (context_of context.now) a b) }
+{
+    uses(frame, context, a)?;
+    uses(frame, context, b)
+}
+
+/// What a copy is asked for.
+#[tactic(auto, using(ob_context::proofs::PremiseLemmas::premises))]
+pub fn copies(
+    frame: &BodyFrame<'_>,
+    context: &Context,
+    at: Span,
+    to: Place,
+    from: Operand,
+) -> Result<(), FlowError>
+    ensures { Meets result (copies frame.now (context_of context.now) at (location_of to) from) }
+{
+    uses(frame, context, from)?;
+    match to {
+        Place::This | Place::Slot(_) => Ok(()),
+        Place::Field(field) => {
+            may_change(context, at)?;
+            must(NOT_ACCESSIBLE, at, frame.accessible(context, field))
+        }
+    }
+}
+
+/// What a move into a slot is asked for.
+#[tactic(auto, using(ob_context::proofs::PremiseLemmas::premises))]
+pub fn moves_to_slot(
+    frame: &BodyFrame<'_>,
+    tested: &[Place],
+    context: &Context,
+    at: Span,
+    slot: u8,
+    from: Operand,
+) -> Result<(), FlowError>
+    ensures { Meets result (moves_to_slot frame.now (tested_of tested.now) (context_of context.now) at slot from) }
+{
+    uses(frame, context, from)?;
+    must(UNDER_TEST, from.span, !is_tested(tested, from.place))?;
+    must(UNDER_TEST, at, !is_tested(tested, Place::Slot(slot)))?;
+    must(
+        ASSET_OVERWRITTEN,
+        at,
+        !frame.owns_asset(context, Place::Slot(slot)),
+    )
+}
+
+/// What giving ownership up is asked for.
+#[tactic(auto, using(ob_context::proofs::PremiseLemmas::premises))]
+pub fn disowns(
+    frame: &BodyFrame<'_>,
+    tested: &[Place],
+    context: &Context,
+    place: Operand,
+) -> Result<(), FlowError>
+    ensures { Meets result (disowns frame.now (tested_of tested.now) (context_of context.now) place) }
+{
+    uses(frame, context, place)?;
+    must(
+        NOT_OWNING,
+        place.span,
+        is_owner(context.counted(place.place)),
+    )?;
+    must(UNDER_TEST, place.span, !is_tested(tested, place.place))
+}
+
+/// What ending a slot is asked for.
+#[tactic(auto, using(ob_context::proofs::PremiseLemmas::premises))]
+pub fn drops_slot(
+    frame: &BodyFrame<'_>,
+    tested: &[Place],
+    context: &Context,
+    at: Span,
+    slot: u8,
+) -> Result<(), FlowError>
+    ensures { Meets result (drops_slot frame.now (tested_of tested.now) (context_of context.now) at slot) }
+{
+    must(
+        ASSET_LOST,
+        at,
+        !frame.owns_asset(context, Place::Slot(slot)),
+    )?;
+    must(UNDER_TEST, at, !is_tested(tested, Place::Slot(slot)))
+}
