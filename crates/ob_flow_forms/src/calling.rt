@@ -4,16 +4,16 @@ ghost use Rattle.ob_silica_rules.specs.Binding.{reads_of, given_all, passed};
 ghost use Rattle.ob_silica_rules.specs.Calling.{makes, made, all_reads, calls, called, reads_with_this};
 ghost use Rattle.ob_silica_rules.specs.Calling.{calls_this, called_this};
 ghost use Rattle.ob_context.specs.View.{context_of, tested_of};
-ghost use Rattle.ob_context.specs.Checking.{Meets, Leaves};
+ghost use Rattle.ob_context.specs.Checking.{Leaves};
 ghost use Rattle.ob_giving.specs.View.{plain_parameters};
-ghost use Rattle.ob_flow_forms.specs.Calls.{passes, may_call, calls_with, may_call_this, enters};
+ghost use Rattle.ob_flow_forms.specs.Calls.{passes, calls_with, enters};
 
-use ob_base::{ContractId, Duplicate, Span, THIS_IN_CONSTRUCTOR, UNDER_TEST};
-use ob_context::{BodyFrame, Context, FlowError, known_as, must, tests_field};
-use ob_flow_premises::{enter_fields, leave_fields};
+use ob_base::{ContractId, Duplicate, Span};
+use ob_context::{BodyFrame, Context, FlowError, known_as};
+use ob_flow_premises::{enter_fields, leave_fields, may_call, may_call_this};
 use ob_giving::{
-    Parameter, all_operands, all_parameters, each_once, get_back_all, give_all, keeps_fields,
-    parameters, put_result, uses,
+    Parameter, all_operands, all_parameters, each_once, get_back_all, give_all, parameters,
+    put_result,
 };
 use ob_silica::{Operand, Place};
 use ob_table::{Kind, Signature};
@@ -60,22 +60,6 @@ pub fn make(
     let known = known_as(Kind::Reference(contract, signature.exit));
     context.put(Place::Slot(slot), Some(known))?;
     Ok(())
-}
-
-// What a call is asked for before anything is given.
-#[tactic(auto, using(ob_context::proofs::PremiseLemmas::premises))]
-fn may_call(
-    frame: &BodyFrame<'_>,
-    context: &Context,
-    receiver: Operand,
-    reads: &[Operand],
-    params: &[Parameter],
-) -> Result<(), FlowError>
-    ensures { Meets result (may_call frame.now (context_of context.now) receiver (reads_of reads.now)
-        (plain_parameters params.now)) }
-{
-    uses(frame, context, receiver)?;
-    each_once(reads, params)
 }
 
 // Calls a transaction of another object with these places, the receiver first.
@@ -151,26 +135,6 @@ pub fn call(
     )?;
     put_result(context, slot, signature.result)?;
     Ok(())
-}
-
-// What a call on `this` is asked for before anything is given.
-#[tactic(auto, using(ob_context::proofs::PremiseLemmas::premises))]
-fn may_call_this(
-    frame: &BodyFrame<'_>,
-    tested: &[Place],
-    at: Span,
-    signature: &Signature,
-    args: &[Operand],
-    reads: &[Operand],
-    params: &[Parameter],
-) -> Result<(), FlowError>
-    ensures { Meets result (may_call_this frame.now (tested_of tested.now) at signature.now args.now
-        (reads_of reads.now) (plain_parameters params.now)) }
-{
-    must(THIS_IN_CONSTRUCTOR, at, !frame.constructs())?;
-    each_once(reads, params)?;
-    keeps_fields(args, signature.params.as_slice())?;
-    must(UNDER_TEST, at, !tests_field(tested))
 }
 
 // Gives `this` and arguments, and asks for the fields that the call wants.

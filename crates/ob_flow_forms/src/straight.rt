@@ -5,20 +5,19 @@ ghost use Rattle.ob_perm.specs.Permissions.{unowned};
 ghost use Rattle.ob_silica_rules.specs.Contexts.{now};
 ghost use Rattle.ob_silica_rules.specs.Straight.{put_value, operates, copies, copied, moves_to_slot, moved_kind};
 ghost use Rattle.ob_silica_rules.specs.Straight.{moved_to_slot, moves_to_field, moved_to_field, moves, moved};
-ghost use Rattle.ob_silica_rules.specs.Straight.{asserts, disowns, drops_slot};
+ghost use Rattle.ob_silica_rules.specs.Straight.{disowns, drops_slot};
 ghost use Rattle.ob_silica_rules.specs.Contexts.{put};
 ghost use Rattle.ob_context.specs.View.{context_of, tested_of};
 ghost use Rattle.ob_context.specs.Checking.{Meets, Leaves};
 ghost use Rattle.ob_flow_forms.specs.Forms.{copied_kind};
 
 use ob_base::{
-    ASSERT_FAILS, ASSET_OVERWRITTEN, ContractId, FieldId, Memory, NOT_ACCESSIBLE, Operator, Perm,
-    Span, UNDER_TEST,
+    ASSET_OVERWRITTEN, ContractId, FieldId, Memory, NOT_ACCESSIBLE, Operator, Span, UNDER_TEST,
 };
 use ob_context::{BodyFrame, Context, FlowError, Known, is_tested, kind_of, must};
 use ob_flow_premises::{copies, disowns, drops_slot, moves_to_slot, operates};
-use ob_giving::{fill, got, reads};
-use ob_perm::{give, matches, unowned};
+use ob_giving::{fill, got};
+use ob_perm::{give, unowned};
 use ob_silica::{Constant, Operand, Place};
 use ob_table::LocalKind;
 use std::alloc::Global;
@@ -206,21 +205,6 @@ pub fn move_reference(
         Place::Slot(slot) => move_to_slot(alloc, frame, tested, context, at, slot, from, contract),
         Place::Field(field) => move_to_field(alloc, frame, tested, context, at, field, from),
     }
-}
-
-/// Says what a place holds.
-#[tactic(auto, using(ob_context::proofs::PremiseLemmas::premises))]
-pub fn assert_held(
-    frame: &BodyFrame<'_>,
-    context: &Context,
-    place: Operand,
-    permission: Perm,
-) -> Result<(), FlowError>
-    ensures { Meets result (asserts frame.now (context_of context.now) place permission) }
-{
-    reads(frame, context, place)?;
-    let held = matches(context.counted(place.place), permission);
-    must(ASSERT_FAILS, place.span, held)
 }
 
 /// Gives ownership up.

@@ -1,9 +1,16 @@
--- Parts of the rule of a call on `this` that the check works out on their own.
-use Rattle.std.specs.Prelude.{ℕ, Option, Some, None, nat_lt, if◌then◌else◌}
+-- Parts of the rules of calls that the check works out on their own.
+use Rattle.std.specs.Prelude.{ℕ, Option, Some, None, nat_lt, if◌then◌else◌, not, List, ◌++◌}
+use Rattle.ob_base.specs.Faults.{under_test, this_in_constructor}
+use Rattle.ob_base.specs.declared.fault.Span.{Span}
 use Rattle.ob_table.specs.declared.contract.Signature.{Signature}
 use Rattle.ob_typing.specs.WellMade.{kind_of_table}
+use Rattle.ob_silica.specs.declared.place.Operand.{Operand}
 use Rattle.ob_silica_steps.specs.Cells.{Known, known}
-use Rattle.ob_silica_rules.specs.Contexts.{BodyFrame, field_count, type_of_field, exit_of_field}
+use Rattle.ob_silica_steps.specs.Binding.{Parameter, parameters}
+use Rattle.ob_silica_rules.specs.Contexts.{BodyFrame, field_count, type_of_field, exit_of_field, constructs, Context, Tested, tests_field}
+use Rattle.ob_silica_rules.specs.Premises.{Premise, one}
+use Rattle.ob_silica_rules.specs.Uses.{Read, uses}
+use Rattle.ob_silica_rules.specs.Binding.{read_of, reads_of, each_once, keeps_fields}
 
 -- what is known of a field that a call on `this` leaves
 abbrev pub field_after : BodyFrame → Signature → ℕ → Option Known
@@ -12,3 +19,16 @@ field_after b s f = Some (known (kind_of_table (type_of_field b f)) (exit_of_fie
 -- the same for all of the contract's fields, and nothing of others
 abbrev pub fields_after : BodyFrame → Signature → ℕ → Option Known
 fields_after b s f = if nat_lt f (field_count b) then field_after b s f else None
+
+-- what a call is asked for before anything is given
+abbrev pub may_call : BodyFrame → Context → Operand → List Read → List Parameter → List Premise
+may_call b g receiver rs ps = uses b g (read_of receiver) ++ each_once rs ps
+
+-- what a call on `this` is asked for before anything is given
+abbrev pub may_call_this : BodyFrame → Tested → Span → Signature → List Operand → List Read → List Parameter
+    → List Premise
+may_call_this b ts at s args rs ps =
+    one this_in_constructor at (not (constructs b))
+    ++ each_once rs ps
+    ++ keeps_fields (reads_of args) (parameters s)
+    ++ one under_test at (not (tests_field ts))

@@ -1,16 +1,19 @@
-//! What a call on `this` is asked of the fields, and what it leaves them as.
+//! What calls are asked for, and what a call on `this` leaves the fields as.
 ghost use Rattle.std.specs.Prelude.{◌≡◌, option_map, IfOk};
 ghost use Rattle.ob_silica_rules.specs.Premises.{each};
 ghost use Rattle.ob_silica_rules.specs.Contexts.{field_count};
 ghost use Rattle.ob_silica_rules.specs.Calling.{enters_field, fields_left};
-ghost use Rattle.ob_context.specs.View.{known_of, known_at, context_of};
+ghost use Rattle.ob_silica_rules.specs.Binding.{reads_of};
+ghost use Rattle.ob_context.specs.View.{known_of, known_at, context_of, tested_of};
 ghost use Rattle.ob_context.specs.Checking.{Meets};
-ghost use Rattle.ob_flow_premises.specs.Calls.{field_after, fields_after};
+ghost use Rattle.ob_giving.specs.View.{plain_parameters};
+ghost use Rattle.ob_flow_premises.specs.Calls.{field_after, fields_after, may_call, may_call_this};
 
 use crate::modes::room_for;
-use ob_base::{FIELD_MISMATCH, FieldId, Items, Memory, Span};
-use ob_context::{BodyFrame, Context, FlowError, Known, kind_of, must};
-use ob_silica::Place;
+use ob_base::{FIELD_MISMATCH, FieldId, Items, Memory, Span, THIS_IN_CONSTRUCTOR, UNDER_TEST};
+use ob_context::{BodyFrame, Context, FlowError, Known, kind_of, must, tests_field};
+use ob_giving::{Parameter, each_once, keeps_fields, uses};
+use ob_silica::{Operand, Place};
 use ob_table::Signature;
 use std::alloc::Global;
 
@@ -94,4 +97,40 @@ pub fn leave_fields(
     let slots = copy_slots(alloc, context)?;
     let fields = fields_after(alloc, frame, signature)?;
     Ok(Context::of(slots, fields))
+}
+
+/// What a call is asked for before anything is given.
+#[tactic(auto, using(ob_context::proofs::PremiseLemmas::premises))]
+pub fn may_call(
+    frame: &BodyFrame<'_>,
+    context: &Context,
+    receiver: Operand,
+    reads: &[Operand],
+    params: &[Parameter],
+) -> Result<(), FlowError>
+    ensures { Meets result (may_call frame.now (context_of context.now) receiver (reads_of reads.now)
+        (plain_parameters params.now)) }
+{
+    uses(frame, context, receiver)?;
+    each_once(reads, params)
+}
+
+/// What a call on `this` is asked for before anything is given.
+#[tactic(auto, using(ob_context::proofs::PremiseLemmas::premises))]
+pub fn may_call_this(
+    frame: &BodyFrame<'_>,
+    tested: &[Place],
+    at: Span,
+    signature: &Signature,
+    args: &[Operand],
+    reads: &[Operand],
+    params: &[Parameter],
+) -> Result<(), FlowError>
+    ensures { Meets result (may_call_this frame.now (tested_of tested.now) at signature.now args.now
+        (reads_of reads.now) (plain_parameters params.now)) }
+{
+    must(THIS_IN_CONSTRUCTOR, at, !frame.constructs())?;
+    each_once(reads, params)?;
+    keeps_fields(args, signature.params.as_slice())?;
+    must(UNDER_TEST, at, !tests_field(tested))
 }

@@ -9,7 +9,7 @@ mod modes;
 mod returning;
 mod straight;
 
-pub use calling::{enter_fields, leave_fields};
+pub use calling::{enter_fields, leave_fields, may_call, may_call_this};
 pub use changing::{
     all_have_values, all_lose_none, all_of_state, all_overwrite_none, all_share_as_declared,
     all_stay_under_test, fill_all, fills_once, in_state, may_change, put_got,
@@ -19,4 +19,4 @@ pub use modes::{is_owner, is_unowned};
 pub use returning::{
     all_let_go, end_tests, leaves_fields, leaves_params, leaves_this, sets_fields, still_own,
 };
-pub use straight::{copies, disowns, drops_slot, moves_to_slot, operates};
+pub use straight::{assert_held, copies, disowns, drops_slot, moves_to_slot, operates};

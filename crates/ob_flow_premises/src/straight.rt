@@ -1,14 +1,17 @@
 //! What the forms without branches and calls are asked for.
 ghost use Rattle.ob_silica_steps.specs.Cells.{location_of, slot};
-ghost use Rattle.ob_silica_rules.specs.Straight.{operates, copies, moves_to_slot, disowns, drops_slot};
+ghost use Rattle.ob_silica_rules.specs.Straight.{operates, copies, moves_to_slot, asserts, disowns, drops_slot};
 ghost use Rattle.ob_context.specs.View.{context_of, tested_of};
 ghost use Rattle.ob_context.specs.Checking.{Meets};
 
 use crate::changing::may_change;
 use crate::modes::is_owner;
-use ob_base::{ASSET_LOST, ASSET_OVERWRITTEN, NOT_ACCESSIBLE, NOT_OWNING, Span, UNDER_TEST};
+use ob_base::{
+    ASSERT_FAILS, ASSET_LOST, ASSET_OVERWRITTEN, NOT_ACCESSIBLE, NOT_OWNING, Perm, Span, UNDER_TEST,
+};
 use ob_context::{BodyFrame, Context, FlowError, is_tested, must};
-use ob_giving::uses;
+use ob_giving::{reads, uses};
+use ob_perm::matches;
 use ob_silica::{Operand, Place};
 
 /// An operator's operands are used.
@@ -104,4 +107,19 @@ pub fn drops_slot(
         !frame.owns_asset(context, Place::Slot(slot)),
     )?;
     must(UNDER_TEST, at, !is_tested(tested, Place::Slot(slot)))
+}
+
+/// Says what a place holds.
+#[tactic(auto, using(ob_context::proofs::PremiseLemmas::premises))]
+pub fn assert_held(
+    frame: &BodyFrame<'_>,
+    context: &Context,
+    place: Operand,
+    permission: Perm,
+) -> Result<(), FlowError>
+    ensures { Meets result (asserts frame.now (context_of context.now) place permission) }
+{
+    reads(frame, context, place)?;
+    let held = matches(context.counted(place.place), permission);
+    must(ASSERT_FAILS, place.span, held)
 }
