@@ -9,7 +9,7 @@ use Rattle.ob_silica_rules.specs.Contexts.{BodyFrame, Context, Tested}
 use Rattle.ob_silica_rules.specs.Uses.{Read}
 use Rattle.ob_silica_rules.specs.Binding.{passed}
 use Rattle.ob_silica_rules.specs.Calling.{reads_with_this, calls_this}
-use Rattle.ob_flow_forms.specs.Calls.{enters}
+use Rattle.ob_flow_premises.specs.Calls.{enters}
 
 pub record Passes (b : BodyFrame) (ts : Tested) (g after : Context) (at : Span) (s : Signature) (args : List Operand)
     (rs : List Read) (ps : List Parameter) : Type 0 where

@@ -1,44 +1,20 @@
 //! Calls, and `new`.
 ghost use Rattle.ob_silica_steps.specs.Binding.{all_parameters};
-ghost use Rattle.ob_silica_rules.specs.Binding.{reads_of, given_all, passed};
+ghost use Rattle.ob_silica_rules.specs.Binding.{reads_of, passed};
 ghost use Rattle.ob_silica_rules.specs.Calling.{makes, made, all_reads, calls, called, reads_with_this};
 ghost use Rattle.ob_silica_rules.specs.Calling.{calls_this, called_this};
 ghost use Rattle.ob_context.specs.View.{context_of, tested_of};
 ghost use Rattle.ob_context.specs.Checking.{Leaves};
 ghost use Rattle.ob_giving.specs.View.{plain_parameters};
-ghost use Rattle.ob_flow_forms.specs.Calls.{passes, calls_with, enters};
+ghost use Rattle.ob_flow_premises.specs.Calls.{enters};
 
-use ob_base::{ContractId, Duplicate, Span};
+use ob_base::{ContractId, Span};
 use ob_context::{BodyFrame, Context, FlowError, known_as};
-use ob_flow_premises::{enter_fields, leave_fields, may_call, may_call_this};
-use ob_giving::{
-    Parameter, all_operands, all_parameters, each_once, get_back_all, give_all, parameters,
-    put_result,
-};
+use ob_flow_premises::{call_with, enter, leave_fields, pass};
+use ob_giving::{Parameter, all_operands, all_parameters, get_back_all, parameters, put_result};
 use ob_silica::{Operand, Place};
 use ob_table::{Kind, Signature};
 use std::alloc::Global;
-
-// Places are given to parameters, and get back what those give back.
-#[tactic(auto, using(ob_context::proofs::PremiseLemmas::premises))]
-fn pass(
-    alloc: Global,
-    frame: &BodyFrame<'_>,
-    tested: &[Place],
-    context: &mut Context,
-    reads: &[Operand],
-    params: &[Parameter],
-) -> Result<(), FlowError>
-    ensures { Leaves result (context_of context.new)
-        (passes frame.now (tested_of tested.now) (context_of context.old) (reads_of reads.now)
-        (plain_parameters params.now))
-        (passed frame.now (context_of context.old) (reads_of reads.now) (plain_parameters params.now)) }
-{
-    each_once(reads, params)?;
-    give_all(alloc, frame, tested, context, reads, params)?;
-    get_back_all(alloc, frame, context, reads, params)?;
-    Ok(())
-}
 
 /// Makes an object: the slot has what the constructor gives.
 pub fn make(
@@ -59,28 +35,6 @@ pub fn make(
     pass(alloc, frame, tested, context, args, params.as_slice())?;
     let known = known_as(Kind::Reference(contract, signature.exit));
     context.put(Place::Slot(slot), Some(known))?;
-    Ok(())
-}
-
-// Calls a transaction of another object with these places, the receiver first.
-#[tactic(auto, using(ob_context::proofs::PremiseLemmas::premises))]
-fn call_with(
-    alloc: Global,
-    frame: &BodyFrame<'_>,
-    tested: &[Place],
-    context: &mut Context,
-    receiver: Operand,
-    reads: &[Operand],
-    params: &[Parameter],
-) -> Result<(), FlowError>
-    ensures { Leaves result (context_of context.new)
-        (calls_with frame.now (tested_of tested.now) (context_of context.old) receiver (reads_of reads.now)
-        (plain_parameters params.now))
-        (passed frame.now (context_of context.old) (reads_of reads.now) (plain_parameters params.now)) }
-{
-    may_call(frame, context, receiver, reads, params)?;
-    give_all(alloc, frame, tested, context, reads, params)?;
-    get_back_all(alloc, frame, context, reads, params)?;
     Ok(())
 }
 
@@ -135,30 +89,6 @@ pub fn call(
     )?;
     put_result(context, slot, signature.result)?;
     Ok(())
-}
-
-// Gives `this` and arguments, and asks for the fields that the call wants.
-#[tactic(auto, using(ob_context::proofs::PremiseLemmas::premises))]
-fn enter(
-    alloc: Global,
-    frame: &BodyFrame<'_>,
-    tested: &[Place],
-    context: &mut Context,
-    at: Span,
-    signature: &Signature,
-    args: &[Operand],
-    reads: &[Operand],
-    params: &[Parameter],
-) -> Result<(), FlowError>
-    ensures { Leaves result (context_of context.new)
-        (enters frame.now (tested_of tested.now) (context_of context.old) at signature.now args.now
-        (reads_of reads.now) (plain_parameters params.now))
-        (given_all (context_of context.old) (reads_of reads.now) (plain_parameters params.now)) }
-{
-    let before = context.copy(alloc)?;
-    may_call_this(frame, tested, at, signature, args, reads, params)?;
-    give_all(alloc, frame, tested, context, reads, params)?;
-    enter_fields(frame, &before, context, at, signature)
 }
 
 // Gives these places, `this` first, which get back what they do.

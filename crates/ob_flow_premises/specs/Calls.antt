@@ -8,9 +8,10 @@ use Rattle.ob_silica.specs.declared.place.Operand.{Operand}
 use Rattle.ob_silica_steps.specs.Cells.{Known, known}
 use Rattle.ob_silica_steps.specs.Binding.{Parameter, parameters}
 use Rattle.ob_silica_rules.specs.Contexts.{BodyFrame, field_count, type_of_field, exit_of_field, constructs, Context, Tested, tests_field}
-use Rattle.ob_silica_rules.specs.Premises.{Premise, one}
+use Rattle.ob_silica_rules.specs.Premises.{Premise, one, each}
 use Rattle.ob_silica_rules.specs.Uses.{Read, uses}
-use Rattle.ob_silica_rules.specs.Binding.{read_of, reads_of, each_once, keeps_fields}
+use Rattle.ob_silica_rules.specs.Binding.{read_of, reads_of, each_once, keeps_fields, gives_all, given_all}
+use Rattle.ob_silica_rules.specs.Calling.{enters_field}
 
 -- what is known of a field that a call on `this` leaves
 abbrev pub field_after : BodyFrame → Signature → ℕ → Option Known
@@ -32,3 +33,19 @@ may_call_this b ts at s args rs ps =
     ++ each_once rs ps
     ++ keeps_fields (reads_of args) (parameters s)
     ++ one under_test at (not (tests_field ts))
+
+-- places are given to parameters: none stands twice, once of it for an owner, and each is given
+abbrev pub passes : BodyFrame → Tested → Context → List Read → List Parameter → List Premise
+passes b ts g rs ps = each_once rs ps ++ gives_all b ts g rs ps
+
+-- what a call is asked for
+abbrev pub calls_with : BodyFrame → Tested → Context → Operand → List Read → List Parameter → List Premise
+calls_with b ts g receiver rs ps = may_call b g receiver rs ps ++ gives_all b ts g rs ps
+
+-- what a call on `this` is asked for
+abbrev pub enters : BodyFrame → Tested → Context → Span → Signature → List Operand → List Read → List Parameter
+    → List Premise
+enters b ts g at s args rs ps =
+    may_call_this b ts at s args rs ps
+    ++ gives_all b ts g rs ps
+    ++ each (field_count b) (enters_field b g (given_all g rs ps) at s)

@@ -1,18 +1,21 @@
-//! What calls are asked for, and what a call on `this` leaves the fields as.
+//! What calls are asked for while places are given, and what a call on `this` leaves the fields as.
 ghost use Rattle.std.specs.Prelude.{◌≡◌, option_map, IfOk};
 ghost use Rattle.ob_silica_rules.specs.Premises.{each};
 ghost use Rattle.ob_silica_rules.specs.Contexts.{field_count};
 ghost use Rattle.ob_silica_rules.specs.Calling.{enters_field, fields_left};
-ghost use Rattle.ob_silica_rules.specs.Binding.{reads_of};
+ghost use Rattle.ob_silica_rules.specs.Binding.{reads_of, given_all, passed};
 ghost use Rattle.ob_context.specs.View.{known_of, known_at, context_of, tested_of};
-ghost use Rattle.ob_context.specs.Checking.{Meets};
+ghost use Rattle.ob_context.specs.Checking.{Meets, Leaves};
 ghost use Rattle.ob_giving.specs.View.{plain_parameters};
 ghost use Rattle.ob_flow_premises.specs.Calls.{field_after, fields_after, may_call, may_call_this};
+ghost use Rattle.ob_flow_premises.specs.Calls.{passes, calls_with, enters};
 
 use crate::modes::room_for;
-use ob_base::{FIELD_MISMATCH, FieldId, Items, Memory, Span, THIS_IN_CONSTRUCTOR, UNDER_TEST};
+use ob_base::{
+    Duplicate, FIELD_MISMATCH, FieldId, Items, Memory, Span, THIS_IN_CONSTRUCTOR, UNDER_TEST,
+};
 use ob_context::{BodyFrame, Context, FlowError, Known, kind_of, must, tests_field};
-use ob_giving::{Parameter, each_once, keeps_fields, uses};
+use ob_giving::{Parameter, each_once, get_back_all, give_all, keeps_fields, uses};
 use ob_silica::{Operand, Place};
 use ob_table::Signature;
 use std::alloc::Global;
@@ -35,9 +38,9 @@ fn enters_field(
     must(FIELD_MISMATCH, at, enters)
 }
 
-/// Each field that may be there is held as the call wants it.
+// Each field that may be there is held as the call wants it.
 #[tactic(auto, using(ob_context::proofs::PremiseLemmas::for_each))]
-pub fn enter_fields(
+fn enter_fields(
     frame: &BodyFrame<'_>,
     before: &Context,
     context: &Context,
@@ -99,9 +102,9 @@ pub fn leave_fields(
     Ok(Context::of(slots, fields))
 }
 
-/// What a call is asked for before anything is given.
+// What a call is asked for before anything is given.
 #[tactic(auto, using(ob_context::proofs::PremiseLemmas::premises))]
-pub fn may_call(
+fn may_call(
     frame: &BodyFrame<'_>,
     context: &Context,
     receiver: Operand,
@@ -115,9 +118,9 @@ pub fn may_call(
     each_once(reads, params)
 }
 
-/// What a call on `this` is asked for before anything is given.
+// What a call on `this` is asked for before anything is given.
 #[tactic(auto, using(ob_context::proofs::PremiseLemmas::premises))]
-pub fn may_call_this(
+fn may_call_this(
     frame: &BodyFrame<'_>,
     tested: &[Place],
     at: Span,
@@ -133,4 +136,71 @@ pub fn may_call_this(
     each_once(reads, params)?;
     keeps_fields(args, signature.params.as_slice())?;
     must(UNDER_TEST, at, !tests_field(tested))
+}
+
+/// Places are given to parameters, and get back what those give back.
+#[tactic(auto, using(ob_context::proofs::PremiseLemmas::premises))]
+pub fn pass(
+    alloc: Global,
+    frame: &BodyFrame<'_>,
+    tested: &[Place],
+    context: &mut Context,
+    reads: &[Operand],
+    params: &[Parameter],
+) -> Result<(), FlowError>
+    ensures { Leaves result (context_of context.new)
+        (passes frame.now (tested_of tested.now) (context_of context.old) (reads_of reads.now)
+        (plain_parameters params.now))
+        (passed frame.now (context_of context.old) (reads_of reads.now) (plain_parameters params.now)) }
+{
+    each_once(reads, params)?;
+    give_all(alloc, frame, tested, context, reads, params)?;
+    get_back_all(alloc, frame, context, reads, params)?;
+    Ok(())
+}
+
+/// Calls a transaction of another object with these places, the receiver first.
+#[tactic(auto, using(ob_context::proofs::PremiseLemmas::premises))]
+pub fn call_with(
+    alloc: Global,
+    frame: &BodyFrame<'_>,
+    tested: &[Place],
+    context: &mut Context,
+    receiver: Operand,
+    reads: &[Operand],
+    params: &[Parameter],
+) -> Result<(), FlowError>
+    ensures { Leaves result (context_of context.new)
+        (calls_with frame.now (tested_of tested.now) (context_of context.old) receiver (reads_of reads.now)
+        (plain_parameters params.now))
+        (passed frame.now (context_of context.old) (reads_of reads.now) (plain_parameters params.now)) }
+{
+    may_call(frame, context, receiver, reads, params)?;
+    give_all(alloc, frame, tested, context, reads, params)?;
+    get_back_all(alloc, frame, context, reads, params)?;
+    Ok(())
+}
+
+/// Gives `this` and arguments, and asks for the fields that the call wants.
+#[tactic(auto, using(ob_context::proofs::PremiseLemmas::premises))]
+pub fn enter(
+    alloc: Global,
+    frame: &BodyFrame<'_>,
+    tested: &[Place],
+    context: &mut Context,
+    at: Span,
+    signature: &Signature,
+    args: &[Operand],
+    reads: &[Operand],
+    params: &[Parameter],
+) -> Result<(), FlowError>
+    ensures { Leaves result (context_of context.new)
+        (enters frame.now (tested_of tested.now) (context_of context.old) at signature.now args.now
+        (reads_of reads.now) (plain_parameters params.now))
+        (given_all (context_of context.old) (reads_of reads.now) (plain_parameters params.now)) }
+{
+    let before = context.copy(alloc)?;
+    may_call_this(frame, tested, at, signature, args, reads, params)?;
+    give_all(alloc, frame, tested, context, reads, params)?;
+    enter_fields(frame, &before, context, at, signature)
 }

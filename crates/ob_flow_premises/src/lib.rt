@@ -9,7 +9,7 @@ mod modes;
 mod returning;
 mod straight;
 
-pub use calling::{enter_fields, leave_fields, may_call, may_call_this};
+pub use calling::{call_with, enter, leave_fields, pass};
 pub use changing::{
     all_have_values, all_lose_none, all_of_state, all_overwrite_none, all_share_as_declared,
     all_stay_under_test, fill_all, fills_once, in_state, may_change, put_got,
