@@ -1,5 +1,5 @@
-//! What the forms are asked for: the premises of their rules, place by place and field by field, and what becomes of the
-//! fields (Coblenz et al., TOPLAS 42(3), 2020, "Silica").
+//! What the forms are asked for: the premises of their rules, place by place and field by field; and what becomes of
+//! the fields, and of the places that a call is given (Coblenz et al., TOPLAS 42(3), 2020, "Silica").
 #![tactic(auto)]
 
 mod calling;
