@@ -1,3 +1,1 @@
 pub mod Lowering
-pub mod Plain
-pub mod Waits

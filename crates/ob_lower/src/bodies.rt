@@ -6,21 +6,21 @@ ghost use Rattle.ob_silica.specs.TermsView.{terms_of, silica_body_of};
 ghost use Rattle.ob_lowering.specs.BodyTerms.{Lowers};
 ghost use Rattle.ob_lowering.specs.SlotNeeds.{slots_run_out, IsSlotFault};
 ghost use Rattle.ob_lowering_slots.specs.BodyCode.{code_with, body_code};
-ghost use Rattle.ob_lower_parts.specs.Makes.{Makes};
+ghost use Rattle.ob_lower_slots.specs.Makes.{Makes};
 ghost use Rattle.ob_lower.specs.Lowering.{OnFault};
 
-use crate::counts::count_slots;
 use crate::error::LowerError;
-use crate::position::Position;
 use crate::statements::{Branch, lower_scope};
 use ob_base::{Items, Memory, Span};
-use ob_lower_parts::{Frame, SLOTS_MOST, Stopped, Variables};
+use ob_lower_parts::{Frame, Variables, count_slots};
+use ob_lower_rows::Position;
+use ob_lower_slots::{SLOTS_MOST, Stopped};
 use ob_silica::{Form, Term, TermBody};
 use ob_table::{Body, Contract, Signature, Table};
 use std::alloc::Global;
 
 // The terms of a body: where its end is reached, it is a `return` without a value.
-#[tactic(auto, using(ob_lower_parts::proofs::CodeLemmas::terms))]
+#[tactic(auto, using(ob_lower_slots::proofs::CodeLemmas::terms))]
 fn with_ending(block: Branch, end: Span) -> Result<Items<Term>, Memory>
     ensures { IfOk result (λ ts. terms_of ts ≡ then_terms (terms_of block.terms)
         (if block.ends then no_terms else one_term (return_form None) end)) }
