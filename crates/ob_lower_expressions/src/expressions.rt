@@ -9,12 +9,11 @@ ghost use Rattle.ob_lower_expressions.specs.Parts.{right_code, binary_code};
 
 use ob_base::{ContractId, Items, Operator, Span};
 use ob_lower_operands::{
-    Sign, lower_constant, lower_receiver, lower_seen, lower_text, put_call, put_choice, put_new,
-    put_operation, valued,
+    Sign, lower_leaf, lower_receiver, put_call, put_choice, put_new, put_operation, valued,
 };
 use ob_lower_parts::Around;
 use ob_lower_slots::{Code, Slots, Stopped};
-use ob_silica::{Constant, Form, Operand, Place, Term};
+use ob_silica::{Form, Operand, Place, Term};
 use ob_table::{ResolvedCall, ResolvedExpr};
 use std::alloc::Global;
 
@@ -31,14 +30,6 @@ pub fn lower_expression(
         (expression_code around.now (expression_of e.now) (progress out.old slots.old)) }
 {
     match e {
-        ResolvedExpr::Number { value, span } => {
-            lower_constant(Constant::Int(*value), *span, around, out, slots)
-        }
-        ResolvedExpr::Text { value, span } => lower_text(value, *span, around, out, slots),
-        ResolvedExpr::Bool { value, span } => {
-            lower_constant(Constant::Bool(*value), *span, around, out, slots)
-        }
-        ResolvedExpr::Seen { seen, span } => lower_seen(seen.of, *span, around, out, slots),
         ResolvedExpr::Unary {
             operator,
             sign,
@@ -71,6 +62,7 @@ pub fn lower_expression(
             args,
             span,
         } => lower_new(args.as_slice(), *contract, *span, around, out, slots),
+        _ => lower_leaf(e, around, out, slots),
     }
 }
 

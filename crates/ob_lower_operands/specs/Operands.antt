@@ -1,13 +1,25 @@
 -- Operands, and operators behind their operands.
-use Rattle.std.specs.Prelude.{ℕ, Option, Some, false, Result, Ok}
+use Rattle.std.specs.Prelude.{⊤, ℕ, Option, Some, false, Result, Ok}
 use Rattle.ob_base.specs.declared.fault.Span.{Span}
 use Rattle.ob_base.specs.declared.operator.Operator.{Operator}
+use Rattle.ob_table.specs.Expressions.{Expression, resolved_number, resolved_text, resolved_bool, resolved_seen, resolved_unary, resolved_binary, resolved_call, resolved_new}
 use Rattle.ob_silica.specs.Terms.{SilicaForm, SilicaTerms, op_form, if_form}
 use Rattle.ob_silica.specs.declared.place.Operand.{Operand}
 use Rattle.ob_lowering.specs.Points.{Around}
 use Rattle.ob_lowering.specs.ExpressionTerms.{operand, slot_operand}
 use Rattle.ob_lowering_slots.specs.Progress.{Stop, ◌>>=◌, Progress, with_term, into_slot}
 use Rattle.ob_lowering_slots.specs.ExpressionCode.{value}
+
+-- an expression without parts
+abbrev pub IsLeaf : Expression → Type 0
+IsLeaf (resolved_number number span) = ⊤
+IsLeaf (resolved_text text span) = ⊤
+IsLeaf (resolved_bool truth span) = ⊤
+IsLeaf (resolved_seen seen span) = ⊤
+IsLeaf (resolved_unary operator sign e span) = ⊥
+IsLeaf (resolved_binary operator sign left right span) = ⊥
+IsLeaf (resolved_call receiver contract tx name args span) = ⊥
+IsLeaf (resolved_new contract args span) = ⊥
 
 -- what is made always has a value
 abbrev pub with_value : Result (Progress × Operand) Stop → Result (Progress × Option Operand) Stop

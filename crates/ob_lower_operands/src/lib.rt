@@ -1,13 +1,15 @@
-//! What stands for the value of an expression once those of its parts have their places: operands, and the last terms of
-//! calls, of `new` and of operators.
+//! Expressions without parts, and the last terms of those with parts: what stands for the value of a call, of `new` or of
+//! an operator once its parts have their places.
 #![tactic(auto)]
 
 mod calls;
+mod leaves;
 mod names;
 mod operands;
 mod operators;
 
 pub use calls::{put_call, put_new};
-pub use names::{lower_receiver, lower_seen};
-pub use operands::{lower_constant, lower_text, slot_operand, valued};
+pub use leaves::lower_leaf;
+pub use names::lower_receiver;
+pub use operands::{slot_operand, valued};
 pub use operators::{Sign, put_choice, put_operation};
