@@ -10,9 +10,9 @@ use Rattle.ob_silica.specs.Slots.{slots_most}
 use Rattle.ob_lowering.specs.SlotNeeds.{IsSlotFault}
 use Rattle.ob_lowering_slots.specs.BodyCode.{body_code}
 use Rattle.ob_lowering_slots.proofs.Bodies.{gives_terms, fails_where_full}
-use Rattle.ob_lower_parts.specs.Makes.{Fails}
-use Rattle.ob_lower_parts.specs.declared.error.Stopped.{Stopped}
-use Rattle.ob_lower_parts.specs.declared.error.Stopped.TheVariants.{Full, Unmade, Memory}
+use Rattle.ob_lower_slots.specs.Makes.{Fails}
+use Rattle.ob_lower_slots.specs.declared.error.Stopped.{Stopped}
+use Rattle.ob_lower_slots.specs.declared.error.Stopped.TheVariants.{Full, Unmade, Memory}
 use Rattle.ob_lower.specs.Lowering.{OnFault, error_of}
 use Rattle.ob_lower.specs.declared.error.LowerError.{LowerError}
 

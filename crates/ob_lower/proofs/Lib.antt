@@ -1,4 +1,2 @@
 pub mod BodiesLemmas
-pub mod CountsLemmas
-pub mod DropsLemmas
 pub mod KeptLemmas

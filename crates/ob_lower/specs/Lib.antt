@@ -1,3 +1,2 @@
+pub mod Beginning
 pub mod Lowering
-pub mod Plain
-pub mod Waits

@@ -2,8 +2,8 @@
 use Rattle.std.specs.Prelude.{⊤}
 use Rattle.ob_base.specs.Faults.{limit}
 use Rattle.ob_base.specs.declared.fault.ProgramFault.{ProgramFault}
-use Rattle.ob_lower_parts.specs.declared.error.Stopped.{Stopped}
-use Rattle.ob_lower_parts.specs.declared.error.Stopped.TheVariants.{Full, Unmade, Memory as StoppedMemory}
+use Rattle.ob_lower_slots.specs.declared.error.Stopped.{Stopped}
+use Rattle.ob_lower_slots.specs.declared.error.Stopped.TheVariants.{Full, Unmade, Memory as StoppedMemory}
 use Rattle.ob_lower.specs.declared.error.LowerError.{LowerError}
 use Rattle.ob_lower.specs.declared.error.LowerError.TheVariants.{Fault, Memory}
 

@@ -1,26 +1,29 @@
 //! The bodies of transactions and constructors.
-ghost use Rattle.std.specs.Prelude.{◌≡◌, ◌≤◌, None, Ok, IfOk, IfErr, OnOk, if◌then◌else◌};
+ghost use Rattle.std.specs.Prelude.{◌≡◌, ◌≤◌, ◌<◌, None, Ok, IfOk, IfErr, OnOk, if◌then◌else◌};
 ghost use Rattle.ob_table.specs.StatementsView.{resolved_body_of};
+ghost use Rattle.ob_typing.specs.WellMade.{block_ends_there};
 ghost use Rattle.ob_silica.specs.Terms.{no_terms, then_terms, one_term, return_form};
 ghost use Rattle.ob_silica.specs.TermsView.{terms_of, silica_body_of};
 ghost use Rattle.ob_lowering.specs.BodyTerms.{Lowers};
 ghost use Rattle.ob_lowering.specs.SlotNeeds.{slots_run_out, IsSlotFault};
-ghost use Rattle.ob_lowering_slots.specs.BodyCode.{code_with, body_code};
-ghost use Rattle.ob_lower_parts.specs.Makes.{Makes};
+ghost use Rattle.ob_lowering_slots.specs.StatementCode.{block_code};
+ghost use Rattle.ob_lowering_slots.specs.BodyCode.{body_of_terms, code_with, body_code};
+ghost use Rattle.ob_lower_slots.specs.Makes.{Makes};
 ghost use Rattle.ob_lower.specs.Lowering.{OnFault};
+ghost use Rattle.ob_lower.specs.Beginning.{block_of, begins};
 
-use crate::counts::count_slots;
 use crate::error::LowerError;
-use crate::position::Position;
 use crate::statements::{Branch, lower_scope};
 use ob_base::{Items, Memory, Span};
-use ob_lower_parts::{Frame, SLOTS_MOST, Stopped, Variables};
+use ob_lower_parts::{Frame, Variables, count_slots};
+use ob_lower_rows::Position;
+use ob_lower_slots::{SLOTS_MOST, Stopped};
 use ob_silica::{Form, Term, TermBody};
 use ob_table::{Body, Contract, Signature, Table};
 use std::alloc::Global;
 
 // The terms of a body: where its end is reached, it is a `return` without a value.
-#[tactic(auto, using(ob_lower_parts::proofs::CodeLemmas::terms))]
+#[tactic(auto, using(ob_lower_slots::proofs::CodeLemmas::terms))]
 fn with_ending(block: Branch, end: Span) -> Result<Items<Term>, Memory>
     ensures { IfOk result (λ ts. terms_of ts ≡ then_terms (terms_of block.terms)
         (if block.ends then no_terms else one_term (return_form None) end)) }
@@ -33,6 +36,42 @@ fn with_ending(block: Branch, end: Span) -> Result<Items<Term>, Memory>
         })?;
     }
     Ok(terms)
+}
+
+// A body with so many parameters, whose statements have these terms.
+fn body_with(body: &Body, params: usize, block: Branch) -> Result<TermBody, Stopped>
+    requires { params < 128 }
+    ensures { Makes result silica_body_of (Ok (body_of_terms (resolved_body_of body.now) params
+        (then_terms (terms_of block.terms) (if block.ends then no_terms else one_term (return_form None) body.now.end)))) }
+{
+    let terms = with_ending(block, body.end)?;
+    let Ok(slots) = u8::try_from(count_slots(params, terms.as_slice())) else {
+        return Err(Stopped::Memory);
+    };
+    Ok(TermBody {
+        contract: body.contract,
+        tx: body.tx,
+        terms,
+        slots,
+        end: body.end,
+    })
+}
+
+// The statements of a body, at whose beginning these variables are visible, which have so many slots with `this`.
+fn lower_whole(
+    body: &Body,
+    frame: &Frame<'_>,
+    variables: Variables,
+    slots: u8,
+    alloc: Global,
+) -> Result<Branch, Stopped>
+    ensures code { Makes result (λ b. terms_of b.terms)
+        (block_code frame.now (block_of (resolved_body_of body.now)) (begins variables slots)) }
+    ensures ends { IfOk result (λ b. b.ends ≡ block_ends_there (block_of (resolved_body_of body.now))) }
+{
+    let mut position = Position::new(variables, slots);
+    let statements = body.statements.as_slice();
+    lower_scope(statements, body.end, frame, &mut position, alloc)
 }
 
 // A body of this contract with this signature.
@@ -53,20 +92,8 @@ fn lower_with(
     }
     let frame = Frame::new(table, body.contract, own, signature);
     let variables = Variables::of_params(alloc, params)?;
-    let mut position = Position::new(variables, params.len() as u8 + 1);
-    let statements = body.statements.as_slice();
-    let block = lower_scope(statements, body.end, &frame, &mut position, alloc)?;
-    let terms = with_ending(block, body.end)?;
-    let Ok(slots) = u8::try_from(count_slots(params.len(), terms.as_slice())) else {
-        return Err(Stopped::Memory);
-    };
-    Ok(TermBody {
-        contract: body.contract,
-        tx: body.tx,
-        terms,
-        slots,
-        end: body.end,
-    })
+    let block = lower_whole(body, &frame, variables, params.len() as u8 + 1, alloc)?;
+    body_with(body, params.len(), block)
 }
 
 fn lower_body(body: &Body, table: &Table, alloc: Global) -> Result<TermBody, Stopped>

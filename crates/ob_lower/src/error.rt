@@ -1,6 +1,6 @@
 //! Why a body has no terms.
 use ob_base::{LIMIT, Memory, ProgramFault};
-use ob_lower_parts::Stopped;
+use ob_lower_slots::Stopped;
 use thiserror::Error;
 
 /// Why a body has no terms.

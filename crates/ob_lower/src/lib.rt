@@ -3,11 +3,7 @@
 #![tactic(auto)]
 
 mod bodies;
-mod counts;
 mod error;
-mod position;
-mod rows;
-mod simple;
 mod statements;
 
 pub use bodies::lower;

@@ -3,18 +3,16 @@ ghost use Rattle.std.specs.Prelude.{◌≡◌, IfOk, OnOk};
 ghost use Rattle.ob_table.specs.Statements.{resolved_block};
 ghost use Rattle.ob_table.specs.StatementsView.{statement_of, statements_of, resolved_block_of, otherwise_of};
 ghost use Rattle.ob_typing.specs.WellMade.{ends_there, one_ends_there, block_ends_there, other_ends_there};
-ghost use Rattle.ob_silica.specs.Terms.{then_terms};
 ghost use Rattle.ob_silica.specs.TermsView.{terms_of};
-ghost use Rattle.ob_lowering.specs.Points.{drops};
 ghost use Rattle.ob_lowering.specs.StatementTerms.{join_of};
 ghost use Rattle.ob_lowering_slots.specs.StatementCode.{settled, statement_code, statements_code};
-ghost use Rattle.ob_lowering_slots.specs.StatementCode.{slots_between, block_code, otherwise_code};
-ghost use Rattle.ob_lower_parts.specs.Makes.{Makes};
+ghost use Rattle.ob_lowering_slots.specs.StatementCode.{block_code, otherwise_code};
+ghost use Rattle.ob_lower_slots.specs.Makes.{Makes};
 
-use crate::position::Position;
-use crate::simple::{begin_named, lower_condition, lower_plain};
-use ob_base::{Items, Memory, Span};
-use ob_lower_parts::{Code, Frame, Stopped};
+use ob_base::{Items, Span};
+use ob_lower_parts::Frame;
+use ob_lower_rows::{Position, begin_named, lower_condition, lower_plain};
+use ob_lower_slots::{Code, Stopped, end_block};
 use ob_silica::{Form, Term};
 use ob_table::{ResolvedBlock, ResolvedStmt};
 use std::alloc::Global;
@@ -35,16 +33,6 @@ fn join_of(then: &ResolvedBlock, otherwise: &Option<ResolvedBlock>) -> Span
         None => then.end,
         Some(block) => block.end,
     }
-}
-
-// The slots of a block's own variables, from the first number up to the second, are dropped, the last declared first.
-fn drop_locals(low: u8, high: u8, span: Span, out: &mut Code) -> Result<(), Memory>
-    ensures { OnOk result (out.new ≡ then_terms out.old (drops (slots_between low high) span)) }
-{
-    for slot in (low..high).rev() {
-        out.put_drop(slot, span)?;
-    }
-    Ok(())
 }
 
 // A statement before these: whether nothing is reached behind it.
@@ -147,9 +135,7 @@ pub fn lower_scope(
     let slots = position.slots();
     position.settle();
     let ends = lower_statements(statements, frame, position, &mut out)?;
-    if !ends {
-        drop_locals(slots, position.slots(), end, &mut out)?;
-    }
+    end_block(ends, slots, position.slots(), end, &mut out)?;
     position.leave(visible, slots);
     Ok(Branch {
         terms: out.into_terms(),

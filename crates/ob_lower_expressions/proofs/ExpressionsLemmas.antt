@@ -5,11 +5,14 @@ use Rattle.ob_base.specs.declared.fault.Span.{Span}
 use Rattle.ob_base.specs.declared.operator.Operator.{Operator}
 use Rattle.ob_base.specs.declared.operator.Operator.TheVariants.{And, Or}
 use Rattle.ob_table.specs.Expressions.{Expression, resolved_binary}
-use Rattle.ob_table.specs.ExpressionsView.{expression_of, arguments_of, expression_views}
+use Rattle.ob_table.specs.ExpressionsView.{expression_views}
+use Rattle.ob_silica.specs.Terms.{copy_form, no_terms}
 use Rattle.ob_lowering.specs.Points.{Around}
-use Rattle.ob_lowering_slots.specs.Progress.{Stop, ◌>>=◌, Progress}
-use Rattle.ob_lowering_slots.specs.ExpressionCode.{value, valued, and_code, or_code, branching, expression_code}
-use Rattle.ob_lower_expressions.specs.Parts.{binary_code, operation_code}
+use Rattle.ob_lowering_slots.specs.Progress.{Stop, ◌>>=◌, Progress, with_term}
+use Rattle.ob_lowering_slots.specs.ExpressionCode.{branching, expression_code, value_code}
+use Rattle.ob_lower_slots.specs.Makes.{progress}
+use Rattle.ob_lower_operands.specs.Operands.{choice_code}
+use Rattle.ob_lower_expressions.specs.Parts.{binary_code, with_slots}
 
 pub bind-assoc : {A B C : Type 0} (r : Result A Stop) (f : A → Result B Stop) (g : B → Result C Stop)
     → (r >>= f) >>= g ≡ r >>= (λ x. f x >>= g)
@@ -23,15 +26,15 @@ bind-same (Err e) f g same = refl
 -- an operator with two operands is its left side and then the rest
 pub binary-parts : (a : Around) (operator : Operator) (sign : Span) (left right : Expression) (span : Span) (p : Progress)
     → expression_code a (resolved_binary operator sign left right span) p
-    ≡ expression_code a left p >>= valued >>= (λ x. binary_code a operator sign span right x >>= value)
+    ≡ value_code a left p >>= binary_code a operator sign span right
 binary-parts a And sign left right span p =
-    bind-same (expression_code a left p >>= valued) _ _ (λ x. sym (bind-assoc
-    (expression_code a right (branching x.0) >>= valued) (λ y. Ok (and_code a sign span x y)) value))
+    bind-same (value_code a left p) _ _ (λ x. sym (bind-assoc (value_code a right (branching x.0))
+    (λ y. Ok (progress (with_term y.0.terms (copy_form x.1.place y.1) a.place) y.0.slots))
+    (λ b. with_slots b.slots (choice_code a sign span x.1 b.terms no_terms x.0.terms))))
 binary-parts a Or sign left right span p =
-    bind-same (expression_code a left p >>= valued) _ _ (λ x. sym (bind-assoc
-    (expression_code a right (branching x.0) >>= valued) (λ y. Ok (or_code a sign span x y)) value))
-binary-parts a operator sign left right span p =
-    bind-same (expression_code a left p >>= valued) _ _ (λ x. sym (bind-assoc
-    (expression_code a right x.0 >>= valued) (λ y. operation_code a operator sign span x.1 y.1 y.0) value))
+    bind-same (value_code a left p) _ _ (λ x. sym (bind-assoc (value_code a right (branching x.0))
+    (λ y. Ok (progress (with_term y.0.terms (copy_form x.1.place y.1) a.place) y.0.slots))
+    (λ b. with_slots b.slots (choice_code a sign span x.1 no_terms b.terms x.0.terms))))
+binary-parts a operator sign left right span p = refl
 
 pub ruleset expressions = (expression_views, binary-parts)

@@ -4,4 +4,4 @@
 
 mod expressions;
 
-pub use expressions::{lower_expression, lower_value, slot_operand};
+pub use expressions::{lower_expression, lower_value};

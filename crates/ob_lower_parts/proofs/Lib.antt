@@ -1,3 +1,2 @@
-pub mod CodeLemmas
-pub mod SlotsLemmas
+pub mod CountsLemmas
 pub mod VariablesLemmas

@@ -8,7 +8,7 @@ use Rattle.ob_table.specs.declared.contract.Param.{Param}
 use Rattle.std.specs.Prelude.{option_map, nat_eq, if◌then◌else◌}
 use Rattle.ob_typing.specs.WellMade.{local_kind}
 use Rattle.ob_lowering.specs.Points.{Variable, locals_of, slot_of}
-use Rattle.ob_lower_parts.specs.Makes.{newest_first, variable_of, variable_at}
+use Rattle.ob_lower_parts.specs.Visible.{newest_first, variable_of, variable_at}
 use Rattle.ob_lower_parts.specs.declared.variables.Variable as made
 
 -- a variable's slot and kind are found as the variable is

@@ -1,1 +1,1 @@
-pub mod Makes
+pub mod Visible

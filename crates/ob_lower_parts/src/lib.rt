@@ -1,14 +1,10 @@
-//! What lowering works with: the terms so far, slots, the variables that are visible, and what stands around an expression.
+//! What lowering works with: the variables that are visible, what stands around an expression, and the slots that terms name.
 #![tactic(auto)]
 
-mod code;
-mod error;
+mod counts;
 mod frame;
-mod slots;
 mod variables;
 
-pub use code::Code;
-pub use error::Stopped;
+pub use counts::count_slots;
 pub use frame::{Around, Frame};
-pub use slots::{SLOTS_MOST, Slots};
 pub use variables::{Variable, Variables};

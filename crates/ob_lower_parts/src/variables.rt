@@ -4,7 +4,7 @@ ghost use Rattle.std.specs.Option.{option_copied};
 ghost use Rattle.ob_typing.specs.WellMade.{local_kind};
 ghost use Rattle.ob_lowering.specs.Points.{locals_of, place_of};
 ghost use Rattle.ob_lowering.specs.BodyTerms.{params_from};
-ghost use Rattle.ob_lower_parts.specs.Makes.{variable_of, newest_first, variable_at};
+ghost use Rattle.ob_lower_parts.specs.Visible.{variable_of, newest_first, variable_at};
 
 use crate::frame::kind_of_table;
 use ob_base::Memory;
@@ -30,7 +30,7 @@ pub struct Variables {
 impl Model for Variables {
     ghost use Rattle.std.specs.Prelude.{List};
     ghost use Rattle.ob_lowering.specs.Points.{Variable as Point};
-    ghost use Rattle.ob_lower_parts.specs.Makes.{newest_first};
+    ghost use Rattle.ob_lower_parts.specs.Visible.{newest_first};
 
     ghost Value = { List Point };
 

@@ -1,5 +1,5 @@
 use Rattle.std.proofs.Common.{◌≡◌, take}
-use Rattle.ob_lower_parts.specs.Makes.{newest_first, variable_at}
+use Rattle.ob_lower_parts.specs.Visible.{newest_first, variable_at}
 use Rattle.ob_lower_parts.proofs.variables.find.Given as goal
 
 abbrev pub invariant-loop-index : goal.invariant-loop-index

@@ -2,7 +2,7 @@ use Rattle.std.proofs.Common.{◌≡◌, ◌+◌, ◌-◌, ◌<◌, ◌∷◌, l
 use Rattle.ob_typing.specs.WellMade.{kind_of_table}
 use Rattle.ob_lowering.specs.Points.{Variable}
 use Rattle.ob_lowering.specs.BodyTerms.{params_from}
-use Rattle.ob_lower_parts.specs.Makes.{newest_first}
+use Rattle.ob_lower_parts.specs.Visible.{newest_first}
 use Rattle.ob_lower_parts.proofs.VariablesLemmas.{newest_first-push, params_from-drop}
 use Rattle.ob_lower_parts.proofs.variables.Variables.of_params.Goals as goal
 

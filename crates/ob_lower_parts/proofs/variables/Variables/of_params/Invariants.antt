@@ -1,6 +1,6 @@
 use Rattle.std.proofs.Common.{◌≡◌, ◌+◌, drop}
 use Rattle.ob_lowering.specs.BodyTerms.{params_from}
-use Rattle.ob_lower_parts.specs.Makes.{newest_first}
+use Rattle.ob_lower_parts.specs.Visible.{newest_first}
 use Rattle.ob_lower_parts.proofs.variables.Variables.of_params.Given as goal
 
 abbrev pub invariant-loop-index : goal.invariant-loop-index
