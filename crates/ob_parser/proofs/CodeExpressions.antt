@@ -30,7 +30,8 @@ use Rattle.ob_grammar.proofs.ExprLaws.{after_operand, row_1, row_2, row_3, row_4
 use Rattle.ob_grammar.proofs.DepthLaws.{unary_all, after_expr}
 use Rattle.ob_grammar.proofs.Arguments.{expr_laws}
 use Rattle.ob_grammar.proofs.Deeper.{unary_step}
-use Rattle.ob_parser.proofs.Loops.{Consumes, consumes, halts_bind, one_more_from, halts_from}
+use Rattle.ob_parser.proofs.Halts.{halts_bind}
+use Rattle.ob_parser.proofs.Loops.{Consumes, consumes, one_more_from, halts_from}
 
 -- ---- operands have tokens
 

@@ -8,7 +8,7 @@ use Rattle.ob_grammar.specs.Readers.{Read, done, Reader, ◌>>=◌, behind, plac
 use Rattle.ob_grammar.specs.NameReaders.{on, second, read_item, read_parted, inner, read_counted}
 use Rattle.ob_parser.specs.Answering.{Halts, read_open}
 use Rattle.ob_parser.specs.declared.halt.Halt.{Halt}
-use Rattle.ob_parser.proofs.Loops.{halts_bind}
+use Rattle.ob_parser.proofs.Halts.{halts_bind}
 use Rattle.ob_parser.proofs.CodeTokens.{opened_is}
 
 -- ---- a part under a token that counts

@@ -1,3 +1,4 @@
+pub mod Halts
 pub mod Loops
 pub mod Nexts
 pub mod CodeItems

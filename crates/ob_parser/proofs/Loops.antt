@@ -9,6 +9,7 @@ use Rattle.ob_grammar.specs.Grammar.{tokens_of}
 use Rattle.ob_parser.specs.Answering.{Halts, prefixed}
 use Rattle.ob_parser.specs.declared.halt.Halt.{Halt}
 use Rattle.ob_parser.specs.declared.halt.Halt.TheVariants as halt
+use Rattle.ob_parser.proofs.Halts.{halts_bind}
 use Rattle.ob_grammar.proofs.Laws.{Begin, Laws, Case, is_done, is_stop, is_deep, case_of}
 
 -- what is read has a token
@@ -74,16 +75,6 @@ module _ {A S : Type 0} (kinds : List ℕ) (p : S → Reader A) (next : S → A 
 -- none is left
 pub none_from : {A S : Type 0} (kinds : List ℕ) (p : S → Reader A) (next : S → A → S) (s : S) (ts : List Token) → begin_with kinds ts ≡ false → read_many_from kinds p next s ts ≡ done [] ts
 none_from kinds p next s ts fails = rw fails refl
-
--- why it ends
-pub halts_bind : {A B : Type 0} (e : Halt) (r : Read A) (f : A → List Token → Read B) → Halts e r → Halts e (r >>= f)
-halts_bind (halt.Expected left) (stop rest) f is = is
-halts_bind (halt.Expected left) (done x rest) f is = absurd cc
-halts_bind (halt.Expected left) (deep rest) f is = absurd cc
-halts_bind (halt.TooDeep left) (deep rest) f is = is
-halts_bind (halt.TooDeep left) (done x rest) f is = absurd cc
-halts_bind (halt.TooDeep left) (stop rest) f is = absurd cc
-halts_bind halt.Memory r f is = tt
 
 pub halts_from : {A S : Type 0} (kinds : List ℕ) (p : S → Reader A) (next : S → A → S) (s : S) (ts : List Token) (e : Halt) → begin_with kinds ts ≡ true → Halts e (p s ts) → Halts e (read_many_from kinds p next s ts)
 halts_from kinds p next s ts e does is = rw does (halts_bind e (p s ts >>= behind (λ x. read_each kinds p next (length ts) (next s x))) (λ pair rest. done (put_before pair) rest) (halts_bind e (p s ts) (behind (λ x. read_each kinds p next (length ts) (next s x))) is))

@@ -10,7 +10,8 @@ use Rattle.ob_grammar.specs.NameReaders.{read_item}
 use Rattle.ob_grammar.specs.MemberReaders.{list_of}
 use Rattle.ob_parser.specs.Answering.{Halts, Answers, prefixed}
 use Rattle.ob_parser.specs.declared.halt.Halt.{Halt}
-use Rattle.ob_parser.proofs.Loops.{halts_bind, halts_more}
+use Rattle.ob_parser.proofs.Halts.{halts_bind}
+use Rattle.ob_parser.proofs.Loops.{halts_more}
 
 -- something made of what another reads
 pub made_answer : {T A B : Type 0} (view : T → A) (other : T → B) (r : Result (T × Bor (List Token)) Halt) (read : Read A) (then : A → List Token → Read B) → ((t : T) (rest : List Token) → then (view t) rest ≡ done (other t) rest) → Answers view r read → Answers other r (read >>= then)

@@ -11,7 +11,6 @@
 //! "disown" NAME ";"
 //! "[" (NAME | "this") "@" perm "]" ";"
 //! ```
-#![tactic(auto, using(crate::proofs::Loops::halts_bind))]
 
 ghost use Rattle.std.specs.Prelude.{option_map, map, [], ◌∷◌};
 ghost use Rattle.ob_tree.specs.Stmts.{named_local};

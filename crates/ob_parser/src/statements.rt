@@ -8,7 +8,6 @@
 //! ```
 //!
 //! `else if` stands for a block with that `if`, which is open from its `if` up to the end of that statement.
-#![tactic(auto, using(crate::proofs::Loops::halts_bind))]
 
 ghost use Rattle.std.specs.Prelude.{◌≡◌, IfOk, IfErr};
 ghost use Rattle.ob_tree.specs.Stmts.{block_with, and_stmt, no_stmts};

@@ -8,7 +8,8 @@ use Rattle.ob_grammar.specs.NameReaders.{on, read_item, read_parted}
 use Rattle.ob_grammar.specs.AllReaders.{all_unary, all_counted, all_exprs}
 use Rattle.ob_parser.specs.Levels.{number_of_level, read_operand}
 use Rattle.ob_parser.specs.Answering.{Halts}
-use Rattle.ob_parser.proofs.Loops.{halts_bind, kept_as, halts_more}
+use Rattle.ob_parser.proofs.Halts.{halts_bind}
+use Rattle.ob_parser.proofs.Loops.{kept_as, halts_more}
 use Rattle.ob_parser.proofs.CodeParts.{opened_halts, opened_done, not_opened, inside_halts, end_halts, counted_done, parted_halts, item_halts, item_done}
 use Rattle.ob_parser.proofs.CodeExpressions.{expr_item, row_begins, row_goes_on, row_halts, single_goes_on, single_halts, row_is_single, fewer_left, negation_halts, negation_done, primary_is, arguments_are, group_halts, group_done}
 use Rattle.ob_parser.proofs.expressions.+expr.Goals as goal
@@ -147,3 +148,56 @@ list-arguments-preserved t c =
     let p = read_item Comma (all_exprs c.args.room) in
     let one = item_done Comma (all_exprs c.args.room) c.arguments.rest.now c.in_ok-after.after.now _ c.in_ok-after.ensures _ c.in_ok-arg.after.now c.in_ok-arg.ensures in
     kept_as (on Comma) p expr_of c.arguments.args c.push-in-arguments.new.self c.arguments.rest.now c.in_ok-arg.after.now c.in_ok-arg.arg _ (expr_item c.args.room c.ranges.room.fits) c.arguments.invariant c.in_ok-push-2.ensures.ok (sym c.starts_with.ensures ∙ c.arguments-test.true) one
+
+-- why a part isn't read
+
+pub method-returns-in_err-dot : goal.method-returns-in_err-dot
+method-returns-in_err-dot t c = search (rules, halts_bind)
+
+pub method-returns-in_err-name : goal.method-returns-in_err-name
+method-returns-in_err-name t c = search (rules, halts_bind)
+
+pub method-returns-in_err-args : goal.method-returns-in_err-args
+method-returns-in_err-args t c = search (rules, halts_bind)
+
+pub new-returns-in_err-rest : goal.new-returns-in_err-rest
+new-returns-in_err-rest t c = search (rules, halts_bind)
+
+pub new-returns-in_err-of : goal.new-returns-in_err-of
+new-returns-in_err-of t c = search (rules, halts_bind)
+
+pub new-returns-in_err-args : goal.new-returns-in_err-args
+new-returns-in_err-args t c = search (rules, halts_bind)
+
+pub name-returns-in_err-name : goal.name-returns-in_err-name
+name-returns-in_err-name t c = search (rules, halts_bind)
+
+pub name-returns-in_err-tail : goal.name-returns-in_err-tail
+name-returns-in_err-tail t c = search (rules, halts_bind)
+
+pub this-returns-in_err-token : goal.this-returns-in_err-token
+this-returns-in_err-token t c = search (rules, halts_bind)
+
+pub this-returns-in_err-name : goal.this-returns-in_err-name
+this-returns-in_err-name t c = search (rules, halts_bind)
+
+pub tail-returns-in_err-name : goal.tail-returns-in_err-name
+tail-returns-in_err-name t c = search (rules, halts_bind)
+
+pub tail-returns-in_err-args : goal.tail-returns-in_err-args
+tail-returns-in_err-args t c = search (rules, halts_bind)
+
+pub applied-returns-in_err-rest : goal.applied-returns-in_err-rest
+applied-returns-in_err-rest t c = search (rules, halts_bind, not_opened)
+
+pub group-returns-in_err-rest : goal.group-returns-in_err-rest
+group-returns-in_err-rest t c = search (rules, halts_bind, not_opened)
+
+pub chain-returns-in_err-first-clause-read : goal.chain-returns-in_err-first-clause-read
+chain-returns-in_err-first-clause-read t c = search (rules, halts_bind)
+
+pub single-returns-in_err-left-clause-read : goal.single-returns-in_err-left-clause-read
+single-returns-in_err-left-clause-read t c = search (rules, halts_bind)
+
+pub operation-returns-in_err-operator-clause-read : goal.operation-returns-in_err-operator-clause-read
+operation-returns-in_err-operator-clause-read t c = search (rules, not_opened)

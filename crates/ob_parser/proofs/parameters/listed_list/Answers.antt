@@ -4,7 +4,8 @@ use Rattle.ob_tree.specs.MembersView.{listed_of}
 use Rattle.ob_grammar.specs.NameReaders.{on, read_item}
 use Rattle.ob_grammar.specs.MemberReaders.{read_listed}
 use Rattle.ob_grammar.specs.AllReaders.{all_refs}
-use Rattle.ob_parser.proofs.Loops.{halts_bind, kept_as}
+use Rattle.ob_parser.proofs.Halts.{halts_bind}
+use Rattle.ob_parser.proofs.Loops.{kept_as}
 use Rattle.ob_parser.proofs.CodeMembers.{listed_item}
 use Rattle.ob_parser.proofs.parameters.listed_list.Goals as goal
 
@@ -16,3 +17,6 @@ list-smaller c = (listed_item c.args.room c.ranges.room.fits).fewer _ _ _ c.in_o
 
 pub list-preserved : goal.list-preserved
 list-preserved c = kept_as (on Comma) (read_item Comma (read_listed (all_refs c.args.room))) listed_of c.list.list c.push-in-list.new.self c.list.rest.now c.in_ok-more.after.now c.in_ok-more.more _ (listed_item c.args.room c.ranges.room.fits) c.list.invariant c.in_ok-push-2.ensures.ok (sym c.starts_with.ensures ∙ c.list-test.true) c.in_ok-more.ensures
+
+pub returns-in_err-more : goal.returns-in_err-more
+returns-in_err-more c = search (rules, halts_bind)

@@ -4,7 +4,8 @@ use Rattle.ob_tree.specs.MembersView.{formal_of}
 use Rattle.ob_grammar.specs.NameReaders.{on, read_item}
 use Rattle.ob_grammar.specs.MemberReaders.{read_param}
 use Rattle.ob_grammar.specs.AllReaders.{all_refs}
-use Rattle.ob_parser.proofs.Loops.{halts_bind, kept_as}
+use Rattle.ob_parser.proofs.Halts.{halts_bind}
+use Rattle.ob_parser.proofs.Loops.{kept_as}
 use Rattle.ob_parser.proofs.CodeMembers.{param_item}
 use Rattle.ob_parser.proofs.parameters.param_list.Goals as goal
 
@@ -16,3 +17,6 @@ params-smaller c = (param_item c.args.room c.ranges.room.fits).fewer _ _ _ c.in_
 
 pub params-preserved : goal.params-preserved
 params-preserved c = kept_as (on Comma) (read_item Comma (read_param (all_refs c.args.room))) formal_of c.params.params c.push-in-params.new.self c.params.rest.now c.in_ok-param.after.now c.in_ok-param.param _ (param_item c.args.room c.ranges.room.fits) c.params.invariant c.in_ok-push-2.ensures.ok (sym c.starts_with.ensures ∙ c.params-test.true) c.in_ok-param.ensures
+
+pub returns-in_err-param : goal.returns-in_err-param
+returns-in_err-param c = search (rules, halts_bind)

@@ -1,4 +1,4 @@
-use Rattle.std.proofs.Common.{rules, ◌∙◌, sym}
+use Rattle.std.proofs.Common.{rules, ◌∙◌, sym, map}
 use Rattle.ob_lexer.specs.declared.token.Word.TheVariants.{If}
 use Rattle.ob_lexer.specs.declared.token.Sign.TheVariants.{OpenBrace}
 use Rattle.ob_tree.specs.StmtsView.{stmt_of, block_of, else_of, stmt_views}
@@ -7,7 +7,9 @@ use Rattle.ob_grammar.specs.Readers.{place_if, read_many}
 use Rattle.ob_grammar.specs.StmtReaders.{stmt_first, read_stmt, read_branches}
 use Rattle.ob_grammar.specs.AllReaders.{all_refs, all_counted, all_exprs, all_branches, all_stmts}
 use Rattle.ob_parser.specs.Answering.{Halts}
-use Rattle.ob_parser.proofs.Loops.{halts_bind, none_before, kept_as}
+use Rattle.ob_parser.proofs.Halts.{halts_bind}
+use Rattle.ob_parser.proofs.Loops.{none_before, kept_as}
+use Rattle.ob_parser.proofs.Tails.{halts_in}
 use Rattle.ob_parser.proofs.Nexts.{next_done, next_halts}
 use Rattle.ob_grammar.proofs.Deeper.{branches_step}
 use Rattle.ob_parser.proofs.CodeTokens.{opened_is}
@@ -65,3 +67,29 @@ behind_if-returns t c = rw (branches_step c.args.room c.ranges.room.fits c.args.
 
 pub chained-returns : goal.chained-returns
 chained-returns t c = rw (opened_is (place_if (a_word If)) 1 c.args.room all_branches c.args.tokens.now) (search rules)
+
+pub block-returns-in_err-rest : goal.block-returns-in_err-rest
+block-returns-in_err-rest t c = rw (opened_is (place_if (a_sign OpenBrace)) 1 c.args.room all_stmts c.args.tokens.now) (search (rules, halts_bind))
+
+pub statement_list-returns-in_err-statement : goal.statement_list-returns-in_err-statement
+statement_list-returns-in_err-statement t c =
+    let why = halts_in stmt_first (read_stmt all_refs all_counted all_branches c.args.room) (map stmt_of c.statements.statements) c.statements.rest.now c.in_err-statement.field-0.0 (read_many stmt_first (read_stmt all_refs all_counted all_branches c.args.room) c.args.tokens.now) c.statements.invariant (sym c.starts_with_one_of.ensures ∙ c.statements-test.true) c.in_err-statement.ensures in
+    search (rules, halts_bind)
+
+pub if_statement-returns-in_err-rest : goal.if_statement-returns-in_err-rest
+if_statement-returns-in_err-rest t c = search (rules, halts_bind)
+
+pub if_statement-returns-in_err-branches : goal.if_statement-returns-in_err-branches
+if_statement-returns-in_err-branches t c = search (rules, halts_bind)
+
+pub alternative-returns-in_err-rest : goal.alternative-returns-in_err-rest
+alternative-returns-in_err-rest t c = search (rules, halts_bind)
+
+pub alternative-returns-in_err-block : goal.alternative-returns-in_err-block
+alternative-returns-in_err-block t c = search (rules, halts_bind)
+
+pub chained-returns-in_err-rest : goal.chained-returns-in_err-rest
+chained-returns-in_err-rest t c = rw (opened_is (place_if (a_word If)) 1 c.args.room all_branches c.args.tokens.now) (search (rules, halts_bind))
+
+pub chained-returns-in_err-branches : goal.chained-returns-in_err-branches
+chained-returns-in_err-branches t c = rw (opened_is (place_if (a_word If)) 1 c.args.room all_branches c.args.tokens.now) (search (rules, halts_bind))
