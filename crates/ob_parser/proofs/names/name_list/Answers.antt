@@ -2,7 +2,7 @@ use Rattle.ob_parser.proofs.Halts.{halts_bind}
 use Rattle.std.proofs.Common.{rules, ◌∙◌, sym}
 use Rattle.ob_grammar.specs.Readers.{name_if, read_token}
 use Rattle.ob_grammar.specs.NameReaders.{on, read_item}
-use Rattle.ob_parser.proofs.Loops.{kept}
+use Rattle.ob_parser.proofs.Loops.{kept, none_more}
 use Rattle.ob_parser.proofs.CodeItems.{name_item}
 use Rattle.ob_parser.proofs.names.name_list.Goals as goal
 
@@ -14,3 +14,9 @@ returns-in_err-first c = search (rules, halts_bind)
 
 pub returns-in_err-name : goal.returns-in_err-name
 returns-in_err-name c = search (rules, halts_bind)
+
+pub names-smaller : goal.names-smaller
+names-smaller c = (name_item c.args.separator).fewer _ _ _ c.in_ok-name.ensures
+
+pub returns : goal.returns
+returns c = c.names.invariant ∙ none_more (on c.args.separator) (read_item c.args.separator (read_token name_if)) c.names.names c.names.rest.now (sym c.starts_with.ensures ∙ c.names-test.false)

@@ -1,11 +1,11 @@
 use Rattle.ob_parser.proofs.Halts.{halts_bind}
-use Rattle.std.proofs.Common.{rules, ◌∙◌, sym}
+use Rattle.std.proofs.Common.{rules, ◌∙◌, sym, map}
 use Rattle.ob_lexer.specs.declared.token.Sign.TheVariants.{Comma}
 use Rattle.ob_tree.specs.StmtsView.{given_of}
 use Rattle.ob_grammar.specs.NameReaders.{on, read_item}
 use Rattle.ob_grammar.specs.StmtReaders.{read_given}
 use Rattle.ob_grammar.specs.AllReaders.{all_exprs}
-use Rattle.ob_parser.proofs.Loops.{kept_as}
+use Rattle.ob_parser.proofs.Loops.{kept_as, none_more}
 use Rattle.ob_parser.proofs.CodeStatements.{given_consumes}
 use Rattle.ob_parser.proofs.simple.given_list.Goals as goal
 
@@ -20,3 +20,6 @@ returns-in_err-first c = search (rules, halts_bind)
 
 pub returns-in_err-more : goal.returns-in_err-more
 returns-in_err-more c = search (rules, halts_bind)
+
+pub returns : goal.returns
+returns c = c.list.invariant ∙ none_more (on Comma) (read_item Comma (read_given (all_exprs c.args.room))) (map given_of c.list.list) c.list.rest.now (sym c.starts_with.ensures ∙ c.list-test.false)
