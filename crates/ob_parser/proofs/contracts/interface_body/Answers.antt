@@ -1,8 +1,8 @@
 use Rattle.std.proofs.Common.{rules}
 use Rattle.ob_grammar.specs.ContractReaders.{promise_first, read_interface_member, read_body}
 use Rattle.ob_grammar.specs.AllReaders.{all_refs}
-use Rattle.ob_parser.specs.Answering.{Halts}
-use Rattle.ob_parser.proofs.Halts.{halts_bind}
+use Rattle.ob_parser_names.specs.Answering.{Halts}
+use Rattle.ob_parser_names.proofs.Halts.{halts_bind}
 use Rattle.ob_parser.proofs.contracts.interface_body.Goals as goal
 
 pub returns-in_err-members : goal.returns-in_err-members
