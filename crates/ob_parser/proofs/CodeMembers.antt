@@ -1,27 +1,17 @@
--- That the rows of the loops over parameters, fields, members and contracts have tokens.
-use Rattle.std.proofs.Common.{ℕ, ◌<◌, refl, [], ◌∷◌}
-use Rattle.ob_lexer.specs.declared.token.Sign.TheVariants.{Comma}
-use Rattle.ob_grammar.specs.MemberRows.{param, listed, field, member, interface_member, contract}
-use Rattle.ob_grammar.specs.Symbols.{a_name, number}
-use Rattle.ob_grammar.specs.NameReaders.{on, read_item, read_named}
-use Rattle.ob_grammar.specs.MemberReaders.{types, read_param, read_listed, read_field}
+-- That the rows of the loops over fields, members and contracts have tokens.
+use Rattle.std.proofs.Common.{ℕ, ◌<◌, []}
+use Rattle.ob_grammar.specs.MemberRows.{field, member, interface_member, contract}
+use Rattle.ob_grammar.specs.NameReaders.{read_named}
+use Rattle.ob_grammar.specs.MemberReaders.{types, read_field}
 use Rattle.ob_grammar.specs.ContractReaders.{member_first, read_member, promise_first, read_interface_member, contract_first, read_contract}
 use Rattle.ob_grammar.specs.AllReaders.{all_refs, all_blocks}
-use Rattle.ob_grammar.proofs.Lists.{behind_sign, item_laws}
-use Rattle.ob_grammar.proofs.ParamLaws.{param_laws, listed_laws}
 use Rattle.ob_grammar.proofs.FieldLaws.{field_laws}
 use Rattle.ob_grammar.proofs.MemberLaws.{member_laws, interface_member_laws}
 use Rattle.ob_grammar.proofs.ContractLaws.{contract_laws}
 use Rattle.ob_grammar.proofs.BlockLaws.{all_refs_laws, all_named_laws, all_blocks_laws}
-use Rattle.ob_parser.proofs.Loops.{Consumes, consumes}
+use Rattle.ob_parser_names.proofs.Loops.{Consumes, consumes}
 
 module _ (room : ℕ) (less : room < 256) where
-  pub param_item : Consumes (read_item Comma (read_param (all_refs room)))
-  param_item = consumes room (behind_sign Comma param) (read_item Comma (read_param (all_refs room))) (on Comma) [] (item_laws Comma room param (read_param (all_refs room)) types [] (param_laws room (all_refs room) (all_refs_laws room less)) refl)
-
-  pub listed_item : Consumes (read_item Comma (read_listed (all_refs room)))
-  listed_item = consumes room (behind_sign Comma listed) (read_item Comma (read_listed (all_refs room))) (on Comma) [] (item_laws Comma room listed (read_listed (all_refs room)) (number a_name ∷ []) [] (listed_laws room (all_refs room) (all_refs_laws room less)) refl)
-
   pub field_item : Consumes (read_field (all_refs room))
   field_item = consumes room field (read_field (all_refs room)) types [] (field_laws room (all_refs room) (all_refs_laws room less))
 

@@ -1,10 +1,2 @@
-pub mod Loops
-pub mod Nexts
-pub mod CodeItems
-pub mod CodeTokens
-pub mod CodeStatements
-pub mod CodeParts
-pub mod CodeExpressions
-pub mod Tails
 pub mod CodeMembers
 pub mod Whole

@@ -11,10 +11,10 @@ use Rattle.ob_grammar.specs.Grammar.{tokens_of, HasTree, fault_in, HasSyntaxFaul
 use Rattle.ob_grammar.specs.Readers.{Read, done, stop, deep, Reader}
 use Rattle.ob_grammar.specs.ContractReaders.{contract_first}
 use Rattle.ob_grammar.specs.AllReaders.{all_programs}
-use Rattle.ob_parser.specs.Answering.{Halts, not_halted, stopped_with, deep_with}
+use Rattle.ob_parser_names.specs.Answering.{Halts, not_halted, stopped_with, deep_with}
 use Rattle.ob_parser.specs.Parsing.{OnFault, whole, place_or_end, place_at, error_at}
-use Rattle.ob_parser.specs.declared.halt.Halt.{Halt}
-use Rattle.ob_parser.specs.declared.halt.Halt.TheVariants as halt
+use Rattle.ob_parser_names.specs.declared.halt.Halt.{Halt}
+use Rattle.ob_parser_names.specs.declared.halt.Halt.TheVariants as halt
 use Rattle.ob_grammar.proofs.Laws.{Laws, Case, is_done, is_stop, is_deep, case_of}
 use Rattle.ob_grammar.proofs.Outcomes.{has_tree, refused_at_token, refused_behind, refused_at_end, refused_deep}
 use Rattle.ob_grammar.proofs.ProgramLaws.{whole_laws}

@@ -9,9 +9,9 @@ use Rattle.ob_tree.specs.MembersView.{tree_of}
 use Rattle.ob_tree.specs.declared.contract.Tree.{Tree}
 use Rattle.ob_grammar.specs.Grammar.{fault_in}
 use Rattle.ob_grammar.specs.Readers.{Read, done, stop, deep}
-use Rattle.ob_parser.specs.Answering.{Halts}
-use Rattle.ob_parser.specs.declared.halt.Halt.{Halt}
-use Rattle.ob_parser.specs.declared.halt.Halt.TheVariants as halt
+use Rattle.ob_parser_names.specs.Answering.{Halts}
+use Rattle.ob_parser_names.specs.declared.halt.Halt.{Halt}
+use Rattle.ob_parser_names.specs.declared.halt.Halt.TheVariants as halt
 use Rattle.ob_parser.specs.declared.parsing.ParseError.{ParseError}
 use Rattle.ob_parser.specs.declared.parsing.ParseError.TheVariants.{Fault, Memory}
 

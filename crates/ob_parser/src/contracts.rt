@@ -15,15 +15,15 @@ ghost use Rattle.ob_grammar.specs.NameReaders.{read_named};
 ghost use Rattle.ob_grammar.specs.ContractReaders.{member_first, read_member, promise_first, read_interface_member, read_flag, read_bound, read_generic, read_maybe_generic, read_title, read_body, read_implements, read_contract_kind, read_interface_kind, read_kind, contract_of as made_contract, read_main, read_other, read_contract};
 ghost use Rattle.ob_grammar.specs.AllReaders.{all_refs, all_blocks, all_programs};
 ghost use Rattle.ob_parser.specs.Parts.{title_part, body_parts, kind_part};
-ghost use Rattle.ob_parser.specs.Answering.{Answers, as_it_is};
+ghost use Rattle.ob_parser_names.specs.Answering.{Answers, as_it_is};
 
-use crate::halt::Halt;
 use crate::members::{interface_member, member};
-use crate::names::{mode_word, name_part, named};
-use crate::parts::{before, with};
-use crate::tokens::{Symbol, fixed, place_between, starts_with, starts_with_one_of};
 use ob_base::{Items, Mode, Span};
 use ob_lexer::{Sign, Token, Word};
+use ob_parser_names::{
+    Halt, Symbol, before, fixed, mode_word, name_part, named, place_between, starts_with,
+    starts_with_one_of, with,
+};
 use ob_tree::{ContractNode, Member, NamePart, NamedNode, ParamNode};
 use std::alloc::Global;
 

@@ -5,17 +5,7 @@
 #![tactic(auto)]
 
 mod contracts;
-mod expressions;
-mod halt;
-mod levels;
 mod members;
-mod names;
-mod parameters;
 mod parsing;
-mod parts;
-mod primaries;
-mod simple;
-mod statements;
-mod tokens;
 
 pub use parsing::{ParseError, parse};

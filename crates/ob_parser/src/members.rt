@@ -18,16 +18,15 @@ ghost use Rattle.ob_grammar.specs.MemberReaders.{types, read_states, read_availa
 ghost use Rattle.ob_grammar.specs.ContractReaders.{read_braced, read_fields, read_state, read_privacy, read_transaction, read_value_field, read_constructed, read_held, read_member_tail, member_behind, read_behind_ref, read_member, read_bare_state, read_promise, read_interface_member};
 ghost use Rattle.ob_grammar.specs.AllReaders.{all_refs, all_blocks};
 ghost use Rattle.ob_parser.specs.Parts.{access_part, head_part, tail_part};
-ghost use Rattle.ob_parser.specs.Answering.{Answers, as_it_is};
+ghost use Rattle.ob_parser_names.specs.Answering.{Answers, as_it_is};
 
-use crate::halt::Halt;
-use crate::names::{VALUE_TYPES, name_list, name_part, reference, type_node, value_type};
-use crate::parameters::{TYPES, listed_part, params};
-use crate::parts::{before, ended, with};
-use crate::statements::block;
-use crate::tokens::{Symbol, fixed, place_between, starts_with, starts_with_one_of};
 use ob_base::{Items, Span};
 use ob_lexer::{Sign, Token, Word};
+use ob_parser_names::{
+    Halt, Symbol, TYPES, VALUE_TYPES, before, ended, fixed, listed_part, name_list, name_part,
+    params, place_between, reference, starts_with, starts_with_one_of, type_node, value_type, with,
+};
+use ob_parser_statements::block;
 use ob_tree::{Block, FieldNode, FormalNode, ListedNode, Member, NamePart, RefNode, TypeNode};
 use std::alloc::Global;
 

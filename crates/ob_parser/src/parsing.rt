@@ -7,10 +7,9 @@ ghost use Rattle.ob_grammar.specs.AllReaders.{all_programs};
 ghost use Rattle.ob_parser.specs.Parsing.{OnFault, AnswersWhole, place_at, error_at};
 
 use crate::contracts::program;
-use crate::halt::Halt;
-use crate::tokens::refused;
 use ob_base::{EXPECTED, ProgramFault, Span, TOO_DEEP};
 use ob_lexer::Token;
+use ob_parser_names::{Halt, refused};
 use ob_tree::Tree;
 use std::alloc::Global;
 use thiserror::Error;

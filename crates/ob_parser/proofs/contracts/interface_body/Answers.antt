@@ -1,11 +1,17 @@
 use Rattle.std.proofs.Common.{rules}
 use Rattle.ob_grammar.specs.ContractReaders.{promise_first, read_interface_member, read_body}
 use Rattle.ob_grammar.specs.AllReaders.{all_refs}
-use Rattle.ob_parser.specs.Answering.{Halts}
-use Rattle.ob_parser.proofs.Loops.{halts_bind}
+use Rattle.ob_parser_names.specs.Answering.{Halts}
+use Rattle.ob_parser_names.proofs.Halts.{halts_bind}
 use Rattle.ob_parser.proofs.contracts.interface_body.Goals as goal
 
 pub returns-in_err-members : goal.returns-in_err-members
 returns-in_err-members c =
     let why : Halts c.in_err-members.field-0.0 (read_body promise_first (read_interface_member (all_refs c.args.room)) c.args.tokens.now) = rw c.in_ok-rest.ensures (halts_bind _ _ _ (halts_bind _ _ _ (halts_bind _ _ _ c.in_err-members.ensures))) in
     search rules
+
+pub returns-in_err-rest : goal.returns-in_err-rest
+returns-in_err-rest c = search (rules, halts_bind)
+
+pub returns-in_err-members-2 : goal.returns-in_err-members-2
+returns-in_err-members-2 c = search (rules, halts_bind)

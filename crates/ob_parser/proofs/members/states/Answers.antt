@@ -1,0 +1,9 @@
+use Rattle.std.proofs.Common.{rules}
+use Rattle.ob_parser_names.proofs.Halts.{halts_bind}
+use Rattle.ob_parser.proofs.members.states.Goals as goal
+
+pub returns-in_err-rest : goal.returns-in_err-rest
+returns-in_err-rest c = search (rules, halts_bind)
+
+pub returns-in_err-rest-2 : goal.returns-in_err-rest-2
+returns-in_err-rest-2 c = search (rules, halts_bind)

@@ -1,9 +1,0 @@
-use Rattle.std.proofs.Common.{◌∙◌, sym}
-use Rattle.ob_grammar.specs.Readers.{name_if, read_token}
-use Rattle.ob_grammar.specs.NameReaders.{on, read_item}
-use Rattle.ob_parser.proofs.Loops.{kept}
-use Rattle.ob_parser.proofs.CodeItems.{name_item}
-use Rattle.ob_parser.proofs.names.name_list.Goals as goal
-
-pub names-preserved : goal.names-preserved
-names-preserved c = kept (on c.args.separator) (read_item c.args.separator (read_token name_if)) c.names.names c.push-in-names.new.self c.names.rest.now c.in_ok-name.after.now c.in_ok-name.name _ (name_item c.args.separator) c.names.invariant c.in_ok-push-2.ensures.ok (sym c.starts_with.ensures ∙ c.names-test.true) c.in_ok-name.ensures

@@ -1,7 +1,0 @@
-use Rattle.ob_grammar.specs.Readers.{name_if, read_token}
-use Rattle.ob_parser.specs.Answering.{as_it_is}
-use Rattle.ob_parser.proofs.Tails.{item_answer}
-use Rattle.ob_parser.proofs.names.next_name.Goals as goal
-
-pub returns : goal.returns
-returns c = item_answer as_it_is c.args.separator (read_token name_if) c.name_part.result c.args.tokens.now c.in_ok-rest.rest.now _ c.in_ok-rest.ensures c.name_part.ensures

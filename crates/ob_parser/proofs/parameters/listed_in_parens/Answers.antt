@@ -1,6 +1,0 @@
-use Rattle.std.proofs.Common.{rules}
-use Rattle.ob_parser.proofs.Loops.{halts_bind}
-use Rattle.ob_parser.proofs.parameters.listed_in_parens.Goals as goal
-
-pub returns-in_err-list : goal.returns-in_err-list
-returns-in_err-list c = search (rules, halts_bind)

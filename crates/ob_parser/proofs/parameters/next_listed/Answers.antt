@@ -1,9 +1,0 @@
-use Rattle.ob_lexer.specs.declared.token.Sign.TheVariants.{Comma}
-use Rattle.ob_tree.specs.MembersView.{listed_of}
-use Rattle.ob_grammar.specs.MemberReaders.{read_listed}
-use Rattle.ob_grammar.specs.AllReaders.{all_refs}
-use Rattle.ob_parser.proofs.Tails.{item_answer}
-use Rattle.ob_parser.proofs.parameters.next_listed.Goals as goal
-
-pub returns : goal.returns
-returns c = item_answer listed_of Comma (read_listed (all_refs c.args.room)) c.listed.result c.args.tokens.now c.in_ok-rest.rest.now _ c.in_ok-rest.ensures c.listed.ensures

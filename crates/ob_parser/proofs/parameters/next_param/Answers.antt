@@ -1,9 +1,0 @@
-use Rattle.ob_lexer.specs.declared.token.Sign.TheVariants.{Comma}
-use Rattle.ob_tree.specs.MembersView.{formal_of}
-use Rattle.ob_grammar.specs.MemberReaders.{read_param}
-use Rattle.ob_grammar.specs.AllReaders.{all_refs}
-use Rattle.ob_parser.proofs.Tails.{item_answer}
-use Rattle.ob_parser.proofs.parameters.next_param.Goals as goal
-
-pub returns : goal.returns
-returns c = item_answer formal_of Comma (read_param (all_refs c.args.room)) c.param.result c.args.tokens.now c.in_ok-rest.rest.now _ c.in_ok-rest.ensures c.param.ensures

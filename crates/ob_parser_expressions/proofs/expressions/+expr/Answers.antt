@@ -1,0 +1,203 @@
+use Rattle.std.proofs.Common.{rules, ◌∙◌, sym, refl, arith}
+use Rattle.ob_tree.specs.ExprsView.{expr_of}
+use Rattle.ob_lexer.specs.declared.token.Sign.TheVariants.{OpenParen, CloseParen, Comma}
+use Rattle.ob_grammar.specs.Operators.{operator_if}
+use Rattle.ob_grammar.specs.ExprReaders.{unary_if}
+use Rattle.ob_grammar.specs.Primaries.{read_arguments}
+use Rattle.ob_grammar.specs.NameReaders.{on, read_item, read_parted}
+use Rattle.ob_grammar.specs.AllReaders.{all_unary, all_counted, all_exprs}
+use Rattle.ob_parser_expressions.specs.Levels.{number_of_level, read_operand}
+use Rattle.ob_parser_names.specs.Answering.{Halts}
+use Rattle.ob_parser_names.proofs.Halts.{halts_bind}
+use Rattle.ob_parser_names.proofs.Loops.{kept_as, halts_more}
+use Rattle.ob_parser_expressions.proofs.CodeParts.{opened_halts, opened_done, not_opened, inside_halts, end_halts, counted_done, parted_halts, item_halts, item_done}
+use Rattle.ob_parser_expressions.proofs.CodeExpressions.{expr_item, row_begins, row_goes_on, row_halts, single_goes_on, single_halts, row_is_single, fewer_left, negation_halts, negation_done, primary_is, arguments_are, group_halts, group_done}
+use Rattle.ob_parser_expressions.proofs.expressions.+expr.Goals as goal
+
+-- rows
+
+pub expression-returns-in_err-expr : goal.expression-returns-in_err-expr
+expression-returns-in_err-expr t c =
+    let e = c.in_err-expr.field-0.0 in
+    let halts : Halts e (all_exprs c.args.room c.args.tokens.now) = halts_bind e (all_counted c.args.room c.args.tokens.now) _ c.in_err-expr.ensures.read in
+    search rules
+
+pub row-returns-else-repeats-clause-read : goal.row-returns-else-repeats-clause-read
+row-returns-else-repeats-clause-read t c = rw (row_is_single c.args.level c.args.room c.args.tokens.now (sym c.repeats.ensures ∙ c.if-repeats.false)) c.single.ensures.read
+
+pub chain-operators-init : goal.chain-operators-init
+chain-operators-init t c = record {
+  read = row_begins c.args.level c.args.room c.args.tokens.now c.in_ok-first.rest.now _ c.in_ok-first.ensures.read;
+  few = c.in_ok-first.ensures.few;
+}
+
+pub chain-returns-in_err-operation-clause-read : goal.chain-returns-in_err-operation-clause-read
+chain-returns-in_err-operation-clause-read t c =
+    let halts = row_halts c.args.level c.args.room c.in_err-operation.field-0.0 (expr_of c.operators.expr, c.operators.count) c.operators.rest.now _ c.operators.invariant.read (sym c.starts_with_operator.ensures ∙ c.operators-test.true) c.in_err-operation.ensures.read in
+    search rules
+
+pub chain-operators-smaller : goal.chain-operators-smaller
+chain-operators-smaller t c = fewer_left c.args.level _ (omega arith) c.operators.rest.now c.in_ok-operation.after.now _ c.in_ok-operation.ensures.read
+
+pub chain-operators-preserved : goal.chain-operators-preserved
+chain-operators-preserved t c =
+    let o = c.in_ok-operation.operation in
+    record {
+      read = row_goes_on c.args.level c.args.room c.ranges.room.fits (expr_of c.operators.expr) (expr_of c.in_ok-expr.expr) c.operators.count _ c.operators.rest.now c.in_ok-operation.after.now o.operator o.sign (expr_of o.right) c.in_ok-operation.behind _ c.operators.invariant.read (sym c.starts_with_operator.ensures ∙ c.operators-test.true) c.in_ok-operation.ensures.read c.in_ok-expr.ensures.ok refl;
+      few = omega (arith, c.operators.invariant.few, c.in_ok-operation.ensures.few);
+    }
+
+pub single-returns-in_err-operation-clause-read : goal.single-returns-in_err-operation-clause-read
+single-returns-in_err-operation-clause-read t c =
+    let halts = single_halts c.args.level c.args.room c.in_err-operation.field-0.0 c.args.tokens.now c.in_ok-left.rest.now _ c.in_ok-left.ensures.read (sym c.starts_with_operator.ensures ∙ c.if-not-starts_with_operator.false) c.in_err-operation.ensures.read in
+    search rules
+
+pub single-returns-clause-read : goal.single-returns-clause-read
+single-returns-clause-read t c =
+    let o = c.in_ok-operation.operation in
+    single_goes_on c.args.level c.args.room (expr_of c.in_ok-left.left) (expr_of c.in_ok-expr.expr) c.in_ok-left.count _ c.args.tokens.now c.in_ok-left.rest.now c.in_ok-operation.rest.now o.operator o.sign (expr_of o.right) c.in_ok-operation.behind c.in_ok-left.ensures.read (sym c.starts_with_operator.ensures ∙ c.if-not-starts_with_operator.false) c.in_ok-operation.ensures.read c.in_ok-expr.ensures.ok refl
+
+pub operation-returns-in_err-right-clause-read : goal.operation-returns-in_err-right-clause-read
+operation-returns-in_err-right-clause-read t c =
+    let halts = opened_halts (operator_if (number_of_level c.args.level)) c.args.room (read_operand c.args.level) c.args.tokens.now c.in_ok-operator.rest.now _ c.in_ok-operator.ensures.read c.in_err-right.field-0.0 c.in_err-right.ensures.read in
+    search rules
+
+pub operation-returns-clause-read : goal.operation-returns-clause-read
+operation-returns-clause-read t c = opened_done (operator_if (number_of_level c.args.level)) c.args.room (read_operand c.args.level) c.args.tokens.now c.in_ok-operator.rest.now _ c.in_ok-operator.ensures.read _ c.in_ok-right.rest.now c.in_ok-right.ensures.read
+
+-- operands
+
+pub unary-returns-in_err-operator-clause-read : goal.unary-returns-in_err-operator-clause-read
+unary-returns-in_err-operator-clause-read t c =
+    let e = c.in_err-operator.field-0.0 in
+    let halts = negation_halts c.args.room c.ranges.room.fits c.args.tokens.now e (sym c.starts_with_one_of.ensures ∙ c.if-starts_with_one_of.true) (not_opened unary_if c.args.room all_unary c.args.tokens.now e c.in_err-operator.ensures.read) in
+    search rules
+
+pub unary-returns-in_err-operand-clause-read : goal.unary-returns-in_err-operand-clause-read
+unary-returns-in_err-operand-clause-read t c =
+    let e = c.in_err-operand.field-0.0 in
+    let halts = negation_halts c.args.room c.ranges.room.fits c.args.tokens.now e (sym c.starts_with_one_of.ensures ∙ c.if-starts_with_one_of.true) (opened_halts unary_if c.args.room all_unary c.args.tokens.now c.in_ok-operator.rest.now _ c.in_ok-operator.ensures.read e c.in_err-operand.ensures.read) in
+    search rules
+
+pub unary-returns-then-starts_with_one_of-clause-read : goal.unary-returns-then-starts_with_one_of-clause-read
+unary-returns-then-starts_with_one_of-clause-read t c =
+    let reads = negation_done c.args.room c.ranges.room.fits c.args.tokens.now (sym c.starts_with_one_of.ensures ∙ c.if-starts_with_one_of.true) _ c.in_ok-operand.rest.now (opened_done unary_if c.args.room all_unary c.args.tokens.now c.in_ok-operator.rest.now _ c.in_ok-operator.ensures.read _ c.in_ok-operand.rest.now c.in_ok-operand.ensures.read) in
+    let made = c.in_ok-expr.ensures.ok in
+    let place = c.place_between.ensures in
+    rw made (rw place reads)
+
+pub unary-returns-in_err-expr-2-clause-read : goal.unary-returns-in_err-expr-2-clause-read
+unary-returns-in_err-expr-2-clause-read t c = rw (primary_is c.args.room c.ranges.room.fits c.args.tokens.now (sym c.starts_with_one_of.ensures ∙ c.if-starts_with_one_of.false)) (search rules)
+
+pub unary-returns-clause-read : goal.unary-returns-clause-read
+unary-returns-clause-read t c = primary_is c.args.room c.ranges.room.fits c.args.tokens.now (sym c.starts_with_one_of.ensures ∙ c.if-starts_with_one_of.false) ∙ c.in_ok-expr-2.ensures
+
+pub group-returns-in_err-expr : goal.group-returns-in_err-expr
+group-returns-in_err-expr t c =
+    let e = c.in_err-expr.field-0.0 in
+    let halts = group_halts c.args.room c.args.tokens.now e (inside_halts OpenParen CloseParen c.args.room all_counted c.args.tokens.now c.in_ok-rest.rest.now _ c.in_ok-rest.ensures.read e c.in_err-expr.ensures.read) in
+    search rules
+
+pub group-returns-in_err-rest-2 : goal.group-returns-in_err-rest-2
+group-returns-in_err-rest-2 t c =
+    let e = c.in_err-rest-2.field-0.0 in
+    let halts = group_halts c.args.room c.args.tokens.now e (end_halts OpenParen CloseParen c.args.room all_counted c.args.tokens.now c.in_ok-rest.rest.now _ c.in_ok-rest.ensures.read _ c.in_ok-expr.rest.now c.in_ok-expr.ensures.read e c.in_err-rest-2.ensures) in
+    search rules
+
+pub group-returns : goal.group-returns
+group-returns t c =
+    let reads = group_done c.args.room c.args.tokens.now _ c.in_ok-rest-2.rest.now (counted_done OpenParen CloseParen c.args.room all_counted c.args.tokens.now c.in_ok-rest.rest.now _ c.in_ok-rest.ensures.read _ c.in_ok-expr.rest.now c.in_ok-expr.ensures.read _ c.in_ok-rest-2.rest.now c.in_ok-rest-2.ensures) in
+    rw c.moved.ensures (rw c.place_between.ensures reads)
+
+-- calls
+
+pub applied-returns-in_err-args : goal.applied-returns-in_err-args
+applied-returns-in_err-args t c =
+    let halts = inside_halts OpenParen CloseParen c.args.room (λ r. read_arguments (all_counted r)) c.args.tokens.now c.in_ok-rest.rest.now _ c.in_ok-rest.ensures.read c.in_err-args.field-0.0 c.in_err-args.ensures in
+    search rules
+
+pub applied-returns-in_err-rest-2 : goal.applied-returns-in_err-rest-2
+applied-returns-in_err-rest-2 t c =
+    let halts = end_halts OpenParen CloseParen c.args.room (λ r. read_arguments (all_counted r)) c.args.tokens.now c.in_ok-rest.rest.now _ c.in_ok-rest.ensures.read _ c.in_ok-args.rest.now c.in_ok-args.ensures c.in_err-rest-2.field-0.0 c.in_err-rest-2.ensures in
+    search rules
+
+pub applied-returns : goal.applied-returns
+applied-returns t c = counted_done OpenParen CloseParen c.args.room (λ r. read_arguments (all_counted r)) c.args.tokens.now c.in_ok-rest.rest.now _ c.in_ok-rest.ensures.read _ c.in_ok-args.rest.now c.in_ok-args.ensures _ c.in_ok-rest-2.rest.now c.in_ok-rest-2.ensures
+
+pub arguments-returns : goal.arguments-returns
+arguments-returns t c = arguments_are c.args.room c.args.tokens.now c.list.result (sym c.starts_with_one_of.ensures ∙ c.if-not-starts_with_one_of.false) c.list.ensures
+
+pub list-returns-in_err-first : goal.list-returns-in_err-first
+list-returns-in_err-first t c =
+    let halts = parted_halts Comma (all_exprs c.args.room) c.args.tokens.now c.in_err-first.field-0.0 c.in_err-first.ensures in
+    search rules
+
+pub list-returns-in_err-arg : goal.list-returns-in_err-arg
+list-returns-in_err-arg t c =
+    let e = c.in_err-arg.field-0.0 in
+    let one = item_halts Comma (all_exprs c.args.room) c.arguments.rest.now c.in_ok-after.after.now _ c.in_ok-after.ensures e c.in_err-arg.ensures in
+    let more = halts_more (on Comma) (read_item Comma (all_exprs c.args.room)) _ c.arguments.rest.now e (sym c.starts_with.ensures ∙ c.arguments-test.true) one in
+    let halts : Halts e (read_parted Comma (all_exprs c.args.room) c.args.tokens.now) = rw c.arguments.invariant more in
+    search rules
+
+pub list-arguments-smaller : goal.list-arguments-smaller
+list-arguments-smaller t c = (expr_item c.args.room c.ranges.room.fits).fewer c.arguments.rest.now _ c.in_ok-arg.after.now (item_done Comma (all_exprs c.args.room) c.arguments.rest.now c.in_ok-after.after.now _ c.in_ok-after.ensures _ c.in_ok-arg.after.now c.in_ok-arg.ensures)
+
+pub list-arguments-preserved : goal.list-arguments-preserved
+list-arguments-preserved t c =
+    let p = read_item Comma (all_exprs c.args.room) in
+    let one = item_done Comma (all_exprs c.args.room) c.arguments.rest.now c.in_ok-after.after.now _ c.in_ok-after.ensures _ c.in_ok-arg.after.now c.in_ok-arg.ensures in
+    kept_as (on Comma) p expr_of c.arguments.args c.push-in-arguments.new.self c.arguments.rest.now c.in_ok-arg.after.now c.in_ok-arg.arg _ (expr_item c.args.room c.ranges.room.fits) c.arguments.invariant c.in_ok-push-2.ensures.ok (sym c.starts_with.ensures ∙ c.arguments-test.true) one
+
+-- why a part isn't read
+
+pub method-returns-in_err-dot : goal.method-returns-in_err-dot
+method-returns-in_err-dot t c = search (rules, halts_bind)
+
+pub method-returns-in_err-name : goal.method-returns-in_err-name
+method-returns-in_err-name t c = search (rules, halts_bind)
+
+pub method-returns-in_err-args : goal.method-returns-in_err-args
+method-returns-in_err-args t c = search (rules, halts_bind)
+
+pub new-returns-in_err-rest : goal.new-returns-in_err-rest
+new-returns-in_err-rest t c = search (rules, halts_bind)
+
+pub new-returns-in_err-of : goal.new-returns-in_err-of
+new-returns-in_err-of t c = search (rules, halts_bind)
+
+pub new-returns-in_err-args : goal.new-returns-in_err-args
+new-returns-in_err-args t c = search (rules, halts_bind)
+
+pub name-returns-in_err-name : goal.name-returns-in_err-name
+name-returns-in_err-name t c = search (rules, halts_bind)
+
+pub name-returns-in_err-tail : goal.name-returns-in_err-tail
+name-returns-in_err-tail t c = search (rules, halts_bind)
+
+pub this-returns-in_err-token : goal.this-returns-in_err-token
+this-returns-in_err-token t c = search (rules, halts_bind)
+
+pub this-returns-in_err-name : goal.this-returns-in_err-name
+this-returns-in_err-name t c = search (rules, halts_bind)
+
+pub tail-returns-in_err-name : goal.tail-returns-in_err-name
+tail-returns-in_err-name t c = search (rules, halts_bind)
+
+pub tail-returns-in_err-args : goal.tail-returns-in_err-args
+tail-returns-in_err-args t c = search (rules, halts_bind)
+
+pub applied-returns-in_err-rest : goal.applied-returns-in_err-rest
+applied-returns-in_err-rest t c = search (rules, halts_bind, not_opened)
+
+pub group-returns-in_err-rest : goal.group-returns-in_err-rest
+group-returns-in_err-rest t c = search (rules, halts_bind, not_opened)
+
+pub chain-returns-in_err-first-clause-read : goal.chain-returns-in_err-first-clause-read
+chain-returns-in_err-first-clause-read t c = search (rules, halts_bind)
+
+pub single-returns-in_err-left-clause-read : goal.single-returns-in_err-left-clause-read
+single-returns-in_err-left-clause-read t c = search (rules, halts_bind)
+
+pub operation-returns-in_err-operator-clause-read : goal.operation-returns-in_err-operator-clause-read
+operation-returns-in_err-operator-clause-read t c = search (rules, not_opened)

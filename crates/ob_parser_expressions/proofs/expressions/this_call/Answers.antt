@@ -1,0 +1,9 @@
+use Rattle.std.proofs.Common.{rules}
+use Rattle.ob_parser_names.proofs.Halts.{halts_bind}
+use Rattle.ob_parser_expressions.proofs.expressions.this_call.Goals as goal
+
+pub returns-in_err-token : goal.returns-in_err-token
+returns-in_err-token c = search (rules, halts_bind)
+
+pub returns-in_err-name : goal.returns-in_err-name
+returns-in_err-name c = search (rules, halts_bind)

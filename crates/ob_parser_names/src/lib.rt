@@ -1,0 +1,24 @@
+//! The rows of the grammar that need no expression, from the front of tokens: words and signs, names, permissions, types
+//! and parameters.
+//!
+//! Each function takes one row of the grammar from the front of the tokens, and answers what is left. `room` is how
+//! many more parts may be open inside one another.
+#![tactic(auto)]
+
+mod halt;
+mod names;
+mod parameters;
+mod parts;
+mod tokens;
+
+pub use halt::Halt;
+pub use names::{
+    VALUE_TYPES, mode_word, name_list, name_part, named, permission, reference, subject, type_node,
+    value_type,
+};
+pub use parameters::{TYPES, listed_part, params};
+pub use parts::{before, ended, with};
+pub use tokens::{
+    Symbol, fixed, joined, opens, place_between, refused, starts_with, starts_with_both,
+    starts_with_one_of,
+};
