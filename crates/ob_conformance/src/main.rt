@@ -5,6 +5,7 @@
 //! that don't, and then ends with status 1. With the word `answer` it reads cases from its input, and prints what comes of each.
 #![tactic(auto)]
 
+mod bytes;
 mod case;
 mod kind;
 mod kinds;
@@ -45,6 +46,21 @@ fn report_on(alloc: Global, programs: &Named, text: &str, answers: bool) -> Resu
     }
 }
 
+// Prints a report to its end, and answers whether all its cases agree.
+fn print_all(rt: &HostRuntime, topic: &str, mut report: Report) -> io::Result<bool> {
+    let agree = report.cases == report.agreeing;
+    if !report.answers {
+        report.sum_up(rt.alloc(), topic);
+    }
+    match report.text.finish() {
+        Ok(text) => {
+            writer(rt).write_all(&text)?;
+            Ok(agree)
+        }
+        Err(_) => Err(io::Error::from(io::ErrorKind::OutOfMemory)),
+    }
+}
+
 // Prints the report on a text, and answers whether all its cases agree.
 fn print_report(
     rt: &HostRuntime,
@@ -54,13 +70,7 @@ fn print_report(
     answers: bool,
 ) -> io::Result<bool> {
     match report_on(rt.alloc(), programs, text, answers) {
-        Ok(mut report) => {
-            if !answers {
-                let _ = report.sum_up(rt.alloc(), topic);
-            }
-            writer(rt).write_all(&report.text)?;
-            Ok(report.cases == report.agreeing)
-        }
+        Ok(report) => print_all(rt, topic, report),
         Err((line, trouble)) => {
             let message = trouble.message();
             println!(rt; "{topic}: line {line}: {message}")?;

@@ -1,4 +1,5 @@
 //! The bytes that a text of a case stands for: its own, and those of the pieces between backticks.
+use crate::bytes::Bytes;
 use crate::named::Named;
 use crate::trouble::Trouble;
 use std::alloc::Global;
@@ -8,58 +9,44 @@ pub fn number_of(digits: &str) -> Result<u64, Trouble> {
     digits.parse().ok().ok_or(Trouble::Line("no number"))
 }
 
-/// Appends the bytes of a text.
-pub fn put_text(
-    alloc: Global,
-    programs: &Named,
-    text: &str,
-    into: &mut Vec<u8>,
-) -> Result<(), Trouble> {
+/// Puts the bytes of a text.
+pub fn put_text(alloc: Global, programs: &Named, text: &str, into: &mut Bytes) {
     let mut is_piece = false;
     for part in text.split('`') {
         if is_piece {
-            put_piece(alloc, programs, part, into)?;
+            put_piece(alloc, programs, part, into);
         } else {
-            into.extend_from_slice(part.as_bytes())?;
+            into.put(part.as_bytes());
         }
         is_piece = !is_piece;
     }
-    if is_piece {
-        Ok(())
-    } else {
-        Err(Trouble::Line("a backtick without another"))
+    if !is_piece {
+        into.fail(Trouble::Line("a backtick without another"));
     }
 }
 
-fn put_piece(
-    alloc: Global,
-    programs: &Named,
-    piece: &str,
-    into: &mut Vec<u8>,
-) -> Result<(), Trouble> {
+fn put_piece(alloc: Global, programs: &Named, piece: &str, into: &mut Bytes) {
     match piece {
         "nothing" => {}
-        "" => into.push(b'`')?,
-        "newline" => into.push(b'\n')?,
-        "return" => into.push(b'\r')?,
-        "tab" => into.push(b'\t')?,
-        "space" => into.push(b' ')?,
+        "" => into.put(b"`"),
+        "newline" => into.put(b"\n"),
+        "return" => into.put(b"\r"),
+        "tab" => into.put(b"\t"),
+        "space" => into.put(b" "),
         _ => match piece.split_once(' ') {
-            Some(("hex", digits)) => put_hex(digits, into)?,
-            Some(("file", name)) => put_program(programs, name, into)?,
-            Some((count, part)) => put_times(alloc, number_of(count)?, part, into)?,
-            None => return Err(Trouble::Line("an unknown piece")),
+            Some(("hex", digits)) => put_hex(digits, into),
+            Some(("file", name)) => put_program(programs, name, into),
+            Some((count, part)) => put_times(alloc, count, part, into),
+            None => into.fail(Trouble::Line("an unknown piece")),
         },
     }
-    Ok(())
 }
 
-fn put_program(programs: &Named, name: &str, into: &mut Vec<u8>) -> Result<(), Trouble> {
-    let Some(text) = programs.find(name) else {
-        return Err(Trouble::Line("an unknown program"));
-    };
-    into.extend_from_slice(text)?;
-    Ok(())
+fn put_program(programs: &Named, name: &str, into: &mut Bytes) {
+    match programs.find(name) {
+        Some(text) => into.put(text),
+        None => into.fail(Trouble::Line("an unknown program")),
+    }
 }
 
 fn digit_of(digit: u8) -> Option<u8> {
@@ -70,45 +57,54 @@ fn digit_of(digit: u8) -> Option<u8> {
     }
 }
 
-fn byte_of(high: u8, low: u8) -> Option<u8> {
-    let byte = u16::from(digit_of(high)?) * 16 + u16::from(digit_of(low)?);
-    u8::try_from(byte).ok()
+fn byte_of(digits: &[u8]) -> Option<u8> {
+    match digits {
+        [high, low] => {
+            let byte = u16::from(digit_of(*high)?) * 16 + u16::from(digit_of(*low)?);
+            u8::try_from(byte).ok()
+        }
+        _ => None,
+    }
 }
 
 // Bytes of two hexadecimal digits each, with a blank between.
-fn put_hex(digits: &str, into: &mut Vec<u8>) -> Result<(), Trouble> {
+fn put_hex(digits: &str, into: &mut Bytes) {
     for digits in digits.split(' ') {
-        let byte = match digits.as_bytes() {
-            [high, low] => byte_of(*high, *low),
-            _ => None,
-        };
-        into.push(byte.ok_or(Trouble::Line("no byte"))?)?;
+        match byte_of(digits.as_bytes()) {
+            Some(byte) => into.put(&[byte]),
+            None => into.fail(Trouble::Line("no byte")),
+        }
     }
-    Ok(())
 }
 
 // `times` and a part: the part so many times. Each `#` in it is the number of the time, from 0.
-fn put_times(alloc: Global, count: u64, times: &str, into: &mut Vec<u8>) -> Result<(), Trouble> {
-    let Some(part) = times.strip_prefix("times ") else {
-        return Err(Trouble::Line("an unknown piece"));
-    };
-    for number in 0..count {
-        if part.contains('#') {
-            put_numbered(alloc, number, part, into)?;
-        } else {
-            into.extend_from_slice(part.as_bytes())?;
-        }
+fn put_times(alloc: Global, count: &str, times: &str, into: &mut Bytes) {
+    match (number_of(count), times.strip_prefix("times ")) {
+        (Ok(count), Some(part)) => put_part(alloc, count, part, into),
+        (Err(trouble), _) => into.fail(trouble),
+        (_, None) => into.fail(Trouble::Line("an unknown piece")),
     }
-    Ok(())
 }
 
-fn put_numbered(alloc: Global, number: u64, part: &str, into: &mut Vec<u8>) -> Result<(), Trouble> {
-    let number = format!(in alloc; "{number}")?;
+fn put_part(alloc: Global, count: u64, part: &str, into: &mut Bytes) {
+    let is_numbered = part.contains('#');
+    for number in 0..count {
+        if is_numbered {
+            put_numbered(alloc, number, part, into);
+        } else {
+            into.put(part.as_bytes());
+        }
+    }
+}
+
+fn put_numbered(alloc: Global, number: u64, part: &str, into: &mut Bytes) {
+    let Ok(number) = format!(in alloc; "{number}") else {
+        return into.fail(Trouble::Memory);
+    };
     for (at, piece) in part.split('#').enumerate() {
         if at > 0 {
-            into.extend_from_slice(number.as_bytes())?;
+            into.put(number.as_bytes());
         }
-        into.extend_from_slice(piece.as_bytes())?;
+        into.put(piece.as_bytes());
     }
-    Ok(())
 }

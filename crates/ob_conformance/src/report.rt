@@ -1,4 +1,5 @@
 //! What is printed of cases.
+use crate::bytes::Bytes;
 use crate::case::Case;
 use crate::trouble::Trouble;
 use std::alloc::Global;
@@ -10,26 +11,25 @@ pub struct Report {
     pub answers: bool,
     pub cases: u64,
     pub agreeing: u64,
-    pub text: Vec<u8>,
+    pub text: Bytes,
 }
 
 /// The most bytes that are shown of an answer that wasn't expected.
 const MOST_SHOWN: usize = 4000;
 
 // The bytes as lines that each begin with a mark.
-fn put_marked(mark: &[u8], bytes: &[u8], into: &mut Vec<u8>) -> Result<(), Trouble> {
+fn put_marked(mark: &[u8], bytes: &[u8], into: &mut Bytes) {
     let mut begins_line = true;
     for byte in bytes {
         if begins_line {
-            into.extend_from_slice(mark)?;
+            into.put(mark);
         }
-        into.push(*byte)?;
+        into.put(&[*byte]);
         begins_line = *byte == b'\n';
     }
     if !begins_line {
-        into.extend_from_slice(b"`unended`\n")?;
+        into.put(b"`unended`\n");
     }
-    Ok(())
 }
 
 // As much of the bytes as is shown.
@@ -45,13 +45,12 @@ impl Report {
             answers,
             cases: 0,
             agreeing: 0,
-            text: Vec::new(alloc),
+            text: Bytes::new(alloc),
         }
     }
 
-    fn put(&mut self, text: &str) -> Result<(), Trouble> {
-        self.text.extend_from_slice(text.as_bytes())?;
-        Ok(())
+    fn put(&mut self, text: &str) {
+        self.text.put(text.as_bytes());
     }
 
     /// Answers a case, of which this is asked, and compares, or prints the answer. `row` is its row in a table.
@@ -65,40 +64,38 @@ impl Report {
     ) -> Result<(), Trouble> {
         let came = case.kind.answer(alloc, case, asked)?;
         if self.answers {
-            self.put("= ")?;
-            self.put(case.title.as_str())?;
-            self.put("\n")?;
-            return put_marked(b"| ", &came, &mut self.text);
+            self.put("= ");
+            self.put(case.title.as_str());
+            self.put("\n");
+            put_marked(b"| ", &came, &mut self.text);
+            return Ok(());
         }
         let wanted = case.kind.wanted(alloc, case, written)?;
         self.cases = self.cases.saturating_add(1);
         if came == wanted {
             self.agreeing = self.agreeing.saturating_add(1);
-            return Ok(());
+        } else {
+            self.show_difference(case.title.as_str(), row, &wanted, &came);
         }
-        self.show_difference(case.title.as_str(), row, &wanted, &came)
+        Ok(())
     }
 
-    fn show_difference(
-        &mut self,
-        title: &str,
-        row: &str,
-        wanted: &[u8],
-        came: &[u8],
-    ) -> Result<(), Trouble> {
-        self.put(title)?;
-        self.put("\n  - ")?;
-        self.put(row)?;
-        self.put("\n")?;
-        put_marked(b"  wanted | ", shown_of(wanted), &mut self.text)?;
-        put_marked(b"  came   | ", shown_of(came), &mut self.text)
+    fn show_difference(&mut self, title: &str, row: &str, wanted: &[u8], came: &[u8]) {
+        self.put(title);
+        self.put("\n  - ");
+        self.put(row);
+        self.put("\n");
+        put_marked(b"  wanted | ", shown_of(wanted), &mut self.text);
+        put_marked(b"  came   | ", shown_of(came), &mut self.text);
     }
 
     /// Says how many cases of a file agree.
-    pub fn sum_up(&mut self, alloc: Global, topic: &str) -> Result<(), Trouble> {
+    pub fn sum_up(&mut self, alloc: Global, topic: &str) {
         let cases = self.cases;
         let agreeing = self.agreeing;
-        let line = format!(in alloc; "{topic}: {agreeing} of {cases} cases agree\n")?;
-        self.put(line.as_str())
+        match format!(in alloc; "{topic}: {agreeing} of {cases} cases agree\n") {
+            Ok(line) => self.put(line.as_str()),
+            Err(_) => self.text.fail(Trouble::Memory),
+        }
     }
 }

@@ -1,4 +1,5 @@
 //! A file of cases, line by line.
+use crate::bytes::Bytes;
 use crate::case::Case;
 use crate::kind::Kind;
 use crate::named::Named;
@@ -42,18 +43,23 @@ fn sides_of(row: &str) -> (&str, Option<&str>) {
 }
 
 // A text of a row, between the parts of these names.
-fn side(
+fn put_side(
     alloc: Global,
     programs: &Named,
     case: &Case,
-    front: &str,
-    text: &str,
-    back: &str,
-) -> Result<Vec<u8>, Trouble> {
-    let mut bytes = case.part(front).to_vec(alloc)?;
-    put_text(alloc, programs, text, &mut bytes)?;
-    bytes.extend_from_slice(case.part(back))?;
-    Ok(bytes)
+    (front, text, back): (&str, &str, &str),
+    into: &mut Bytes,
+) {
+    into.put(case.part(front));
+    put_text(alloc, programs, text, into);
+    into.put(case.part(back));
+}
+
+// What is asked in a row.
+fn asked_of(alloc: Global, programs: &Named, case: &Case, text: &str) -> Result<Vec<u8>, Trouble> {
+    let mut bytes = Bytes::new(alloc);
+    put_side(alloc, programs, case, ("front", text, "back"), &mut bytes);
+    bytes.finish()
 }
 
 // What is expected of a row: its own answer, or that of every row.
@@ -63,12 +69,16 @@ fn answer_of(
     case: &Case,
     answer: Option<&str>,
 ) -> Result<Vec<u8>, Trouble> {
-    let mut bytes = match answer {
-        Some(answer) => side(alloc, programs, case, "answer-front", answer, "answer-back")?,
-        None => case.part("every").to_vec(alloc)?,
-    };
-    bytes.push(b'\n')?;
-    Ok(bytes)
+    let mut bytes = Bytes::new(alloc);
+    match answer {
+        Some(answer) => {
+            let side = ("answer-front", answer, "answer-back");
+            put_side(alloc, programs, case, side, &mut bytes);
+        }
+        None => bytes.put(case.part("every")),
+    }
+    bytes.put(b"\n");
+    bytes.finish()
 }
 
 impl<'a> Sheet<'a> {
@@ -132,9 +142,9 @@ impl<'a> Sheet<'a> {
         if !case.kind.has_part(part) {
             return Err(Trouble::Line("an unknown word"));
         }
-        let mut bytes = Vec::new(self.alloc);
-        put_text(self.alloc, self.programs, text, &mut bytes)?;
-        case.parts.add(self.alloc, part, &bytes)
+        let mut bytes = Bytes::new(self.alloc);
+        put_text(self.alloc, self.programs, text, &mut bytes);
+        case.parts.add(self.alloc, part, &bytes.finish()?)
     }
 
     // A line of a part. Its newline is left out where `unended` stands at its end.
@@ -156,7 +166,7 @@ impl<'a> Sheet<'a> {
         if answer.is_none() && case.parts.find("every").is_none() {
             return Err(Trouble::Line("no answer of this row"));
         }
-        let asked = side(self.alloc, self.programs, case, "front", text, "back")?;
+        let asked = asked_of(self.alloc, self.programs, case, text)?;
         let wanted = answer_of(self.alloc, self.programs, case, answer)?;
         self.is_table = true;
         self.report.judge(self.alloc, case, row, &asked, &wanted)

@@ -1,4 +1,5 @@
 //! Names, labels and texts, and fields as bytes.
+use crate::kinds::lines::Lines;
 use crate::trouble::Trouble;
 use ob_base::{
     Duplicate, FieldFault, Fields, Label, Name, NameError, Text, put_i64, put_text, put_u8, put_u32,
@@ -85,14 +86,13 @@ pub fn bytes(alloc: Global, field: &[u8]) -> Result<Vec<u8>, Trouble> {
     let (kind, value) = field.split_once(' ').ok_or(Trouble::Line("no field"))?;
     let mut bytes = Vec::new(alloc);
     put_field(kind, value, &mut bytes)?;
-    let mut said = String::new(alloc);
+    let mut lines = Lines::new(alloc);
     for byte in &bytes {
-        write!(said, "{byte:02x}")?;
+        lines.put_byte(*byte);
     }
-    said.push_str(if is_field(alloc, kind, value, &bytes)? {
-        "\n"
-    } else {
-        ", read as another\n"
-    })?;
-    Ok(said.into_bytes())
+    if !is_field(alloc, kind, value, &bytes)? {
+        lines.put(", read as another");
+    }
+    lines.end();
+    lines.into_bytes()
 }

@@ -1,4 +1,5 @@
 //! The fronts of a program's tokens, and the program with one token changed.
+use crate::kinds::lines::Lines;
 use crate::trouble::Trouble;
 use ob_base::{EXPECTED, ProgramFault, Span};
 use ob_lexer::{Lexed, Token, TokenKind, Word, lex};
@@ -53,31 +54,32 @@ pub fn whole(alloc: Global, text: &[u8]) -> Result<Vec<u8>, Trouble> {
     if parse(alloc, lexed.tokens.as_slice(), lexed.end).is_err() {
         return Ok(b"refused\n".to_vec(alloc)?);
     }
-    let mut said = String::new(alloc);
+    let mut lines = Lines::new(alloc);
     for at in 0..lexed.tokens.len() {
         let is_front = at > 0 && !is_refused_front(alloc, &lexed, at);
         if is_front || !is_refused_change(alloc, text, at)? {
-            write!(said, "{at} ")?;
+            lines.put_count("", at);
+            lines.put(" ");
         }
     }
-    said.push_str(if said.is_empty() {
-        "each token counts\n"
+    lines.put(if lines.is_empty() {
+        "each token counts"
     } else {
-        "do not count\n"
-    })?;
-    Ok(said.into_bytes())
+        "do not count"
+    });
+    lines.end();
+    lines.into_bytes()
 }
 
 /// How many tokens the fronts have that are programs. Each other front is refused at its end.
 pub fn fronts(alloc: Global, text: &[u8]) -> Result<Vec<u8>, Trouble> {
     let lexed = lexed_of(alloc, text)?;
-    let mut said = String::new(alloc);
+    let mut lines = Lines::new(alloc);
     for count in 0..=lexed.tokens.len() {
         if !is_refused_front(alloc, &lexed, count) {
-            let gap = if said.is_empty() { "" } else { " " };
-            write!(said, "{gap}{count}")?;
+            lines.put_count(if lines.is_empty() { "" } else { " " }, count);
         }
     }
-    said.push('\n')?;
-    Ok(said.into_bytes())
+    lines.end();
+    lines.into_bytes()
 }

@@ -1,18 +1,21 @@
-//! Lines in which class tables and terms are shown, and their parts.
+//! Lines in which answers are shown, and their parts.
 use crate::kinds::tokens::text_of;
 use crate::trouble::Trouble;
-use ob_base::{ContractId, Mode, NO_STATE_BIT, OTHER_STATE_BIT, Perm, Span};
+use ob_base::{ContractId, Mode, NO_STATE_BIT, OTHER_STATE_BIT, Operator, Perm, Span};
+use ob_lexer::{Sign, Word};
+use ob_run::Exit;
 use ob_table::{Kind, LocalKind, Seen, SeenAt};
 use std::alloc::Global;
 
 // How many bits a set of states has.
 const ALL_BITS: usize = 34;
 
-/// Lines, and how deep the next one stands.
+/// Lines, and how deep the next one stands. Where one can't be shown, their end tells why, so that no part has to.
 #[derive(Drop)]
 pub struct Lines {
-    pub text: String,
+    text: String,
     level: usize,
+    trouble: Option<Trouble>,
 }
 
 impl Lines {
@@ -21,7 +24,28 @@ impl Lines {
         Lines {
             text: String::new(alloc),
             level: 0,
+            trouble: None,
         }
+    }
+
+    // Notes why a part can't be shown. The first reason counts.
+    fn fail(&mut self, trouble: Trouble) {
+        if self.trouble.is_none() {
+            self.trouble = Some(trouble);
+        }
+    }
+
+    /// The lines as bytes, unless one couldn't be shown.
+    pub fn into_bytes(self) -> Result<Vec<u8>, Trouble> {
+        match self.trouble {
+            None => Ok(self.text.into_bytes()),
+            Some(trouble) => Err(trouble),
+        }
+    }
+
+    /// Whether nothing was shown yet.
+    pub fn is_empty(&self) -> bool {
+        self.text.is_empty()
     }
 
     /// The lines from here on stand one level deeper.
@@ -35,90 +59,171 @@ impl Lines {
     }
 
     /// Puts a part of a line.
-    pub fn put(&mut self, part: &str) -> Result<(), Trouble> {
-        self.text.push_str(part)?;
-        Ok(())
+    pub fn put(&mut self, part: &str) {
+        if self.text.push_str(part).is_err() {
+            self.fail(Trouble::Memory);
+        }
+    }
+
+    /// Puts a number.
+    pub fn put_number(&mut self, number: i64) {
+        if write!(self.text, "{number}").is_err() {
+            self.fail(Trouble::Memory);
+        }
+    }
+
+    /// Puts a number that may be above those of the language.
+    pub fn put_big(&mut self, number: u64) {
+        if write!(self.text, "{number}").is_err() {
+            self.fail(Trouble::Memory);
+        }
+    }
+
+    /// The status of a run's end, and its name.
+    pub fn put_exit(&mut self, exit: Exit) {
+        let status = exit.status();
+        if write!(self.text, "{status} {exit:?}").is_err() {
+            self.fail(Trouble::Memory);
+        }
+    }
+
+    /// Puts a word, and a number right behind it.
+    pub fn put_with(&mut self, word: &str, number: u32) {
+        self.put(word);
+        self.put_number(i64::from(number));
+    }
+
+    /// Puts a word, and behind a blank the number of what it speaks of, or `none`.
+    pub fn put_optional(&mut self, word: &str, number: Option<u32>) {
+        self.put(word);
+        match number {
+            None => self.put(" none"),
+            Some(number) => self.put_with(" ", number),
+        }
+    }
+
+    /// Puts a word, and behind it whether what it speaks of holds.
+    pub fn put_truth(&mut self, word: &str, holds: bool) {
+        self.put(word);
+        self.put(if holds { "true" } else { "false" });
+    }
+
+    /// Puts a word, and a count right behind it.
+    pub fn put_count(&mut self, word: &str, count: usize) {
+        self.put(word);
+        if write!(self.text, "{count}").is_err() {
+            self.fail(Trouble::Memory);
+        }
+    }
+
+    /// The name of an operator, behind a blank.
+    pub fn put_operator(&mut self, operator: Operator) {
+        if write!(self.text, " {operator:?}").is_err() {
+            self.fail(Trouble::Memory);
+        }
+    }
+
+    /// The name of a word of the language, behind a blank.
+    pub fn put_word(&mut self, word: Word) {
+        if write!(self.text, " {word:?}").is_err() {
+            self.fail(Trouble::Memory);
+        }
+    }
+
+    /// The name of a sign, behind a blank.
+    pub fn put_sign(&mut self, sign: Sign) {
+        if write!(self.text, " {sign:?}").is_err() {
+            self.fail(Trouble::Memory);
+        }
+    }
+
+    /// Bytes that are a text, in quotes, behind a blank.
+    pub fn put_quoted(&mut self, bytes: &[u8]) {
+        match text_of(bytes) {
+            Ok(text) => {
+                if write!(self.text, " {text:?}").is_err() {
+                    self.fail(Trouble::Memory);
+                }
+            }
+            Err(trouble) => self.fail(trouble),
+        }
+    }
+
+    /// Puts bytes that are a text.
+    pub fn put_text(&mut self, bytes: &[u8]) {
+        match text_of(bytes) {
+            Ok(text) => self.put(text),
+            Err(trouble) => self.fail(trouble),
+        }
     }
 
     /// Begins a line with this word.
-    pub fn begin(&mut self, word: &str) -> Result<(), Trouble> {
+    pub fn begin(&mut self, word: &str) {
         for _ in 0..self.level {
-            self.put("  ")?;
+            self.put("  ");
         }
-        self.put(word)
+        self.put(word);
     }
 
     /// Begins a line with this word, which stands at this place.
-    pub fn begin_at(&mut self, word: &str, span: Span) -> Result<(), Trouble> {
-        self.begin(word)?;
-        self.put_at(span)
+    pub fn begin_at(&mut self, word: &str, span: Span) {
+        self.begin(word);
+        self.put_at(span);
     }
 
     /// Ends a line.
-    pub fn end(&mut self) -> Result<(), Trouble> {
-        self.put("\n")
+    pub fn end(&mut self) {
+        self.put("\n");
     }
 
     /// A name, or `-` where it is empty, behind a blank.
-    pub fn put_name(&mut self, name: &[u8]) -> Result<(), Trouble> {
-        self.put(" ")?;
-        self.put(if name.is_empty() { "-" } else { text_of(name)? })
-    }
-
-    /// A word, and behind a blank the number of what it speaks of, or `none`.
-    pub fn put_number(&mut self, word: &str, number: Option<u32>) -> Result<(), Trouble> {
-        self.put(word)?;
-        match number {
-            None => self.put(" none")?,
-            Some(number) => write!(self.text, " {number}")?,
-        }
-        Ok(())
+    pub fn put_name(&mut self, name: &[u8]) {
+        self.put(" ");
+        self.put_text(if name.is_empty() { b"-" } else { name });
     }
 
     /// A line and a column.
-    pub fn put_place(&mut self, span: Span) -> Result<(), Trouble> {
-        let Span { line, column, .. } = span;
-        write!(self.text, "{line}:{column}")?;
-        Ok(())
+    pub fn put_place(&mut self, span: Span) {
+        self.put_with("", span.line);
+        self.put_with(":", span.column);
     }
 
     /// The place of what stands before it.
-    pub fn put_at(&mut self, span: Span) -> Result<(), Trouble> {
-        self.put("@")?;
-        self.put_place(span)
+    pub fn put_at(&mut self, span: Span) {
+        self.put("@");
+        self.put_place(span);
     }
 
-    fn put_bit(&mut self, bit: u8) -> Result<(), Trouble> {
+    fn put_bit(&mut self, bit: u8) {
         match bit {
-            NO_STATE_BIT => self.put("none")?,
-            OTHER_STATE_BIT => self.put("other")?,
-            _ => write!(self.text, "{bit}")?,
+            NO_STATE_BIT => self.put("none"),
+            OTHER_STATE_BIT => self.put("other"),
+            _ => self.put_with("", u32::from(bit)),
         }
-        Ok(())
     }
 
     /// A set of states: of the bits of states the first ones, so many, and that of no state.
-    pub fn put_states(&mut self, set: u64, states: usize) -> Result<(), Trouble> {
+    pub fn put_states(&mut self, set: u64, states: usize) {
         let mut rest = set;
         let mut mark = "{";
         for bit in 0..=OTHER_STATE_BIT {
             let is_shown = bit == NO_STATE_BIT || usize::from(bit) < states;
             if rest % 2 == 1 && is_shown {
-                self.put(mark)?;
-                self.put_bit(bit)?;
+                self.put(mark);
+                self.put_bit(bit);
                 mark = ",";
             }
             rest /= 2;
         }
-        self.put(if mark == "{" { "{}" } else { "}" })
+        self.put(if mark == "{" { "{}" } else { "}" });
     }
 
     /// A permission, behind a blank.
-    pub fn put_perm(&mut self, perm: Perm) -> Result<(), Trouble> {
+    pub fn put_perm(&mut self, perm: Perm) {
         match perm.mode {
             Mode::Owned => {
-                self.put(" Owned")?;
-                self.put_states(perm.states, ALL_BITS)
+                self.put(" Owned");
+                self.put_states(perm.states, ALL_BITS);
             }
             Mode::Shared => self.put(" Shared"),
             Mode::Unowned => self.put(" Unowned"),
@@ -126,51 +231,50 @@ impl Lines {
     }
 
     /// A type, behind a blank.
-    pub fn put_kind(&mut self, kind: Kind) -> Result<(), Trouble> {
+    pub fn put_kind(&mut self, kind: Kind) {
         match kind {
             Kind::Int => self.put(" Int"),
             Kind::Bool => self.put(" Bool"),
             Kind::Text => self.put(" Text"),
             Kind::Reference(ContractId(contract), perm) => {
-                write!(self.text, " Reference {contract}")?;
-                self.put_perm(perm)
+                self.put_with(" Reference ", contract);
+                self.put_perm(perm);
             }
         }
     }
 
     /// The type of a local variable, behind a blank.
-    pub fn put_local_kind(&mut self, kind: LocalKind) -> Result<(), Trouble> {
+    pub fn put_local_kind(&mut self, kind: LocalKind) {
         match kind {
-            LocalKind::Int => self.put(" Int")?,
-            LocalKind::Bool => self.put(" Bool")?,
-            LocalKind::Text => self.put(" Text")?,
-            LocalKind::Reference(ContractId(contract)) => {
-                write!(self.text, " Reference {contract}")?;
-            }
+            LocalKind::Int => self.put(" Int"),
+            LocalKind::Bool => self.put(" Bool"),
+            LocalKind::Text => self.put(" Text"),
+            LocalKind::Reference(ContractId(contract)) => self.put_with(" Reference ", contract),
         }
-        Ok(())
     }
 
     /// What a name stands for, and its place, behind a blank.
-    pub fn put_seen(&mut self, seen: SeenAt) -> Result<(), Trouble> {
+    pub fn put_seen(&mut self, seen: SeenAt) {
         match seen.of {
-            Seen::This => self.put(" this")?,
-            Seen::Local(local) => write!(self.text, " l{local}")?,
-            Seen::Field(field) => {
-                let number = field.0;
-                write!(self.text, " f{number}")?;
-            }
+            Seen::This => self.put(" this"),
+            Seen::Local(local) => self.put_with(" l", local),
+            Seen::Field(field) => self.put_with(" f", u32::from(field.0)),
         }
-        self.put_at(seen.span)
+        self.put_at(seen.span);
     }
 
     /// Two hexadecimal digits for each byte, or `-` where there is none, behind a blank.
-    pub fn put_hex(&mut self, bytes: &[u8]) -> Result<(), Trouble> {
-        self.put(if bytes.is_empty() { " -" } else { " " })?;
+    pub fn put_hex(&mut self, bytes: &[u8]) {
+        self.put(if bytes.is_empty() { " -" } else { " " });
         for byte in bytes {
-            let byte = *byte;
-            write!(self.text, "{byte:02x}")?;
+            self.put_byte(*byte);
         }
-        Ok(())
+    }
+
+    /// Two hexadecimal digits.
+    pub fn put_byte(&mut self, byte: u8) {
+        if write!(self.text, "{byte:02x}").is_err() {
+            self.fail(Trouble::Memory);
+        }
     }
 }

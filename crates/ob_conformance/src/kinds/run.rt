@@ -1,5 +1,6 @@
 //! Whole runs, over the forms in memory.
 use crate::case::Case;
+use crate::kinds::lines::Lines;
 use crate::kinds::outside::{AMPLE, Outside};
 use crate::kinds::tokens::text_of;
 use crate::trouble::Trouble;
@@ -131,30 +132,26 @@ fn is_well(ended: &Ended) -> bool {
 }
 
 // The status, and the counts where they aren't well.
-fn end_of(alloc: Global, ended: &Ended) -> Result<String, Trouble> {
-    let exit = ended.exit;
-    let status = exit.status();
-    let mut said = format!(in alloc; "{status} {exit:?}")?;
+fn put_end(lines: &mut Lines, ended: &Ended) {
+    lines.put_exit(ended.exit);
     if !is_well(ended) {
-        let faults = ended.faults;
-        let unread = ended.unread.unwrap_or(0);
-        write!(
-            said,
-            ", calls that failed: {faults}, bytes that weren't read: {unread}"
-        )?;
+        lines.put(", calls that failed: ");
+        lines.put_big(ended.faults);
+        lines.put(", bytes that weren't read: ");
+        lines.put_count("", ended.unread.unwrap_or(0));
     }
-    Ok(said)
 }
 
 // The end, and then what was written.
 fn show(alloc: Global, ended: Ended) -> Result<Vec<u8>, Trouble> {
-    let mut shown = end_of(alloc, &ended)?.into_bytes();
-    shown.push(b'\n')?;
-    match ended.output {
-        Some(bytes) => shown.extend_from_slice(&bytes)?,
-        None => shown.extend_from_slice(b"untold\n")?,
+    let mut lines = Lines::new(alloc);
+    put_end(&mut lines, &ended);
+    lines.end();
+    match &ended.output {
+        Some(bytes) => lines.put_text(bytes),
+        None => lines.put("untold\n"),
     }
-    Ok(shown)
+    lines.into_bytes()
 }
 
 fn run_given(alloc: Global, given: Given, outside: Outside) -> Result<Ended, Trouble> {
@@ -191,6 +188,14 @@ fn lines_in(front: &[u8], whole: &[u8]) -> Option<usize> {
     Some(front.iter().filter(|byte| **byte == b'\n').count())
 }
 
+// How many lines there are, where they are the first ones of a text.
+fn put_lines_in(lines: &mut Lines, front: &[u8], whole: &[u8]) {
+    match lines_in(front, whole) {
+        Some(count) => lines.put_count(", lines: ", count),
+        None => lines.put(", other lines"),
+    }
+}
+
 /// How a run ends where the outside does this, and how many lines it writes of those that it writes where nothing fails.
 pub fn cut_run(alloc: Global, case: &Case, outside: &[u8]) -> Result<Vec<u8>, Trouble> {
     let words = text_of(case.part("words"))?;
@@ -198,16 +203,14 @@ pub fn cut_run(alloc: Global, case: &Case, outside: &[u8]) -> Result<Vec<u8>, Tr
     let whole = run_sure(alloc, given, AMPLE)?;
     let given = given_of(alloc, words, case.part("text"), case.part("input"))?;
     let ended = run_given(alloc, given, Outside::of(alloc, text_of(outside)?)?)?;
-    let mut said = end_of(alloc, &ended)?;
-    let (Some(front), Some(whole)) = (&ended.output, &whole.output) else {
-        said.push_str(", untold\n")?;
-        return Ok(said.into_bytes());
-    };
-    match lines_in(front, whole) {
-        Some(count) => write!(said, ", lines: {count}\n")?,
-        None => said.push_str(", other lines\n")?,
+    let mut lines = Lines::new(alloc);
+    put_end(&mut lines, &ended);
+    match (&ended.output, &whole.output) {
+        (Some(front), Some(whole)) => put_lines_in(&mut lines, front, whole),
+        _ => lines.put(", untold"),
     }
-    Ok(said.into_bytes())
+    lines.end();
+    lines.into_bytes()
 }
 
 // Whether a run is done where it wrote this, and refuses where it wrote something else.

@@ -1,4 +1,5 @@
 //! The tokens of a text.
+use crate::kinds::lines::Lines;
 use crate::trouble::Trouble;
 use ob_base::{Duplicate, ProgramFault, Span, fault_name};
 use ob_lexer::{LexError, Lexed, TokenKind, lex};
@@ -6,21 +7,20 @@ use std::alloc::Global;
 
 /// The line of a fault: `LINE:COLUMN: NUMBER Name`.
 pub fn fault_line(alloc: Global, fault: ProgramFault) -> Result<Vec<u8>, Trouble> {
-    let ProgramFault { number, span } = fault;
-    let Span { line, column, .. } = span;
-    let name = fault_name(number);
-    Ok(format!(in alloc; "{line}:{column}: {number} {name}\n")?.into_bytes())
+    let mut lines = Lines::new(alloc);
+    lines.put_place(fault.span);
+    lines.put_with(": ", u32::from(fault.number));
+    lines.put(" ");
+    lines.put(fault_name(fault.number));
+    lines.end();
+    lines.into_bytes()
 }
 
-fn put_place(said: &mut String, span: Span) -> Result<(), Trouble> {
-    let Span {
-        start,
-        end,
-        line,
-        column,
-    } = span;
-    write!(said, "{line}:{column} {start}..{end} ")?;
-    Ok(())
+fn put_place(lines: &mut Lines, span: Span) {
+    lines.put_place(span);
+    lines.put_with(" ", span.start);
+    lines.put_with("..", span.end);
+    lines.put(" ");
 }
 
 // The bytes of a name or a text, as a text.
@@ -28,32 +28,42 @@ pub fn text_of(bytes: &[u8]) -> Result<&str, Trouble> {
     str::from_utf8(bytes).ok().ok_or(Trouble::Line("no text"))
 }
 
-fn put_kind(said: &mut String, kind: &TokenKind) -> Result<(), Trouble> {
+fn put_kind(lines: &mut Lines, kind: &TokenKind) {
     match kind {
         TokenKind::Name(name) => {
-            let name = text_of(name.as_bytes())?;
-            write!(said, "Name {name}; ")?;
+            lines.put("Name");
+            lines.put_name(name.as_bytes());
         }
-        TokenKind::Number(number) => write!(said, "Number {number}; ")?,
+        TokenKind::Number(number) => {
+            lines.put("Number ");
+            lines.put_number(*number);
+        }
         TokenKind::Text(text) => {
-            let text = text_of(text.as_bytes())?;
-            write!(said, "Text {text:?}; ")?;
+            lines.put("Text");
+            lines.put_quoted(text.as_bytes());
         }
-        TokenKind::Word(word) => write!(said, "Word {word:?}; ")?,
-        TokenKind::Sign(sign) => write!(said, "Sign {sign:?}; ")?,
+        TokenKind::Word(word) => {
+            lines.put("Word");
+            lines.put_word(*word);
+        }
+        TokenKind::Sign(sign) => {
+            lines.put("Sign");
+            lines.put_sign(*sign);
+        }
     }
-    Ok(())
+    lines.put("; ");
 }
 
 fn tokens_line(alloc: Global, lexed: &Lexed) -> Result<Vec<u8>, Trouble> {
-    let mut said = String::new(alloc);
+    let mut lines = Lines::new(alloc);
     for token in lexed.tokens.as_slice() {
-        put_place(&mut said, token.span)?;
-        put_kind(&mut said, &token.kind)?;
+        put_place(&mut lines, token.span);
+        put_kind(&mut lines, &token.kind);
     }
-    put_place(&mut said, lexed.end)?;
-    said.push_str("end\n")?;
-    Ok(said.into_bytes())
+    put_place(&mut lines, lexed.end);
+    lines.put("end");
+    lines.end();
+    lines.into_bytes()
 }
 
 /// The tokens of a text, from a copy of them, or its fault: `LINE:COLUMN START..END KIND`, and between two `; `. The end stands

@@ -1,4 +1,5 @@
 //! Requests and replies.
+use crate::kinds::lines::Lines;
 use crate::kinds::tokens::text_of;
 use crate::trouble::Trouble;
 use ob_base::{Label, ObjectId};
@@ -7,47 +8,45 @@ use ob_wire::{
 };
 use std::alloc::Global;
 
-fn put_label(said: &mut String, label: &Label) -> Result<(), Trouble> {
-    said.push_str(text_of(label.as_bytes())?)?;
-    Ok(())
+fn put_label(lines: &mut Lines, label: &Label) {
+    lines.put_text(label.as_bytes());
 }
 
-fn put_args(said: &mut String, args: &[i64]) -> Result<(), Trouble> {
+fn put_args(lines: &mut Lines, args: &[i64]) {
     for (at, arg) in args.iter().enumerate() {
-        let gap = if at == 0 { "" } else { ", " };
-        write!(said, "{gap}{arg}")?;
+        lines.put(if at == 0 { "" } else { ", " });
+        lines.put_number(*arg);
     }
-    Ok(())
 }
 
-fn put_op(said: &mut String, op: &Op) -> Result<(), Trouble> {
+fn put_op(lines: &mut Lines, op: &Op) {
     match op {
         Op::New { contract, into } => {
-            said.push_str("new ")?;
-            put_label(said, contract)?;
-            said.push_str(" into ")?;
-            put_label(said, into)?;
+            lines.put("new ");
+            put_label(lines, contract);
+            lines.put(" into ");
+            put_label(lines, into);
         }
         Op::Call { on, tx, args } => {
-            put_label(said, on)?;
-            said.push_str(".")?;
-            put_label(said, tx)?;
-            said.push_str("(")?;
-            put_args(said, args.as_slice())?;
-            said.push_str(")")?;
+            put_label(lines, on);
+            lines.put(".");
+            put_label(lines, tx);
+            lines.put("(");
+            put_args(lines, args.as_slice());
+            lines.put(")");
         }
     }
-    Ok(())
 }
 
 fn request_line(alloc: Global, request: &Request) -> Result<Vec<u8>, Trouble> {
-    let id = request.id;
-    let mut said = format!(in alloc; "{id} ")?;
-    put_label(&mut said, &request.who)?;
-    said.push_str(": ")?;
-    put_op(&mut said, &request.op)?;
-    said.push_str("\n")?;
-    Ok(said.into_bytes())
+    let mut lines = Lines::new(alloc);
+    lines.put_number(request.id);
+    lines.put(" ");
+    put_label(&mut lines, &request.who);
+    lines.put(": ");
+    put_op(&mut lines, &request.op);
+    lines.end();
+    lines.into_bytes()
 }
 
 /// The request that a line asks: `ID CLIENT: new CONTRACT into NAME`, `ID CLIENT: NAME.TRANSACTION(ARGUMENTS)` or `none`.
