@@ -217,16 +217,13 @@ fn put_terms(terms: &[Term], lines: &mut Lines) {
     lines.shallower();
 }
 
-// Two branches under their term, which ends where they join.
+// A branch under its term.
 #[cycle(show_term)]
-fn put_branches(then: &[Term], otherwise: &[Term], lines: &mut Lines) {
+fn put_branch(terms: &[Term], lines: &mut Lines, word: &str) {
     lines.deeper();
-    lines.begin("then");
+    lines.begin(word);
     lines.end();
-    put_terms(then, lines);
-    lines.begin("otherwise");
-    lines.end();
-    put_terms(otherwise, lines);
+    put_terms(terms, lines);
     lines.shallower();
 }
 
@@ -252,7 +249,8 @@ fn put_term(term: &Term, lines: &mut Lines) {
             lines.put(" join");
             lines.put_at(*join);
             lines.end();
-            put_branches(then.as_slice(), otherwise.as_slice(), lines);
+            put_branch(then.as_slice(), lines, "then");
+            put_branch(otherwise.as_slice(), lines, "otherwise");
         }
         _ => lines.end(),
     }
