@@ -22,7 +22,7 @@ use Rattle.ob_typing.specs.StatementSites.{place_of_stmt, on_contract, subject_s
 use Rattle.ob_notes.specs.Noted.{noted, noted_at, noted-append, names_in}
 use Rattle.ob_walk.specs.Walked.{after_stmts, row_behind}
 use Rattle.ob_walk.proofs.RowLemmas.{stmts_same, behind_same}
-use Rattle.ob_walk.proofs.WalkLemmas.{walks}
+use Rattle.ob_walk_parts.proofs.WalkLemmas.{walks}
 
 -- a loop's turn: the statements from a place on are the one there, and those behind it
 stmts_of-drop : (ss : List Stmt) (i : ℕ) (x : Stmt) → i < length ss → x ≡ get_or ss i x
