@@ -10,7 +10,7 @@ ghost use Rattle.ob_typing.specs.MemberSites.{body_of_params_sites};
 ghost use Rattle.ob_scope.specs.Types.{program_of};
 ghost use Rattle.ob_scope.specs.Around.{around_of};
 ghost use Rattle.ob_notes.specs.Noted.{noted, names_in};
-ghost use Rattle.ob_walk.specs.Walked.{after_stmts, row_with, row_behind, row_kept};
+ghost use Rattle.ob_walk_parts.specs.Walked.{after_stmts, row_with, row_behind, row_kept};
 
 use ob_base::Memory;
 use ob_notes::{Least, note_declared, note_end, note_field, note_own_state, note_reached};
@@ -18,13 +18,13 @@ use ob_scope::{Around, Names, Scope, scope_of_params};
 use ob_tree::{Block, Expr, FormalNode, GivenNode, NamePart, Stmt};
 use ob_typing::Kind;
 use ob_walk_parts::{
-    place_of_stmt, walk_assert, walk_assign, walk_declare, walk_expr, walk_reference, walk_return,
-    walk_revert, walk_tested, walk_value,
+    leave_row, place_of_stmt, walk_assert, walk_assign, walk_declare, walk_expr, walk_reference,
+    walk_return, walk_revert, walk_tested, walk_value,
 };
 use std::alloc::Global;
 
 // A value for a field, behind a row of others.
-#[tactic(auto, using(ob_tree::specs::MembersView::views, crate::proofs::StatementLemmas::statements))]
+#[tactic(auto, using(ob_tree::specs::MembersView::views, ob_walk_parts::proofs::StatementLemmas::statements))]
 fn walk_given(
     field: &NamePart,
     value: &Expr,
@@ -45,7 +45,7 @@ fn walk_given(
     row.add(alloc, name, row.len())
 }
 
-#[tactic(auto, using(ob_tree::specs::MembersView::views, crate::proofs::StatementLemmas::statements))]
+#[tactic(auto, using(ob_tree::specs::MembersView::views, ob_walk_parts::proofs::StatementLemmas::statements))]
 fn walk_change(
     given: &[GivenNode],
     around: &Around<'_>,
@@ -75,20 +75,9 @@ fn either(a: bool, b: bool) -> bool
     a || b
 }
 
-// A row goes on behind a staged statement alone.
-#[tactic(auto, using(ob_tree::specs::MembersView::views))]
-fn leave_row(statement: &Stmt, alloc: Global, row: &mut Names)
-    ensures { row.new ≡ row_kept row.old (stmt_of statement.now) }
-{
-    match statement {
-        Stmt::Stage { .. } => {}
-        _ => *row = Names::new(alloc),
-    }
-}
-
 /// A statement behind a row of staged ones; whether it ends there.
 #[cycle(walk)]
-#[tactic(auto, using(ob_tree::specs::MembersView::views, crate::proofs::StatementLemmas::statements))]
+#[tactic(auto, using(ob_tree::specs::MembersView::views, ob_walk_parts::proofs::StatementLemmas::statements))]
 fn walk_stmt(
     statement: &Stmt,
     around: &Around<'_>,
@@ -179,7 +168,7 @@ fn walk_stmt(
 }
 
 #[cycle(walk)]
-#[tactic(auto, using(ob_tree::specs::MembersView::views, crate::proofs::StatementLemmas::statements))]
+#[tactic(auto, using(ob_tree::specs::MembersView::views, ob_walk_parts::proofs::StatementLemmas::statements))]
 fn walk_else(
     otherwise: &Option<Block>,
     around: &Around<'_>,
@@ -200,7 +189,7 @@ fn walk_else(
 
 /// A block, whose locals are visible in it alone; whether its end isn't reached.
 #[cycle(walk)]
-#[tactic(auto, using(ob_tree::specs::MembersView::views, crate::proofs::StatementLemmas::statements))]
+#[tactic(auto, using(ob_tree::specs::MembersView::views, ob_walk_parts::proofs::StatementLemmas::statements))]
 fn walk_block(
     block: &Block,
     around: &Around<'_>,
@@ -221,7 +210,7 @@ fn walk_block(
 
 /// The statements of a block; whether one of them ends there.
 #[cycle(walk)]
-#[tactic(auto, using(ob_tree::specs::MembersView::views, crate::proofs::StatementLemmas::statements))]
+#[tactic(auto, using(ob_tree::specs::MembersView::views, ob_walk_parts::proofs::StatementLemmas::statements))]
 fn walk_stmts(
     statements: &[Stmt],
     around: &Around<'_>,
@@ -246,7 +235,7 @@ fn walk_stmts(
 }
 
 /// Notes the faults of a body with these parameters, in its contract.
-#[tactic(auto, using(ob_tree::specs::MembersView::views, crate::proofs::StatementLemmas::statements))]
+#[tactic(auto, using(ob_tree::specs::MembersView::views, ob_walk_parts::proofs::StatementLemmas::statements))]
 pub fn walk_body(
     alloc: Global,
     around: &Around<'_>,

@@ -6,5 +6,6 @@ mod parts;
 
 pub use expressions::{walk_expr, walk_reference, walk_value};
 pub use parts::{
-    place_of_stmt, walk_assert, walk_assign, walk_declare, walk_return, walk_revert, walk_tested,
+    leave_row, place_of_stmt, walk_assert, walk_assign, walk_declare, walk_return, walk_revert,
+    walk_tested,
 };

@@ -14,6 +14,7 @@ ghost use Rattle.ob_typing.specs.StatementSites.{place_of_stmt, place_of_subject
 ghost use Rattle.ob_scope.specs.Types.{program_of};
 ghost use Rattle.ob_scope.specs.Around.{around_of};
 ghost use Rattle.ob_notes.specs.Noted.{noted};
+ghost use Rattle.ob_walk_parts.specs.Walked.{row_kept};
 
 use crate::expressions::{walk_expr, walk_reference, walk_value};
 use ob_base::{Memory, Span};
@@ -21,7 +22,7 @@ use ob_notes::{
     Least, note_assigned, note_contract, note_local, note_perm, note_return, note_state,
     note_variable,
 };
-use ob_scope::{Around, Scope, kind_of, kind_of_subject};
+use ob_scope::{Around, Names, Scope, kind_of, kind_of_subject};
 use ob_tree::{Expr, LocalType, NamePart, PermNode, Stmt, Subject};
 use ob_typing::Kind;
 use std::alloc::Global;
@@ -217,5 +218,16 @@ pub fn place_of_stmt(statement: &Stmt) -> Span
         Stmt::Revert { span, .. } => *span,
         Stmt::Disown { span, .. } => *span,
         Stmt::Assert { span, .. } => *span,
+    }
+}
+
+/// A row goes on behind a staged statement alone.
+#[tactic(auto, using(ob_tree::specs::MembersView::views))]
+pub fn leave_row(statement: &Stmt, alloc: Global, row: &mut Names)
+    ensures { row.new ≡ row_kept row.old (stmt_of statement.now) }
+{
+    match statement {
+        Stmt::Stage { .. } => {}
+        _ => *row = Names::new(alloc),
     }
 }
