@@ -1,7 +1,6 @@
-//! The faults of bodies: a walk over their statements and expressions.
+//! The faults of bodies: a walk over their statements.
 #![tactic(auto)]
 
-mod expressions;
 mod statements;
 
 pub use statements::walk_body;

@@ -2,7 +2,7 @@ use Rattle.ob_tree.specs.ExprsView.{expr_of}
 use Rattle.ob_tree.specs.StmtsView.{block_of, else_of, stmt_of-Test, stmt_of-If}
 use Rattle.ob_scope.specs.Around.{around_of}
 use Rattle.ob_notes.specs.Noted.{names_in}
-use Rattle.ob_walk.proofs.StatementLemmas.{test_sites, if_sites}
+use Rattle.ob_walk_parts.proofs.StatementLemmas.{test_sites, if_sites}
 use Rattle.ob_walk.proofs.statements.+walk.Goals as goal
 
 pub walk_stmt-returns-in_ok-else_ends-in-Test-clause-sites : goal.walk_stmt-returns-in_ok-else_ends-in-Test-clause-sites

@@ -4,7 +4,7 @@ use Rattle.ob_typing.specs.Reached.{one_ends}
 use Rattle.ob_typing.specs.StatementSites.{stmts_sites}
 use Rattle.ob_scope.specs.Around.{around_of}
 use Rattle.ob_notes.specs.Noted.{noted, names_in}
-use Rattle.ob_walk.specs.Walked.{after_stmts}
+use Rattle.ob_walk_parts.specs.Walked.{after_stmts}
 use Rattle.ob_walk.proofs.statements.+walk.Given as goal
 
 abbrev pub invariant-walk_stmts-loop-statement : goal.invariant-walk_stmts-loop-statement

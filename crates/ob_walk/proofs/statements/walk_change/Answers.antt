@@ -1,6 +1,6 @@
 use Rattle.std.proofs.Common.{◌∙◌}
 use Rattle.ob_scope.specs.Around.{around_of}
-use Rattle.ob_walk.proofs.RowLemmas.{change_turn}
+use Rattle.ob_walk_parts.proofs.RowLemmas.{change_turn}
 use Rattle.ob_walk.proofs.statements.walk_change.Goals as goal
 
 pub loop-one-preserved : goal.loop-one-preserved

@@ -3,7 +3,7 @@ use Rattle.ob_tree.specs.ExprsView.{exprs_of}
 use Rattle.ob_typing.specs.ExpressionSites.{args_sites}
 use Rattle.ob_scope.specs.Around.{around_of}
 use Rattle.ob_notes.specs.Noted.{noted}
-use Rattle.ob_walk.proofs.expressions.+walk.Given as goal
+use Rattle.ob_walk_parts.proofs.expressions.+walk.Given as goal
 
 abbrev pub invariant-walk_args-loop-arg : goal.invariant-walk_args-loop-arg
 invariant-walk_args-loop-arg l =

@@ -20,9 +20,9 @@ use Rattle.ob_typing.specs.Sites.{Site, names_state, follows}
 use Rattle.ob_typing.specs.ExpressionSites.{value_sites}
 use Rattle.ob_typing.specs.StatementSites.{place_of_stmt, on_contract, subject_sites, block_sites, else_sites, row_after, stmt_sites, stmts_sites}
 use Rattle.ob_notes.specs.Noted.{noted, noted_at, noted-append, names_in}
-use Rattle.ob_walk.specs.Walked.{after_stmts, row_behind}
-use Rattle.ob_walk.proofs.RowLemmas.{stmts_same, behind_same}
-use Rattle.ob_walk.proofs.WalkLemmas.{walks}
+use Rattle.ob_walk_parts.specs.Walked.{after_stmts, row_behind}
+use Rattle.ob_walk_parts.proofs.RowLemmas.{stmts_same, behind_same}
+use Rattle.ob_walk_parts.proofs.WalkLemmas.{walks}
 
 -- a loop's turn: the statements from a place on are the one there, and those behind it
 stmts_of-drop : (ss : List Stmt) (i : ℕ) (x : Stmt) → i < length ss → x ≡ get_or ss i x

@@ -3,7 +3,7 @@ use Rattle.ob_tree.specs.ExprsView.{exprs_of}
 use Rattle.ob_typing.specs.ExpressionSites.{needed_args}
 use Rattle.ob_scope.specs.Around.{around_of}
 use Rattle.ob_notes.specs.Noted.{noted}
-use Rattle.ob_walk.proofs.expressions.walk_needed.Given as goal
+use Rattle.ob_walk_parts.proofs.expressions.walk_needed.Given as goal
 
 abbrev pub invariant-loop-kind : goal.invariant-loop-kind
 invariant-loop-kind l =

@@ -18,7 +18,7 @@ use Rattle.ob_typing.specs.ExpressionSites.{value_sites}
 use Rattle.ob_typing.specs.StatementSites.{place_of_stmt, given_sites, change_sites, row_after, stmt_sites, stmts_sites}
 use Rattle.ob_scope.specs.Numbered.{find}
 use Rattle.ob_notes.specs.Noted.{noted, noted_at, noted_if, noted-append, names_in}
-use Rattle.ob_walk.specs.Walked.{row_with, row_behind}
+use Rattle.ob_walk_parts.specs.Walked.{row_with, row_behind}
 use Rattle.ob_notes.proofs.NamingLemmas.{find-is_some}
 
 -- the same names stand in both lists

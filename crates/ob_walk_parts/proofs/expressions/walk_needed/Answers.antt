@@ -1,8 +1,8 @@
 use Rattle.std.proofs.Common.{◌∙◌, sym, length, arith}
 use Rattle.std.proofs.lemmas.Slice.Zip.{zip_end}
 use Rattle.ob_scope.specs.Around.{around_of}
-use Rattle.ob_walk.proofs.WalkLemmas.{needed_end}
-use Rattle.ob_walk.proofs.expressions.walk_needed.Goals as goal
+use Rattle.ob_walk_parts.proofs.WalkLemmas.{needed_end}
+use Rattle.ob_walk_parts.proofs.expressions.walk_needed.Goals as goal
 
 pub returns : goal.returns
 returns c =
