@@ -12,6 +12,7 @@ ghost use Rattle.std.specs.Prelude.{◌≡◌, IfOk};
 ghost use Rattle.ob_tree.specs.MembersView.{tree_of};
 ghost use Rattle.ob_tree.specs.declared.contract.Tree.{Tree};
 
+use crate::copies::both;
 use crate::member::Member;
 use crate::name::{NamePart, NamedNode};
 use ob_base::{Duplicate, Items, Memory, Mode, Span, Text, copy_items, copy_option};
@@ -44,11 +45,15 @@ fn copy_bound(
 
 impl Duplicate for ParamNode {
     fn copy(&self, alloc: Global) -> Result<ParamNode, Memory> {
+        let ((name, perm), bound) = both(
+            both(self.name.copy(alloc), self.perm.copy(alloc)),
+            copy_bound(alloc, &self.bound),
+        )?;
         Ok(ParamNode {
             asset: self.asset,
-            name: self.name.copy(alloc)?,
-            perm: self.perm.copy(alloc)?,
-            bound: copy_bound(alloc, &self.bound)?,
+            name,
+            perm,
+            bound,
             span: self.span,
         })
     }
@@ -73,14 +78,21 @@ pub struct ContractNode {
 
 impl Duplicate for ContractNode {
     fn copy(&self, alloc: Global) -> Result<ContractNode, Memory> {
+        let ((name, param), (implements, members)) = both(
+            both(self.name.copy(alloc), copy_option(alloc, &self.param)),
+            both(
+                copy_option(alloc, &self.implements),
+                copy_items(alloc, &self.members),
+            ),
+        )?;
         Ok(ContractNode {
             main: self.main,
             asset: self.asset,
             interface: self.interface,
-            name: self.name.copy(alloc)?,
-            param: copy_option(alloc, &self.param)?,
-            implements: copy_option(alloc, &self.implements)?,
-            members: copy_items(alloc, &self.members)?,
+            name,
+            param,
+            implements,
+            members,
             span: self.span,
             end: self.end,
         })

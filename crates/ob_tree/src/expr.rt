@@ -1,6 +1,7 @@
 //! Expressions as they are written (the Obsidian language documentation, "Expressions").
 ghost use Rattle.std.specs.Prelude.{◌≡◌, IfOk};
 
+use crate::copies::both;
 use crate::name::{NamePart, NamedNode, Subject};
 use ob_base::{Boxed, Duplicate, Items, Memory, Operator, Span, Text, copy_option};
 use std::alloc::Global;
@@ -86,10 +87,14 @@ fn copy_boxed(expr: &Boxed<Expr>, alloc: Global) -> Result<Boxed<Expr>, Memory>
 impl Duplicate for CallNode {
     #[cycle(copy_expr)]
     fn copy(&self, alloc: Global) -> Result<CallNode, Memory> {
+        let ((receiver, name), args) = both(
+            both(copy_option(alloc, &self.receiver), self.name.copy(alloc)),
+            copy_args(self.args.as_slice(), alloc),
+        )?;
         Ok(CallNode {
-            receiver: copy_option(alloc, &self.receiver)?,
-            name: self.name.copy(alloc)?,
-            args: copy_args(self.args.as_slice(), alloc)?,
+            receiver,
+            name,
+            args,
         })
     }
 }
@@ -135,22 +140,28 @@ impl Duplicate for Expr {
                 left,
                 right,
                 span,
-            } => Ok(Expr::Binary {
-                operator: *operator,
-                sign: *sign,
-                left: copy_boxed(left, alloc)?,
-                right: copy_boxed(right, alloc)?,
-                span: *span,
-            }),
+            } => {
+                let (left, right) = both(copy_boxed(left, alloc), copy_boxed(right, alloc))?;
+                Ok(Expr::Binary {
+                    operator: *operator,
+                    sign: *sign,
+                    left,
+                    right,
+                    span: *span,
+                })
+            }
             Expr::Call { call, span } => Ok(Expr::Call {
                 call: call.copy(alloc)?,
                 span: *span,
             }),
-            Expr::New { of, args, span } => Ok(Expr::New {
-                of: of.copy(alloc)?,
-                args: copy_args(args.as_slice(), alloc)?,
-                span: *span,
-            }),
+            Expr::New { of, args, span } => {
+                let (of, args) = both(of.copy(alloc), copy_args(args.as_slice(), alloc))?;
+                Ok(Expr::New {
+                    of,
+                    args,
+                    span: *span,
+                })
+            }
         }
     }
 }

@@ -2,6 +2,7 @@
 #![tactic(auto)]
 
 mod contract;
+mod copies;
 mod expr;
 mod member;
 mod name;

@@ -13,6 +13,7 @@
 //! A transaction of an interface ends with `;` in place of its block.
 ghost use Rattle.std.specs.Prelude.{◌≡◌, IfOk};
 
+use crate::copies::both;
 use crate::name::{NamePart, NamedNode, PermNode, RefNode, Subject, TypeNode};
 use crate::stmt::Block;
 use ob_base::{Duplicate, Items, Memory, Span, copy_items, copy_option};
@@ -29,10 +30,14 @@ pub struct FieldNode {
 
 impl Duplicate for FieldNode {
     fn copy(&self, alloc: Global) -> Result<FieldNode, Memory> {
+        let ((of, name), available) = both(
+            both(self.of.copy(alloc), self.name.copy(alloc)),
+            copy_items(alloc, &self.available),
+        )?;
         Ok(FieldNode {
-            of: self.of.copy(alloc)?,
-            name: self.name.copy(alloc)?,
-            available: copy_items(alloc, &self.available)?,
+            of,
+            name,
+            available,
         })
     }
 }
@@ -48,11 +53,11 @@ pub struct FormalNode {
 
 impl Duplicate for FormalNode {
     fn copy(&self, alloc: Global) -> Result<FormalNode, Memory> {
-        Ok(FormalNode {
-            of: self.of.copy(alloc)?,
-            exit: copy_option(alloc, &self.exit)?,
-            name: self.name.copy(alloc)?,
-        })
+        let ((of, exit), name) = both(
+            both(self.of.copy(alloc), copy_option(alloc, &self.exit)),
+            self.name.copy(alloc),
+        )?;
+        Ok(FormalNode { of, exit, name })
     }
 }
 
@@ -67,11 +72,11 @@ pub struct ListedNode {
 
 impl Duplicate for ListedNode {
     fn copy(&self, alloc: Global) -> Result<ListedNode, Memory> {
-        Ok(ListedNode {
-            of: self.of.copy(alloc)?,
-            exit: copy_option(alloc, &self.exit)?,
-            name: self.name.copy(alloc)?,
-        })
+        let ((of, exit), name) = both(
+            both(self.of.copy(alloc), copy_option(alloc, &self.exit)),
+            self.name.copy(alloc),
+        )?;
+        Ok(ListedNode { of, exit, name })
     }
 }
 
@@ -104,110 +109,37 @@ pub enum Member {
     },
 }
 
-fn copy_state(
-    alloc: Global,
-    name: &NamePart,
-    fields: &Items<FieldNode>,
-    span: Span,
-) -> Result<Member, Memory>
-    ensures { IfOk result (λ copy. copy ≡ Member.State name.now fields.now span) }
-{
-    Ok(Member::State {
-        name: name.copy(alloc)?,
-        fields: copy_items(alloc, fields)?,
-        span,
-    })
-}
-
-fn copy_field(alloc: Global, field: &FieldNode) -> Result<Member, Memory>
-    ensures { IfOk result (λ copy. copy ≡ Member.Field field.now) }
-{
-    Ok(Member::Field(field.copy(alloc)?))
-}
-
-fn copy_constructor(
-    alloc: Global,
-    of: &NamedNode,
-    perm: &PermNode,
-    params: &Items<FormalNode>,
-    body: &Block,
-    span: Span,
-) -> Result<Member, Memory>
-    ensures { IfOk result (λ copy. copy ≡ Member.Constructor of.now perm.now params.now body.now span) }
-{
-    Ok(Member::Constructor {
-        of: of.copy(alloc)?,
-        perm: perm.copy(alloc)?,
-        params: copy_items(alloc, params)?,
-        body: body.copy(alloc)?,
-        span,
-    })
-}
-
-// What stands before the brace of a transaction.
-#[derive(Drop)]
-struct Head {
-    private: bool,
-    listed: Items<ListedNode>,
-    name: NamePart,
-    params: Items<FormalNode>,
-}
-
-fn copy_head(
-    alloc: Global,
-    private: bool,
-    listed: &Items<ListedNode>,
-    name: &NamePart,
-    params: &Items<FormalNode>,
-) -> Result<Head, Memory>
-    ensures { IfOk result (λ copy. copy ≡ record { private = private; listed = listed.now; name = name.now; params = params.now }) }
-{
-    Ok(Head {
-        private,
-        listed: copy_items(alloc, listed)?,
-        name: name.copy(alloc)?,
-        params: copy_items(alloc, params)?,
-    })
-}
-
-fn copy_transaction(
-    alloc: Global,
-    head: Head,
-    result_type: &Option<TypeNode>,
-    body: &Option<Block>,
-    span: Span,
-) -> Result<Member, Memory>
-    ensures { IfOk result (λ copy. copy ≡ Member.Transaction head.private head.listed head.name head.params result_type.now body.now span) }
-{
-    let Head {
-        private,
-        listed,
-        name,
-        params,
-    } = head;
-    Ok(Member::Transaction {
-        private,
-        listed,
-        name,
-        params,
-        result: copy_option(alloc, result_type)?,
-        body: copy_option(alloc, body)?,
-        span,
-    })
-}
-
 impl Duplicate for Member {
     fn copy(&self, alloc: Global) -> Result<Member, Memory> {
         match self {
-            Member::State { name, fields, span } => copy_state(alloc, name, fields, *span),
-            Member::Field(field) => copy_field(alloc, field),
+            Member::State { name, fields, span } => {
+                let (name, fields) = both(name.copy(alloc), copy_items(alloc, fields))?;
+                Ok(Member::State {
+                    name,
+                    fields,
+                    span: *span,
+                })
+            }
+            Member::Field(field) => Ok(Member::Field(field.copy(alloc)?)),
             Member::Constructor {
                 of,
                 perm,
                 params,
                 body,
                 span,
-            } => copy_constructor(alloc, of, perm, params, body, *span),
+            } => {
+                let ((of, perm), (params, body)) = both(
+                    both(of.copy(alloc), perm.copy(alloc)),
+                    both(copy_items(alloc, params), body.copy(alloc)),
+                )?;
+                Ok(Member::Constructor {
+                    of,
+                    perm,
+                    params,
+                    body,
+                    span: *span,
+                })
+            }
             Member::Transaction {
                 private,
                 listed,
@@ -217,8 +149,22 @@ impl Duplicate for Member {
                 body,
                 span,
             } => {
-                let head = copy_head(alloc, *private, listed, name, params)?;
-                copy_transaction(alloc, head, result, body, *span)
+                let ((listed, (name, params)), (result, body)) = both(
+                    both(
+                        copy_items(alloc, listed),
+                        both(name.copy(alloc), copy_items(alloc, params)),
+                    ),
+                    both(copy_option(alloc, result), copy_option(alloc, body)),
+                )?;
+                Ok(Member::Transaction {
+                    private: *private,
+                    listed,
+                    name,
+                    params,
+                    result,
+                    body,
+                    span: *span,
+                })
             }
         }
     }

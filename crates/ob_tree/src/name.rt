@@ -9,6 +9,7 @@
 //! ```
 ghost use Rattle.std.specs.Prelude.{◌≡◌, IfOk};
 
+use crate::copies::both;
 use ob_base::{Boxed, Duplicate, Items, Memory, Mode, Span, Text, copy_items};
 use std::alloc::Global;
 
@@ -98,10 +99,8 @@ impl Duplicate for NamedNode {
 impl Duplicate for RefNode {
     #[cycle(copy_named)]
     fn copy(&self, alloc: Global) -> Result<RefNode, Memory> {
-        Ok(RefNode {
-            of: self.of.copy(alloc)?,
-            perm: self.perm.copy(alloc)?,
-        })
+        let (of, perm) = both(self.of.copy(alloc), self.perm.copy(alloc))?;
+        Ok(RefNode { of, perm })
     }
 }
 

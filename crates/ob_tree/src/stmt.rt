@@ -1,6 +1,7 @@
 //! Statements as they are written (the Obsidian language documentation, "Statements").
 ghost use Rattle.std.specs.Prelude.{◌≡◌, IfOk};
 
+use crate::copies::both;
 use crate::expr::Expr;
 use crate::name::{NamePart, NamedNode, PermNode, Subject};
 use ob_base::{Duplicate, Items, Memory, Span, copy_items, copy_option};
@@ -24,10 +25,8 @@ pub struct GivenNode {
 
 impl Duplicate for GivenNode {
     fn copy(&self, alloc: Global) -> Result<GivenNode, Memory> {
-        Ok(GivenNode {
-            field: self.field.copy(alloc)?,
-            value: self.value.copy(alloc)?,
-        })
+        let (field, value) = both(self.field.copy(alloc), self.value.copy(alloc))?;
+        Ok(GivenNode { field, value })
     }
 }
 
@@ -134,10 +133,11 @@ fn copy_declare(
 ) -> Result<Stmt, Memory>
     ensures { IfOk result (λ copy. copy ≡ Stmt.Declare of.now name.now value.now span) }
 {
+    let ((of, name), value) = both(both(of.copy(alloc), name.copy(alloc)), value.copy(alloc))?;
     Ok(Stmt::Declare {
-        of: of.copy(alloc)?,
-        name: name.copy(alloc)?,
-        value: value.copy(alloc)?,
+        of,
+        name,
+        value,
         span,
     })
 }
@@ -145,11 +145,8 @@ fn copy_declare(
 fn copy_assign(alloc: Global, name: &NamePart, value: &Expr, span: Span) -> Result<Stmt, Memory>
     ensures { IfOk result (λ copy. copy ≡ Stmt.Assign name.now value.now span) }
 {
-    Ok(Stmt::Assign {
-        name: name.copy(alloc)?,
-        value: value.copy(alloc)?,
-        span,
-    })
+    let (name, value) = both(name.copy(alloc), value.copy(alloc))?;
+    Ok(Stmt::Assign { name, value, span })
 }
 
 fn copy_stage(
@@ -161,10 +158,14 @@ fn copy_stage(
 ) -> Result<Stmt, Memory>
     ensures { IfOk result (λ copy. copy ≡ Stmt.Stage state.now field.now value.now span) }
 {
+    let ((state, field), value) = both(
+        both(state.copy(alloc), field.copy(alloc)),
+        value.copy(alloc),
+    )?;
     Ok(Stmt::Stage {
-        state: state.copy(alloc)?,
-        field: field.copy(alloc)?,
-        value: value.copy(alloc)?,
+        state,
+        field,
+        value,
         span,
     })
 }
@@ -177,11 +178,8 @@ fn copy_change(
 ) -> Result<Stmt, Memory>
     ensures { IfOk result (λ copy. copy ≡ Stmt.Change state.now given.now span) }
 {
-    Ok(Stmt::Change {
-        state: state.copy(alloc)?,
-        given: copy_items(alloc, given)?,
-        span,
-    })
+    let (state, given) = both(state.copy(alloc), copy_items(alloc, given))?;
+    Ok(Stmt::Change { state, given, span })
 }
 
 fn copy_call(alloc: Global, value: &Expr, span: Span) -> Result<Stmt, Memory>
@@ -189,44 +187,6 @@ fn copy_call(alloc: Global, value: &Expr, span: Span) -> Result<Stmt, Memory>
 {
     Ok(Stmt::Call {
         value: value.copy(alloc)?,
-        span,
-    })
-}
-
-// Only the parts before the blocks are copied.
-fn copy_test(
-    alloc: Global,
-    subject: &Subject,
-    state: &NamePart,
-    then: Block,
-    otherwise: Option<Block>,
-    span: Span,
-) -> Result<Stmt, Memory>
-    ensures { IfOk result (λ copy. copy ≡ Stmt.Test subject.now state.now then otherwise span) }
-{
-    Ok(Stmt::Test {
-        subject: subject.copy(alloc)?,
-        state: state.copy(alloc)?,
-        then,
-        otherwise,
-        span,
-    })
-}
-
-// Only the condition is copied.
-fn copy_if(
-    alloc: Global,
-    condition: &Expr,
-    then: Block,
-    otherwise: Option<Block>,
-    span: Span,
-) -> Result<Stmt, Memory>
-    ensures { IfOk result (λ copy. copy ≡ Stmt.If condition.now then otherwise span) }
-{
-    Ok(Stmt::If {
-        condition: condition.copy(alloc)?,
-        then,
-        otherwise,
         span,
     })
 }
@@ -266,9 +226,10 @@ fn copy_assert(
 ) -> Result<Stmt, Memory>
     ensures { IfOk result (λ copy. copy ≡ Stmt.Assert subject.now perm.now span) }
 {
+    let (subject, perm) = both(subject.copy(alloc), perm.copy(alloc))?;
     Ok(Stmt::Assert {
-        subject: subject.copy(alloc)?,
-        perm: perm.copy(alloc)?,
+        subject,
+        perm,
         span,
     })
 }
@@ -330,9 +291,17 @@ impl Duplicate for Stmt {
                 otherwise,
                 span,
             } => {
-                let then = then.copy(alloc)?;
-                let otherwise = copy_otherwise(otherwise, alloc)?;
-                copy_test(alloc, subject, state, then, otherwise, *span)
+                let ((subject, state), (then, otherwise)) = both(
+                    both(subject.copy(alloc), state.copy(alloc)),
+                    both(then.copy(alloc), copy_otherwise(otherwise, alloc)),
+                )?;
+                Ok(Stmt::Test {
+                    subject,
+                    state,
+                    then,
+                    otherwise,
+                    span: *span,
+                })
             }
             Stmt::If {
                 condition,
@@ -340,9 +309,16 @@ impl Duplicate for Stmt {
                 otherwise,
                 span,
             } => {
-                let then = then.copy(alloc)?;
-                let otherwise = copy_otherwise(otherwise, alloc)?;
-                copy_if(alloc, condition, then, otherwise, *span)
+                let (condition, (then, otherwise)) = both(
+                    condition.copy(alloc),
+                    both(then.copy(alloc), copy_otherwise(otherwise, alloc)),
+                )?;
+                Ok(Stmt::If {
+                    condition,
+                    then,
+                    otherwise,
+                    span: *span,
+                })
             }
             Stmt::Return { value, span } => copy_return(alloc, value, *span),
             Stmt::Revert { text, span } => copy_revert(alloc, text, *span),
