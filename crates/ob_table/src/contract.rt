@@ -3,6 +3,7 @@ ghost use Rattle.std.specs.Prelude.{◌≡◌};
 ghost use Rattle.std.specs.Option.{option_copied};
 ghost use Rattle.ob_table.specs.Tables.{field_at, signature_at};
 
+use crate::copies::both;
 use ob_base::{ContractId, Duplicate, FieldId, Items, Memory, Name, Perm, Text, TxId, copy_items};
 use std::alloc::Global;
 
@@ -81,14 +82,16 @@ pub struct Signature {
 
 impl Duplicate for Signature {
     fn copy(&self, alloc: Global) -> Result<Signature, Memory> {
+        let listed = Items::from_slice(alloc, self.listed.as_slice())?;
+        let (name, params) = both(self.name.copy(alloc), copy_items(alloc, &self.params))?;
         Ok(Signature {
-            name: self.name.copy(alloc)?,
+            name,
             private: self.private,
             entry: self.entry,
             exit: self.exit,
-            params: copy_items(alloc, &self.params)?,
+            params,
             result: self.result,
-            listed: Items::from_slice(alloc, self.listed.as_slice())?,
+            listed,
         })
     }
 }
@@ -132,16 +135,23 @@ impl Contract {
 
 impl Duplicate for Contract {
     fn copy(&self, alloc: Global) -> Result<Contract, Memory> {
+        let ((name, states), (fields, transactions)) = both(
+            both(self.name.copy(alloc), copy_items(alloc, &self.states)),
+            both(
+                copy_items(alloc, &self.fields),
+                copy_items(alloc, &self.transactions),
+            ),
+        )?;
         Ok(Contract {
-            name: self.name.copy(alloc)?,
+            name,
             asset: self.asset,
             main: self.main,
             interface: self.interface,
             implements: self.implements,
-            states: copy_items(alloc, &self.states)?,
-            fields: copy_items(alloc, &self.fields)?,
+            states,
+            fields,
             constructor: self.constructor,
-            transactions: copy_items(alloc, &self.transactions)?,
+            transactions,
         })
     }
 }

@@ -1,6 +1,7 @@
 //! Expressions with numbers in place of names (the Obsidian language documentation, "Expressions").
 ghost use Rattle.std.specs.Prelude.{◌≡◌, IfOk};
 
+use crate::copies::both;
 use crate::seen::SeenAt;
 use ob_base::{Boxed, ContractId, Duplicate, Items, Memory, Operator, Span, Text, TxId};
 use std::alloc::Global;
@@ -135,13 +136,16 @@ impl Duplicate for ResolvedExpr {
                 left,
                 right,
                 span,
-            } => Ok(ResolvedExpr::Binary {
-                operator: *operator,
-                sign: *sign,
-                left: copy_boxed(left, alloc)?,
-                right: copy_boxed(right, alloc)?,
-                span: *span,
-            }),
+            } => {
+                let (left, right) = both(copy_boxed(left, alloc), copy_boxed(right, alloc))?;
+                Ok(ResolvedExpr::Binary {
+                    operator: *operator,
+                    sign: *sign,
+                    left,
+                    right,
+                    span: *span,
+                })
+            }
             ResolvedExpr::Call { call, span } => Ok(ResolvedExpr::Call {
                 call: call.copy(alloc)?,
                 span: *span,

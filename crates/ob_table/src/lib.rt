@@ -4,6 +4,7 @@
 
 mod body;
 mod contract;
+mod copies;
 mod expr;
 mod seen;
 mod stmt;

@@ -1,6 +1,7 @@
 //! Statements with numbers in place of names (the Obsidian language documentation, "Statements").
 ghost use Rattle.std.specs.Prelude.{◌≡◌, IfOk};
 
+use crate::copies::both;
 use crate::expr::ResolvedExpr;
 use crate::seen::{LocalKind, SeenAt};
 use ob_base::{Duplicate, FieldId, Items, Memory, Perm, Span, StateId, copy_items, copy_option};
@@ -193,24 +194,33 @@ impl Duplicate for ResolvedStmt {
                 then,
                 otherwise,
                 span,
-            } => Ok(ResolvedStmt::Test {
-                subject: *subject,
-                state: *state,
-                then: then.copy(alloc)?,
-                otherwise: copy_otherwise(otherwise, alloc)?,
-                span: *span,
-            }),
+            } => {
+                let (then, otherwise) = both(then.copy(alloc), copy_otherwise(otherwise, alloc))?;
+                Ok(ResolvedStmt::Test {
+                    subject: *subject,
+                    state: *state,
+                    then,
+                    otherwise,
+                    span: *span,
+                })
+            }
             ResolvedStmt::If {
                 condition,
                 then,
                 otherwise,
                 span,
-            } => Ok(ResolvedStmt::If {
-                condition: condition.copy(alloc)?,
-                then: then.copy(alloc)?,
-                otherwise: copy_otherwise(otherwise, alloc)?,
-                span: *span,
-            }),
+            } => {
+                let (condition, (then, otherwise)) = both(
+                    condition.copy(alloc),
+                    both(then.copy(alloc), copy_otherwise(otherwise, alloc)),
+                )?;
+                Ok(ResolvedStmt::If {
+                    condition,
+                    then,
+                    otherwise,
+                    span: *span,
+                })
+            }
             ResolvedStmt::Return { value, span } => Ok(ResolvedStmt::Return {
                 value: copy_option(alloc, value)?,
                 span: *span,

@@ -9,6 +9,7 @@ ghost use Rattle.ob_table.specs.Tables.{contract_at, contract_named};
 
 use crate::body::Body;
 use crate::contract::Contract;
+use crate::copies::both;
 use indexmap::IndexMap;
 use ob_base::{ContractId, Duplicate, Items, Memory, copy_items};
 use std::alloc::Global;
@@ -142,8 +143,10 @@ impl Table {
 
 impl Duplicate for Table {
     fn copy(&self, alloc: Global) -> Result<Table, Memory> {
-        let contracts = copy_items(alloc, &self.contracts)?;
-        let bodies = copy_items(alloc, &self.bodies)?;
+        let (contracts, bodies) = both(
+            copy_items(alloc, &self.contracts),
+            copy_items(alloc, &self.bodies),
+        )?;
         Table::new(alloc, contracts, bodies)
     }
 }
