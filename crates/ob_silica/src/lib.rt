@@ -3,6 +3,7 @@
 #![tactic(auto)]
 
 mod body;
+mod copies;
 mod place;
 mod term;
 

@@ -2,6 +2,7 @@
 //! own).
 ghost use Rattle.std.specs.Prelude.{◌≡◌, IfOk};
 
+use crate::copies::both;
 use crate::place::{Constant, Given, Operand, Place};
 use ob_base::{ContractId, Duplicate, Items, Memory, Operator, Perm, Span, StateId, TxId};
 use std::alloc::Global;
@@ -207,24 +208,36 @@ impl Duplicate for Form {
                 then,
                 otherwise,
                 join,
-            } => Ok(Form::Test {
-                place: *place,
-                state: *state,
-                then: copy_terms(then.as_slice(), alloc)?,
-                otherwise: copy_terms(otherwise.as_slice(), alloc)?,
-                join: *join,
-            }),
+            } => {
+                let (then, otherwise) = both(
+                    copy_terms(then.as_slice(), alloc),
+                    copy_terms(otherwise.as_slice(), alloc),
+                )?;
+                Ok(Form::Test {
+                    place: *place,
+                    state: *state,
+                    then,
+                    otherwise,
+                    join: *join,
+                })
+            }
             Form::If {
                 a,
                 then,
                 otherwise,
                 join,
-            } => Ok(Form::If {
-                a: *a,
-                then: copy_terms(then.as_slice(), alloc)?,
-                otherwise: copy_terms(otherwise.as_slice(), alloc)?,
-                join: *join,
-            }),
+            } => {
+                let (then, otherwise) = both(
+                    copy_terms(then.as_slice(), alloc),
+                    copy_terms(otherwise.as_slice(), alloc),
+                )?;
+                Ok(Form::If {
+                    a: *a,
+                    then,
+                    otherwise,
+                    join: *join,
+                })
+            }
             Form::Assert { place, perm } => Ok(Form::Assert {
                 place: *place,
                 perm: *perm,
