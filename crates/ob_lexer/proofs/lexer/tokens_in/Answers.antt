@@ -1,6 +1,12 @@
+use Rattle.std.proofs.Common.{sym}
+use Rattle.std.proofs.lemmas.Bool.{eqb-true}
+use Rattle.std.proofs.lemmas.List.{nil_from_length}
 use Rattle.std.proofs.lemmas.Result.{err_from_is_err_and}
-use Rattle.ob_lexer.proofs.Progress.{utf8_so_far, steps, handed_on}
+use Rattle.ob_lexer.proofs.Progress.{starts, utf8_so_far, steps, ends, handed_on}
 use Rattle.ob_lexer.proofs.lexer.tokens_in.Goals as goal
+
+pub pieces-init : goal.pieces-init
+pieces-init c = rw c.new-tokens.ensures (starts c.args.text.now)
 
 pub take_up-requires-clause-utf8 : goal.take_up-requires-clause-utf8
 take_up-requires-clause-utf8 c = utf8_so_far _ _ _ _ c.requires.utf8 c.pieces.invariant
@@ -13,3 +19,8 @@ pub returns-in_err-count-clause-fault : goal.returns-in_err-count-clause-fault
 returns-in_err-count-clause-fault c =
     let failed = err_from_is_err_and c.from_residual.result c.from_residual.ensures.1 in
     rw (failed.1, failed.2) (handed_on _ _ _ _ c.in_err-count.field-0.0 c.requires.short c.requires.utf8 c.pieces.invariant c.in_err-count.ensures.err)
+
+pub returns-clause-tokens : goal.returns-clause-tokens
+returns-clause-tokens c =
+    let none = nil_from_length c.pieces.rest.now (eqb-true _ 0 (sym c.pieces-test.ensures)) in
+    ends _ _ _ _ c.requires.short c.requires.utf8 c.pieces.invariant none c.span-end.ensures
