@@ -80,28 +80,29 @@ fn outcome_value(alloc: Global, outcome: Outcome) -> Result<Value, AllocError>
     }
 }
 
-fn abort_value(alloc: Global, id: Value, cause: Cause) -> Result<Value, AllocError>
-    ensures { IfOk result (λ value. view value ≡ abort_json (view id) cause) }
+fn abort_value(alloc: Global, id: Option<i64>, cause: Cause) -> Result<Value, AllocError>
+    ensures { IfOk result (λ value. view value ≡ abort_json (id_json id) cause) }
 {
     match cause {
-        Cause::Overflow(line) => json!(in alloc; {"abort": "overflow", "id": id, "line": line}),
-        Cause::Fuel => json!(in alloc; {"abort": "fuel", "id": id}),
+        Cause::Overflow(line) => {
+            json!(in alloc; {"abort": "overflow", "id": id_value(id), "line": line})
+        }
+        Cause::Fuel => json!(in alloc; {"abort": "fuel", "id": id_value(id)}),
     }
 }
 
 fn reply_value(alloc: Global, reply: Reply) -> Result<Value, AllocError>
     ensures { IfOk result (λ value. view value ≡ reply_json reply) }
 {
-    let id = id_value(reply.id);
     match reply.answer {
         Answer::Ok(outcome) => {
             let value = outcome_value(alloc, outcome)?;
-            json!(in alloc; {"id": id, "ok": value})
+            json!(in alloc; {"id": id_value(reply.id), "ok": value})
         }
-        Answer::Abort(cause) => abort_value(alloc, id, cause),
+        Answer::Abort(cause) => abort_value(alloc, reply.id, cause),
         Answer::Refused(refusal) => {
             let number = refusal.number();
-            json!(in alloc; {"id": id, "refused": number})
+            json!(in alloc; {"id": id_value(reply.id), "refused": number})
         }
     }
 }
