@@ -178,7 +178,7 @@ fn add_field(
 }
 
 // More fields.
-#[tactic(auto, using(crate::proofs::BuildLemmas::turns))]
+#[tactic(auto, using(crate::proofs::BuildLemmas::field_names_turn, crate::proofs::BuildLemmas::field_kinds_turn))]
 fn add_fields(
     fields: &[FieldNode],
     types: &Types<'_>,
@@ -219,7 +219,7 @@ fn add_fields_of_member(
 }
 
 // The fields that members declare, with their kinds.
-#[tactic(auto, using(crate::proofs::BuildLemmas::turns))]
+#[tactic(auto, using(crate::proofs::BuildLemmas::fields_names_turn, crate::proofs::BuildLemmas::fields_kinds_turn))]
 fn fields_of(
     members: &[Member],
     types: &Types<'_>,
@@ -259,20 +259,19 @@ fn add_transaction(
             result,
             ..
         } => {
-            let heading = Heading {
+            names.add(alloc, name.name.as_bytes(), headings.len())?;
+            Ok(headings.push(Heading {
                 private: *private,
                 params: param_kinds(params.as_slice(), types, alloc)?,
                 result: types.kind_of_result(result),
-            };
-            names.add(alloc, name.name.as_bytes(), headings.len())?;
-            Ok(headings.push(heading)?)
+            })?)
         }
         _ => Ok(()),
     }
 }
 
 // The transactions among members.
-#[tactic(auto, using(crate::proofs::BuildLemmas::turns))]
+#[tactic(auto, using(crate::proofs::BuildLemmas::transactions_names_turn, crate::proofs::BuildLemmas::headings_turn))]
 fn transactions_of(
     members: &[Member],
     types: &Types<'_>,
@@ -303,7 +302,7 @@ fn add_place(member: &Member, place: usize, places: &mut Items<usize>) -> Result
 }
 
 // The places of the members that are transactions.
-#[tactic(auto, using(crate::proofs::BuildLemmas::turns))]
+#[tactic(auto, using(crate::proofs::BuildLemmas::places_turn))]
 fn places_of(members: &[Member], alloc: Global) -> Result<Items<usize>, Memory>
     ensures { IfOk result (λ places. places ≡ places_from 0 (map member_of members.now)) }
 {
@@ -333,7 +332,7 @@ fn constructor_params<'a>(member: &'a Member, name: &[u8]) -> Option<&'a Items<F
 }
 
 // The parameters of the first constructor among the members of the contract of this name.
-#[tactic(auto, using(crate::proofs::BuildLemmas::turns))]
+#[tactic(auto, using(crate::proofs::BuildLemmas::constructors_turn))]
 fn first_constructor<'a>(members: &'a [Member], name: &[u8]) -> Option<&'a Items<FormalNode>>
     ensures { option_map (map formal_of) (option_copied result)
         ≡ params_of_first name.now (flat_map constructors_of_member (map member_of members.now)) }
@@ -366,20 +365,29 @@ fn constructor_kinds(
 fn members_of(node: &ContractNode, types: &Types<'_>, alloc: Global) -> Result<Members, Memory>
     ensures { IfOk result (λ members. members ≡ members_of (program_of types.now) (contract_of node.now)) }
 {
-    let (fields, kinds) = fields_of(node.members.as_slice(), types, alloc)?;
-    let (transactions, headings) = transactions_of(node.members.as_slice(), types, alloc)?;
-    Ok(Members {
-        fields,
-        kinds,
-        transactions,
-        headings,
-        places: places_of(node.members.as_slice(), alloc)?,
-        constructor: constructor_kinds(node, types, alloc)?,
-    })
+    let members = node.members.as_slice();
+    match (
+        fields_of(members, types, alloc),
+        transactions_of(members, types, alloc),
+        places_of(members, alloc),
+        constructor_kinds(node, types, alloc),
+    ) {
+        (Ok((fields, kinds)), Ok((transactions, headings)), Ok(places), Ok(constructor)) => {
+            Ok(Members {
+                fields,
+                kinds,
+                transactions,
+                headings,
+                places,
+                constructor,
+            })
+        }
+        _ => Err(Memory),
+    }
 }
 
 // What each contract declares.
-#[tactic(auto, using(crate::proofs::BuildLemmas::turns))]
+#[tactic(auto, using(crate::proofs::BuildLemmas::all_members_turn))]
 fn all_members(
     nodes: &[ContractNode],
     types: &Types<'_>,

@@ -1,5 +1,6 @@
 //! The variables of a body.
-ghost use Rattle.std.specs.Prelude.{◌≡◌, ◌-◌, [], ◌∷◌, ◌++◌, map, take, length, IfOk, OnOk};
+ghost use Rattle.std.specs.Prelude.{◌≡◌, ◌+◌, ◌-◌, [], ◌∷◌, ◌++◌, map, take, length, IfOk, OnOk};
+ghost use Rattle.ob_typing.specs.declared.variable.Variable.{Variable};
 ghost use Rattle.std.specs.Option.{option_copied};
 ghost use Rattle.ob_tree.specs.MembersView.{formal_of};
 ghost use Rattle.ob_typing.specs.Scopes.{variable_named, with_local, scope_of_params};
@@ -122,16 +123,18 @@ impl Scope {
         self.variables.len()
     }
 
-    /// One more local.
-    pub fn add_local(&mut self, alloc: Global, name: &Text, kind: Kind) -> Result<(), Memory>
-        ensures { OnOk result (self.new ≡ with_local self.old name.now kind) }
+    // One more variable of this name and kind, with the next number.
+    fn add(&mut self, alloc: Global, name: &Text, kind: Kind, is_param: bool) -> Result<(), Memory>
+        ensures { let number = self.old.count + 1 in
+            let variable : Variable = record { name = name.now; of = kind; number = number; is_param = is_param } in
+            OnOk result (self.new ≡ record { variables = self.old.variables ++ variable ∷ []; count = number }) }
     {
         let number = self.count.checked_add(1).ok_or(Memory)?;
         let variable = Variable {
             name: name.copy(alloc)?,
             of: kind,
             number,
-            is_param: false,
+            is_param,
         };
         add_variable(
             alloc,
@@ -142,6 +145,13 @@ impl Scope {
         )?;
         self.count = number;
         Ok(())
+    }
+
+    /// One more local.
+    pub fn add_local(&mut self, alloc: Global, name: &Text, kind: Kind) -> Result<(), Memory>
+        ensures { OnOk result (self.new ≡ with_local self.old name.now kind) }
+    {
+        self.add(alloc, name, kind, false)
     }
 
     /// Keeps the first variables alone, as at the end of a block: the numbers go on.
@@ -162,25 +172,13 @@ impl Scope {
     ) -> Result<(), Memory>
         ensures { OnOk result (self.new ≡ with_param (program_of types.now) self.old (formal_of param.now)) }
     {
-        let Subject::Name(name) = &param.name else {
-            return Ok(());
-        };
-        let number = self.count.checked_add(1).ok_or(Memory)?;
-        let variable = Variable {
-            name: name.name.copy(alloc)?,
-            of: types.kind_of_type(&param.of),
-            number,
-            is_param: true,
-        };
-        add_variable(
-            alloc,
-            &mut self.names,
-            &mut self.variables,
-            name.name.as_bytes(),
-            variable,
-        )?;
-        self.count = number;
-        Ok(())
+        match &param.name {
+            Subject::This(_) => Ok(()),
+            Subject::Name(name) => {
+                let kind = types.kind_of_type(&param.of);
+                self.add(alloc, &name.name, kind, true)
+            }
+        }
     }
 }
 

@@ -306,7 +306,7 @@ impl<'a> Types<'a> {
 }
 
 // The names of contracts.
-#[tactic(auto, using(crate::proofs::BuildLemmas::turns))]
+#[tactic(auto, using(crate::proofs::BuildLemmas::contracts_turn))]
 fn contract_names(nodes: &[ContractNode], alloc: Global) -> Result<Names, Memory>
     ensures { IfOk result (λ names. names ≡ numbered (map (λ c. c.name) (program_of nodes.now))) }
 {
@@ -334,7 +334,7 @@ fn add_state(member: &Member, alloc: Global, states: &mut States) -> Result<(), 
 }
 
 // The states that members name.
-#[tactic(auto, using(crate::proofs::BuildLemmas::turns))]
+#[tactic(auto, using(crate::proofs::BuildLemmas::states_turn))]
 fn states_of(members: &[Member], alloc: Global) -> Result<States, Memory>
     ensures { IfOk result (λ states. states ≡ states_named
         (map (λ s. s.name) (flat_map states_of_member (map member_of members.now)))) }
@@ -350,7 +350,7 @@ fn states_of(members: &[Member], alloc: Global) -> Result<States, Memory>
 }
 
 // The states of each contract.
-#[tactic(auto, using(crate::proofs::BuildLemmas::turns))]
+#[tactic(auto, using(crate::proofs::BuildLemmas::all_states_turn))]
 fn all_states(nodes: &[ContractNode], alloc: Global) -> Result<Items<States>, Memory>
     ensures { IfOk result (λ all. all ≡ map (λ c. states_named (state_names c)) (program_of nodes.now)) }
 {
