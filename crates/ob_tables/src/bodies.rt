@@ -1,24 +1,42 @@
 //! The bodies of a contract (the Obsidian language documentation, "Transactions").
 ghost use Rattle.std.specs.Prelude.{◌≡◌, ◌+◌, [], ◌∷◌, ◌++◌, length, map, flat_map, option_map, IfOk, OnOk};
+ghost use Rattle.std.specs.Option.{option_map_or};
 ghost use Rattle.ob_tree.specs.NamesView.{type_of};
 ghost use Rattle.ob_tree.specs.Stmts.{block_with};
 ghost use Rattle.ob_tree.specs.StmtsView.{block_of, stmts_of};
 ghost use Rattle.ob_tree.specs.MembersView.{formal_of, member_of, contract_of};
-ghost use Rattle.ob_table.specs.StatementsView.{resolved_body_of};
+ghost use Rattle.ob_table.specs.StatementsView.{resolved_body_of, statements_of};
 ghost use Rattle.ob_typing.specs.Declarations.{Transaction, transactions_of_member, constructor_of};
 ghost use Rattle.ob_typing.specs.Kinds.{kind_of_result};
+ghost use Rattle.ob_typing.specs.Scopes.{scope_of_params};
+ghost use Rattle.ob_typing.specs.Bodies.{resolved_stmts};
 ghost use Rattle.ob_typing.specs.TableOf.{body_with, constructor_body, transaction_bodies, bodies_of};
 ghost use Rattle.ob_scope.specs.Types.{program_of};
+ghost use Rattle.ob_scope.specs.Around.{around_of};
 ghost use Rattle.ob_tables.specs.Parts.{bodies_from};
 
 use crate::constructors::written_constructor;
 use ob_base::{Items, Memory, Span, TxId};
 use ob_bodies::{contract_id, resolve_stmts, wide};
 use ob_scope::{Around, scope_of_params};
-use ob_table::Body;
-use ob_tree::{FormalNode, Member, Stmt};
+use ob_table::{Body, ResolvedStmt};
+use ob_tree::{Block, FormalNode, Member, Stmt, TypeNode};
 use ob_typing::Kind;
 use std::alloc::Global;
+
+// The statements of a body of the contract around, with these parameters.
+fn statements_with(
+    around: &Around<'_>,
+    params: &[FormalNode],
+    statements: &[Stmt],
+    alloc: Global,
+) -> Result<Items<ResolvedStmt>, Memory>
+    ensures { IfOk result (λ xs. statements_of xs ≡ resolved_stmts (around_of around.now)
+        (scope_of_params (program_of around.now.program) (map formal_of params.now)) (stmts_of statements.now)) }
+{
+    let mut scope = scope_of_params(alloc, around.declared().types(), params)?;
+    resolve_stmts(statements, around, &mut scope, alloc)
+}
 
 // The body at this number of the contract around, with these parameters.
 #[tactic(auto, using(ob_tree::specs::MembersView::views))]
@@ -34,13 +52,16 @@ fn body_with(
         (contract_of around.now.own) tx around.now.result (map formal_of params.now)
         (block_with (stmts_of statements.now) end)) }
 {
-    let types = around.declared().types();
-    let contract = contract_id(types.find(around.node().name.as_bytes()))?;
-    let mut scope = scope_of_params(alloc, types, params)?;
-    let statements = resolve_stmts(statements, around, &mut scope, alloc)?;
+    let number = around
+        .declared()
+        .types()
+        .find(around.node().name.as_bytes());
+    let contract = contract_id(number)?;
+    let tx = TxId(wide(tx)?);
+    let statements = statements_with(around, params, statements, alloc)?;
     Ok(Body {
         contract,
-        tx: TxId(wide(tx)?),
+        tx,
         statements,
         end,
     })
@@ -69,8 +90,56 @@ fn constructor_body(around: &Around<'_>, alloc: Global) -> Result<Body, Memory>
     }
 }
 
-// The body of the transaction that a member is, if it is one, at this number; the number behind it.
+// The body of a transaction at this number.
 #[tactic(auto, using(ob_tree::specs::MembersView::views))]
+fn transaction_body(
+    around: &Around<'_>,
+    tx: usize,
+    params: &[FormalNode],
+    gives: &Option<TypeNode>,
+    body: &Block,
+    alloc: Global,
+) -> Result<Body, Memory>
+    ensures { IfOk result (λ b. resolved_body_of b ≡ body_with (program_of around.now.program)
+        (contract_of around.now.own) tx (kind_of_result (program_of around.now.program) (option_map type_of gives.now))
+        (map formal_of params.now) (block_of body.now)) }
+{
+    let gives = around.declared().types().kind_of_result(gives);
+    let statements = body.statements.as_slice();
+    body_with(
+        &around.giving(gives),
+        tx,
+        params,
+        statements,
+        body.end,
+        alloc,
+    )
+}
+
+// The body of a transaction at this number, where it has one.
+fn add_transaction_body(
+    around: &Around<'_>,
+    tx: usize,
+    params: &[FormalNode],
+    gives: &Option<TypeNode>,
+    body: &Option<Block>,
+    bodies: &mut Items<Body>,
+    alloc: Global,
+) -> Result<(), Memory>
+    ensures { let program = program_of around.now.program in
+        let kind = kind_of_result program (option_map type_of gives.now) in
+        OnOk result (map resolved_body_of bodies.new ≡ map resolved_body_of bodies.old
+        ++ option_map_or (λ b. body_with program (contract_of around.now.own) tx kind (map formal_of params.now) b
+        ∷ []) (option_map block_of body.now) []) }
+{
+    match body {
+        None => Ok(()),
+        Some(body) => Ok(bodies.push(transaction_body(around, tx, params, gives, body, alloc)?)?),
+    }
+}
+
+// The body of the transaction that a member is, if it is one, at this number; the number behind it.
+#[tactic(auto, using(crate::proofs::TableLemmas::turns))]
 fn add_body(
     around: &Around<'_>,
     member: &Member,
@@ -90,19 +159,7 @@ fn add_body(
             body,
             ..
         } => {
-            if let Some(body) = body {
-                let gives = around.declared().types().kind_of_result(result);
-                let statements = body.statements.as_slice();
-                let around = around.giving(gives);
-                bodies.push(body_with(
-                    &around,
-                    tx,
-                    params.as_slice(),
-                    statements,
-                    body.end,
-                    alloc,
-                )?)?;
-            }
+            add_transaction_body(around, tx, params.as_slice(), result, body, bodies, alloc)?;
             tx.checked_add(1).ok_or(Memory)
         }
         _ => Ok(tx),

@@ -46,7 +46,7 @@ fn written_as<'a>(member: &'a Member, name: &[u8]) -> Option<Written<'a>>
 }
 
 // The first constructor among the members of the contract of this name.
-#[tactic(auto, using(crate::proofs::TableLemmas::turns))]
+#[tactic(auto, using(crate::proofs::TableLemmas::constructors_turn))]
 fn first_constructor<'a>(members: &'a [Member], name: &[u8]) -> Option<Written<'a>>
     ensures { option_map constructor_written result ≡ first_constructor name.now
         (flat_map constructors_of_member (map member_of members.now)) }

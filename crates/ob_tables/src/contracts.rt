@@ -29,16 +29,26 @@ pub fn table_contract(around: &Around<'_>, alloc: Global) -> Result<Contract, Me
     ensures { IfOk result (λ c. c ≡ contract_in_table (program_of around.now.program) (contract_of around.now.own)) }
 {
     let node = around.node();
+    let members = node.members.as_slice();
     let constructor = if node.interface { None } else { Some(TxId(0)) };
-    Ok(Contract {
-        name: node.name.copy(alloc)?,
-        asset: node.asset,
-        main: node.main,
-        interface: node.interface,
-        implements: implemented(around)?,
-        states: state_names(node.members.as_slice(), alloc)?,
-        fields: table_fields(around, node.members.as_slice(), alloc)?,
-        constructor,
-        transactions: signatures_of(around, alloc)?,
-    })
+    let implements = implemented(around)?;
+    match (
+        node.name.copy(alloc),
+        state_names(members, alloc),
+        table_fields(around, members, alloc),
+        signatures_of(around, alloc),
+    ) {
+        (Ok(name), Ok(states), Ok(fields), Ok(transactions)) => Ok(Contract {
+            name,
+            asset: node.asset,
+            main: node.main,
+            interface: node.interface,
+            implements,
+            states,
+            fields,
+            constructor,
+            transactions,
+        }),
+        _ => Err(Memory),
+    }
 }

@@ -55,15 +55,16 @@ fn table_field(
       available = available;
     }) }
 {
+    let of = table_kind(types, &field.of)?;
     Ok(Field {
         name: table_name(&field.name.name, alloc)?,
-        of: table_kind(types, &field.of)?,
+        of,
         available,
     })
 }
 
 // The fields inside a state.
-#[tactic(auto, using(crate::proofs::TableLemmas::turns))]
+#[tactic(auto, using(crate::proofs::TableLemmas::inside_turn))]
 fn add_inside(
     around: &Around<'_>,
     state: &NamePart,
@@ -111,7 +112,7 @@ fn add_fields(
 }
 
 /// The fields of the contract around, among these members.
-#[tactic(auto, using(crate::proofs::TableLemmas::turns))]
+#[tactic(auto, using(crate::proofs::TableLemmas::fields_turn))]
 pub fn table_fields(
     around: &Around<'_>,
     members: &[Member],

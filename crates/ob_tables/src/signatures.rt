@@ -23,6 +23,28 @@ use ob_table::{Listed, Param, Signature};
 use ob_tree::{FormalNode, ListedNode, Member, PermNode, Subject, TypeNode};
 use std::alloc::Global;
 
+// A parameter of this name.
+fn table_param(
+    types: &Types<'_>,
+    name: &Text,
+    param: &FormalNode,
+    alloc: Global,
+) -> Result<Param, Memory>
+    ensures { IfOk result (λ p. p ≡ record {
+      name = name.now;
+      of = table_kind (program_of types.now) (type_of param.now.of);
+      exit = exit_of_type (program_of types.now) (type_of param.now.of) param.now.exit;
+    }) }
+{
+    let of = table_kind(types, &param.of)?;
+    let exit = exit_of_type(types, &param.of, &param.exit)?;
+    Ok(Param {
+        name: table_name(name, alloc)?,
+        of,
+        exit,
+    })
+}
+
 /// The parameters beside `this`.
 #[tactic(auto, using(crate::proofs::TableLemmas::turns))]
 pub fn table_params(
@@ -36,11 +58,7 @@ pub fn table_params(
     let mut made = Items::new(alloc);
     for param in params {
         if let Subject::Name(name) = &param.name {
-            made.push(Param {
-                name: table_name(&name.name, alloc)?,
-                of: table_kind(types, &param.of)?,
-                exit: exit_of_type(types, &param.of, &param.exit)?,
-            })?;
+            made.push(table_param(types, &name.name, param, alloc)?)?;
         }
     }
     Ok(made)
@@ -61,7 +79,7 @@ fn table_listed(around: &Around<'_>, listed: &ListedNode) -> Result<Listed, Memo
 }
 
 // The fields that a transaction lists.
-#[tactic(auto, using(crate::proofs::TableLemmas::turns))]
+#[tactic(auto, using(crate::proofs::TableLemmas::listed_turn))]
 fn all_listed(
     around: &Around<'_>,
     listed: &[ListedNode],
@@ -129,22 +147,30 @@ fn add_transaction(
         } => {
             let types = around.declared().types();
             let (entry, exit) = perms_of_this(around, params.as_slice())?;
-            Ok(signatures.push(Signature {
-                name: name.name.copy(alloc)?,
-                private: *private,
-                entry,
-                exit,
-                params: table_params(types, params.as_slice(), alloc)?,
-                result: table_kind_if(types, result)?,
-                listed: all_listed(around, listed.as_slice(), alloc)?,
-            })?)
+            let result = table_kind_if(types, result)?;
+            match (
+                name.name.copy(alloc),
+                table_params(types, params.as_slice(), alloc),
+                all_listed(around, listed.as_slice(), alloc),
+            ) {
+                (Ok(name), Ok(params), Ok(listed)) => Ok(signatures.push(Signature {
+                    name,
+                    private: *private,
+                    entry,
+                    exit,
+                    params,
+                    result,
+                    listed,
+                })?),
+                _ => Err(Memory),
+            }
         }
         _ => Ok(()),
     }
 }
 
 // The transactions among these members.
-#[tactic(auto, using(crate::proofs::TableLemmas::turns))]
+#[tactic(auto, using(crate::proofs::TableLemmas::transactions_turn))]
 fn add_transactions(
     around: &Around<'_>,
     members: &[Member],
@@ -188,12 +214,14 @@ fn constructor_with(
       listed = [];
     }) }
 {
+    let exit = own_perm_on(around, perm)?;
+    let params = table_params(around.declared().types(), params, alloc)?;
     Ok(Signature {
         name: no_name(alloc)?,
         private: false,
         entry: UNOWNED,
-        exit: own_perm_on(around, perm)?,
-        params: table_params(around.declared().types(), params, alloc)?,
+        exit,
+        params,
         result: None,
         listed: Items::new(alloc),
     })
