@@ -2,3 +2,4 @@ pub mod NumbersLemmas
 pub mod StatesLemmas
 pub mod ResolvedLemmas
 pub mod ScopeLemmas
+pub mod BranchLemmas

@@ -3,8 +3,9 @@ use Rattle.std.proofs.Common.{◌≡◌, ℕ, List, [], ◌++◌, take, length, 
 use Rattle.std.proofs.lemmas.List.{append-nil}
 use Rattle.std.proofs.Math.Seq.{take-append_seam}
 use Rattle.ob_tree.specs.Stmts.{Stmt, declare_stmt, assign_stmt, stage_stmt, change_stmt, call_stmt, test_stmt, if_stmt, return_stmt, revert_stmt, disown_stmt, assert_stmt, Stmts, no_stmts, and_stmt}
+use Rattle.ob_tree.specs.StmtsView.{stmt_views}
 use Rattle.ob_tree.specs.MembersView.{views}
-use Rattle.ob_table.specs.StatementsView.{resolved_views}
+use Rattle.ob_table.specs.StatementsView.{statement_views, resolved_views}
 use Rattle.ob_typing.specs.declared.variable.Variable.{Variable}
 use Rattle.ob_typing.specs.Scopes.{Around, Scope, locals_in, locals_in_stmts, past, after_stmt}
 use Rattle.ob_bodies.specs.Resolved.{after_stmts}
@@ -73,5 +74,8 @@ left a s xs =
     ap (take (length s.variables)) e.1 ∙ take-append_seam s.variables e.0 in
     ap (λ v. record (after_stmts a s xs) { variables = v }) outer
     ∙ ap (λ n. record s { count = n }) (stmts_count a s xs)
+
+-- one statement
+pub ruleset statement = (stmt_views, statement_views, past-zero, past-past)
 
 pub ruleset statements = (views, resolved_views, past-zero, past-past, left)

@@ -64,7 +64,7 @@ fn seen_receiver(
 
 /// An expression.
 #[cycle(resolve_expr)]
-#[tactic(auto, using(ob_tree::specs::MembersView::views, ob_table::specs::StatementsView::resolved_views))]
+#[tactic(auto, using(ob_tree::specs::ExprsView::expr_views, ob_table::specs::ExpressionsView::expression_views))]
 pub fn resolve_expr(
     expr: &Expr,
     around: &Around<'_>,
@@ -103,11 +103,11 @@ pub fn resolve_expr(
             operand,
             span,
         } => {
-            let operand = resolve_expr(operand.get(), around, scope, alloc)?;
+            let operand = resolve_operand(operand.get(), around, scope, alloc)?;
             Ok(ResolvedExpr::Unary {
                 operator: *operator,
                 sign: *sign,
-                operand: Boxed::new(alloc, operand)?,
+                operand,
                 span: *span,
             })
         }
@@ -118,13 +118,13 @@ pub fn resolve_expr(
             right,
             span,
         } => {
-            let left = resolve_expr(left.get(), around, scope, alloc)?;
-            let right = resolve_expr(right.get(), around, scope, alloc)?;
+            let left = resolve_operand(left.get(), around, scope, alloc)?;
+            let right = resolve_operand(right.get(), around, scope, alloc)?;
             Ok(ResolvedExpr::Binary {
                 operator: *operator,
                 sign: *sign,
-                left: Boxed::new(alloc, left)?,
-                right: Boxed::new(alloc, right)?,
+                left,
+                right,
                 span: *span,
             })
         }
@@ -140,6 +140,20 @@ pub fn resolve_expr(
             })
         }
     }
+}
+
+// An operand, in a place of its own.
+#[cycle(resolve_expr)]
+fn resolve_operand(
+    operand: &Expr,
+    around: &Around<'_>,
+    scope: &Scope,
+    alloc: Global,
+) -> Result<Boxed<ResolvedExpr>, Memory>
+    ensures { IfOk result (λ e. expression_of e ≡ resolved_expr (around_of around.now) scope.now (expr_of operand.now)) }
+{
+    let operand = resolve_expr(operand, around, scope, alloc)?;
+    Ok(Boxed::new(alloc, operand)?)
 }
 
 #[cycle(resolve_expr)]

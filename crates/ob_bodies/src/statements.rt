@@ -1,24 +1,28 @@
 //! Statements with numbers in place of names (the Obsidian language documentation, "Statements").
-ghost use Rattle.std.specs.Prelude.{◌≡◌, ◌+◌, map, option_map, IfOk, OnOk};
+ghost use Rattle.std.specs.Prelude.{◌≡◌, ◌+◌, map, option_map, IfOk, IsOkAnd, OnOk};
 ghost use Rattle.ob_tree.specs.ExprsView.{expr_of};
-ghost use Rattle.ob_tree.specs.Stmts.{declare_stmt};
+ghost use Rattle.ob_tree.specs.Stmts.{declare_stmt, assign_stmt, stage_stmt, change_stmt, call_stmt, return_stmt, revert_stmt, disown_stmt, assert_stmt};
 ghost use Rattle.ob_tree.specs.StmtsView.{local_of, given_of, stmt_of, stmts_of, block_of, else_of};
+ghost use Rattle.ob_table.specs.Statements.{resolved_test, resolved_if};
 ghost use Rattle.ob_table.specs.ExpressionsView.{expression_of};
 ghost use Rattle.ob_table.specs.StatementsView.{given_field_of, statement_of, statements_of, resolved_block_of};
 ghost use Rattle.ob_table.specs.StatementsView.{otherwise_of};
-ghost use Rattle.ob_typing.specs.Scopes.{past, after_stmt, locals_in_block, locals_in_else};
-ghost use Rattle.ob_typing.specs.Bodies.{resolved_local, resolved_expr, resolved_given, resolved_stmt};
+ghost use Rattle.ob_typing.specs.Kinds.{contract_of_kind};
+ghost use Rattle.ob_typing.specs.Numbers.{state_id};
+ghost use Rattle.ob_typing.specs.Scopes.{kind_of_subject, past, after_stmt, locals_in_block, locals_in_else};
+ghost use Rattle.ob_typing.specs.Bodies.{seen_subject, resolved_local, resolved_expr, resolved_given, resolved_stmt};
 ghost use Rattle.ob_typing.specs.Bodies.{resolved_stmts, block_resolved, else_resolved};
+ghost use Rattle.ob_scope.specs.Types.{program_of};
 ghost use Rattle.ob_scope.specs.Around.{around_of};
 ghost use Rattle.ob_bodies.specs.Resolved.{after_stmts};
 
 use crate::expressions::{resolve_expr, seen_at, seen_subject};
 use crate::numbers::{field_id, own_state_id, state_id, wide};
 use crate::permissions::perm_on_kind;
-use ob_base::{ContractId, Items, Memory, Span};
+use ob_base::{ContractId, Items, Memory, Span, StateId};
 use ob_scope::{Around, Scope, kind_of_subject};
-use ob_table::{LocalKind, ResolvedBlock, ResolvedExpr, ResolvedGiven, ResolvedStmt};
-use ob_tree::{Block, Expr, GivenNode, LocalType, NamePart, Stmt};
+use ob_table::{LocalKind, ResolvedBlock, ResolvedExpr, ResolvedGiven, ResolvedStmt, SeenAt};
+use ob_tree::{Block, Expr, GivenNode, LocalType, NamePart, PermNode, Stmt, Subject};
 use ob_typing::Kind;
 use std::alloc::Global;
 
@@ -57,12 +61,34 @@ fn resolve_declare(
 {
     let local = next_local(scope)?;
     let kind = around.declared().types().kind_of_local(of);
+    let of = resolved_local(kind)?;
     let value = resolve_expr(value, around, scope, alloc)?;
     scope.add_local(alloc, &name.name, kind)?;
     Ok(ResolvedStmt::Declare {
         local,
         name: name.span,
-        of: resolved_local(kind)?,
+        of,
+        value,
+        span,
+    })
+}
+
+#[tactic(auto, using(ob_table::specs::StatementsView::resolved_views))]
+fn resolve_assign(
+    name: &NamePart,
+    value: &Expr,
+    span: Span,
+    around: &Around<'_>,
+    scope: &Scope,
+    alloc: Global,
+) -> Result<ResolvedStmt, Memory>
+    ensures { IfOk result (λ x. statement_of x ≡ resolved_stmt (around_of around.now) scope.now
+        (assign_stmt name.now (expr_of value.now) span)) }
+{
+    let target = seen_at(around, scope, name)?;
+    let value = resolve_expr(value, around, scope, alloc)?;
+    Ok(ResolvedStmt::Assign {
+        target,
         value,
         span,
     })
@@ -85,7 +111,25 @@ fn resolve_given(
     })
 }
 
-fn resolve_change(
+#[tactic(auto, using(ob_table::specs::StatementsView::resolved_views))]
+fn resolve_stage(
+    state: &NamePart,
+    field: &NamePart,
+    value: &Expr,
+    span: Span,
+    around: &Around<'_>,
+    scope: &Scope,
+    alloc: Global,
+) -> Result<ResolvedStmt, Memory>
+    ensures { IfOk result (λ x. statement_of x ≡ resolved_stmt (around_of around.now) scope.now
+        (stage_stmt state.now field.now (expr_of value.now) span)) }
+{
+    let state = own_state_id(around, state)?;
+    let given = resolve_given(field, value, around, scope, alloc)?;
+    Ok(ResolvedStmt::Stage { state, given, span })
+}
+
+fn resolve_all_given(
     given: &[GivenNode],
     around: &Around<'_>,
     scope: &Scope,
@@ -99,6 +143,23 @@ fn resolve_change(
         resolved.push(resolve_given(&one.field, &one.value, around, scope, alloc)?)?;
     }
     Ok(resolved)
+}
+
+#[tactic(auto, using(ob_table::specs::StatementsView::resolved_views))]
+fn resolve_change(
+    state: &NamePart,
+    given: &[GivenNode],
+    span: Span,
+    around: &Around<'_>,
+    scope: &Scope,
+    alloc: Global,
+) -> Result<ResolvedStmt, Memory>
+    ensures { IfOk result (λ x. statement_of x ≡ resolved_stmt (around_of around.now) scope.now
+        (change_stmt state.now (map given_of given.now) span)) }
+{
+    let state = own_state_id(around, state)?;
+    let given = resolve_all_given(given, around, scope, alloc)?;
+    Ok(ResolvedStmt::Change { state, given, span })
 }
 
 fn resolve_value(
@@ -116,9 +177,152 @@ fn resolve_value(
     }
 }
 
+// A call for what it does: what it gives isn't looked at.
+#[tactic(auto, using(ob_table::specs::StatementsView::resolved_views))]
+fn resolve_discard(
+    value: &Expr,
+    span: Span,
+    around: &Around<'_>,
+    scope: &Scope,
+    alloc: Global,
+) -> Result<ResolvedStmt, Memory>
+    ensures { IfOk result (λ x. statement_of x ≡ resolved_stmt (around_of around.now) scope.now
+        (call_stmt (expr_of value.now) span)) }
+{
+    let value = resolve_expr(value, around, scope, alloc)?;
+    Ok(ResolvedStmt::Call { value, span })
+}
+
+#[tactic(auto, using(ob_table::specs::StatementsView::resolved_views))]
+fn resolve_return(
+    value: &Option<Expr>,
+    span: Span,
+    around: &Around<'_>,
+    scope: &Scope,
+    alloc: Global,
+) -> Result<ResolvedStmt, Memory>
+    ensures { IfOk result (λ x. statement_of x ≡ resolved_stmt (around_of around.now) scope.now
+        (return_stmt (option_map expr_of value.now) span)) }
+{
+    let value = resolve_value(value, around, scope, alloc)?;
+    Ok(ResolvedStmt::Return { value, span })
+}
+
+#[tactic(auto, using(ob_table::specs::StatementsView::resolved_views))]
+fn resolve_revert(
+    text: &Option<Expr>,
+    span: Span,
+    around: &Around<'_>,
+    scope: &Scope,
+    alloc: Global,
+) -> Result<ResolvedStmt, Memory>
+    ensures { IfOk result (λ x. statement_of x ≡ resolved_stmt (around_of around.now) scope.now
+        (revert_stmt (option_map expr_of text.now) span)) }
+{
+    let text = resolve_value(text, around, scope, alloc)?;
+    Ok(ResolvedStmt::Revert { text, span })
+}
+
+#[tactic(auto, using(ob_table::specs::StatementsView::resolved_views))]
+fn resolve_disown(
+    name: &NamePart,
+    span: Span,
+    around: &Around<'_>,
+    scope: &Scope,
+) -> Result<ResolvedStmt, Memory>
+    ensures { IfOk result (λ x. statement_of x ≡ resolved_stmt (around_of around.now) scope.now
+        (disown_stmt name.now span)) }
+{
+    let subject = seen_at(around, scope, name)?;
+    Ok(ResolvedStmt::Disown { subject, span })
+}
+
+#[tactic(auto, using(ob_table::specs::StatementsView::resolved_views))]
+fn resolve_assert(
+    subject: &Subject,
+    perm: &PermNode,
+    span: Span,
+    around: &Around<'_>,
+    scope: &Scope,
+) -> Result<ResolvedStmt, Memory>
+    ensures { IfOk result (λ x. statement_of x ≡ resolved_stmt (around_of around.now) scope.now
+        (assert_stmt subject.now perm.now span)) }
+{
+    let kind = kind_of_subject(around, scope, subject);
+    let perm = perm_on_kind(around.declared().types(), kind, perm)?;
+    let subject = seen_subject(around, scope, subject)?;
+    Ok(ResolvedStmt::Assert {
+        subject,
+        perm,
+        span,
+    })
+}
+
+// The subject of a test, and the number of its state.
+fn resolve_tested(
+    subject: &Subject,
+    state: &NamePart,
+    around: &Around<'_>,
+    scope: &Scope,
+) -> Result<(SeenAt, StateId), Memory>
+    ensures subject { IfOk result (λ tested. tested.0 ≡ seen_subject (around_of around.now) scope.now subject.now) }
+    ensures state { IfOk result (λ tested. tested.1 ≡ state_id (contract_of_kind (program_of around.now.program)
+        (kind_of_subject (around_of around.now) scope.now subject.now)) state.now.name) }
+{
+    let kind = kind_of_subject(around, scope, subject);
+    let state = state_id(around, kind, state)?;
+    let subject = seen_subject(around, scope, subject)?;
+    Ok((subject, state))
+}
+
+// A test with these parts, if each of them could be made.
+#[tactic(auto, using(ob_table::specs::StatementsView::statement_views))]
+fn test_with(
+    tested: Result<(SeenAt, StateId), Memory>,
+    then: Result<ResolvedBlock, Memory>,
+    otherwise: Result<Option<ResolvedBlock>, Memory>,
+    span: Span,
+) -> Result<ResolvedStmt, Memory>
+    ensures { IfOk result (λ x. IsOkAnd tested (λ t. IsOkAnd then (λ b. IsOkAnd otherwise (λ o.
+        statement_of x ≡ resolved_test t.0 t.1 (resolved_block_of b) (otherwise_of o) span)))) }
+{
+    match (tested, then, otherwise) {
+        (Ok((subject, state)), Ok(then), Ok(otherwise)) => Ok(ResolvedStmt::Test {
+            subject,
+            state,
+            then,
+            otherwise,
+            span,
+        }),
+        _ => Err(Memory),
+    }
+}
+
+// An `if` with these parts, if each of them could be made.
+#[tactic(auto, using(ob_table::specs::StatementsView::statement_views))]
+fn if_with(
+    condition: Result<ResolvedExpr, Memory>,
+    then: Result<ResolvedBlock, Memory>,
+    otherwise: Result<Option<ResolvedBlock>, Memory>,
+    span: Span,
+) -> Result<ResolvedStmt, Memory>
+    ensures { IfOk result (λ x. IsOkAnd condition (λ e. IsOkAnd then (λ b. IsOkAnd otherwise (λ o.
+        statement_of x ≡ resolved_if (expression_of e) (resolved_block_of b) (otherwise_of o) span)))) }
+{
+    match (condition, then, otherwise) {
+        (Ok(condition), Ok(then), Ok(otherwise)) => Ok(ResolvedStmt::If {
+            condition,
+            then,
+            otherwise,
+            span,
+        }),
+        _ => Err(Memory),
+    }
+}
+
 /// A statement.
 #[cycle(resolve_stmt)]
-#[tactic(auto, using(crate::proofs::ScopeLemmas::statements))]
+#[tactic(auto, using(crate::proofs::ScopeLemmas::statement))]
 fn resolve_stmt(
     statement: &Stmt,
     around: &Around<'_>,
@@ -136,30 +340,19 @@ fn resolve_stmt(
             value,
             span,
         } => resolve_declare(of, name, value, *span, around, scope, alloc),
-        Stmt::Assign { name, value, span } => Ok(ResolvedStmt::Assign {
-            target: seen_at(around, scope, name)?,
-            value: resolve_expr(value, around, scope, alloc)?,
-            span: *span,
-        }),
+        Stmt::Assign { name, value, span } => {
+            resolve_assign(name, value, *span, around, scope, alloc)
+        }
         Stmt::Stage {
             state,
             field,
             value,
             span,
-        } => Ok(ResolvedStmt::Stage {
-            state: own_state_id(around, state)?,
-            given: resolve_given(field, value, around, scope, alloc)?,
-            span: *span,
-        }),
-        Stmt::Change { state, given, span } => Ok(ResolvedStmt::Change {
-            state: own_state_id(around, state)?,
-            given: resolve_change(given.as_slice(), around, scope, alloc)?,
-            span: *span,
-        }),
-        Stmt::Call { value, span } => Ok(ResolvedStmt::Call {
-            value: resolve_expr(value, around, scope, alloc)?,
-            span: *span,
-        }),
+        } => resolve_stage(state, field, value, *span, around, scope, alloc),
+        Stmt::Change { state, given, span } => {
+            resolve_change(state, given.as_slice(), *span, around, scope, alloc)
+        }
+        Stmt::Call { value, span } => resolve_discard(value, *span, around, scope, alloc),
         Stmt::Test {
             subject,
             state,
@@ -167,18 +360,10 @@ fn resolve_stmt(
             otherwise,
             span,
         } => {
-            let kind = kind_of_subject(around, scope, subject);
-            let state = state_id(around, kind, state)?;
-            let subject = seen_subject(around, scope, subject)?;
-            let then = resolve_block(then, around, scope, alloc)?;
-            let otherwise = resolve_else(otherwise, around, scope, alloc)?;
-            Ok(ResolvedStmt::Test {
-                subject,
-                state,
-                then,
-                otherwise,
-                span: *span,
-            })
+            let tested = resolve_tested(subject, state, around, scope);
+            let then = resolve_block(then, around, scope, alloc);
+            let otherwise = resolve_else(otherwise, around, scope, alloc);
+            test_with(tested, then, otherwise, *span)
         }
         Stmt::If {
             condition,
@@ -186,41 +371,19 @@ fn resolve_stmt(
             otherwise,
             span,
         } => {
-            let condition = resolve_expr(condition, around, scope, alloc)?;
-            let then = resolve_block(then, around, scope, alloc)?;
-            let otherwise = resolve_else(otherwise, around, scope, alloc)?;
-            Ok(ResolvedStmt::If {
-                condition,
-                then,
-                otherwise,
-                span: *span,
-            })
+            let condition = resolve_expr(condition, around, scope, alloc);
+            let then = resolve_block(then, around, scope, alloc);
+            let otherwise = resolve_else(otherwise, around, scope, alloc);
+            if_with(condition, then, otherwise, *span)
         }
-        Stmt::Return { value, span } => Ok(ResolvedStmt::Return {
-            value: resolve_value(value, around, scope, alloc)?,
-            span: *span,
-        }),
-        Stmt::Revert { text, span } => Ok(ResolvedStmt::Revert {
-            text: resolve_value(text, around, scope, alloc)?,
-            span: *span,
-        }),
-        Stmt::Disown { name, span } => Ok(ResolvedStmt::Disown {
-            subject: seen_at(around, scope, name)?,
-            span: *span,
-        }),
+        Stmt::Return { value, span } => resolve_return(value, *span, around, scope, alloc),
+        Stmt::Revert { text, span } => resolve_revert(text, *span, around, scope, alloc),
+        Stmt::Disown { name, span } => resolve_disown(name, *span, around, scope),
         Stmt::Assert {
             subject,
             perm,
             span,
-        } => {
-            let kind = kind_of_subject(around, scope, subject);
-            let perm = perm_on_kind(around.declared().types(), kind, perm)?;
-            Ok(ResolvedStmt::Assert {
-                subject: seen_subject(around, scope, subject)?,
-                perm,
-                span: *span,
-            })
-        }
+        } => resolve_assert(subject, perm, *span, around, scope),
     }
 }
 

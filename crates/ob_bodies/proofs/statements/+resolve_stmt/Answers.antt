@@ -1,25 +1,18 @@
-use Rattle.std.proofs.Common.{map, ap, sym, ◌∙◌}
-use Rattle.ob_tree.specs.StmtsView.{given_of, stmt_of, stmt_of-Change}
-use Rattle.ob_table.specs.Statements.{resolved_change}
-use Rattle.ob_table.specs.StatementsView.{statement_of, statement_of-Change}
-use Rattle.ob_typing.specs.Bodies.{resolved_given, resolved_stmt}
+use Rattle.std.proofs.Common.{◌≡◌, IfOk, map, ap, sym, subst, ◌∙◌}
+use Rattle.ob_tree.specs.ExprsView.{expr_of}
+use Rattle.ob_tree.specs.StmtsView.{block_of, else_of, stmt_of, stmt_of-Test, stmt_of-If}
+use Rattle.ob_table.specs.Statements.{resolved_test, resolved_if}
+use Rattle.ob_table.specs.ExpressionsView.{expression_of}
+use Rattle.ob_table.specs.StatementsView.{statement_of, resolved_block_of, otherwise_of}
+use Rattle.ob_typing.specs.Kinds.{contract_of_kind}
+use Rattle.ob_typing.specs.Numbers.{state_id}
+use Rattle.ob_typing.specs.Scopes.{kind_of_subject, past, after_stmt, locals_in_block, locals_in_else}
+use Rattle.ob_typing.specs.Bodies.{seen_subject, resolved_expr, resolved_stmt, block_resolved, else_resolved}
 use Rattle.ob_scope.specs.Around.{around_of}
+use Rattle.ob_bodies.proofs.BranchLemmas.{behind_branches, test_made, if_made}
 use Rattle.ob_bodies.proofs.ResolvedLemmas.{stmts_turn, stmts_all, scope_turn}
+use Rattle.ob_bodies.proofs.ScopeLemmas.{past-past}
 use Rattle.ob_bodies.proofs.statements.+resolve_stmt.Goals as goal
-
-pub resolve_stmt-returns-in_ok-resolve_change-in-Change-clause-value :
-    goal.resolve_stmt-returns-in_ok-resolve_change-in-Change-clause-value
-resolve_stmt-returns-in_ok-resolve_change-in-Change-clause-value t c =
-    let a = around_of c.args.around.now in
-    let s = c.args.scope.now in
-    let m = c.in-Change in
-    let given = c.in_ok-resolve_change-in-Change.ensures
-    ∙ ap (λ gs. map (λ g. resolved_given a s g.field g.value) (map given_of gs)) c.as_slice.ensures in
-    statement_of-Change c.in_ok-own_state_id-in-Change.field-0 c.in_ok-resolve_change-in-Change.field-0 m.span
-    ∙ ap (λ gs. resolved_change c.in_ok-own_state_id-in-Change.field-0 gs m.span) given
-    ∙ ap (λ state. resolved_change state (map (λ g. resolved_given a s g.field g.value) (map given_of m.given)) m.span)
-    c.in_ok-own_state_id-in-Change.ensures
-    ∙ sym (ap (resolved_stmt a s) (ap stmt_of m.is ∙ stmt_of-Change m.state m.given m.span))
 
 pub resolve_stmts-loop-statement-preserved : goal.resolve_stmts-loop-statement-preserved
 resolve_stmts-loop-statement-preserved t c =
@@ -39,3 +32,61 @@ resolve_stmts-returns-clause-value t c =
     let l = c.loop-statement in
     stmts_all (around_of c.args.around.now) l.scope (map statement_of l.resolved) c.args.statements.now
     l.statement-index c.loop-statement-test.false ∙ l.invariant.value
+
+pub resolve_stmt-returns-in-Test-clause-value : goal.resolve_stmt-returns-in-Test-clause-value
+resolve_stmt-returns-in-Test-clause-value t c =
+    let a = around_of c.args.around.now in
+    let s = c.args.scope.now in
+    let w = c.in-Test in
+    let branch = c.resolve_block-then in
+    let other = c.resolve_else-otherwise in
+    subst (λ x. IfOk c.test_with.result (λ y. statement_of y ≡ resolved_stmt a s x)) (sym (ap stmt_of w.is ∙ stmt_of-Test w.subject w.state w.then w.otherwise w.span))
+    (test_made c.test_with.result c.resolve_tested-tested.result branch.result other.result (seen_subject a s w.subject)
+    (state_id (contract_of_kind a.program (kind_of_subject a s w.subject)) w.state.name)
+    (block_resolved a s (block_of w.then)) (λ u. else_resolved a u (else_of w.otherwise)) branch.new.scope
+    (past s (locals_in_block (block_of w.then))) w.span c.test_with.ensures c.resolve_tested-tested.ensures.subject
+    c.resolve_tested-tested.ensures.state branch.ensures.value
+    branch.ensures.scope other.ensures.value)
+
+pub resolve_stmt-returns-in-Test-clause-scope : goal.resolve_stmt-returns-in-Test-clause-scope
+resolve_stmt-returns-in-Test-clause-scope t c =
+    let a = around_of c.args.around.now in
+    let s = c.args.scope.now in
+    let w = c.in-Test in
+    let branch = c.resolve_block-then in
+    let other = c.resolve_else-otherwise in
+    let m = locals_in_block (block_of w.then) in
+    let n = locals_in_else (else_of w.otherwise) in
+    behind_branches (branch.new.scope ≡ past s m) (other.new.scope ≡ past branch.new.scope n)
+    (other.new.scope ≡ after_stmt a s (stmt_of c.args.statement.now)) c.test_with.result c.resolve_tested-tested.result branch.result
+    other.result (λ x t b o. statement_of x ≡ resolved_test t.0 t.1 (resolved_block_of b) (otherwise_of o) w.span) c.test_with.ensures branch.ensures.scope other.ensures.scope
+    (λ p q. q ∙ ap (λ u. past u n) p ∙ past-past s m n ∙ sym (ap (after_stmt a s) (ap stmt_of w.is
+    ∙ stmt_of-Test w.subject w.state w.then w.otherwise w.span)))
+
+pub resolve_stmt-returns-in-If-clause-value : goal.resolve_stmt-returns-in-If-clause-value
+resolve_stmt-returns-in-If-clause-value t c =
+    let a = around_of c.args.around.now in
+    let s = c.args.scope.now in
+    let w = c.in-If in
+    let branch = c.resolve_block-then-in-If in
+    let other = c.resolve_else-otherwise-in-If in
+    subst (λ x. IfOk c.if_with.result (λ y. statement_of y ≡ resolved_stmt a s x)) (sym (ap stmt_of w.is ∙ stmt_of-If w.condition w.then w.otherwise w.span))
+    (if_made c.if_with.result c.resolve_expr-condition.result branch.result other.result (resolved_expr a s (expr_of w.condition))
+    (block_resolved a s (block_of w.then)) (λ u. else_resolved a u (else_of w.otherwise)) branch.new.scope
+    (past s (locals_in_block (block_of w.then))) w.span c.if_with.ensures c.resolve_expr-condition.ensures branch.ensures.value
+    branch.ensures.scope other.ensures.value)
+
+pub resolve_stmt-returns-in-If-clause-scope : goal.resolve_stmt-returns-in-If-clause-scope
+resolve_stmt-returns-in-If-clause-scope t c =
+    let a = around_of c.args.around.now in
+    let s = c.args.scope.now in
+    let w = c.in-If in
+    let branch = c.resolve_block-then-in-If in
+    let other = c.resolve_else-otherwise-in-If in
+    let m = locals_in_block (block_of w.then) in
+    let n = locals_in_else (else_of w.otherwise) in
+    behind_branches (branch.new.scope ≡ past s m) (other.new.scope ≡ past branch.new.scope n)
+    (other.new.scope ≡ after_stmt a s (stmt_of c.args.statement.now)) c.if_with.result c.resolve_expr-condition.result branch.result
+    other.result (λ x e b o. statement_of x ≡ resolved_if (expression_of e) (resolved_block_of b) (otherwise_of o) w.span) c.if_with.ensures branch.ensures.scope other.ensures.scope
+    (λ p q. q ∙ ap (λ u. past u n) p ∙ past-past s m n ∙ sym (ap (after_stmt a s) (ap stmt_of w.is
+    ∙ stmt_of-If w.condition w.then w.otherwise w.span)))

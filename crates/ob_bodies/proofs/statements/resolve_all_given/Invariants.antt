@@ -3,7 +3,7 @@ use Rattle.ob_tree.specs.StmtsView.{given_of}
 use Rattle.ob_table.specs.StatementsView.{given_field_of}
 use Rattle.ob_typing.specs.Bodies.{resolved_given}
 use Rattle.ob_scope.specs.Around.{around_of}
-use Rattle.ob_bodies.proofs.statements.resolve_change.Given as goal
+use Rattle.ob_bodies.proofs.statements.resolve_all_given.Given as goal
 
 abbrev pub invariant-loop-one : goal.invariant-loop-one
 invariant-loop-one l = map given_field_of l.resolved ≡ map
