@@ -1,11 +1,11 @@
 //! The faults of statements and bodies.
-ghost use Rattle.std.specs.Prelude.{◌≡◌, [], ◌&&◌, ◌||◌, false, map, OnOk, IfOk};
+ghost use Rattle.std.specs.Prelude.{◌≡◌, [], ◌&&◌, ◌||◌, false, map, OnOk, IfOk, IsOkAnd};
 ghost use Rattle.ob_tree.specs.ExprsView.{expr_of};
 ghost use Rattle.ob_tree.specs.StmtsView.{given_of, stmt_of, stmts_of, block_of, else_of};
 ghost use Rattle.ob_tree.specs.MembersView.{contract_of, formal_of};
 ghost use Rattle.ob_typing.specs.Scopes.{past, locals_in_block, locals_in_else, after_stmt};
 ghost use Rattle.ob_typing.specs.Reached.{ends, block_ends, else_ends, one_ends};
-ghost use Rattle.ob_typing.specs.StatementSites.{given_sites, change_sites, stmt_sites, block_sites, else_sites, stmts_sites};
+ghost use Rattle.ob_typing.specs.StatementSites.{given_sites, change_sites, stmt_sites, block_sites, body_sites, else_sites, stmts_sites};
 ghost use Rattle.ob_typing.specs.MemberSites.{body_of_params_sites};
 ghost use Rattle.ob_scope.specs.Types.{program_of};
 ghost use Rattle.ob_scope.specs.Around.{around_of};
@@ -63,10 +63,24 @@ fn walk_change(
     Ok(())
 }
 
-fn both(a: bool, b: bool) -> bool
-    ensures { result ≡ a && b }
+// Whether both branches end, if both could be walked over.
+fn both(then: Result<bool, Memory>, otherwise: Result<bool, Memory>) -> Result<bool, Memory>
+    ensures { IfOk result (λ both. IsOkAnd then (λ a. IsOkAnd otherwise (λ b. both ≡ a && b))) }
 {
-    a && b
+    match (then, otherwise) {
+        (Ok(then), Ok(otherwise)) => Ok(then && otherwise),
+        _ => Err(Memory),
+    }
+}
+
+// A statement that doesn't end, if it could be walked over.
+fn goes_on(walked: Result<(), Memory>) -> Result<bool, Memory>
+    ensures { IfOk result (λ ends. IsOkAnd walked (λ _. ends ≡ false)) }
+{
+    match walked {
+        Ok(()) => Ok(false),
+        Err(error) => Err(error),
+    }
 }
 
 fn either(a: bool, b: bool) -> bool
@@ -77,7 +91,7 @@ fn either(a: bool, b: bool) -> bool
 
 /// A statement behind a row of staged ones; whether it ends there.
 #[cycle(walk)]
-#[tactic(auto, using(ob_tree::specs::MembersView::views, ob_walk_parts::proofs::StatementLemmas::statements))]
+#[tactic(auto, using(ob_tree::specs::StmtsView::stmt_views, ob_notes::specs::Noted::notes, ob_walk_parts::proofs::StatementLemmas::past_both))]
 fn walk_stmt(
     statement: &Stmt,
     around: &Around<'_>,
@@ -98,10 +112,7 @@ fn walk_stmt(
             name,
             value,
             ..
-        } => {
-            walk_declare(of, name, value, around, alloc, scope, least)?;
-            Ok(false)
-        }
+        } => goes_on(walk_declare(of, name, value, around, alloc, scope, least)),
         Stmt::Assign { name, value, .. } => {
             walk_assign(name, value, around, scope, least);
             Ok(false)
@@ -113,13 +124,11 @@ fn walk_stmt(
             ..
         } => {
             note_own_state(least, around, state);
-            walk_given(field, value, around, alloc, scope, row, least)?;
-            Ok(false)
+            goes_on(walk_given(field, value, around, alloc, scope, row, least))
         }
         Stmt::Change { state, given, .. } => {
             note_own_state(least, around, state);
-            walk_change(given.as_slice(), around, alloc, scope, row, least)?;
-            Ok(false)
+            goes_on(walk_change(given.as_slice(), around, alloc, scope, row, least))
         }
         Stmt::Call { value, .. } => {
             walk_expr(value, around, scope, least);
@@ -133,9 +142,9 @@ fn walk_stmt(
             span,
         } => {
             walk_tested(subject, state, *span, around, scope, least);
-            let then_ends = walk_block(then, around, alloc, scope, least)?;
-            let else_ends = walk_else(otherwise, around, alloc, scope, least)?;
-            Ok(both(then_ends, else_ends))
+            let then = walk_block(then, around, alloc, scope, least);
+            let otherwise = walk_else(otherwise, around, alloc, scope, least);
+            both(then, otherwise)
         }
         Stmt::If {
             condition,
@@ -144,9 +153,9 @@ fn walk_stmt(
             ..
         } => {
             walk_value(Kind::Bool, condition, around, scope, least);
-            let then_ends = walk_block(then, around, alloc, scope, least)?;
-            let else_ends = walk_else(otherwise, around, alloc, scope, least)?;
-            Ok(both(then_ends, else_ends))
+            let then = walk_block(then, around, alloc, scope, least);
+            let otherwise = walk_else(otherwise, around, alloc, scope, least);
+            both(then, otherwise)
         }
         Stmt::Return { value, span } => {
             walk_return(value, *span, around, scope, least);
@@ -168,7 +177,7 @@ fn walk_stmt(
 }
 
 #[cycle(walk)]
-#[tactic(auto, using(ob_tree::specs::MembersView::views, ob_walk_parts::proofs::StatementLemmas::statements))]
+#[tactic(auto, using(ob_tree::specs::StmtsView::stmt_views))]
 fn walk_else(
     otherwise: &Option<Block>,
     around: &Around<'_>,
@@ -189,7 +198,7 @@ fn walk_else(
 
 /// A block, whose locals are visible in it alone; whether its end isn't reached.
 #[cycle(walk)]
-#[tactic(auto, using(ob_tree::specs::MembersView::views, ob_walk_parts::proofs::StatementLemmas::statements))]
+#[tactic(auto, using(ob_tree::specs::StmtsView::stmt_views, ob_walk_parts::proofs::StatementLemmas::left_block))]
 fn walk_block(
     block: &Block,
     around: &Around<'_>,
@@ -210,7 +219,7 @@ fn walk_block(
 
 /// The statements of a block; whether one of them ends there.
 #[cycle(walk)]
-#[tactic(auto, using(ob_tree::specs::MembersView::views, ob_walk_parts::proofs::StatementLemmas::statements))]
+#[tactic(auto, using(ob_tree::specs::StmtsView::stmt_views, ob_walk_parts::proofs::StatementLemmas::sites_turn, ob_walk_parts::proofs::StatementLemmas::scope_turn, ob_walk_parts::proofs::StatementLemmas::or_false, ob_walk_parts::proofs::StatementLemmas::ends_turn))]
 fn walk_stmts(
     statements: &[Stmt],
     around: &Around<'_>,
@@ -234,8 +243,24 @@ fn walk_stmts(
     Ok(ended)
 }
 
+// A body in this scope.
+#[tactic(auto, using(ob_tree::specs::StmtsView::stmt_views, ob_notes::specs::Noted::notes))]
+fn walk_body_in(
+    alloc: Global,
+    around: &Around<'_>,
+    scope: &mut Scope,
+    body: &Block,
+    least: &mut Least,
+) -> Result<(), Memory>
+    ensures { OnOk result (least.new ≡ noted least.old
+        (body_sites (around_of around.now) scope.old (block_of body.now))) }
+{
+    let ended = walk_block(body, around, alloc, scope, least)?;
+    note_end(least, around.result(), ended, body.end);
+    Ok(())
+}
+
 /// Notes the faults of a body with these parameters, in its contract.
-#[tactic(auto, using(ob_tree::specs::MembersView::views, ob_walk_parts::proofs::StatementLemmas::statements))]
 pub fn walk_body(
     alloc: Global,
     around: &Around<'_>,
@@ -248,7 +273,5 @@ pub fn walk_body(
         (map formal_of params.now) (block_of body.now))) }
 {
     let mut scope = scope_of_params(alloc, around.declared().types(), params)?;
-    let ended = walk_block(body, around, alloc, &mut scope, least)?;
-    note_end(least, around.result(), ended, body.end);
-    Ok(())
+    walk_body_in(alloc, around, &mut scope, body, least)
 }
