@@ -44,6 +44,17 @@ fn least_of(alloc: Global, declared: &Declared<'_>) -> Result<Option<ProgramFaul
     find_least(alloc, declared)
 }
 
+// The class table of what is declared, or its first fault.
+fn table_or_first(alloc: Global, declared: &Declared<'_>) -> Result<Table, ResolveError>
+    ensures table { IfOk result (λ table. HasClassTable (map contract_of declared.now) table) }
+    ensures fault { IfErr result (λ e. OnFault e (IsFirstFault (map contract_of declared.now))) }
+{
+    match least_of(alloc, declared)? {
+        Some(fault) => Err(ResolveError::Fault(fault)),
+        None => Ok(make_table(alloc, declared)?),
+    }
+}
+
 /// The class table of a program, or its first fault of names and types (the Obsidian language documentation; Coblenz et
 /// al., TOPLAS 42(3), 2020). Type parameters and type arguments aren't looked at.
 pub fn resolve(alloc: Global, tree: &Tree) -> Result<Table, ResolveError>
@@ -51,10 +62,7 @@ pub fn resolve(alloc: Global, tree: &Tree) -> Result<Table, ResolveError>
     ensures fault { IfErr result (λ e. OnFault e (IsFirstFault (tree_of tree.now))) }
 {
     let declared = Declared::new(alloc, tree.contracts.as_slice())?;
-    match least_of(alloc, &declared)? {
-        Some(fault) => Err(ResolveError::Fault(fault)),
-        None => Ok(make_table(alloc, &declared)?),
-    }
+    table_or_first(alloc, &declared)
 }
 
 /// A program without faults has no first fault.
