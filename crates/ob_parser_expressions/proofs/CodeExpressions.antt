@@ -21,6 +21,7 @@ use Rattle.ob_grammar.specs.AllReaders.{all_refs, all_unary, all_counted, all_ex
 use Rattle.ob_parser_expressions.specs.declared.levels.Level.{Level}
 use Rattle.ob_parser_expressions.specs.declared.levels.Level.TheVariants.{Or, And, Equality, Relation, Sum, Product}
 use Rattle.ob_parser_names.specs.declared.halt.Halt.{Halt}
+use Rattle.ob_parser_names.specs.declared.halt.Halt.TheVariants as halt
 use Rattle.ob_parser_expressions.specs.Levels.{number_of_level, repeats, read_row, read_operand, read_further}
 use Rattle.ob_parser_names.specs.Answering.{Halts, Answers, prefixed}
 use Rattle.ob_grammar.proofs.Laws.{Laws, Case, is_done, is_stop, is_deep, case_of}
@@ -31,7 +32,7 @@ use Rattle.ob_grammar.proofs.DepthLaws.{unary_all, after_expr}
 use Rattle.ob_grammar.proofs.Arguments.{expr_laws}
 use Rattle.ob_grammar.proofs.Deeper.{unary_step}
 use Rattle.ob_parser_names.proofs.Halts.{halts_bind}
-use Rattle.ob_parser_names.proofs.Loops.{Consumes, consumes, one_more_from, halts_from}
+use Rattle.ob_parser_names.proofs.Loops.{Consumes, consumes, one_more_from, none_from, halts_from}
 
 -- ---- operands have tokens
 
@@ -80,6 +81,14 @@ step_consumes level room less n = record {
 -- how many tokens are left behind an operator and its operand
 pub fewer_left : (level : Level) (room : ℕ) → room < 256 → (ts rest : List Token) (x : Step) → read_opened (operator_if (number_of_level level)) 1 room (read_operand level) ts ≡ done x rest → length rest < length ts
 fewer_left level room less ts rest x is = fewer_opened 1 room (read_operand level) (operator_if (number_of_level level)) ts x rest (operand_consumes (room - 1) (omega (arith, less)) level) is
+
+pub fewer_extended : (level : Level) (room : ℕ) → room < 256 → (ts rest : List Token) (c : Counted) (left : Expr) → Case (read_opened (operator_if (number_of_level level)) 1 room (read_operand level) ts) → (read_opened (operator_if (number_of_level level)) 1 room (read_operand level) ts >>= (λ x after. done (with_step (left, 0) x) after)) ≡ done c rest → length rest < length ts
+fewer_extended level room less ts rest c left (is_done x mid e) is =
+    let both : done (with_step (left, 0) x) mid ≡ done c rest = ap (λ r. r >>= (λ y after. done (with_step (left, 0) y) after)) (sym e) ∙ is in
+    let same : mid ≡ rest = cc in
+    rw (← same) (fewer_left level room less ts mid x e)
+fewer_extended level room less ts rest c left (is_stop mid e) is = absurd (let wrong : stop mid ≡ done c rest = ap (λ r. r >>= (λ y after. done (with_step (left, 0) y) after)) (sym e) ∙ is in cc)
+fewer_extended level room less ts rest c left (is_deep mid e) is = absurd (let wrong : deep mid ≡ done c rest = ap (λ r. r >>= (λ y after. done (with_step (left, 0) y) after)) (sym e) ∙ is in cc)
 
 -- an argument behind a comma
 argument_laws : (room : ℕ) → room < 256 → Laws room expr (all_exprs room) expr_first after_expr false
@@ -152,6 +161,24 @@ module _ (level : Level) (room : ℕ) where
       ∙ ap (λ b. read_further level room (b, n + 1 + m) rest) (sym made)
       ∙ ap (λ j. read_further level room (new, j) rest) (sym more)
 
+  -- an operation behind its left operand
+  abbrev extended : Expr → Read Step → Read Counted
+  extended left r = r >>= (λ x rest. done (with_step (left, 0) x) rest)
+
+  pub row_extended : room < 256 → (before new : Expr) (n k m : ℕ) (ts rest : List Token) (whole : Read Counted) → whole ≡ read_further level room (before, n) ts → begin_with kinds ts ≡ true → Case (read_opened operator 1 (room - n) (read_operand level) ts) → extended before (read_opened operator 1 (room - n) (read_operand level) ts) ≡ done (new, m) rest → k ≡ n + m → whole ≡ read_further level room (new, k) rest
+  row_extended less before new n k m ts rest whole same does (is_done x mid e) is count =
+      let both : done (with_step (before, 0) x) mid ≡ done (new, m) rest = ap (extended before) (sym e) ∙ is in
+      let made : with_step (before, 0) x ≡ (new, m) = cc in
+      let left : mid ≡ rest = cc in
+      let many : 0 + 1 + x.1.1 ≡ m = ap (λ p. p.1) made in
+      rw (← left) (row_goes_on less before new n k ts mid x.0.0 x.0.1 x.1.0 x.1.1 whole same does e (sym (ap (λ p. p.0) made)) (omega (arith, count, many)))
+  row_extended less before new n k m ts rest whole same does (is_stop left e) is count = absurd (let wrong : stop left ≡ done (new, m) rest = ap (extended before) (sym e) ∙ is in cc)
+  row_extended less before new n k m ts rest whole same does (is_deep left e) is count = absurd (let wrong : deep left ≡ done (new, m) rest = ap (extended before) (sym e) ∙ is in cc)
+
+  -- and where no operator follows
+  pub row_ends : (c : Counted) (ts : List Token) (whole : Read Counted) → whole ≡ read_further level room c ts → begin_with kinds ts ≡ false → whole ≡ done c ts
+  row_ends c ts whole same fails = same ∙ ap (λ r. r >>= (λ y left. done (with_steps c y) left)) (none_from kinds step count_after c.1 ts fails)
+
   pub row_halts : (e : Halt) (c : Counted) (ts : List Token) (whole : Read Counted) → whole ≡ read_further level room c ts → begin_with kinds ts ≡ true → Halts e (read_opened operator 1 (room - c.1) (read_operand level) ts) → Halts e whole
   row_halts e c ts whole same does is =
       rw same (halts_bind e (read_many_from kinds step count_after c.1 ts) (λ y left. done (with_steps c y) left)
@@ -169,6 +196,9 @@ module _ (level : Level) (room : ℕ) where
       ap (λ r. (r >>= behind (λ d. read_maybe kinds (step d.1))) >>= (λ x rest. done (maybe_of x) rest)) e
       ∙ ap (λ v. put c (choose v c mid)) begins
 
+  pub single_ends : (ts mid : List Token) (c : Counted) → read_operand level room ts ≡ done c mid → begin_with kinds mid ≡ false → read_single kinds operator (read_operand level) room ts ≡ done c mid
+  single_ends ts mid c begins fails = single_begins ts mid c false begins fails
+
   pub single_goes_on : (left new : Expr) (n k : ℕ) (ts mid rest : List Token) (o : Operator) (s : Span) (right : Expr) (m : ℕ) → read_operand level room ts ≡ done (left, n) mid → begin_with kinds mid ≡ true → read_opened operator 1 (room - n) (read_operand level) mid ≡ done ((o, s), (right, m)) rest → new ≡ binary_expr o s left right (joined (place_of left) (place_of right)) → k ≡ n + 1 + m → read_single kinds operator (read_operand level) room ts ≡ done (new, k) rest
   single_goes_on left new n k ts mid rest o s right m begins does e made count =
       let x : Step = ((o, s), (right, m)) in
@@ -178,6 +208,16 @@ module _ (level : Level) (room : ℕ) where
       ∙ ap (λ b. done (b, n + 1 + m) rest) (sym made)
       ∙ ap (λ j. done (new, j) rest) (sym count)
 
+  pub single_extended : (before new : Expr) (n k m : ℕ) (ts mid rest : List Token) → read_operand level room ts ≡ done (before, n) mid → begin_with kinds mid ≡ true → Case (read_opened operator 1 (room - n) (read_operand level) mid) → extended before (read_opened operator 1 (room - n) (read_operand level) mid) ≡ done (new, m) rest → k ≡ n + m → read_single kinds operator (read_operand level) room ts ≡ done (new, k) rest
+  single_extended before new n k m ts mid rest begins does (is_done x after e) is count =
+      let both : done (with_step (before, 0) x) after ≡ done (new, m) rest = ap (extended before) (sym e) ∙ is in
+      let made : with_step (before, 0) x ≡ (new, m) = cc in
+      let left : after ≡ rest = cc in
+      let many : 0 + 1 + x.1.1 ≡ m = ap (λ p. p.1) made in
+      rw (← left) (single_goes_on before new n k ts mid after x.0.0 x.0.1 x.1.0 x.1.1 begins does e (sym (ap (λ p. p.0) made)) (omega (arith, count, many)))
+  single_extended before new n k m ts mid rest begins does (is_stop left e) is count = absurd (let wrong : stop left ≡ done (new, m) rest = ap (extended before) (sym e) ∙ is in cc)
+  single_extended before new n k m ts mid rest begins does (is_deep left e) is count = absurd (let wrong : deep left ≡ done (new, m) rest = ap (extended before) (sym e) ∙ is in cc)
+
   pub single_halts : (e : Halt) (ts mid : List Token) (c : Counted) → read_operand level room ts ≡ done c mid → begin_with kinds mid ≡ true → Halts e (read_opened operator 1 (room - c.1) (read_operand level) mid) → Halts e (read_single kinds operator (read_operand level) room ts)
   single_halts e ts mid c begins does is =
       rw (single_begins ts mid c true begins does)
@@ -185,7 +225,16 @@ module _ (level : Level) (room : ℕ) where
       (halts_bind e (choose true c mid) (λ y rest. done (c, y) rest)
       (halts_bind e (step c.1 mid) (λ x rest. done (Some x) rest) (rw (step_is (read_operand level) room c.1 operator mid) is))))
 
--- which rows don't repeat
+-- which rows repeat
+pub row_is_chain : (level : Level) (room : ℕ) (ts : List Token) → repeats level ≡ true → read_row level room ts ≡ read_chain (signs_of_level (number_of_level level)) (operator_if (number_of_level level)) (read_operand level) room ts
+row_is_chain Or room ts is = refl
+row_is_chain And room ts is = refl
+row_is_chain Equality room ts is = absurd cc
+row_is_chain Relation room ts is = absurd cc
+row_is_chain Sum room ts is = refl
+row_is_chain Product room ts is = refl
+
+-- and which don't
 pub row_is_single : (level : Level) (room : ℕ) (ts : List Token) → repeats level ≡ false → read_row level room ts ≡ read_single (signs_of_level (number_of_level level)) (operator_if (number_of_level level)) (read_operand level) room ts
 row_is_single Or room ts is = absurd cc
 row_is_single And room ts is = absurd cc
@@ -245,3 +294,21 @@ module _ (room : ℕ) (ts : List Token) where
 
   pub group_done : (c : Counted) (rest : List Token) → between ≡ done c rest → read_group all_counted room ts ≡ done (grouped (c, place_between ts rest)) rest
   group_done c rest is = ap (λ r. (r >>= (λ x left. done (x, place_between ts left) left)) >>= (λ x left. done (grouped x) left)) is
+
+-- an operation behind its left operand
+pub extended_is : (r : Read Step) (left new : Expr) (o : Operator) (s : Span) (right : Expr) (m : ℕ) (rest : List Token) → r ≡ done ((o, s), (right, m)) rest → new ≡ binary_expr o s left right (joined (place_of left) (place_of right)) → (r >>= (λ x after. done (with_step (left, 0) x) after)) ≡ done (new, 1 + m) rest
+extended_is r left new o s right m rest is made =
+    let many : 0 + 1 + m ≡ 1 + m = omega arith in
+    ap (λ q. q >>= (λ x after. done (with_step (left, 0) x) after)) is
+    ∙ ap (λ b. done (b, 0 + 1 + m) rest) (sym made)
+    ∙ ap (λ j. done (new, j) rest) many
+
+-- something made of what isn't read
+pub halts_back : {A B : Type 0} (e : Halt) (r : Read A) (f : A → B) → Halts e (r >>= (λ x rest. done (f x) rest)) → Halts e r
+halts_back (halt.Expected left) (stop rest) f is = is
+halts_back (halt.Expected left) (done x rest) f is = absurd cc
+halts_back (halt.Expected left) (deep rest) f is = absurd cc
+halts_back (halt.TooDeep left) (deep rest) f is = is
+halts_back (halt.TooDeep left) (done x rest) f is = absurd cc
+halts_back (halt.TooDeep left) (stop rest) f is = absurd cc
+halts_back halt.Memory r f is = tt

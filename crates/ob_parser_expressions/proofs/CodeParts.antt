@@ -1,12 +1,14 @@
 -- Rows that are read a part at a time: what they give, and why they end.
-use Rattle.std.proofs.Common.{ℕ, ◌≡◌, ◌-◌, List, Option, ap, ◌∙◌}
+use Rattle.std.proofs.Common.{ℕ, ◌≡◌, ◌-◌, List, [], ◌∷◌, Option, Result, Ok, Err, IfOk, IfErr, refl, sym, ap, ◌∙◌}
+use Rattle.std.specs.Borrow.{Bor}
 use Rattle.ob_base.specs.declared.fault.Span.{Span}
 use Rattle.ob_lexer.specs.declared.token.Token.{Token}
 use Rattle.ob_lexer.specs.declared.token.Sign.{Sign}
 use Rattle.ob_grammar.specs.Symbols.{a_sign}
-use Rattle.ob_grammar.specs.Readers.{Read, done, Reader, ◌>>=◌, behind, place_if, read_token, read_opened, put_before, read_many}
+use Rattle.ob_grammar.specs.Readers.{Read, done, stop, deep, Reader, ◌>>=◌, behind, place_if, read_token, read_opened, put_before, read_many}
 use Rattle.ob_grammar.specs.NameReaders.{on, second, read_item, read_parted, inner, read_counted}
-use Rattle.ob_parser_names.specs.Answering.{Halts, read_open}
+use Rattle.ob_parser_names.specs.Answering.{Halts, Answers, prefixed, read_open}
+use Rattle.ob_parser_names.specs.Places.{first_place}
 use Rattle.ob_parser_names.specs.declared.halt.Halt.{Halt}
 use Rattle.ob_parser_names.proofs.Halts.{halts_bind}
 use Rattle.ob_parser_names.proofs.CodeTokens.{opened_is}
@@ -54,9 +56,25 @@ module _ {A : Type 0} (left right : Sign) (room : ℕ) (p : ℕ → Reader A) (t
     pub counted_done : (last : Span) (rest : List Token) → read_token (place_if (a_sign right)) after ≡ done last rest → read_counted left room p right ts ≡ done x rest
     counted_done last rest is = counted_with ∙ ap (λ r. put (r >>= (λ y behind'. done ((place, x), y) behind'))) is
 
+  -- what `before` answers behind it
+  pub closed_answer : {T : Type 0} (view : T → A) (x : T) (after : List Token) → p (room - 1) mid ≡ done (view x) after → (r : Result (T × Bor (List Token)) Halt) → IfOk r (λ y. y.0 ≡ x) → IfOk r (λ y. read_token (place_if (a_sign right)) after ≡ done (first_place after) y.1.now) → IfErr r (λ e. Halts e (read_token (place_if (a_sign right)) after)) → Answers view r (read_counted left room p right ts)
+  closed_answer view x after reads (Ok y) part ok err = rw part (counted_done (view x) after reads (first_place after) y.1.now ok)
+  closed_answer view x after reads (Err e) part ok err = end_halts (view x) after reads e err
+
 -- ---- a list
 
+put_first : {A : Type 0} (x : A) (r : Read (List A)) → ((r >>= (λ y rest. done (x, y) rest)) >>= (λ pair rest. done (put_before pair) rest)) ≡ prefixed (x ∷ []) r
+put_first x (done ys rest) = refl
+put_first x (stop rest) = refl
+put_first x (deep rest) = refl
+
 module _ {A : Type 0} (s : Sign) (p : Reader A) where
+  pub parted_begins : (ts rest : List Token) (x : A) (xs : List A) → p ts ≡ done x rest → xs ≡ x ∷ [] → read_parted s p ts ≡ prefixed xs (read_many (on s) (read_item s p) rest)
+  parted_begins ts rest x xs is first =
+      ap (λ r. (r >>= behind (λ y. read_many (on s) (read_item s p))) >>= (λ pair left. done (put_before pair) left)) is
+      ∙ put_first x (read_many (on s) (read_item s p) rest)
+      ∙ ap (λ l. prefixed l (read_many (on s) (read_item s p) rest)) (sym first)
+
   pub parted_halts : (ts : List Token) (e : Halt) → Halts e (p ts) → Halts e (read_parted s p ts)
   parted_halts ts e is =
       halts_bind e (p ts >>= behind (λ x. read_many (on s) (read_item s p))) (λ parts rest. done (put_before parts) rest)

@@ -21,7 +21,7 @@ ghost use Rattle.ob_tree.specs.ExprsView.{expr_of, exprs_of};
 ghost use Rattle.ob_grammar.specs.Readers.{read_as, read_opened};
 ghost use Rattle.ob_grammar.specs.NameReaders.{read_parted};
 ghost use Rattle.ob_grammar.specs.Operators.{operator_if, signs_of_level};
-ghost use Rattle.ob_grammar.specs.Chains.{read_chain, read_single};
+ghost use Rattle.ob_grammar.specs.Chains.{with_step, read_chain, read_single};
 ghost use Rattle.ob_grammar.specs.Primaries.{uncounted, read_group, read_arguments, read_applied, read_new, read_method, read_this, read_tail, read_name, read_primary};
 ghost use Rattle.ob_grammar.specs.StmtReaders.{read_called_name, read_called_this};
 ghost use Rattle.ob_grammar.specs.AllReaders.{all_refs, all_unary, all_counted, all_exprs};
@@ -36,7 +36,8 @@ use crate::primaries::{Operation, TailPart, binary, called, called_this, literal
 use ob_base::{Items, Span};
 use ob_lexer::{Sign, Token, Word};
 use ob_parser_names::{
-    Halt, Symbol, fixed, name_part, named, opens, place_between, starts_with, starts_with_one_of,
+    Halt, Symbol, before, fixed, name_part, named, opens, place_between, starts_with,
+    starts_with_one_of,
 };
 use ob_tree::{Expr, NamePart};
 use std::alloc::Global;
@@ -104,9 +105,9 @@ fn chain(
     let mut count = before;
     let mut rest = rest;
     'operators: while starts_with_operator(level, rest) {
-        let (operation, behind, after) = operation(alloc, level, room - count, rest)?;
-        expr = binary(alloc, expr, operation)?;
-        count += 1 + behind;
+        let (whole, more, after) = extended(alloc, level, room - count, expr, rest)?;
+        expr = whole;
+        count += more;
         rest = after;
     }
     Ok((expr, count, rest))
@@ -128,9 +129,8 @@ fn single(
     if !starts_with_operator(level, rest) {
         return Ok((left, count, rest));
     }
-    let (operation, behind, rest) = operation(alloc, level, room - count, rest)?;
-    let expr = binary(alloc, left, operation)?;
-    Ok((expr, count + 1 + behind, rest))
+    let (expr, more, rest) = extended(alloc, level, room - count, left, rest)?;
+    Ok((expr, count + more, rest))
 }
 
 /// What stands between the operators of a row.
@@ -172,6 +172,28 @@ fn operation(
         behind,
         rest,
     ))
+}
+
+/// An operation behind its left operand, and how many operators are read for it.
+#[cycle(expr)]
+fn extended(
+    alloc: Global,
+    level: Level,
+    room: u8,
+    left: Expr,
+    tokens: &[Token],
+) -> Result<(Expr, u8, &[Token]), Halt>
+    ensures read { AnswersBoth with_count result
+        (read_as (with_step (expr_of left, 0)) (read_opened (operator_if (number_of_level level)) 1 room (read_operand level)) tokens.now) }
+    ensures few { IfOk result (λ x. x.1 ≤ room) }
+{
+    match operation(alloc, level, room, tokens) {
+        Ok((operation, behind, rest)) => match binary(alloc, left, operation) {
+            Ok(expr) => Ok((expr, 1 + behind, rest)),
+            Err(halt) => Err(halt),
+        },
+        Err(halt) => Err(halt),
+    }
 }
 
 // ---- operands
@@ -219,7 +241,7 @@ fn group(alloc: Global, room: u8, tokens: &[Token]) -> Result<(Expr, &[Token]), 
 {
     let (_, rest) = opens(room, Symbol::Sign(Sign::OpenParen), tokens)?;
     let (expr, _, rest) = row(alloc, Level::Or, room - 1, rest)?;
-    let (_, rest) = fixed(Symbol::Sign(Sign::CloseParen), rest)?;
+    let (expr, rest) = before(expr, Symbol::Sign(Sign::CloseParen), rest)?;
     Ok((moved(place_between(tokens, rest), expr), rest))
 }
 
@@ -309,8 +331,7 @@ fn applied(alloc: Global, room: u8, tokens: &[Token]) -> Result<(Items<Expr>, &[
 {
     let (_, rest) = opens(room, Symbol::Sign(Sign::OpenParen), tokens)?;
     let (args, rest) = arguments(alloc, room - 1, rest)?;
-    let (_, rest) = fixed(Symbol::Sign(Sign::CloseParen), rest)?;
-    Ok((args, rest))
+    before(args, Symbol::Sign(Sign::CloseParen), rest)
 }
 
 /// `[expr {"," expr}]`

@@ -106,15 +106,16 @@ pub fn binary(alloc: Global, left: Expr, operation: Operation) -> Result<Expr, H
         right,
     } = operation;
     let span = joined(place_of(&left), place_of(&right));
-    let left = Boxed::new(alloc, left)?;
-    let right = Boxed::new(alloc, right)?;
-    Ok(Expr::Binary {
-        operator,
-        sign,
-        left,
-        right,
-        span,
-    })
+    match (Boxed::new(alloc, left), Boxed::new(alloc, right)) {
+        (Ok(left), Ok(right)) => Ok(Expr::Binary {
+            operator,
+            sign,
+            left,
+            right,
+            span,
+        }),
+        _ => Err(Halt::Memory),
+    }
 }
 
 /// `OPERATOR operand`

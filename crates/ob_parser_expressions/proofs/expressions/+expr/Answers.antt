@@ -1,17 +1,20 @@
-use Rattle.std.proofs.Common.{rules, ◌∙◌, sym, refl, arith}
-use Rattle.ob_tree.specs.ExprsView.{expr_of}
+use Rattle.std.proofs.Common.{rules, ◌∙◌, ◌-◌, [], ◌∷◌, ◌++◌, map, ap, sym, refl, arith}
+use Rattle.ob_tree.specs.ExprsView.{expr_of, exprs_of}
 use Rattle.ob_lexer.specs.declared.token.Sign.TheVariants.{OpenParen, CloseParen, Comma}
 use Rattle.ob_grammar.specs.Operators.{operator_if}
 use Rattle.ob_grammar.specs.ExprReaders.{unary_if}
+use Rattle.ob_grammar.specs.Readers.{done, read_opened}
+use Rattle.ob_grammar.specs.Chains.{with_step}
+use Rattle.ob_grammar.proofs.Laws.{case_of}
 use Rattle.ob_grammar.specs.Primaries.{read_arguments}
 use Rattle.ob_grammar.specs.NameReaders.{on, read_item, read_parted}
 use Rattle.ob_grammar.specs.AllReaders.{all_unary, all_counted, all_exprs}
 use Rattle.ob_parser_expressions.specs.Levels.{number_of_level, read_operand}
 use Rattle.ob_parser_names.specs.Answering.{Halts}
 use Rattle.ob_parser_names.proofs.Halts.{halts_bind}
-use Rattle.ob_parser_names.proofs.Loops.{kept_as, halts_more}
-use Rattle.ob_parser_expressions.proofs.CodeParts.{opened_halts, opened_done, not_opened, inside_halts, end_halts, counted_done, parted_halts, item_halts, item_done}
-use Rattle.ob_parser_expressions.proofs.CodeExpressions.{expr_item, row_begins, row_goes_on, row_halts, single_goes_on, single_halts, row_is_single, fewer_left, negation_halts, negation_done, primary_is, arguments_are, group_halts, group_done}
+use Rattle.ob_parser_names.proofs.Loops.{kept_as, none_more, halts_more}
+use Rattle.ob_parser_expressions.proofs.CodeParts.{opened_halts, opened_done, not_opened, inside_halts, end_halts, counted_done, closed_answer, parted_begins, parted_halts, item_halts, item_done}
+use Rattle.ob_parser_expressions.proofs.CodeExpressions.{expr_item, row_begins, row_extended, row_halts, row_ends, single_extended, single_ends, single_halts, row_is_chain, row_is_single, extended_is, fewer_extended, halts_back, negation_halts, negation_done, primary_is, arguments_are, group_halts, group_done}
 use Rattle.ob_parser_expressions.proofs.expressions.+expr.Goals as goal
 
 -- rows
@@ -25,37 +28,56 @@ expression-returns-in_err-expr t c =
 pub row-returns-else-repeats-clause-read : goal.row-returns-else-repeats-clause-read
 row-returns-else-repeats-clause-read t c = rw (row_is_single c.args.level c.args.room c.args.tokens.now (sym c.repeats.ensures ∙ c.if-repeats.false)) c.single.ensures.read
 
+pub row-returns-then-repeats-clause-read : goal.row-returns-then-repeats-clause-read
+row-returns-then-repeats-clause-read t c = rw (row_is_chain c.args.level c.args.room c.args.tokens.now (sym c.repeats.ensures ∙ c.if-repeats.true)) c.chain.ensures.read
+
 pub chain-operators-init : goal.chain-operators-init
 chain-operators-init t c = record {
   read = row_begins c.args.level c.args.room c.args.tokens.now c.in_ok-first.rest.now _ c.in_ok-first.ensures.read;
   few = c.in_ok-first.ensures.few;
 }
 
-pub chain-returns-in_err-operation-clause-read : goal.chain-returns-in_err-operation-clause-read
-chain-returns-in_err-operation-clause-read t c =
-    let halts = row_halts c.args.level c.args.room c.in_err-operation.field-0.0 (expr_of c.operators.expr, c.operators.count) c.operators.rest.now _ c.operators.invariant.read (sym c.starts_with_operator.ensures ∙ c.operators-test.true) c.in_err-operation.ensures.read in
+pub chain-returns-in_err-whole-clause-read : goal.chain-returns-in_err-whole-clause-read
+chain-returns-in_err-whole-clause-read t c =
+    let e = c.in_err-whole.field-0.0 in
+    let ts = c.operators.rest.now in
+    let step = halts_back e (read_opened (operator_if (number_of_level c.args.level)) 1 (c.args.room - c.operators.count) (read_operand c.args.level) ts) (with_step (expr_of c.operators.expr, 0)) c.in_err-whole.ensures.read in
+    let halts = row_halts c.args.level c.args.room e (expr_of c.operators.expr, c.operators.count) ts _ c.operators.invariant.read (sym c.starts_with_operator.ensures ∙ c.operators-test.true) step in
     search rules
 
 pub chain-operators-smaller : goal.chain-operators-smaller
-chain-operators-smaller t c = fewer_left c.args.level _ (omega arith) c.operators.rest.now c.in_ok-operation.after.now _ c.in_ok-operation.ensures.read
+chain-operators-smaller t c = fewer_extended c.args.level _ (omega arith) c.operators.rest.now c.in_ok-whole.after.now _ _ (case_of _) c.in_ok-whole.ensures.read
 
 pub chain-operators-preserved : goal.chain-operators-preserved
-chain-operators-preserved t c =
-    let o = c.in_ok-operation.operation in
-    record {
-      read = row_goes_on c.args.level c.args.room c.ranges.room.fits (expr_of c.operators.expr) (expr_of c.in_ok-expr.expr) c.operators.count _ c.operators.rest.now c.in_ok-operation.after.now o.operator o.sign (expr_of o.right) c.in_ok-operation.behind _ c.operators.invariant.read (sym c.starts_with_operator.ensures ∙ c.operators-test.true) c.in_ok-operation.ensures.read c.in_ok-expr.ensures.ok refl;
-      few = omega (arith, c.operators.invariant.few, c.in_ok-operation.ensures.few);
-    }
+chain-operators-preserved t c = record {
+  read = row_extended c.args.level c.args.room c.ranges.room.fits (expr_of c.operators.expr) (expr_of c.in_ok-whole.whole) c.operators.count _ c.in_ok-whole.more c.operators.rest.now c.in_ok-whole.after.now _ c.operators.invariant.read (sym c.starts_with_operator.ensures ∙ c.operators-test.true) (case_of _) c.in_ok-whole.ensures.read refl;
+  few = omega (arith, c.operators.invariant.few, c.in_ok-whole.ensures.few);
+}
 
-pub single-returns-in_err-operation-clause-read : goal.single-returns-in_err-operation-clause-read
-single-returns-in_err-operation-clause-read t c =
-    let halts = single_halts c.args.level c.args.room c.in_err-operation.field-0.0 c.args.tokens.now c.in_ok-left.rest.now _ c.in_ok-left.ensures.read (sym c.starts_with_operator.ensures ∙ c.if-not-starts_with_operator.false) c.in_err-operation.ensures.read in
+pub chain-returns-clause-read : goal.chain-returns-clause-read
+chain-returns-clause-read t c = row_ends c.args.level c.args.room (expr_of c.operators.expr, c.operators.count) c.operators.rest.now _ c.operators.invariant.read (sym c.starts_with_operator.ensures ∙ c.operators-test.false)
+
+pub single-returns-then-not-starts_with_operator-clause-read : goal.single-returns-then-not-starts_with_operator-clause-read
+single-returns-then-not-starts_with_operator-clause-read t c = single_ends c.args.level c.args.room c.args.tokens.now c.in_ok-left.rest.now _ c.in_ok-left.ensures.read (sym c.starts_with_operator.ensures ∙ c.if-not-starts_with_operator.true)
+
+pub single-returns-in_err-expr-clause-read : goal.single-returns-in_err-expr-clause-read
+single-returns-in_err-expr-clause-read t c =
+    let e = c.in_err-expr.field-0.0 in
+    let ts = c.in_ok-left.rest.now in
+    let step = halts_back e (read_opened (operator_if (number_of_level c.args.level)) 1 (c.args.room - c.in_ok-left.count) (read_operand c.args.level) ts) (with_step (expr_of c.in_ok-left.left, 0)) c.in_err-expr.ensures.read in
+    let halts = single_halts c.args.level c.args.room e c.args.tokens.now ts _ c.in_ok-left.ensures.read (sym c.starts_with_operator.ensures ∙ c.if-not-starts_with_operator.false) step in
     search rules
 
 pub single-returns-clause-read : goal.single-returns-clause-read
-single-returns-clause-read t c =
-    let o = c.in_ok-operation.operation in
-    single_goes_on c.args.level c.args.room (expr_of c.in_ok-left.left) (expr_of c.in_ok-expr.expr) c.in_ok-left.count _ c.args.tokens.now c.in_ok-left.rest.now c.in_ok-operation.rest.now o.operator o.sign (expr_of o.right) c.in_ok-operation.behind c.in_ok-left.ensures.read (sym c.starts_with_operator.ensures ∙ c.if-not-starts_with_operator.false) c.in_ok-operation.ensures.read c.in_ok-expr.ensures.ok refl
+single-returns-clause-read t c = single_extended c.args.level c.args.room (expr_of c.in_ok-left.left) (expr_of c.in_ok-expr.expr) c.in_ok-left.count _ c.in_ok-expr.more c.args.tokens.now c.in_ok-left.rest.now c.in_ok-expr.rest.now c.in_ok-left.ensures.read (sym c.starts_with_operator.ensures ∙ c.if-not-starts_with_operator.false) (case_of _) c.in_ok-expr.ensures.read refl
+
+pub extended-returns-in-Ok-binary-clause-read : goal.extended-returns-in-Ok-binary-clause-read
+extended-returns-in-Ok-binary-clause-read t c =
+    let o = c.in-Ok.operation in
+    extended_is _ (expr_of c.args.left) (expr_of c.in-Ok-binary.expr) o.operator o.sign (expr_of o.right) c.in-Ok.behind c.in-Ok.rest.now c.in-Ok.ensures.read c.in-Ok-binary.ensures.ok
+
+pub extended-returns-in-Err-clause-read : goal.extended-returns-in-Err-clause-read
+extended-returns-in-Err-clause-read t c = halts_bind _ _ (λ x rest. done (with_step (expr_of c.args.left, 0) x) rest) c.in-Err.ensures.read
 
 pub operation-returns-in_err-right-clause-read : goal.operation-returns-in_err-right-clause-read
 operation-returns-in_err-right-clause-read t c =
@@ -98,16 +120,16 @@ group-returns-in_err-expr t c =
     let halts = group_halts c.args.room c.args.tokens.now e (inside_halts OpenParen CloseParen c.args.room all_counted c.args.tokens.now c.in_ok-rest.rest.now _ c.in_ok-rest.ensures.read e c.in_err-expr.ensures.read) in
     search rules
 
-pub group-returns-in_err-rest-2 : goal.group-returns-in_err-rest-2
-group-returns-in_err-rest-2 t c =
-    let e = c.in_err-rest-2.field-0.0 in
-    let halts = group_halts c.args.room c.args.tokens.now e (end_halts OpenParen CloseParen c.args.room all_counted c.args.tokens.now c.in_ok-rest.rest.now _ c.in_ok-rest.ensures.read _ c.in_ok-expr.rest.now c.in_ok-expr.ensures.read e c.in_err-rest-2.ensures) in
+pub group-returns-in_err-expr-2 : goal.group-returns-in_err-expr-2
+group-returns-in_err-expr-2 t c =
+    let e = c.in_err-expr-2.field-0.0 in
+    let halts = group_halts c.args.room c.args.tokens.now e (end_halts OpenParen CloseParen c.args.room all_counted c.args.tokens.now c.in_ok-rest.rest.now _ c.in_ok-rest.ensures.read _ c.in_ok-expr.rest.now c.in_ok-expr.ensures.read e c.in_err-expr-2.ensures.err) in
     search rules
 
 pub group-returns : goal.group-returns
 group-returns t c =
-    let reads = group_done c.args.room c.args.tokens.now _ c.in_ok-rest-2.rest.now (counted_done OpenParen CloseParen c.args.room all_counted c.args.tokens.now c.in_ok-rest.rest.now _ c.in_ok-rest.ensures.read _ c.in_ok-expr.rest.now c.in_ok-expr.ensures.read _ c.in_ok-rest-2.rest.now c.in_ok-rest-2.ensures) in
-    rw c.moved.ensures (rw c.place_between.ensures reads)
+    let reads = group_done c.args.room c.args.tokens.now _ c.in_ok-expr-2.rest.now (counted_done OpenParen CloseParen c.args.room all_counted c.args.tokens.now c.in_ok-rest.rest.now _ c.in_ok-rest.ensures.read _ c.in_ok-expr.rest.now c.in_ok-expr.ensures.read _ c.in_ok-expr-2.rest.now c.in_ok-expr-2.ensures.ok) in
+    rw (c.moved.ensures, c.place_between.ensures, c.in_ok-expr-2.ensures.part) reads
 
 -- calls
 
@@ -116,16 +138,19 @@ applied-returns-in_err-args t c =
     let halts = inside_halts OpenParen CloseParen c.args.room (λ r. read_arguments (all_counted r)) c.args.tokens.now c.in_ok-rest.rest.now _ c.in_ok-rest.ensures.read c.in_err-args.field-0.0 c.in_err-args.ensures in
     search rules
 
-pub applied-returns-in_err-rest-2 : goal.applied-returns-in_err-rest-2
-applied-returns-in_err-rest-2 t c =
-    let halts = end_halts OpenParen CloseParen c.args.room (λ r. read_arguments (all_counted r)) c.args.tokens.now c.in_ok-rest.rest.now _ c.in_ok-rest.ensures.read _ c.in_ok-args.rest.now c.in_ok-args.ensures c.in_err-rest-2.field-0.0 c.in_err-rest-2.ensures in
-    search rules
-
 pub applied-returns : goal.applied-returns
-applied-returns t c = counted_done OpenParen CloseParen c.args.room (λ r. read_arguments (all_counted r)) c.args.tokens.now c.in_ok-rest.rest.now _ c.in_ok-rest.ensures.read _ c.in_ok-args.rest.now c.in_ok-args.ensures _ c.in_ok-rest-2.rest.now c.in_ok-rest-2.ensures
+applied-returns t c = closed_answer OpenParen CloseParen c.args.room (λ r. read_arguments (all_counted r)) c.args.tokens.now c.in_ok-rest.rest.now _ c.in_ok-rest.ensures.read exprs_of c.in_ok-args.args c.in_ok-args.rest.now c.in_ok-args.ensures c.before-2.result c.before-2.ensures.part c.before-2.ensures.ok c.before-2.ensures.err
 
 pub arguments-returns : goal.arguments-returns
 arguments-returns t c = arguments_are c.args.room c.args.tokens.now c.list.result (sym c.starts_with_one_of.ensures ∙ c.if-not-starts_with_one_of.false) c.list.ensures
+
+pub list-arguments-init : goal.list-arguments-init
+list-arguments-init t c =
+    let first = c.in_ok-push.ensures.ok ∙ ap (λ l. l ++ c.in_ok-first.first ∷ []) c.new-args.ensures in
+    parted_begins Comma (all_exprs c.args.room) c.args.tokens.now c.in_ok-first.rest.now _ _ c.in_ok-first.ensures (ap (map expr_of) first)
+
+pub list-returns : goal.list-returns
+list-returns t c = c.arguments.invariant ∙ none_more (on Comma) (read_item Comma (all_exprs c.args.room)) (map expr_of c.arguments.args) c.arguments.rest.now (sym c.starts_with.ensures ∙ c.arguments-test.false)
 
 pub list-returns-in_err-first : goal.list-returns-in_err-first
 list-returns-in_err-first t c =

@@ -40,6 +40,9 @@ decreases-unary l = 40 * l.room + 5
 abbrev pub decreases-operation : goal.decreases-operation
 decreases-operation l = 40 * l.room
 
+abbrev pub decreases-extended : goal.decreases-extended
+decreases-extended l = 40 * l.room + 1
+
 abbrev pub decreases-operand : goal.decreases-operand
 decreases-operand l = 40 * l.room + (3 * levels_from l.level + 4)
 
