@@ -13,19 +13,20 @@
 //! ```
 
 ghost use Rattle.std.specs.Prelude.{option_map, map, [], ◌∷◌};
-ghost use Rattle.ob_tree.specs.Stmts.{named_local};
+ghost use Rattle.ob_tree.specs.Stmts.{named_local, declare_stmt, change_stmt};
 ghost use Rattle.ob_tree.specs.ExprsView.{expr_of};
 ghost use Rattle.ob_tree.specs.StmtsView.{local_of, given_of, stmt_of};
-ghost use Rattle.ob_grammar.specs.Symbols.{a_name, number};
-ghost use Rattle.ob_grammar.specs.Readers.{name_if, read_token, read_both, read_as, read_maybe};
+ghost use Rattle.ob_grammar.specs.Symbols.{a_name, a_word, number};
+ghost use Rattle.ob_grammar.specs.Readers.{◌>>=◌ as ◌then◌, done, name_if, place_between, read_token, read_both, read_either, read_as, read_maybe};
 ghost use Rattle.ob_grammar.specs.NameReaders.{read_named, read_item, read_parted};
 ghost use Rattle.ob_grammar.specs.Primaries.{uncounted, expr_first, read_new};
 ghost use Rattle.ob_grammar.specs.MemberReaders.{read_maybe_parted};
-ghost use Rattle.ob_grammar.specs.StmtReaders.{value_local_if, read_assigned, read_declare, read_assign, read_stage, read_given, read_enclosed_given, read_all_given, read_change, read_called_name, read_called_this, read_call, read_return, read_revert, read_disown, read_assert, read_behind_name, read_simple};
+ghost use Rattle.ob_grammar.specs.StmtReaders.{read_sign, value_local_if, read_assigned, read_declare, read_assign, read_stage, read_given, read_enclosed_given, read_all_given, read_change, read_called_name, read_called_this, read_call, read_return, read_revert, read_disown, read_assert, read_behind_name, read_simple};
 ghost use Rattle.ob_grammar.specs.AllReaders.{all_refs, all_counted, all_exprs};
 ghost use Rattle.ob_parser_names.specs.Answering.{Answers};
 ghost use Rattle.ob_parser_statements.specs.CodeStatements.{named_value};
-ghost use Rattle.ob_lexer.specs.declared.token.Sign.TheVariants.{Comma};
+ghost use Rattle.ob_lexer.specs.declared.token.Sign.TheVariants.{Comma, Semicolon};
+ghost use Rattle.ob_lexer.specs.declared.token.Word.TheVariants.{This};
 
 use ob_base::Items;
 use ob_lexer::{Sign, Token, TokenKind, Word};
@@ -93,12 +94,18 @@ fn value_local(tokens: &[Token]) -> Result<(LocalType, &[Token]), Halt>
 
 // ---- values
 
-/// `("int" | "bool" | "string") NAME "=" expr ";"`
-fn value_declaration(alloc: Global, room: u8, tokens: &[Token]) -> Result<(Stmt, &[Token]), Halt>
-    ensures { Answers stmt_of result (read_declare (read_token value_local_if) (all_exprs room) tokens.now) }
+/// `NAME "=" expr ";"`, behind the type with which the declaration begins.
+fn declared<'t>(
+    alloc: Global,
+    room: u8,
+    of: LocalType,
+    tokens: &[Token],
+    rest: &'t [Token],
+) -> Result<(Stmt, &'t [Token]), Halt>
+    ensures { Answers stmt_of result (read_both (read_token name_if) (read_assigned (all_exprs room)) rest.now
+        then (λ parts left. done (declare_stmt (local_of of) parts.0 parts.1 (place_between tokens.now left)) left)) }
 {
-    let (of, rest) = value_local(tokens)?;
-    let (of, (name, value), rest) = with(of, name_assigned(alloc, room, rest))?;
+    let ((name, value), rest) = name_assigned(alloc, room, rest)?;
     let span = place_between(tokens, rest);
     Ok((
         Stmt::Declare {
@@ -111,22 +118,20 @@ fn value_declaration(alloc: Global, room: u8, tokens: &[Token]) -> Result<(Stmt,
     ))
 }
 
+/// `("int" | "bool" | "string") NAME "=" expr ";"`
+fn value_declaration(alloc: Global, room: u8, tokens: &[Token]) -> Result<(Stmt, &[Token]), Halt>
+    ensures { Answers stmt_of result (read_declare (read_token value_local_if) (all_exprs room) tokens.now) }
+{
+    let (of, rest) = value_local(tokens)?;
+    declared(alloc, room, of, tokens, rest)
+}
+
 /// `named NAME "=" expr ";"`
 fn declaration(alloc: Global, room: u8, tokens: &[Token]) -> Result<(Stmt, &[Token]), Halt>
     ensures { Answers stmt_of result (read_declare (read_as named_local (read_named all_refs room)) (all_exprs room) tokens.now) }
 {
     let (of, rest) = named(alloc, room, tokens)?;
-    let (of, (name, value), rest) = with(of, name_assigned(alloc, room, rest))?;
-    let span = place_between(tokens, rest);
-    Ok((
-        Stmt::Declare {
-            of: LocalType::Named(of),
-            name,
-            value,
-            span,
-        },
-        rest,
-    ))
+    declared(alloc, room, LocalType::Named(of), tokens, rest)
 }
 
 /// `NAME "=" expr ";"`
@@ -238,42 +243,53 @@ fn all_given(
     enclosed_given(alloc, room, tokens)
 }
 
+/// `["(" [NAME "=" expr {"," NAME "=" expr}] ")"] ";"`, behind the state to which the change leads.
+fn changed<'t>(
+    alloc: Global,
+    room: u8,
+    state: NamePart,
+    tokens: &[Token],
+    rest: &'t [Token],
+) -> Result<(Stmt, &'t [Token]), Halt>
+    ensures { Answers stmt_of result (read_both (read_all_given (all_exprs room)) (read_sign Semicolon) rest.now
+        then (λ parts left. done (change_stmt state parts.0 (place_between tokens.now left)) left)) }
+{
+    let (given, rest) = all_given(alloc, room, rest)?;
+    let (given, span, rest) = ended(given, tokens, rest)?;
+    Ok((Stmt::Change { state, given, span }, rest))
+}
+
 /// `"->" NAME ["(" [NAME "=" expr {"," NAME "=" expr}] ")"] ";"`
 fn change(alloc: Global, room: u8, tokens: &[Token]) -> Result<(Stmt, &[Token]), Halt>
     ensures { Answers stmt_of result (read_change (all_exprs room) tokens.now) }
 {
     let (_, rest) = fixed(Symbol::Sign(Sign::Arrow), tokens)?;
     let (state, rest) = name_part(alloc, rest)?;
-    let (state, given, rest) = with(state, all_given(alloc, room, rest))?;
-    let ((state, given), span, rest) = ended((state, given), tokens, rest)?;
-    Ok((Stmt::Change { state, given, span }, rest))
+    changed(alloc, room, state, tokens, rest)
 }
 
 // ---- calls
 
-/// `call ";"`, where the call begins with a name.
-fn name_call_statement(alloc: Global, room: u8, tokens: &[Token]) -> Result<(Stmt, &[Token]), Halt>
-    ensures { Answers stmt_of result (read_call (read_called_name all_counted room) tokens.now) }
+/// `call | new`
+fn call(alloc: Global, room: u8, tokens: &[Token]) -> Result<(Expr, &[Token]), Halt>
+    ensures { Answers expr_of result (read_either (number a_name ∷ []) (read_called_name all_counted room)
+        (read_either (number (a_word This) ∷ []) (read_called_this all_counted room) (read_as uncounted (read_new all_refs all_counted room))) tokens.now) }
 {
-    let (value, rest) = named_call(alloc, room, tokens)?;
-    let (value, span, rest) = ended(value, tokens, rest)?;
-    Ok((Stmt::Call { value, span }, rest))
+    if starts_with(tokens, Symbol::Name) {
+        return named_call(alloc, room, tokens);
+    }
+    if starts_with(tokens, Symbol::Word(Word::This)) {
+        return this_call(alloc, room, tokens);
+    }
+    creation(alloc, room, tokens)
 }
 
-/// `call ";"`, where the call begins with `this`.
-fn this_call_statement(alloc: Global, room: u8, tokens: &[Token]) -> Result<(Stmt, &[Token]), Halt>
-    ensures { Answers stmt_of result (read_call (read_called_this all_counted room) tokens.now) }
+/// `(call | new) ";"`
+fn call_statement(alloc: Global, room: u8, tokens: &[Token]) -> Result<(Stmt, &[Token]), Halt>
+    ensures { Answers stmt_of result (read_call (read_either (number a_name ∷ []) (read_called_name all_counted room)
+        (read_either (number (a_word This) ∷ []) (read_called_this all_counted room) (read_as uncounted (read_new all_refs all_counted room)))) tokens.now) }
 {
-    let (value, rest) = this_call(alloc, room, tokens)?;
-    let (value, span, rest) = ended(value, tokens, rest)?;
-    Ok((Stmt::Call { value, span }, rest))
-}
-
-/// `new ";"`
-fn creation_statement(alloc: Global, room: u8, tokens: &[Token]) -> Result<(Stmt, &[Token]), Halt>
-    ensures { Answers stmt_of result (read_call (read_as uncounted (read_new all_refs all_counted room)) tokens.now) }
-{
-    let (value, rest) = creation(alloc, room, tokens)?;
+    let (value, rest) = call(alloc, room, tokens)?;
     let (value, span, rest) = ended(value, tokens, rest)?;
     Ok((Stmt::Call { value, span }, rest))
 }
@@ -349,7 +365,7 @@ fn behind_name(alloc: Global, room: u8, tokens: &[Token]) -> Result<(Stmt, &[Tok
         return staging(alloc, room, tokens);
     }
     if starts_with_both(tokens, &NAMES, &CALL_SIGNS) {
-        return name_call_statement(alloc, room, tokens);
+        return call_statement(alloc, room, tokens);
     }
     declaration(alloc, room, tokens)
 }
@@ -365,10 +381,10 @@ pub fn simple(alloc: Global, room: u8, tokens: &[Token]) -> Result<(Stmt, &[Toke
         return value_declaration(alloc, room, tokens);
     }
     if starts_with(tokens, Symbol::Word(Word::This)) {
-        return this_call_statement(alloc, room, tokens);
+        return call_statement(alloc, room, tokens);
     }
     if starts_with(tokens, Symbol::Word(Word::New)) {
-        return creation_statement(alloc, room, tokens);
+        return call_statement(alloc, room, tokens);
     }
     if starts_with(tokens, Symbol::Sign(Sign::Arrow)) {
         return change(alloc, room, tokens);

@@ -144,7 +144,8 @@ pub fn block(alloc: Global, room: u8, tokens: &[Token]) -> Result<(Block, &[Toke
 {
     let (_, rest) = opens(room, Symbol::Sign(Sign::OpenBrace), tokens)?;
     let (statements, rest) = statement_list(alloc, room - 1, rest)?;
-    let (end, rest) = fixed(Symbol::Sign(Sign::CloseBrace), rest)?;
+    let close = fixed(Symbol::Sign(Sign::CloseBrace), rest);
+    let (statements, end, rest) = with(statements, close)?;
     Ok((Block { statements, end }, rest))
 }
 

@@ -19,8 +19,8 @@ use Rattle.ob_parser_statements.proofs.statements.+stmt.Goals as goal
 pub block-returns-in_err-statements : goal.block-returns-in_err-statements
 block-returns-in_err-statements t c = rw (opened_is (place_if (a_sign OpenBrace)) 1 c.args.room all_stmts c.args.tokens.now) (search (rules, halts_bind))
 
-pub block-returns-in_err-end : goal.block-returns-in_err-end
-block-returns-in_err-end t c = rw (opened_is (place_if (a_sign OpenBrace)) 1 c.args.room all_stmts c.args.tokens.now) (search (rules, halts_bind))
+pub block-returns-in_err-statements-2 : goal.block-returns-in_err-statements-2
+block-returns-in_err-statements-2 t c = rw (opened_is (place_if (a_sign OpenBrace)) 1 c.args.room all_stmts c.args.tokens.now) (search (rules, halts_bind))
 
 pub block-returns : goal.block-returns
 block-returns t c = rw (opened_is (place_if (a_sign OpenBrace)) 1 c.args.room all_stmts c.args.tokens.now) (search (rules, stmt_views))

@@ -1,6 +1,6 @@
 use Rattle.std.proofs.Common.{rules}
 use Rattle.ob_parser_names.proofs.Halts.{halts_bind}
-use Rattle.ob_parser_statements.proofs.simple.this_call_statement.Goals as goal
+use Rattle.ob_parser_statements.proofs.simple.call_statement.Goals as goal
 
 pub returns-in_err-value : goal.returns-in_err-value
 returns-in_err-value c = search (rules, halts_bind)
