@@ -3,12 +3,13 @@ use Rattle.std.proofs.Common.{ℕ, suc, zero, ◌≡◌, ◌<◌, ◌≤◌, ◌
 use Rattle.std.proofs.lemmas.Bool.{cases_Bool}
 use Rattle.std.proofs.lemmas.List.{length-append, map-append}
 use Rattle.ob_lexer.specs.declared.token.Token.{Token}
+use Rattle.ob_lexer.specs.declared.token.Sign.{Sign}
 use Rattle.ob_grammar.specs.Readers.{Read, done, stop, deep, Reader, ◌>>=◌, begin_with, behind, put_before, read_each, read_many_from, read_many}
+use Rattle.ob_grammar.specs.NameReaders.{on, read_item, read_parted}
 use Rattle.ob_grammar.specs.Rows.{Row, Loaded}
 use Rattle.ob_grammar.specs.Grammar.{tokens_of}
 use Rattle.ob_parser_names.specs.Answering.{Halts, prefixed}
 use Rattle.ob_parser_names.specs.declared.halt.Halt.{Halt}
-use Rattle.ob_parser_names.specs.declared.halt.Halt.TheVariants as halt
 use Rattle.ob_parser_names.proofs.Halts.{halts_bind}
 use Rattle.ob_grammar.proofs.Laws.{Begin, Laws, Case, is_done, is_stop, is_deep, case_of}
 
@@ -109,3 +110,15 @@ kept kinds p xs new ts rest x whole c same pushed does is = same ∙ one_more ki
 -- the same of what the tree holds
 pub kept_as : {T A : Type 0} (kinds : List ℕ) (p : Reader A) (view : T → A) (xs new : List T) (ts rest : List Token) (x : T) (whole : Read (List A)) → Consumes p → whole ≡ prefixed (map view xs) (read_many kinds p ts) → new ≡ xs ++ x ∷ [] → begin_with kinds ts ≡ true → p ts ≡ done (view x) rest → whole ≡ prefixed (map view new) (read_many kinds p rest)
 kept_as kinds p view xs new ts rest x whole c same pushed does is = kept kinds p (map view xs) (map view new) ts rest (view x) whole c same (ap (map view) pushed ∙ map-append view xs (x ∷ [])) does is
+
+-- what a list begins with, behind which others may follow
+put_first : {A : Type 0} (x : A) (r : Read (List A)) → ((r >>= (λ y rest. done (x, y) rest)) >>= (λ pair rest. done (put_before pair) rest)) ≡ prefixed (x ∷ []) r
+put_first x (done ys rest) = refl
+put_first x (stop rest) = refl
+put_first x (deep rest) = refl
+
+pub parted_begins : {A : Type 0} (s : Sign) (p : Reader A) (ts rest : List Token) (x : A) (xs : List A) → p ts ≡ done x rest → xs ≡ x ∷ [] → read_parted s p ts ≡ prefixed xs (read_many (on s) (read_item s p) rest)
+parted_begins s p ts rest x xs is first =
+    ap (λ r. (r >>= behind (λ y. read_many (on s) (read_item s p))) >>= (λ pair left. done (put_before pair) left)) is
+    ∙ put_first x (read_many (on s) (read_item s p) rest)
+    ∙ ap (λ l. prefixed l (read_many (on s) (read_item s p) rest)) (sym first)

@@ -19,6 +19,7 @@ ghost use Rattle.ob_lexer.specs.declared.token.Sign.TheVariants.{OpenBracket, Cl
 ghost use Rattle.ob_parser_names.specs.declared.halt.Halt.TheVariants.{Memory};
 
 use crate::halt::Halt;
+use crate::parts::{before, with};
 use crate::tokens::{
     Symbol, fixed, opens, place_between, refused, starts_with, starts_with_one_of,
 };
@@ -170,8 +171,7 @@ fn bracketed(alloc: Global, room: u8, tokens: &[Token]) -> Result<(RefNode, &[To
 {
     let (_, rest) = opens(room, Symbol::Sign(Sign::OpenBracket), tokens)?;
     let (of, rest) = reference(alloc, room - 1, rest)?;
-    let (_, rest) = fixed(Symbol::Sign(Sign::CloseBracket), rest)?;
-    Ok((of, rest))
+    before(of, Symbol::Sign(Sign::CloseBracket), rest)
 }
 
 /// `["[" ref "]"]`
@@ -213,8 +213,8 @@ pub fn reference(alloc: Global, room: u8, tokens: &[Token]) -> Result<(RefNode, 
     ensures { Answers ref_of result (all_refs room tokens.now) }
 {
     let (of, rest) = named(alloc, room, tokens)?;
-    let (_, rest) = fixed(Symbol::Sign(Sign::At), rest)?;
-    let (perm, rest) = permission(alloc, rest)?;
+    let (of, rest) = before(of, Symbol::Sign(Sign::At), rest)?;
+    let (of, perm, rest) = with(of, permission(alloc, rest))?;
     Ok((RefNode { of, perm }, rest))
 }
 

@@ -9,10 +9,6 @@ use Rattle.ob_grammar.specs.Readers.{place_if}
 use Rattle.ob_grammar.specs.AllReaders.{all_refs}
 use Rattle.ob_parser_names.proofs.names.+named.Goals as goal
 
--- src/names.rt:171:21
-pub bracketed-returns-in_err-rest-2 : goal.bracketed-returns-in_err-rest-2
-bracketed-returns-in_err-rest-2 t c = rw (opened_is (place_if (a_sign OpenBracket)) 1 c.args.room all_refs c.args.tokens.now) (search (rules, halts_bind))
-
 -- src/names.rt:165:1
 pub bracketed-returns : goal.bracketed-returns
 bracketed-returns t c = rw (opened_is (place_if (a_sign OpenBracket)) 1 c.args.room all_refs c.args.tokens.now) (search rules)
@@ -22,12 +18,12 @@ pub reference-returns-in_err-of : goal.reference-returns-in_err-of
 reference-returns-in_err-of t c = rw (refs_step c.args.room c.ranges.room.fits c.args.tokens.now) (search (rules, halts_bind))
 
 -- src/names.rt:214:21
-pub reference-returns-in_err-rest : goal.reference-returns-in_err-rest
-reference-returns-in_err-rest t c = rw (refs_step c.args.room c.ranges.room.fits c.args.tokens.now) (search (rules, halts_bind))
+pub reference-returns-in_err-of-2 : goal.reference-returns-in_err-of-2
+reference-returns-in_err-of-2 t c = rw (refs_step c.args.room c.ranges.room.fits c.args.tokens.now) (search (rules, halts_bind))
 
 -- src/names.rt:215:24
-pub reference-returns-in_err-perm : goal.reference-returns-in_err-perm
-reference-returns-in_err-perm t c = rw (refs_step c.args.room c.ranges.room.fits c.args.tokens.now) (search (rules, halts_bind))
+pub reference-returns-in_err-of-3 : goal.reference-returns-in_err-of-3
+reference-returns-in_err-of-3 t c = rw (refs_step c.args.room c.ranges.room.fits c.args.tokens.now) (search (rules, halts_bind))
 
 -- src/names.rt:209:1
 pub reference-returns : goal.reference-returns
