@@ -1,2 +1,3 @@
+pub mod CodeParts
 pub mod CodeMembers
 pub mod Whole

@@ -10,10 +10,12 @@
 ghost use Rattle.std.specs.Prelude.{◌≡◌, map, option_map};
 ghost use Rattle.ob_tree.specs.NamesView.{named_of};
 ghost use Rattle.ob_tree.specs.MembersView.{member_of, contract_of};
-ghost use Rattle.ob_grammar.specs.Readers.{read_many};
+ghost use Rattle.ob_grammar.specs.Readers.{read_as, read_many};
 ghost use Rattle.ob_grammar.specs.NameReaders.{read_named};
 ghost use Rattle.ob_grammar.specs.ContractReaders.{member_first, read_member, promise_first, read_interface_member, read_flag, read_bound, read_generic, read_maybe_generic, read_title, read_body, read_implements, read_contract_kind, read_interface_kind, read_kind, contract_of as made_contract, read_main, read_other, read_contract};
 ghost use Rattle.ob_grammar.specs.AllReaders.{all_refs, all_blocks, all_programs};
+ghost use Rattle.ob_grammar.specs.StmtReaders.{read_sign};
+ghost use Rattle.ob_lexer.specs.declared.token.Sign.TheVariants.{CloseBrace};
 ghost use Rattle.ob_parser.specs.Parts.{title_part, body_parts, kind_part};
 ghost use Rattle.ob_parser_names.specs.Answering.{Answers, as_it_is};
 
@@ -190,6 +192,19 @@ fn promise_list(
     Ok((members, rest))
 }
 
+/// Members with the place of the brace that closes them.
+fn closed(
+    members: Items<Member>,
+    tokens: &[Token],
+) -> Result<((Items<Member>, Span), &[Token]), Halt>
+    ensures { Answers body_parts result (read_as (λ end. (map member_of members, end)) (read_sign CloseBrace) tokens.now) }
+{
+    match fixed(Symbol::Sign(Sign::CloseBrace), tokens) {
+        Ok((end, rest)) => Ok(((members, end), rest)),
+        Err(halt) => Err(halt),
+    }
+}
+
 /// `"{" {member} "}"`, with the place of the closing brace.
 fn contract_body(
     alloc: Global,
@@ -200,9 +215,7 @@ fn contract_body(
 {
     let (_, rest) = fixed(Symbol::Sign(Sign::OpenBrace), tokens)?;
     let (members, rest) = member_list(alloc, room, rest)?;
-    let close = fixed(Symbol::Sign(Sign::CloseBrace), rest);
-    let (members, end, rest) = with(members, close)?;
-    Ok(((members, end), rest))
+    closed(members, rest)
 }
 
 /// `"{" {"state" NAME ";" | head ";"} "}"`, with the place of the closing brace.
@@ -215,9 +228,7 @@ fn interface_body(
 {
     let (_, rest) = fixed(Symbol::Sign(Sign::OpenBrace), tokens)?;
     let (members, rest) = promise_list(alloc, room, rest)?;
-    let close = fixed(Symbol::Sign(Sign::CloseBrace), rest);
-    let (members, end, rest) = with(members, close)?;
-    Ok(((members, end), rest))
+    closed(members, rest)
 }
 
 /// `"contract" NAME [generic] ["implements" named] "{" {member} "}"`

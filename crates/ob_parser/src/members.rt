@@ -13,10 +13,12 @@
 ghost use Rattle.std.specs.Prelude.{◌≡◌, map, option_map};
 ghost use Rattle.ob_tree.specs.NamesView.{ref_of, type_of};
 ghost use Rattle.ob_tree.specs.MembersView.{field_of, member_of};
-ghost use Rattle.ob_grammar.specs.Readers.{read_many};
-ghost use Rattle.ob_grammar.specs.MemberReaders.{types, read_states, read_available, read_field, read_result, read_head};
+ghost use Rattle.ob_grammar.specs.Readers.{◌>>=◌ as ◌then◌, done, name_if, read_token, read_both, read_many};
+ghost use Rattle.ob_grammar.specs.MemberReaders.{types, field_of as made_field, read_states, read_available, read_field, read_result, read_head};
 ghost use Rattle.ob_grammar.specs.ContractReaders.{read_braced, read_fields, read_state, read_privacy, read_transaction, read_value_field, read_constructed, read_held, read_member_tail, member_behind, read_behind_ref, read_member, read_bare_state, read_promise, read_interface_member};
 ghost use Rattle.ob_grammar.specs.AllReaders.{all_refs, all_blocks};
+ghost use Rattle.ob_grammar.specs.StmtReaders.{read_sign};
+ghost use Rattle.ob_lexer.specs.declared.token.Sign.TheVariants.{Semicolon};
 ghost use Rattle.ob_parser.specs.Parts.{access_part, head_part, tail_part};
 ghost use Rattle.ob_parser_names.specs.Answering.{Answers, as_it_is};
 
@@ -85,13 +87,17 @@ fn available(alloc: Global, tokens: &[Token]) -> Result<(Items<NamePart>, &[Toke
     states(alloc, tokens)
 }
 
-/// `field`
-fn field(alloc: Global, room: u8, tokens: &[Token]) -> Result<(FieldNode, &[Token]), Halt>
-    ensures { Answers field_of result (read_field (all_refs room) tokens.now) }
+/// `NAME ["available" "in" NAME {"," NAME}] ";"`, behind the type of the field.
+fn field_of_type(
+    alloc: Global,
+    of: TypeNode,
+    tokens: &[Token],
+) -> Result<(FieldNode, &[Token]), Halt>
+    ensures { Answers field_of result (read_both (read_token name_if) (read_both read_available (read_sign Semicolon)) tokens.now
+        then (λ parts left. done (made_field (type_of of, parts)) left)) }
 {
-    let (of, rest) = type_node(alloc, room, tokens)?;
-    let (of, name, rest) = with(of, name_part(alloc, rest))?;
-    let ((of, name), available, rest) = with((of, name), available(alloc, rest))?;
+    let (name, rest) = name_part(alloc, tokens)?;
+    let (name, available, rest) = with(name, available(alloc, rest))?;
     let field = FieldNode {
         of,
         name,
@@ -100,19 +106,20 @@ fn field(alloc: Global, room: u8, tokens: &[Token]) -> Result<(FieldNode, &[Toke
     before(field, Symbol::Sign(Sign::Semicolon), rest)
 }
 
+/// `field`
+fn field(alloc: Global, room: u8, tokens: &[Token]) -> Result<(FieldNode, &[Token]), Halt>
+    ensures { Answers field_of result (read_field (all_refs room) tokens.now) }
+{
+    let (of, rest) = type_node(alloc, room, tokens)?;
+    field_of_type(alloc, of, rest)
+}
+
 /// `field`, of a type that has no permission.
 fn value_field(alloc: Global, tokens: &[Token]) -> Result<(FieldNode, &[Token]), Halt>
     ensures { Answers field_of result (read_value_field tokens.now) }
 {
     let (of, rest) = value_type(tokens)?;
-    let (of, name, rest) = with(of, name_part(alloc, rest))?;
-    let ((of, name), available, rest) = with((of, name), available(alloc, rest))?;
-    let field = FieldNode {
-        of,
-        name,
-        available,
-    };
-    before(field, Symbol::Sign(Sign::Semicolon), rest)
+    field_of_type(alloc, of, rest)
 }
 
 /// `{field}`

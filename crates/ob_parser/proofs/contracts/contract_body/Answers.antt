@@ -3,6 +3,8 @@ use Rattle.ob_grammar.specs.ContractReaders.{member_first, read_member, read_bod
 use Rattle.ob_grammar.specs.AllReaders.{all_refs, all_blocks}
 use Rattle.ob_parser_names.specs.Answering.{Halts}
 use Rattle.ob_parser_names.proofs.Halts.{halts_bind}
+use Rattle.ob_grammar.specs.Readers.{read_many}
+use Rattle.ob_parser.proofs.CodeParts.{body_answer}
 use Rattle.ob_parser.proofs.contracts.contract_body.Goals as goal
 
 pub returns-in_err-members : goal.returns-in_err-members
@@ -13,5 +15,5 @@ returns-in_err-members c =
 pub returns-in_err-rest : goal.returns-in_err-rest
 returns-in_err-rest c = search (rules, halts_bind)
 
-pub returns-in_err-members-2 : goal.returns-in_err-members-2
-returns-in_err-members-2 c = search (rules, halts_bind)
+pub returns : goal.returns
+returns c = body_answer (read_many member_first (read_member (all_refs c.args.room) (all_blocks c.args.room))) c.closed.result c.args.tokens.now c.in_ok-rest.rest.now c.in_ok-members.rest.now _ _ c.in_ok-rest.ensures c.in_ok-members.ensures c.closed.ensures
