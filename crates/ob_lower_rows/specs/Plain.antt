@@ -1,13 +1,19 @@
 -- Statements without blocks.
-use Rattle.std.specs.Prelude.{⊤, ℕ, [], Result}
+use Rattle.std.specs.Prelude.{⊤, ℕ, [], Result, Ok}
 use Rattle.ob_base.specs.declared.fault.Span.{Span}
+use Rattle.ob_table.specs.Expressions.{Expression}
+use Rattle.ob_table.specs.declared.seen.Seen.{Seen}
 use Rattle.ob_table.specs.declared.seen.SeenAt.{SeenAt}
+use Rattle.ob_typing.specs.WellMade.{Frame, kind_of_seen}
 use Rattle.ob_silica.specs.Terms.{SilicaForm, SilicaTerms, unit_form, const_form, revert_form}
 use Rattle.ob_silica.specs.declared.place.Constant.TheVariants.{Text}
 use Rattle.ob_silica.specs.declared.place.Operand.{Operand}
 use Rattle.ob_lowering.specs.ExpressionTerms.{slot_operand}
-use Rattle.ob_lowering_slots.specs.Progress.{Stop, ◌>>=◌, with_term}
-use Rattle.ob_lowering_slots.specs.StatementCode.{Position, named_code, behind}
+use Rattle.ob_lowering.specs.Points.{Around, locals_of, place_of}
+use Rattle.ob_lowering.specs.StatementTerms.{set_place}
+use Rattle.ob_lowering_slots.specs.Progress.{Stop, ◌>>=◌, found, slots_from, with_term}
+use Rattle.ob_lowering_slots.specs.ExpressionCode.{value_code}
+use Rattle.ob_lowering_slots.specs.StatementCode.{Position, around_at, begun, named_code, behind}
 use Rattle.ob_table.specs.Statements.{Statement, resolved_declare, resolved_assign, resolved_stage, resolved_change, resolved_discard, resolved_test, resolved_if, resolved_return, resolved_revert, resolved_disown, resolved_assert}
 
 -- a statement in which no block stands
@@ -33,3 +39,15 @@ empty_revert k span out =
 abbrev pub about_code : Position → SeenAt → (Operand → SilicaForm) → Span → SilicaTerms → Result (Position × SilicaTerms) Stop
 about_code q subject form span out =
     named_code q subject >>= (λ o. behind q (with_term (with_term out unit_form span) (form o) span))
+
+-- what sets the place of a name
+abbrev pub set_seen : Around → Seen → Operand → Result SilicaForm Stop
+set_seen a seen from =
+    found (kind_of_seen a.frame (locals_of a.variables) seen)
+    >>= (λ kind. found (place_of a.variables seen)
+    >>= (λ place. Ok (set_place kind place from)))
+
+-- the terms of a value whose temporaries aren't dropped, with the operand that stands for it
+abbrev pub alone_code : Frame → Expression → Span → Position → SilicaTerms → Result (SilicaTerms × Operand) Stop
+alone_code f e span q out =
+    value_code (around_at f q span) e (begun (slots_from q.slots) span out) >>= (λ x. Ok (x.0.terms, x.1))

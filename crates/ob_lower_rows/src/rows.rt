@@ -159,7 +159,8 @@ fn change_after(
         given,
         slots,
     } = row;
-    end_with(Form::Change { state, given }, first, &slots, out)
+    end_with(Form::Change { state, given }, first, slots, out)?;
+    Ok(())
 }
 
 /// A change of state.

@@ -10,18 +10,18 @@ ghost use Rattle.ob_lowering_slots.specs.Progress.{with_term};
 ghost use Rattle.ob_lowering_slots.specs.StatementCode.{declare_code, assign_code, discard_code, condition_code};
 ghost use Rattle.ob_lowering_slots.specs.StatementCode.{return_code, revert_code, named_code, settled, statement_code};
 ghost use Rattle.ob_lower_slots.specs.Makes.{Makes};
-ghost use Rattle.ob_lower_rows.specs.Plain.{IsPlain, about_code, empty_revert};
+ghost use Rattle.ob_lower_rows.specs.Plain.{IsPlain, about_code, empty_revert, set_seen};
 ghost use Rattle.ob_lower_rows.specs.Waits.{then_settled};
 
 use crate::position::Position;
 use crate::rows::{lower_change, lower_stage};
-use crate::values::{begin_expression, begin_value, end_with};
+use crate::values::{begin_expression, begin_value, end_temporaries, end_with, value_alone};
 use ob_base::{Perm, Span, Text};
 use ob_lower_operands::slot_operand;
-use ob_lower_parts::{Frame, Variable};
-use ob_lower_slots::{Code, Stopped, drop_temporaries};
+use ob_lower_parts::{Around, Frame, Variable};
+use ob_lower_slots::{Code, Stopped};
 use ob_silica::{Constant, Form, Operand, Place};
-use ob_table::{LocalKind, ResolvedExpr, ResolvedStmt, SeenAt};
+use ob_table::{LocalKind, ResolvedExpr, ResolvedStmt, Seen, SeenAt};
 
 // What sets a slot of this kind.
 fn set_slot(kind: LocalKind, slot: u8, from: Operand) -> Form
@@ -80,13 +80,23 @@ fn lower_declare(
     let mut slots = position.fresh_slots(out.alloc());
     let slot = slots.next(declared.name)?;
     let from = begin_value(value, span, frame, position, out, &mut slots)?;
-    end_with(set_slot(declared.of, slot, from), span, &slots, out)?;
+    end_with(set_slot(declared.of, slot, from), span, slots, out)?;
     position.declare(Variable {
         local: declared.local,
         kind: declared.of,
         slot,
     })?;
     Ok(())
+}
+
+// What sets the place of a name.
+fn set_seen(seen: Seen, from: Operand, around: &Around<'_>) -> Result<Form, Stopped>
+    ensures { Makes result form_of (set_seen around.now seen from) }
+{
+    match (around.kind_of_seen(seen), around.place_of(seen)) {
+        (Some(kind), Some(place)) => Ok(set_place(kind, place, from)),
+        _ => Err(Stopped::Unmade),
+    }
 }
 
 // An assignment.
@@ -103,14 +113,8 @@ fn lower_assign(
 {
     let mut slots = position.fresh_slots(out.alloc());
     let from = begin_value(value, span, frame, position, out, &mut slots)?;
-    let around = position.around(frame, span);
-    let Some(kind) = around.kind_of_seen(target.of) else {
-        return Err(Stopped::Unmade);
-    };
-    let Some(place) = around.place_of(target.of) else {
-        return Err(Stopped::Unmade);
-    };
-    end_with(set_place(kind, place, from), span, &slots, out)?;
+    let form = set_seen(target.of, from, &position.around(frame, span))?;
+    end_with(form, span, slots, out)?;
     position.settle();
     Ok(())
 }
@@ -128,7 +132,7 @@ fn lower_discard(
 {
     let mut slots = position.fresh_slots(out.alloc());
     let _value = begin_expression(value, span, frame, position, out, &mut slots)?;
-    drop_temporaries(&slots, span, out)?;
+    end_temporaries(slots, span, out)?;
     position.settle();
     Ok(())
 }
@@ -147,7 +151,7 @@ pub fn lower_condition(
 {
     let mut slots = position.fresh_slots(out.alloc());
     let operand = begin_value(condition, span, frame, position, out, &mut slots)?;
-    drop_temporaries(&slots, span, out)?;
+    end_temporaries(slots, span, out)?;
     position.settle();
     Ok(operand)
 }
@@ -163,8 +167,7 @@ fn return_value(
     ensures { Makes result (λ _. out.new)
         (return_code frame.now (Some (expression_of value.now)) span position.now out.old) }
 {
-    let mut slots = position.fresh_slots(out.alloc());
-    let place = Some(begin_value(value, span, frame, position, out, &mut slots)?);
+    let place = Some(value_alone(value, span, frame, position, out)?);
     out.put(Form::Return { place }, span)?;
     Ok(())
 }
@@ -202,8 +205,7 @@ fn revert_with(
     ensures { Makes result (λ _. out.new)
         (revert_code frame.now (Some (expression_of text.now)) span position.now out.old) }
 {
-    let mut slots = position.fresh_slots(out.alloc());
-    let text = begin_value(text, span, frame, position, out, &mut slots)?;
+    let text = value_alone(text, span, frame, position, out)?;
     out.put(Form::Revert { text }, span)?;
     Ok(())
 }
