@@ -1,10 +1,11 @@
 //! Statements and blocks (the Obsidian language documentation, "Statements").
-ghost use Rattle.std.specs.Prelude.{◌≡◌, IfOk, OnOk};
+ghost use Rattle.std.specs.Prelude.{◌≡◌, ◌&&◌, Ok, IfOk, OnOk};
 ghost use Rattle.ob_table.specs.Statements.{resolved_block};
 ghost use Rattle.ob_table.specs.StatementsView.{statement_of, statements_of, resolved_block_of, otherwise_of};
 ghost use Rattle.ob_typing.specs.WellMade.{ends_there, one_ends_there, block_ends_there, other_ends_there};
-ghost use Rattle.ob_silica.specs.TermsView.{terms_of};
+ghost use Rattle.ob_silica.specs.TermsView.{form_of, terms_of};
 ghost use Rattle.ob_lowering.specs.StatementTerms.{join_of};
+ghost use Rattle.ob_lowering_slots.specs.Progress.{with_term};
 ghost use Rattle.ob_lowering_slots.specs.StatementCode.{settled, statement_code, statements_code};
 ghost use Rattle.ob_lowering_slots.specs.StatementCode.{block_code, otherwise_code};
 ghost use Rattle.ob_lower_slots.specs.Makes.{Makes};
@@ -33,6 +34,21 @@ fn join_of(then: &ResolvedBlock, otherwise: &Option<ResolvedBlock>) -> Span
         None => then.end,
         Some(block) => block.end,
     }
+}
+
+// A form with two branches: whether nothing is reached behind it, as where both end.
+fn put_branches(
+    form: Form,
+    first_ends: bool,
+    second_ends: bool,
+    span: Span,
+    out: &mut Code,
+) -> Result<bool, Stopped>
+    ensures code { Makes result (λ _. out.new) (Ok (with_term out.old (form_of form) span)) }
+    ensures ends { IfOk result (λ ends. ends ≡ (first_ends && second_ends)) }
+{
+    out.put(form, span)?;
+    Ok(first_ends && second_ends)
 }
 
 // A statement before these: whether nothing is reached behind it.
@@ -67,8 +83,7 @@ fn lower_statement(
                 otherwise: no.terms,
                 join: join_of(then, otherwise),
             };
-            out.put(form, *span)?;
-            Ok(yes.ends && no.ends)
+            put_branches(form, yes.ends, no.ends, *span, out)
         }
         ResolvedStmt::If {
             condition,
@@ -85,8 +100,7 @@ fn lower_statement(
                 otherwise: no.terms,
                 join: join_of(then, otherwise),
             };
-            out.put(form, *span)?;
-            Ok(yes.ends && no.ends)
+            put_branches(form, yes.ends, no.ends, *span, out)
         }
         _ => lower_plain(statement, rest, frame, position, out),
     }
