@@ -64,8 +64,7 @@ fn pass_with(
         receiver,
         reads.as_slice(),
         params.as_slice(),
-    )?;
-    Ok(())
+    )
 }
 
 /// Calls a transaction of another object.
@@ -146,8 +145,7 @@ fn pass_this(
         args,
         reads.as_slice(),
         params.as_slice(),
-    )?;
-    Ok(())
+    )
 }
 
 /// Calls a transaction of `this`, whose place in the text is that of the form.

@@ -8,11 +8,10 @@ use Rattle.ob_flow_forms.proofs.calling.pass_this.Goals as goal
 
 pub returns : goal.returns
 returns c =
-    let done = c.in_ok-pass_this_with.ensures in
-    passes_this c.args.frame.now (tested_of c.args.tested.now) (context_of c.args.context.now)
+    passes_this c.pass_this_with.result c.args.frame.now (tested_of c.args.tested.now) (context_of c.args.context.now)
     (context_of c.pass_this_with.new.context) c.args.at c.args.signature.now c.args.args.now
     (reads_of c.as_slice.result.now) (plain_parameters c.as_slice-2.result.now)
     (ap reads_of (c.as_slice.ensures ∙ c.in_ok-reads.ensures))
     (ap plain_parameters c.as_slice-2.ensures ∙ c.in_ok-params.ensures
     ∙ ap (λ h. all_parameters h c.args.signature.now) c.here.ensures)
-    (record { holds = done.0; leaves = done.1 })
+    c.pass_this_with.ensures
