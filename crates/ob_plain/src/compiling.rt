@@ -38,23 +38,23 @@ enum Formed {
     Other,
 }
 
-fn resolved(alloc: Global, program: Option<ProgramTree>) -> Result<Formed, Memory>
-    ensures { IfOk result (Resolves program) }
+fn resolved(alloc: Global, program: &Option<ProgramTree>) -> Result<Formed, Memory>
+    ensures { IfOk result (Resolves program.now) }
 {
     let Some(program) = program else {
         return Ok(Formed::Program(None));
     };
-    if !meets_conditions(&program) {
+    if !meets_conditions(program) {
         return Ok(Formed::Other);
     }
-    Ok(Formed::Program(Some(resolve(alloc, &program)?)))
+    Ok(Formed::Program(Some(resolve(alloc, program)?)))
 }
 
 fn in_form(alloc: Global, tree: &Tree) -> Result<Formed, Memory>
     ensures { IfOk result (Forms (tree_of tree.now)) }
 {
     match built(alloc, tree) {
-        Ok(program) => resolved(alloc, program),
+        Ok(program) => resolved(alloc, &program),
         Err(BuiltError::NotBuilt) => Ok(Formed::Other),
         Err(BuiltError::Memory) => Err(Memory),
     }

@@ -97,12 +97,20 @@ fn transaction(
     ensures { IfOk result (λ plain. plain ≡ plain_transaction fields.now transaction.now) }
 {
     let params = transaction.params.as_slice();
-    Ok(PlainTx {
-        name: transaction.name.copy(alloc)?,
-        params: copy_items(alloc, &transaction.params)?,
-        sets: sets(alloc, fields, params, transaction.sets.as_slice())?,
-        gives: sum(alloc, fields, params, &transaction.gives)?,
-    })
+    match (
+        transaction.name.copy(alloc),
+        copy_items(alloc, &transaction.params),
+        sets(alloc, fields, params, transaction.sets.as_slice()),
+        sum(alloc, fields, params, &transaction.gives),
+    ) {
+        (Ok(name), Ok(params), Ok(sets), Ok(gives)) => Ok(PlainTx {
+            name,
+            params,
+            sets,
+            gives,
+        }),
+        _ => Err(Memory),
+    }
 }
 
 fn transactions(
@@ -137,10 +145,18 @@ pub fn resolve(alloc: Global, tree: &ProgramTree) -> Result<Plain, Memory>
     ensures { IfOk result (λ plain. plain ≡ plain_of tree.now) }
 {
     let fields = tree.fields.as_slice();
-    Ok(Plain {
-        name: tree.name.copy(alloc)?,
-        fields: copy_items(alloc, &tree.fields)?,
-        start: values(alloc, tree.starts.as_slice())?,
-        transactions: transactions(alloc, fields, tree.transactions.as_slice())?,
-    })
+    match (
+        tree.name.copy(alloc),
+        copy_items(alloc, &tree.fields),
+        values(alloc, tree.starts.as_slice()),
+        transactions(alloc, fields, tree.transactions.as_slice()),
+    ) {
+        (Ok(name), Ok(fields), Ok(start), Ok(transactions)) => Ok(Plain {
+            name,
+            fields,
+            start,
+            transactions,
+        }),
+        _ => Err(Memory),
+    }
 }
