@@ -34,8 +34,12 @@ impl Named {
                 return Ok(());
             }
         }
-        let name = String::from_str(alloc, name)?;
-        self.items.push((name, more.to_vec(alloc)?))?;
+        self.items.push(item_of(alloc, name, more)?)?;
         Ok(())
     }
+}
+
+// Copies of a name and of its bytes.
+fn item_of(alloc: Global, name: &str, bytes: &[u8]) -> Result<(String, Vec<u8>), Trouble> {
+    Ok((String::from_str(alloc, name)?, bytes.to_vec(alloc)?))
 }

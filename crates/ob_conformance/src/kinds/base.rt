@@ -52,47 +52,83 @@ fn number_in(value: &str) -> Result<i64, Trouble> {
     value.parse().ok().ok_or(Trouble::Line("no number"))
 }
 
-fn put_field(kind: &str, value: &str, into: &mut Vec<u8>) -> Result<(), Trouble> {
-    const NO_FIELD: Trouble = Trouble::Line("no such field");
-    match kind {
-        "u8" => put_u8(into, u8::try_from(number_in(value)?).ok().ok_or(NO_FIELD)?)?,
-        "u32" => put_u32(into, u32::try_from(number_in(value)?).ok().ok_or(NO_FIELD)?)?,
-        "i64" => put_i64(into, number_in(value)?)?,
-        "text" if value.len() < 1 << 20 => put_text(into, value)?,
+/// What is said of a field of no kind that there is, or of a value out of its range.
+const NO_FIELD: Trouble = Trouble::Line("no such field");
+
+fn put_number(kind: &str, number: i64, into: &mut Vec<u8>) -> Result<(), Trouble> {
+    let put = match (kind, u8::try_from(number), u32::try_from(number)) {
+        ("u8", Ok(byte), _) => put_u8(into, byte),
+        ("u32", _, Ok(word)) => put_u32(into, word),
+        ("i64", _, _) => put_i64(into, number),
         _ => return Err(NO_FIELD),
+    };
+    Ok(put?)
+}
+
+fn put_field(kind: &str, value: &str, into: &mut Vec<u8>) -> Result<(), Trouble> {
+    match kind {
+        "text" if value.len() < 1 << 20 => Ok(put_text(into, value)?),
+        "text" => Err(NO_FIELD),
+        _ => put_number(kind, number_in(value)?, into),
     }
-    Ok(())
+}
+
+// Whether the next field is this number.
+fn is_number(fields: &mut Fields<'_>, kind: &str, number: i64) -> bool {
+    match kind {
+        "u8" => matches!(fields.u8(), Ok(read) if i64::from(read) == number),
+        "u32" => matches!(fields.u32(), Ok(read) if i64::from(read) == number),
+        _ => matches!(fields.i64(), Ok(read) if read == number),
+    }
+}
+
+// Whether the next field is this text.
+fn is_text_of(fields: &mut Fields<'_>, alloc: Global, value: &str) -> Result<bool, Trouble> {
+    match fields.text(alloc) {
+        Ok(text) => Ok(text.as_str() == value),
+        Err(FieldFault::Memory) => Err(Trouble::Memory),
+        Err(_) => Ok(false),
+    }
 }
 
 // Whether the bytes are those of a field alone.
 fn is_field(alloc: Global, kind: &str, value: &str, bytes: &[u8]) -> Result<bool, Trouble> {
     let mut fields = Fields::new(bytes);
     let is_read = match kind {
-        "u8" => matches!(fields.u8(), Ok(read) if i64::from(read) == number_in(value)?),
-        "u32" => matches!(fields.u32(), Ok(read) if i64::from(read) == number_in(value)?),
-        "i64" => matches!(fields.i64(), Ok(read) if read == number_in(value)?),
-        _ => match fields.text(alloc) {
-            Ok(text) => text.as_str() == value,
-            Err(FieldFault::Memory) => return Err(Trouble::Memory),
-            Err(_) => false,
-        },
+        "text" => is_text_of(&mut fields, alloc, value)?,
+        _ => is_number(&mut fields, kind, number_in(value)?),
     };
     Ok(is_read && fields.at() == bytes.len())
 }
 
-/// The bytes of a field, in hexadecimal digits, from which it was read again: `u8 5`, `u32 5`, `i64 -5` or `text five`.
-pub fn bytes(alloc: Global, field: &[u8]) -> Result<Vec<u8>, Trouble> {
-    let field = str::from_utf8(field).ok().ok_or(Trouble::Line("no field"))?;
-    let (kind, value) = field.split_once(' ').ok_or(Trouble::Line("no field"))?;
+fn field_bytes(alloc: Global, kind: &str, value: &str) -> Result<Vec<u8>, Trouble> {
     let mut bytes = Vec::new(alloc);
     put_field(kind, value, &mut bytes)?;
+    Ok(bytes)
+}
+
+// The bytes of a field in hexadecimal digits, and that they aren't read as it, where they aren't.
+fn field_line(alloc: Global, bytes: &[u8], is_read: bool) -> Result<Vec<u8>, Trouble> {
     let mut lines = Lines::new(alloc);
-    for byte in &bytes {
+    for byte in bytes {
         lines.put_byte(*byte);
     }
-    if !is_field(alloc, kind, value, &bytes)? {
+    if !is_read {
         lines.put(", read as another");
     }
     lines.end();
     lines.into_bytes()
+}
+
+// The kind of a field, and its value.
+fn parts_of(field: &[u8]) -> Option<(&str, &str)> {
+    str::from_utf8(field).ok()?.split_once(' ')
+}
+
+/// The bytes of a field, in hexadecimal digits, from which it was read again: `u8 5`, `u32 5`, `i64 -5` or `text five`.
+pub fn bytes(alloc: Global, field: &[u8]) -> Result<Vec<u8>, Trouble> {
+    let (kind, value) = parts_of(field).ok_or(Trouble::Line("no field"))?;
+    let bytes = field_bytes(alloc, kind, value)?;
+    let is_read = is_field(alloc, kind, value, &bytes)?;
+    field_line(alloc, &bytes, is_read)
 }

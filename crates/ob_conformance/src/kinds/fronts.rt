@@ -47,17 +47,19 @@ fn is_refused_change(alloc: Global, text: &[u8], at: usize) -> Result<bool, Trou
     Ok(is_expected_at(alloc, lexed.tokens.as_slice(), lexed.end, span))
 }
 
-/// `each token counts`: with another in its place it is refused, and the tokens before it are refused at their end. Or the
-/// numbers of those that don't count.
-pub fn whole(alloc: Global, text: &[u8]) -> Result<Vec<u8>, Trouble> {
-    let lexed = lexed_of(alloc, text)?;
-    if parse(alloc, lexed.tokens.as_slice(), lexed.end).is_err() {
-        return Ok(b"refused\n".to_vec(alloc)?);
+// Whether a token counts: with another in its place it is refused, and the tokens before it are refused at their end.
+fn counts(alloc: Global, text: &[u8], lexed: &Lexed, at: usize) -> Result<bool, Trouble> {
+    if at > 0 && !is_refused_front(alloc, lexed, at) {
+        return Ok(false);
     }
+    is_refused_change(alloc, text, at)
+}
+
+// The numbers of the tokens that don't count, or that each does.
+fn counting(alloc: Global, text: &[u8], lexed: &Lexed) -> Result<Vec<u8>, Trouble> {
     let mut lines = Lines::new(alloc);
     for at in 0..lexed.tokens.len() {
-        let is_front = at > 0 && !is_refused_front(alloc, &lexed, at);
-        if is_front || !is_refused_change(alloc, text, at)? {
+        if !counts(alloc, text, lexed, at)? {
             lines.put_count("", at);
             lines.put(" ");
         }
@@ -69,6 +71,15 @@ pub fn whole(alloc: Global, text: &[u8]) -> Result<Vec<u8>, Trouble> {
     });
     lines.end();
     lines.into_bytes()
+}
+
+/// `each token counts`, or the numbers of those that don't; `refused`, where the text is no program.
+pub fn whole(alloc: Global, text: &[u8]) -> Result<Vec<u8>, Trouble> {
+    let lexed = lexed_of(alloc, text)?;
+    if parse(alloc, lexed.tokens.as_slice(), lexed.end).is_err() {
+        return Ok(b"refused\n".to_vec(alloc)?);
+    }
+    counting(alloc, text, &lexed)
 }
 
 /// How many tokens the fronts have that are programs. Each other front is refused at its end.

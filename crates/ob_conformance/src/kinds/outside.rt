@@ -67,12 +67,16 @@ impl Outside {
         const NO_OUTSIDE: Trouble = Trouble::Line("no such outside");
         let (word, rest) = part.split_once(' ').ok_or(NO_OUTSIDE)?;
         match word {
-            "room" => self.room = number_of(rest)? as usize,
-            "files" => put_calls(rest, &mut self.files)?,
-            "input" => put_calls(rest, &mut self.input)?,
-            "output" => put_calls(rest, &mut self.output)?,
-            _ => return Err(NO_OUTSIDE),
+            "room" => self.take_room(rest),
+            "files" => put_calls(rest, &mut self.files),
+            "input" => put_calls(rest, &mut self.input),
+            "output" => put_calls(rest, &mut self.output),
+            _ => Err(NO_OUTSIDE),
         }
+    }
+
+    fn take_room(&mut self, room: &str) -> Result<(), Trouble> {
+        self.room = number_of(room)? as usize;
         Ok(())
     }
 }

@@ -80,14 +80,29 @@ fn run_failing(alloc: Global, given: Given, outside: Outside) -> Result<Ended, T
         .faults()
         .saturating_add(input.faults())
         .saturating_add(output.faults());
-    Ok(Ended {
-        exit,
-        output: Some(output.bytes().to_vec(alloc)?),
-        faults,
-        unread: left_in(alloc, &mut input, length)?,
-        length,
-        serves: asks_to_serve(&words),
-    })
+    let serves = asks_to_serve(&words);
+    match (
+        output.bytes().to_vec(alloc),
+        left_in(alloc, &mut input, length),
+    ) {
+        (Ok(output), Ok(unread)) => Ok(Ended {
+            exit,
+            output: Some(output),
+            faults,
+            unread,
+            length,
+            serves,
+        }),
+        _ => Err(Trouble::Memory),
+    }
+}
+
+// What was written, where it is told.
+fn told(alloc: Global, output: Option<&[u8]>) -> Result<Option<Vec<u8>>, Trouble> {
+    match output {
+        Some(bytes) => Ok(Some(bytes.to_vec(alloc)?)),
+        None => Ok(None),
+    }
 }
 
 fn run_sure(alloc: Global, given: Given, room: usize) -> Result<Ended, Trouble> {
@@ -101,18 +116,21 @@ fn run_sure(alloc: Global, given: Given, room: usize) -> Result<Ended, Trouble> 
     let mut input = SureSource::new(input);
     let mut output = SureSink::new(alloc, room);
     let exit = run(alloc, &words, &mut files, &mut input, &mut output);
-    let output = match output.bytes() {
-        Some(bytes) => Some(bytes.to_vec(alloc)?),
-        None => None,
-    };
-    Ok(Ended {
-        exit,
-        output,
-        faults: 0,
-        unread: left_in(alloc, &mut input, length)?,
-        length,
-        serves: asks_to_serve(&words),
-    })
+    let serves = asks_to_serve(&words);
+    match (
+        told(alloc, output.bytes()),
+        left_in(alloc, &mut input, length),
+    ) {
+        (Ok(output), Ok(unread)) => Ok(Ended {
+            exit,
+            output,
+            faults: 0,
+            unread,
+            length,
+            serves,
+        }),
+        _ => Err(Trouble::Memory),
+    }
 }
 
 // Whether as many calls failed as the end says, and as many bytes of the input are left.
@@ -162,12 +180,26 @@ fn run_given(alloc: Global, given: Given, outside: Outside) -> Result<Ended, Tro
     }
 }
 
+// What a run of a case over this input is handed.
+fn given_by(alloc: Global, case: &Case, input: &[u8]) -> Result<Given, Trouble> {
+    given_of(
+        alloc,
+        text_of(case.part("words"))?,
+        case.part("text"),
+        input,
+    )
+}
+
+// The run of a case over this input, where the outside does this.
+fn run_in(alloc: Global, case: &Case, input: &[u8], outside: &[u8]) -> Result<Ended, Trouble> {
+    let given = given_by(alloc, case, input)?;
+    let outside = Outside::of(alloc, text_of(outside)?)?;
+    run_given(alloc, given, outside)
+}
+
 /// What a whole run over this input comes to: a line with its status, and then what it writes.
 pub fn whole_run(alloc: Global, case: &Case, input: &[u8]) -> Result<Vec<u8>, Trouble> {
-    let words = text_of(case.part("words"))?;
-    let given = given_of(alloc, words, case.part("text"), input)?;
-    let outside = Outside::of(alloc, text_of(case.part("given"))?)?;
-    show(alloc, run_given(alloc, given, outside)?)
+    show(alloc, run_in(alloc, case, input, case.part("given"))?)
 }
 
 /// What is expected of a whole run that writes this: the status, `0 Done` where none is named, and then the output.
@@ -196,21 +228,24 @@ fn put_lines_in(lines: &mut Lines, front: &[u8], whole: &[u8]) {
     }
 }
 
-/// How a run ends where the outside does this, and how many lines it writes of those that it writes where nothing fails.
-pub fn cut_run(alloc: Global, case: &Case, outside: &[u8]) -> Result<Vec<u8>, Trouble> {
-    let words = text_of(case.part("words"))?;
-    let given = given_of(alloc, words, case.part("text"), case.part("input"))?;
-    let whole = run_sure(alloc, given, AMPLE)?;
-    let given = given_of(alloc, words, case.part("text"), case.part("input"))?;
-    let ended = run_given(alloc, given, Outside::of(alloc, text_of(outside)?)?)?;
+// How a run ended, and how many lines it wrote of those that the whole one did.
+fn cut_line(alloc: Global, ended: &Ended, whole: &Ended) -> Result<Vec<u8>, Trouble> {
     let mut lines = Lines::new(alloc);
-    put_end(&mut lines, &ended);
+    put_end(&mut lines, ended);
     match (&ended.output, &whole.output) {
         (Some(front), Some(whole)) => put_lines_in(&mut lines, front, whole),
         _ => lines.put(", untold"),
     }
     lines.end();
     lines.into_bytes()
+}
+
+/// How a run ends where the outside does this, and how many lines it writes of those that it writes where nothing fails.
+pub fn cut_run(alloc: Global, case: &Case, outside: &[u8]) -> Result<Vec<u8>, Trouble> {
+    let input = case.part("input");
+    let whole = run_sure(alloc, given_by(alloc, case, input)?, AMPLE)?;
+    let ended = run_in(alloc, case, input, outside)?;
+    cut_line(alloc, &ended, &whole)
 }
 
 // Whether a run is done where it wrote this, and refuses where it wrote something else.

@@ -4,6 +4,7 @@ use crate::trouble::Trouble;
 use ob_base::Duplicate;
 use ob_front::{CompileError, syntax_tree};
 use ob_layout::print;
+use ob_machine::Plain;
 use ob_plain::compile_plain;
 use ob_tree::Tree;
 use std::alloc::Global;
@@ -42,19 +43,31 @@ fn shown_part(alloc: Global, shown: String, part: &[u8]) -> Result<Vec<u8>, Trou
     }
 }
 
+// `shown`, where the tree shows this part; or else the whole tree.
+fn shown_tree(alloc: Global, tree: &Tree, part: &[u8]) -> Result<Vec<u8>, Trouble> {
+    let shown = format!(in alloc; "{tree:?}\n")?;
+    shown_part(alloc, shown, part)
+}
+
 /// `shown`, where the tree of a text shows this part; or else the whole tree, or the fault.
 pub fn tree(alloc: Global, text: &[u8], part: &[u8]) -> Result<Vec<u8>, Trouble> {
     match syntax_tree(alloc, text) {
-        Ok(tree) => shown_part(alloc, format!(in alloc; "{tree:?}\n")?, part),
+        Ok(tree) => shown_tree(alloc, &tree, part),
         Err(CompileError::Fault(fault)) => fault_line(alloc, fault),
         Err(CompileError::Memory) => Err(Trouble::Memory),
     }
 }
 
+// `shown`, where the program shows this part; or else the whole program.
+fn shown_plain(alloc: Global, program: &Option<Plain>, part: &[u8]) -> Result<Vec<u8>, Trouble> {
+    let shown = format!(in alloc; "{program:?}\n")?;
+    shown_part(alloc, shown, part)
+}
+
 /// `shown`, where the program that a text resolves to shows this part; or else the whole program, or the fault.
 pub fn plain(alloc: Global, text: &[u8], part: &[u8]) -> Result<Vec<u8>, Trouble> {
     match compile_plain(alloc, text) {
-        Ok(program) => shown_part(alloc, format!(in alloc; "{program:?}\n")?, part),
+        Ok(program) => shown_plain(alloc, &program, part),
         Err(CompileError::Fault(fault)) => fault_line(alloc, fault),
         Err(CompileError::Memory) => Err(Trouble::Memory),
     }
