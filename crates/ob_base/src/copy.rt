@@ -34,3 +34,16 @@ pub fn copy_option<T: Duplicate + Drop>(
         Some(value) => Ok(Some(value.copy(alloc)?)),
     }
 }
+
+/// The two parts, where there was memory for both.
+pub fn both<A: Drop, B: Drop>(
+    first: Result<A, Memory>,
+    second: Result<B, Memory>,
+) -> Result<(A, B), Memory>
+    ensures { IfOk result (λ parts. (first ≡ Ok parts.0) × (second ≡ Ok parts.1)) }
+{
+    match (first, second) {
+        (Ok(first), Ok(second)) => Ok((first, second)),
+        _ => Err(Memory),
+    }
+}

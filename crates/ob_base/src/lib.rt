@@ -15,7 +15,7 @@ mod permission;
 
 pub use bytes::{put_i64, put_text, put_u8, put_u32};
 pub use cause::{Failed, Memory};
-pub use copy::{Duplicate, copy_items, copy_option};
+pub use copy::{Duplicate, both, copy_items, copy_option};
 pub use fault::{
     ARG_COUNT, ASSERT_FAILS, ASSET_LOST, ASSET_OVERWRITTEN, ASSIGN_PARAMETER, BAD_CHARACTER,
     BAD_ESCAPE, BAD_EXIT, BAD_TRANSITION, BIG_NUMBER, BOUND, BRANCH_LOSES, DUPLICATE,

@@ -45,7 +45,7 @@ fn least_of(alloc: Global, declared: &Declared<'_>) -> Result<Option<ProgramFaul
 }
 
 // The class table of what is declared, or its first fault.
-fn table_or_first(alloc: Global, declared: &Declared<'_>) -> Result<Table, ResolveError>
+fn resolve_declared(alloc: Global, declared: &Declared<'_>) -> Result<Table, ResolveError>
     ensures table { IfOk result (λ table. HasClassTable (map contract_of declared.now) table) }
     ensures fault { IfErr result (λ e. OnFault e (IsFirstFault (map contract_of declared.now))) }
 {
@@ -62,7 +62,7 @@ pub fn resolve(alloc: Global, tree: &Tree) -> Result<Table, ResolveError>
     ensures fault { IfErr result (λ e. OnFault e (IsFirstFault (tree_of tree.now))) }
 {
     let declared = Declared::new(alloc, tree.contracts.as_slice())?;
-    table_or_first(alloc, &declared)
+    resolve_declared(alloc, &declared)
 }
 
 /// A program without faults has no first fault.

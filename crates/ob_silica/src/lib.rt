@@ -3,7 +3,6 @@
 #![tactic(auto)]
 
 mod body;
-mod copies;
 mod place;
 mod term;
 

@@ -2,9 +2,8 @@
 //! own).
 ghost use Rattle.std.specs.Prelude.{◌≡◌, IfOk};
 
-use crate::copies::both;
 use crate::place::{Constant, Given, Operand, Place};
-use ob_base::{ContractId, Duplicate, Items, Memory, Operator, Perm, Span, StateId, TxId};
+use ob_base::{ContractId, Duplicate, Items, Memory, Operator, Perm, Span, StateId, TxId, both};
 use std::alloc::Global;
 
 /// A form, and its place in the text: that of those of its faults that aren't an operand's, a given field's or a

@@ -3,8 +3,9 @@ ghost use Rattle.std.specs.Prelude.{◌≡◌};
 ghost use Rattle.std.specs.Option.{option_copied};
 ghost use Rattle.ob_table.specs.Tables.{field_at, signature_at};
 
-use crate::copies::both;
-use ob_base::{ContractId, Duplicate, FieldId, Items, Memory, Name, Perm, Text, TxId, copy_items};
+use ob_base::{
+    ContractId, Duplicate, FieldId, Items, Memory, Name, Perm, Text, TxId, both, copy_items,
+};
 use std::alloc::Global;
 
 /// The type of a field, a parameter or a result.

@@ -1,9 +1,8 @@
 //! Expressions with numbers in place of names (the Obsidian language documentation, "Expressions").
 ghost use Rattle.std.specs.Prelude.{◌≡◌, IfOk};
 
-use crate::copies::both;
 use crate::seen::SeenAt;
-use ob_base::{Boxed, ContractId, Duplicate, Items, Memory, Operator, Span, Text, TxId};
+use ob_base::{Boxed, ContractId, Duplicate, Items, Memory, Operator, Span, Text, TxId, both};
 use std::alloc::Global;
 
 /// An expression. Its `span` runs from its first token to its last, the parentheses around it included.

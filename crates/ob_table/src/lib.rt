@@ -4,7 +4,6 @@
 
 mod body;
 mod contract;
-mod copies;
 mod expr;
 mod seen;
 mod stmt;

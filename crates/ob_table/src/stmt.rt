@@ -1,10 +1,11 @@
 //! Statements with numbers in place of names (the Obsidian language documentation, "Statements").
 ghost use Rattle.std.specs.Prelude.{◌≡◌, IfOk};
 
-use crate::copies::both;
 use crate::expr::ResolvedExpr;
 use crate::seen::{LocalKind, SeenAt};
-use ob_base::{Duplicate, FieldId, Items, Memory, Perm, Span, StateId, copy_items, copy_option};
+use ob_base::{
+    Duplicate, FieldId, Items, Memory, Perm, Span, StateId, both, copy_items, copy_option,
+};
 use std::alloc::Global;
 
 /// `{ statements }`.

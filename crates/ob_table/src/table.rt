@@ -9,9 +9,8 @@ ghost use Rattle.ob_table.specs.Tables.{contract_at, contract_named};
 
 use crate::body::Body;
 use crate::contract::Contract;
-use crate::copies::both;
 use indexmap::IndexMap;
-use ob_base::{ContractId, Duplicate, Items, Memory, copy_items};
+use ob_base::{ContractId, Duplicate, Items, Memory, both, copy_items};
 use std::alloc::Global;
 use std::marker::Model;
 

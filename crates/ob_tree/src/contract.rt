@@ -12,10 +12,9 @@ ghost use Rattle.std.specs.Prelude.{◌≡◌, IfOk};
 ghost use Rattle.ob_tree.specs.MembersView.{tree_of};
 ghost use Rattle.ob_tree.specs.declared.contract.Tree.{Tree};
 
-use crate::copies::both;
 use crate::member::Member;
 use crate::name::{NamePart, NamedNode};
-use ob_base::{Duplicate, Items, Memory, Mode, Span, Text, copy_items, copy_option};
+use ob_base::{Duplicate, Items, Memory, Mode, Span, Text, both, copy_items, copy_option};
 use std::alloc::Global;
 
 /// The type parameter of a contract, in brackets behind its name.

@@ -1,9 +1,8 @@
 //! Expressions as they are written (the Obsidian language documentation, "Expressions").
 ghost use Rattle.std.specs.Prelude.{◌≡◌, IfOk};
 
-use crate::copies::both;
 use crate::name::{NamePart, NamedNode, Subject};
-use ob_base::{Boxed, Duplicate, Items, Memory, Operator, Span, Text, copy_option};
+use ob_base::{Boxed, Duplicate, Items, Memory, Operator, Span, Text, both, copy_option};
 use std::alloc::Global;
 
 /// An expression. Its `span` runs from its first token to its last, the parentheses around it included.

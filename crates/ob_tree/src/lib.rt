@@ -2,7 +2,6 @@
 #![tactic(auto)]
 
 mod contract;
-mod copies;
 mod expr;
 mod member;
 mod name;

@@ -13,10 +13,9 @@
 //! A transaction of an interface ends with `;` in place of its block.
 ghost use Rattle.std.specs.Prelude.{◌≡◌, IfOk};
 
-use crate::copies::both;
 use crate::name::{NamePart, NamedNode, PermNode, RefNode, Subject, TypeNode};
 use crate::stmt::Block;
-use ob_base::{Duplicate, Items, Memory, Span, copy_items, copy_option};
+use ob_base::{Duplicate, Items, Memory, Span, both, copy_items, copy_option};
 use std::alloc::Global;
 
 /// A field.

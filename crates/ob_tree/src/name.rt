@@ -9,8 +9,7 @@
 //! ```
 ghost use Rattle.std.specs.Prelude.{◌≡◌, IfOk};
 
-use crate::copies::both;
-use ob_base::{Boxed, Duplicate, Items, Memory, Mode, Span, Text, copy_items};
+use ob_base::{Boxed, Duplicate, Items, Memory, Mode, Span, Text, both, copy_items};
 use std::alloc::Global;
 
 /// A name, and where it stands.

@@ -1,10 +1,9 @@
 //! Statements as they are written (the Obsidian language documentation, "Statements").
 ghost use Rattle.std.specs.Prelude.{◌≡◌, IfOk};
 
-use crate::copies::both;
 use crate::expr::Expr;
 use crate::name::{NamePart, NamedNode, PermNode, Subject};
-use ob_base::{Duplicate, Items, Memory, Span, copy_items, copy_option};
+use ob_base::{Duplicate, Items, Memory, Span, both, copy_items, copy_option};
 use std::alloc::Global;
 
 /// `{ statements }`.

@@ -6,10 +6,10 @@ use Rattle.ob_resolve.proofs.resolving.resolve.Goals as goal
 
 pub returns-clause-table : goal.returns-clause-table
 returns-clause-table c =
-    subst (λ nodes. IfOk c.table_or_first.result (λ table. HasClassTable (map contract_of nodes) table))
-    (c.in_ok-declared.ensures ∙ c.as_slice.ensures) c.table_or_first.ensures.table
+    subst (λ nodes. IfOk c.resolve_declared.result (λ table. HasClassTable (map contract_of nodes) table))
+    (c.in_ok-declared.ensures ∙ c.as_slice.ensures) c.resolve_declared.ensures.table
 
 pub returns-clause-fault : goal.returns-clause-fault
 returns-clause-fault c =
-    subst (λ nodes. IfErr c.table_or_first.result (λ e. OnFault e (IsFirstFault (map contract_of nodes))))
-    (c.in_ok-declared.ensures ∙ c.as_slice.ensures) c.table_or_first.ensures.fault
+    subst (λ nodes. IfErr c.resolve_declared.result (λ e. OnFault e (IsFirstFault (map contract_of nodes))))
+    (c.in_ok-declared.ensures ∙ c.as_slice.ensures) c.resolve_declared.ensures.fault

@@ -1,7 +1,7 @@
 use Rattle.std.proofs.Common.{map}
 use Rattle.ob_tree.specs.MembersView.{contract_of}
 use Rattle.ob_resolve.proofs.ResolvingLaws.{told, clean}
-use Rattle.ob_resolve.proofs.resolving.table_or_first.Goals as goal
+use Rattle.ob_resolve.proofs.resolving.resolve_declared.Goals as goal
 
 pub returns-in-Some-clause-fault : goal.returns-in-Some-clause-fault
 returns-in-Some-clause-fault c =
