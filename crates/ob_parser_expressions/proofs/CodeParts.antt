@@ -1,13 +1,13 @@
 -- Rows that are read a part at a time: what they give, and why they end.
-use Rattle.std.proofs.Common.{ℕ, ◌≡◌, ◌-◌, List, [], ◌∷◌, Option, Result, Ok, Err, IfOk, IfErr, refl, sym, ap, ◌∙◌}
+use Rattle.std.proofs.Common.{ℕ, ◌≡◌, ◌-◌, List, Option, Result, Ok, Err, IfOk, IfErr, ap, ◌∙◌}
 use Rattle.std.specs.Borrow.{Bor}
 use Rattle.ob_base.specs.declared.fault.Span.{Span}
 use Rattle.ob_lexer.specs.declared.token.Token.{Token}
 use Rattle.ob_lexer.specs.declared.token.Sign.{Sign}
 use Rattle.ob_grammar.specs.Symbols.{a_sign}
-use Rattle.ob_grammar.specs.Readers.{Read, done, stop, deep, Reader, ◌>>=◌, behind, place_if, read_token, read_opened, put_before, read_many}
+use Rattle.ob_grammar.specs.Readers.{Read, done, Reader, ◌>>=◌, behind, place_if, read_token, read_opened, put_before, read_many}
 use Rattle.ob_grammar.specs.NameReaders.{on, second, read_item, read_parted, inner, read_counted}
-use Rattle.ob_parser_names.specs.Answering.{Halts, Answers, prefixed, read_open}
+use Rattle.ob_parser_names.specs.Answering.{Halts, Answers, read_open}
 use Rattle.ob_parser_names.specs.Places.{first_place}
 use Rattle.ob_parser_names.specs.declared.halt.Halt.{Halt}
 use Rattle.ob_parser_names.proofs.Halts.{halts_bind}
@@ -63,18 +63,7 @@ module _ {A : Type 0} (left right : Sign) (room : ℕ) (p : ℕ → Reader A) (t
 
 -- ---- a list
 
-put_first : {A : Type 0} (x : A) (r : Read (List A)) → ((r >>= (λ y rest. done (x, y) rest)) >>= (λ pair rest. done (put_before pair) rest)) ≡ prefixed (x ∷ []) r
-put_first x (done ys rest) = refl
-put_first x (stop rest) = refl
-put_first x (deep rest) = refl
-
 module _ {A : Type 0} (s : Sign) (p : Reader A) where
-  pub parted_begins : (ts rest : List Token) (x : A) (xs : List A) → p ts ≡ done x rest → xs ≡ x ∷ [] → read_parted s p ts ≡ prefixed xs (read_many (on s) (read_item s p) rest)
-  parted_begins ts rest x xs is first =
-      ap (λ r. (r >>= behind (λ y. read_many (on s) (read_item s p))) >>= (λ pair left. done (put_before pair) left)) is
-      ∙ put_first x (read_many (on s) (read_item s p) rest)
-      ∙ ap (λ l. prefixed l (read_many (on s) (read_item s p) rest)) (sym first)
-
   pub parted_halts : (ts : List Token) (e : Halt) → Halts e (p ts) → Halts e (read_parted s p ts)
   parted_halts ts e is =
       halts_bind e (p ts >>= behind (λ x. read_many (on s) (read_item s p))) (λ parts rest. done (put_before parts) rest)
