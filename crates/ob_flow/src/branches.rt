@@ -15,7 +15,7 @@ use ob_silica::{Operand, Place};
 use std::alloc::Global;
 
 /// Whether the point behind forms is reached.
-#[derive(Clone, Copy, PartialEq, Eq, Debug)]
+#[derive(Clone, Copy)]
 pub enum Flow {
     On,
     /// They return or revert.

@@ -9,7 +9,7 @@ ghost use Rattle.ob_lexer.specs.Lexing.{class_of, close_of, is_no_newline, goes_
 use ob_base::{is_digit, is_letter, is_letter_or_digit};
 
 /// What a byte begins, where it is the first.
-#[derive(Clone, Copy, PartialEq, Eq, Debug)]
+#[derive(Clone, Copy)]
 pub enum Class {
     /// A space, a tab, a carriage return or a newline.
     Blank,

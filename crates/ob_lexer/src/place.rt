@@ -6,7 +6,7 @@ use crate::bytes::begins_character;
 use ob_base::Span;
 
 /// A place between two characters of a text.
-#[derive(Clone, Copy, PartialEq, Eq, Debug)]
+#[derive(Clone, Copy)]
 pub struct Place {
     /// The number of bytes before it.
     pub offset: u32,

@@ -12,7 +12,7 @@ use ob_base::{BAD_CHARACTER, BIG_NUMBER, LONG_NAME, Memory, Name, NameError, OPE
 use std::alloc::Global;
 
 /// What a text begins with.
-#[derive(Debug, Drop)]
+#[derive(Drop)]
 pub enum Step {
     /// A blank or a comment.
     Gap {

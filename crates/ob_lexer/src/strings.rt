@@ -12,7 +12,7 @@ use std::alloc::Global;
 const LONGEST_STRING: usize = 1024;
 
 /// What a byte of a string is.
-#[derive(Clone, Copy, PartialEq, Eq, Debug)]
+#[derive(Clone, Copy)]
 pub enum Heard {
     /// It stands for this byte.
     Value(u8),

@@ -30,7 +30,7 @@ const NOT_OF_FORM: ProgramFault = ProgramFault {
 };
 
 /// What a tree comes to in the form that is built.
-#[derive(Debug, Drop)]
+#[derive(Drop)]
 enum Formed {
     /// The program that it is; None is the empty program.
     Program(Option<Plain>),

@@ -2,7 +2,7 @@
 use ob_base::{Items, Name};
 
 /// The main contract.
-#[derive(Debug, Drop)]
+#[derive(Drop)]
 pub struct ProgramTree {
     pub name: Name,
     pub fields: Items<Name>,
@@ -14,14 +14,14 @@ pub struct ProgramTree {
 }
 
 /// An assignment of a number to a field, in the constructor.
-#[derive(Debug, Drop)]
+#[derive(Drop)]
 pub struct StartTree {
     pub field: Name,
     pub value: i64,
 }
 
 /// A transaction.
-#[derive(Debug, Drop)]
+#[derive(Drop)]
 pub struct TransactionTree {
     pub name: Name,
     /// The contract that is named as that of `this`.
@@ -34,28 +34,28 @@ pub struct TransactionTree {
 }
 
 /// An assignment of a sum to a field.
-#[derive(Debug, Drop)]
+#[derive(Drop)]
 pub struct SetTree {
     pub field: Name,
     pub sum: SumTree,
 }
 
 /// A term, and the terms that are added to it.
-#[derive(Debug, Drop)]
+#[derive(Drop)]
 pub struct SumTree {
     pub first: TermTree,
     pub more: Items<AddendTree>,
 }
 
 /// A term that is added, with the line of the `+` before it, from 1.
-#[derive(Debug, Drop)]
+#[derive(Drop)]
 pub struct AddendTree {
     pub line: u32,
     pub term: TermTree,
 }
 
 /// A term of a sum: a number, or the name of a field or a parameter.
-#[derive(Debug, Drop)]
+#[derive(Drop)]
 pub enum TermTree {
     Number(i64),
     Name(Name),
