@@ -1,5 +1,5 @@
 //! Copies of plain data.
-ghost use Rattle.std.specs.Prelude.{◌≡◌, IfOk};
+ghost use Rattle.std.specs.Prelude.{◌≡◌, ◌&&◌, false, IfOk, MatchResult, is_ok};
 
 use crate::{Items, Memory};
 use std::alloc::Global;
@@ -35,12 +35,13 @@ pub fn copy_option<T: Duplicate + Drop>(
     }
 }
 
-/// The two parts, where there was memory for both.
+/// The two parts, exactly where there was memory for both.
 pub fn both<A: Drop, B: Drop>(
     first: Result<A, Memory>,
     second: Result<B, Memory>,
 ) -> Result<(A, B), Memory>
-    ensures { IfOk result (λ parts. (first ≡ Ok parts.0) × (second ≡ Ok parts.1)) }
+    ensures { MatchResult result (λ parts. (first ≡ Ok parts.0) × (second ≡ Ok parts.1))
+        (λ _. is_ok first && is_ok second ≡ false) }
 {
     match (first, second) {
         (Ok(first), Ok(second)) => Ok((first, second)),
