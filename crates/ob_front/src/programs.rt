@@ -6,7 +6,7 @@ ghost use Rattle.ob_front.specs.Programs.{HasTerms, HasTermsFault, IsProgram, Is
 ghost use Rattle.ob_front.specs.Compiling.{OnFault};
 
 use crate::stages::{CompileError, class_table};
-use ob_base::Items;
+use ob_base::{Duplicate, Items, Memory, both, copy_items};
 use ob_middle::{check_bodies, lower_bodies};
 use ob_silica::TermBody;
 use ob_table::Table;
@@ -17,6 +17,13 @@ use std::alloc::Global;
 pub struct Compiled {
     pub table: Table,
     pub bodies: Items<TermBody>,
+}
+
+impl Duplicate for Compiled {
+    fn copy(&self, alloc: Global) -> Result<Compiled, Memory> {
+        let (table, bodies) = both(self.table.copy(alloc), copy_items(alloc, &self.bodies))?;
+        Ok(Compiled { table, bodies })
+    }
 }
 
 /// The class table of a text and the terms of its bodies, or its first fault: one that `class_table` tells, or `LIMIT` where a

@@ -23,37 +23,41 @@ pub word_of-Some : (bytes : List ℕ) (w : Word) → word_of bytes ≡ Some w �
 unfolding word_of
 word_of-Some bytes w e = among-Some words bytes w e
 
-pub word_of-spelling : (w : Word) → word_of (spelling_of_word w) ≡ Some w
+-- a word is found by its spelling, which has the form of a name
+spelled : (w : Word) → (word_of (spelling_of_word w) ≡ Some w) × IsTrue (is_word (spelling_of_word w)) × (length (spelling_of_word w) ≤ 64)
 unfolding word_of
-word_of-spelling word.Contract = refl
-word_of-spelling word.Asset = refl
-word_of-spelling word.Main = refl
-word_of-spelling word.Interface = refl
-word_of-spelling word.Implements = refl
-word_of-spelling word.State = refl
-word_of-spelling word.Transaction = refl
-word_of-spelling word.Private = refl
-word_of-spelling word.Returns = refl
-word_of-spelling word.Available = refl
-word_of-spelling word.In = refl
-word_of-spelling word.If = refl
-word_of-spelling word.Else = refl
-word_of-spelling word.While = refl
-word_of-spelling word.Return = refl
-word_of-spelling word.Revert = refl
-word_of-spelling word.Disown = refl
-word_of-spelling word.New = refl
-word_of-spelling word.This = refl
-word_of-spelling word.True = refl
-word_of-spelling word.False = refl
-word_of-spelling word.Int = refl
-word_of-spelling word.Bool = refl
-word_of-spelling word.String = refl
-word_of-spelling word.Owned = refl
-word_of-spelling word.Unowned = refl
-word_of-spelling word.Shared = refl
-word_of-spelling word.Where = refl
-word_of-spelling word.Is = refl
+spelled word.Contract = (refl, refl, omega arith)
+spelled word.Asset = (refl, refl, omega arith)
+spelled word.Main = (refl, refl, omega arith)
+spelled word.Interface = (refl, refl, omega arith)
+spelled word.Implements = (refl, refl, omega arith)
+spelled word.State = (refl, refl, omega arith)
+spelled word.Transaction = (refl, refl, omega arith)
+spelled word.Private = (refl, refl, omega arith)
+spelled word.Returns = (refl, refl, omega arith)
+spelled word.Available = (refl, refl, omega arith)
+spelled word.In = (refl, refl, omega arith)
+spelled word.If = (refl, refl, omega arith)
+spelled word.Else = (refl, refl, omega arith)
+spelled word.While = (refl, refl, omega arith)
+spelled word.Return = (refl, refl, omega arith)
+spelled word.Revert = (refl, refl, omega arith)
+spelled word.Disown = (refl, refl, omega arith)
+spelled word.New = (refl, refl, omega arith)
+spelled word.This = (refl, refl, omega arith)
+spelled word.True = (refl, refl, omega arith)
+spelled word.False = (refl, refl, omega arith)
+spelled word.Int = (refl, refl, omega arith)
+spelled word.Bool = (refl, refl, omega arith)
+spelled word.String = (refl, refl, omega arith)
+spelled word.Owned = (refl, refl, omega arith)
+spelled word.Unowned = (refl, refl, omega arith)
+spelled word.Shared = (refl, refl, omega arith)
+spelled word.Where = (refl, refl, omega arith)
+spelled word.Is = (refl, refl, omega arith)
+
+pub word_of-spelling : (w : Word) → word_of (spelling_of_word w) ≡ Some w
+word_of-spelling w = (spelled w).0
 
 -- what is no word's spelling isn't reserved
 pub word_of-None : (bytes : List ℕ) → word_of bytes ≡ None → ¬ (IsReserved bytes)
@@ -67,64 +71,8 @@ words_differ v w e =
     cc
 
 pub word_is_word : (w : Word) → IsTrue (is_word (spelling_of_word w))
-word_is_word word.Contract = refl
-word_is_word word.Asset = refl
-word_is_word word.Main = refl
-word_is_word word.Interface = refl
-word_is_word word.Implements = refl
-word_is_word word.State = refl
-word_is_word word.Transaction = refl
-word_is_word word.Private = refl
-word_is_word word.Returns = refl
-word_is_word word.Available = refl
-word_is_word word.In = refl
-word_is_word word.If = refl
-word_is_word word.Else = refl
-word_is_word word.While = refl
-word_is_word word.Return = refl
-word_is_word word.Revert = refl
-word_is_word word.Disown = refl
-word_is_word word.New = refl
-word_is_word word.This = refl
-word_is_word word.True = refl
-word_is_word word.False = refl
-word_is_word word.Int = refl
-word_is_word word.Bool = refl
-word_is_word word.String = refl
-word_is_word word.Owned = refl
-word_is_word word.Unowned = refl
-word_is_word word.Shared = refl
-word_is_word word.Where = refl
-word_is_word word.Is = refl
+word_is_word w = (spelled w).1
 
 -- no reserved word is long
 pub word_is_short : (w : Word) → length (spelling_of_word w) ≤ 64
-word_is_short word.Contract = omega arith
-word_is_short word.Asset = omega arith
-word_is_short word.Main = omega arith
-word_is_short word.Interface = omega arith
-word_is_short word.Implements = omega arith
-word_is_short word.State = omega arith
-word_is_short word.Transaction = omega arith
-word_is_short word.Private = omega arith
-word_is_short word.Returns = omega arith
-word_is_short word.Available = omega arith
-word_is_short word.In = omega arith
-word_is_short word.If = omega arith
-word_is_short word.Else = omega arith
-word_is_short word.While = omega arith
-word_is_short word.Return = omega arith
-word_is_short word.Revert = omega arith
-word_is_short word.Disown = omega arith
-word_is_short word.New = omega arith
-word_is_short word.This = omega arith
-word_is_short word.True = omega arith
-word_is_short word.False = omega arith
-word_is_short word.Int = omega arith
-word_is_short word.Bool = omega arith
-word_is_short word.String = omega arith
-word_is_short word.Owned = omega arith
-word_is_short word.Unowned = omega arith
-word_is_short word.Shared = omega arith
-word_is_short word.Where = omega arith
-word_is_short word.Is = omega arith
+word_is_short w = (spelled w).2

@@ -1,5 +1,6 @@
 //! A program of one contract of whole numbers, with its names resolved.
-use ob_base::{FieldId, Items, Name};
+use ob_base::{Duplicate, FieldId, Items, Memory, Name, both, copy_items};
+use std::alloc::Global;
 
 /// The contract.
 #[derive(Debug, Drop)]
@@ -48,4 +49,56 @@ pub enum PlainTerm {
     Field(FieldId),
     /// A parameter beside `this`, by its place, from 0.
     Param(u8),
+}
+
+impl Duplicate for Plain {
+    fn copy(&self, alloc: Global) -> Result<Plain, Memory> {
+        let start = Items::from_slice(alloc, self.start.as_slice())?;
+        let (name, (fields, transactions)) = both(
+            self.name.copy(alloc),
+            both(
+                copy_items(alloc, &self.fields),
+                copy_items(alloc, &self.transactions),
+            ),
+        )?;
+        Ok(Plain {
+            name,
+            fields,
+            start,
+            transactions,
+        })
+    }
+}
+
+impl Duplicate for PlainTx {
+    fn copy(&self, alloc: Global) -> Result<PlainTx, Memory> {
+        let ((name, params), (sets, gives)) = both(
+            both(self.name.copy(alloc), copy_items(alloc, &self.params)),
+            both(copy_items(alloc, &self.sets), self.gives.copy(alloc)),
+        )?;
+        Ok(PlainTx {
+            name,
+            params,
+            sets,
+            gives,
+        })
+    }
+}
+
+impl Duplicate for PlainSet {
+    fn copy(&self, alloc: Global) -> Result<PlainSet, Memory> {
+        Ok(PlainSet {
+            field: self.field,
+            sum: self.sum.copy(alloc)?,
+        })
+    }
+}
+
+impl Duplicate for PlainSum {
+    fn copy(&self, alloc: Global) -> Result<PlainSum, Memory> {
+        Ok(PlainSum {
+            first: self.first,
+            more: Items::from_slice(alloc, self.more.as_slice())?,
+        })
+    }
 }

@@ -125,13 +125,13 @@ SoFar program first pending written gave ended handed store = Progress (answer_o
 
 -- memory runs out before a reply
 pub gives_up : (program : Option Plain) (old new : Streams) (pending : Option (List ℕ)) (ended : Bool) (handed : ℕ) (store : Store)
-    → SoFar program old.input.left pending old.output.written new.output.written ended handed store → GivesUp program old new
-gives_up program old new pending ended handed store was =
+    → SoFar program old.input.left pending old.output.written new.output.written ended handed store → TakesAtMost old.input new.input (2 ^ 40) → GivesUp program old new
+gives_up program old new pending ended handed store was few =
     let at = reached old.input.left pending was.taken ended was.lines was.took was.split was.ends in
     let k = length (requests_in was.lines) in
     let same : replies (session (answer_of program) blank (requests_in was.lines)) ≡ replies (take k (items_of program (lines_of at.input))) =
     sym (ap (λ (ls : List (List ℕ)). replies (take k (items_of program ls))) at.all ∙ ap replies (front_items (answer_of program) blank was.lines at.rest)) in
-    record { input = at.input; is = at.is; k = k; written = subst (λ (given : List ℕ). Gives old.output.written new.output.written given) same was.given }
+    record { few = few; input = at.input; is = at.is; k = k; written = subst (λ (given : List ℕ). Gives old.output.written new.output.written given) same was.given }
 
 -- so many bytes were taken of the input
 abbrev pub HasTaken : SourceView → SourceView → ℕ → Type 0
@@ -254,15 +254,16 @@ stops_in program lines rest all full reply front back is shows replied split =
 -- a reply was written in part
 pub write_stops : (program : Option Plain) (old new : Streams) (from now : LineReader) (gave : SinkView) (store store' : Store) (is_long : Bool) (line : List ℕ) (reply : Vec ℕ Global)
     → SoFar program old.input.left from.pending old.output.written gave.written from.ended from.handed store → (read : ReadsLine from now is_long line) → Replied program store store' read.full (Some reply) → GivesFront gave.written new.output.written reply.items
-    → old.output.faults ≤ gave.faults → Rose gave.faults new.output.faults
+    → old.output.faults ≤ gave.faults → Rose gave.faults new.output.faults → TakesAtMost old.input new.input (2 ^ 40)
     → FailsToWrite program old new
-write_stops program old new from now gave store store' is_long line reply was read replied front later rose =
+write_stops program old new from now gave store store' is_long line reply was read replied front later rose few =
     let lines = was.lines ++ read.full ∷ [] in
     let at = reached old.input.left now.pending (was.taken ++ read.bytes) now.ended lines (takes_then old.input.left from.pending now.pending was.taken read.bytes was.took read.took) (split_more now.ended was.taken read.full read.bytes was.lines (rw read.goes_on at was.split) read.one_line read.is) read.ends in
     let so_far = replies (session (answer_of program) blank (requests_in was.lines)) in
     let whole : reply.items ≡ replies (session (answer_of program) store (requests_in (read.full ∷ []))) = replied.1 ∙ sym (one_reply program store read.full replied.0) in
     record {
       cause = rose_later old.output.faults gave.faults new.output.faults later rose;
+      few = few;
       input = at.input;
       is = at.is;
       given = so_far ++ front.0;

@@ -1,7 +1,7 @@
 -- What each end of a session says of the two streams.
 use Rattle.std.specs.Prelude.{ℕ, ◌≡◌, ◌+◌, ◌<◌, ◌^◌, ⊤, List, ◌++◌, length, take, Option, None, Some}
 use Rattle.ob_io.specs.Causes.{Rose}
-use Rattle.ob_io.specs.Told.{TakesFrom, Gives, IsEnd}
+use Rattle.ob_io.specs.Told.{TakesFrom, TakesAtMost, Gives, IsEnd}
 use Rattle.ob_io.specs.LinesOfText.{lines_of, whole_lines}
 use Rattle.ob_io.specs.Views.{SourceView, SinkView}
 use Rattle.ob_machine.specs.declared.plain.Plain.{Plain}
@@ -55,17 +55,19 @@ pub record StopsIn (items : List (Item Store)) (given : List ℕ) : Type 0 where
   pub given_is : given ≡ replies (take k items) ++ front
   pub next : replies (take (k + 1) items) ≡ replies (take k items) ++ (front ++ rest)
 
--- A write failed, within a reply.
+-- A write failed, within a reply, and at most 2^40 bytes were taken.
 pub record FailsToWrite (program : Option Plain) (old new : Streams) : Type 0 where
   pub cause : Rose old.output.faults new.output.faults
+  pub few : TakesAtMost old.input new.input (2 ^ 40)
   pub input : List ℕ
   pub is : IsAll old.input.left input
   pub given : List ℕ
   pub written : Gives old.output.written new.output.written given
   pub stops : StopsIn (items_of program (lines_of input)) given
 
--- Memory ran out before a reply: those of k items were written.
+-- Memory ran out before a reply: those of k items were written, and at most 2^40 bytes were taken.
 pub record GivesUp (program : Option Plain) (old new : Streams) : Type 0 where
+  pub few : TakesAtMost old.input new.input (2 ^ 40)
   pub input : List ℕ
   pub is : IsAll old.input.left input
   pub k : ℕ

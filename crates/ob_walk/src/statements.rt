@@ -1,5 +1,5 @@
 //! The faults of statements and bodies.
-ghost use Rattle.std.specs.Prelude.{◌≡◌, [], ◌&&◌, ◌||◌, false, map, OnOk, IfOk, IsOkAnd};
+ghost use Rattle.std.specs.Prelude.{◌≡◌, [], ◌&&◌, ◌||◌, false, map, OnOk, IfOk, IsOkAnd, MatchResult, is_ok};
 ghost use Rattle.ob_tree.specs.ExprsView.{expr_of};
 ghost use Rattle.ob_tree.specs.StmtsView.{given_of, stmt_of, stmts_of, block_of, else_of};
 ghost use Rattle.ob_tree.specs.MembersView.{contract_of, formal_of};
@@ -63,9 +63,10 @@ fn walk_change(
     Ok(())
 }
 
-// Whether both branches end, if both could be walked over.
-fn both(then: Result<bool, Memory>, otherwise: Result<bool, Memory>) -> Result<bool, Memory>
-    ensures { IfOk result (λ both. IsOkAnd then (λ a. IsOkAnd otherwise (λ b. both ≡ a && b))) }
+// Whether both branches end, exactly if both could be walked over.
+fn both_end(then: Result<bool, Memory>, otherwise: Result<bool, Memory>) -> Result<bool, Memory>
+    ensures { MatchResult result (λ end. IsOkAnd then (λ a. IsOkAnd otherwise (λ b. end ≡ a && b)))
+        (λ _. is_ok then && is_ok otherwise ≡ false) }
 {
     match (then, otherwise) {
         (Ok(then), Ok(otherwise)) => Ok(then && otherwise),
@@ -73,9 +74,9 @@ fn both(then: Result<bool, Memory>, otherwise: Result<bool, Memory>) -> Result<b
     }
 }
 
-// A statement that doesn't end, if it could be walked over.
+// A statement that doesn't end, exactly if it could be walked over.
 fn goes_on(walked: Result<(), Memory>) -> Result<bool, Memory>
-    ensures { IfOk result (λ ends. IsOkAnd walked (λ _. ends ≡ false)) }
+    ensures { MatchResult result (λ ends. IsOkAnd walked (λ _. ends ≡ false)) (λ _. is_ok walked ≡ false) }
 {
     match walked {
         Ok(()) => Ok(false),
@@ -144,7 +145,7 @@ fn walk_stmt(
             walk_tested(subject, state, *span, around, scope, least);
             let then = walk_block(then, around, alloc, scope, least);
             let otherwise = walk_else(otherwise, around, alloc, scope, least);
-            both(then, otherwise)
+            both_end(then, otherwise)
         }
         Stmt::If {
             condition,
@@ -155,7 +156,7 @@ fn walk_stmt(
             walk_value(Kind::Bool, condition, around, scope, least);
             let then = walk_block(then, around, alloc, scope, least);
             let otherwise = walk_else(otherwise, around, alloc, scope, least);
-            both(then, otherwise)
+            both_end(then, otherwise)
         }
         Stmt::Return { value, span } => {
             walk_return(value, *span, around, scope, least);

@@ -1,5 +1,6 @@
 //! What a client asks.
-use ob_base::{Items, Label};
+use ob_base::{Duplicate, Items, Label, Memory, both};
+use std::alloc::Global;
 
 /// A request.
 #[derive(Debug, Drop)]
@@ -25,4 +26,31 @@ pub enum Op {
         tx: Label,
         args: Items<i64>,
     },
+}
+
+impl Duplicate for Request {
+    fn copy(&self, alloc: Global) -> Result<Request, Memory> {
+        let (who, op) = both(self.who.copy(alloc), self.op.copy(alloc))?;
+        Ok(Request {
+            id: self.id,
+            who,
+            op,
+        })
+    }
+}
+
+impl Duplicate for Op {
+    fn copy(&self, alloc: Global) -> Result<Op, Memory> {
+        match self {
+            Op::New { contract, into } => {
+                let (contract, into) = both(contract.copy(alloc), into.copy(alloc))?;
+                Ok(Op::New { contract, into })
+            }
+            Op::Call { on, tx, args } => {
+                let args = Items::from_slice(alloc, args.as_slice())?;
+                let (on, tx) = both(on.copy(alloc), tx.copy(alloc))?;
+                Ok(Op::Call { on, tx, args })
+            }
+        }
+    }
 }

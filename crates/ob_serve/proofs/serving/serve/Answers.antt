@@ -11,6 +11,7 @@ pub returns-in_default-clause-ends : goal.returns-in_default-clause-ends
 returns-in_default-clause-ends g c =
     let start : Streams = record { input = g.S.Source.view c.args.input.now; output = g.K.Sink.view c.args.output.now } in
     gives_up c.args.program.now start start start.input.left false 0 blank (begun (answer_of c.args.program.now) blank start.input.left start.output.written start.input.left false 0 refl refl refl)
+    (few_taken start.input start.input 0 (none_taken start.input 0 refl) (omega arith))
 
 pub lines-init : goal.lines-init
 lines-init g c =
@@ -45,6 +46,7 @@ lines-preserved-in-Ok-None g c =
 
 pub returns-in-Err-reply_to-clause-ends : goal.returns-in-Err-reply_to-clause-ends
 returns-in-Err-reply_to-clause-ends g c = gives_up _ _ _ _ _ _ c.lines.store c.lines.invariant.so_far
+    (few_taken _ _ _ (more_taken _ _ _ _ _ c.lines.invariant.drawn c.next_line.ensures.taken) c.next_line.ensures.bound)
 
 pub returns-in-Err-write_all-clause-ends : goal.returns-in-Err-write_all-clause-ends
 returns-in-Err-write_all-clause-ends g c =
@@ -53,6 +55,7 @@ returns-in-Err-write_all-clause-ends g c =
     let front = rw c.deref-in-lines.ensures.value at c.in-Err-write_all.ensures.err in
     write_stops c.args.program.now _ _ (reader c.lines.lines (g.S.Source.view c.lines.input)) (reader c.next_line.new.lines (g.S.Source.view c.next_line.new.input)) (g.K.Sink.view c.lines.output) c.lines.store c.reply_to.new.store _ _ c.in-Ok-Some.reply
     c.lines.invariant.so_far read (replied read.full read.is_full) front (omega (arith, c.lines.invariant.calm_write)) c.in-Err-write_all.ensures.cause.failed
+    (few_taken _ _ _ (more_taken _ _ _ _ _ c.lines.invariant.drawn c.next_line.ensures.taken) c.next_line.ensures.bound)
 
 pub lines-preserved : goal.lines-preserved
 lines-preserved g c =
