@@ -140,6 +140,7 @@ impl<'a> Fields<'a> {
     /// begin with no text for want of bytes, `BadText` where it isn't UTF-8.
     pub fn text(&mut self, alloc: Global) -> Result<String, FieldFault>
         ensures value { IfOk result (λ text. Reads self.old self.new (text_bytes (string_bytes text))) }
+        ensures begins { IfOk result (λ text. BeginsWith (left self.old) (string_bytes text)) }
         ensures fault { IfErr result (λ fault. HasNoText fault (left self.old)) }
         ensures same { OnErr result (self.new ≡ self.old) }
     {

@@ -43,6 +43,8 @@ pub enum Kind {
     Form,
     /// The bytes of a field.
     Bytes,
+    /// What an error says of itself.
+    Message,
 }
 
 impl Kind {
@@ -67,6 +69,7 @@ impl Kind {
             "reply" => Some(Kind::Reply),
             "form" => Some(Kind::Form),
             "bytes" => Some(Kind::Bytes),
+            "message" => Some(Kind::Message),
             _ => None,
         }
     }
@@ -121,6 +124,7 @@ impl Kind {
             Kind::Reply => wire::reply(alloc, asked),
             Kind::Form => base::form(alloc, asked),
             Kind::Bytes => base::bytes(alloc, asked),
+            Kind::Message => base::message(alloc, asked),
         }
     }
 }

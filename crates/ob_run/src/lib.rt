@@ -7,4 +7,5 @@ mod fault_line;
 mod top;
 
 pub use exit::Exit;
+pub use fault_line::fault_line;
 pub use top::run;

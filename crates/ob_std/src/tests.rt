@@ -90,6 +90,7 @@ fn files_give_what_a_file_contains(rt: HostRuntime) -> Result<(), Fail> {
 #[test]
 fn files_cut_after_the_limit(rt: HostRuntime) -> Result<(), Fail> {
     assert_eq!(rt; length_read(&rt, "ob_std_cut", 5000)?, 5000);
+    assert_eq!(rt; length_read(&rt, "ob_std_full", 9000)?, 9000);
     Ok(())
 }
 

@@ -1,10 +1,13 @@
 //! Names, labels and texts, and fields as bytes.
 use crate::kinds::lines::Lines;
+use crate::kinds::tokens::text_of;
 use crate::trouble::Trouble;
 use ob_base::{
-    Duplicate, FieldFault, Fields, Label, Name, NameError, Text, put_i64, put_text, put_u8, put_u32,
+    Duplicate, Failed, FieldFault, Fields, Label, Memory, Name, NameError, Text, put_i64, put_text,
+    put_u8, put_u32,
 };
 use std::alloc::Global;
+use std::fmt::Display;
 
 fn is_name(alloc: Global, bytes: &[u8]) -> Result<bool, Trouble> {
     match Name::of(alloc, bytes) {
@@ -131,4 +134,19 @@ pub fn bytes(alloc: Global, field: &[u8]) -> Result<Vec<u8>, Trouble> {
     let bytes = field_bytes(alloc, kind, value)?;
     let is_read = is_field(alloc, kind, value, &bytes)?;
     field_line(alloc, &bytes, is_read)
+}
+
+// What an error says of itself, as a line.
+fn said<E: Display>(alloc: Global, error: &E) -> Result<Vec<u8>, Trouble> {
+    Ok(format!(in alloc; "{error}\n")?.into_bytes())
+}
+
+/// What the error of this name says of itself.
+pub fn message(alloc: Global, name: &[u8]) -> Result<Vec<u8>, Trouble> {
+    match text_of(name)? {
+        "Memory" => said(alloc, &Memory),
+        "Failed" => said(alloc, &Failed),
+        "Bad" => said(alloc, &NameError::Bad),
+        _ => Err(Trouble::Line("no such error")),
+    }
 }

@@ -1,9 +1,9 @@
 //! The class table of a text, as lines.
 use crate::kinds::bodies::put_body;
 use crate::kinds::lines::Lines;
-use crate::kinds::tokens::fault_line;
+use crate::kinds::tokens::fault_bytes;
 use crate::trouble::Trouble;
-use ob_base::{Name, Perm, TxId};
+use ob_base::{Duplicate, Name, Perm, TxId};
 use ob_front::{CompileError, class_table};
 use ob_table::{Contract, Field, Kind, Listed, Param, Signature, Table};
 use std::alloc::Global;
@@ -136,11 +136,18 @@ fn table_lines(alloc: Global, table: &Table) -> Result<Vec<u8>, Trouble> {
     lines.into_bytes()
 }
 
-/// The class table of a text, or its fault.
+// The lines of a copy of the table.
+fn copy_lines(alloc: Global, table: Table) -> Result<Vec<u8>, Trouble> {
+    let copy = table.copy(alloc)?;
+    drop(table);
+    table_lines(alloc, &copy)
+}
+
+/// The class table of a text, from a copy of it, or the text's fault.
 pub fn table(alloc: Global, text: &[u8]) -> Result<Vec<u8>, Trouble> {
     match class_table(alloc, text) {
-        Ok(table) => table_lines(alloc, &table),
-        Err(CompileError::Fault(fault)) => fault_line(alloc, fault),
+        Ok(table) => copy_lines(alloc, table),
+        Err(CompileError::Fault(fault)) => fault_bytes(alloc, fault),
         Err(CompileError::Memory) => Err(Trouble::Memory),
     }
 }

@@ -1,9 +1,9 @@
 //! The terms of a text's bodies, as lines.
 use crate::kinds::lines::Lines;
-use crate::kinds::tokens::fault_line;
+use crate::kinds::tokens::fault_bytes;
 use crate::trouble::Trouble;
-use ob_base::{ContractId, FieldId, Operator, StateId, TxId};
-use ob_front::{CompileError, lowered};
+use ob_base::{ContractId, Duplicate, FieldId, Operator, StateId, TxId};
+use ob_front::{Compiled, CompileError, lowered};
 use ob_silica::{Constant, Form, Given, Operand, Place, Term, TermBody};
 use std::alloc::Global;
 
@@ -267,17 +267,22 @@ fn put_body(lines: &mut Lines, body: &TermBody) {
     put_terms(body.terms.as_slice(), lines);
 }
 
-/// The terms of a text's bodies, or its fault.
+// The lines of a copy of the bodies.
+fn copy_lines(alloc: Global, program: Compiled) -> Result<Vec<u8>, Trouble> {
+    let copy = program.copy(alloc)?;
+    drop(program);
+    let mut lines = Lines::new(alloc);
+    for body in copy.bodies.as_slice() {
+        put_body(&mut lines, body);
+    }
+    lines.into_bytes()
+}
+
+/// The terms of a text's bodies, from a copy of them, or the text's fault.
 pub fn terms(alloc: Global, text: &[u8]) -> Result<Vec<u8>, Trouble> {
     match lowered(alloc, text) {
-        Ok(program) => {
-            let mut lines = Lines::new(alloc);
-            for body in program.bodies.as_slice() {
-                put_body(&mut lines, body);
-            }
-            lines.into_bytes()
-        }
-        Err(CompileError::Fault(fault)) => fault_line(alloc, fault),
+        Ok(program) => copy_lines(alloc, program),
+        Err(CompileError::Fault(fault)) => fault_bytes(alloc, fault),
         Err(CompileError::Memory) => Err(Trouble::Memory),
     }
 }

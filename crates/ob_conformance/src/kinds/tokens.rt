@@ -1,19 +1,14 @@
 //! The tokens of a text.
 use crate::kinds::lines::Lines;
 use crate::trouble::Trouble;
-use ob_base::{Duplicate, ProgramFault, Span, fault_name};
+use ob_base::{Duplicate, ProgramFault, Span};
 use ob_lexer::{LexError, Lexed, TokenKind, lex};
+use ob_run::fault_line;
 use std::alloc::Global;
 
-/// The line of a fault: `LINE:COLUMN: NUMBER Name`.
-pub fn fault_line(alloc: Global, fault: ProgramFault) -> Result<Vec<u8>, Trouble> {
-    let mut lines = Lines::new(alloc);
-    lines.put_place(fault.span);
-    lines.put_with(": ", u32::from(fault.number));
-    lines.put(" ");
-    lines.put(fault_name(fault.number));
-    lines.end();
-    lines.into_bytes()
+/// The line of a fault.
+pub fn fault_bytes(alloc: Global, fault: ProgramFault) -> Result<Vec<u8>, Trouble> {
+    Ok(fault_line(alloc, fault)?.into_bytes())
 }
 
 fn put_place(lines: &mut Lines, span: Span) {
@@ -23,7 +18,7 @@ fn put_place(lines: &mut Lines, span: Span) {
     lines.put(" ");
 }
 
-// The bytes of a name or a text, as a text.
+/// The bytes of a name or a text, as a text.
 pub fn text_of(bytes: &[u8]) -> Result<&str, Trouble> {
     str::from_utf8(bytes).ok().ok_or(Trouble::Line("no text"))
 }
@@ -75,7 +70,7 @@ pub fn tokens(alloc: Global, text: &[u8]) -> Result<Vec<u8>, Trouble> {
             drop(lexed);
             tokens_line(alloc, &copy)
         }
-        Err(LexError::Fault(fault)) => fault_line(alloc, fault),
+        Err(LexError::Fault(fault)) => fault_bytes(alloc, fault),
         Err(LexError::Memory) => Err(Trouble::Memory),
     }
 }

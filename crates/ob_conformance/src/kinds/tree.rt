@@ -1,7 +1,7 @@
 //! The tree of a text, and the program that it resolves to.
-use crate::kinds::tokens::fault_line;
+use crate::kinds::tokens::fault_bytes;
 use crate::trouble::Trouble;
-use ob_base::Duplicate;
+use ob_base::{Duplicate, copy_option};
 use ob_front::{CompileError, syntax_tree};
 use ob_layout::print;
 use ob_machine::Plain;
@@ -20,7 +20,7 @@ fn print_copy(alloc: Global, tree: Tree) -> Result<Vec<u8>, Trouble> {
 pub fn layout(alloc: Global, text: &[u8]) -> Result<Vec<u8>, Trouble> {
     match syntax_tree(alloc, text) {
         Ok(tree) => print_copy(alloc, tree),
-        Err(CompileError::Fault(fault)) => fault_line(alloc, fault),
+        Err(CompileError::Fault(fault)) => fault_bytes(alloc, fault),
         Err(CompileError::Memory) => Err(Trouble::Memory),
     }
 }
@@ -53,22 +53,24 @@ fn shown_tree(alloc: Global, tree: &Tree, part: &[u8]) -> Result<Vec<u8>, Troubl
 pub fn tree(alloc: Global, text: &[u8], part: &[u8]) -> Result<Vec<u8>, Trouble> {
     match syntax_tree(alloc, text) {
         Ok(tree) => shown_tree(alloc, &tree, part),
-        Err(CompileError::Fault(fault)) => fault_line(alloc, fault),
+        Err(CompileError::Fault(fault)) => fault_bytes(alloc, fault),
         Err(CompileError::Memory) => Err(Trouble::Memory),
     }
 }
 
-// `shown`, where the program shows this part; or else the whole program.
-fn shown_plain(alloc: Global, program: &Option<Plain>, part: &[u8]) -> Result<Vec<u8>, Trouble> {
-    let shown = format!(in alloc; "{program:?}\n")?;
+// `shown`, where a copy of the program shows this part; or else the whole copy.
+fn shown_plain(alloc: Global, program: Option<Plain>, part: &[u8]) -> Result<Vec<u8>, Trouble> {
+    let copy = copy_option(alloc, &program)?;
+    drop(program);
+    let shown = format!(in alloc; "{copy:?}\n")?;
     shown_part(alloc, shown, part)
 }
 
 /// `shown`, where the program that a text resolves to shows this part; or else the whole program, or the fault.
 pub fn plain(alloc: Global, text: &[u8], part: &[u8]) -> Result<Vec<u8>, Trouble> {
     match compile_plain(alloc, text) {
-        Ok(program) => shown_plain(alloc, &program, part),
-        Err(CompileError::Fault(fault)) => fault_line(alloc, fault),
+        Ok(program) => shown_plain(alloc, program, part),
+        Err(CompileError::Fault(fault)) => fault_bytes(alloc, fault),
         Err(CompileError::Memory) => Err(Trouble::Memory),
     }
 }

@@ -2,7 +2,7 @@
 use crate::kinds::lines::Lines;
 use crate::kinds::tokens::text_of;
 use crate::trouble::Trouble;
-use ob_base::{Label, ObjectId};
+use ob_base::{Duplicate, Label, ObjectId};
 use ob_wire::{
     Answer, Cause, Op, Outcome, Refusal, Reply, Request, WireError, read_request, reply_bytes,
 };
@@ -49,10 +49,17 @@ fn request_line(alloc: Global, request: &Request) -> Result<Vec<u8>, Trouble> {
     lines.into_bytes()
 }
 
-/// The request that a line asks: `ID CLIENT: new CONTRACT into NAME`, `ID CLIENT: NAME.TRANSACTION(ARGUMENTS)` or `none`.
+// The line of a copy of the request.
+fn copy_line(alloc: Global, request: Request) -> Result<Vec<u8>, Trouble> {
+    let copy = request.copy(alloc)?;
+    drop(request);
+    request_line(alloc, &copy)
+}
+
+/// The request that a line asks, from a copy of it: `ID CLIENT: new CONTRACT into NAME`, `ID CLIENT: NAME.TRANSACTION(ARGUMENTS)` or `none`.
 pub fn request(alloc: Global, line: &[u8]) -> Result<Vec<u8>, Trouble> {
     match read_request(alloc, line) {
-        Ok(request) => request_line(alloc, &request),
+        Ok(request) => copy_line(alloc, request),
         Err(WireError::NoRequest) => Ok(b"none\n".to_vec(alloc)?),
         Err(WireError::Memory) => Err(Trouble::Memory),
     }
