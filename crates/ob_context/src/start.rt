@@ -83,7 +83,6 @@ fn fields_known(alloc: Global, frame: &BodyFrame<'_>) -> Result<Items<Option<Kno
 }
 
 /// What is known where a body begins.
-
 #[tactic(auto, using(crate::proofs::BeginningLemmas::beginnings))]
 pub fn beginning(alloc: Global, frame: &BodyFrame<'_>) -> Result<Context, Memory>
     ensures { IfOk result (λ context. context_of context ≡ beginning frame.now) }

@@ -19,8 +19,8 @@ use thiserror::Error;
 /// Why a text has no program.
 #[derive(Clone, Copy, PartialEq, Eq, Debug, Error)]
 pub enum CompileError {
-    /// The first fault of the text.
-    #[error("the text has a fault")]
+    /// What is told of the text: its first fault, or that its form isn't built.
+    #[error("the text is refused")]
     Fault(ProgramFault),
     #[error("out of memory")]
     Memory,

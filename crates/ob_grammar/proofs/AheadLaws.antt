@@ -6,7 +6,7 @@ use Rattle.ob_lexer.specs.declared.token.Token.{Token}
 use Rattle.ob_grammar.specs.Rows.{Row, Loaded}
 use Rattle.ob_grammar.specs.Grammar.{tokens_of}
 use Rattle.ob_grammar.specs.Readers.{Read, done, stop, deep, Reader, is_of, begin_with, begin_with_both, read_ahead}
-use Rattle.ob_grammar.proofs.Laws.{Gives, first_token, deep_part, answered, Begin, Ends, Sound, Stopped, Deepened, Laws, AnswerAlike, sound_for, stopped_for, deepened_for, starting_for, answered_not_stop, disjoint, is_of-apart, ends-append}
+use Rattle.ob_grammar.proofs.Laws.{SpellsAsWell, first_token, deep_part, answered, Begin, Ends, Sound, Stopped, Deepened, Laws, AnswerAlike, sound_for, stopped_for, deepened_for, starting_for, answered_not_stop, disjoint, is_of-apart, ends-append}
 use Rattle.ob_grammar.proofs.One.{free}
 use Rattle.ob_grammar.proofs.Both.{first_kept}
 use Rattle.ob_grammar.proofs.Either.{one_of, begin_first, begin_kept}
@@ -126,10 +126,10 @@ module _ {A : Type 0} {room : ℕ} {P Q : A → Row} {p q : Reader A} {firsts fi
 
   -- ---- what is answered
 
-  one : Gives P (one_of P Q)
+  one : SpellsAsWell P (one_of P Q)
   one x read is = inl is
 
-  two : Gives Q (one_of P Q)
+  two : SpellsAsWell Q (one_of P Q)
   two x read is = inr is
 
   sound : (ts : List Token) (x : A) (rest : List Token) → run ts ≡ done x rest → Sound room (one_of P Q) run ts x rest

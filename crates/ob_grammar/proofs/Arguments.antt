@@ -8,7 +8,7 @@ use Rattle.ob_grammar.specs.Readers.{Reader, read_as}
 use Rattle.ob_grammar.specs.NameReaders.{on}
 use Rattle.ob_grammar.specs.Chains.{Counted}
 use Rattle.ob_grammar.specs.Primaries.{expr_first, uncounted, arguments_of, read_arguments, read_applied}
-use Rattle.ob_grammar.proofs.Laws.{Gives, Sample, Laws, disjoint}
+use Rattle.ob_grammar.proofs.Laws.{SpellsAsWell, Sample, Laws, disjoint}
 use Rattle.ob_grammar.proofs.Mapped.{Makes}
 use Rattle.ob_grammar.proofs.TokenRows.{grouped, ungrouped}
 use Rattle.ob_grammar.proofs.RowLaws.{option_laws, made, makes_laws}
@@ -47,7 +47,7 @@ more_from : (es : Exprs) (read : List Loaded) → more_arguments es read → eac
 more_from no_exprs read is = is
 more_from (and_expr e es) read is = let g = ungrouped is in (g.0, g.1, g.2, g.3, more_from es g.1 g.4)
 
-args_from : Gives arguments (made arguments_of (maybe (parted sign'.Comma expr)))
+args_from : SpellsAsWell arguments (made arguments_of (maybe (parted sign'.Comma expr)))
 args_from no_exprs read is = (None, refl, is)
 args_from (and_expr e es) read is = (Some (e ∷ list_of es), ap (and_expr e) (listed es), (is.0, is.1, is.2, is.3, more_from es is.1 is.4))
 

@@ -16,7 +16,7 @@ use Rattle.ob_grammar.specs.NameReaders.{on}
 use Rattle.ob_grammar.specs.Primaries.{expr_first}
 use Rattle.ob_grammar.specs.MemberReaders.{value_type_of, value_types}
 use Rattle.ob_grammar.specs.StmtReaders.{value_local_of, value_local_if, read_assigned, declare_of, read_declare, assign_of, read_assign, stage_of, read_stage}
-use Rattle.ob_grammar.proofs.Laws.{Gives, Laws, disjoint}
+use Rattle.ob_grammar.proofs.Laws.{SpellsAsWell, Laws, disjoint}
 use Rattle.ob_grammar.proofs.One.{token_of, somewhere, free, took, Takes}
 use Rattle.ob_grammar.proofs.Both.{both}
 use Rattle.ob_grammar.proofs.Spanned.{with_place}
@@ -38,10 +38,10 @@ kind_to_local (kind.Word word'.Bool) span l e read is = let same : bool_local sp
 kind_to_local (kind.Word word'.String) span l e read is = let same : text_local span ≡ l = cc in rw (← same) is
 kind_to_local k span l e read is = absurd cc
 
-value_to : Gives (took value_local_if) value_local
+value_to : SpellsAsWell (took value_local_if) value_local
 value_to l read is = kind_to_local is.0.kind is.0.span l is.1 read is.2
 
-value_from : Gives value_local (took value_local_if)
+value_from : SpellsAsWell value_local (took value_local_if)
 value_from (int_local span) read is = (token_of (kind.Word word'.Int) span, refl, is)
 value_from (bool_local span) read is = (token_of (kind.Word word'.Bool) span, refl, is)
 value_from (text_local span) read is = (token_of (kind.Word word'.String) span, refl, is)

@@ -14,7 +14,7 @@ use Rattle.ob_grammar.specs.Chains.{Counted}
 use Rattle.ob_grammar.specs.Primaries.{expr_first, uncounted}
 use Rattle.ob_grammar.specs.StmtReaders.{Branches, stmt_first, read_stmt, read_stmts, read_behind_if}
 use Rattle.ob_grammar.specs.AllReaders.{all_refs, all_unary, all_counted, all_exprs, all_branches, all_stmts, all_blocks}
-use Rattle.ob_grammar.proofs.Laws.{Gives, Laws}
+use Rattle.ob_grammar.proofs.Laws.{SpellsAsWell, Laws}
 use Rattle.ob_grammar.proofs.Mapped.{Makes}
 use Rattle.ob_grammar.proofs.Either.{one_of}
 use Rattle.ob_grammar.proofs.RowLaws.{at_name, choice_laws, makes_laws, alike_laws}
@@ -31,13 +31,13 @@ use Rattle.ob_grammar.proofs.IfLaws.{block_laws, branches, ifs, ifs_to, tests_if
 
 -- ---- a statement
 
-stmt_to : Gives (one_of ifs simple) stmt
+stmt_to : SpellsAsWell (one_of ifs simple) stmt
 stmt_to s read (inl is) = ifs_to s read is
 stmt_to (test_stmt of state then otherwise span) read (inr is) = elim is [ ]
 stmt_to (if_stmt condition then otherwise span) read (inr is) = elim is [ ]
 stmt_to s read (inr is) = is
 
-stmt_from : Gives stmt (one_of ifs simple)
+stmt_from : SpellsAsWell stmt (one_of ifs simple)
 stmt_from (test_stmt of state then otherwise span) read is = inl (tests_if of state then otherwise span read is)
 stmt_from (if_stmt condition then otherwise span) read is = inl (asks_if condition then otherwise span read is)
 stmt_from s read is = inr is

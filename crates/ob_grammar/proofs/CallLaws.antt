@@ -16,7 +16,7 @@ use Rattle.ob_grammar.specs.NameReaders.{on}
 use Rattle.ob_grammar.specs.Chains.{Counted}
 use Rattle.ob_grammar.specs.Primaries.{uncounted, method, applied, read_new}
 use Rattle.ob_grammar.specs.StmtReaders.{called_name, read_called_name, called_this, read_called_this, call_of, read_call}
-use Rattle.ob_grammar.proofs.Laws.{Gives, Laws, disjoint}
+use Rattle.ob_grammar.proofs.Laws.{SpellsAsWell, Laws, disjoint}
 use Rattle.ob_grammar.proofs.Both.{both}
 use Rattle.ob_grammar.proofs.Spanned.{with_place}
 use Rattle.ob_grammar.proofs.TokenRows.{grouped}
@@ -40,7 +40,7 @@ this_called = made called_this (with_place (both (word_at word'.This) method_row
 abbrev pub new_called : Expr → Row
 new_called = made uncounted only_new
 
-pub name_called_to : Gives name_called called
+pub name_called_to : SpellsAsWell name_called called
 name_called_to e read (((part, method of args), span), same, is) =
     let whole = name_tail_to ((part, Some (method of args)), span) read is in
     rw same (whole.0, whole.2)
@@ -56,7 +56,7 @@ pub method_from : (x part : NamePart) (args : Exprs) (span : Span) (read : List 
     called (call_on (Some (subject'.Name x)) part args span) read → name_called (call_on (Some (subject'.Name x)) part args span) read
 method_from x part args span read is = (((x, method part args), span), refl, (is.0, grouped is.1.1))
 
-pub this_called_to : Gives this_called called
+pub this_called_to : SpellsAsWell this_called called
 this_called_to e read (((token, (dot, (part, args))), span), same, is) =
     rw same (is.0, (refl, to_call (subject'.This token) part args dot read is.1.0 is.1.1 is.1.2 is.1.3 is.1.4))
 
@@ -66,7 +66,7 @@ this_from token part args span read is =
     let f = from_call (subject'.This token) part args read is.1.1 in
     (((token, (f.dot, (part, args))), span), refl, (is.0, (f.front, f.back, f.parts, f.receiver, f.method)))
 
-pub new_called_to : Gives new_called called
+pub new_called_to : SpellsAsWell new_called called
 new_called_to e read ((new_expr of args span, n), same, is) = rw same (is.0, is.2)
 new_called_to e read (c, same, is) = elim is [ ]
 
@@ -75,7 +75,7 @@ new_called_to e read (c, same, is) = elim is [ ]
 abbrev pub calls : (Expr → Row) → Stmt → Row
 calls of = made call_of (with_place (both of (sign_at sign'.Semicolon)))
 
-pub calls_to : (of : Expr → Row) → Gives of called → Gives (calls of) stmt
+pub calls_to : (of : Expr → Row) → SpellsAsWell of called → SpellsAsWell (calls of) stmt
 calls_to of to s read (((e, end), span), same, is) = rw same (is.0, (is.1.0, is.1.1, is.1.2, to e is.1.0 is.1.3, (end, is.1.4)))
 
 pub calls_from : (of : Expr → Row) (e : Expr) (span : Span) (read : List Loaded) → (is : stmt (call_stmt e span) read) → of e is.1.0 → calls of (call_stmt e span) read

@@ -13,7 +13,7 @@ use Rattle.ob_grammar.specs.MemberRows.{member, interface_member, title, body, o
 use Rattle.ob_grammar.specs.Readers.{Reader}
 use Rattle.ob_grammar.specs.NameReaders.{on}
 use Rattle.ob_grammar.specs.ContractReaders.{member_first, read_member, promise_first, read_interface_member, Title, Kind, contract_kind, read_contract_kind, interface_kind, read_interface_kind, read_kind, contract_of, main_of, read_main, contract_first, read_contract, read_program}
-use Rattle.ob_grammar.proofs.Laws.{Gives, Laws}
+use Rattle.ob_grammar.proofs.Laws.{SpellsAsWell, Laws}
 use Rattle.ob_grammar.proofs.Both.{both}
 use Rattle.ob_grammar.proofs.Mapped.{Makes}
 use Rattle.ob_grammar.proofs.Either.{one_of}
@@ -47,14 +47,14 @@ only_interface_kind (false, rest) = never
 abbrev pub kind_row : Kind → Row
 kind_row = one_of only_contract_kind only_interface_kind
 
-contract_kind_from : Gives only_contract_kind (made contract_kind (both (word_at word'.Contract) contract_rest))
+contract_kind_from : SpellsAsWell only_contract_kind (made contract_kind (both (word_at word'.Contract) contract_rest))
 contract_kind_from (false, rest) read is = ((is.3.0, rest), refl, (is.0, is.1, is.2, is.3.1, is.4))
 contract_kind_from (true, rest) read is = elim is [ ]
 
 contract_kind_makes : Makes contract_kind (both (word_at word'.Contract) contract_rest) only_contract_kind
 contract_kind_makes = record { to = λ parts read is. (is.0, is.1, is.2, (parts.0, is.3), is.4); from = contract_kind_from }
 
-interface_kind_from : Gives only_interface_kind (made interface_kind (both (word_at word'.Interface) interface_rest))
+interface_kind_from : SpellsAsWell only_interface_kind (made interface_kind (both (word_at word'.Interface) interface_rest))
 interface_kind_from (true, (name, (None, end))) read is = ((is.3.0, (name, end)), refl, (is.0, is.1, is.2, is.3.1, is.4))
 interface_kind_from k read is = elim is [ ]
 
@@ -91,7 +91,7 @@ with_kind main interface of c = record c { main = main; interface = interface; i
 abbrev ByKind : (Contract → Row) → (Contract → Row) → Type 0
 ByKind reads others = (main interface : Bool) (of : Option Named) (c : Contract) (read : List Loaded) → reads (with_kind main interface of c) read → others (with_kind main interface of c) read
 
-by_kind : (reads others : Contract → Row) → ByKind reads others → Gives reads others
+by_kind : (reads others : Contract → Row) → ByKind reads others → SpellsAsWell reads others
 by_kind reads others gives c = gives c.main c.interface c.implements c
 
 -- its parts

@@ -6,7 +6,7 @@ use Rattle.ob_lexer.specs.declared.token.Token.{Token}
 use Rattle.ob_grammar.specs.Rows.{Row, Loaded, never, nothing, ◌⨟◌, each}
 use Rattle.ob_grammar.specs.Grammar.{tokens_of}
 use Rattle.ob_grammar.specs.Readers.{Read, done, stop, deep, Reader, ◌>>=◌, begin_with, behind, put_before, read_each, read_many_from, read_many}
-use Rattle.ob_grammar.proofs.Laws.{Gives, first_token, deep_part, answered, Begin, Ends, Sound, Stopped, Deepened, Laws, starting_for, disjoint, ends-append, ends-both, Case, case_of, is_done, is_stop, is_deep}
+use Rattle.ob_grammar.proofs.Laws.{SpellsAsWell, first_token, deep_part, answered, Begin, Ends, Sound, Stopped, Deepened, Laws, starting_for, disjoint, ends-append, ends-both, Case, case_of, is_done, is_stop, is_deep}
 use Rattle.ob_grammar.proofs.Both.{then, then_laws}
 use Rattle.ob_grammar.proofs.Mapped.{Makes}
 use Rattle.ob_grammar.proofs.Either.{one_of}
@@ -38,28 +38,28 @@ module _ {A S : Type 0} (room : ℕ) (reads : S → A → Row) (p : S → Reader
   abbrev run : ℕ → S → Reader (List A)
   run n s = read_each first p next n s
 
-  some_from : (n : ℕ) (s : S) → Gives (some_few reads next n s) (made put_before (one_few n s))
+  some_from : (n : ℕ) (s : S) → SpellsAsWell (some_few reads next n s) (made put_before (one_few n s))
   some_from n s [] read is = elim is [ ]
   some_from n s (x ∷ xs) read is = ((x, xs), refl, is)
 
   some_makes : (n : ℕ) (s : S) → Makes put_before (one_few n s) (some_few reads next n s)
   some_makes n s = record { to = λ parts read is. is; from = some_from n s }
 
-  to : (n : ℕ) (s : S) → Gives (one_of (some_few reads next n s) (is_value [])) (Few (suc n) s)
+  to : (n : ℕ) (s : S) → SpellsAsWell (one_of (some_few reads next n s) (is_value [])) (Few (suc n) s)
   to n s [] read (inl is) = elim is [ ]
   to n s [] read (inr is) = (omega arith, is.1)
   to n s (x ∷ xs) read (inl is) = (omega (arith, is.4.0), (is.0, is.1, is.2, is.3, is.4.1))
   to n s (x ∷ xs) read (inr is) = absurd cc
 
-  from : (n : ℕ) (s : S) → Gives (Few (suc n) s) (one_of (some_few reads next n s) (is_value []))
+  from : (n : ℕ) (s : S) → SpellsAsWell (Few (suc n) s) (one_of (some_few reads next n s) (is_value []))
   from n s [] read is = inr (refl, is.1)
   from n s (x ∷ xs) read is = inl (is.1.0, is.1.1, is.1.2, is.1.3, (omega (arith, is.0), is.1.4))
 
-  to_none : (s : S) → Gives (is_value []) (Few zero s)
+  to_none : (s : S) → SpellsAsWell (is_value []) (Few zero s)
   to_none s [] read is = (omega arith, is.1)
   to_none s (x ∷ xs) read is = absurd cc
 
-  from_none : (s : S) → Gives (Few zero s) (is_value [])
+  from_none : (s : S) → SpellsAsWell (Few zero s) (is_value [])
   from_none s [] read is = (refl, is.1)
   from_none s (x ∷ xs) read is = absurd (omega (arith, is.0))
 
@@ -238,11 +238,11 @@ module _ {A S : Type 0} (room : ℕ) (reads : S → A → Row) (p : S → Reader
 abbrev alike : {A : Type 0} → (A → Row) → List A → Row
 alike reads = each_from {S = Unit {0}} (λ u. reads) (λ u x. u) tt
 
-alike_to : {A : Type 0} (reads : A → Row) → Gives (alike reads) (each reads)
+alike_to : {A : Type 0} (reads : A → Row) → SpellsAsWell (alike reads) (each reads)
 alike_to reads [] read is = is
 alike_to reads (x ∷ xs) read is = (is.0, is.1, is.2, is.3, alike_to reads xs is.1 is.4)
 
-alike_from : {A : Type 0} (reads : A → Row) → Gives (each reads) (alike reads)
+alike_from : {A : Type 0} (reads : A → Row) → SpellsAsWell (each reads) (alike reads)
 alike_from reads [] read is = is
 alike_from reads (x ∷ xs) read is = (is.0, is.1, is.2, is.3, alike_from reads xs is.1 is.4)
 

@@ -6,13 +6,13 @@ use Rattle.ob_lexer.specs.declared.token.Token.{Token}
 use Rattle.ob_grammar.specs.Rows.{Row, Loaded, either}
 use Rattle.ob_grammar.specs.Grammar.{tokens_of}
 use Rattle.ob_grammar.specs.Readers.{Read, done, stop, deep, Reader, is_of, begin_with, read_either}
-use Rattle.ob_grammar.proofs.Laws.{Gives, first_token, deep_part, answered, Begin, Ends, Sound, Stopped, Deepened, Starting, Laws, AnswerAlike, sound_for, stopped_for, deepened_for, starting_for, disjoint, is_of-apart, of_first, of_second, ends-append}
+use Rattle.ob_grammar.proofs.Laws.{SpellsAsWell, first_token, deep_part, answered, Begin, Ends, Sound, Stopped, Deepened, Starting, Laws, AnswerAlike, sound_for, stopped_for, deepened_for, starting_for, disjoint, is_of-apart, of_first, of_second, ends-append}
 use Rattle.ob_grammar.proofs.Both.{more_of, first_kept}
 
 -- ---- rows that say the same
 
 module _ {A : Type 0} (room : ℕ) (reads others : A → Row) (p : Reader A) (first more : List ℕ) (null : Bool)
-    (to : Gives reads others) (from : Gives others reads) (a : Laws room reads p first more null) where
+    (to : SpellsAsWell reads others) (from : SpellsAsWell others reads) (a : Laws room reads p first more null) where
   pub same_laws : Laws room others p first more null
   same_laws = record {
     sound = λ ts x rest is. sound_for to (a.sound ts x rest is) (λ new e. refl);
@@ -93,10 +93,10 @@ module _ {A : Type 0} (room : ℕ) (first second : A → Row) (p q : Reader A) (
   abbrev run : Reader A
   run = read_either first_p p q
 
-  left : Gives first (one_of first second)
+  left : SpellsAsWell first (one_of first second)
   left x read is = inl is
 
-  right : Gives second (one_of first second)
+  right : SpellsAsWell second (one_of first second)
   right x read is = inr is
 
   -- the same row is read whatever follows the first token that is left

@@ -16,7 +16,7 @@ use Rattle.ob_grammar.specs.MemberRows.{bound, generic}
 use Rattle.ob_grammar.specs.Readers.{Reader}
 use Rattle.ob_grammar.specs.NameReaders.{on}
 use Rattle.ob_grammar.specs.ContractReaders.{is_there, read_flag, bound_of, read_bound, generic_of, read_generic, Title, read_title, members_of, read_body, read_implements}
-use Rattle.ob_grammar.proofs.Laws.{Gives, Laws, disjoint}
+use Rattle.ob_grammar.proofs.Laws.{SpellsAsWell, Laws, disjoint}
 use Rattle.ob_grammar.proofs.Both.{both}
 use Rattle.ob_grammar.proofs.Mapped.{Makes}
 use Rattle.ob_grammar.proofs.Spanned.{with_place}
@@ -31,7 +31,7 @@ flag_to : (w : Word) (o : Option Span) (read : List Loaded) → maybe (word_at w
 flag_to w None read is = is
 flag_to w (Some place) read is = (place, is)
 
-flag_from : (w : Word) → Gives (flag w) (made is_there (maybe (word_at w)))
+flag_from : (w : Word) → SpellsAsWell (flag w) (made is_there (maybe (word_at w)))
 flag_from w false read is = (None, refl, is)
 flag_from w true read is = (Some is.0, refl, is.1)
 
@@ -56,11 +56,11 @@ in_bound_makes = record {
       ((is.3.0, (b.0, (end.3.0, (b.1, end.4.0)))), refl, (is.0, is.1, is.2, is.3.1, (is.4.0, is.4.1, is.4.2, is.4.3, (end.0, end.1, end.2, end.3.1, end.4.1))));
 }
 
-bound_to : Gives (maybe in_bound) bound
+bound_to : SpellsAsWell (maybe in_bound) bound
 bound_to None read is = is
 bound_to (Some b) read is = is
 
-bound_from : Gives bound (maybe in_bound)
+bound_from : SpellsAsWell bound (maybe in_bound)
 bound_from None read is = is
 bound_from (Some b) read is = is
 

@@ -11,7 +11,7 @@ use Rattle.ob_grammar.specs.NameReaders.{on}
 use Rattle.ob_grammar.specs.Primaries.{expr_first}
 use Rattle.ob_grammar.specs.MemberReaders.{list_of}
 use Rattle.ob_grammar.specs.StmtReaders.{given_of, read_given, read_all_given, change_of, read_change}
-use Rattle.ob_grammar.proofs.Laws.{Gives, Laws}
+use Rattle.ob_grammar.proofs.Laws.{SpellsAsWell, Laws}
 use Rattle.ob_grammar.proofs.Both.{both}
 use Rattle.ob_grammar.proofs.Mapped.{Makes}
 use Rattle.ob_grammar.proofs.Spanned.{with_place}
@@ -34,7 +34,7 @@ given_makes = record {
 abbrev in_parens : List Given → Row
 in_parens = between_signs sign'.OpenParen (maybe_parted sign'.Comma given) sign'.CloseParen
 
-in_parens_to : Gives in_parens all_given
+in_parens_to : SpellsAsWell in_parens all_given
 in_parens_to [] read is = inr (is.0, is.1, is.2, is.3, nothing_before is.4)
 in_parens_to (g ∷ gs) read is = is
 
@@ -42,7 +42,7 @@ all_to : (o : Option (List Given)) (read : List Loaded) → maybe in_parens o re
 all_to None read is = inl is
 all_to (Some gs) read is = in_parens_to gs read is
 
-all_from : Gives all_given (made list_of (maybe in_parens))
+all_from : SpellsAsWell all_given (made list_of (maybe in_parens))
 all_from [] read (inl is) = (None, refl, is)
 all_from [] read (inr is) = (Some [], refl, (is.0, is.1, is.2, is.3, with_nothing_before is.4))
 all_from (g ∷ gs) read is = (Some (g ∷ gs), refl, is)

@@ -17,7 +17,7 @@ use Rattle.ob_grammar.specs.NameReaders.{on}
 use Rattle.ob_grammar.specs.Chains.{Counted}
 use Rattle.ob_grammar.specs.Primaries.{moved, grouped, read_group}
 use Rattle.ob_grammar.specs.NameRows.{subject}
-use Rattle.ob_grammar.proofs.Laws.{Gives, Sample, Laws, disjoint}
+use Rattle.ob_grammar.proofs.Laws.{SpellsAsWell, Sample, Laws, disjoint}
 use Rattle.ob_grammar.proofs.Mapped.{Makes}
 use Rattle.ob_grammar.proofs.Spanned.{covers, with_place}
 use Rattle.ob_grammar.proofs.RowLaws.{place_laws, made, makes_laws, nothing_before}
@@ -134,7 +134,7 @@ opened_up e (suc depth) m low is =
     let place : Span = place_of_tokens (tokens_of low) in
     (0, (rw (moved_place place e) (covers_read low (enclosed_some (suc depth) m e low is)), inr (refl, depth, m, rw (moved_spelled place e) is)))
 
-group_from : Gives only_group (made grouped (with_place in_parens))
+group_from : SpellsAsWell only_group (made grouped (with_place in_parens))
 group_from (e, n) read is =
     let enc = is.4 in
     let low = enc.4.3.0 in

@@ -18,7 +18,7 @@ use Rattle.ob_grammar.specs.Readers.{Reader, place_of_tokens}
 use Rattle.ob_grammar.specs.NameReaders.{on}
 use Rattle.ob_grammar.specs.Primaries.{expr_first}
 use Rattle.ob_grammar.specs.StmtReaders.{Question, tested, asked, block_of, read_block, Branches, if_of, read_if, chained_of, read_chained, else_of, read_alternative, branches_of, read_branches, stmt_first}
-use Rattle.ob_grammar.proofs.Laws.{Gives, Sample, Laws, disjoint, ends-twice}
+use Rattle.ob_grammar.proofs.Laws.{SpellsAsWell, Sample, Laws, disjoint, ends-twice}
 use Rattle.ob_grammar.proofs.One.{token_of, somewhere, free}
 use Rattle.ob_grammar.proofs.Both.{both}
 use Rattle.ob_grammar.proofs.Mapped.{Makes}
@@ -37,7 +37,7 @@ use Rattle.ob_grammar.proofs.QuestionLaws.{question, question_laws}
 abbrev block_parts : (Span × Stmts) × Span → Row
 block_parts = both (under (kind.Sign sign'.OpenBrace) stmts) (sign_at sign'.CloseBrace)
 
-block_from : Gives block (made block_of block_parts)
+block_from : SpellsAsWell block (made block_of block_parts)
 block_from (block_with body end) read is = (((is.3.0, body), end), refl, ungrouped (is.0, is.1, is.2, is.3.1, is.4))
 
 block_makes : Makes block_of block_parts block
@@ -94,7 +94,7 @@ asked_from : (condition : Expr) (then : Block) (otherwise : Else) (span : Span) 
     stmt (if_stmt condition then otherwise span) read → (place : Span) × if_parts ((place, (asked condition, (then, otherwise))), span) read
 asked_from condition then otherwise span read is = (is.1.3.0, (is.0, (is.1.0, is.1.1, is.1.2, is.1.3.1, is.1.4)))
 
-pub ifs_to : Gives ifs stmt
+pub ifs_to : SpellsAsWell ifs stmt
 ifs_to s read (parts, same, is) = rw same (if_to parts read is)
 
 pub tests_if : (of : Subject) (state : NamePart) (then : Block) (otherwise : Else) (span : Span) (read : List Loaded) →
@@ -160,7 +160,7 @@ chained_from (and_stmt (if_stmt condition then otherwise span) no_stmts) end rea
     (parts, ap (block_with (and_stmt (if_stmt condition then otherwise span) no_stmts)) is.0, lifted parts read (is.1.0, is.1.1, f.1))
 chained_from body end read is = elim is [ ]
 
-chained_row_from : Gives chained_row (made chained_of raised_parts)
+chained_row_from : SpellsAsWell chained_row (made chained_of raised_parts)
 chained_row_from (block_with body end) read is = chained_from body end read is
 
 chained_makes : Makes chained_of raised_parts chained_row
@@ -175,7 +175,7 @@ else_to : (o : Option Block) (read : List Loaded) → maybe behind_else o read �
 else_to None read is = is
 else_to (Some (block_with body end)) read is = is
 
-else_from : Gives alternative (made else_of (maybe behind_else))
+else_from : SpellsAsWell alternative (made else_of (maybe behind_else))
 else_from no_else read is = (None, refl, is)
 else_from (else_with (block_with body end)) read is = (Some (block_with body end), refl, is)
 

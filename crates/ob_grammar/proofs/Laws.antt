@@ -10,8 +10,8 @@ use Rattle.ob_grammar.specs.Grammar.{tokens_of}
 use Rattle.ob_grammar.specs.Readers.{Read, done, stop, deep, Reader, ◌>>=◌, number_of_kind, is_of, begin_with}
 
 -- what spells the one spells the other
-abbrev pub Gives : {A : Type 0} → (A → Row) → (A → Row) → Type 0
-Gives {A} reads others = (x : A) (read : List Loaded) → reads x read → others x read
+abbrev pub SpellsAsWell : {A : Type 0} → (A → Row) → (A → Row) → Type 0
+SpellsAsWell {A} reads others = (x : A) (read : List Loaded) → reads x read → others x read
 
 -- the first of these tokens
 abbrev pub first_token : List Token → Option Token
@@ -95,7 +95,7 @@ pub record Laws {A : Type 0} (room : ℕ) (reads : A → Row) (run : Reader A) (
 abbrev pub AnswerAlike : {A : Type 0} → Reader A → Reader A → List Loaded → List Token → Type 0
 AnswerAlike other run read rest = (new : List Token) → first_token new ≡ first_token rest → other (tokens_of read ++ new) ≡ run (tokens_of read ++ new)
 
-module _ {A : Type 0} {room : ℕ} {reads others : A → Row} (gives : Gives reads others) where
+module _ {A : Type 0} {room : ℕ} {reads others : A → Row} (gives : SpellsAsWell reads others) where
   module _ {run other : Reader A} {ts rest : List Token} where
     pub sound_for : {x : A} (s : Sound room reads run ts x rest) → AnswerAlike other run s.read rest → Sound room others other ts x rest
     sound_for {x} s same = record {
@@ -132,7 +132,7 @@ module _ {A : Type 0} {room : ℕ} {reads others : A → Row} (gives : Gives rea
       local = λ new e. same new e ∙ s.local new e;
     }
 
-module _ {A : Type 0} {reads others : A → Row} (gives : Gives reads others) where
+module _ {A : Type 0} {reads others : A → Row} (gives : SpellsAsWell reads others) where
   pub starting_for : {t : Token} → Starting reads t → Starting others t
   starting_for s = record { value = s.value; top = s.top; others = s.others; is = s.is; spelled = gives s.value (s.top ∷ s.others) s.spelled }
 

@@ -10,7 +10,7 @@ use Rattle.ob_grammar.specs.Symbols.{a_word, a_sign}
 use Rattle.ob_grammar.specs.Readers.{Reader, place_if, read_both, read_as, read_opened, put_before}
 use Rattle.ob_grammar.specs.NameReaders.{on, second, read_item, read_parted, inner, read_counted}
 use Rattle.ob_grammar.specs.StmtReaders.{read_sign, between}
-use Rattle.ob_grammar.proofs.Laws.{Gives, Sample, Laws, disjoint, ends-again}
+use Rattle.ob_grammar.proofs.Laws.{SpellsAsWell, Sample, Laws, disjoint, ends-again}
 use Rattle.ob_grammar.proofs.Both.{both}
 use Rattle.ob_grammar.proofs.Mapped.{Makes}
 use Rattle.ob_grammar.proofs.Opened.{opened_laws}
@@ -109,7 +109,7 @@ module _ {A : Type 0} (s : Sign) (room : ℕ) (reads : A → Row) (p : Reader A)
   pub item_laws : Laws room (behind_sign s reads) (read_item s p) (on s) more false
   item_laws = behind_token_laws (sign_laws room s) a
 
-  parted_from : Gives (parted s reads) (made put_before (both reads (each (behind_sign s reads))))
+  parted_from : SpellsAsWell (parted s reads) (made put_before (both reads (each (behind_sign s reads))))
   parted_from [] read is = elim is [ ]
   parted_from (x ∷ xs) read is = ((x, xs), refl, is)
 

@@ -21,7 +21,7 @@ use Rattle.ob_grammar.specs.NameReaders.{on}
 use Rattle.ob_grammar.specs.Chains.{Counted}
 use Rattle.ob_grammar.specs.Primaries.{expr_first, literal_of, literal_if, literals, read_primary}
 use Rattle.ob_grammar.specs.StmtReaders.{call_signs}
-use Rattle.ob_grammar.proofs.Laws.{Gives, Sample, Laws, disjoint}
+use Rattle.ob_grammar.proofs.Laws.{SpellsAsWell, Sample, Laws, disjoint}
 use Rattle.ob_grammar.proofs.One.{token_of, somewhere, free, took, Takes}
 use Rattle.ob_grammar.proofs.Either.{one_of}
 use Rattle.ob_grammar.proofs.Spanned.{covers_one, one_covers}
@@ -46,7 +46,7 @@ literal_in (kind.Word word'.True) span c e read is = let same : (bool_expr true 
 literal_in (kind.Word word'.False) span c e read is = let same : (bool_expr false span, 0) ≡ c = cc in rw (← same) (one_covers is, refl, (refl, (span, is)))
 literal_in k span c e read is = absurd cc
 
-literal_to : Gives (took literal_if) only_literal
+literal_to : SpellsAsWell (took literal_if) only_literal
 literal_to c read is = literal_in is.0.kind is.0.span c is.1 read is.2
 
 bool_read : (value : Bool) (span : Span) → literal_of (kind.Word (word_of_bool value)) span ≡ Some (bool_expr value span, 0)
@@ -59,7 +59,7 @@ literal_at : (literal : Span → Expr) (k : TokenKind) → ((at : Span) → lite
 literal_at literal k reads span n read cov none (at, is) =
     (token_of k at, reads at ∙ ap (λ s. Some (literal s, 0)) (sym (covers_one is cov)) ∙ ap (λ m. Some (literal span, m)) (sym none), is)
 
-literal_from : Gives only_literal (took literal_if)
+literal_from : SpellsAsWell only_literal (took literal_if)
 literal_from (number_expr value span, n) read is = literal_at (number_expr value) (kind.Number value) (λ at. refl) span n read is.0 is.1 is.2.1
 literal_from (text_expr value span, n) read is = literal_at (text_expr value) (kind.Text value) (λ at. refl) span n read is.0 is.1 is.2.1
 literal_from (bool_expr value span, n) read is = literal_at (bool_expr value) (kind.Word (word_of_bool value)) (bool_read value) span n read is.0 is.1 is.2.1
@@ -102,28 +102,28 @@ all = one_of only_group (one_of only_new (one_of only_name (one_of only_this onl
 settled : (e : Expr) (n : ℕ) (read : List Loaded) → IsTrue (nat_le 8 (level e)) → plain (e, n) read → at_level 8 (e, n) read
 settled e n read high is = (is.0, inl (high, subst (λ k. spelled e k read) (sym is.1) is.2))
 
-new_in : Gives only_new (at_level 8)
+new_in : SpellsAsWell only_new (at_level 8)
 new_in (new_expr of args span, n) read is = settled (new_expr of args span) n read refl is
 new_in c read is = elim is [ ]
 
-name_in : Gives only_name (at_level 8)
+name_in : SpellsAsWell only_name (at_level 8)
 name_in (name_expr part span, n) read is = settled (name_expr part span) n read refl is
 name_in (call_expr (call_with None part args) span, n) read is = settled (call_expr (call_with None part args) span) n read refl is
 name_in (call_expr (call_with (Some (subject'.Name x)) part args) span, n) read is = settled (call_expr (call_with (Some (subject'.Name x)) part args) span) n read refl is
 name_in c read is = elim is [ ]
 
-this_in : Gives only_this (at_level 8)
+this_in : SpellsAsWell only_this (at_level 8)
 this_in (this_expr place span, n) read is = settled (this_expr place span) n read refl is
 this_in (call_expr (call_with (Some (subject'.This x)) part args) span, n) read is = settled (call_expr (call_with (Some (subject'.This x)) part args) span) n read refl is
 this_in c read is = elim is [ ]
 
-literal_settled : Gives only_literal (at_level 8)
+literal_settled : SpellsAsWell only_literal (at_level 8)
 literal_settled (number_expr value span, n) read is = settled (number_expr value span) n read refl is
 literal_settled (text_expr value span, n) read is = settled (text_expr value span) n read refl is
 literal_settled (bool_expr value span, n) read is = settled (bool_expr value span) n read refl is
 literal_settled c read is = elim is [ ]
 
-all_to : Gives all (at_level 8)
+all_to : SpellsAsWell all (at_level 8)
 all_to c read (inl is) = (is.0, inr (is.1, is.2, is.3, is.4))
 all_to c read (inr (inl is)) = new_in c read is
 all_to c read (inr (inr (inl is))) = name_in c read is

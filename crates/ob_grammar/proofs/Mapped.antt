@@ -4,11 +4,11 @@ use Rattle.ob_lexer.specs.declared.token.Token.{Token}
 use Rattle.ob_grammar.specs.Rows.{Row, Loaded}
 use Rattle.ob_grammar.specs.Grammar.{tokens_of}
 use Rattle.ob_grammar.specs.Readers.{Read, done, stop, deep, Reader, ◌>>=◌, read_as}
-use Rattle.ob_grammar.proofs.Laws.{Gives, deep_part, answered, Ends, Sound, Stopped, Deepened, Starting, Laws, answered-map, Case, case_of, is_done, is_stop, is_deep}
+use Rattle.ob_grammar.proofs.Laws.{SpellsAsWell, deep_part, answered, Ends, Sound, Stopped, Deepened, Starting, Laws, answered-map, Case, case_of, is_done, is_stop, is_deep}
 
 -- what is made is spelled as that of which it is made
 pub record Makes {A B : Type 0} (f : A → B) (parts : A → Row) (reads : B → Row) : Type 0 where
-  pub to : Gives parts (λ x. reads (f x))
+  pub to : SpellsAsWell parts (λ x. reads (f x))
   pub from : (y : B) (read : List Loaded) → reads y read → (x : A) × (y ≡ f x) × parts x read
 
 module _ {A B : Type 0} (room : ℕ) (f : A → B) (parts : A → Row) (reads : B → Row) (p : Reader A) (first more : List ℕ) (null : Bool) (makes : Makes f parts reads)

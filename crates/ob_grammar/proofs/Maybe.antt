@@ -4,7 +4,7 @@ use Rattle.ob_lexer.specs.declared.token.Token.{Token}
 use Rattle.ob_grammar.specs.Rows.{Row, Loaded, never, nothing, maybe}
 use Rattle.ob_grammar.specs.Grammar.{tokens_of}
 use Rattle.ob_grammar.specs.Readers.{done, Reader, read_as, read_maybe}
-use Rattle.ob_grammar.proofs.Laws.{Gives, deep_part, answered, Begin, Ends, Sound, Laws, disjoint}
+use Rattle.ob_grammar.proofs.Laws.{SpellsAsWell, deep_part, answered, Begin, Ends, Sound, Laws, disjoint}
 use Rattle.ob_grammar.proofs.Mapped.{Makes, as_laws}
 use Rattle.ob_grammar.proofs.Either.{same_laws, one_of, either_laws}
 
@@ -51,13 +51,13 @@ module _ {A : Type 0} (room : ℕ) (reads : A → Row) (p : Reader A) (first mor
   some_makes : Makes Some reads (only_some reads)
   some_makes = record { to = λ x read is. is; from = some_from }
 
-  to : Gives (one_of (only_some reads) (is_value None)) (maybe reads)
+  to : SpellsAsWell (one_of (only_some reads) (is_value None)) (maybe reads)
   to None read (inl is) = elim is [ ]
   to None read (inr is) = is.1
   to (Some x) read (inl is) = is
   to (Some x) read (inr is) = absurd cc
 
-  from : Gives (maybe reads) (one_of (only_some reads) (is_value None))
+  from : SpellsAsWell (maybe reads) (one_of (only_some reads) (is_value None))
   from None read is = inr (refl, is)
   from (Some x) read is = inl is
 

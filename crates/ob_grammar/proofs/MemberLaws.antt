@@ -17,7 +17,7 @@ use Rattle.ob_grammar.specs.NameReaders.{on}
 use Rattle.ob_grammar.specs.MemberReaders.{value_types, types, read_param, read_available, field_of, Head}
 use Rattle.ob_grammar.specs.StmtReaders.{read_sign}
 use Rattle.ob_grammar.specs.ContractReaders.{read_value_field, MemberTail, constructed, held, constructed_of, held_of, read_member_tail, member_behind, read_behind_ref, member_first, read_member, bare_state_of, read_bare_state, promise_of, read_promise, promise_first, read_interface_member}
-use Rattle.ob_grammar.proofs.Laws.{Gives, Laws}
+use Rattle.ob_grammar.proofs.Laws.{SpellsAsWell, Laws}
 use Rattle.ob_grammar.proofs.Both.{both}
 use Rattle.ob_grammar.proofs.Mapped.{Makes}
 use Rattle.ob_grammar.proofs.Either.{one_of}
@@ -62,7 +62,7 @@ abbrev only_value_member : Member → Row
 only_value_member (field_member f) = only_value_field f
 only_value_member m = never
 
-value_member_from : Gives only_value_member (made field_member only_value_field)
+value_member_from : SpellsAsWell only_value_member (made field_member only_value_field)
 value_member_from (field_member f) read is = (f, refl, is)
 value_member_from m read is = elim is [ ]
 
@@ -86,7 +86,7 @@ only_held (held part states) = tail_row (held part states)
 abbrev constructed_parts : Span × (List Formal × (Span × Block)) → Row
 constructed_parts = both (sign_at sign'.OpenParen) (both (maybe_parted sign'.Comma param) (both (sign_at sign'.CloseParen) block))
 
-constructed_from : Gives only_constructed (made constructed_of constructed_parts)
+constructed_from : SpellsAsWell only_constructed (made constructed_of constructed_parts)
 constructed_from (constructed params body) read is =
     let end = is.4.4 in
     ((is.3.0, (params, (end.3.0, body))), refl, (is.0, is.1, is.2, is.3.1, (is.4.0, is.4.1, is.4.2, is.4.3, (end.0, end.1, end.2, end.3.1, end.4))))
@@ -98,20 +98,20 @@ constructed_makes = record {
   from = constructed_from;
 }
 
-held_from : Gives only_held (made held_of behind_parts)
+held_from : SpellsAsWell only_held (made held_of behind_parts)
 held_from (constructed params body) read is = elim is [ ]
 held_from (held part states) read is = ((part, (states, is.4.4.0)), refl, (is.0, is.1, is.2, is.3, (is.4.0, is.4.1, is.4.2, is.4.3, is.4.4.1)))
 
 held_makes : Makes held_of behind_parts only_held
 held_makes = record { to = λ parts read is. (is.0, is.1, is.2, is.3, (is.4.0, is.4.1, is.4.2, is.4.3, (parts.1.1, is.4.4))); from = held_from }
 
-tail_to : Gives (one_of only_constructed only_held) tail_row
+tail_to : SpellsAsWell (one_of only_constructed only_held) tail_row
 tail_to (constructed params body) read (inl is) = is
 tail_to (constructed params body) read (inr is) = elim is [ ]
 tail_to (held part states) read (inl is) = elim is [ ]
 tail_to (held part states) read (inr is) = is
 
-tail_from : Gives tail_row (one_of only_constructed only_held)
+tail_from : SpellsAsWell tail_row (one_of only_constructed only_held)
 tail_from (constructed params body) read is = inl is
 tail_from (held part states) read is = inr is
 
@@ -155,7 +155,7 @@ field_from : (of : TypeExpr) (part : NamePart) (states : List NamePart) (read : 
 field_from (ref_type r) part states read is = inr is
 field_from t part states read is = inl is
 
-member_to : Gives only_all member
+member_to : SpellsAsWell only_all member
 member_to (state_member part fields span) read (inl is) = is
 member_to (transaction_member private lists part params result body span) read (inr (inl is)) = is
 member_to (field_member f) read (inr (inr is)) = field_to f.of f.name f.available read is
@@ -165,7 +165,7 @@ member_to m read (inr (inl is)) = elim is [ ]
 member_to m read (inr (inr (inl is))) = elim is [ ]
 member_to m read (inr (inr (inr is))) = elim is [ ]
 
-member_from : Gives member only_all
+member_from : SpellsAsWell member only_all
 member_from (state_member part fields span) read is = inl is
 member_from (transaction_member private lists part params result body span) read is = inr (inl is)
 member_from (field_member f) read is = inr (inr (field_from f.of f.name f.available read is))
@@ -195,7 +195,7 @@ module _ (room : ℕ) (refs : Reader Ref) (blocks : Reader Block) (r : Laws room
       ((parts, place_of_tokens (tokens_of read)), refl, some_place parts read is)
   behind_field_from t part states read is = elim is.3 [ ]
 
-  behind_ref_from : Gives only_behind_ref (made member_behind (with_place behind_ref_parts))
+  behind_ref_from : SpellsAsWell only_behind_ref (made member_behind (with_place behind_ref_parts))
   behind_ref_from (constructor_member of with params body span) read is =
       let all = is.1 in
       (((ref_with of with, constructed params body), span), refl, (is.0, ungrouped (all.0, all.1, all.2, all.3, ungrouped all.4)))
@@ -223,7 +223,7 @@ only_bare_state m = never
 abbrev bare_state_parts : Span × (NamePart × Span) → Row
 bare_state_parts = both (word_at word'.State) (both name (sign_at sign'.Semicolon))
 
-bare_state_from : Gives only_bare_state (made bare_state_of (with_place bare_state_parts))
+bare_state_from : SpellsAsWell only_bare_state (made bare_state_of (with_place bare_state_parts))
 bare_state_from (state_member part [] span) read is =
     let of = is.1 in
     (((of.3.0, (part, of.4.4.0)), span), refl, (is.0, (of.0, of.1, of.2, of.3.1, (of.4.0, of.4.1, of.4.2, of.4.3, of.4.4.1))))
@@ -242,7 +242,7 @@ only_promise m = never
 abbrev promise_parts : Head × Span → Row
 promise_parts = both head_row (sign_at sign'.Semicolon)
 
-promise_from : Gives only_promise (made promise_of (with_place promise_parts))
+promise_from : SpellsAsWell only_promise (made promise_of (with_place promise_parts))
 promise_from (transaction_member false [] part params result None span) read is =
     let of = is.1 in
     ((((part, (params, result)), of.4.0), span), refl, (is.0, (of.0, of.1, of.2, of.3, of.4.1)))
@@ -251,13 +251,13 @@ promise_from m read is = elim is [ ]
 promise_makes : Makes promise_of (with_place promise_parts) only_promise
 promise_makes = record { to = λ parts read is. (is.0, (is.1.0, is.1.1, is.1.2, is.1.3, (parts.0.1, is.1.4))); from = promise_from }
 
-interface_to : Gives (one_of only_bare_state only_promise) interface_member
+interface_to : SpellsAsWell (one_of only_bare_state only_promise) interface_member
 interface_to (state_member part fields span) read (inl is) = is
 interface_to (transaction_member private lists part params result body span) read (inr is) = is
 interface_to m read (inl is) = elim is [ ]
 interface_to m read (inr is) = elim is [ ]
 
-interface_from : Gives interface_member (one_of only_bare_state only_promise)
+interface_from : SpellsAsWell interface_member (one_of only_bare_state only_promise)
 interface_from (state_member part fields span) read is = inl is
 interface_from (transaction_member private lists part params result body span) read is = inr is
 interface_from m read is = elim is [ ]

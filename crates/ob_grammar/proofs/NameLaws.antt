@@ -17,7 +17,7 @@ use Rattle.ob_grammar.specs.Rows.{Row, Loaded, never, token_at, name, maybe, par
 use Rattle.ob_grammar.specs.NameRows.{perm, named, ref}
 use Rattle.ob_grammar.specs.Readers.{Reader, is_of, name_if, read_token}
 use Rattle.ob_grammar.specs.NameReaders.{on, named_parts, read_named, mode_of, mode_if, modes, mode_perm, read_perm, ref_parts, read_ref_with, read_ref}
-use Rattle.ob_grammar.proofs.Laws.{Gives, Sample, Laws}
+use Rattle.ob_grammar.proofs.Laws.{SpellsAsWell, Sample, Laws}
 use Rattle.ob_grammar.proofs.One.{token_of, somewhere, free, took, Takes}
 use Rattle.ob_grammar.proofs.Both.{both}
 use Rattle.ob_grammar.proofs.Mapped.{Makes}
@@ -75,7 +75,7 @@ mode_row m = token_at (kind.Word (word_of_mode m.0)) m.1
 pub mode_to : (x : Mode × Span) (read : List Loaded) → took mode_if x read → mode_row x read
 mode_to x read is = is.2 ∙ ap (λ t. free t ∷ []) (mode_is is.0.kind is.0.span x is.1)
 
-mode_from : Gives mode_row (took mode_if)
+mode_from : SpellsAsWell mode_row (took mode_if)
 mode_from m read is = (mode_token m, mode_read m.0 m.1, is)
 
 pub mode_laws : (room : ℕ) → Laws room mode_row (read_token mode_if) modes [] false
@@ -93,11 +93,11 @@ abbrev only_states : PermNode → Row
 only_states (perm'.Mode m span) = never
 only_states (perm'.States names) = parted Bar name names
 
-perm_of_mode : Gives only_mode (made mode_perm mode_row)
+perm_of_mode : SpellsAsWell only_mode (made mode_perm mode_row)
 perm_of_mode (perm'.Mode m span) read is = ((m, span), refl, is)
 perm_of_mode (perm'.States names) read is = elim is [ ]
 
-perm_of_states : Gives only_states (made perm'.States (parted Bar name))
+perm_of_states : SpellsAsWell only_states (made perm'.States (parted Bar name))
 perm_of_states (perm'.Mode m span) read is = elim is [ ]
 perm_of_states (perm'.States names) read is = (names, refl, is)
 
@@ -107,13 +107,13 @@ mode_makes = record { to = λ x read is. is; from = perm_of_mode }
 states_makes : Makes perm'.States (parted Bar name) only_states
 states_makes = record { to = λ names read is. is; from = perm_of_states }
 
-perm_to : Gives (one_of only_mode only_states) perm
+perm_to : SpellsAsWell (one_of only_mode only_states) perm
 perm_to (perm'.Mode m span) read (inl is) = is
 perm_to (perm'.Mode m span) read (inr is) = elim is [ ]
 perm_to (perm'.States names) read (inl is) = elim is [ ]
 perm_to (perm'.States names) read (inr is) = is
 
-perm_from : Gives perm (one_of only_mode only_states)
+perm_from : SpellsAsWell perm (one_of only_mode only_states)
 perm_from (perm'.Mode m span) read is = inl is
 perm_from (perm'.States names) read is = inr is
 
@@ -137,7 +137,7 @@ named_to ((part, None), span) read is =
     rw (covers_one all is.0) all
 named_to ((part, Some r), span) read is = (is.0, (is.1.0, is.1.1, is.1.2, (part.span, is.1.3), is.1.4))
 
-named_from : Gives named (made named_parts parts_of_named)
+named_from : SpellsAsWell named (made named_parts parts_of_named)
 named_from (bare_name n span) read is = (((record { name = n; span = span }, None), span), refl, (one_covers is, with_nothing_behind is))
 named_from (name_with n r span) read is = (((record { name = n; span = is.1.3.0 }, Some r), span), refl, (is.0, (is.1.0, is.1.1, is.1.2, is.1.3.1, is.1.4)))
 
@@ -161,7 +161,7 @@ ref_sample =
 abbrev parts_of_ref : Named × (Span × PermNode) → Row
 parts_of_ref = both named (both (sign_at At) perm)
 
-ref_from : Gives ref (made ref_parts parts_of_ref)
+ref_from : SpellsAsWell ref (made ref_parts parts_of_ref)
 ref_from (ref_with of p) read is = ((of, (is.4.3.0, p)), refl, (is.0, is.1, is.2, is.3, (is.4.0, is.4.1, is.4.2, is.4.3.1, is.4.4)))
 
 ref_makes : Makes ref_parts parts_of_ref ref

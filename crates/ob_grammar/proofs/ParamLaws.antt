@@ -14,7 +14,7 @@ use Rattle.ob_grammar.specs.MemberRows.{exit, param, listed}
 use Rattle.ob_grammar.specs.Readers.{Reader, is_of, read_token}
 use Rattle.ob_grammar.specs.NameReaders.{on}
 use Rattle.ob_grammar.specs.MemberReaders.{value_type_of, value_type_if, value_types, types, read_type, subject_of, subject_if, subjects, read_exit, formal_of, read_param, listed_of, read_listed}
-use Rattle.ob_grammar.proofs.Laws.{Gives, Laws}
+use Rattle.ob_grammar.proofs.Laws.{SpellsAsWell, Laws}
 use Rattle.ob_grammar.proofs.One.{token_of, somewhere, free, took, Takes}
 use Rattle.ob_grammar.proofs.Both.{both}
 use Rattle.ob_grammar.proofs.Mapped.{Makes}
@@ -76,20 +76,20 @@ abbrev pub only_ref : TypeExpr → Row
 only_ref (ref_type of) = ref of
 only_ref t = never
 
-ref_from : Gives only_ref (made ref_type ref)
+ref_from : SpellsAsWell only_ref (made ref_type ref)
 ref_from (ref_type of) read is = (of, refl, is)
 ref_from t read is = elim is [ ]
 
 ref_makes : Makes ref_type ref only_ref
 ref_makes = record { to = λ of read is. is; from = ref_from }
 
-type_to : Gives (one_of only_value only_ref) type
+type_to : SpellsAsWell (one_of only_value only_ref) type
 type_to (ref_type of) read (inl is) = elim is [ ]
 type_to (ref_type of) read (inr is) = is
 type_to t read (inl is) = is
 type_to t read (inr is) = elim is [ ]
 
-type_from : Gives type (one_of only_value only_ref)
+type_from : SpellsAsWell type (one_of only_value only_ref)
 type_from (ref_type of) read is = inr is
 type_from t read is = inl is
 
@@ -103,7 +103,7 @@ subject_in k span x e read is = absurd cc
 pub subject_to : (x : Subject) (read : List Loaded) → took subject_if x read → subject x read
 subject_to x read is = subject_in is.0.kind is.0.span x is.1 read is.2
 
-subject_from : Gives subject (took subject_if)
+subject_from : SpellsAsWell subject (took subject_if)
 subject_from (subject'.This span) read is = (token_of (kind.Word word'.This) span, refl, is)
 subject_from (subject'.Name part) read is = (token_of (kind.Name part.name) part.span, refl, is)
 

@@ -16,7 +16,7 @@ use Rattle.ob_grammar.specs.NameReaders.{on}
 use Rattle.ob_grammar.specs.Chains.{Counted}
 use Rattle.ob_grammar.specs.Primaries.{expr_first, new_of, read_new, read_applied, read_method, this_of, read_this, Tail, method, applied, method_of, name_with_tail, read_tail, read_name}
 use Rattle.ob_grammar.specs.StmtReaders.{call_signs}
-use Rattle.ob_grammar.proofs.Laws.{Gives, Laws, disjoint}
+use Rattle.ob_grammar.proofs.Laws.{SpellsAsWell, Laws, disjoint}
 use Rattle.ob_grammar.proofs.Both.{both}
 use Rattle.ob_grammar.proofs.Mapped.{Makes}
 use Rattle.ob_grammar.proofs.Either.{one_of}
@@ -51,7 +51,7 @@ new_parts = both (word_at word'.New) (both named applied_row)
 new_to : (parts : (Span × (Named × Exprs)) × Span) (read : List Loaded) → with_place new_parts parts read → only_new (new_of parts) read
 new_to ((place, (of, args)), span) read (cov, is) = (cov, refl, (refl, (is.0, is.1, is.2, (place, is.3), is.4)))
 
-new_from : Gives only_new (made new_of (with_place new_parts))
+new_from : SpellsAsWell only_new (made new_of (with_place new_parts))
 new_from (new_expr of args span, n) read is =
     let parts = is.2.1 in
     (((parts.3.0, (of, args)), span), none_counted is.1, (is.0, (parts.0, parts.1, parts.2, parts.3.1, parts.4)))
@@ -99,7 +99,7 @@ this_to ((token, None), span) read (cov, is) = (cov, refl, (refl, nothing_behind
 this_to ((token, Some (dot, (part, args))), span) read (cov, is) =
     (cov, refl, (refl, to_call (subject'.This token) part args dot read is.0 is.1 is.2 is.3 is.4))
 
-this_from : Gives only_this (made this_of (with_place this_parts))
+this_from : SpellsAsWell only_this (made this_of (with_place this_parts))
 this_from (this_expr token span, n) read is = (((token, None), span), none_counted is.1, (is.0, with_nothing_behind is.2.1))
 this_from (call_expr (call_with (Some (subject'.This token)) part args) span, n) read is =
     let f = from_call (subject'.This token) part args read is.2.1 in
@@ -123,27 +123,27 @@ abbrev only_applied : Tail → Row
 only_applied (method part args) = never
 only_applied (applied args) = applied_row args
 
-method_from : Gives only_method (made method_of method_row)
+method_from : SpellsAsWell only_method (made method_of method_row)
 method_from (method part args) read is = ((is.3.0, (part, args)), refl, (is.0, is.1, is.2, is.3.1, is.4))
 method_from (applied args) read is = elim is [ ]
 
 method_makes : Makes method_of method_row only_method
 method_makes = record { to = λ parts read is. (is.0, is.1, is.2, (parts.0, is.3), is.4); from = method_from }
 
-applied_from : Gives only_applied (made applied applied_row)
+applied_from : SpellsAsWell only_applied (made applied applied_row)
 applied_from (method part args) read is = elim is [ ]
 applied_from (applied args) read is = (args, refl, is)
 
 applied_makes : Makes applied applied_row only_applied
 applied_makes = record { to = λ args read is. is; from = applied_from }
 
-tail_to : Gives (one_of only_method only_applied) tail_row
+tail_to : SpellsAsWell (one_of only_method only_applied) tail_row
 tail_to (method part args) read (inl is) = is
 tail_to (method part args) read (inr is) = elim is [ ]
 tail_to (applied args) read (inl is) = elim is [ ]
 tail_to (applied args) read (inr is) = is
 
-tail_from : Gives tail_row (one_of only_method only_applied)
+tail_from : SpellsAsWell tail_row (one_of only_method only_applied)
 tail_from (method part args) read is = inl is
 tail_from (applied args) read is = inr is
 
@@ -163,7 +163,7 @@ name_tail_to ((part, None), span) read (cov, is) = (cov, refl, (refl, nothing_be
 name_tail_to ((part, Some (applied args)), span) read (cov, is) = (cov, refl, (refl, with_nothing_before is))
 name_tail_to ((part, Some (method called args)), span) read (cov, is) = (cov, refl, (refl, ungrouped is))
 
-name_tail_from : Gives only_name (made name_with_tail (with_place name_parts))
+name_tail_from : SpellsAsWell only_name (made name_with_tail (with_place name_parts))
 name_tail_from (name_expr part span, n) read is = (((part, None), span), none_counted is.1, (is.0, with_nothing_behind is.2.1))
 name_tail_from (call_expr (call_with None part args) span, n) read is =
     (((part, Some (applied args)), span), none_counted is.1, (is.0, nothing_before is.2.1))

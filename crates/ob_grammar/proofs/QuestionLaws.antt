@@ -20,7 +20,7 @@ use Rattle.ob_grammar.specs.ExprReaders.{unary_signs}
 use Rattle.ob_grammar.specs.Primaries.{expr_first, literals}
 use Rattle.ob_grammar.specs.MemberReaders.{subjects}
 use Rattle.ob_grammar.specs.StmtReaders.{read_word, Question, tested, asked, tested_of, read_question}
-use Rattle.ob_grammar.proofs.Laws.{Gives, deep_part, answered, Laws, is_of-apart, of_first, of_second}
+use Rattle.ob_grammar.proofs.Laws.{SpellsAsWell, deep_part, answered, Laws, is_of-apart, of_first, of_second}
 use Rattle.ob_grammar.proofs.One.{token_of, free, free_within}
 use Rattle.ob_grammar.proofs.Both.{both}
 use Rattle.ob_grammar.proofs.Either.{one_of}
@@ -46,11 +46,11 @@ tests = made tested_of (both subject in_state)
 abbrev asks : Question → Row
 asks = made asked expr
 
-question_to : Gives (one_of tests asks) question
+question_to : SpellsAsWell (one_of tests asks) question
 question_to q read (inl ((of, (in', state)), same, is)) = rw same (is.0, is.1, is.2, is.3, (is.4.0, is.4.1, is.4.2, (in', is.4.3), is.4.4))
 question_to q read (inr (e, same, is)) = rw same is
 
-question_from : Gives question (one_of tests asks)
+question_from : SpellsAsWell question (one_of tests asks)
 question_from (tested of state) read is = inl ((of, (is.4.3.0, state)), refl, (is.0, is.1, is.2, is.3, (is.4.0, is.4.1, is.4.2, is.4.3.1, is.4.4)))
 question_from (asked e) read is = inr (e, refl, is)
 

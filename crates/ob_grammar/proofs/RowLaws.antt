@@ -10,7 +10,7 @@ use Rattle.ob_grammar.specs.Symbols.{a_name, a_word, number}
 use Rattle.ob_grammar.specs.Readers.{Reader, read_token, read_both, read_either, read_as, read_maybe, read_spanned}
 use Rattle.ob_grammar.specs.NameReaders.{on}
 use Rattle.ob_grammar.specs.StmtReaders.{read_word, read_sign}
-use Rattle.ob_grammar.proofs.Laws.{Gives, Ends, Laws, disjoint}
+use Rattle.ob_grammar.proofs.Laws.{SpellsAsWell, Ends, Laws, disjoint}
 use Rattle.ob_grammar.proofs.One.{took, Takes, one_laws}
 use Rattle.ob_grammar.proofs.Both.{both, more_of, first_of, both_laws}
 use Rattle.ob_grammar.proofs.Mapped.{Makes, as_laws}
@@ -38,7 +38,7 @@ at_name = number a_name ∷ []
 -- a token of which this is read, by the row that it spells
 pub token_laws :
     {A : Type 0} {f : Token → Option A} {kinds : List ℕ} (room : ℕ) (row : A → Row) →
-    Gives (took f) row → Gives row (took f) → Takes f kinds → Laws room row (read_token f) kinds [] false
+    SpellsAsWell (took f) row → SpellsAsWell row (took f) → Takes f kinds → Laws room row (read_token f) kinds [] false
 token_laws {f = f} {kinds = kinds} room row to from takes =
     same_laws room (took f) row (read_token f) kinds [] false to from (one_laws room f kinds takes)
 
@@ -94,7 +94,7 @@ module _ {A : Type 0} {room : ℕ} {reads : A → Row} {p : Reader A} {first mor
 
   -- by other rows that say the same
   pub alike_laws :
-      (others : A → Row) → Gives reads others → Gives others reads →
+      (others : A → Row) → SpellsAsWell reads others → SpellsAsWell others reads →
       Laws room reads p first more null → Laws room others p first more null
   alike_laws others to from a = same_laws room reads others p first more null to from a
 

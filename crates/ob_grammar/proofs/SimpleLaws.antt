@@ -13,7 +13,7 @@ use Rattle.ob_grammar.specs.Chains.{Counted}
 use Rattle.ob_grammar.specs.Primaries.{expr_first, uncounted}
 use Rattle.ob_grammar.specs.MemberReaders.{value_types}
 use Rattle.ob_grammar.specs.StmtReaders.{value_local_if, read_simple, simple_first}
-use Rattle.ob_grammar.proofs.Laws.{Gives, Laws}
+use Rattle.ob_grammar.proofs.Laws.{SpellsAsWell, Laws}
 use Rattle.ob_grammar.proofs.Either.{one_of}
 use Rattle.ob_grammar.proofs.RowLaws.{choice_laws, alike_laws}
 use Rattle.ob_grammar.proofs.NameLaws.{InnerRefs}
@@ -35,25 +35,25 @@ simple s = stmt s
 
 -- ---- what each row says
 
-declared_to : (of : Local → Row) → Gives of local → Gives (declared of) simple
+declared_to : (of : Local → Row) → SpellsAsWell of local → SpellsAsWell (declared of) simple
 declared_to of to s read (((l, valued), span), same, is) = rw same (is.0, (is.1.0, is.1.1, is.1.2, to l is.1.0 is.1.3, is.1.4))
 
-value_local_to : Gives value_local local
+value_local_to : SpellsAsWell value_local local
 value_local_to (named_local of) read is = elim is [ ]
 value_local_to l read is = is
 
-named_local_to : Gives named_locals local
+named_local_to : SpellsAsWell named_locals local
 named_local_to l read (of, same, is) = rw same is
 
-assigns_to : Gives assigns simple
+assigns_to : SpellsAsWell assigns simple
 assigns_to s read (parts, same, is) = rw same is
 
-stages_to : Gives stages simple
+stages_to : SpellsAsWell stages simple
 stages_to s read (((state, (colons, (field, value))), span), same, is) =
     let tail = is.1.4 in
     rw same (is.0, (is.1.0, is.1.1, is.1.2, is.1.3, (tail.0, tail.1, tail.2, (colons, tail.3), tail.4)))
 
-changes_to : Gives changes simple
+changes_to : SpellsAsWell changes simple
 changes_to s read (((arrow, (state, (values, end))), span), same, is) =
     let a = is.1.4 in
     let b = a.4 in
@@ -62,25 +62,25 @@ changes_to s read (((arrow, (state, (values, end))), span), same, is) =
 called_to : (s : Stmt) (read : List Loaded) → stmt s read → (e : Expr) → (span : Span) → s ≡ call_stmt e span → simple s read
 called_to s read is e span same = let is' : stmt (call_stmt e span) read = rw same at is in rw same is'
 
-calls_simple : (of : Expr → Row) → Gives of called → Gives (calls of) simple
+calls_simple : (of : Expr → Row) → SpellsAsWell of called → SpellsAsWell (calls of) simple
 calls_simple of to s read is = called_to s read (calls_to of to s read is) is.0.0.0 is.0.1 is.1
 
-returns_to : Gives returns simple
+returns_to : SpellsAsWell returns simple
 returns_to s read (((word, (value, end)), span), same, is) =
     let a = is.1.4 in
     rw same (is.0, (is.1.0, is.1.1, is.1.2, (word, is.1.3), (a.0, a.1, a.2, a.3, (end, a.4))))
 
-reverts_to : Gives reverts simple
+reverts_to : SpellsAsWell reverts simple
 reverts_to s read (((word, (value, end)), span), same, is) =
     let a = is.1.4 in
     rw same (is.0, (is.1.0, is.1.1, is.1.2, (word, is.1.3), (a.0, a.1, a.2, a.3, (end, a.4))))
 
-disowns_to : Gives disowns simple
+disowns_to : SpellsAsWell disowns simple
 disowns_to s read (((word, (part, end)), span), same, is) =
     let a = is.1.4 in
     rw same (is.0, (is.1.0, is.1.1, is.1.2, (word, is.1.3), (a.0, a.1, a.2, a.3, (end, a.4))))
 
-asserts_to : Gives asserts simple
+asserts_to : SpellsAsWell asserts simple
 asserts_to s read (((left, (of, (at, (with, (right, end))))), span), same, is) =
     let a = is.1.4 in
     let b = a.4 in
@@ -102,13 +102,13 @@ asserts_to s read (((left, (of, (at, (with, (right, end))))), span), same, is) =
 abbrev all : Stmt → Row
 all = one_of begins_with_name (one_of (declared value_local) (one_of (calls this_called) (one_of (calls new_called) (one_of changes (one_of returns (one_of reverts (one_of disowns asserts)))))))
 
-name_to : Gives begins_with_name simple
+name_to : SpellsAsWell begins_with_name simple
 name_to s read (inl is) = assigns_to s read is
 name_to s read (inr (inl is)) = stages_to s read is
 name_to s read (inr (inr (inl is))) = calls_simple name_called name_called_to s read is
 name_to s read (inr (inr (inr is))) = declared_to named_locals named_local_to s read is
 
-all_to : Gives all simple
+all_to : SpellsAsWell all simple
 all_to s read (inl is) = name_to s read is
 all_to s read (inr (inl is)) = declared_to value_local value_local_to s read is
 all_to s read (inr (inr (inl is))) = calls_simple this_called this_called_to s read is
@@ -133,7 +133,7 @@ call_from (new_expr of args place) span read is =
     inr (inr (inr (inl (calls_from new_called (new_expr of args place) span read is ((new_expr of args place, 0), refl, (is.1.3.0, refl, is.1.3.1))))))
 call_from e span read is = elim is.1.3 [ ]
 
-all_from : Gives simple all
+all_from : SpellsAsWell simple all
 all_from (declare_stmt (int_local place) part value span) read is = inr (inl (((int_local place, (part, value)), span), refl, is))
 all_from (declare_stmt (bool_local place) part value span) read is = inr (inl (((bool_local place, (part, value)), span), refl, is))
 all_from (declare_stmt (text_local place) part value span) read is = inr (inl (((text_local place, (part, value)), span), refl, is))

@@ -13,7 +13,7 @@ use Rattle.ob_grammar.specs.Readers.{Reader}
 use Rattle.ob_grammar.specs.NameReaders.{on}
 use Rattle.ob_grammar.specs.MemberReaders.{types, read_field}
 use Rattle.ob_grammar.specs.ContractReaders.{no_fields, read_fields, state_of, read_state}
-use Rattle.ob_grammar.proofs.Laws.{Gives, Laws}
+use Rattle.ob_grammar.proofs.Laws.{SpellsAsWell, Laws}
 use Rattle.ob_grammar.proofs.Both.{both}
 use Rattle.ob_grammar.proofs.Mapped.{Makes}
 use Rattle.ob_grammar.proofs.Either.{one_of}
@@ -35,20 +35,20 @@ only_bare (f ∷ fs) = never
 abbrev only_braced : List Field → Row
 only_braced = between_signs sign'.OpenBrace (each field) sign'.CloseBrace
 
-bare_from : Gives only_bare (made no_fields (sign_at sign'.Semicolon))
+bare_from : SpellsAsWell only_bare (made no_fields (sign_at sign'.Semicolon))
 bare_from [] read is = (is.0, refl, is.1)
 bare_from (f ∷ fs) read is = elim is [ ]
 
 bare_makes : Makes no_fields (sign_at sign'.Semicolon) only_bare
 bare_makes = record { to = λ place read is. (place, is); from = bare_from }
 
-fields_to : Gives (one_of only_bare only_braced) fields_of_state
+fields_to : SpellsAsWell (one_of only_bare only_braced) fields_of_state
 fields_to [] read (inl is) = inl is
 fields_to [] read (inr is) = inr (is.0, is.1, is.2, is.3, nothing_before is.4)
 fields_to (f ∷ fs) read (inl is) = elim is [ ]
 fields_to (f ∷ fs) read (inr is) = is
 
-fields_from : Gives fields_of_state (one_of only_bare only_braced)
+fields_from : SpellsAsWell fields_of_state (one_of only_bare only_braced)
 fields_from [] read (inl is) = inl is
 fields_from [] read (inr is) = inr (is.0, is.1, is.2, is.3, with_nothing_before is.4)
 fields_from (f ∷ fs) read is = inr is
@@ -63,7 +63,7 @@ only_state m = never
 abbrev state_parts : Span × (NamePart × List Field) → Row
 state_parts = both (word_at word'.State) (both name fields_of_state)
 
-state_from : Gives only_state (made state_of (with_place state_parts))
+state_from : SpellsAsWell only_state (made state_of (with_place state_parts))
 state_from (state_member part fields span) read is = let of = is.1 in (((of.3.0, (part, fields)), span), refl, (is.0, (of.0, of.1, of.2, of.3.1, of.4)))
 state_from m read is = elim is [ ]
 

@@ -14,7 +14,7 @@ use Rattle.ob_grammar.specs.Readers.{Reader}
 use Rattle.ob_grammar.specs.NameReaders.{on}
 use Rattle.ob_grammar.specs.MemberReaders.{read_listed, Head}
 use Rattle.ob_grammar.specs.ContractReaders.{privacy_of, read_privacy, transaction_of, read_transaction, transaction_first}
-use Rattle.ob_grammar.proofs.Laws.{Gives, Laws}
+use Rattle.ob_grammar.proofs.Laws.{SpellsAsWell, Laws}
 use Rattle.ob_grammar.proofs.Both.{both}
 use Rattle.ob_grammar.proofs.Mapped.{Makes}
 use Rattle.ob_grammar.proofs.Spanned.{with_place}
@@ -65,7 +65,7 @@ only_transaction m = never
 abbrev transaction_parts : (Bool × List Listed) × (Head × Block) → Row
 transaction_parts = both privacy_row (both head_row block)
 
-transaction_from : Gives only_transaction (made transaction_of (with_place transaction_parts))
+transaction_from : SpellsAsWell only_transaction (made transaction_of (with_place transaction_parts))
 transaction_from (transaction_member private lists part params result (Some body) span) read is = ((((private, lists), ((part, (params, result)), body)), span), refl, is)
 transaction_from m read is = elim is [ ]
 

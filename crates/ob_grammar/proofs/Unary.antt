@@ -16,7 +16,7 @@ use Rattle.ob_grammar.specs.ExprRows.{spelled, placed, negation}
 use Rattle.ob_grammar.specs.Readers.{Reader, is_of, read_as, read_either, read_opened, read_spanned}
 use Rattle.ob_grammar.specs.Chains.{Counted}
 use Rattle.ob_grammar.specs.ExprReaders.{unary_of, unary_if, unary_signs, negated}
-use Rattle.ob_grammar.proofs.Laws.{Gives, Sample, Laws, disjoint, ends-twice}
+use Rattle.ob_grammar.proofs.Laws.{SpellsAsWell, Sample, Laws, disjoint, ends-twice}
 use Rattle.ob_grammar.proofs.One.{token_of, somewhere, free, Takes}
 use Rattle.ob_grammar.proofs.Mapped.{Makes}
 use Rattle.ob_grammar.proofs.Either.{one_of}
@@ -83,7 +83,7 @@ only_to ((x, (operand, n)), span) read is =
     let under : read ≡ map (raise 1) (free t ∷ low) = is.1.2 ∙ ap (λ f. f ++ is.1.1) is.1.3.2 ∙ ap (λ b. loaded_at 1 t ∷ b) is.1.4.1 in
     (is.0, eq-eqb (level_of x.0) 7 u.1, (free t ∷ low, under, (free t ∷ [], low, refl, ap (λ v. free v ∷ []) u.0, is.1.4.2)))
 
-only_from : Gives only_unary (made negated unary_parts)
+only_from : SpellsAsWell only_unary (made negated unary_parts)
 only_from (unary_expr o place operand span, n) read is =
     let t : Token = operator_token (o, place) in
     let low = is.2.2.1 in
@@ -99,7 +99,7 @@ only_makes = record { to = only_to; from = only_from }
 
 -- ---- the row
 
-to : Gives (one_of only_unary (at_level 8)) (at_level 7)
+to : SpellsAsWell (one_of only_unary (at_level 8)) (at_level 7)
 to c read (inr is) = lower 7 c read is
 to (unary_expr o place operand span, n) read (inl is) = (is.0, inl (le-leb 7 (level_of o) (omega (arith, eqb-true (level_of o) 7 is.1)), (is.1, is.2)))
 to c read (inl is) = elim is [ ]

@@ -18,7 +18,7 @@ use Rattle.ob_grammar.specs.StmtReaders.{read_word, read_sign, between}
 
 -- ---- states
 
--- ";", or "{" {field} "}"
+-- no fields, behind `;`
 abbrev pub no_fields : Span → List Field
 no_fields place = []
 
@@ -28,7 +28,7 @@ read_braced refs = read_as between (read_both (read_sign sign'.OpenBrace) (read_
 abbrev pub read_fields : Reader Ref → Reader (List Field)
 read_fields refs = read_either (on sign'.Semicolon) (read_as no_fields (read_sign sign'.Semicolon)) (read_braced refs)
 
--- "state" NAME (";" | "{" {field} "}")
+-- what is made of the parts of: "state" NAME (";" | "{" {field} "}")
 abbrev pub state_of : (Span × (NamePart × List Field)) × Span → Member
 state_of parts = state_member parts.0.1.0 parts.0.1.1 parts.1
 
@@ -41,7 +41,7 @@ read_state refs = read_as state_of (read_spanned (read_both (read_word word'.Sta
 abbrev pub read_parens : {A : Type 0} → Reader A → Reader A
 read_parens p = read_as between (read_both (read_sign sign'.OpenParen) (read_both p (read_sign sign'.CloseParen)))
 
--- ["private" ["(" listed {"," listed} ")"]]
+-- reads: ["(" listed {"," listed} ")"]
 abbrev pub listed_behind : Reader Ref → Reader (List Listed)
 listed_behind refs = read_as list_of (read_maybe (on sign'.OpenParen) (read_parens (read_parted sign'.Comma (read_listed refs))))
 
@@ -52,7 +52,7 @@ privacy_of (Some parts) = (true, parts.1)
 abbrev pub read_privacy : Reader Ref → Reader (Bool × List Listed)
 read_privacy refs = read_as privacy_of (read_maybe (number (a_word word'.Private) ∷ []) (read_both (read_word word'.Private) (listed_behind refs)))
 
--- ["private" ["(" listed {"," listed} ")"]] head block
+-- what is made of the parts of: ["private" ["(" listed {"," listed} ")"]] head block
 abbrev pub transaction_of : ((Bool × List Listed) × (Head × Block)) × Span → Member
 transaction_of parts = transaction_member parts.0.0.0 parts.0.0.1 parts.0.1.0.0 parts.0.1.0.1.0 parts.0.1.0.1.1 (Some parts.0.1.1) parts.1
 
@@ -61,7 +61,7 @@ read_transaction refs block = read_as transaction_of (read_spanned (read_both (r
 
 -- ---- fields and constructors
 
--- a field whose type is `int`, `bool` or `string`
+-- reads a field whose type is `int`, `bool` or `string`
 abbrev pub read_value_field : Reader Field
 read_value_field = read_as field_of (read_both (read_token value_type_if) (read_both (read_token name_if) (read_both read_available (read_sign sign'.Semicolon))))
 
@@ -70,14 +70,14 @@ pub data MemberTail : Type 0 where
   constructed : List Formal → Block → MemberTail
   held : NamePart → List NamePart → MemberTail
 
--- "(" [params] ")" block
+-- what is made of the parts of: "(" [params] ")" block
 abbrev pub constructed_of : Span × (List Formal × (Span × Block)) → MemberTail
 constructed_of parts = constructed parts.1.0 parts.1.1.1
 
 abbrev pub read_constructed : Reader Ref → Reader Block → Reader MemberTail
 read_constructed refs block = read_as constructed_of (read_both (read_sign sign'.OpenParen) (read_both (read_maybe_parted types sign'.Comma (read_param refs)) (read_both (read_sign sign'.CloseParen) block)))
 
--- NAME ["available" "in" NAME {"," NAME}] ";"
+-- what is made of the parts of: NAME ["available" "in" NAME {"," NAME}] ";"
 abbrev pub held_of : NamePart × (List NamePart × Span) → MemberTail
 held_of parts = held parts.0 parts.1.0
 
@@ -109,14 +109,14 @@ read_member refs block =
     (read_either transaction_first (read_transaction refs block)
     (read_either value_types (read_as field_member read_value_field) (read_behind_ref refs block)))
 
--- "state" NAME ";"
+-- what is made of the parts of: "state" NAME ";"
 abbrev pub bare_state_of : (Span × (NamePart × Span)) × Span → Member
 bare_state_of parts = state_member parts.0.1.0 [] parts.1
 
 abbrev pub read_bare_state : Reader Member
 read_bare_state = read_as bare_state_of (read_spanned (read_both (read_word word'.State) (read_both (read_token name_if) (read_sign sign'.Semicolon))))
 
--- head ";"
+-- what is made of the parts of: head ";"
 abbrev pub promise_of : (Head × Span) × Span → Member
 promise_of parts = transaction_member false [] parts.0.0.0 parts.0.0.1.0 parts.0.0.1.1 None parts.1
 
@@ -131,7 +131,7 @@ read_interface_member refs = read_either (number (a_word word'.State) ∷ []) re
 
 -- ---- type parameters
 
--- ["w"]
+-- whether a word is there that may be left out
 abbrev pub is_there : Option Span → Bool
 is_there None = false
 is_there (Some place) = true
@@ -139,14 +139,14 @@ is_there (Some place) = true
 abbrev pub read_flag : Word → Reader Bool
 read_flag w = read_as is_there (read_maybe (number (a_word w) ∷ []) (read_word w))
 
--- ["where" NAME "is" mode]
+-- what is made of the parts of: ["where" NAME "is" mode]
 abbrev pub bound_of : Span × (NamePart × (Span × (Mode × Span))) → NamePart × Mode
 bound_of parts = (parts.1.0, parts.1.1.1.0)
 
 abbrev pub read_bound : Reader (Option (NamePart × Mode))
 read_bound = read_maybe (number (a_word word'.Where) ∷ []) (read_as bound_of (read_both (read_word word'.Where) (read_both (read_token name_if) (read_both (read_word word'.Is) (read_token mode_if)))))
 
--- "[" ["asset"] NAME "@" NAME ["where" NAME "is" mode] "]"
+-- what is made of the parts of: "[" ["asset"] NAME "@" NAME ["where" NAME "is" mode] "]"
 abbrev pub generic_of : (Span × (Bool × (NamePart × (Span × (NamePart × (Option (NamePart × Mode) × Span)))))) × Span → ParamNode
 generic_of parts = record { asset = parts.0.1.0; name = parts.0.1.1.0; perm = parts.0.1.1.1.1.0; bound = parts.0.1.1.1.1.1.0; span = parts.1 }
 
@@ -182,7 +182,7 @@ read_implements named = read_maybe (number (a_word word'.Implements) ∷ []) (re
 abbrev pub Kind : Type 0
 Kind = Bool × (Title × (Option Named × (List Member × Span)))
 
--- "contract" NAME [generic] ["implements" named] "{" {member} "}"
+-- what is made of the parts of: "contract" NAME [generic] ["implements" named] "{" {member} "}"
 abbrev pub contract_kind : Span × (Title × (Option Named × (List Member × Span))) → Kind
 contract_kind parts = (false, parts.1)
 
@@ -190,7 +190,7 @@ abbrev pub read_contract_kind : Reader Named → Reader Ref → Reader Block →
 read_contract_kind named refs block =
     read_as contract_kind (read_both (read_word word'.Contract) (read_both read_title (read_both (read_implements named) (read_body member_first (read_member refs block)))))
 
--- "interface" NAME [generic] "{" { "state" NAME ";" | head ";" } "}"
+-- what is made of the parts of: "interface" NAME [generic] "{" { "state" NAME ";" | head ";" } "}"
 abbrev pub interface_kind : Span × (Title × (List Member × Span)) → Kind
 interface_kind parts = (true, (parts.1.0, (None, parts.1.1)))
 
@@ -214,7 +214,7 @@ contract_of main parts =
       end = parts.1.1.1.1.1;
     }
 
--- "main" ["asset"] "contract" ..
+-- what is made of the parts of: "main" ["asset"] "contract" ..
 abbrev pub main_of : Span × (Bool × Kind) → Contract
 main_of parts = contract_of true parts.1
 

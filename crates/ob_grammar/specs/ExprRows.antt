@@ -88,6 +88,6 @@ abbrev mutual
   more_arguments no_exprs = nothing
   more_arguments (and_expr e es) = sign sign'.Comma ⨟ any e (spelled e) ⨟ more_arguments es
 
--- expr
+-- an expression of any level
 abbrev pub expr : Expr → Row
 expr e = any e (spelled e)

@@ -34,7 +34,7 @@ value_types = number (a_word word'.Int) ∷ number (a_word word'.Bool) ∷ numbe
 abbrev pub read_type : Reader Ref → Reader TypeExpr
 read_type refs = read_either value_types (read_token value_type_if) (read_as ref_type refs)
 
--- NAME | "this"
+-- what is made of the parts of: NAME | "this"
 abbrev pub subject_of : TokenKind → Span → Option Subject
 subject_of (kind.Word word'.This) span = Some (subject'.This span)
 subject_of (kind.Name n) span = Some (subject'.Name (record { name = n; span = span }))
@@ -50,14 +50,14 @@ subjects = number a_name ∷ number (a_word word'.This) ∷ []
 abbrev pub read_exit : Reader (Option PermNode)
 read_exit = read_maybe (on sign'.DoubleGreater) (read_as second (read_both (read_token (place_if (a_sign sign'.DoubleGreater))) read_perm))
 
--- type [">>" perm] (NAME | "this")
+-- what is made of the parts of: type [">>" perm] (NAME | "this")
 abbrev pub formal_of : TypeExpr × (Option PermNode × Subject) → Formal
 formal_of parts = record { of = parts.0; exit = parts.1.0; name = parts.1.1 }
 
 abbrev pub read_param : Reader Ref → Reader Formal
 read_param refs = read_as formal_of (read_both (read_type refs) (read_both read_exit (read_token subject_if)))
 
--- ref [">>" perm] NAME
+-- what is made of the parts of: ref [">>" perm] NAME
 abbrev pub listed_of : Ref × (Option PermNode × NamePart) → Listed
 listed_of parts = record { of = parts.0; exit = parts.1.0; name = parts.1.1 }
 
@@ -73,7 +73,7 @@ list_of (Some xs) = xs
 abbrev pub read_maybe_parted : {A : Type 0} → List ℕ → Sign → Reader A → Reader (List A)
 read_maybe_parted kinds s p = read_as list_of (read_maybe kinds (read_parted s p))
 
--- "available" "in" NAME {"," NAME}
+-- what is made of the parts of: "available" "in" NAME {"," NAME}
 abbrev pub states_of : Span × (Span × List NamePart) → List NamePart
 states_of parts = parts.1.1
 
@@ -84,7 +84,7 @@ read_states = read_as states_of (read_both (read_token (place_if (a_word word'.A
 abbrev pub read_available : Reader (List NamePart)
 read_available = read_as list_of (read_maybe (number (a_word word'.Available) ∷ []) read_states)
 
--- type NAME ["available" "in" NAME {"," NAME}] ";"
+-- what is made of the parts of: type NAME ["available" "in" NAME {"," NAME}] ";"
 abbrev pub field_of : TypeExpr × (NamePart × (List NamePart × Span)) → Field
 field_of parts = record { of = parts.0; name = parts.1.0; available = parts.1.1.0 }
 

@@ -89,7 +89,7 @@ ref_parts parts = ref_with parts.0 parts.1.1
 abbrev pub read_ref_with : (ℕ → Reader Ref) → ℕ → Reader Ref
 read_ref_with p room = read_as ref_parts (read_both (read_named p room) (read_both (read_token (place_if (a_sign At))) read_perm))
 
--- at most so many deep
+-- a reference with at most so many brackets inside one another
 abbrev pub read_ref : ℕ → ℕ → Reader Ref
 read_ref zero room = λ ts. stop ts
 read_ref (suc depth) room = read_ref_with (read_ref depth) room

@@ -33,19 +33,21 @@ abbrev pub of_level : ℕ → Span → Option Operator → Option (Operator × S
 of_level level span (Some o) = cond (nat_eq (level_of o) level) (Some (o, span)) None
 of_level level span None = None
 
--- the operator of this level that a token is
+-- the operator of this level that a kind of token is, with its place
 abbrev pub operator_in : ℕ → TokenKind → Span → Option (Operator × Span)
 operator_in level (kind.Sign s) span = of_level level span (operator_of s)
 operator_in level k span = None
 
+-- the operator of this level that a token is, with its place
 abbrev pub operator_if : ℕ → Token → Option (Operator × Span)
 operator_if level t = operator_in level t.kind t.span
 
--- the operators of each level, and the kinds of their signs
+-- the operators of each level
 abbrev pub operators : List (List Operator)
 operators =
     [] ∷ (op.Or ∷ []) ∷ (op.And ∷ []) ∷ (op.Equal ∷ op.NotEqual ∷ []) ∷ (op.Less ∷ op.LessEqual ∷ op.Greater ∷ op.GreaterEqual ∷ [])
     ∷ (op.Add ∷ op.Sub ∷ []) ∷ (op.Mul ∷ op.Div ∷ op.Rem ∷ []) ∷ []
 
+-- the numbers of the signs of a level
 abbrev pub signs_of_level : ℕ → List ℕ
 signs_of_level level = map (λ o. number (a_sign (sign_of_operator o))) (get_or operators level [])

@@ -57,7 +57,7 @@ expr_first = unary_signs ++ (number (a_sign sign'.OpenParen) ∷ number (a_word 
 abbrev pub uncounted : Counted → Expr
 uncounted c = c.0
 
--- [expr {"," expr}]
+-- what is made of the parts of: [expr {"," expr}]
 abbrev pub arguments_of : Option (List Expr) → Exprs
 arguments_of None = no_exprs
 arguments_of (Some es) = exprs es
@@ -69,7 +69,7 @@ read_arguments inner = read_as arguments_of (read_maybe expr_first (read_parted 
 abbrev pub read_applied : (ℕ → Reader Counted) → ℕ → Reader Exprs
 read_applied inner room = read_counted sign'.OpenParen room (λ r. read_arguments (inner r)) sign'.CloseParen
 
--- "new" named "(" [expr {"," expr}] ")"
+-- what is made of the parts of: "new" named "(" [expr {"," expr}] ")"
 abbrev pub new_of : (Span × (Named × Exprs)) × Span → Counted
 new_of parts = (new_expr parts.0.1.0 parts.0.1.1 parts.1, 0)
 
@@ -80,7 +80,7 @@ read_new refs inner room = read_as new_of (read_spanned (read_both (read_token (
 abbrev pub read_method : (ℕ → Reader Counted) → ℕ → Reader (Span × (NamePart × Exprs))
 read_method inner room = read_both (read_token (place_if (a_sign sign'.Dot))) (read_both (read_token name_if) (read_applied inner room))
 
--- "this", or a call of it
+-- what is made of the parts of: "this", or a call of it
 abbrev pub this_of : (Span × Option (Span × (NamePart × Exprs))) × Span → Counted
 this_of ((token, None), span) = (this_expr token span, 0)
 this_of ((token, Some (dot, (part, args))), span) = (call_expr (call_with (Some (subject'.This token)) part args) span, 0)

@@ -23,14 +23,15 @@ use Rattle.ob_grammar.specs.Chains.{Counted}
 use Rattle.ob_grammar.specs.Primaries.{expr_first, uncounted, Tail, name_with_tail, read_tail, read_method, read_new}
 use Rattle.ob_grammar.specs.MemberReaders.{value_types, subject_if, subjects, list_of, read_maybe_parted}
 
--- a word, and a sign
+-- reads a word
 abbrev pub read_word : Word → Reader Span
 read_word w = read_token (place_if (a_word w))
 
+-- reads a sign
 abbrev pub read_sign : Sign → Reader Span
 read_sign s = read_token (place_if (a_sign s))
 
--- "int" | "bool" | "string" | named
+-- what is made of the parts of: "int" | "bool" | "string" | named
 abbrev pub value_local_of : TokenKind → Span → Option Local
 value_local_of (kind.Word word'.Int) span = Some (int_local span)
 value_local_of (kind.Word word'.Bool) span = Some (bool_local span)
@@ -40,35 +41,35 @@ value_local_of k span = None
 abbrev pub value_local_if : Token → Option Local
 value_local_if t = value_local_of t.kind t.span
 
--- "=" expr ";"
+-- what is made of the parts of: "=" expr ";"
 abbrev pub assigned_of : Span × (Expr × Span) → Expr
 assigned_of parts = parts.1.0
 
 abbrev pub read_assigned : Reader Expr → Reader Expr
 read_assigned expr = read_as assigned_of (read_both (read_sign sign'.Equals) (read_both expr (read_sign sign'.Semicolon)))
 
--- ("int" | "bool" | "string" | named) NAME "=" expr ";"
+-- what is made of the parts of: ("int" | "bool" | "string" | named) NAME "=" expr ";"
 abbrev pub declare_of : (Local × (NamePart × Expr)) × Span → Stmt
 declare_of parts = declare_stmt parts.0.0 parts.0.1.0 parts.0.1.1 parts.1
 
 abbrev pub read_declare : Reader Local → Reader Expr → Reader Stmt
 read_declare local expr = read_as declare_of (read_spanned (read_both local (read_both (read_token name_if) (read_assigned expr))))
 
--- NAME "=" expr ";"
+-- what is made of the parts of: NAME "=" expr ";"
 abbrev pub assign_of : (NamePart × Expr) × Span → Stmt
 assign_of parts = assign_stmt parts.0.0 parts.0.1 parts.1
 
 abbrev pub read_assign : Reader Expr → Reader Stmt
 read_assign expr = read_as assign_of (read_spanned (read_both (read_token name_if) (read_assigned expr)))
 
--- NAME "::" NAME "=" expr ";"
+-- what is made of the parts of: NAME "::" NAME "=" expr ";"
 abbrev pub stage_of : (NamePart × (Span × (NamePart × Expr))) × Span → Stmt
 stage_of parts = stage_stmt parts.0.0 parts.0.1.1.0 parts.0.1.1.1 parts.1
 
 abbrev pub read_stage : Reader Expr → Reader Stmt
 read_stage expr = read_as stage_of (read_spanned (read_both (read_token name_if) (read_both (read_sign sign'.DoubleColon) (read_both (read_token name_if) (read_assigned expr)))))
 
--- NAME "=" expr
+-- what is made of the parts of: NAME "=" expr
 abbrev pub given_of : NamePart × (Span × Expr) → Given
 given_of parts = record { field = parts.0; value = parts.1.1 }
 
@@ -87,7 +88,7 @@ read_enclosed_given expr = read_as between (read_both (read_sign sign'.OpenParen
 abbrev pub read_all_given : Reader Expr → Reader (List Given)
 read_all_given expr = read_as list_of (read_maybe (on sign'.OpenParen) (read_enclosed_given expr))
 
--- "->" NAME ["(" [NAME "=" expr {"," NAME "=" expr}] ")"] ";"
+-- what is made of the parts of: "->" NAME ["(" [NAME "=" expr {"," NAME "=" expr}] ")"] ";"
 abbrev pub change_of : (Span × (NamePart × (List Given × Span))) × Span → Stmt
 change_of parts = change_stmt parts.0.1.0 parts.0.1.1.0 parts.1
 
@@ -108,7 +109,7 @@ called_this parts = call_expr (call_with (Some (subject'.This parts.0.0)) parts.
 abbrev pub read_called_this : (ℕ → Reader Counted) → ℕ → Reader Expr
 read_called_this exprs room = read_as called_this (read_spanned (read_both (read_word word'.This) (read_method exprs room)))
 
--- (call | new) ";"
+-- what is made of the parts of: (call | new) ";"
 abbrev pub call_of : (Expr × Span) × Span → Stmt
 call_of parts = call_stmt parts.0.0 parts.1
 
@@ -119,28 +120,28 @@ read_call called = read_as call_of (read_spanned (read_both called (read_sign si
 abbrev pub read_with_value : Word → Reader Expr → Reader ((Span × (Option Expr × Span)) × Span)
 read_with_value w expr = read_spanned (read_both (read_word w) (read_both (read_maybe expr_first expr) (read_sign sign'.Semicolon)))
 
--- "return" [expr] ";"
+-- what is made of the parts of: "return" [expr] ";"
 abbrev pub return_of : (Span × (Option Expr × Span)) × Span → Stmt
 return_of parts = return_stmt parts.0.1.0 parts.1
 
 abbrev pub read_return : Reader Expr → Reader Stmt
 read_return expr = read_as return_of (read_with_value word'.Return expr)
 
--- "revert" [expr] ";"
+-- what is made of the parts of: "revert" [expr] ";"
 abbrev pub revert_of : (Span × (Option Expr × Span)) × Span → Stmt
 revert_of parts = revert_stmt parts.0.1.0 parts.1
 
 abbrev pub read_revert : Reader Expr → Reader Stmt
 read_revert expr = read_as revert_of (read_with_value word'.Revert expr)
 
--- "disown" NAME ";"
+-- what is made of the parts of: "disown" NAME ";"
 abbrev pub disown_of : (Span × (NamePart × Span)) × Span → Stmt
 disown_of parts = disown_stmt parts.0.1.0 parts.1
 
 abbrev pub read_disown : Reader Stmt
 read_disown = read_as disown_of (read_spanned (read_both (read_word word'.Disown) (read_both (read_token name_if) (read_sign sign'.Semicolon))))
 
--- "[" (NAME | "this") "@" perm "]" ";"
+-- what is made of the parts of: "[" (NAME | "this") "@" perm "]" ";"
 abbrev pub assert_of : (Span × (Subject × (Span × (PermNode × (Span × Span))))) × Span → Stmt
 assert_of parts = assert_stmt parts.0.1.0 parts.0.1.1.1.0 parts.1
 
@@ -149,10 +150,11 @@ read_assert =
     read_as assert_of (read_spanned (read_both (read_sign sign'.OpenBracket) (read_both (read_token subject_if) (read_both (read_sign sign'.At)
     (read_both read_perm (read_both (read_sign sign'.CloseBracket) (read_sign sign'.Semicolon)))))))
 
--- a statement that begins with a name: what is behind the name says which
+-- the signs behind a name that begins a call
 abbrev pub call_signs : List ℕ
 call_signs = number (a_sign sign'.Dot) ∷ number (a_sign sign'.OpenParen) ∷ []
 
+-- reads a statement that begins with a name: what is behind the name says which
 abbrev pub read_behind_name : (ℕ → Reader Ref) → (ℕ → Reader Counted) → ℕ → Reader Stmt
 read_behind_name refs exprs room =
     read_ahead (number a_name ∷ []) (on sign'.Equals) (read_assign (read_as uncounted (exprs room)))
@@ -177,7 +179,7 @@ pub data Question : Type 0 where
   tested : Subject → NamePart → Question
   asked : Expr → Question
 
--- (NAME | "this") "in" NAME
+-- what is made of the parts of: (NAME | "this") "in" NAME
 abbrev pub tested_of : Subject × (Span × NamePart) → Question
 tested_of parts = tested parts.0 parts.1.1
 
@@ -188,7 +190,7 @@ read_tested = read_as tested_of (read_both (read_token subject_if) (read_both (r
 abbrev pub read_question : Reader Expr → Reader Question
 read_question expr = read_ahead subjects (number (a_word word'.In) ∷ []) read_tested (read_as asked expr)
 
--- "{" {stmt} "}", and the place of the closing brace
+-- what is made of the parts of: "{" {stmt} "}", and the place of the closing brace
 abbrev pub block_of : (Span × Stmts) × Span → Block
 block_of parts = block_with parts.0.1 parts.1
 
@@ -222,7 +224,7 @@ read_chained behind room = read_as chained_of (read_spanned (read_opened (place_
 abbrev pub read_block_or_if : (ℕ → Reader Stmts) → (ℕ → Reader Branches) → ℕ → Reader Block
 read_block_or_if body behind room = read_either (on sign'.OpenBrace) (read_block body room) (read_chained behind room)
 
--- ["else" (block | if)]
+-- what is made of the parts of: ["else" (block | if)]
 abbrev pub else_of : Option Block → Else
 else_of None = no_else
 else_of (Some block) = else_with block
@@ -232,7 +234,7 @@ read_alternative body behind room =
     read_as else_of (read_maybe (number (a_word word'.Else) ∷ [])
     (read_as second (read_both (read_word word'.Else) (read_block_or_if body behind room))))
 
--- "(" question ")" block ["else" (block | if)]
+-- what is made of the parts of: "(" question ")" block ["else" (block | if)]
 abbrev pub branches_of : Span × (Question × (Span × (Block × Else))) → Branches
 branches_of parts = (parts.1.0, parts.1.1.1)
 
@@ -241,12 +243,13 @@ read_branches expr body behind room =
     read_as branches_of (read_both (read_sign sign'.OpenParen) (read_both (read_question expr) (read_both (read_sign sign'.CloseParen)
     (read_both (read_block body room) (read_alternative body behind room)))))
 
--- what a statement begins with
+-- what a statement without blocks begins with
 abbrev pub simple_first : List ℕ
 simple_first =
     number a_name ∷ value_types ++ (number (a_word word'.This) ∷ number (a_word word'.New) ∷ number (a_sign sign'.Arrow) ∷ number (a_word word'.Return)
     ∷ number (a_word word'.Revert) ∷ number (a_word word'.Disown) ∷ number (a_sign sign'.OpenBracket) ∷ [])
 
+-- what a statement begins with
 abbrev pub stmt_first : List ℕ
 stmt_first = number (a_word word'.If) ∷ simple_first
 

@@ -26,7 +26,7 @@ abbrev pub all_given : List Given → Row
 all_given [] = either nothing (sign sign'.OpenParen ⨟ sign sign'.CloseParen)
 all_given (g ∷ gs) = sign sign'.OpenParen ⨟ parted sign'.Comma given (g ∷ gs) ⨟ sign sign'.CloseParen
 
--- call | new
+-- a call or a `new`
 abbrev pub called : Expr → Row
 called (call_expr c span) = spanning span (spelled (call_expr c span) 0)
 called (new_expr of args span) = spanning span (spelled (new_expr of args span) 0)

@@ -10,11 +10,11 @@ use Rattle.ob_tree.specs.MembersView.{views}
 use Rattle.ob_layout.specs.NameTokens.{if_empty}
 use Rattle.ob_layout.specs.Layout.{laid_out, layout}
 
--- one token more
+-- the layout of one token behind bytes
 unfoldable pub with_token : List ℕ → TokenKind → List ℕ
 with_token bytes token = bytes ++ laid_out token
 
--- and tokens one after another
+-- the layout of tokens behind bytes
 unfoldable pub written : List ℕ → List TokenKind → List ℕ
 written bytes tokens = bytes ++ layout tokens
 

@@ -40,7 +40,7 @@ abbrev pub about_code : Position → SeenAt → (Operand → SilicaForm) → Spa
 about_code q subject form span out =
     named_code q subject >>= (λ o. behind q (with_term (with_term out unit_form span) (form o) span))
 
--- what sets the place of a name
+-- what sets the place of a name: a slot or a field
 abbrev pub set_seen : Around → Seen → Operand → Result SilicaForm Stop
 set_seen a seen from =
     found (kind_of_seen a.frame (locals_of a.variables) seen)

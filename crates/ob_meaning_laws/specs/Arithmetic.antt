@@ -63,12 +63,13 @@ abbrev pub calculated : ℕ → ℤ → ℤ → Told
 calculated tx a b =
     told arithmetic (run_on_store arithmetic 5 calculator_store 0 0 tx (int_value a ∷ int_value b ∷ []))
 
--- it gives a number, or aborts with the line of an operator
+-- it gives this number
 abbrev pub gives_int : ℤ → Told
 gives_int z = tells (Some (int_value z))
     (record { contract = 0; state = 32; fields = []; shared = false; disowned = false } ∷ [])
     (spending 2 (object_item 0 ∷ []))
 
+-- it aborts by overflow, with the line of an operator
 abbrev pub overflows_on : ℕ → Told
 overflows_on line = tells_abort (by_overflow line) (spending 2 (object_item 0 ∷ []))
 

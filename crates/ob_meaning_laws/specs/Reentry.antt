@@ -91,6 +91,7 @@ seven_store =
 abbrev pub round : Told
 round = told reentry (run_on_store reentry 20 seven_store 1 0 2 [])
 
+-- it aborts by re-entry of the object of number 0
 abbrev pub round_aborted : Told
 round_aborted = tells_abort (by_reentry 0)
     (spending 7 (object_item 0 ∷ object_item 0 ∷ next_item ∷ object_item 0 ∷ object_item 0 ∷ []))
@@ -99,6 +100,7 @@ round_aborted = tells_abort (by_reentry 0)
 abbrev pub direct : Told
 direct = told reentry (run_on_store reentry 20 seven_store 1 0 3 [])
 
+-- it gives the 7 of the object, which stays as it was
 abbrev pub direct_gives_seven : Told
 direct_gives_seven = tells (Some (int_value (pos 7)))
     (record { contract = 1; state = 32; fields = Some (int_value (pos 7)) ∷ []; shared = true; disowned = false } ∷ [])

@@ -14,7 +14,7 @@ use Rattle.ob_content.specs.Contents.{Content}
 use Rattle.ob_content.specs.Worlds.{object_item, by_fuel}
 use Rattle.ob_meaning_laws.specs.Written.{on_line, contract_number, state_of_number, owner_in, as_unowned, stateless_bit, anywhere_bits, local_at, field_at_line, value_at, param, signature, default_constructor, body, Told, tells, tells_abort, told, spending, run_on_store}
 
--- `asset contract Coin { }` and `asset contract Candy { }`
+-- `asset contract Coin { }`
 abbrev pub coin : Contract
 coin = record {
   name = 67 ∷ 111 ∷ 105 ∷ 110 ∷ [];
@@ -28,6 +28,7 @@ coin = record {
   transactions = default_constructor ∷ [];
 }
 
+-- `asset contract Candy { }`, which the machine sells
 abbrev pub candy : Contract
 candy = record coin { name = 67 ∷ 97 ∷ 110 ∷ 100 ∷ 121 ∷ [] }
 

@@ -26,26 +26,31 @@ use Rattle.ob_meaning.specs.Calls.{call_at}
 abbrev pub on_line : ℕ → Span
 on_line n = record { start = 0; end = 0; line = n; column = 1 }
 
--- numbers as those of contracts, fields, states and transactions
+-- a number as that of a contract
 abbrev pub contract_number : ℕ → ContractId
 contract_number n = record { 0 = n }
 
+-- a number as that of a field
 abbrev pub field_number : ℕ → FieldId
 field_number n = record { 0 = n }
 
+-- a number as that of a state
 abbrev pub state_of_number : ℕ → StateId
 state_of_number n = record { 0 = n }
 
+-- a number as that of a transaction
 abbrev pub transaction_number : ℕ → TxId
 transaction_number n = record { 0 = n }
 
--- permissions: the owner's with states as bits, and the two others
+-- the permission of an owner, with states as bits
 abbrev pub owner_in : ℕ → Perm
 owner_in states = record { mode = Owned; states = states }
 
+-- the permission of one that shares
 abbrev pub as_shared : Perm
 as_shared = record { mode = Shared; states = 0 }
 
+-- the permission of one without a say
 abbrev pub as_unowned : Perm
 as_unowned = record { mode = Unowned; states = 0 }
 
@@ -57,13 +62,15 @@ stateless_bit = 4294967296
 abbrev pub anywhere_bits : ℕ
 anywhere_bits = 8589934591
 
--- names on a line: `this`, a variable, a field
+-- `this` on a line
 abbrev pub this_at : ℕ → SeenAt
 this_at n = record { of = This; span = on_line n }
 
+-- a variable on a line
 abbrev pub local_at : ℕ → ℕ → SeenAt
 local_at k n = record { of = Local k; span = on_line n }
 
+-- a field on a line
 abbrev pub field_at_line : ℕ → ℕ → SeenAt
 field_at_line k n = record { of = FieldSeen (field_number k); span = on_line n }
 
@@ -107,6 +114,7 @@ pub record ToldObject : Type 0 where
   pub shared : Bool
   pub disowned : Bool
 
+-- an object of a class table as it is told
 abbrev pub told_object : ClassTable → Object → ToldObject
 told_object table o = record {
   contract = o.contract.0;
@@ -122,6 +130,7 @@ pub data Told : Type 0 where
   tells_abort : Cause → Spent → Told
   tells_wrong : Told
 
+-- a run on a class table as it is told
 abbrev pub told : ClassTable → Outcome (Option Value) → Told
 told table (gives result w) = tells result (map (told_object table) w.objects) (spent w)
 told table (aborts cause s) = tells_abort cause s

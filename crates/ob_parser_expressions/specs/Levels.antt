@@ -56,11 +56,12 @@ read_row Relation = read_row_4 all_unary
 read_row Sum = read_row_5 all_unary
 read_row Product = read_row_6 all_unary
 
--- the operands of a row
+-- the row of a level, or that of operators with one operand
 abbrev pub read_tighter : Option Level → ℕ → Reader Counted
 read_tighter (Some level) = read_row level
 read_tighter None = all_unary
 
+-- an operand of a row
 abbrev pub read_operand : Level → ℕ → Reader Counted
 read_operand level = read_tighter (tighter level)
 

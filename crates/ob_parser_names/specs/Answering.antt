@@ -21,7 +21,7 @@ symbol_for wanted.Text = a_text
 symbol_for (wanted.Word w) = a_word w
 symbol_for (wanted.Sign s) = a_sign s
 
--- their numbers
+-- the numbers of symbols that are looked for
 abbrev pub numbers : List Wanted → List ℕ
 numbers ws = map (λ w. number (symbol_for w)) ws
 

@@ -33,7 +33,8 @@ is_known_sum names sum = is_known_term names sum.first && list_all (λ a. is_kno
 abbrev pub is_known_set : List (List ℕ) → List (List ℕ) → SetTree → Bool
 is_known_set fields names set = is_among set.field fields && is_known_sum names set.sum
 
--- Parameters are distinct and no fields, and there are at most 16. `this` is of the contract.
+-- Parameters are distinct and no fields, and there are at most 16. `this` is of the contract. Assigned names are fields, and
+-- sums are known.
 abbrev pub is_transaction : List ℕ → List (List ℕ) → TransactionTree → Bool
 is_transaction contract fields t =
     bytes_eq t.this contract && nat_le (length t.params) 16 && are_distinct t.params && list_all (λ p. not (is_among p fields)) t.params
@@ -46,7 +47,8 @@ are_starts [] (s ∷ starts) = false
 are_starts (f ∷ fields) [] = false
 are_starts (f ∷ fields) (s ∷ starts) = bytes_eq f s.field && are_starts fields starts
 
--- At most 64 fields and 256 transactions, all names distinct, and the constructor has the contract's name.
+-- At most 64 fields and 256 transactions, each with distinct names; the constructor has the contract's name and assigns the
+-- fields in order; and each transaction meets its own conditions.
 abbrev pub meets_conditions : ProgramTree → Bool
 meets_conditions p =
     bytes_eq p.constructor p.name && nat_le (length p.fields) 64 && are_distinct p.fields && are_starts p.fields p.starts

@@ -48,11 +48,12 @@ abbrev mutual
 abbrev pub body_back : ResolvedBody → Body
 body_back body = record { contract = body.contract; tx = body.tx; statements = statements_back body.statements; end = body.end }
 
--- there and back, through what may be missing and through a list
+-- there and back, through what may be missing
 pub option_there : {A B : Type 0} (f : A → B) (g : B → A) → ((a : A) → g (f a) ≡ a) → (item : Option A) → option_map g (option_map f item) ≡ item
 option_there f g back None = refl
 option_there f g back (Some a) = ap Some (back a)
 
+-- there and back, through a list
 pub list_there : {A B : Type 0} (f : A → B) (g : B → A) → ((a : A) → g (f a) ≡ a) → (items : List A) → map g (map f items) ≡ items
 list_there f g back [] = refl
 list_there f g back (a ∷ items) = ap (λ x. x ∷ map g (map f items)) (back a) ∙ ap (λ xs. a ∷ xs) (list_there f g back items)

@@ -63,8 +63,8 @@ resolved_receiver a s (Some (NameSubject name)) = Some (seen_at a s name)
 abbrev pub kind_of_receiver : Around → Scope → Option Subject → Kind
 kind_of_receiver a s receiver = option_map_or (kind_of_subject a s) receiver (kind_of_this a)
 
--- expressions, calls and arguments with numbers
 abbrev mutual
+  -- an expression with numbers in place of names
   pub resolved_expr : Around → Scope → Expr → Expression
   resolved_expr a s (number_expr value span) = resolved_number value span
   resolved_expr a s (text_expr value span) = resolved_text value span
@@ -79,12 +79,14 @@ abbrev mutual
   resolved_expr a s (new_expr of args span) =
       resolved_new (contract_id (contract_named a.program (part_of_named of).name)) (resolved_args a s args) span
 
+  -- a call with numbers in place of names, with the place of the whole
   pub resolved_call_at : Around → Scope → Call → Span → Expression
   resolved_call_at a s (call_with receiver name args) span =
       resolved_call (resolved_receiver a s receiver) (id_of_kind (kind_of_receiver a s receiver))
       (transaction_id (contract_of_kind a.program (kind_of_receiver a s receiver)) name.name) name.span
       (resolved_args a s args) span
 
+  -- arguments with numbers in place of names
   pub resolved_args : Around → Scope → Exprs → Arguments
   resolved_args a s no_exprs = no_arguments
   resolved_args a s (and_expr e es) = and_argument (resolved_expr a s e) (resolved_args a s es)
@@ -98,8 +100,8 @@ resolved_given a s field value = record {
       resolved_expr a s value;
 }
 
--- statements and blocks with numbers
 abbrev mutual
+  -- a statement with numbers in place of names
   pub resolved_stmt : Around → Scope → Stmt → Statement
   resolved_stmt a s (declare_stmt of name value span) =
       resolved_declare (s.count + 1) name.span (resolved_local (kind_of_local a.program of)) (resolved_expr a s value)
@@ -124,13 +126,16 @@ abbrev mutual
       resolved_assert (seen_subject a s subject)
       (perm_on (contract_of_kind a.program (kind_of_subject a s subject)) perm) span
 
+  -- a block with numbers in place of names
   pub block_resolved : Around → Scope → Block → ResolvedBlock
   block_resolved a s (block_with statements end) = resolved_block (resolved_stmts a s statements) end
 
+  -- what is behind `else` with numbers in place of names
   pub else_resolved : Around → Scope → Else → Otherwise
   else_resolved a s no_else = no_otherwise
   else_resolved a s (else_with block) = otherwise_block (block_resolved a s block)
 
+  -- statements one after another with numbers in place of names
   pub resolved_stmts : Around → Scope → Stmts → Statements
   resolved_stmts a s no_stmts = no_statements
   resolved_stmts a s (and_stmt x xs) = and_statement (resolved_stmt a s x) (resolved_stmts a (after_stmt a s x) xs)

@@ -76,8 +76,8 @@ passing_sites a s span None args = []
 passing_sites a s span (Some params) args =
     passes (count_args args) (length (params_of params)) span ∷ needed_args a s (kinds_of_params a.program params) args
 
--- the sites of an expression, of a call and of arguments
 abbrev mutual
+  -- what is asked of an expression
   pub expr_sites : Around → Scope → Expr → List Site
   expr_sites a s (number_expr value span) = []
   expr_sites a s (text_expr value span) = []
@@ -94,12 +94,14 @@ abbrev mutual
       ∷ passing_sites a s (part_of_named of).span (option_map (λ m. m.params) (constructed a.program of)) args
       ++ args_sites a s args
 
+  -- what is asked of a call
   pub call_sites : Around → Scope → Call → List Site
   call_sites a s (call_with receiver name args) =
       callee_sites a s receiver name
       ++ passing_sites a s name.span (option_map (λ t. t.params) (called a s receiver name.name)) args
       ++ args_sites a s args
 
+  -- what is asked of arguments, each by itself
   pub args_sites : Around → Scope → Exprs → List Site
   args_sites a s no_exprs = []
   args_sites a s (and_expr e es) = expr_sites a s e ++ args_sites a s es

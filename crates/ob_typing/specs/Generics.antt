@@ -31,8 +31,8 @@ argument_in_local (bool_local span) = []
 argument_in_local (text_local span) = []
 argument_in_local (named_local of) = argument_of of
 
--- the arguments in expressions
 abbrev mutual
+  -- the type arguments in an expression
   pub arguments_in_expr : Expr → List Ref
   arguments_in_expr (number_expr value span) = []
   arguments_in_expr (text_expr value span) = []
@@ -44,15 +44,17 @@ abbrev mutual
   arguments_in_expr (call_expr call span) = arguments_in_call call
   arguments_in_expr (new_expr of args span) = argument_of of ++ arguments_in_exprs args
 
+  -- the type arguments in a call
   pub arguments_in_call : Call → List Ref
   arguments_in_call (call_with receiver name args) = arguments_in_exprs args
 
+  -- the type arguments in expressions one after another
   pub arguments_in_exprs : Exprs → List Ref
   arguments_in_exprs no_exprs = []
   arguments_in_exprs (and_expr e es) = arguments_in_expr e ++ arguments_in_exprs es
 
--- the arguments in statements
 abbrev mutual
+  -- the type arguments in a statement
   pub arguments_in_stmt : Stmt → List Ref
   arguments_in_stmt (declare_stmt of name value span) = argument_in_local of ++ arguments_in_expr value
   arguments_in_stmt (assign_stmt name value span) = arguments_in_expr value
@@ -68,13 +70,16 @@ abbrev mutual
   arguments_in_stmt (disown_stmt name span) = []
   arguments_in_stmt (assert_stmt subject perm span) = []
 
+  -- the type arguments in a block
   pub arguments_in_block : Block → List Ref
   arguments_in_block (block_with statements end) = arguments_in_stmts statements
 
+  -- the type arguments in what is behind `else`
   pub arguments_in_else : Else → List Ref
   arguments_in_else no_else = []
   arguments_in_else (else_with block) = arguments_in_block block
 
+  -- the type arguments in statements one after another
   pub arguments_in_stmts : Stmts → List Ref
   arguments_in_stmts no_stmts = []
   arguments_in_stmts (and_stmt x xs) = arguments_in_stmt x ++ arguments_in_stmts xs

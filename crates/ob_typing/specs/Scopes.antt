@@ -64,8 +64,8 @@ with_local s name kind = record {
   count = s.count + 1;
 }
 
--- how many locals are declared in a statement
 abbrev mutual
+  -- how many locals a statement declares
   pub locals_in : Stmt → ℕ
   locals_in (declare_stmt of name value span) = 1
   locals_in (assign_stmt name value span) = 0
@@ -79,13 +79,16 @@ abbrev mutual
   locals_in (disown_stmt name span) = 0
   locals_in (assert_stmt subject perm span) = 0
 
+  -- how many locals a block declares
   pub locals_in_block : Block → ℕ
   locals_in_block (block_with statements end) = locals_in_stmts statements
 
+  -- how many locals are declared behind `else`
   pub locals_in_else : Else → ℕ
   locals_in_else no_else = 0
   locals_in_else (else_with block) = locals_in_block block
 
+  -- how many locals statements declare
   pub locals_in_stmts : Stmts → ℕ
   locals_in_stmts no_stmts = 0
   locals_in_stmts (and_stmt x xs) = locals_in x + locals_in_stmts xs

@@ -105,9 +105,11 @@ abbrev mutual
       subject_sites a s subject (place_of_subject subject)
       ++ on_contract a (kind_of_subject a s subject) (λ c. perm_sites c perm)
 
+  -- what is asked of a block
   pub block_sites : Around → Scope → Block → List Site
   block_sites a s (block_with statements end) = stmts_sites a s [] false statements
 
+  -- what is asked of what is behind `else`
   pub else_sites : Around → Scope → Else → List Site
   else_sites a s no_else = []
   else_sites a s (else_with block) = block_sites a s block

@@ -135,9 +135,9 @@ constructor_at table id =
 abbrev pub is_constructor : ClassTable → ContractId → ℕ → Bool
 is_constructor table id tx = option_map_or (λ c. not c.interface && nat_eq tx 0) (contract_at table id) false
 
--- an expression, a call and arguments are made as they must be: each name stands for something, and each operand has the
--- kind that its place needs
 abbrev mutual
+  -- an expression is made as it must be: each name stands for something, and each operand has the kind that its place
+  -- needs
   pub IsMade : Frame → Locals → Expression → Type 0
   IsMade f ls (resolved_number value span) = ⊤
   IsMade f ls (resolved_text value span) = ⊤
@@ -153,6 +153,7 @@ abbrev mutual
   IsMade f ls (resolved_new contract args span) =
       AreMade f ls args × IsSomeAnd (constructor_at f.table contract) (λ s. Pass f ls s.params args)
 
+  -- arguments, each of which is made as it must be
   pub AreMade : Frame → Locals → Arguments → Type 0
   AreMade f ls no_arguments = ⊤
   AreMade f ls (and_argument e es) = IsMade f ls e × AreMade f ls es
@@ -178,13 +179,16 @@ abbrev mutual
   ends_there (resolved_disown subject span) = false
   ends_there (resolved_assert subject perm span) = false
 
+  -- whether nothing is reached behind a block
   pub block_ends_there : Block → Bool
   block_ends_there (resolved_block statements end) = one_ends_there statements
 
+  -- whether nothing is reached behind what is behind `else`, if there is any
   pub other_ends_there : Otherwise → Bool
   other_ends_there no_otherwise = false
   other_ends_there (otherwise_block block) = block_ends_there block
 
+  -- whether nothing is reached behind one of the statements
   pub one_ends_there : Statements → Bool
   one_ends_there no_statements = false
   one_ends_there (and_statement x xs) = ends_there x || one_ends_there xs
@@ -238,8 +242,8 @@ abbrev pub behind : Locals → Statement → Locals
 behind ls (resolved_declare local name of value span) = ls ++ (local, of) ∷ []
 behind ls x = ls
 
--- a statement is made as it must be, behind a row of staged ones for these fields
 abbrev mutual
+  -- a statement is made as it must be, behind a row of staged ones for these fields
   pub IsStatement : Frame → Locals → List ℕ → Statement → Type 0
   IsStatement f ls row (resolved_declare local name of value span) =
       IsLocalKind f.table of × (f.params < local) × (local_kind ls local ≡ None) × IsValue f ls of value
@@ -257,9 +261,11 @@ abbrev mutual
   IsStatement f ls row (resolved_disown subject span) = Refers f ls subject.of (λ c. ⊤)
   IsStatement f ls row (resolved_assert subject perm span) = Refers f ls subject.of (λ c. IsPermOn c perm)
 
+  -- a block whose statements are made as they must be
   pub IsBlock : Frame → Locals → Block → Type 0
   IsBlock f ls (resolved_block statements end) = AreStatements f ls [] statements
 
+  -- nothing behind `else`, or such a block
   pub IsOtherwise : Frame → Locals → Otherwise → Type 0
   IsOtherwise f ls no_otherwise = ⊤
   IsOtherwise f ls (otherwise_block block) = IsBlock f ls block

@@ -20,16 +20,19 @@ use Rattle.ob_typing.specs.Declarations.{Program}
 abbrev pub at : ℕ → ℕ → Span
 at start end = record { start = start; end = end; line = 1; column = start + 1 }
 
--- a name of one letter, and a contract of one
+-- a name of one letter
 abbrev pub letter : ℕ → ℕ → NamePart
 letter byte start = record { name = byte ∷ []; span = at start (start + 1) }
 
+-- such a name as a type, without an argument
 abbrev pub named : ℕ → ℕ → Named
 named byte start = bare_name (byte ∷ []) (at start (start + 1))
 
+-- a fault at a stretch of the first line
 abbrev pub fault : ℕ → ℕ → ℕ → ProgramFault
 fault number start end = record { number = number; span = at start end }
 
+-- a contract or an interface with a name of one letter, without a type parameter
 abbrev pub contract : Bool → Bool → Bool → ℕ → Option Named → List Member → ℕ → ℕ → Contract
 contract main asset interface byte implements members start end = record {
   main = main;
