@@ -1,8 +1,9 @@
 -- A statement's parts: what is behind them is behind the statement.
-use Rattle.std.proofs.Common.{◌≡◌, Bool, false, ◌&&◌, Result, Ok, Err, IfOk, OnOk, IsOkAnd}
+use Rattle.std.proofs.Common.{◌≡◌, Bool, false, ◌&&◌, Result, Ok, Err, IfOk, OnOk, IsOkAnd, MatchResult, is_ok}
 
 pub behind_both : {E : Type 0} (A B C D : Type 0) (r branch other : Result Bool E)
-    → IfOk r (λ both. IsOkAnd branch (λ a. IsOkAnd other (λ b. both ≡ (a && b))))
+    → MatchResult r (λ both. IsOkAnd branch (λ a. IsOkAnd other (λ b. both ≡ (a && b))))
+        (λ _. (is_ok branch && is_ok other) ≡ false)
     → OnOk branch A → OnOk branch B → OnOk other C → (A → B → C → D) → OnOk r D
 behind_both A B C D (Err e) branch other made p q v f = tt
 behind_both A B C D (Ok x) (Err e) other made p q v f = absurd made
@@ -10,7 +11,8 @@ behind_both A B C D (Ok x) (Ok a) (Err e) made p q v f = absurd made
 behind_both A B C D (Ok x) (Ok a) (Ok b) made p q v f = f p q v
 
 pub both_end : {E : Type 0} (r branch other : Result Bool E) (first second : Bool)
-    → IfOk r (λ both. IsOkAnd branch (λ a. IsOkAnd other (λ b. both ≡ (a && b))))
+    → MatchResult r (λ both. IsOkAnd branch (λ a. IsOkAnd other (λ b. both ≡ (a && b))))
+        (λ _. (is_ok branch && is_ok other) ≡ false)
     → IfOk branch (λ a. a ≡ first) → IfOk other (λ b. b ≡ second) → IfOk r (λ both. both ≡ (first && second))
 both_end (Err e) branch other first second made p q = tt
 both_end (Ok x) (Err e) other first second made p q = absurd made
@@ -19,13 +21,15 @@ both_end (Ok x) (Ok a) (Ok b) first second made p q = cc
 
 -- behind a statement that doesn't end is what is behind its parts
 pub behind_one : {W E : Type 0} (A D : Type 0) (r : Result Bool E) (walked : Result W E)
-    → IfOk r (λ ended. IsOkAnd walked (λ _. ended ≡ false)) → OnOk walked A → (A → D) → OnOk r D
+    → MatchResult r (λ ended. IsOkAnd walked (λ _. ended ≡ false))
+        (λ _. is_ok walked ≡ false) → OnOk walked A → (A → D) → OnOk r D
 behind_one A D (Err e) walked made p f = tt
 behind_one A D (Ok x) (Err e) made p f = absurd made
 behind_one A D (Ok x) (Ok w) made p f = f p
 
 pub going_on : {W E : Type 0} (r : Result Bool E) (walked : Result W E)
-    → IfOk r (λ ended. IsOkAnd walked (λ _. ended ≡ false)) → IfOk r (λ ended. ended ≡ false)
+    → MatchResult r (λ ended. IsOkAnd walked (λ _. ended ≡ false))
+        (λ _. is_ok walked ≡ false) → IfOk r (λ ended. ended ≡ false)
 going_on (Err e) walked made = tt
 going_on (Ok x) (Err e) made = absurd made
 going_on (Ok x) (Ok w) made = made

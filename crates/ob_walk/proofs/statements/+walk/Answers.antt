@@ -26,7 +26,7 @@ walk_stmt-returns-in-Test-clause-sites t c =
     (branch.new.scope ≡ past s (locals_in_block (block_of w.then)))
     (other.new.least ≡ noted branch.new.least (else_sites a branch.new.scope (else_of w.otherwise)))
     (other.new.least ≡ noted c.args.least.now (stmt_sites a s row (stmt_of c.args.statement.now)))
-    c.both.result branch.result other.result c.both.ensures branch.ensures.sites branch.ensures.scope
+    c.both_end.result branch.result other.result c.both_end.ensures branch.ensures.sites branch.ensures.scope
     other.ensures.sites
     (λ p q v. rw (v, q, p, c.walk_tested.ensures, w.is, stmt_of-Test)
     (test_sites a s row c.args.least.now w.subject w.state (block_of w.then) (else_of w.otherwise) w.span))
@@ -42,7 +42,7 @@ walk_stmt-returns-in-Test-clause-scope t c =
     let n = locals_in_else (else_of w.otherwise) in
     behind_both (branch.new.scope ≡ past s m) (branch.new.scope ≡ past s m)
     (other.new.scope ≡ past branch.new.scope n) (other.new.scope ≡ after_stmt a s (stmt_of c.args.statement.now))
-    c.both.result branch.result other.result c.both.ensures branch.ensures.scope branch.ensures.scope
+    c.both_end.result branch.result other.result c.both_end.ensures branch.ensures.scope branch.ensures.scope
     other.ensures.scope
     (λ p q v. v ∙ ap (λ u. past u n) p ∙ past_both s m n ∙ sym (ap (after_stmt a s) (ap stmt_of w.is
     ∙ stmt_of-Test w.subject w.state w.then w.otherwise w.span)))
@@ -52,10 +52,10 @@ walk_stmt-returns-in-Test-clause-ends t c =
     let w = c.in-Test in
     let branch = c.walk_block-then in
     let other = c.walk_else-otherwise in
-    subst (λ x. IfOk c.both.result (λ b. b ≡ ends x)) (sym (ap stmt_of w.is
+    subst (λ x. IfOk c.both_end.result (λ b. b ≡ ends x)) (sym (ap stmt_of w.is
     ∙ stmt_of-Test w.subject w.state w.then w.otherwise w.span))
-    (both_end c.both.result branch.result other.result (block_ends (block_of w.then))
-    (else_ends (else_of w.otherwise)) c.both.ensures branch.ensures.ends other.ensures.ends)
+    (both_end c.both_end.result branch.result other.result (block_ends (block_of w.then))
+    (else_ends (else_of w.otherwise)) c.both_end.ensures branch.ensures.ends other.ensures.ends)
 
 pub walk_stmt-returns-in-If-clause-sites : goal.walk_stmt-returns-in-If-clause-sites
 walk_stmt-returns-in-If-clause-sites t c =
@@ -69,7 +69,7 @@ walk_stmt-returns-in-If-clause-sites t c =
     (branch.new.scope ≡ past s (locals_in_block (block_of w.then)))
     (other.new.least ≡ noted branch.new.least (else_sites a branch.new.scope (else_of w.otherwise)))
     (other.new.least ≡ noted c.args.least.now (stmt_sites a s row (stmt_of c.args.statement.now)))
-    c.both-in-If.result branch.result other.result c.both-in-If.ensures branch.ensures.sites branch.ensures.scope
+    c.both_end-in-If.result branch.result other.result c.both_end-in-If.ensures branch.ensures.sites branch.ensures.scope
     other.ensures.sites
     (λ p q v. rw (v, q, p, c.walk_value.ensures, w.is, stmt_of-If)
     (if_sites a s row c.args.least.now (expr_of w.condition) (block_of w.then) (else_of w.otherwise) w.span))
@@ -85,7 +85,7 @@ walk_stmt-returns-in-If-clause-scope t c =
     let n = locals_in_else (else_of w.otherwise) in
     behind_both (branch.new.scope ≡ past s m) (branch.new.scope ≡ past s m)
     (other.new.scope ≡ past branch.new.scope n) (other.new.scope ≡ after_stmt a s (stmt_of c.args.statement.now))
-    c.both-in-If.result branch.result other.result c.both-in-If.ensures branch.ensures.scope branch.ensures.scope
+    c.both_end-in-If.result branch.result other.result c.both_end-in-If.ensures branch.ensures.scope branch.ensures.scope
     other.ensures.scope
     (λ p q v. v ∙ ap (λ u. past u n) p ∙ past_both s m n ∙ sym (ap (after_stmt a s) (ap stmt_of w.is
     ∙ stmt_of-If w.condition w.then w.otherwise w.span)))
@@ -95,10 +95,10 @@ walk_stmt-returns-in-If-clause-ends t c =
     let w = c.in-If in
     let branch = c.walk_block-then-in-If in
     let other = c.walk_else-otherwise-in-If in
-    subst (λ x. IfOk c.both-in-If.result (λ b. b ≡ ends x)) (sym (ap stmt_of w.is
+    subst (λ x. IfOk c.both_end-in-If.result (λ b. b ≡ ends x)) (sym (ap stmt_of w.is
     ∙ stmt_of-If w.condition w.then w.otherwise w.span))
-    (both_end c.both-in-If.result branch.result other.result (block_ends (block_of w.then))
-    (else_ends (else_of w.otherwise)) c.both-in-If.ensures branch.ensures.ends other.ensures.ends)
+    (both_end c.both_end-in-If.result branch.result other.result (block_ends (block_of w.then))
+    (else_ends (else_of w.otherwise)) c.both_end-in-If.ensures branch.ensures.ends other.ensures.ends)
 
 pub walk_stmt-returns-in-Declare-clause-sites : goal.walk_stmt-returns-in-Declare-clause-sites
 walk_stmt-returns-in-Declare-clause-sites t c =
