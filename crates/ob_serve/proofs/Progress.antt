@@ -187,20 +187,21 @@ rose_later a b c le rose = omega arith
 -- what a session that ends before a reply says
 pub stopped : (program : Option Plain) (served : Served) (old new : Streams) (from now : LineReader) (store : Store)
     → SoFar program old.input.left from.pending old.output.written new.output.written from.ended from.handed store → IsStop from now served → old.input.faults ≤ from.faults → now.left ≡ new.input.left → now.faults ≡ new.input.faults
-    → HasTaken old.input new.input now.taken → EndsAs program old new served
-stopped program Done old new from now store was stop later left faults has = finished program old new from now store was stop left has
-stopped program ReadFault old new from now store was stop later left faults has =
+    → HasTaken old.input new.input now.taken → now.taken ≤ 2 ^ 40 → EndsAs program old new served
+stopped program Done old new from now store was stop later left faults has bound = finished program old new from now store was stop left has
+stopped program ReadFault old new from now store was stop later left faults has bound =
     let cut = cut_off program old new from now store was stop.1 left has in
     record {
       cause = rose_later old.input.faults from.faults new.input.faults later (rw faults at stop.0);
       so_far = cut.0;
       within = omega (arith, cut.1, stop.2);
     }
-stopped program Long old new from now store was stop later left faults has =
+stopped program Long old new from now store was stop later left faults has bound =
     let cut = cut_off program old new from now store was stop.0 left has in
     record { so_far = cut.0; exactly = omega (arith, cut.1, stop.1) }
-stopped program Memory old new from now store was stop later left faults has = gives_up program old new from.pending from.ended from.handed store was
-stopped program WriteFault old new from now store was stop later left faults has = absurd stop
+stopped program Memory old new from now store was stop later left faults has bound =
+    gives_up program old new from.pending from.ended from.handed store was (few_taken old.input new.input now.taken has bound)
+stopped program WriteFault old new from now store was stop later left faults has bound = absurd stop
 
 one_reply : (program : Option Plain) (store : Store) (line : List ℕ) → is_blank_line line ≡ false → replies (session (answer_of program) store (requests_in (line ∷ []))) ≡ (answer_of program store line).reply
 one_reply program store line shows = rw shows (append-nil (answer_of program store line).reply)

@@ -29,7 +29,7 @@ lines-init g c =
 pub returns-in-Err-clause-ends : goal.returns-in-Err-clause-ends
 returns-in-Err-clause-ends g c =
     stopped c.args.program.now c.in-Err.served _ _ (reader c.lines.lines (g.S.Source.view c.lines.input)) (reader c.next_line.new.lines (g.S.Source.view c.next_line.new.input)) c.lines.store
-    c.lines.invariant.so_far c.in-Err.ensures.err (omega (arith, c.lines.invariant.calm_read)) refl refl (more_taken _ _ _ _ _ c.lines.invariant.drawn c.next_line.ensures.taken)
+    c.lines.invariant.so_far c.in-Err.ensures.err (omega (arith, c.lines.invariant.calm_read)) refl refl (more_taken _ _ _ _ _ c.lines.invariant.drawn c.next_line.ensures.taken) c.next_line.ensures.bound
 
 pub lines-preserved-in-Ok-None : goal.lines-preserved-in-Ok-None
 lines-preserved-in-Ok-None g c =
