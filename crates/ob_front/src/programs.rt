@@ -1,5 +1,5 @@
 //! The stages from a program's text to a program whose bodies are lowered and checked.
-ghost use Rattle.std.specs.Prelude.{◌≡◌, ℕ, List, map, IfOk, IfErr};
+ghost use Rattle.std.specs.Prelude.{◌≡◌, ℕ, List, map, IfOk, IfErr, OnOk};
 ghost use Rattle.ob_base.specs.declared.fault.ProgramFault.{ProgramFault};
 ghost use Rattle.ob_silica.specs.TermsView.{silica_body_of};
 ghost use Rattle.ob_front.specs.Programs.{HasTerms, HasTermsFault, IsProgram, IsAccepted, HasTextFault};
@@ -46,6 +46,16 @@ pub fn compile(alloc: Global, text: &[u8]) -> Result<Compiled, CompileError>
     let program = lowered(alloc, text)?;
     check_bodies(alloc, &program.table, program.bodies.as_slice())?;
     Ok(program)
+}
+
+/// Whether a text has a program, or its first fault: one that `compile` tells.
+#[tactic(auto, using(crate::proofs::ProgramsLaws::accepted_program))]
+pub fn check_program(alloc: Global, text: &[u8]) -> Result<(), CompileError>
+    ensures accepted { OnOk result (IsAccepted text.now) }
+    ensures fault { IfErr result (λ e. OnFault e (HasTextFault text.now)) }
+{
+    compile(alloc, text)?;
+    Ok(())
 }
 
 /// A text that is accepted has no first fault.

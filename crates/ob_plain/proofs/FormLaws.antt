@@ -4,17 +4,15 @@ use Rattle.ob_base.specs.Faults.{not_built}
 use Rattle.ob_base.specs.declared.fault.ProgramFault.{ProgramFault}
 use Rattle.ob_lexer.specs.Places.{fault_at}
 use Rattle.ob_tree.specs.Members.{Contract}
-use Rattle.ob_table.specs.Tables.{ClassTable}
-use Rattle.ob_silica.specs.Terms.{SilicaBody}
 use Rattle.ob_machine.specs.declared.plain.Plain.{Plain}
 use Rattle.ob_machine.specs.Closed.{is_closed_program}
 use Rattle.ob_front.specs.Stages.{IsTreeOf, HasTreeFault, at_tree}
-use Rattle.ob_front.specs.Programs.{at_table, IsProgram, IsAccepted, HasTextFault, at_terms}
+use Rattle.ob_front.specs.Programs.{at_table, IsAccepted, HasTextFault, at_terms}
 use Rattle.ob_front.specs.Compiling.{OnFault}
 use Rattle.ob_front.specs.declared.stages.CompileError.{CompileError}
 use Rattle.ob_front.specs.declared.stages.CompileError.TheVariants as compiling
 use Rattle.ob_front.proofs.StagesLaws.{one_tree, tree_or_none}
-use Rattle.ob_front.proofs.ProgramsLaws.{accepted_or_fault_lem, one_text_fault_lem, accepted_program}
+use Rattle.ob_front.proofs.ProgramsLaws.{accepted_or_fault_lem, one_text_fault_lem}
 use Rattle.ob_plain.specs.BuiltForm.{program_of}
 use Rattle.ob_plain.specs.Resolved.{plain_of}
 use Rattle.ob_plain.specs.Form.{is_valid, HasProgram, IsOfForm, IsFaulty, in_text, in_form}
@@ -98,8 +96,8 @@ pub formed_other : (tree : List Contract) → program_of tree ≡ None → Forms
 formed_other tree none program e = let f : None ≡ Some program = sym none ∙ e in cc
 
 -- what is told of a text without a fault
-pub told_without_fault : (text : List ℕ) (table : ClassTable) (bodies : List SilicaBody) → IsProgram text table bodies → IsToldOf text (fault_at not_built [] [])
-told_without_fault text table bodies is = inr (accepted_program text table bodies is, refl)
+pub told_without_fault : (text : List ℕ) → IsAccepted text → IsToldOf text (fault_at not_built [] [])
+told_without_fault text is = inr (is, refl)
 
 pub told_with_fault : (text : List ℕ) (cause : CompileError) → OnFault cause (HasTextFault text) → OnFault cause (IsToldOf text)
 told_with_fault text (compiling.Fault fault) has = inl has

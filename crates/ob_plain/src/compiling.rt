@@ -13,7 +13,7 @@ use crate::conditions::meets_conditions;
 use crate::resolver::resolve;
 use crate::tree::ProgramTree;
 use ob_base::{Memory, NOT_BUILT, ProgramFault, Span};
-use ob_front::{CompileError, compile, syntax_tree};
+use ob_front::{CompileError, check_program, syntax_tree};
 use ob_machine::Plain;
 use ob_tree::Tree;
 use std::alloc::Global;
@@ -64,8 +64,8 @@ fn in_form(alloc: Global, tree: &Tree) -> Result<Formed, Memory>
 fn refused(alloc: Global, text: &[u8]) -> CompileError
     ensures { OnFault result (IsToldOf text.now) }
 {
-    match compile(alloc, text) {
-        Ok(_) => CompileError::Fault(NOT_OF_FORM),
+    match check_program(alloc, text) {
+        Ok(()) => CompileError::Fault(NOT_OF_FORM),
         Err(cause) => cause,
     }
 }

@@ -3,9 +3,9 @@
 
 mod command;
 mod exit;
-mod fault_line;
+mod fault;
 mod top;
 
 pub use exit::Exit;
-pub use fault_line::fault_line;
+pub use fault::fault_line;
 pub use top::run;

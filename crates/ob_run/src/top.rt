@@ -13,9 +13,9 @@ ghost use Rattle.ob_run.specs.TextRead.{IsReadOf, TreatsAlone, Refuses, Accepts}
 
 use crate::command::Command;
 use crate::exit::Exit;
-use crate::fault_line::fault_line;
+use crate::fault::fault_line;
 use ob_base::ProgramFault;
-use ob_front::{CompileError, compile};
+use ob_front::{CompileError, check_program};
 use ob_io::{FileError, Files, Sink, Source, write_all};
 use ob_plain::compile_plain;
 use ob_serve::{Served, serve};
@@ -78,8 +78,8 @@ fn check_text<K: Sink>(alloc: Global, text: &[u8], output: &mut K) -> Exit
     ensures calm { result ≢ Exit.WriteFault → (K.view output.new).faults ≡ (K.view output.old).faults }
     ensures once { (K.view output.new).faults ≤ (K.view output.old).faults + 1 }
 {
-    match compile(alloc, text) {
-        Ok(_) => accept(output),
+    match check_program(alloc, text) {
+        Ok(()) => accept(output),
         Err(CompileError::Fault(fault)) => refuse(alloc, fault, output),
         Err(CompileError::Memory) => Exit::Memory,
     }

@@ -3,7 +3,7 @@ use Rattle.ob_plain.proofs.compiling.refused.Goals as goal
 use Rattle.ob_plain.proofs.compiling.refused.Goals.{in-Ok, in-Err}
 
 pub returns : goal.returns
-returns c = elim c.match-compile.branch [
-  | in-Ok w ↦ rw w.result-is (told_without_fault _ _ _ w.in-Ok.ensures.program)
+returns c = elim c.match-check_program.branch [
+  | in-Ok w ↦ rw w.result-is (told_without_fault _ w.in-Ok.ensures.accepted)
   | in-Err w ↦ rw w.result-is (told_with_fault _ _ w.in-Err.ensures.fault)
 ]
