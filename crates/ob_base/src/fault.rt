@@ -18,7 +18,9 @@ pub struct Span {
 /// Why a text is no program: the fault's number and the place where it stands.
 #[derive(Clone, Copy, PartialEq, Eq, Debug)]
 pub struct ProgramFault {
+    /// Which fault it is: one of the numbers below.
     pub number: u16,
+    /// Where it stands in the text.
     pub span: Span,
 }
 

@@ -13,6 +13,7 @@ pub enum FieldFault {
     /// The bytes of a text aren't UTF-8.
     #[error("a text isn't UTF-8")]
     BadText,
+    /// Memory ran out.
     #[error("out of memory")]
     Memory,
 }

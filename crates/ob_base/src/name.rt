@@ -15,6 +15,7 @@ pub enum NameError {
     /// The bytes are none of that form.
     #[error("not of the form of a name")]
     Bad,
+    /// Memory ran out.
     #[error("out of memory")]
     Memory,
 }

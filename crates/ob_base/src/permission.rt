@@ -4,8 +4,11 @@
 /// those that share it, or without a say.
 #[derive(Clone, Copy, PartialEq, Eq, Debug)]
 pub enum Mode {
+    /// As its one owner, which knows its states and may change it, give it and give it up.
     Owned,
+    /// As one of any number, which may change it while nobody owns it.
     Shared,
+    /// As one that looks at it, whoever owns or shares it.
     Unowned,
 }
 

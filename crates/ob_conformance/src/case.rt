@@ -5,8 +5,11 @@ use crate::named::Named;
 /// What is common to the rows of a table of cases, or a case of its own.
 #[derive(Drop)]
 pub struct Case {
+    /// What is asked of its text.
     pub kind: Kind,
+    /// What its first line says of it, under which it is printed.
     pub title: String,
+    /// Its parts, as `text` and `answer`, by their names.
     pub parts: Named,
 }
 

@@ -9,8 +9,11 @@ use std::alloc::Global;
 pub struct Report {
     /// Whether each answer is printed, in place of comparing it.
     pub answers: bool,
+    /// How many cases were compared so far.
     pub cases: u64,
+    /// How many of them came out as expected.
     pub agreeing: u64,
+    /// What is printed so far.
     pub text: Bytes,
 }
 

@@ -11,6 +11,7 @@ pub enum FlowError {
     /// The fault of the first premise that fails.
     #[error("the body has a fault")]
     Fault(ProgramFault),
+    /// Memory ran out.
     #[error("out of memory")]
     Memory,
 }

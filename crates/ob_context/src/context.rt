@@ -18,6 +18,7 @@ use std::alloc::Global;
 /// What is known of a place.
 #[derive(Clone, Copy, PartialEq, Eq, Debug)]
 pub struct Known {
+    /// The kind of its value, without a permission.
     pub kind: LocalKind,
     /// The permission on it, which is Unowned if it is no reference.
     pub permission: Perm,

@@ -160,6 +160,7 @@ fn target_of<'a>(
         return None;
     };
     let object = handled(store.handles.as_slice(), who, on)?;
+    // Only whether the object is there counts: its fields are read where the transaction runs.
     let _fields = store.objects.get(object.0 as usize)?;
     let transaction = transaction_of(plain.transactions.as_slice(), tx)?;
     if args.len() != transaction.params.len() {

@@ -14,8 +14,11 @@ pub struct Store {
 /// A client's name for an object.
 #[derive(Debug, Drop)]
 pub struct Handle {
+    /// The client that it belongs to.
     pub client: Label,
+    /// What this client calls the object; other clients may use the name for others.
     pub name: Label,
+    /// The object that it stands for.
     pub object: ObjectId,
 }
 

@@ -17,6 +17,7 @@ use std::alloc::Global;
 /// Whether the point behind forms is reached.
 #[derive(Clone, Copy)]
 pub enum Flow {
+    /// They go on to it.
     On,
     /// They return or revert.
     Ended,

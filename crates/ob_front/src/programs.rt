@@ -15,7 +15,9 @@ use std::alloc::Global;
 /// A program: its class table, and the terms of the bodies of its constructors and transactions, in the table's order.
 #[derive(Drop)]
 pub struct Compiled {
+    /// The class table, to whose numbers the terms refer.
     pub table: Table,
+    /// The terms of each body of the table, in the order of the bodies there.
     pub bodies: Items<TermBody>,
 }
 

@@ -22,6 +22,7 @@ pub enum CompileError {
     /// What is told of the text: its first fault, or that its form isn't built.
     #[error("the text is refused")]
     Fault(ProgramFault),
+    /// Memory ran out.
     #[error("out of memory")]
     Memory,
 }

@@ -89,6 +89,7 @@ fn put_call(call: &CallNode, out: &mut String) -> Result<(), Memory>
     put_sign(out, Sign::CloseParen)
 }
 
+/// An expression, with parentheses around those operands alone that need them.
 #[cycle(print_expr)]
 #[tactic(auto, using(crate::specs::Written::expr_prints))]
 pub fn put_expr(expr: &Expr, out: &mut String) -> Result<(), Memory>

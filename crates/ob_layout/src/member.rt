@@ -192,6 +192,7 @@ fn put_constructor(
     put_params(out, params)
 }
 
+/// A member of a contract or an interface, up to its `;` or its closing brace.
 #[tactic(auto, using(crate::specs::Written::writes))]
 pub fn put_member(out: &mut String, member: &Member) -> Result<(), Memory>
     ensures { OnOk result (string_bytes out.new ≡ written (string_bytes out.old) (tokens_of_member (member_of member.now))) }

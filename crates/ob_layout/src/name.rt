@@ -10,6 +10,7 @@ use ob_base::{Memory, Mode};
 use ob_lexer::{Sign, Word};
 use ob_tree::{NamePart, NamedNode, PermNode, RefNode, TypeNode};
 
+/// Names, with this sign between each and the next.
 #[tactic(auto, using(crate::specs::Written::turns))]
 pub fn put_names(out: &mut String, between: Sign, names: &[NamePart]) -> Result<(), Memory>
     ensures { OnOk result (string_bytes out.new ≡ written (string_bytes out.old) (tokens_of_names between true names.now)) }
@@ -23,6 +24,7 @@ pub fn put_names(out: &mut String, between: Sign, names: &[NamePart]) -> Result<
     Ok(())
 }
 
+/// The word that stands for a mode.
 pub fn word_of_mode(mode: Mode) -> Word
     ensures { result ≡ word_of_mode mode }
 {
@@ -33,6 +35,7 @@ pub fn word_of_mode(mode: Mode) -> Word
     }
 }
 
+/// A permission: the word of its mode, or its states with `|` between.
 #[tactic(auto, using(crate::specs::Written::writes))]
 pub fn put_perm(out: &mut String, perm: &PermNode) -> Result<(), Memory>
     ensures { OnOk result (string_bytes out.new ≡ written (string_bytes out.old) (tokens_of_perm perm.now)) }
@@ -43,6 +46,7 @@ pub fn put_perm(out: &mut String, perm: &PermNode) -> Result<(), Memory>
     }
 }
 
+/// `>>` and the permission at the exit, where one is written.
 #[tactic(auto, using(crate::specs::Written::writes))]
 pub fn put_exit(out: &mut String, exit: &Option<PermNode>) -> Result<(), Memory>
     ensures { OnOk result (string_bytes out.new ≡ written (string_bytes out.old) (tokens_of_exit exit.now)) }
@@ -56,6 +60,7 @@ pub fn put_exit(out: &mut String, exit: &Option<PermNode>) -> Result<(), Memory>
     }
 }
 
+/// The name of a contract, an interface or a type parameter, with its argument in brackets.
 #[cycle(print_named)]
 #[tactic(auto, using(crate::specs::Written::prints))]
 pub fn put_named(of: &NamedNode, out: &mut String) -> Result<(), Memory>
@@ -72,6 +77,7 @@ pub fn put_named(of: &NamedNode, out: &mut String) -> Result<(), Memory>
     }
 }
 
+/// The type of a reference: a name, `@`, and a permission.
 #[cycle(print_named)]
 #[tactic(auto, using(crate::specs::Written::prints))]
 pub fn put_ref(of: &RefNode, out: &mut String) -> Result<(), Memory>
@@ -82,6 +88,7 @@ pub fn put_ref(of: &RefNode, out: &mut String) -> Result<(), Memory>
     put_perm(out, &of.perm)
 }
 
+/// A type: its word, or that of a reference.
 #[tactic(auto, using(crate::specs::Written::writes))]
 pub fn put_type(out: &mut String, of: &TypeNode) -> Result<(), Memory>
     ensures { OnOk result (string_bytes out.new ≡ written (string_bytes out.old) (tokens_of_type (type_of of.now))) }

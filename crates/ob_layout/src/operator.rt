@@ -5,6 +5,7 @@ ghost use Rattle.ob_tree.specs.Operators.{sign_of_operator, level_of, left_place
 use ob_base::Operator;
 use ob_lexer::Sign;
 
+/// The sign that stands for an operator; `-` stands for two.
 pub fn sign_of_operator(operator: Operator) -> Sign
     ensures { result ≡ sign_of_operator operator }
 {
@@ -27,6 +28,7 @@ pub fn sign_of_operator(operator: Operator) -> Sign
     }
 }
 
+/// How tight an operator binds: from 1 for `||`, the loosest, to 7 for those of one operand.
 pub fn level_of(operator: Operator) -> u8
     ensures level { result ≡ level_of operator }
     ensures bound { result ≤ 7 }
@@ -42,7 +44,8 @@ pub fn level_of(operator: Operator) -> u8
     }
 }
 
-// Equality and order don't chain, so their left operand binds tighter too.
+/// The loosest level that stands on the left of an operator without parentheses: its own. But
+/// equality and order don't chain, so their left operand binds tighter too.
 pub fn left_place(operator: Operator) -> u8
     ensures { result ≡ left_place operator }
 {
@@ -53,6 +56,7 @@ pub fn left_place(operator: Operator) -> u8
     }
 }
 
+/// The loosest level that stands on the right without parentheses: a tighter one than its own.
 pub fn right_place(operator: Operator) -> u8
     ensures { result ≡ right_place operator }
 {

@@ -123,6 +123,7 @@ fn put_statements(statements: &[Stmt], out: &mut String) -> Result<(), Memory>
     Ok(())
 }
 
+/// A block: its statements in braces.
 #[cycle(print_stmt)]
 #[tactic(auto, using(crate::specs::Written::block_prints))]
 pub fn put_block(block: &Block, out: &mut String) -> Result<(), Memory>

@@ -29,6 +29,7 @@ fn text_of(text: &Text) -> &str
     }
 }
 
+/// A word, and a blank.
 #[tactic(auto, unfolding(crate::specs::Written::with_token))]
 pub fn put_word(out: &mut String, word: Word) -> Result<(), Memory>
     ensures { OnOk result (string_bytes out.new ≡ with_token (string_bytes out.old) (TokenKind.Word word)) }
@@ -38,6 +39,7 @@ pub fn put_word(out: &mut String, word: Word) -> Result<(), Memory>
     Ok(())
 }
 
+/// A sign, and a blank; behind `;`, `{` and `}` the end of the line.
 #[tactic(auto, unfolding(crate::specs::Written::with_token))]
 pub fn put_sign(out: &mut String, sign: Sign) -> Result<(), Memory>
     ensures { OnOk result (string_bytes out.new ≡ with_token (string_bytes out.old) (TokenKind.Sign sign)) }
@@ -47,6 +49,7 @@ pub fn put_sign(out: &mut String, sign: Sign) -> Result<(), Memory>
     Ok(())
 }
 
+/// A name, and a blank.
 #[tactic(auto, unfolding(crate::specs::Written::with_token))]
 pub fn put_name(out: &mut String, name: &Text) -> Result<(), Memory>
     ensures { OnOk result (string_bytes out.new ≡ with_token (string_bytes out.old) (TokenKind.Name name.now)) }
@@ -56,6 +59,7 @@ pub fn put_name(out: &mut String, name: &Text) -> Result<(), Memory>
     Ok(())
 }
 
+/// A number in decimal digits, and a blank.
 #[tactic(auto, unfolding(crate::specs::Written::with_token))]
 pub fn put_number(out: &mut String, number: i64) -> Result<(), Memory>
     ensures { OnOk result (string_bytes out.new ≡ with_token (string_bytes out.old) (TokenKind.Number number)) }
@@ -86,6 +90,7 @@ fn put_chars(out: &mut String, text: &str) -> Result<(), Memory>
     Ok(())
 }
 
+/// A string in its quotes, with escapes where they are needed, and a blank.
 #[tactic(auto, unfolding(crate::specs::Written::with_token))]
 pub fn put_text(out: &mut String, text: &Text) -> Result<(), Memory>
     ensures { OnOk result (string_bytes out.new ≡ with_token (string_bytes out.old) (TokenKind.Text text.now)) }
@@ -96,6 +101,7 @@ pub fn put_text(out: &mut String, text: &Text) -> Result<(), Memory>
     Ok(())
 }
 
+/// The word, if `holds`; else nothing.
 #[tactic(auto, using(crate::specs::Written::writes))]
 pub fn put_word_if(out: &mut String, holds: bool, word: Word) -> Result<(), Memory>
     ensures { OnOk result (string_bytes out.new ≡ written (string_bytes out.old) (word_if holds word)) }
@@ -103,6 +109,7 @@ pub fn put_word_if(out: &mut String, holds: bool, word: Word) -> Result<(), Memo
     if holds { put_word(out, word) } else { Ok(()) }
 }
 
+/// The sign, if `holds`; else nothing.
 #[tactic(auto, using(crate::specs::Written::writes))]
 pub fn put_sign_if(out: &mut String, holds: bool, sign: Sign) -> Result<(), Memory>
     ensures { OnOk result (string_bytes out.new ≡ written (string_bytes out.old) (sign_if holds sign)) }
@@ -110,6 +117,7 @@ pub fn put_sign_if(out: &mut String, holds: bool, sign: Sign) -> Result<(), Memo
     if holds { put_sign(out, sign) } else { Ok(()) }
 }
 
+/// The sign, unless `first`: it stands before each part of a row but the first.
 #[tactic(auto, using(crate::specs::Written::writes))]
 pub fn put_sign_unless(out: &mut String, first: bool, sign: Sign) -> Result<(), Memory>
     ensures { OnOk result (string_bytes out.new ≡ written (string_bytes out.old) (sign_unless first sign)) }
@@ -117,12 +125,14 @@ pub fn put_sign_unless(out: &mut String, first: bool, sign: Sign) -> Result<(), 
     if first { Ok(()) } else { put_sign(out, sign) }
 }
 
+/// A name, without its place.
 pub fn put_part(out: &mut String, part: &NamePart) -> Result<(), Memory>
     ensures { OnOk result (string_bytes out.new ≡ with_token (string_bytes out.old) (token_of_name part.now)) }
 {
     put_name(out, &part.name)
 }
 
+/// The word `this`, or a name.
 pub fn put_subject(out: &mut String, subject: &Subject) -> Result<(), Memory>
     ensures { OnOk result (string_bytes out.new ≡ with_token (string_bytes out.old) (token_of_subject subject.now)) }
 {

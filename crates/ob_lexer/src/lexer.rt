@@ -20,6 +20,7 @@ const LONGEST_TEXT: usize = 1_048_576;
 /// What a text is made of, but for blanks and comments.
 #[derive(Debug, Drop)]
 pub struct Lexed {
+    /// The tokens, in the order of the text.
     pub tokens: Items<Token>,
     /// The place just behind the last character, which has no bytes.
     pub end: Span,
@@ -40,6 +41,7 @@ pub enum LexError {
     /// The first fault in the text.
     #[error("the text has no tokens")]
     Fault(ProgramFault),
+    /// Memory ran out.
     #[error("out of memory")]
     Memory,
 }

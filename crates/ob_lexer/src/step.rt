@@ -18,6 +18,7 @@ pub enum Step {
     Gap {
         length: usize,
     },
+    /// A token, and how many bytes it has.
     Token {
         kind: TokenKind,
         length: usize,

@@ -7,7 +7,9 @@ use std::alloc::Global;
 /// A token of a program, with the place where it stands.
 #[derive(Debug, Drop)]
 pub struct Token {
+    /// Which token it is, with the name, number or text that it stands for, if any.
     pub kind: TokenKind,
+    /// Where it stands in the text.
     pub span: Span,
 }
 

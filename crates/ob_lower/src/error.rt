@@ -9,6 +9,7 @@ pub enum LowerError {
     /// The body needs more slots than it may have.
     #[error("the program has a fault")]
     Fault(ProgramFault),
+    /// Memory ran out.
     #[error("out of memory")]
     Memory,
 }

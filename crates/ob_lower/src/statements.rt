@@ -21,7 +21,9 @@ use std::alloc::Global;
 /// The terms of a block, and whether nothing is reached behind it.
 #[derive(Drop)]
 pub struct Branch {
+    /// Its terms, in the order in which they are done.
     pub terms: Items<Term>,
+    /// Whether each way through it returns or reverts before the closing brace.
     pub ends: bool,
 }
 

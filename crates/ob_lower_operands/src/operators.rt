@@ -12,7 +12,9 @@ use ob_silica::{Form, Operand, Term};
 /// A binary operator or a unary one, and its place.
 #[derive(Clone, Copy)]
 pub struct Sign {
+    /// Which operator it is.
     pub operator: Operator,
+    /// Where its sign stands in the text: the term of the operation keeps the line.
     pub span: Span,
 }
 

@@ -16,8 +16,11 @@ use std::marker::Model;
 /// A variable that is visible: its number, its kind, and its slot.
 #[derive(Clone, Copy, PartialEq, Eq, Debug)]
 pub struct Variable {
+    /// Its number in the body, from 1: the parameters beside `this` come first.
     pub local: u32,
+    /// The kind of its value, without a permission.
     pub kind: LocalKind,
+    /// The slot that its value is in, from 1 to 127.
     pub slot: u8,
 }
 

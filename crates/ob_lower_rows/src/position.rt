@@ -18,15 +18,20 @@ use std::mem;
 /// The fields of a row of staged statements, with the place of the first and the slots with the temporaries.
 #[derive(Drop)]
 pub struct Row {
+    /// Where the row begins, which is the place of all its terms.
     pub first: Span,
+    /// The fields that it has given so far, in the order of the text.
     pub given: Items<Given>,
+    /// The slots in use, those of its temporaries included.
     pub slots: Slots,
 }
 
 /// What waits for a change of state.
 #[derive(Drop)]
 pub enum Waiting {
+    /// Nothing: the next staged statement begins a row.
     Nothing,
+    /// The fields that a row has given so far, up to the change of state that ends it.
     Fields(Row),
     /// Nothing, since the row is refused.
     Refused,

@@ -9,6 +9,7 @@ pub enum Stopped {
     Full(Span),
     /// Something isn't there that the body names, which is so in no body that is well made.
     Unmade,
+    /// Memory ran out.
     Memory,
 }
 

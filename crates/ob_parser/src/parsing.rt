@@ -23,6 +23,7 @@ pub enum ParseError {
     /// The first fault.
     #[error("the tokens have no tree")]
     Fault(ProgramFault),
+    /// Memory ran out.
     #[error("out of memory")]
     Memory,
 }

@@ -29,8 +29,11 @@ pub enum TailPart {
 /// A binary operator, its place, and what stands behind it.
 #[derive(Drop)]
 pub struct Operation {
+    /// Which operator it is.
     pub operator: Operator,
+    /// The place of the operator.
     pub sign: Span,
+    /// The operand behind it.
     pub right: Expr,
 }
 

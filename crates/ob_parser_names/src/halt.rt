@@ -9,6 +9,7 @@ pub enum Halt {
     Expected { left: usize },
     /// With this token too many parts are open.
     TooDeep { left: usize },
+    /// Memory ran out.
     Memory,
 }
 

@@ -13,10 +13,15 @@ use ob_lexer::{Sign, Token, TokenKind, Word};
 /// What the grammar tells tokens apart by.
 #[derive(Clone, Copy)]
 pub enum Symbol {
+    /// Any name that isn't a reserved word.
     Name,
+    /// Any number.
     Number,
+    /// Any string.
     Text,
+    /// This reserved word.
     Word(Word),
+    /// This sign.
     Sign(Sign),
 }
 

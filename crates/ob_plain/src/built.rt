@@ -27,6 +27,7 @@ pub enum BuiltError {
     /// The tree isn't of the form that is built.
     #[error("not of the form that is built")]
     NotBuilt,
+    /// Memory ran out.
     #[error("out of memory")]
     Memory,
 }

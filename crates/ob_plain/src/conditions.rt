@@ -29,6 +29,7 @@ fn is_same(name: &Name, other: &Name) -> bool
     name.as_bytes() == other.as_bytes()
 }
 
+/// Whether one of the names is this one.
 pub fn is_among(name: &Name, names: &[Name]) -> bool
     ensures { result ≡ is_among name.now names.now }
 {

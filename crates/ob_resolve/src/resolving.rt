@@ -23,6 +23,7 @@ pub enum ResolveError {
     /// The first fault of names and types.
     #[error("the program has a fault")]
     Fault(ProgramFault),
+    /// Memory ran out.
     #[error("out of memory")]
     Memory,
 }

@@ -6,6 +6,7 @@ use ob_typing::Kind;
 /// The states of a contract: a name has the number of the first that has it.
 #[derive(Drop)]
 pub struct States {
+    /// The names of the states, each with the state's number.
     pub names: Names,
     /// How many states the contract names, a second one of one name too.
     pub count: usize,
@@ -14,6 +15,7 @@ pub struct States {
 /// A transaction without its body.
 #[derive(Drop)]
 pub struct Heading {
+    /// Whether it is called on `this` alone.
     pub private: bool,
     /// The kinds of the parameters beside `this`.
     pub params: Items<Kind>,
@@ -25,10 +27,13 @@ pub struct Heading {
 /// list behind the names.
 #[derive(Drop)]
 pub struct Members {
+    /// The names of the fields, those of states included.
     pub fields: Names,
     /// The kinds of the fields.
     pub kinds: Items<Kind>,
+    /// The names of the transactions.
     pub transactions: Names,
+    /// The transactions, each without its body.
     pub headings: Items<Heading>,
     /// The places of the transactions among the members of the contract.
     pub places: Items<usize>,

@@ -10,8 +10,11 @@ use std::alloc::Global;
 /// The body of a transaction or a constructor.
 #[derive(Drop)]
 pub struct TermBody {
+    /// The contract that declares it.
     pub contract: ContractId,
+    /// Which transaction or constructor of that contract it is.
     pub tx: TxId,
+    /// What the body does, in order.
     pub terms: Items<Term>,
     /// One more than the greatest slot among `this`, the parameters and the slots that the terms name.
     pub slots: u8,

@@ -18,6 +18,7 @@ pub enum Place {
 /// A place that a term reads.
 #[derive(Clone, Copy, PartialEq, Eq, Debug)]
 pub struct Operand {
+    /// Where the value is found.
     pub place: Place,
     /// The place in the text of the name, `this` or other expression that it stands for.
     pub span: Span,
@@ -26,16 +27,20 @@ pub struct Operand {
 /// A field, and the place whose value a change of state gives it.
 #[derive(Clone, Copy, PartialEq, Eq, Debug)]
 pub struct Given {
+    /// The field that gets the value.
     pub field: FieldId,
     /// The place in the text of the field's name.
     pub span: Span,
+    /// The place that has the value.
     pub from: Operand,
 }
 
 /// A value that is written in the text.
 #[derive(Drop)]
 pub enum Constant {
+    /// An `int`, from 0 to 2^63 - 1: a sign before it is an operator.
     Int(i64),
+    /// A `bool`.
     Bool(bool),
     /// A `string`.
     Text(Text),

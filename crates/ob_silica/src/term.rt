@@ -11,7 +11,9 @@ use std::alloc::Global;
 #[derive(Drop)]
 #[cycle(term)]
 pub struct Term {
+    /// What the term does.
     pub form: Form,
+    /// The place in the text that its other faults are told at.
     pub span: Span,
 }
 

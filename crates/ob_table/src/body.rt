@@ -10,8 +10,11 @@ use std::alloc::Global;
 /// The body of a transaction or a constructor. That of a default constructor has no statement.
 #[derive(Drop)]
 pub struct Body {
+    /// The contract that declares it.
     pub contract: ContractId,
+    /// Which transaction or constructor of that contract it is.
     pub tx: TxId,
+    /// The statements, in the order of the text.
     pub statements: Items<ResolvedStmt>,
     /// The place of the closing brace; of a default constructor, that of the contract's name.
     pub end: Span,

@@ -11,7 +11,9 @@ use std::alloc::Global;
 /// The type of a field, a parameter or a result.
 #[derive(Clone, Copy, PartialEq, Eq, Debug)]
 pub enum Kind {
+    /// `int`: a whole number from -2^63 to 2^63 - 1.
     Int,
+    /// `bool`
     Bool,
     /// `string`
     Text,
@@ -22,7 +24,9 @@ pub enum Kind {
 /// A field.
 #[derive(Drop)]
 pub struct Field {
+    /// The name of the field.
     pub name: Name,
+    /// Its type, with the permission that is declared of a reference.
     pub of: Kind,
     /// The states in which an object has it, as a set of bits: bit i is the state i, and bit `NO_STATE_BIT` no state.
     pub available: u64,
@@ -41,6 +45,7 @@ impl Duplicate for Field {
 /// A parameter of a transaction or a constructor, other than `this`.
 #[derive(Drop)]
 pub struct Param {
+    /// The name of the parameter.
     pub name: Name,
     /// Its type, with the permission at the entry.
     pub of: Kind,
@@ -61,8 +66,11 @@ impl Duplicate for Param {
 /// A field that a private transaction lists, since it isn't as declared there.
 #[derive(Clone, Copy, PartialEq, Eq, Debug)]
 pub struct Listed {
+    /// The field, which is a reference.
     pub field: FieldId,
+    /// The permission of the field at the entry.
     pub entry: Perm,
+    /// The permission of the field at the exit.
     pub exit: Perm,
 }
 
@@ -71,13 +79,17 @@ pub struct Listed {
 pub struct Signature {
     /// Empty for a constructor.
     pub name: Text,
+    /// Whether it is called on `this` alone.
     pub private: bool,
     /// The permission of `this` at the entry.
     pub entry: Perm,
     /// The permission of `this` at the exit; of a constructor, what it gives.
     pub exit: Perm,
+    /// The parameters beside `this`, in the order of the text.
     pub params: Items<Param>,
+    /// The type of its result, with what the caller holds of it; `None` without a result.
     pub result: Option<Kind>,
+    /// The fields that it lists, each once: none unless it is private.
     pub listed: Items<Listed>,
 }
 
@@ -100,10 +112,13 @@ impl Duplicate for Signature {
 /// A contract, or an interface.
 #[derive(Drop)]
 pub struct Contract {
+    /// The name of the contract or interface.
     pub name: Text,
     /// Whether its objects are assets, which must not be lost.
     pub asset: bool,
+    /// Whether it is the one that clients make objects of.
     pub main: bool,
+    /// Whether it is an interface, whose transactions have no bodies.
     pub interface: bool,
     /// The interface that it implements.
     pub implements: Option<ContractId>,

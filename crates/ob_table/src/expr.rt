@@ -9,14 +9,17 @@ use std::alloc::Global;
 #[derive(Drop)]
 #[cycle(expr)]
 pub enum ResolvedExpr {
+    /// A number of the text, from 0 to 2^63 - 1.
     Number {
         value: i64,
         span: Span,
     },
+    /// A string, with its escapes read.
     Text {
         value: Text,
         span: Span,
     },
+    /// `true` or `false`
     Bool {
         value: bool,
         span: Span,
@@ -26,6 +29,7 @@ pub enum ResolvedExpr {
         seen: SeenAt,
         span: Span,
     },
+    /// An operator before its operand, as `!a`.
     Unary {
         operator: Operator,
         /// The place of the operator.
@@ -33,6 +37,7 @@ pub enum ResolvedExpr {
         operand: Boxed<ResolvedExpr>,
         span: Span,
     },
+    /// An operator between its operands, as `a + b`.
     Binary {
         operator: Operator,
         /// The place of the operator.
@@ -41,6 +46,7 @@ pub enum ResolvedExpr {
         right: Boxed<ResolvedExpr>,
         span: Span,
     },
+    /// `x.t(args)` or `t(args)`
     Call {
         call: ResolvedCall,
         span: Span,
@@ -61,9 +67,11 @@ pub struct ResolvedCall {
     pub receiver: Option<SeenAt>,
     /// The declared contract or interface of the receiver.
     pub contract: ContractId,
+    /// The transaction, by its number in that contract or interface.
     pub tx: TxId,
     /// The place of the transaction's name.
     pub name: Span,
+    /// The arguments, from left to right.
     pub args: Items<ResolvedExpr>,
 }
 

@@ -16,6 +16,7 @@ pub enum Seen {
 /// What a name stands for, and where the name is.
 #[derive(Clone, Copy, PartialEq, Eq, Debug)]
 pub struct SeenAt {
+    /// What it stands for.
     pub of: Seen,
     /// The place of the name, or of the word `this`.
     pub span: Span,
@@ -25,7 +26,9 @@ pub struct SeenAt {
 /// permission of a variable follows from its use).
 #[derive(Clone, Copy, PartialEq, Eq, Debug)]
 pub enum LocalKind {
+    /// `int`: a whole number from -2^63 to 2^63 - 1.
     Int,
+    /// `bool`
     Bool,
     /// `string`
     Text,

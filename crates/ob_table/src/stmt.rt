@@ -12,6 +12,7 @@ use std::alloc::Global;
 #[derive(Drop)]
 #[cycle(stmt)]
 pub struct ResolvedBlock {
+    /// The statements, in the order of the text.
     pub statements: Items<ResolvedStmt>,
     /// The place of the closing brace. Where `else if` stands for a block, the `end` of the last block of its `if`.
     pub end: Span,
@@ -20,9 +21,11 @@ pub struct ResolvedBlock {
 /// A field, and the value that a change of state gives it.
 #[derive(Drop)]
 pub struct ResolvedGiven {
+    /// The field that gets the value.
     pub field: FieldId,
     /// The place of the field's name.
     pub span: Span,
+    /// The expression behind `=`.
     pub value: ResolvedExpr,
 }
 

@@ -10,9 +10,13 @@ use ob_tree::{Block, FormalNode, Member, NamedNode, PermNode};
 /// A constructor, as it is written.
 #[derive(Clone, Copy)]
 pub struct Written<'a> {
+    /// The name before `@`, which is that of the contract.
     pub of: &'a NamedNode,
+    /// The permission behind `@`, which the caller gets.
     pub perm: &'a PermNode,
+    /// The parameters in parentheses.
     pub params: &'a [FormalNode],
+    /// The block behind them.
     pub body: &'a Block,
 }
 

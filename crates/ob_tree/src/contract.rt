@@ -20,7 +20,9 @@ use std::alloc::Global;
 /// The type parameter of a contract, in brackets behind its name.
 #[derive(Debug, Drop)]
 pub struct ParamNode {
+    /// Whether `asset` stands before its name.
     pub asset: bool,
+    /// The name before `@`.
     pub name: NamePart,
     /// The name behind `@`.
     pub perm: NamePart,
@@ -61,13 +63,19 @@ impl Duplicate for ParamNode {
 /// A contract, or an interface.
 #[derive(Debug, Drop)]
 pub struct ContractNode {
+    /// Whether `main` stands before it.
     pub main: bool,
+    /// Whether `asset` stands before it.
     pub asset: bool,
+    /// Whether it is an `interface` in place of a `contract`.
     pub interface: bool,
+    /// The name of the contract or interface.
     pub name: Text,
+    /// The type parameter in brackets, if there is one.
     pub param: Option<ParamNode>,
     /// The interface behind `implements`.
     pub implements: Option<NamedNode>,
+    /// What its braces enclose, in the order of the text.
     pub members: Items<Member>,
     /// The place of the name alone.
     pub span: Span,
@@ -101,6 +109,7 @@ impl Duplicate for ContractNode {
 /// A program: its contracts and interfaces, in their order.
 #[derive(Debug, Drop)]
 pub struct Tree {
+    /// The contracts and interfaces, in the order of the text.
     pub contracts: Items<ContractNode>,
 }
 

@@ -9,27 +9,33 @@ use std::alloc::Global;
 #[derive(Debug, Drop)]
 #[cycle(expr)]
 pub enum Expr {
+    /// A number, from 0 to 2^63 - 1.
     Number {
         value: i64,
         span: Span,
     },
+    /// A string, with its escapes read.
     Text {
         value: Text,
         span: Span,
     },
+    /// `true` or `false`
     Bool {
         value: bool,
         span: Span,
     },
+    /// A name, as that of a field, a parameter or a local variable.
     Name {
         name: NamePart,
         span: Span,
     },
+    /// `this`
     This {
         /// The place of the word `this` alone.
         token: Span,
         span: Span,
     },
+    /// An operator before its operand, as `!a`.
     Unary {
         operator: Operator,
         /// The place of the operator.
@@ -37,6 +43,7 @@ pub enum Expr {
         operand: Boxed<Expr>,
         span: Span,
     },
+    /// An operator between its operands, as `a + b`.
     Binary {
         operator: Operator,
         /// The place of the operator.
@@ -45,10 +52,12 @@ pub enum Expr {
         right: Boxed<Expr>,
         span: Span,
     },
+    /// `x.t(args)` or `t(args)`
     Call {
         call: CallNode,
         span: Span,
     },
+    /// `new C(args)`
     New {
         of: NamedNode,
         args: Items<Expr>,
@@ -60,8 +69,11 @@ pub enum Expr {
 #[derive(Debug, Drop)]
 #[cycle(expr)]
 pub struct CallNode {
+    /// What stands before the dot, if there is a dot.
     pub receiver: Option<Subject>,
+    /// The name of the transaction.
     pub name: NamePart,
+    /// The arguments, from left to right.
     pub args: Items<Expr>,
 }
 

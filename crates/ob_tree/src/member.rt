@@ -21,7 +21,9 @@ use std::alloc::Global;
 /// A field.
 #[derive(Debug, Drop)]
 pub struct FieldNode {
+    /// The type before the name.
     pub of: TypeNode,
+    /// The name of the field.
     pub name: NamePart,
     /// The states behind `available in`; empty where that isn't written.
     pub available: Items<NamePart>,
@@ -44,9 +46,11 @@ impl Duplicate for FieldNode {
 /// A parameter of a transaction or a constructor.
 #[derive(Debug, Drop)]
 pub struct FormalNode {
+    /// The type before the name, with the permission at the entry.
     pub of: TypeNode,
     /// The permission behind `>>`.
     pub exit: Option<PermNode>,
+    /// The name of the parameter, or `this` for the contract's own object.
     pub name: Subject,
 }
 
@@ -63,9 +67,11 @@ impl Duplicate for FormalNode {
 /// A field in the list of a private transaction.
 #[derive(Debug, Drop)]
 pub struct ListedNode {
+    /// The type before the name, with the permission at the entry.
     pub of: RefNode,
     /// The permission behind `>>`.
     pub exit: Option<PermNode>,
+    /// The name of the field.
     pub name: NamePart,
 }
 
@@ -82,12 +88,15 @@ impl Duplicate for ListedNode {
 /// A member of a contract or an interface. Its `span` runs from its first token to its last.
 #[derive(Debug, Drop)]
 pub enum Member {
+    /// `state S;` or `state S { fields }`
     State {
         name: NamePart,
         fields: Items<FieldNode>,
         span: Span,
     },
+    /// A field outside of states.
     Field(FieldNode),
+    /// `C@perm(params) { .. }`
     Constructor {
         of: NamedNode,
         perm: PermNode,
@@ -95,6 +104,7 @@ pub enum Member {
         body: Block,
         span: Span,
     },
+    /// `transaction t(params) returns T { .. }`, which may be private and list fields.
     Transaction {
         private: bool,
         listed: Items<ListedNode>,

@@ -15,6 +15,7 @@ use std::alloc::Global;
 /// A name, and where it stands.
 #[derive(Debug, Drop)]
 pub struct NamePart {
+    /// The name as it is spelled.
     pub name: Text,
     /// The place of the name alone.
     pub span: Span,
@@ -32,7 +33,9 @@ impl Duplicate for NamePart {
 /// What is spoken of: `this`, or a name.
 #[derive(Debug, Drop)]
 pub enum Subject {
+    /// `this`, and the place of the word.
     This(Span),
+    /// A name, as that of a field, a parameter or a local variable.
     Name(NamePart),
 }
 
@@ -48,6 +51,7 @@ impl Duplicate for Subject {
 /// A permission.
 #[derive(Debug, Drop)]
 pub enum PermNode {
+    /// `Owned`, `Shared` or `Unowned`, and the place of the word.
     Mode(Mode, Span),
     /// One of these states, of which there is at least one.
     States(Items<NamePart>),
@@ -66,7 +70,9 @@ impl Duplicate for PermNode {
 #[derive(Debug, Drop)]
 #[cycle(named)]
 pub struct NamedNode {
+    /// The name before the brackets.
     pub name: Text,
+    /// The argument, if there is one.
     pub argument: Option<Boxed<RefNode>>,
     /// From its first token to its last.
     pub span: Span,
@@ -76,7 +82,9 @@ pub struct NamedNode {
 #[derive(Debug, Drop)]
 #[cycle(named)]
 pub struct RefNode {
+    /// What stands before `@`.
     pub of: NamedNode,
+    /// The permission behind `@`.
     pub perm: PermNode,
 }
 
@@ -106,10 +114,13 @@ impl Duplicate for RefNode {
 /// A type as it is written.
 #[derive(Debug, Drop)]
 pub enum TypeNode {
+    /// `int`, and the place of the word.
     Int(Span),
+    /// `bool`, and the place of the word.
     Bool(Span),
-    /// `string`
+    /// `string`, and the place of the word.
     Text(Span),
+    /// The type of a reference: a name, `@`, and a permission.
     Reference(RefNode),
 }
 

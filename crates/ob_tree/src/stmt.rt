@@ -10,6 +10,7 @@ use std::alloc::Global;
 #[derive(Debug, Drop)]
 #[cycle(stmt)]
 pub struct Block {
+    /// The statements, in the order of the text.
     pub statements: Items<Stmt>,
     /// The place of the closing brace. Where `else if` stands for a block, the `end` of the last block of its `if`.
     pub end: Span,
@@ -18,7 +19,9 @@ pub struct Block {
 /// `f = value`, in the parentheses of a change of state.
 #[derive(Debug, Drop)]
 pub struct GivenNode {
+    /// The name before `=`.
     pub field: NamePart,
+    /// The expression behind `=`.
     pub value: Expr,
 }
 
@@ -32,10 +35,13 @@ impl Duplicate for GivenNode {
 /// The type of a local variable, which is written with no permission.
 #[derive(Debug, Drop)]
 pub enum LocalType {
+    /// `int`, and the place of the word.
     Int(Span),
+    /// `bool`, and the place of the word.
     Bool(Span),
-    /// `string`
+    /// `string`, and the place of the word.
     Text(Span),
+    /// A contract, an interface or a type parameter.
     Named(NamedNode),
 }
 

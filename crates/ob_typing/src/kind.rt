@@ -4,7 +4,9 @@
 /// language documentation, "Types").
 #[derive(Clone, Copy, PartialEq, Eq, Debug)]
 pub enum Kind {
+    /// `int`: a whole number from -2^63 to 2^63 - 1.
     Int,
+    /// `bool`
     Bool,
     /// `string`
     Text,

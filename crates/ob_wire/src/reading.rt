@@ -20,6 +20,7 @@ pub enum WireError {
     /// It is no JSON, or its value is no request.
     #[error("no request")]
     NoRequest,
+    /// Memory ran out.
     #[error("out of memory")]
     Memory,
 }

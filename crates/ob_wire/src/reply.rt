@@ -12,12 +12,14 @@ use std::alloc::{AllocError, Global};
 pub struct Reply {
     /// The request's number, where the line is a request.
     pub id: Option<i64>,
+    /// How it went: what was given, or why nothing was.
     pub answer: Answer,
 }
 
 /// How a request went.
 #[derive(Clone, Copy, PartialEq, Eq, Debug)]
 pub enum Answer {
+    /// It was done, and gave this.
     Ok(Outcome),
     /// It was begun and undone.
     Abort(Cause),
@@ -28,7 +30,9 @@ pub enum Answer {
 /// What a request gives.
 #[derive(Clone, Copy, PartialEq, Eq, Debug)]
 pub enum Outcome {
+    /// The number that a transaction returned.
     Int(i64),
+    /// The object that was made.
     Object(ObjectId),
 }
 

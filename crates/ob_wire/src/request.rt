@@ -9,6 +9,7 @@ pub struct Request {
     pub id: i64,
     /// The client.
     pub who: Label,
+    /// What the client wants done.
     pub op: Op,
 }
 

@@ -10,9 +10,11 @@ pub struct Outside {
     pub is_sure: bool,
     /// How many bytes the output takes.
     pub room: usize,
-    /// The calls that fail, from 0: of the files, the input and the output.
+    /// The calls of the files that fail, from 0.
     pub files: Vec<u64>,
+    /// The calls of the input that fail, from 0.
     pub input: Vec<u64>,
+    /// The calls of the output that fail, from 0.
     pub output: Vec<u64>,
 }
 
