@@ -7,10 +7,10 @@ use ob_base::{Failed, Memory};
 use std::alloc::Global;
 
 /// The most bytes of a line that is answered, without its newline.
-pub const LONGEST: usize = 65536;
+pub const LONGEST_LINE: usize = 65536;
 
 /// The most bytes that are taken of a source.
-pub const LIMIT: u64 = 1 << 40;
+pub const MOST_TAKEN: u64 = 1 << 40;
 
 // How many bytes are asked of the source at once.
 const PIECE: usize = 4096;
@@ -18,7 +18,7 @@ const PIECE: usize = 4096;
 /// What comes next.
 #[derive(Clone, Copy, PartialEq, Eq, Debug)]
 pub enum Next {
-    /// A line of at most `LONGEST` bytes.
+    /// A line of at most `LONGEST_LINE` bytes.
     Line,
     /// A line of more bytes, which was read to its end.
     LongLine,
@@ -26,7 +26,7 @@ pub enum Next {
     End,
     /// The source failed. The part of a line that was read is lost.
     Fault,
-    /// `LIMIT` bytes were taken, and the last of them that are no whole line are lost.
+    /// `MOST_TAKEN` bytes were taken, and the last of them that are no whole line are lost.
     Limit,
 }
 
@@ -82,7 +82,7 @@ impl Lines {
             IsSoFar is_long line.old.items part → IsSoFar long line.new.items (part ++ piece.now)) }
         ensures lost { OnErr result (line.new.items ≡ []) }
     {
-        if is_long || piece.len() > LONGEST - line.len() {
+        if is_long || piece.len() > LONGEST_LINE - line.len() {
             line.clear();
             return Ok(true);
         }
@@ -151,7 +151,7 @@ impl Lines {
     {
         self.start = 0;
         self.end = 0;
-        let most = (LIMIT - self.taken).min(PIECE as u64) as usize;
+        let most = (MOST_TAKEN - self.taken).min(PIECE as u64) as usize;
         let count = Lines::fill(source, &mut self.buffer, most)?;
         self.end = count;
         self.taken += count as u64;
@@ -198,7 +198,7 @@ impl Lines {
             if is_whole {
                 return Ok(if is_long { Next::LongLine } else { Next::Line });
             }
-            if self.taken >= LIMIT {
+            if self.taken >= MOST_TAKEN {
                 line.clear();
                 return Ok(Next::Limit);
             }
