@@ -1,13 +1,11 @@
 -- A text has one tree at most, one program, and one fault that is told of it.
 use Rattle.std.proofs.Common.{ℕ, ◌≡◌, ◌⊎◌, inl, inr, false, List, Option, Some, None, option_map, IsTrue, [], refl, sym, ap, ◌∙◌, subst}
-use Rattle.ob_base.specs.Faults.{not_built}
 use Rattle.ob_base.specs.declared.fault.ProgramFault.{ProgramFault}
-use Rattle.ob_lexer.specs.Places.{fault_at}
 use Rattle.ob_tree.specs.Members.{Contract}
 use Rattle.ob_machine.specs.declared.plain.Plain.{Plain}
 use Rattle.ob_machine.specs.Closed.{is_closed_program}
 use Rattle.ob_front.specs.Stages.{IsTreeOf, HasTreeFault, at_tree}
-use Rattle.ob_front.specs.Programs.{at_table, IsAccepted, HasTextFault, at_terms}
+use Rattle.ob_front.specs.Programs.{at_table, HasTextFault, at_terms}
 use Rattle.ob_front.specs.Compiling.{OnFault}
 use Rattle.ob_front.specs.declared.stages.CompileError.{CompileError}
 use Rattle.ob_front.specs.declared.stages.CompileError.TheVariants as compiling
@@ -95,10 +93,7 @@ formed_of tree program formed.Other built h = λ other e. subst (λ p. is_valid 
 pub formed_other : (tree : List Contract) → program_of tree ≡ None → Forms tree Other
 formed_other tree none program e = let f : None ≡ Some program = sym none ∙ e in cc
 
--- what is told of a text without a fault
-pub told_without_fault : (text : List ℕ) → IsAccepted text → IsToldOf text (fault_at not_built [] [])
-told_without_fault text is = inr (is, refl)
-
+-- what is told of a text with a fault
 pub told_with_fault : (text : List ℕ) (cause : CompileError) → OnFault cause (HasTextFault text) → OnFault cause (IsToldOf text)
 told_with_fault text (compiling.Fault fault) has = inl has
 told_with_fault text compiling.Memory has = tt
