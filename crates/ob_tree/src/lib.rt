@@ -8,7 +8,7 @@ mod name;
 mod stmt;
 
 pub use contract::{ContractNode, ParamNode, Tree, view_loses_nothing};
-pub use expr::{CallNode, Expr};
+pub use expr::{CallNode, Expr, place_of};
 pub use member::{FieldNode, FormalNode, ListedNode, Member};
 pub use name::{NamePart, NamedNode, PermNode, RefNode, Subject, TypeNode};
 pub use stmt::{Block, GivenNode, LocalType, Stmt};
