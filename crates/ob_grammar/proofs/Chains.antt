@@ -6,10 +6,10 @@ use Rattle.ob_base.specs.declared.fault.Span.{Span}
 use Rattle.ob_base.specs.declared.operator.Operator.{Operator}
 use Rattle.ob_lexer.specs.declared.token.Token.{Token}
 use Rattle.ob_lexer.specs.declared.token.TokenKind.TheVariants as kind
-use Rattle.ob_tree.specs.Exprs.{Expr, unary_expr, binary_expr}
+use Rattle.ob_tree.specs.Exprs.{Expr, unary_expr, binary_expr, place_of}
 use Rattle.ob_tree.specs.Operators.{sign_of_operator, level_of, left_place, level}
 use Rattle.ob_grammar.specs.Rows.{Row, Loaded, Covers, ◌⨟◌, maybe, joined, token_at, raise, raised}
-use Rattle.ob_grammar.specs.ExprRows.{place_of, spelled, placed}
+use Rattle.ob_grammar.specs.ExprRows.{spelled, placed}
 use Rattle.ob_grammar.specs.Readers.{Reader, read_maybe, read_many_from}
 use Rattle.ob_grammar.specs.Chains.{Counted, Step, count_after, with_step, with_steps, with_maybe, read_step, steps_of, maybe_of, read_chain, read_single}
 use Rattle.ob_grammar.proofs.Laws.{Laws, disjoint, ends-again}

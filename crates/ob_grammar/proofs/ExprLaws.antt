@@ -11,7 +11,7 @@ use Rattle.ob_grammar.specs.Chains.{Counted}
 use Rattle.ob_grammar.specs.ExprReaders.{read_row_1, read_row_2, read_row_3, read_row_4, read_row_5, read_row_6}
 use Rattle.ob_grammar.proofs.Laws.{Laws}
 use Rattle.ob_grammar.proofs.Chains.{at_level, chain_laws, single_laws}
-use Rattle.ob_grammar.proofs.Operators.{operates, takes_row_1, takes_row_2, takes_row_3, takes_row_4, takes_row_5, takes_row_6}
+use Rattle.ob_grammar.proofs.Operators.{operates, takes_row}
 
 -- ---- which rows chain
 
@@ -74,30 +74,30 @@ after_row_1 = after_row_2 ++ signs_of_level 1
 module _ (first : List ℕ) (unary : ℕ → Reader Counted) (room : ℕ) (a : (r : ℕ) → r ≤ room → Laws r (at_level 7) (unary r) first after_operand false) where
   pub row_6 : (r : ℕ) → r ≤ room → Laws r (at_level 6) (read_row_6 unary r) first after_row_6 false
   row_6 r few =
-      chain_laws 6 (operator_if 6) (operates 6 (omega arith)) (omega arith) (signs_of_level 6) first after_operand takes_row_6 refl r unary
+      chain_laws 6 (operator_if 6) (operates 6) (omega arith) (signs_of_level 6) first after_operand (takes_row op.Mul) refl r unary
       (λ n less. a n (omega (arith, less, few))) chains_6
 
   pub row_5 : (r : ℕ) → r ≤ room → Laws r (at_level 5) (read_row_5 unary r) first after_row_5 false
   row_5 r few =
-      chain_laws 5 (operator_if 5) (operates 5 (omega arith)) (omega arith) (signs_of_level 5) first after_row_6 takes_row_5 refl r (read_row_6 unary)
+      chain_laws 5 (operator_if 5) (operates 5) (omega arith) (signs_of_level 5) first after_row_6 (takes_row op.Add) refl r (read_row_6 unary)
       (λ n less. row_6 n (omega (arith, less, few))) chains_5
 
   pub row_4 : (r : ℕ) → r ≤ room → Laws r (at_level 4) (read_row_4 unary r) first after_row_4 false
   row_4 r few =
-      single_laws 4 (operator_if 4) (operates 4 (omega arith)) (omega arith) (signs_of_level 4) first after_row_5 takes_row_4 refl r (read_row_5 unary)
+      single_laws 4 (operator_if 4) (operates 4) (omega arith) (signs_of_level 4) first after_row_5 (takes_row op.Less) refl r (read_row_5 unary)
       (λ n less. row_5 n (omega (arith, less, few))) single_4
 
   pub row_3 : (r : ℕ) → r ≤ room → Laws r (at_level 3) (read_row_3 unary r) first after_row_3 false
   row_3 r few =
-      single_laws 3 (operator_if 3) (operates 3 (omega arith)) (omega arith) (signs_of_level 3) first after_row_4 takes_row_3 refl r (read_row_4 unary)
+      single_laws 3 (operator_if 3) (operates 3) (omega arith) (signs_of_level 3) first after_row_4 (takes_row op.Equal) refl r (read_row_4 unary)
       (λ n less. row_4 n (omega (arith, less, few))) single_3
 
   pub row_2 : (r : ℕ) → r ≤ room → Laws r (at_level 2) (read_row_2 unary r) first after_row_2 false
   row_2 r few =
-      chain_laws 2 (operator_if 2) (operates 2 (omega arith)) (omega arith) (signs_of_level 2) first after_row_3 takes_row_2 refl r (read_row_3 unary)
+      chain_laws 2 (operator_if 2) (operates 2) (omega arith) (signs_of_level 2) first after_row_3 (takes_row op.And) refl r (read_row_3 unary)
       (λ n less. row_3 n (omega (arith, less, few))) chains_2
 
   pub row_1 : (r : ℕ) → r ≤ room → Laws r (at_level 1) (read_row_1 unary r) first after_row_1 false
   row_1 r few =
-      chain_laws 1 (operator_if 1) (operates 1 (omega arith)) (omega arith) (signs_of_level 1) first after_row_2 takes_row_1 refl r (read_row_2 unary)
+      chain_laws 1 (operator_if 1) (operates 1) (omega arith) (signs_of_level 1) first after_row_2 (takes_row op.Or) refl r (read_row_2 unary)
       (λ n less. row_2 n (omega (arith, less, few))) chains_1

@@ -5,13 +5,13 @@ use Rattle.ob_base.specs.declared.operator.Operator.{Operator}
 use Rattle.ob_base.specs.declared.operator.Operator.TheVariants as op
 use Rattle.ob_lexer.specs.declared.token.TokenKind.{TokenKind}
 use Rattle.ob_lexer.specs.declared.token.Sign.TheVariants as sign'
-use Rattle.ob_tree.specs.Exprs.{Expr, number_expr, text_expr, bool_expr, name_expr, this_expr, unary_expr, binary_expr, call_expr, new_expr, Call, call_with}
+use Rattle.ob_tree.specs.Exprs.{Expr, number_expr, text_expr, bool_expr, name_expr, this_expr, unary_expr, binary_expr, call_expr, new_expr, Call, call_with, place_of}
 use Rattle.ob_tree.specs.Operators.{level_of, level}
 use Rattle.ob_tree.specs.declared.name.Subject.{Subject}
 use Rattle.ob_tree.specs.declared.name.Subject.TheVariants as subject'
 use Rattle.ob_grammar.specs.Rows.{Row, Loaded, Covers, ◌⨟◌, token, raise}
 use Rattle.ob_grammar.specs.Grammar.{tokens_of}
-use Rattle.ob_grammar.specs.ExprRows.{place_of, spelled, call, enclosed}
+use Rattle.ob_grammar.specs.ExprRows.{spelled, call, enclosed}
 use Rattle.ob_grammar.specs.Readers.{Reader, place_of_tokens}
 use Rattle.ob_grammar.specs.NameReaders.{on}
 use Rattle.ob_grammar.specs.Chains.{Counted}

@@ -7,6 +7,7 @@ mod Maybe
 mod Opened
 pub mod Spanned
 mod Symbols
+pub mod Searches
 mod TokenRows
 mod RowLaws
 mod Each

@@ -1,29 +1,29 @@
 -- The laws of names, permissions and types of references.
-use Rattle.std.proofs.Common.{ℕ, zero, suc, ◌≡◌, ◌-◌, ◌<◌, ◌≤◌, false, List, [], ◌∷◌, ◌++◌, Option, Some, None, IsTrue, inl, inr, refl, ap, ◌∙◌, arith}
+use Rattle.std.proofs.Common.{ℕ, zero, suc, ◌≡◌, ◌-◌, ◌<◌, ◌≤◌, false, List, [], ◌∷◌, ◌++◌, Option, Some, None, inl, inr, refl, ap, ◌∙◌, arith}
 use Rattle.ob_base.specs.declared.fault.Span.{Span}
 use Rattle.ob_base.specs.declared.permission.Mode.{Mode}
-use Rattle.ob_base.specs.declared.permission.Mode.TheVariants.{Owned, Unowned, Shared}
+use Rattle.ob_base.specs.declared.permission.Mode.TheVariants.{Owned}
 use Rattle.ob_lexer.specs.declared.token.Token.{Token}
-use Rattle.ob_lexer.specs.declared.token.TokenKind.{TokenKind}
 use Rattle.ob_lexer.specs.declared.token.TokenKind.TheVariants as kind
 use Rattle.ob_lexer.specs.declared.token.Word.TheVariants as word'
 use Rattle.ob_lexer.specs.declared.token.Sign.TheVariants.{OpenBracket, CloseBracket, At, Bar}
 use Rattle.ob_tree.specs.Names.{Named, bare_name, name_with, Ref, ref_with}
-use Rattle.ob_tree.specs.Words.{word_of_mode}
+use Rattle.ob_tree.specs.Words.{modes, word_of_mode}
 use Rattle.ob_tree.specs.declared.name.NamePart.{NamePart}
 use Rattle.ob_tree.specs.declared.name.PermNode.{PermNode}
 use Rattle.ob_tree.specs.declared.name.PermNode.TheVariants as perm'
 use Rattle.ob_grammar.specs.Rows.{Row, Loaded, never, token_at, name, maybe, parted}
 use Rattle.ob_grammar.specs.NameRows.{perm, named, ref}
-use Rattle.ob_grammar.specs.Readers.{Reader, is_of, name_if, read_token}
-use Rattle.ob_grammar.specs.NameReaders.{on, named_parts, read_named, mode_of, mode_if, modes, mode_perm, read_perm, ref_parts, read_ref_with, read_ref}
+use Rattle.ob_grammar.specs.Readers.{Reader, name_if, read_token}
+use Rattle.ob_grammar.specs.NameReaders.{on, named_parts, read_named, symbol_of_mode, mode_if, kinds_of_modes, mode_perm, read_perm, ref_parts, read_ref_with, read_ref}
 use Rattle.ob_grammar.proofs.Laws.{SpellsAsWell, Sample, Laws}
 use Rattle.ob_grammar.proofs.One.{token_of, somewhere, free, took, Takes}
 use Rattle.ob_grammar.proofs.Both.{both}
 use Rattle.ob_grammar.proofs.Mapped.{Makes}
 use Rattle.ob_grammar.proofs.Either.{one_of}
 use Rattle.ob_grammar.proofs.Spanned.{covers_one, one_covers, with_place}
-use Rattle.ob_grammar.proofs.TokenRows.{name_to, name_from, takes_name}
+use Rattle.ob_grammar.proofs.Searches.{one_is, takes_among}
+use Rattle.ob_grammar.proofs.TokenRows.{is_word, token_is, name_to, name_from, takes_name}
 use Rattle.ob_grammar.proofs.RowLaws.{sign_at, at_name, token_laws, sign_laws, behind_laws, choice_laws, place_laws, option_laws, made, makes_laws, alike_laws, nothing_behind, with_nothing_behind}
 use Rattle.ob_grammar.proofs.Lists.{in_signs, counted_laws, parted_laws}
 
@@ -36,49 +36,28 @@ name_laws room = token_laws room name name_to name_from takes_name
 abbrev mode_token : Mode × Span → Token
 mode_token m = token_of (kind.Word (word_of_mode m.0)) m.1
 
-mode_is : (k : TokenKind) (span : Span) (x : Mode × Span) → mode_of k span ≡ Some x → token_of k span ≡ mode_token x
-mode_is (kind.Word word'.Owned) span x e = let same : (Owned, span) ≡ x = cc in ap mode_token same
-mode_is (kind.Word word'.Unowned) span x e = let same : (Unowned, span) ≡ x = cc in ap mode_token same
-mode_is (kind.Word word'.Shared) span x e = let same : (Shared, span) ≡ x = cc in ap mode_token same
-mode_is k span x e = absurd cc
+mode_is : (t : Token) (x : Mode × Span) → mode_if t ≡ Some x → t ≡ mode_token x
+mode_is t x e =
+    let one = one_is symbol_of_mode modes t x e in
+    token_is t (kind.Word (word_of_mode x.0)) x.1 (is_word t.kind (word_of_mode x.0) one.0) one.1
 
-mode_listed : (k : TokenKind) (span : Span) (x : Mode × Span) → mode_of k span ≡ Some x → IsTrue (is_of modes (token_of k span))
-mode_listed (kind.Word word'.Owned) span x e = refl
-mode_listed (kind.Word word'.Unowned) span x e = refl
-mode_listed (kind.Word word'.Shared) span x e = refl
-mode_listed k span x e = absurd cc
-
--- (the clause for one sign has the last one checked sign by sign)
-some_mode : (k : TokenKind) (span : Span) → IsTrue (is_of modes (token_of k span)) → (x : Mode × Span) × (mode_of k span ≡ Some x)
-some_mode (kind.Word word'.Owned) span is = ((Owned, span), refl)
-some_mode (kind.Word word'.Unowned) span is = ((Unowned, span), refl)
-some_mode (kind.Word word'.Shared) span is = ((Shared, span), refl)
-some_mode (kind.Sign At) span is = absurd cc
-some_mode k span is = absurd cc
-
-pub mode_read : (m : Mode) (span : Span) → mode_of (kind.Word (word_of_mode m)) span ≡ Some (m, span)
+mode_read : (m : Mode) (span : Span) → mode_if (mode_token (m, span)) ≡ Some (m, span)
 mode_read Owned span = refl
 mode_read m span = refl
 
-pub takes_mode : Takes mode_if modes
-takes_mode = record {
-  of = λ t is. some_mode t.kind t.span is;
-  is = λ t x e. mode_listed t.kind t.span x e;
-  token = token_of (kind.Word word'.Owned) somewhere;
-  value = (Owned, somewhere);
-  one = refl;
-}
+pub takes_mode : Takes mode_if kinds_of_modes
+takes_mode = takes_among symbol_of_mode modes (mode_token (Owned, somewhere)) (Owned, somewhere) refl
 
 abbrev pub mode_row : Mode × Span → Row
 mode_row m = token_at (kind.Word (word_of_mode m.0)) m.1
 
 pub mode_to : (x : Mode × Span) (read : List Loaded) → took mode_if x read → mode_row x read
-mode_to x read is = is.2 ∙ ap (λ t. free t ∷ []) (mode_is is.0.kind is.0.span x is.1)
+mode_to x read is = is.2 ∙ ap (λ t. free t ∷ []) (mode_is is.0 x is.1)
 
 mode_from : SpellsAsWell mode_row (took mode_if)
 mode_from m read is = (mode_token m, mode_read m.0 m.1, is)
 
-pub mode_laws : (room : ℕ) → Laws room mode_row (read_token mode_if) modes [] false
+pub mode_laws : (room : ℕ) → Laws room mode_row (read_token mode_if) kinds_of_modes [] false
 mode_laws room = token_laws room mode_row mode_to mode_from takes_mode
 
 -- ---- permissions
@@ -119,7 +98,7 @@ perm_from (perm'.States names) read is = inr is
 
 -- what a permission begins with
 abbrev pub perm_first : List ℕ
-perm_first = modes ++ at_name
+perm_first = kinds_of_modes ++ at_name
 
 pub perm_laws : (room : ℕ) → Laws room perm read_perm perm_first (on Bar) false
 perm_laws room =

@@ -4,13 +4,13 @@ use Rattle.ob_base.specs.declared.fault.Span.{Span}
 use Rattle.ob_lexer.specs.declared.token.Word.TheVariants as word'
 use Rattle.ob_lexer.specs.declared.token.Sign.TheVariants as sign'
 use Rattle.ob_tree.specs.Names.{Named, Ref}
-use Rattle.ob_tree.specs.Exprs.{Expr, name_expr, this_expr, call_expr, new_expr, call_with, Exprs}
+use Rattle.ob_tree.specs.Exprs.{Expr, name_expr, this_expr, call_expr, new_expr, call_with, Exprs, place_of}
 use Rattle.ob_tree.specs.declared.name.NamePart.{NamePart}
 use Rattle.ob_tree.specs.declared.name.Subject.{Subject}
 use Rattle.ob_tree.specs.declared.name.Subject.TheVariants as subject'
 use Rattle.ob_grammar.specs.Rows.{Row, Loaded, Covers, never, ◌⨟◌, sign, name, maybe}
 use Rattle.ob_grammar.specs.NameRows.{subject, named}
-use Rattle.ob_grammar.specs.ExprRows.{place_of, spelled, call, arguments}
+use Rattle.ob_grammar.specs.ExprRows.{spelled, call, arguments}
 use Rattle.ob_grammar.specs.Readers.{Reader}
 use Rattle.ob_grammar.specs.NameReaders.{on}
 use Rattle.ob_grammar.specs.Chains.{Counted}

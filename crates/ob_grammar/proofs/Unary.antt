@@ -1,29 +1,27 @@
 -- The laws of operators with one operand.
-use Rattle.std.proofs.Common.{ℕ, ◌≡◌, ◌-◌, ◌≤◌, nat_eq, true, false, List, [], ◌∷◌, ◌++◌, map, Some, IsTrue, inl, inr, refl, sym, ap, ◌∙◌, arith}
+use Rattle.std.proofs.Common.{ℕ, ◌≡◌, ◌-◌, ◌≤◌, nat_eq, true, false, List, [], ◌∷◌, ◌++◌, map, IsTrue, inl, inr, refl, ap, ◌∙◌, arith}
 use Rattle.std.proofs.lemmas.Bool.{eqb-true, eq-eqb, leb-true, le-leb}
 use Rattle.ob_base.specs.declared.fault.Span.{Span}
 use Rattle.ob_base.specs.declared.operator.Operator.{Operator}
 use Rattle.ob_base.specs.declared.operator.Operator.TheVariants as op
 use Rattle.ob_lexer.specs.declared.token.Token.{Token}
-use Rattle.ob_lexer.specs.declared.token.TokenKind.{TokenKind}
 use Rattle.ob_lexer.specs.declared.token.TokenKind.TheVariants as kind
-use Rattle.ob_lexer.specs.declared.token.Word.TheVariants as word'
-use Rattle.ob_lexer.specs.declared.token.Sign.TheVariants as sign'
 use Rattle.ob_tree.specs.Exprs.{Expr, unary_expr, binary_expr}
 use Rattle.ob_tree.specs.Operators.{sign_of_operator, level_of}
 use Rattle.ob_grammar.specs.Rows.{Row, Loaded, Covers, never, raise}
 use Rattle.ob_grammar.specs.ExprRows.{spelled, placed, negation}
-use Rattle.ob_grammar.specs.Readers.{Reader, is_of, read_as, read_either, read_opened, read_spanned}
+use Rattle.ob_grammar.specs.Readers.{Reader, read_as, read_either, read_opened, read_spanned}
 use Rattle.ob_grammar.specs.Chains.{Counted}
-use Rattle.ob_grammar.specs.ExprReaders.{unary_of, unary_if, unary_signs, negated}
+use Rattle.ob_grammar.specs.ExprReaders.{unary_if, unary_signs, negated}
 use Rattle.ob_grammar.proofs.Laws.{SpellsAsWell, Sample, Laws, disjoint, ends-twice}
-use Rattle.ob_grammar.proofs.One.{token_of, somewhere, free, Takes}
+use Rattle.ob_grammar.proofs.One.{token_of, free}
 use Rattle.ob_grammar.proofs.Mapped.{Makes}
 use Rattle.ob_grammar.proofs.Either.{one_of}
 use Rattle.ob_grammar.proofs.Opened.{loaded_at, opened, opened_laws}
 use Rattle.ob_grammar.proofs.Spanned.{with_place}
 use Rattle.ob_grammar.proofs.RowLaws.{choice_laws, place_laws, made, makes_laws, alike_laws, ends_laws}
-use Rattle.ob_grammar.proofs.Chains.{at_level, lower}
+use Rattle.ob_grammar.proofs.Chains.{Operates, at_level, lower}
+use Rattle.ob_grammar.proofs.Operators.{operates, takes_row}
 
 -- ---- which tokens they are
 
@@ -31,40 +29,8 @@ use Rattle.ob_grammar.proofs.Chains.{at_level, lower}
 abbrev operator_token : Operator × Span → Token
 operator_token x = token_of (kind.Sign (sign_of_operator x.0)) x.1
 
-unary_is : (k : TokenKind) (span : Span) (x : Operator × Span) → unary_of k span ≡ Some x → (token_of k span ≡ operator_token x) × (level_of x.0 ≡ 7)
-unary_is (kind.Sign sign'.Minus) span x e =
-    let same : (op.Negate, span) ≡ x = cc in
-    (ap operator_token same, sym (ap (λ (y : Operator × Span). level_of y.0) same))
-unary_is (kind.Sign sign'.Not) span x e =
-    let same : (op.Not, span) ≡ x = cc in
-    (ap operator_token same, sym (ap (λ (y : Operator × Span). level_of y.0) same))
-unary_is k span x e = absurd cc
-
-unary_listed : (k : TokenKind) (span : Span) (x : Operator × Span) → unary_of k span ≡ Some x → IsTrue (is_of unary_signs (token_of k span))
-unary_listed (kind.Sign sign'.Minus) span x e = refl
-unary_listed (kind.Sign sign'.Not) span x e = refl
-unary_listed k span x e = absurd cc
-
--- (the clause for one word has the last one checked word by word)
-some_unary : (k : TokenKind) (span : Span) → IsTrue (is_of unary_signs (token_of k span)) → (x : Operator × Span) × (unary_of k span ≡ Some x)
-some_unary (kind.Sign sign'.Minus) span is = ((op.Negate, span), refl)
-some_unary (kind.Sign sign'.Not) span is = ((op.Not, span), refl)
-some_unary (kind.Word word'.This) span is = absurd cc
-some_unary k span is = absurd cc
-
-takes_unary : Takes unary_if unary_signs
-takes_unary = record {
-  of = λ t is. some_unary t.kind t.span is;
-  is = λ t x e. unary_listed t.kind t.span x e;
-  token = token_of (kind.Sign sign'.Not) somewhere;
-  value = (op.Not, somewhere);
-  one = refl;
-}
-
-unary_read : (o : Operator) (span : Span) → level_of o ≡ 7 → unary_of (kind.Sign (sign_of_operator o)) span ≡ Some (o, span)
-unary_read op.Not span e = refl
-unary_read op.Negate span e = refl
-unary_read o span e = absurd (omega (arith, e))
+unary : Operates 7 unary_if
+unary = operates 7
 
 -- ---- an operator and its operand
 
@@ -79,7 +45,7 @@ only_to : (parts : ((Operator × Span) × Counted) × Span) (read : List Loaded)
 only_to ((x, (operand, n)), span) read is =
     let t = is.1.3.0 in
     let low = is.1.4.0 in
-    let u = unary_is t.kind t.span x is.1.3.1 in
+    let u = unary.is t x.0 x.1 is.1.3.1 in
     let under : read ≡ map (raise 1) (free t ∷ low) = is.1.2 ∙ ap (λ f. f ++ is.1.1) is.1.3.2 ∙ ap (λ b. loaded_at 1 t ∷ b) is.1.4.1 in
     (is.0, eq-eqb (level_of x.0) 7 u.1, (free t ∷ low, under, (free t ∷ [], low, refl, ap (λ v. free v ∷ []) u.0, is.1.4.2)))
 
@@ -90,7 +56,7 @@ only_from (unary_expr o place operand span, n) read is =
     let all : read ≡ loaded_at 1 t ∷ map (raise 1) low = is.2.1 ∙ ap (map (raise 1)) (is.2.2.2 ∙ ap (λ f. f ++ low) is.2.2.3) in (
       (((o, place), (operand, n)), span),
       refl,
-      (is.0, (loaded_at 1 t ∷ [], map (raise 1) low, all, (t, unary_read o place (eqb-true (level_of o) 7 is.1), refl), (low, refl, is.2.2.4))),
+      (is.0, (loaded_at 1 t ∷ [], map (raise 1) low, all, (t, unary.of o place (eqb-true (level_of o) 7 is.1), refl), (low, refl, is.2.2.4))),
     )
 only_from c read is = elim is [ ]
 
@@ -118,5 +84,5 @@ module _ (first primary_first more : List ℕ) (room : ℕ) (inner : ℕ → Rea
     (apart : disjoint primary_first unary_signs ≡ true) where
   pub unary_laws : Laws room (at_level 7) (read_either unary_signs (read_as negated (read_spanned (read_opened unary_if 1 room inner))) primary) (unary_signs ++ primary_first) more false
   unary_laws =
-      let only = makes_laws only_makes (place_laws (opened_laws unary_if 1 room (at_level 7) inner unary_signs first more false takes_unary sample a)) in
+      let only = makes_laws only_makes (place_laws (opened_laws unary_if 1 room (at_level 7) inner unary_signs first more false (takes_row op.Not) sample a)) in
       ends_laws (ends-twice more) (alike_laws (at_level 7) to (λ c. from c.0 c.1) (choice_laws only b apart))

@@ -3,9 +3,8 @@ use Rattle.std.specs.Prelude.{ℕ, ◌+◌, Option, Some, None, List, [], ◌∷
 use Rattle.ob_base.specs.declared.fault.Span.{Span}
 use Rattle.ob_base.specs.declared.operator.Operator.{Operator}
 use Rattle.ob_lexer.specs.declared.token.Token.{Token}
-use Rattle.ob_tree.specs.Exprs.{Expr, binary_expr}
+use Rattle.ob_tree.specs.Exprs.{Expr, binary_expr, place_of}
 use Rattle.ob_grammar.specs.Rows.{joined}
-use Rattle.ob_grammar.specs.ExprRows.{place_of}
 use Rattle.ob_grammar.specs.Readers.{Reader, read_as, read_then, read_opened, read_maybe, read_many_from}
 
 -- an expression, and how many binary operators are read in it

@@ -1,30 +1,21 @@
 -- What the parser computes of expressions, a reader for each row.
-use Rattle.std.specs.Prelude.{ℕ, Option, Some, None, List, [], ◌∷◌}
+use Rattle.std.specs.Prelude.{ℕ, Option, List}
 use Rattle.ob_base.specs.declared.fault.Span.{Span}
 use Rattle.ob_base.specs.declared.operator.Operator.{Operator}
-use Rattle.ob_base.specs.declared.operator.Operator.TheVariants.{Not, Negate}
 use Rattle.ob_lexer.specs.declared.token.Token.{Token}
-use Rattle.ob_lexer.specs.declared.token.TokenKind.{TokenKind}
-use Rattle.ob_lexer.specs.declared.token.TokenKind.TheVariants as kind
-use Rattle.ob_lexer.specs.declared.token.Sign.TheVariants as sign'
 use Rattle.ob_tree.specs.Exprs.{unary_expr}
-use Rattle.ob_grammar.specs.Symbols.{a_sign, number}
+use Rattle.ob_tree.specs.Operators.{operand_place}
 use Rattle.ob_grammar.specs.Readers.{Reader}
 use Rattle.ob_grammar.specs.Operators.{operator_if, signs_of_level}
 use Rattle.ob_grammar.specs.Chains.{Counted, read_chain, read_single}
 
--- the operator with one operand that a token is
-abbrev pub unary_of : TokenKind → Span → Option (Operator × Span)
-unary_of (kind.Sign sign'.Not) span = Some (Not, span)
-unary_of (kind.Sign sign'.Minus) span = Some (Negate, span)
-unary_of k span = None
-
+-- the operator with one operand that a token is, and its place
 abbrev pub unary_if : Token → Option (Operator × Span)
-unary_if t = unary_of t.kind t.span
+unary_if = operator_if operand_place
 
 -- the kinds of their signs
 abbrev pub unary_signs : List ℕ
-unary_signs = number (a_sign sign'.Not) ∷ number (a_sign sign'.Minus) ∷ []
+unary_signs = signs_of_level operand_place
 
 -- an operator, its operand, and the place of both
 abbrev pub negated : ((Operator × Span) × Counted) × Span → Counted

@@ -6,23 +6,11 @@ use Rattle.ob_base.specs.declared.operator.Operator.{Operator}
 use Rattle.ob_lexer.specs.declared.token.TokenKind.TheVariants as kind
 use Rattle.ob_lexer.specs.declared.token.Word.TheVariants as word'
 use Rattle.ob_lexer.specs.declared.token.Sign.TheVariants as sign'
-use Rattle.ob_tree.specs.Exprs.{Expr, number_expr, text_expr, bool_expr, name_expr, this_expr, unary_expr, binary_expr, call_expr, new_expr, Call, call_with, Exprs, no_exprs, and_expr}
+use Rattle.ob_tree.specs.Exprs.{Expr, number_expr, text_expr, bool_expr, name_expr, this_expr, unary_expr, binary_expr, call_expr, new_expr, Call, call_with, Exprs, no_exprs, and_expr, place_of}
 use Rattle.ob_tree.specs.Operators.{sign_of_operator, level_of, left_place, right_place, operand_place, level}
 use Rattle.ob_tree.specs.Words.{word_of_bool}
 use Rattle.ob_grammar.specs.Rows.{Row, Covers, nothing, provided, ◌⨟◌, token, token_at, word, sign, name, raised, counted, maybe}
 use Rattle.ob_grammar.specs.NameRows.{subject, named}
-
--- the place of an expression
-abbrev pub place_of : Expr → Span
-place_of (number_expr value span) = span
-place_of (text_expr value span) = span
-place_of (bool_expr value span) = span
-place_of (name_expr part span) = span
-place_of (this_expr token span) = span
-place_of (unary_expr o sign operand span) = span
-place_of (binary_expr o sign left right span) = span
-place_of (call_expr call span) = span
-place_of (new_expr of args span) = span
 
 -- a row between so many parentheses
 abbrev pub enclosed : ℕ → Row → Row

@@ -1,22 +1,18 @@
 -- What the parser computes of names, permissions and types, a reader for each row.
-use Rattle.std.specs.Prelude.{ℕ, zero, suc, Option, Some, None, List, [], ◌∷◌}
+use Rattle.std.specs.Prelude.{ℕ, zero, suc, Option, List, [], ◌∷◌}
 use Rattle.ob_base.specs.declared.fault.Span.{Span}
 use Rattle.ob_base.specs.declared.permission.Mode.{Mode}
-use Rattle.ob_base.specs.declared.permission.Mode.TheVariants.{Owned, Unowned, Shared}
 use Rattle.ob_lexer.specs.declared.token.Token.{Token}
-use Rattle.ob_lexer.specs.declared.token.TokenKind.{TokenKind}
-use Rattle.ob_lexer.specs.declared.token.TokenKind.TheVariants as kind
-use Rattle.ob_lexer.specs.declared.token.Word.{Word}
-use Rattle.ob_lexer.specs.declared.token.Word.TheVariants as word'
 use Rattle.ob_lexer.specs.declared.token.Sign.{Sign}
 use Rattle.ob_lexer.specs.declared.token.Sign.TheVariants.{OpenBracket, CloseBracket, At, Bar}
 use Rattle.ob_tree.specs.Names.{Named, Ref, ref_with}
 use Rattle.ob_tree.specs.NamesView.{named_with}
+use Rattle.ob_tree.specs.Words.{modes, word_of_mode}
 use Rattle.ob_tree.specs.declared.name.NamePart.{NamePart}
 use Rattle.ob_tree.specs.declared.name.PermNode.{PermNode}
 use Rattle.ob_tree.specs.declared.name.PermNode.TheVariants as perm'
-use Rattle.ob_grammar.specs.Symbols.{a_word, a_sign, number}
-use Rattle.ob_grammar.specs.Readers.{stop, Reader, place_if, name_if, read_token, read_both, read_either, read_as, read_opened, read_maybe, read_spanned, put_before, read_many}
+use Rattle.ob_grammar.specs.Symbols.{Symbol, a_word, a_sign, number}
+use Rattle.ob_grammar.specs.Readers.{stop, Reader, place_if, one_if, kinds_among, name_if, read_token, read_both, read_either, read_as, read_opened, read_maybe, read_spanned, put_before, read_many}
 
 -- the kind that a sign is
 abbrev pub on : Sign → List ℕ
@@ -52,35 +48,26 @@ read_argument p room = read_maybe (on OpenBracket) (read_counted OpenBracket roo
 abbrev pub read_named : (ℕ → Reader Ref) → ℕ → Reader Named
 read_named p room = read_as named_parts (read_spanned (read_both (read_token name_if) (read_argument p room)))
 
--- the mode that a word is
-abbrev pub mode_in : Word → Option Mode
-mode_in word'.Owned = Some Owned
-mode_in word'.Unowned = Some Unowned
-mode_in word'.Shared = Some Shared
-mode_in w = None
+-- the symbol of a mode
+abbrev pub symbol_of_mode : Mode → Symbol
+symbol_of_mode m = a_word (word_of_mode m)
 
 abbrev pub mode_with_place : Mode → Span → Mode × Span
 mode_with_place m span = (m, span)
 
 -- a mode and its place
-abbrev pub mode_of : TokenKind → Span → Option (Mode × Span)
-mode_of (kind.Word word'.Owned) span = Some (Owned, span)
-mode_of (kind.Word word'.Unowned) span = Some (Unowned, span)
-mode_of (kind.Word word'.Shared) span = Some (Shared, span)
-mode_of k span = None
-
 abbrev pub mode_if : Token → Option (Mode × Span)
-mode_if t = mode_of t.kind t.span
+mode_if = one_if symbol_of_mode modes
 
 -- the kinds of the modes
-abbrev pub modes : List ℕ
-modes = number (a_word word'.Owned) ∷ number (a_word word'.Unowned) ∷ number (a_word word'.Shared) ∷ []
+abbrev pub kinds_of_modes : List ℕ
+kinds_of_modes = kinds_among symbol_of_mode modes
 
 abbrev pub mode_perm : Mode × Span → PermNode
 mode_perm parts = perm'.Mode parts.0 parts.1
 
 abbrev pub read_perm : Reader PermNode
-read_perm = read_either modes (read_as mode_perm (read_token mode_if)) (read_as perm'.States (read_parted Bar (read_token name_if)))
+read_perm = read_either kinds_of_modes (read_as mode_perm (read_token mode_if)) (read_as perm'.States (read_parted Bar (read_token name_if)))
 
 -- a name, the sign `@` and a permission
 abbrev pub ref_parts : Named × (Span × PermNode) → Ref

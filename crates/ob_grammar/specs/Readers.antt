@@ -1,6 +1,6 @@
 -- Readers: what the parser computes of tokens, a piece for each way to put rows of the grammar together.
-use Rattle.std.specs.Prelude.{ℕ, zero, suc, ◌-◌, Bool, false, cond, ◌&&◌, nat_eq, nat_le, Option, Some, None, List, [], ◌∷◌, length, take}
-use Rattle.std.specs.List.{list_any}
+use Rattle.std.specs.Prelude.{ℕ, zero, suc, ◌-◌, Bool, false, cond, ◌&&◌, nat_eq, nat_le, Option, Some, None, option_map, List, [], ◌∷◌, length, take, map}
+use Rattle.std.specs.List.{find, list_any}
 use Rattle.ob_base.specs.declared.fault.Span.{Span}
 use Rattle.ob_lexer.specs.declared.token.Token.{Token}
 use Rattle.ob_lexer.specs.declared.token.TokenKind.{TokenKind}
@@ -48,6 +48,18 @@ read_if None t ts = stop (t ∷ ts)
 -- the place of a token of this symbol
 abbrev pub place_if : Symbol → Token → Option Span
 place_if s t = cond (is_of (number s ∷ []) t) (Some t.span) None
+
+-- the first of these whose symbol a token is
+abbrev pub one_among : {A : Type 0} → (A → Symbol) → List A → Token → Option A
+one_among symbol among t = find (λ x. is_of (number (symbol x) ∷ []) t) among
+
+-- the first of these whose symbol a token is, with the token's place
+abbrev pub one_if : {A : Type 0} → (A → Symbol) → List A → Token → Option (A × Span)
+one_if symbol among t = option_map (λ x. (x, t.span)) (one_among symbol among t)
+
+-- the kinds that they are
+abbrev pub kinds_among : {A : Type 0} → (A → Symbol) → List A → List ℕ
+kinds_among symbol among = map (λ x. number (symbol x)) among
 
 -- a name with its place
 abbrev pub name_of : TokenKind → Span → Option NamePart

@@ -8,11 +8,11 @@ ghost use Rattle.ob_layout.specs.MemberTokens.{tokens_of_member, tokens_of_membe
 ghost use Rattle.ob_layout.specs.Written.{written};
 
 use crate::member::put_member;
-use crate::name::{put_named, word_of_mode};
+use crate::name::put_named;
 use crate::token::{put_name, put_part, put_sign, put_word, put_word_if};
 use ob_base::{Memory, Mode};
 use ob_lexer::{Sign, Word};
-use ob_tree::{ContractNode, Member, NamePart, NamedNode, ParamNode, Tree};
+use ob_tree::{ContractNode, Member, NamePart, NamedNode, ParamNode, Tree, word_of_mode};
 use std::alloc::Global;
 
 #[tactic(auto, using(crate::specs::Written::writes))]

@@ -7,13 +7,13 @@ ghost use Rattle.ob_layout.specs.ExprTokens.{is_below, wrapped, tokens_of_receiv
 ghost use Rattle.ob_layout.specs.Written.{written};
 
 use crate::name::put_named;
-use crate::operator::{OPERAND_PLACE, left_place, level_of, right_place, sign_of_operator};
+use crate::operator::{OPERAND_PLACE, left_place, right_place};
 use crate::token::{
     put_number, put_part, put_sign, put_sign_if, put_sign_unless, put_subject, put_text, put_word,
 };
 use ob_base::{Boxed, Memory};
 use ob_lexer::{Sign, Word};
-use ob_tree::{CallNode, Expr, Subject};
+use ob_tree::{CallNode, Expr, Subject, level_of, sign_of_operator};
 
 #[tactic(auto, using(ob_tree::specs::ExprsView::expr_views))]
 fn level(expr: &Expr) -> u8

@@ -1,14 +1,13 @@
 //! Names, permissions and types.
 ghost use Rattle.std.specs.Prelude.{◌≡◌, true, OnOk, string_bytes};
-ghost use Rattle.ob_tree.specs.Words.{word_of_mode};
 ghost use Rattle.ob_tree.specs.NamesView.{named_of, ref_of, type_of};
 ghost use Rattle.ob_layout.specs.NameTokens.{tokens_of_names, tokens_of_perm, tokens_of_exit, tokens_of_named, tokens_of_ref, tokens_of_type};
 ghost use Rattle.ob_layout.specs.Written.{written};
 
 use crate::token::{put_name, put_part, put_sign, put_sign_unless, put_word};
-use ob_base::{Memory, Mode};
+use ob_base::Memory;
 use ob_lexer::{Sign, Word};
-use ob_tree::{NamePart, NamedNode, PermNode, RefNode, TypeNode};
+use ob_tree::{NamePart, NamedNode, PermNode, RefNode, TypeNode, word_of_mode};
 
 /// Names, with this sign between each and the next.
 #[tactic(auto, using(crate::specs::Written::turns))]
@@ -24,18 +23,6 @@ pub fn put_names(out: &mut String, between: Sign, names: &[NamePart]) -> Result<
     Ok(())
 }
 
-/// The word that stands for a mode.
-pub fn word_of_mode(mode: Mode) -> Word
-    ensures { result ≡ word_of_mode mode }
-{
-    match mode {
-        Mode::Owned => Word::Owned,
-        Mode::Shared => Word::Shared,
-        Mode::Unowned => Word::Unowned,
-    }
-}
-
-/// A permission: the word of its mode, or its states with `|` between.
 #[tactic(auto, using(crate::specs::Written::writes))]
 pub fn put_perm(out: &mut String, perm: &PermNode) -> Result<(), Memory>
     ensures { OnOk result (string_bytes out.new ≡ written (string_bytes out.old) (tokens_of_perm perm.now)) }

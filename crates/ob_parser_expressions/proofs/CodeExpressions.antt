@@ -6,11 +6,11 @@ use Rattle.ob_base.specs.declared.fault.Span.{Span}
 use Rattle.ob_base.specs.declared.operator.Operator.{Operator}
 use Rattle.ob_lexer.specs.declared.token.Token.{Token}
 use Rattle.ob_lexer.specs.declared.token.Sign.TheVariants.{OpenParen, CloseParen, Comma}
-use Rattle.ob_tree.specs.Exprs.{Expr, binary_expr}
+use Rattle.ob_tree.specs.Exprs.{Expr, binary_expr, place_of}
 use Rattle.ob_tree.specs.ExprsView.{expr_of, exprs_of}
 use Rattle.ob_tree.specs.declared.expr.Expr as made
 use Rattle.ob_grammar.specs.Rows.{joined}
-use Rattle.ob_grammar.specs.ExprRows.{place_of, expr}
+use Rattle.ob_grammar.specs.ExprRows.{expr}
 use Rattle.ob_grammar.specs.Readers.{Read, done, stop, deep, Reader, ◌>>=◌, begin_with, behind, open_if, read_opened, read_maybe, read_many_from, place_between}
 use Rattle.ob_grammar.specs.NameReaders.{on, read_item, read_parted, read_counted}
 use Rattle.ob_grammar.specs.Operators.{operator_if, signs_of_level}

@@ -30,7 +30,7 @@ ghost use Rattle.ob_parser_names.specs.Answering.{Answers, AnswersBoth};
 ghost use Rattle.ob_parser_expressions.specs.ExprAnswers.{with_count, with_none, tail_of, method_parts, step_of};
 
 use crate::levels::{
-    Level, UNARY, opens_operator, opens_unary, repeats, starts_with_operator, tighter,
+    Level, opens_operator, opens_unary, repeats, starts_with_operator, starts_with_unary, tighter,
 };
 use crate::primaries::{Operation, TailPart, binary, called, called_this, literal, moved, negated};
 use ob_base::{Items, Span};
@@ -204,7 +204,7 @@ fn unary(alloc: Global, room: u8, tokens: &[Token]) -> Result<(Expr, u8, &[Token
     ensures read { AnswersBoth with_count result (all_unary room tokens.now) }
     ensures few { IfOk result (λ x. x.1 ≤ room) }
 {
-    if starts_with_one_of(tokens, &UNARY) {
+    if starts_with_unary(tokens) {
         let (operator, sign, rest) = opens_unary(room, tokens)?;
         let (operand, count, rest) = unary(alloc, room - 1, rest)?;
         let expr = negated(alloc, operator, sign, operand, place_between(tokens, rest))?;

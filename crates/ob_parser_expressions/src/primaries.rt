@@ -1,10 +1,9 @@
 //! The parts of expressions that need no other expression.
 ghost use Rattle.std.specs.Prelude.{◌≡◌, Option, Some, None, IfOk, IfErr};
-ghost use Rattle.ob_tree.specs.Exprs.{unary_expr, binary_expr, call_expr, call_with};
+ghost use Rattle.ob_tree.specs.Exprs.{unary_expr, binary_expr, call_expr, call_with, place_of};
 ghost use Rattle.ob_tree.specs.ExprsView.{expr_of, exprs_of};
 ghost use Rattle.ob_tree.specs.declared.name.Subject.TheVariants.{This};
 ghost use Rattle.ob_grammar.specs.Rows.{joined};
-ghost use Rattle.ob_grammar.specs.ExprRows.{place_of};
 ghost use Rattle.ob_grammar.specs.Readers.{read_token};
 ghost use Rattle.ob_grammar.specs.Primaries.{moved, literal_if, name_with_tail};
 ghost use Rattle.ob_parser_names.specs.Answering.{Answers};
@@ -14,7 +13,7 @@ ghost use Rattle.ob_parser_names.specs.declared.halt.Halt.TheVariants.{Memory};
 use ob_base::{Boxed, Duplicate, Items, Operator, Span};
 use ob_lexer::{Token, TokenKind, Word};
 use ob_parser_names::{Halt, joined, refused};
-use ob_tree::{CallNode, Expr, NamePart, Subject};
+use ob_tree::{CallNode, Expr, NamePart, Subject, place_of};
 use std::alloc::Global;
 
 /// What stands behind a name that begins a call.
@@ -38,23 +37,6 @@ pub struct Operation {
 }
 
 // ---- places
-
-/// Where an expression stands.
-pub fn place_of(expr: &Expr) -> Span
-    ensures { result ≡ place_of (expr_of expr.now) }
-{
-    match expr {
-        Expr::Number { span, .. } => *span,
-        Expr::Text { span, .. } => *span,
-        Expr::Bool { span, .. } => *span,
-        Expr::Name { span, .. } => *span,
-        Expr::This { span, .. } => *span,
-        Expr::Unary { span, .. } => *span,
-        Expr::Binary { span, .. } => *span,
-        Expr::Call { span, .. } => *span,
-        Expr::New { span, .. } => *span,
-    }
-}
 
 /// The same expression at another place: with the parentheses around it.
 pub fn moved(span: Span, expr: Expr) -> Expr

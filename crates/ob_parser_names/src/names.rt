@@ -10,8 +10,8 @@
 
 ghost use Rattle.std.specs.Prelude.{◌≡◌, option_map, IfOk, IfErr};
 ghost use Rattle.ob_tree.specs.NamesView.{named_of, ref_of, type_of};
-ghost use Rattle.ob_grammar.specs.Readers.{name_if, read_token};
-ghost use Rattle.ob_grammar.specs.NameReaders.{read_counted, read_parted, read_item, read_argument, read_named, mode_if, mode_in, mode_with_place, read_perm};
+ghost use Rattle.ob_grammar.specs.Readers.{one_among, begin_with, name_if, read_token};
+ghost use Rattle.ob_grammar.specs.NameReaders.{read_counted, read_parted, read_item, read_argument, read_named, symbol_of_mode, kinds_of_modes, mode_if, mode_with_place, read_perm};
 ghost use Rattle.ob_grammar.specs.MemberReaders.{subject_if, value_type_if, read_type};
 ghost use Rattle.ob_grammar.specs.AllReaders.{all_refs};
 ghost use Rattle.ob_parser_names.specs.Answering.{Answers, AnswersBoth, as_it_is};
@@ -21,11 +21,11 @@ ghost use Rattle.ob_parser_names.specs.declared.halt.Halt.TheVariants.{Memory};
 use crate::halt::Halt;
 use crate::parts::{before, with};
 use crate::tokens::{
-    Symbol, fixed, opens, place_between, refused, starts_with, starts_with_one_of,
+    Symbol, fixed, is_symbol, opens, place_between, refused, starts_with, starts_with_one_of,
 };
 use ob_base::{Boxed, Items, Mode, Name, Span, Text};
 use ob_lexer::{Sign, Token, TokenKind, Word};
-use ob_tree::{NamePart, NamedNode, PermNode, RefNode, Subject, TypeNode};
+use ob_tree::{MODES, NamePart, NamedNode, PermNode, RefNode, Subject, TypeNode, word_of_mode};
 use std::alloc::Global;
 
 // Each name is a text, so only memory can be missing.
@@ -108,14 +108,24 @@ pub fn subject(alloc: Global, tokens: &[Token]) -> Result<(Subject, &[Token]), H
     }
 }
 
-fn mode_of(word: Word) -> Option<Mode>
-    ensures { result ≡ mode_in word }
+// The mode among these that a token is.
+fn mode_among(modes: &[Mode], token: &Token) -> Option<Mode>
+    ensures { result ≡ one_among symbol_of_mode modes.now token.now }
 {
-    match word {
-        Word::Owned => Some(Mode::Owned),
-        Word::Unowned => Some(Mode::Unowned),
-        Word::Shared => Some(Mode::Shared),
-        _ => None,
+    for mode in modes {
+        if is_symbol(token, Symbol::Word(word_of_mode(*mode))) {
+            return Some(*mode);
+        }
+    }
+    None
+}
+
+fn starts_with_mode(tokens: &[Token]) -> bool
+    ensures { result ≡ begin_with kinds_of_modes tokens.now }
+{
+    match tokens {
+        [token, ..] => mode_among(&MODES, token).is_some(),
+        [] => false,
     }
 }
 
@@ -124,26 +134,13 @@ pub fn mode_word(tokens: &[Token]) -> Result<(Mode, Span, &[Token]), Halt>
     ensures { AnswersBoth mode_with_place result (read_token mode_if tokens.now) }
 {
     match tokens {
-        [
-            Token {
-                kind: TokenKind::Word(word),
-                span,
-            },
-            rest @ ..,
-        ] => match mode_of(*word) {
-            Some(mode) => Ok((mode, *span, rest)),
+        [token, rest @ ..] => match mode_among(&MODES, token) {
+            Some(mode) => Ok((mode, token.span, rest)),
             None => Err(refused(tokens)),
         },
-        _ => Err(refused(tokens)),
+        [] => Err(refused(tokens)),
     }
 }
-
-/// The words that a permission may begin with.
-const MODES: [Symbol; 3] = [
-    Symbol::Word(Word::Owned),
-    Symbol::Word(Word::Unowned),
-    Symbol::Word(Word::Shared),
-];
 
 /// The words of the types that have no permission.
 pub const VALUE_TYPES: [Symbol; 3] = [
@@ -156,7 +153,7 @@ pub const VALUE_TYPES: [Symbol; 3] = [
 pub fn permission(alloc: Global, tokens: &[Token]) -> Result<(PermNode, &[Token]), Halt>
     ensures { Answers as_it_is result (read_perm tokens.now) }
 {
-    if starts_with_one_of(tokens, &MODES) {
+    if starts_with_mode(tokens) {
         let (mode, span, rest) = mode_word(tokens)?;
         return Ok((PermNode::Mode(mode, span), rest));
     }

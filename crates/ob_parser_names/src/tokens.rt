@@ -64,7 +64,8 @@ pub fn refused(tokens: &[Token]) -> Halt
     Halt::Expected { left: tokens.len() }
 }
 
-fn is_symbol(token: &Token, symbol: Symbol) -> bool
+/// Whether a token is of this symbol.
+pub fn is_symbol(token: &Token, symbol: Symbol) -> bool
     ensures { result ≡ is_of (number (symbol_for symbol) ∷ []) token.now }
 {
     match (&token.kind, symbol) {

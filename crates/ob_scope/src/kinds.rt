@@ -7,7 +7,6 @@ ghost use Rattle.ob_typing.specs.Declarations.{part_of_named, contract_at};
 ghost use Rattle.ob_typing.specs.Kinds.{contract_of_kind, kind_of_name, kind_of_result, kinds_of_params};
 ghost use Rattle.ob_typing.specs.declared.kind.Kind.TheVariants.{Unknown};
 ghost use Rattle.ob_typing.specs.Scopes.{kind_of_this, kind_of_variable, kind_of_subject, public_transaction, called, constructed, kind_of_unary, kind_of_binary, kind_of};
-ghost use Rattle.ob_typing.specs.ExpressionSites.{place_of};
 ghost use Rattle.ob_typing.specs.Bodies.{kind_of_receiver};
 ghost use Rattle.ob_scope.specs.Types.{program_of};
 ghost use Rattle.ob_scope.specs.Around.{around_of};
@@ -17,7 +16,7 @@ use crate::around::Around;
 use crate::declared::Declared;
 use crate::members::{Heading, Members};
 use crate::scope::Scope;
-use ob_base::{Operator, Span};
+use ob_base::Operator;
 use ob_tree::{CallNode, Expr, NamedNode, Subject};
 use ob_typing::Kind;
 
@@ -189,23 +188,5 @@ pub fn kind_of(around: &Around<'_>, scope: &Scope, expr: &Expr) -> Kind
         Expr::Binary { operator, .. } => kind_of_binary(*operator),
         Expr::Call { call, .. } => kind_of_call(around, scope, call),
         Expr::New { of, .. } => kind_of_new(around, of),
-    }
-}
-
-/// The place of an expression.
-#[tactic(auto, using(ob_tree::specs::MembersView::views))]
-pub fn place_of(expr: &Expr) -> Span
-    ensures { result ≡ place_of (expr_of expr.now) }
-{
-    match expr {
-        Expr::Number { span, .. } => *span,
-        Expr::Text { span, .. } => *span,
-        Expr::Bool { span, .. } => *span,
-        Expr::Name { span, .. } => *span,
-        Expr::This { span, .. } => *span,
-        Expr::Unary { span, .. } => *span,
-        Expr::Binary { span, .. } => *span,
-        Expr::Call { span, .. } => *span,
-        Expr::New { span, .. } => *span,
     }
 }

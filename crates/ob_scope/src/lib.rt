@@ -12,8 +12,7 @@ mod types;
 pub use around::Around;
 pub use declared::Declared;
 pub use kinds::{
-    called, constructed, kind_of, kind_of_receiver, kind_of_subject, kind_of_this,
-    kind_of_variable, place_of,
+    called, constructed, kind_of, kind_of_receiver, kind_of_subject, kind_of_this, kind_of_variable,
 };
 pub use members::{Heading, Members, States};
 pub use names::Names;

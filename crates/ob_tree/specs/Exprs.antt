@@ -33,3 +33,15 @@ mutual
 abbrev pub exprs : List Expr → Exprs
 exprs [] = no_exprs
 exprs (e ∷ es) = and_expr e (exprs es)
+
+-- the place of an expression
+abbrev pub place_of : Expr → Span
+place_of (number_expr value span) = span
+place_of (text_expr value span) = span
+place_of (bool_expr value span) = span
+place_of (name_expr part span) = span
+place_of (this_expr token span) = span
+place_of (unary_expr o sign operand span) = span
+place_of (binary_expr o sign left right span) = span
+place_of (call_expr call span) = span
+place_of (new_expr of args span) = span

@@ -1,11 +1,16 @@
 -- The operators of expressions: their signs, and how tight they bind (the Obsidian language documentation,
 -- "Expressions"; the order of the levels is that of The Java Language Specification, 15).
-use Rattle.std.specs.Prelude.{ℕ, suc}
+use Rattle.std.specs.Prelude.{ℕ, suc, List, [], ◌∷◌}
 use Rattle.ob_base.specs.declared.operator.Operator.{Operator}
 use Rattle.ob_base.specs.declared.operator.Operator.TheVariants.{Add, Sub, Mul, Div, Rem, Equal, NotEqual, Less, LessEqual, Greater, GreaterEqual, And, Or, Not, Negate}
 use Rattle.ob_lexer.specs.declared.token.Sign.{Sign}
 use Rattle.ob_lexer.specs.declared.token.Sign.TheVariants as sign
 use Rattle.ob_tree.specs.Exprs.{Expr, unary_expr, binary_expr}
+
+-- every operator
+abbrev pub operators : List Operator
+operators =
+    Add ∷ Sub ∷ Mul ∷ Div ∷ Rem ∷ Equal ∷ NotEqual ∷ Less ∷ LessEqual ∷ Greater ∷ GreaterEqual ∷ And ∷ Or ∷ Not ∷ Negate ∷ []
 
 -- the sign that stands for an operator
 abbrev pub sign_of_operator : Operator → Sign

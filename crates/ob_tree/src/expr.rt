@@ -1,5 +1,7 @@
 //! Expressions as they are written (the Obsidian language documentation, "Expressions").
 ghost use Rattle.std.specs.Prelude.{◌≡◌, IfOk};
+ghost use Rattle.ob_tree.specs.Exprs.{place_of};
+ghost use Rattle.ob_tree.specs.ExprsView.{expr_of};
 
 use crate::name::{NamePart, NamedNode, Subject};
 use ob_base::{Boxed, Duplicate, Items, Memory, Operator, Span, Text, both, copy_option};
@@ -75,6 +77,23 @@ pub struct CallNode {
     pub name: NamePart,
     /// The arguments, from left to right.
     pub args: Items<Expr>,
+}
+
+/// The place of an expression.
+pub fn place_of(expr: &Expr) -> Span
+    ensures { result ≡ place_of (expr_of expr.now) }
+{
+    match expr {
+        Expr::Number { span, .. } => *span,
+        Expr::Text { span, .. } => *span,
+        Expr::Bool { span, .. } => *span,
+        Expr::Name { span, .. } => *span,
+        Expr::This { span, .. } => *span,
+        Expr::Unary { span, .. } => *span,
+        Expr::Binary { span, .. } => *span,
+        Expr::Call { span, .. } => *span,
+        Expr::New { span, .. } => *span,
+    }
 }
 
 #[cycle(copy_expr)]

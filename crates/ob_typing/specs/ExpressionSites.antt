@@ -4,7 +4,7 @@ use Rattle.std.specs.Option.{option_map_or}
 use Rattle.ob_base.specs.declared.fault.Span.{Span}
 use Rattle.ob_base.specs.declared.operator.Operator.{Operator}
 use Rattle.ob_base.specs.declared.operator.Operator.TheVariants.{Equal, NotEqual, And, Or}
-use Rattle.ob_tree.specs.Exprs.{Expr, number_expr, text_expr, bool_expr, name_expr, this_expr, unary_expr, binary_expr, call_expr, new_expr, Call, call_with, Exprs, no_exprs, and_expr}
+use Rattle.ob_tree.specs.Exprs.{Expr, number_expr, text_expr, bool_expr, name_expr, this_expr, unary_expr, binary_expr, call_expr, new_expr, Call, call_with, Exprs, no_exprs, and_expr, place_of}
 use Rattle.ob_tree.specs.Members.{Formal}
 use Rattle.ob_tree.specs.declared.name.NamePart.{NamePart}
 use Rattle.ob_tree.specs.declared.name.Subject.{Subject}
@@ -16,18 +16,6 @@ use Rattle.ob_typing.specs.Kinds.{contract_of_kind, kinds_of_params}
 use Rattle.ob_typing.specs.Visible.{a_variable, a_transaction, a_public_transaction, an_object, visible_behind_dot}
 use Rattle.ob_typing.specs.Scopes.{Around, Scope, visible_at, kind_of_variable, called, constructed, kind_of_unary, kind_of}
 use Rattle.ob_typing.specs.Sites.{Site, names, has_kind, refers, is_value, passes}
-
--- the place of an expression
-abbrev pub place_of : Expr → Span
-place_of (number_expr value span) = span
-place_of (text_expr value span) = span
-place_of (bool_expr value span) = span
-place_of (name_expr name span) = span
-place_of (this_expr token span) = span
-place_of (unary_expr operator sign operand span) = span
-place_of (binary_expr operator sign left right span) = span
-place_of (call_expr call span) = span
-place_of (new_expr of args span) = span
 
 -- a value of this kind is needed of an expression
 abbrev pub needs : Around → Scope → Kind → Expr → Site

@@ -18,8 +18,8 @@ use ob_notes::{
     Least, note_count, note_kind, note_object, note_public_transaction, note_reference,
     note_transaction, note_value, note_variable,
 };
-use ob_scope::{Around, Scope, called, constructed, kind_of, kind_of_variable, place_of};
-use ob_tree::{CallNode, Expr, NamePart, NamedNode, Subject};
+use ob_scope::{Around, Scope, called, constructed, kind_of, kind_of_variable};
+use ob_tree::{CallNode, Expr, NamePart, NamedNode, Subject, place_of};
 use ob_typing::Kind;
 
 // A value of this kind is needed of an expression.

@@ -92,27 +92,27 @@ operation-returns-clause-read t c = opened_done (operator_if (number_of_level c.
 pub unary-returns-in_err-operator-clause-read : goal.unary-returns-in_err-operator-clause-read
 unary-returns-in_err-operator-clause-read t c =
     let e = c.in_err-operator.field-0.0 in
-    let halts = negation_halts c.args.room c.ranges.room.fits c.args.tokens.now e (sym c.starts_with_one_of.ensures ∙ c.if-starts_with_one_of.true) (not_opened unary_if c.args.room all_unary c.args.tokens.now e c.in_err-operator.ensures.read) in
+    let halts = negation_halts c.args.room c.ranges.room.fits c.args.tokens.now e (sym c.starts_with_unary.ensures ∙ c.if-starts_with_unary.true) (not_opened unary_if c.args.room all_unary c.args.tokens.now e c.in_err-operator.ensures.read) in
     search rules
 
 pub unary-returns-in_err-operand-clause-read : goal.unary-returns-in_err-operand-clause-read
 unary-returns-in_err-operand-clause-read t c =
     let e = c.in_err-operand.field-0.0 in
-    let halts = negation_halts c.args.room c.ranges.room.fits c.args.tokens.now e (sym c.starts_with_one_of.ensures ∙ c.if-starts_with_one_of.true) (opened_halts unary_if c.args.room all_unary c.args.tokens.now c.in_ok-operator.rest.now _ c.in_ok-operator.ensures.read e c.in_err-operand.ensures.read) in
+    let halts = negation_halts c.args.room c.ranges.room.fits c.args.tokens.now e (sym c.starts_with_unary.ensures ∙ c.if-starts_with_unary.true) (opened_halts unary_if c.args.room all_unary c.args.tokens.now c.in_ok-operator.rest.now _ c.in_ok-operator.ensures.read e c.in_err-operand.ensures.read) in
     search rules
 
-pub unary-returns-then-starts_with_one_of-clause-read : goal.unary-returns-then-starts_with_one_of-clause-read
-unary-returns-then-starts_with_one_of-clause-read t c =
-    let reads = negation_done c.args.room c.ranges.room.fits c.args.tokens.now (sym c.starts_with_one_of.ensures ∙ c.if-starts_with_one_of.true) _ c.in_ok-operand.rest.now (opened_done unary_if c.args.room all_unary c.args.tokens.now c.in_ok-operator.rest.now _ c.in_ok-operator.ensures.read _ c.in_ok-operand.rest.now c.in_ok-operand.ensures.read) in
+pub unary-returns-then-starts_with_unary-clause-read : goal.unary-returns-then-starts_with_unary-clause-read
+unary-returns-then-starts_with_unary-clause-read t c =
+    let reads = negation_done c.args.room c.ranges.room.fits c.args.tokens.now (sym c.starts_with_unary.ensures ∙ c.if-starts_with_unary.true) _ c.in_ok-operand.rest.now (opened_done unary_if c.args.room all_unary c.args.tokens.now c.in_ok-operator.rest.now _ c.in_ok-operator.ensures.read _ c.in_ok-operand.rest.now c.in_ok-operand.ensures.read) in
     let made = c.in_ok-expr.ensures.ok in
     let place = c.place_between.ensures in
     rw made (rw place reads)
 
 pub unary-returns-in_err-expr-2-clause-read : goal.unary-returns-in_err-expr-2-clause-read
-unary-returns-in_err-expr-2-clause-read t c = rw (primary_is c.args.room c.ranges.room.fits c.args.tokens.now (sym c.starts_with_one_of.ensures ∙ c.if-starts_with_one_of.false)) (search rules)
+unary-returns-in_err-expr-2-clause-read t c = rw (primary_is c.args.room c.ranges.room.fits c.args.tokens.now (sym c.starts_with_unary.ensures ∙ c.if-starts_with_unary.false)) (search rules)
 
 pub unary-returns-clause-read : goal.unary-returns-clause-read
-unary-returns-clause-read t c = primary_is c.args.room c.ranges.room.fits c.args.tokens.now (sym c.starts_with_one_of.ensures ∙ c.if-starts_with_one_of.false) ∙ c.in_ok-expr-2.ensures
+unary-returns-clause-read t c = primary_is c.args.room c.ranges.room.fits c.args.tokens.now (sym c.starts_with_unary.ensures ∙ c.if-starts_with_unary.false) ∙ c.in_ok-expr-2.ensures
 
 pub group-returns-in_err-expr : goal.group-returns-in_err-expr
 group-returns-in_err-expr t c =
