@@ -55,7 +55,7 @@ symbol_of_mode m = a_word (word_of_mode m)
 abbrev pub mode_with_place : Mode → Span → Mode × Span
 mode_with_place m span = (m, span)
 
--- a mode and its place
+-- the mode that a token is, with its place
 abbrev pub mode_if : Token → Option (Mode × Span)
 mode_if = one_if symbol_of_mode modes
 

@@ -23,6 +23,7 @@ pub fn put_names(out: &mut String, between: Sign, names: &[NamePart]) -> Result<
     Ok(())
 }
 
+/// A permission: the word of its mode, or its states with `|` between.
 #[tactic(auto, using(crate::specs::Written::writes))]
 pub fn put_perm(out: &mut String, perm: &PermNode) -> Result<(), Memory>
     ensures { OnOk result (string_bytes out.new ≡ written (string_bytes out.old) (tokens_of_perm perm.now)) }
