@@ -5,7 +5,5 @@ mod brackets;
 mod programs;
 mod stages;
 
-pub use programs::{
-    Compiled, accepted_or_fault, check_program, compile, lowered, one_text_fault,
-};
+pub use programs::{Compiled, accepted_or_fault, check_program, compile, lowered, one_text_fault};
 pub use stages::{CompileError, class_table, syntax_tree};

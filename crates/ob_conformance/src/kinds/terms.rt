@@ -3,7 +3,7 @@ use crate::kinds::lines::Lines;
 use crate::kinds::tokens::fault_bytes;
 use crate::trouble::Trouble;
 use ob_base::{ContractId, Duplicate, FieldId, Operator, StateId, TxId};
-use ob_front::{Compiled, CompileError, lowered};
+use ob_front::{CompileError, Compiled, lowered};
 use ob_silica::{Constant, Form, Given, Operand, Place, Term, TermBody};
 use std::alloc::Global;
 
