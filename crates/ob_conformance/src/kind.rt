@@ -1,7 +1,8 @@
 //! The kinds of cases. A new one is a variant, its word in `of`, the names of its parts, and what it answers.
+use crate::bytes::Bytes;
 use crate::case::Case;
+use crate::kinds::lines::Lines;
 use crate::kinds::{base, fronts, run, table, terms, tokens, tree, wire};
-use crate::trouble::Trouble;
 use std::alloc::Global;
 
 /// What is asked of a text.
@@ -96,35 +97,36 @@ impl Kind {
     }
 
     /// What is expected of a case, of which this is written.
-    pub fn wanted(self, alloc: Global, case: &Case, written: &[u8]) -> Result<Vec<u8>, Trouble> {
-        match self {
-            Kind::Run => run::wanted(alloc, case, written),
-            _ => Ok(written.to_vec(alloc)?),
+    pub fn wanted(self, case: &Case, written: &[u8], bytes: &mut Bytes) {
+        if matches!(self, Kind::Run) {
+            bytes.put(case.parts.find("status").unwrap_or(b"0 Done"));
+            bytes.put(b"\n");
         }
+        bytes.put(written);
     }
 
-    /// What comes of a case, of which this is asked.
-    pub fn answer(self, alloc: Global, case: &Case, asked: &[u8]) -> Result<Vec<u8>, Trouble> {
+    /// Shows what comes of a case, of which this is asked.
+    pub fn answer(self, alloc: Global, case: &Case, asked: &[u8], lines: &mut Lines) {
         match self {
-            Kind::Check => run::check(alloc, asked),
-            Kind::Table => table::table(alloc, asked),
-            Kind::Terms => terms::terms(alloc, asked),
-            Kind::Cuts => run::cuts(alloc, asked),
-            Kind::Serve => run::serve(alloc, asked),
-            Kind::Run => run::whole_run(alloc, case, asked),
-            Kind::Outside => run::cut_run(alloc, case, asked),
-            Kind::Layout => tree::layout(alloc, asked),
-            Kind::Again => tree::again(alloc, asked),
-            Kind::Tokens => tokens::tokens(alloc, asked),
-            Kind::Tree => tree::tree(alloc, case.part("text"), asked),
-            Kind::Plain => tree::plain(alloc, case.part("text"), asked),
-            Kind::Whole => fronts::whole(alloc, asked),
-            Kind::Fronts => fronts::fronts(alloc, asked),
-            Kind::Request => wire::request(alloc, asked),
-            Kind::Reply => wire::reply(alloc, asked),
-            Kind::Form => base::form(alloc, asked),
-            Kind::Bytes => base::bytes(alloc, asked),
-            Kind::Message => base::message(alloc, asked),
+            Kind::Check => run::check(alloc, asked, lines),
+            Kind::Table => table::table(alloc, asked, lines),
+            Kind::Terms => terms::terms(alloc, asked, lines),
+            Kind::Cuts => run::cuts(alloc, asked, lines),
+            Kind::Serve => run::serve(alloc, asked, lines),
+            Kind::Run => run::whole_run(alloc, case, asked, lines),
+            Kind::Outside => run::cut_run(alloc, case, asked, lines),
+            Kind::Layout => tree::layout(alloc, asked, lines),
+            Kind::Again => tree::again(alloc, asked, lines),
+            Kind::Tokens => tokens::tokens(alloc, asked, lines),
+            Kind::Tree => tree::tree(alloc, case.part("text"), asked, lines),
+            Kind::Plain => tree::plain(alloc, case.part("text"), asked, lines),
+            Kind::Whole => fronts::whole(alloc, asked, lines),
+            Kind::Fronts => fronts::fronts(alloc, asked, lines),
+            Kind::Request => wire::request(alloc, asked, lines),
+            Kind::Reply => wire::reply(alloc, asked, lines),
+            Kind::Form => base::form(alloc, asked, lines),
+            Kind::Bytes => base::bytes(alloc, asked, lines),
+            Kind::Message => base::message(asked, lines),
         }
     }
 }

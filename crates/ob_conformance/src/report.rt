@@ -1,6 +1,7 @@
 //! What is printed of cases.
 use crate::bytes::Bytes;
 use crate::case::Case;
+use crate::kinds::lines::Lines;
 use crate::trouble::Trouble;
 use std::alloc::Global;
 
@@ -41,6 +42,20 @@ fn shown_of(bytes: &[u8]) -> &[u8] {
     &bytes[..end]
 }
 
+// What comes of a case, of which this is asked.
+fn answer_to(alloc: Global, case: &Case, asked: &[u8]) -> Result<Vec<u8>, Trouble> {
+    let mut lines = Lines::new(alloc);
+    case.kind.answer(alloc, case, asked, &mut lines);
+    lines.into_bytes()
+}
+
+// What is expected of a case, of which this is written.
+fn wanted_of(alloc: Global, case: &Case, written: &[u8]) -> Result<Vec<u8>, Trouble> {
+    let mut bytes = Bytes::new(alloc);
+    case.kind.wanted(case, written, &mut bytes);
+    bytes.finish()
+}
+
 impl Report {
     /// Nothing is printed yet.
     pub fn new(alloc: Global, answers: bool) -> Report {
@@ -65,22 +80,26 @@ impl Report {
         asked: &[u8],
         written: &[u8],
     ) -> Result<(), Trouble> {
-        let came = case.kind.answer(alloc, case, asked)?;
+        let came = answer_to(alloc, case, asked)?;
         if self.answers {
             self.put("= ");
             self.put(case.title.as_str());
             self.put("\n");
             put_marked(b"| ", &came, &mut self.text);
-            return Ok(());
+        } else {
+            let wanted = wanted_of(alloc, case, written)?;
+            self.compare(case.title.as_str(), row, &wanted, &came);
         }
-        let wanted = case.kind.wanted(alloc, case, written)?;
+        Ok(())
+    }
+
+    fn compare(&mut self, title: &str, row: &str, wanted: &[u8], came: &[u8]) {
         self.cases = self.cases.saturating_add(1);
         if came == wanted {
             self.agreeing = self.agreeing.saturating_add(1);
         } else {
-            self.show_difference(case.title.as_str(), row, &wanted, &came);
+            self.show_difference(title, row, wanted, came);
         }
-        Ok(())
     }
 
     fn show_difference(&mut self, title: &str, row: &str, wanted: &[u8], came: &[u8]) {

@@ -1,6 +1,5 @@
 //! Names, labels and texts, and fields as bytes.
 use crate::kinds::lines::Lines;
-use crate::kinds::tokens::text_of;
 use crate::trouble::Trouble;
 use ob_base::{
     Duplicate, Failed, FieldFault, Fields, Label, Memory, Name, NameError, Text, put_i64, put_text,
@@ -9,45 +8,58 @@ use ob_base::{
 use std::alloc::Global;
 use std::fmt::Display;
 
-fn is_name(alloc: Global, bytes: &[u8]) -> Result<bool, Trouble> {
+// That the bytes aren't of a form. Want of memory is noted.
+fn no_form(error: NameError, lines: &mut Lines) -> bool {
+    if error == NameError::Memory {
+        lines.fail(Trouble::Memory);
+    }
+    false
+}
+
+fn is_name(alloc: Global, bytes: &[u8], lines: &mut Lines) -> bool {
     match Name::of(alloc, bytes) {
-        Ok(name) => Ok(name.copy(alloc)?.as_bytes() == bytes),
-        Err(NameError::Bad) => Ok(false),
-        Err(NameError::Memory) => Err(Trouble::Memory),
+        Ok(name) => match lines.made(name.copy(alloc)) {
+            Some(copy) => copy.as_bytes() == bytes,
+            None => false,
+        },
+        Err(error) => no_form(error, lines),
     }
 }
 
-fn is_label(alloc: Global, bytes: &[u8]) -> Result<bool, Trouble> {
+fn is_label(alloc: Global, bytes: &[u8], lines: &mut Lines) -> bool {
     match Label::of(alloc, bytes) {
-        Ok(label) => Ok(label.copy(alloc)?.as_bytes() == bytes),
-        Err(NameError::Bad) => Ok(false),
-        Err(NameError::Memory) => Err(Trouble::Memory),
+        Ok(label) => match lines.made(label.copy(alloc)) {
+            Some(copy) => copy.as_bytes() == bytes,
+            None => false,
+        },
+        Err(error) => no_form(error, lines),
     }
 }
 
-fn is_text(alloc: Global, bytes: &[u8]) -> Result<bool, Trouble> {
+fn is_text(alloc: Global, bytes: &[u8], lines: &mut Lines) -> bool {
     match Text::of(alloc, bytes) {
-        Ok(text) => Ok(text.copy(alloc)?.as_bytes() == bytes),
-        Err(NameError::Bad) => Ok(false),
-        Err(NameError::Memory) => Err(Trouble::Memory),
+        Ok(text) => match lines.made(text.copy(alloc)) {
+            Some(copy) => copy.as_bytes() == bytes,
+            None => false,
+        },
+        Err(error) => no_form(error, lines),
     }
 }
 
 /// Which of a name, a label and a text the bytes are: `name label text`, `label text`, `text` or `none`.
-pub fn form(alloc: Global, bytes: &[u8]) -> Result<Vec<u8>, Trouble> {
+pub fn form(alloc: Global, bytes: &[u8], lines: &mut Lines) {
     let forms = (
-        is_name(alloc, bytes)?,
-        is_label(alloc, bytes)?,
-        is_text(alloc, bytes)?,
+        is_name(alloc, bytes, lines),
+        is_label(alloc, bytes, lines),
+        is_text(alloc, bytes, lines),
     );
-    let said: &[u8] = match forms {
-        (true, true, true) => b"name label text\n",
-        (false, true, true) => b"label text\n",
-        (false, false, true) => b"text\n",
-        (false, false, false) => b"none\n",
-        _ => b"another mix\n",
-    };
-    Ok(said.to_vec(alloc)?)
+    lines.put(match forms {
+        (true, true, true) => "name label text\n",
+        (false, true, true) => "label text\n",
+        (false, false, true) => "text\n",
+        (false, false, false) => "none\n",
+        _ => "another mix\n",
+    });
 }
 
 // A number, where the field is one.
@@ -86,41 +98,37 @@ fn is_number(fields: &mut Fields<'_>, kind: &str, number: i64) -> bool {
 }
 
 // Whether the next field is this text.
-fn is_text_of(fields: &mut Fields<'_>, alloc: Global, value: &str) -> Result<bool, Trouble> {
+fn is_text_of(alloc: Global, fields: &mut Fields<'_>, value: &str, lines: &mut Lines) -> bool {
     match fields.text(alloc) {
-        Ok(text) => Ok(text.as_str() == value),
-        Err(FieldFault::Memory) => Err(Trouble::Memory),
-        Err(_) => Ok(false),
+        Ok(text) => text.as_str() == value,
+        Err(FieldFault::Memory) => {
+            lines.fail(Trouble::Memory);
+            false
+        }
+        Err(_) => false,
     }
 }
 
 // Whether the bytes are those of a field alone.
-fn is_field(alloc: Global, kind: &str, value: &str, bytes: &[u8]) -> Result<bool, Trouble> {
+fn is_field(alloc: Global, kind: &str, value: &str, bytes: &[u8], lines: &mut Lines) -> bool {
     let mut fields = Fields::new(bytes);
-    let is_read = match kind {
-        "text" => is_text_of(&mut fields, alloc, value)?,
-        _ => is_number(&mut fields, kind, number_in(value)?),
+    let is_read = match (kind, number_in(value)) {
+        ("text", _) => is_text_of(alloc, &mut fields, value, lines),
+        (_, Ok(number)) => is_number(&mut fields, kind, number),
+        (_, Err(_)) => false,
     };
-    Ok(is_read && fields.at() == bytes.len())
-}
-
-fn field_bytes(alloc: Global, kind: &str, value: &str) -> Result<Vec<u8>, Trouble> {
-    let mut bytes = Vec::new(alloc);
-    put_field(kind, value, &mut bytes)?;
-    Ok(bytes)
+    is_read && fields.at() == bytes.len()
 }
 
 // The bytes of a field in hexadecimal digits, and that they aren't read as it, where they aren't.
-fn field_line(alloc: Global, bytes: &[u8], is_read: bool) -> Result<Vec<u8>, Trouble> {
-    let mut lines = Lines::new(alloc);
+fn put_read(alloc: Global, kind: &str, value: &str, bytes: &[u8], lines: &mut Lines) {
     for byte in bytes {
         lines.put_byte(*byte);
     }
-    if !is_read {
+    if !is_field(alloc, kind, value, bytes, lines) {
         lines.put(", read as another");
     }
     lines.end();
-    lines.into_bytes()
 }
 
 // The kind of a field, and its value.
@@ -129,24 +137,29 @@ fn parts_of(field: &[u8]) -> Option<(&str, &str)> {
 }
 
 /// The bytes of a field, in hexadecimal digits, from which it was read again: `u8 5`, `u32 5`, `i64 -5` or `text five`.
-pub fn bytes(alloc: Global, field: &[u8]) -> Result<Vec<u8>, Trouble> {
-    let (kind, value) = parts_of(field).ok_or(Trouble::Line("no field"))?;
-    let bytes = field_bytes(alloc, kind, value)?;
-    let is_read = is_field(alloc, kind, value, &bytes)?;
-    field_line(alloc, &bytes, is_read)
+pub fn bytes(alloc: Global, field: &[u8], lines: &mut Lines) {
+    let Some((kind, value)) = parts_of(field) else {
+        return lines.fail(Trouble::Line("no field"));
+    };
+    let mut bytes = Vec::new(alloc);
+    match put_field(kind, value, &mut bytes) {
+        Ok(()) => put_read(alloc, kind, value, &bytes, lines),
+        Err(trouble) => lines.fail(trouble),
+    }
 }
 
 // What an error says of itself, as a line.
-fn said<E: Display>(alloc: Global, error: &E) -> Result<Vec<u8>, Trouble> {
-    Ok(format!(in alloc; "{error}\n")?.into_bytes())
+fn put_error<E: Display>(error: &E, lines: &mut Lines) {
+    lines.show(error);
+    lines.end();
 }
 
 /// What the error of this name says of itself.
-pub fn message(alloc: Global, name: &[u8]) -> Result<Vec<u8>, Trouble> {
-    match text_of(name)? {
-        "Memory" => said(alloc, &Memory),
-        "Failed" => said(alloc, &Failed),
-        "Bad" => said(alloc, &NameError::Bad),
-        _ => Err(Trouble::Line("no such error")),
+pub fn message(name: &[u8], lines: &mut Lines) {
+    match name {
+        b"Memory" => put_error(&Memory, lines),
+        b"Failed" => put_error(&Failed, lines),
+        b"Bad" => put_error(&NameError::Bad, lines),
+        _ => lines.fail(Trouble::Line("no such error")),
     }
 }

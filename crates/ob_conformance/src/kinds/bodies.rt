@@ -14,7 +14,7 @@ fn put_about(lines: &mut Lines, word: &str, span: Span, seen: SeenAt) {
 
 fn put_operator(lines: &mut Lines, word: &str, span: Span, operator: Operator, sign: Span) {
     lines.begin_at(word, span);
-    lines.put_operator(operator);
+    lines.name(&operator);
     lines.put_at(sign);
     lines.end();
 }
@@ -44,7 +44,7 @@ fn put_literal(lines: &mut Lines, expr: &ResolvedExpr) {
         ResolvedExpr::Number { value, span } => {
             lines.begin_at("Number", *span);
             lines.put(" ");
-            lines.put_number(*value);
+            lines.show(value);
             lines.end();
         }
         ResolvedExpr::Text { value, span } => {

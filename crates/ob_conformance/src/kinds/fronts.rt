@@ -1,17 +1,13 @@
 //! The fronts of a program's tokens, and the program with one token changed.
 use crate::kinds::lines::Lines;
 use crate::trouble::Trouble;
-use ob_base::{EXPECTED, ProgramFault, Span};
+use ob_base::{Duplicate, EXPECTED, ProgramFault, Span};
 use ob_lexer::{Lexed, Token, TokenKind, Word, lex};
 use ob_parser::{ParseError, parse};
 use std::alloc::Global;
 
-fn lexed_of(alloc: Global, text: &[u8]) -> Result<Lexed, Trouble> {
-    match lex(alloc, text) {
-        Ok(lexed) => Ok(lexed),
-        Err(_) => Err(Trouble::Line("no tokens")),
-    }
-}
+/// What is said of a text that has no tokens.
+const NO_TOKENS: Trouble = Trouble::Line("no tokens");
 
 fn is_expected_at(alloc: Global, tokens: &[Token], end: Span, place: Span) -> bool {
     let fault = ProgramFault {
@@ -31,10 +27,9 @@ fn is_refused_front(alloc: Global, lexed: &Lexed, count: usize) -> bool {
 }
 
 // Whether with `while`, which stands nowhere, in the place of a token, that token is refused.
-fn is_refused_change(alloc: Global, text: &[u8], at: usize) -> Result<bool, Trouble> {
-    let mut lexed = lexed_of(alloc, text)?;
+fn is_refused_change(alloc: Global, mut lexed: Lexed, at: usize) -> bool {
     if at >= lexed.tokens.len() {
-        return Ok(false);
+        return false;
     }
     let span = Span {
         start: 7,
@@ -44,53 +39,63 @@ fn is_refused_change(alloc: Global, text: &[u8], at: usize) -> Result<bool, Trou
     };
     let kind = TokenKind::Word(Word::While);
     lexed.tokens.set(at, Token { kind, span });
-    Ok(is_expected_at(alloc, lexed.tokens.as_slice(), lexed.end, span))
+    is_expected_at(alloc, lexed.tokens.as_slice(), lexed.end, span)
 }
 
 // Whether a token counts: with another in its place it is refused, and the tokens before it are refused at their end.
-fn counts(alloc: Global, text: &[u8], lexed: &Lexed, at: usize) -> Result<bool, Trouble> {
+fn counts(alloc: Global, lexed: &Lexed, at: usize, lines: &mut Lines) -> bool {
     if at > 0 && !is_refused_front(alloc, lexed, at) {
-        return Ok(false);
+        return false;
     }
-    is_refused_change(alloc, text, at)
+    match lines.made(lexed.copy(alloc)) {
+        Some(copy) => is_refused_change(alloc, copy, at),
+        None => false,
+    }
 }
 
 // The numbers of the tokens that don't count, or that each does.
-fn counting(alloc: Global, text: &[u8], lexed: &Lexed) -> Result<Vec<u8>, Trouble> {
-    let mut lines = Lines::new(alloc);
+fn put_counting(alloc: Global, lexed: &Lexed, lines: &mut Lines) {
     for at in 0..lexed.tokens.len() {
-        if !counts(alloc, text, lexed, at)? {
+        if !counts(alloc, lexed, at, lines) {
             lines.put_count("", at);
             lines.put(" ");
         }
     }
     lines.put(if lines.is_empty() {
-        "each token counts"
+        "each token counts\n"
     } else {
-        "do not count"
+        "do not count\n"
     });
-    lines.end();
-    lines.into_bytes()
 }
 
 /// `each token counts`, or the numbers of those that don't; `refused`, where the text is no program.
-pub fn whole(alloc: Global, text: &[u8]) -> Result<Vec<u8>, Trouble> {
-    let lexed = lexed_of(alloc, text)?;
-    if parse(alloc, lexed.tokens.as_slice(), lexed.end).is_err() {
-        return Ok(b"refused\n".to_vec(alloc)?);
+pub fn whole(alloc: Global, text: &[u8], lines: &mut Lines) {
+    match lex(alloc, text) {
+        Ok(lexed) => {
+            if parse(alloc, lexed.tokens.as_slice(), lexed.end).is_ok() {
+                put_counting(alloc, &lexed, lines);
+            } else {
+                lines.put("refused\n");
+            }
+        }
+        Err(_) => lines.fail(NO_TOKENS),
     }
-    counting(alloc, text, &lexed)
 }
 
-/// How many tokens the fronts have that are programs. Each other front is refused at its end.
-pub fn fronts(alloc: Global, text: &[u8]) -> Result<Vec<u8>, Trouble> {
-    let lexed = lexed_of(alloc, text)?;
-    let mut lines = Lines::new(alloc);
+// The numbers of tokens of the fronts that are programs.
+fn put_fronts(alloc: Global, lexed: &Lexed, lines: &mut Lines) {
     for count in 0..=lexed.tokens.len() {
-        if !is_refused_front(alloc, &lexed, count) {
+        if !is_refused_front(alloc, lexed, count) {
             lines.put_count(if lines.is_empty() { "" } else { " " }, count);
         }
     }
     lines.end();
-    lines.into_bytes()
+}
+
+/// How many tokens the fronts have that are programs. Each other front is refused at its end.
+pub fn fronts(alloc: Global, text: &[u8], lines: &mut Lines) {
+    match lex(alloc, text) {
+        Ok(lexed) => put_fronts(alloc, &lexed, lines),
+        Err(_) => lines.fail(NO_TOKENS),
+    }
 }

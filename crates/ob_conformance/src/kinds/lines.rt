@@ -1,11 +1,11 @@
 //! Lines in which answers are shown, and their parts.
 use crate::kinds::tokens::text_of;
 use crate::trouble::Trouble;
-use ob_base::{ContractId, Mode, NO_STATE_BIT, OTHER_STATE_BIT, Operator, Perm, Span};
-use ob_lexer::{Sign, Word};
+use ob_base::{ContractId, Memory, Mode, NO_STATE_BIT, OTHER_STATE_BIT, Perm, Span};
 use ob_run::Exit;
 use ob_table::{Kind, LocalKind, Seen, SeenAt};
 use std::alloc::Global;
+use std::fmt::{Debug, Display};
 
 // How many bits a set of states has.
 const ALL_BITS: usize = 34;
@@ -28,8 +28,8 @@ impl Lines {
         }
     }
 
-    // Notes why a part can't be shown. The first reason counts.
-    fn fail(&mut self, trouble: Trouble) {
+    /// Notes why a part can't be shown. The first reason counts.
+    pub fn fail(&mut self, trouble: Trouble) {
         if self.trouble.is_none() {
             self.trouble = Some(trouble);
         }
@@ -43,9 +43,21 @@ impl Lines {
         }
     }
 
+    /// What was shown so far.
+    pub fn text(&self) -> &str {
+        self.text.as_str()
+    }
+
     /// Whether nothing was shown yet.
     pub fn is_empty(&self) -> bool {
         self.text.is_empty()
+    }
+
+    /// Notes why a part of other lines couldn't be shown.
+    pub fn note(&mut self, others: &Lines) {
+        if let Some(trouble) = others.trouble {
+            self.fail(trouble);
+        }
     }
 
     /// The lines from here on stand one level deeper.
@@ -65,32 +77,41 @@ impl Lines {
         }
     }
 
-    /// Puts a number.
-    pub fn put_number(&mut self, number: i64) {
-        if write!(self.text, "{number}").is_err() {
+    /// What was made, unless memory ran out, which is noted.
+    pub fn made<T: Drop>(&mut self, made: Result<T, Memory>) -> Option<T> {
+        match made {
+            Ok(made) => Some(made),
+            Err(Memory) => {
+                self.fail(Trouble::Memory);
+                None
+            }
+        }
+    }
+
+    /// Puts a value as it is displayed.
+    pub fn show<T: Display>(&mut self, value: &T) {
+        if write!(self.text, "{value}").is_err() {
             self.fail(Trouble::Memory);
         }
     }
 
-    /// Puts a number that may be above those of the language.
-    pub fn put_big(&mut self, number: u64) {
-        if write!(self.text, "{number}").is_err() {
+    /// Puts the name of a value, behind a blank; a text in quotes.
+    pub fn name<T: Debug>(&mut self, value: &T) {
+        if write!(self.text, " {value:?}").is_err() {
             self.fail(Trouble::Memory);
         }
     }
 
     /// The status of a run's end, and its name.
     pub fn put_exit(&mut self, exit: Exit) {
-        let status = exit.status();
-        if write!(self.text, "{status} {exit:?}").is_err() {
-            self.fail(Trouble::Memory);
-        }
+        self.show(&exit.status());
+        self.name(&exit);
     }
 
     /// Puts a word, and a number right behind it.
     pub fn put_with(&mut self, word: &str, number: u32) {
         self.put(word);
-        self.put_number(i64::from(number));
+        self.show(&number);
     }
 
     /// Puts a word, and behind a blank the number of what it speaks of, or `none`.
@@ -111,40 +132,13 @@ impl Lines {
     /// Puts a word, and a count right behind it.
     pub fn put_count(&mut self, word: &str, count: usize) {
         self.put(word);
-        if write!(self.text, "{count}").is_err() {
-            self.fail(Trouble::Memory);
-        }
-    }
-
-    /// The name of an operator, behind a blank.
-    pub fn put_operator(&mut self, operator: Operator) {
-        if write!(self.text, " {operator:?}").is_err() {
-            self.fail(Trouble::Memory);
-        }
-    }
-
-    /// The name of a word of the language, behind a blank.
-    pub fn put_word(&mut self, word: Word) {
-        if write!(self.text, " {word:?}").is_err() {
-            self.fail(Trouble::Memory);
-        }
-    }
-
-    /// The name of a sign, behind a blank.
-    pub fn put_sign(&mut self, sign: Sign) {
-        if write!(self.text, " {sign:?}").is_err() {
-            self.fail(Trouble::Memory);
-        }
+        self.show(&count);
     }
 
     /// Bytes that are a text, in quotes, behind a blank.
     pub fn put_quoted(&mut self, bytes: &[u8]) {
         match text_of(bytes) {
-            Ok(text) => {
-                if write!(self.text, " {text:?}").is_err() {
-                    self.fail(Trouble::Memory);
-                }
-            }
+            Ok(text) => self.name(&text),
             Err(trouble) => self.fail(trouble),
         }
     }

@@ -154,25 +154,32 @@ fn put_end(lines: &mut Lines, ended: &Ended) {
     lines.put_exit(ended.exit);
     if !is_well(ended) {
         lines.put(", calls that failed: ");
-        lines.put_big(ended.faults);
+        lines.show(&ended.faults);
         lines.put(", bytes that weren't read: ");
         lines.put_count("", ended.unread.unwrap_or(0));
     }
 }
 
 // The end, and then what was written.
-fn show(alloc: Global, ended: Ended) -> Result<Vec<u8>, Trouble> {
-    let mut lines = Lines::new(alloc);
-    put_end(&mut lines, &ended);
+fn put_ended(lines: &mut Lines, ended: &Ended) {
+    put_end(lines, ended);
     lines.end();
     match &ended.output {
         Some(bytes) => lines.put_text(bytes),
         None => lines.put("untold\n"),
     }
-    lines.into_bytes()
 }
 
-fn run_given(alloc: Global, given: Given, outside: Outside) -> Result<Ended, Trouble> {
+// What a run of a case over this input is handed.
+fn given_by(alloc: Global, case: &Case, input: &[u8]) -> Result<Given, Trouble> {
+    let words = text_of(case.part("words"))?;
+    given_of(alloc, words, case.part("text"), input)
+}
+
+// The run of a case over this input, where the outside does this.
+fn run_in(alloc: Global, case: &Case, input: &[u8], outside: &[u8]) -> Result<Ended, Trouble> {
+    let outside = Outside::of(alloc, text_of(outside)?)?;
+    let given = given_by(alloc, case, input)?;
     if outside.is_sure {
         run_sure(alloc, given, outside.room)
     } else {
@@ -180,35 +187,12 @@ fn run_given(alloc: Global, given: Given, outside: Outside) -> Result<Ended, Tro
     }
 }
 
-// What a run of a case over this input is handed.
-fn given_by(alloc: Global, case: &Case, input: &[u8]) -> Result<Given, Trouble> {
-    given_of(
-        alloc,
-        text_of(case.part("words"))?,
-        case.part("text"),
-        input,
-    )
-}
-
-// The run of a case over this input, where the outside does this.
-fn run_in(alloc: Global, case: &Case, input: &[u8], outside: &[u8]) -> Result<Ended, Trouble> {
-    let given = given_by(alloc, case, input)?;
-    let outside = Outside::of(alloc, text_of(outside)?)?;
-    run_given(alloc, given, outside)
-}
-
 /// What a whole run over this input comes to: a line with its status, and then what it writes.
-pub fn whole_run(alloc: Global, case: &Case, input: &[u8]) -> Result<Vec<u8>, Trouble> {
-    show(alloc, run_in(alloc, case, input, case.part("given"))?)
-}
-
-/// What is expected of a whole run that writes this: the status, `0 Done` where none is named, and then the output.
-pub fn wanted(alloc: Global, case: &Case, output: &[u8]) -> Result<Vec<u8>, Trouble> {
-    let status = case.parts.find("status").unwrap_or(b"0 Done");
-    let mut wanted = status.to_vec(alloc)?;
-    wanted.push(b'\n')?;
-    wanted.extend_from_slice(output)?;
-    Ok(wanted)
+pub fn whole_run(alloc: Global, case: &Case, input: &[u8], lines: &mut Lines) {
+    match run_in(alloc, case, input, case.part("given")) {
+        Ok(ended) => put_ended(lines, &ended),
+        Err(trouble) => lines.fail(trouble),
+    }
 }
 
 // How many lines there are, where they are the first ones of a text.
@@ -229,59 +213,75 @@ fn put_lines_in(lines: &mut Lines, front: &[u8], whole: &[u8]) {
 }
 
 // How a run ended, and how many lines it wrote of those that the whole one did.
-fn cut_line(alloc: Global, ended: &Ended, whole: &Ended) -> Result<Vec<u8>, Trouble> {
-    let mut lines = Lines::new(alloc);
-    put_end(&mut lines, ended);
+fn put_cut(lines: &mut Lines, ended: &Ended, whole: &Ended) {
+    put_end(lines, ended);
     match (&ended.output, &whole.output) {
-        (Some(front), Some(whole)) => put_lines_in(&mut lines, front, whole),
+        (Some(front), Some(whole)) => put_lines_in(lines, front, whole),
         _ => lines.put(", untold"),
     }
     lines.end();
-    lines.into_bytes()
+}
+
+// The run of a case over this input, where nothing fails.
+fn run_whole(alloc: Global, case: &Case, input: &[u8]) -> Result<Ended, Trouble> {
+    run_sure(alloc, given_by(alloc, case, input)?, AMPLE)
 }
 
 /// How a run ends where the outside does this, and how many lines it writes of those that it writes where nothing fails.
-pub fn cut_run(alloc: Global, case: &Case, outside: &[u8]) -> Result<Vec<u8>, Trouble> {
+pub fn cut_run(alloc: Global, case: &Case, outside: &[u8], lines: &mut Lines) {
     let input = case.part("input");
-    let whole = run_sure(alloc, given_by(alloc, case, input)?, AMPLE)?;
-    let ended = run_in(alloc, case, input, outside)?;
-    cut_line(alloc, &ended, &whole)
-}
-
-// Whether a run is done where it wrote this, and refuses where it wrote something else.
-fn ends_so(ended: &Ended, done: &[u8]) -> bool {
-    let exit = ended.exit;
-    match &ended.output {
-        Some(bytes) if bytes.as_slice() == done => exit == Exit::Done,
-        Some(_) => exit == Exit::Refused,
-        None => false,
+    match (
+        run_in(alloc, case, input, outside),
+        run_whole(alloc, case, input),
+    ) {
+        (Ok(ended), Ok(whole)) => put_cut(lines, &ended, &whole),
+        (Err(trouble), _) | (_, Err(trouble)) => lines.fail(trouble),
     }
 }
 
 // What a run writes that is done, where it writes this, or else refuses; or all that it comes to.
-fn said(alloc: Global, ended: Ended, done: &[u8]) -> Result<Vec<u8>, Trouble> {
-    if !ends_so(&ended, done) || !is_well(&ended) {
-        return show(alloc, ended);
+fn put_said(lines: &mut Lines, ended: &Ended, done: &[u8]) {
+    match &ended.output {
+        Some(bytes) if ended.exit == end_of(bytes, done) && is_well(ended) => lines.put_text(bytes),
+        _ => put_ended(lines, ended),
     }
-    Ok(ended.output.unwrap_or(Vec::new(alloc)))
+}
+
+// How a run ends that writes these bytes, where it is done if it writes those.
+fn end_of(bytes: &[u8], done: &[u8]) -> Exit {
+    if bytes == done {
+        Exit::Done
+    } else {
+        Exit::Refused
+    }
+}
+
+// The run of a command over a text and an input, where nothing fails.
+fn run_command(alloc: Global, words: &str, text: &[u8], input: &[u8]) -> Result<Ended, Trouble> {
+    run_failing(
+        alloc,
+        given_of(alloc, words, text, input)?,
+        Outside::new(alloc),
+    )
 }
 
 /// What `check` writes of a text.
-pub fn check(alloc: Global, text: &[u8]) -> Result<Vec<u8>, Trouble> {
-    let given = given_of(alloc, "check p", text, b"{\n")?;
-    let ended = run_failing(alloc, given, Outside::new(alloc))?;
-    said(alloc, ended, b"accepted\n")
+pub fn check(alloc: Global, text: &[u8], lines: &mut Lines) {
+    match run_command(alloc, "check p", text, b"{\n") {
+        Ok(ended) => put_said(lines, &ended, b"accepted\n"),
+        Err(trouble) => lines.fail(trouble),
+    }
 }
 
 /// The line of the fault that `serve` tells of a text, or `served`.
-pub fn serve(alloc: Global, text: &[u8]) -> Result<Vec<u8>, Trouble> {
-    let given = given_of(alloc, "serve p", text, b"")?;
-    let ended = run_failing(alloc, given, Outside::new(alloc))?;
-    let mut said = said(alloc, ended, b"")?;
-    if said.is_empty() {
-        said.extend_from_slice(b"served\n")?;
+pub fn serve(alloc: Global, text: &[u8], lines: &mut Lines) {
+    match run_command(alloc, "serve p", text, b"") {
+        Ok(ended) => put_said(lines, &ended, b""),
+        Err(trouble) => lines.fail(trouble),
     }
-    Ok(said)
+    if lines.is_empty() {
+        lines.put("served\n");
+    }
 }
 
 // Whether a newline ends the bytes, and none stands before it.
@@ -290,14 +290,14 @@ fn is_one_line(bytes: &[u8]) -> bool {
 }
 
 /// `one line each`, where `check` writes one line of each front of a text's bytes; or else what it writes of the first other.
-pub fn cuts(alloc: Global, text: &[u8]) -> Result<Vec<u8>, Trouble> {
-    let mut cut = Vec::new(alloc);
-    for byte in text {
-        cut.push(*byte)?;
-        let said = check(alloc, &cut)?;
-        if !is_one_line(&said) {
-            return Ok(said);
+pub fn cuts(alloc: Global, text: &[u8], lines: &mut Lines) {
+    for end in 1..=text.len() {
+        let mut said = Lines::new(alloc);
+        check(alloc, &text[..end], &mut said);
+        lines.note(&said);
+        if !is_one_line(said.text().as_bytes()) {
+            return lines.put(said.text());
         }
     }
-    Ok(b"one line each\n".to_vec(alloc)?)
+    lines.put("one line each\n");
 }

@@ -1,10 +1,9 @@
 //! The class table of a text, as lines.
 use crate::kinds::bodies::put_body;
 use crate::kinds::lines::Lines;
-use crate::kinds::tokens::fault_bytes;
-use crate::trouble::Trouble;
+use crate::kinds::tokens::put_error;
 use ob_base::{Duplicate, Name, Perm, TxId};
-use ob_front::{CompileError, class_table};
+use ob_front::class_table;
 use ob_table::{Contract, Field, Kind, Listed, Param, Signature, Table};
 use std::alloc::Global;
 
@@ -125,29 +124,23 @@ fn put_contract(lines: &mut Lines, number: usize, contract: &Contract) {
 }
 
 // All contracts, and then all bodies.
-fn table_lines(alloc: Global, table: &Table) -> Result<Vec<u8>, Trouble> {
-    let mut lines = Lines::new(alloc);
+fn put_table(lines: &mut Lines, table: &Table) {
     for (number, contract) in table.contracts().iter().enumerate() {
-        put_contract(&mut lines, number, contract);
+        put_contract(lines, number, contract);
     }
     for body in table.bodies() {
-        put_body(&mut lines, body);
+        put_body(lines, body);
     }
-    lines.into_bytes()
-}
-
-// The lines of a copy of the table.
-fn copy_lines(alloc: Global, table: Table) -> Result<Vec<u8>, Trouble> {
-    let copy = table.copy(alloc)?;
-    drop(table);
-    table_lines(alloc, &copy)
 }
 
 /// The class table of a text, from a copy of it, or the text's fault.
-pub fn table(alloc: Global, text: &[u8]) -> Result<Vec<u8>, Trouble> {
+pub fn table(alloc: Global, text: &[u8], lines: &mut Lines) {
     match class_table(alloc, text) {
-        Ok(table) => copy_lines(alloc, table),
-        Err(CompileError::Fault(fault)) => fault_bytes(alloc, fault),
-        Err(CompileError::Memory) => Err(Trouble::Memory),
+        Ok(table) => {
+            if let Some(copy) = lines.made(table.copy(alloc)) {
+                put_table(lines, &copy);
+            }
+        }
+        Err(error) => put_error(alloc, error, lines),
     }
 }

@@ -1,9 +1,8 @@
 //! The terms of a text's bodies, as lines.
 use crate::kinds::lines::Lines;
-use crate::kinds::tokens::fault_bytes;
-use crate::trouble::Trouble;
+use crate::kinds::tokens::put_error;
 use ob_base::{ContractId, Duplicate, FieldId, Operator, StateId, TxId};
-use ob_front::{CompileError, Compiled, lowered};
+use ob_front::{Compiled, lowered};
 use ob_silica::{Constant, Form, Given, Operand, Place, Term, TermBody};
 use std::alloc::Global;
 
@@ -73,7 +72,7 @@ fn put_constant(lines: &mut Lines, value: &Constant) {
     match value {
         Constant::Int(value) => {
             lines.put(" Int ");
-            lines.put_number(*value);
+            lines.show(value);
         }
         Constant::Bool(value) => lines.put_truth(" Bool ", *value),
         Constant::Text(value) => {
@@ -84,7 +83,7 @@ fn put_constant(lines: &mut Lines, value: &Constant) {
 }
 
 fn put_operation(lines: &mut Lines, operator: Operator, a: Operand, b: Operand, line: u32) {
-    lines.put_operator(operator);
+    lines.name(&operator);
     put_operand(lines, a);
     put_operand(lines, b);
     lines.put_with(" line ", line);
@@ -267,22 +266,20 @@ fn put_body(lines: &mut Lines, body: &TermBody) {
     put_terms(body.terms.as_slice(), lines);
 }
 
-// The lines of a copy of the bodies.
-fn copy_lines(alloc: Global, program: Compiled) -> Result<Vec<u8>, Trouble> {
-    let copy = program.copy(alloc)?;
-    drop(program);
-    let mut lines = Lines::new(alloc);
-    for body in copy.bodies.as_slice() {
-        put_body(&mut lines, body);
+fn put_bodies(lines: &mut Lines, program: &Compiled) {
+    for body in program.bodies.as_slice() {
+        put_body(lines, body);
     }
-    lines.into_bytes()
 }
 
 /// The terms of a text's bodies, from a copy of them, or the text's fault.
-pub fn terms(alloc: Global, text: &[u8]) -> Result<Vec<u8>, Trouble> {
+pub fn terms(alloc: Global, text: &[u8], lines: &mut Lines) {
     match lowered(alloc, text) {
-        Ok(program) => copy_lines(alloc, program),
-        Err(CompileError::Fault(fault)) => fault_bytes(alloc, fault),
-        Err(CompileError::Memory) => Err(Trouble::Memory),
+        Ok(program) => {
+            if let Some(copy) = lines.made(program.copy(alloc)) {
+                put_bodies(lines, &copy);
+            }
+        }
+        Err(error) => put_error(alloc, error, lines),
     }
 }

@@ -2,13 +2,24 @@
 use crate::kinds::lines::Lines;
 use crate::trouble::Trouble;
 use ob_base::{Duplicate, ProgramFault, Span};
+use ob_front::CompileError;
 use ob_lexer::{LexError, Lexed, TokenKind, lex};
 use ob_run::fault_line;
 use std::alloc::Global;
 
-/// The line of a fault.
-pub fn fault_bytes(alloc: Global, fault: ProgramFault) -> Result<Vec<u8>, Trouble> {
-    Ok(fault_line(alloc, fault)?.into_bytes())
+/// Puts the line of a fault.
+pub fn put_fault(alloc: Global, fault: ProgramFault, lines: &mut Lines) {
+    if let Some(line) = lines.made(fault_line(alloc, fault)) {
+        lines.put(line.as_str());
+    }
+}
+
+/// Puts why a text has no program.
+pub fn put_error(alloc: Global, error: CompileError, lines: &mut Lines) {
+    match error {
+        CompileError::Fault(fault) => put_fault(alloc, fault, lines),
+        CompileError::Memory => lines.fail(Trouble::Memory),
+    }
 }
 
 fn put_place(lines: &mut Lines, span: Span) {
@@ -31,7 +42,7 @@ fn put_kind(lines: &mut Lines, kind: &TokenKind) {
         }
         TokenKind::Number(number) => {
             lines.put("Number ");
-            lines.put_number(*number);
+            lines.show(number);
         }
         TokenKind::Text(text) => {
             lines.put("Text");
@@ -39,38 +50,36 @@ fn put_kind(lines: &mut Lines, kind: &TokenKind) {
         }
         TokenKind::Word(word) => {
             lines.put("Word");
-            lines.put_word(*word);
+            lines.name(word);
         }
         TokenKind::Sign(sign) => {
             lines.put("Sign");
-            lines.put_sign(*sign);
+            lines.name(sign);
         }
     }
     lines.put("; ");
 }
 
-fn tokens_line(alloc: Global, lexed: &Lexed) -> Result<Vec<u8>, Trouble> {
-    let mut lines = Lines::new(alloc);
+fn put_tokens(lines: &mut Lines, lexed: &Lexed) {
     for token in lexed.tokens.as_slice() {
-        put_place(&mut lines, token.span);
-        put_kind(&mut lines, &token.kind);
+        put_place(lines, token.span);
+        put_kind(lines, &token.kind);
     }
-    put_place(&mut lines, lexed.end);
+    put_place(lines, lexed.end);
     lines.put("end");
     lines.end();
-    lines.into_bytes()
 }
 
 /// The tokens of a text, from a copy of them, or its fault: `LINE:COLUMN START..END KIND`, and between two `; `. The end stands
 /// behind them.
-pub fn tokens(alloc: Global, text: &[u8]) -> Result<Vec<u8>, Trouble> {
+pub fn tokens(alloc: Global, text: &[u8], lines: &mut Lines) {
     match lex(alloc, text) {
         Ok(lexed) => {
-            let copy = lexed.copy(alloc)?;
-            drop(lexed);
-            tokens_line(alloc, &copy)
+            if let Some(copy) = lines.made(lexed.copy(alloc)) {
+                put_tokens(lines, &copy);
+            }
         }
-        Err(LexError::Fault(fault)) => fault_bytes(alloc, fault),
-        Err(LexError::Memory) => Err(Trouble::Memory),
+        Err(LexError::Fault(fault)) => put_fault(alloc, fault, lines),
+        Err(LexError::Memory) => lines.fail(Trouble::Memory),
     }
 }

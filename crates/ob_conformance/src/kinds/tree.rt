@@ -1,76 +1,78 @@
 //! The tree of a text, and the program that it resolves to.
-use crate::kinds::tokens::fault_bytes;
+use crate::kinds::lines::Lines;
+use crate::kinds::tokens::put_error;
 use crate::trouble::Trouble;
 use ob_base::{Duplicate, copy_option};
-use ob_front::{CompileError, syntax_tree};
+use ob_front::syntax_tree;
 use ob_layout::print;
 use ob_machine::Plain;
 use ob_plain::compile_plain;
 use ob_tree::Tree;
 use std::alloc::Global;
+use std::fmt::Debug;
 
 // The layout of a copy of the tree.
-fn print_copy(alloc: Global, tree: Tree) -> Result<Vec<u8>, Trouble> {
-    let copy = tree.copy(alloc)?;
-    drop(tree);
-    Ok(print(alloc, &copy)?.into_bytes())
+fn put_layout(alloc: Global, tree: &Tree, lines: &mut Lines) {
+    if let Some(copy) = lines.made(tree.copy(alloc)) {
+        if let Some(text) = lines.made(print(alloc, &copy)) {
+            lines.put(text.as_str());
+        }
+    }
 }
 
 /// The canonical layout of a text, or its fault.
-pub fn layout(alloc: Global, text: &[u8]) -> Result<Vec<u8>, Trouble> {
+pub fn layout(alloc: Global, text: &[u8], lines: &mut Lines) {
     match syntax_tree(alloc, text) {
-        Ok(tree) => print_copy(alloc, tree),
-        Err(CompileError::Fault(fault)) => fault_bytes(alloc, fault),
-        Err(CompileError::Memory) => Err(Trouble::Memory),
+        Ok(tree) => put_layout(alloc, &tree, lines),
+        Err(error) => put_error(alloc, error, lines),
     }
 }
 
 /// `the same`, where the layout of a text is laid out as itself; or else what it is laid out as.
-pub fn again(alloc: Global, text: &[u8]) -> Result<Vec<u8>, Trouble> {
-    let once = layout(alloc, text)?;
-    let again = layout(alloc, &once)?;
-    if again != once {
-        return Ok(again);
+pub fn again(alloc: Global, text: &[u8], lines: &mut Lines) {
+    let mut once = Lines::new(alloc);
+    layout(alloc, text, &mut once);
+    let mut again = Lines::new(alloc);
+    layout(alloc, once.text().as_bytes(), &mut again);
+    lines.note(&once);
+    lines.note(&again);
+    if once.text() == again.text() {
+        lines.put("the same\n");
+    } else {
+        lines.put(again.text());
     }
-    Ok(b"the same\n".to_vec(alloc)?)
 }
 
-// `shown`, where what is shown has the part; or else all that is shown.
-fn shown_part(alloc: Global, shown: String, part: &[u8]) -> Result<Vec<u8>, Trouble> {
+// `shown`, where what a value shows of itself has the part; or else all that it shows.
+fn put_shown<T: Debug>(alloc: Global, value: &T, part: &[u8], lines: &mut Lines) {
+    let Ok(shown) = format!(in alloc; "{value:?}\n") else {
+        return lines.fail(Trouble::Memory);
+    };
     match str::from_utf8(part) {
-        Ok(part) if !part.is_empty() && shown.contains(part) => Ok(b"shown\n".to_vec(alloc)?),
-        _ => Ok(shown.into_bytes()),
+        Ok(part) if !part.is_empty() && shown.contains(part) => lines.put("shown\n"),
+        _ => lines.put(shown.as_str()),
     }
-}
-
-// `shown`, where the tree shows this part; or else the whole tree.
-fn shown_tree(alloc: Global, tree: &Tree, part: &[u8]) -> Result<Vec<u8>, Trouble> {
-    let shown = format!(in alloc; "{tree:?}\n")?;
-    shown_part(alloc, shown, part)
 }
 
 /// `shown`, where the tree of a text shows this part; or else the whole tree, or the fault.
-pub fn tree(alloc: Global, text: &[u8], part: &[u8]) -> Result<Vec<u8>, Trouble> {
+pub fn tree(alloc: Global, text: &[u8], part: &[u8], lines: &mut Lines) {
     match syntax_tree(alloc, text) {
-        Ok(tree) => shown_tree(alloc, &tree, part),
-        Err(CompileError::Fault(fault)) => fault_bytes(alloc, fault),
-        Err(CompileError::Memory) => Err(Trouble::Memory),
+        Ok(tree) => put_shown(alloc, &tree, part, lines),
+        Err(error) => put_error(alloc, error, lines),
     }
 }
 
 // `shown`, where a copy of the program shows this part; or else the whole copy.
-fn shown_plain(alloc: Global, program: Option<Plain>, part: &[u8]) -> Result<Vec<u8>, Trouble> {
-    let copy = copy_option(alloc, &program)?;
-    drop(program);
-    let shown = format!(in alloc; "{copy:?}\n")?;
-    shown_part(alloc, shown, part)
+fn put_plain(alloc: Global, program: &Option<Plain>, part: &[u8], lines: &mut Lines) {
+    if let Some(copy) = lines.made(copy_option(alloc, program)) {
+        put_shown(alloc, &copy, part, lines);
+    }
 }
 
 /// `shown`, where the program that a text resolves to shows this part; or else the whole program, or the fault.
-pub fn plain(alloc: Global, text: &[u8], part: &[u8]) -> Result<Vec<u8>, Trouble> {
+pub fn plain(alloc: Global, text: &[u8], part: &[u8], lines: &mut Lines) {
     match compile_plain(alloc, text) {
-        Ok(program) => shown_plain(alloc, program, part),
-        Err(CompileError::Fault(fault)) => fault_bytes(alloc, fault),
-        Err(CompileError::Memory) => Err(Trouble::Memory),
+        Ok(program) => put_plain(alloc, &program, part, lines),
+        Err(error) => put_error(alloc, error, lines),
     }
 }

@@ -15,7 +15,7 @@ fn put_label(lines: &mut Lines, label: &Label) {
 fn put_args(lines: &mut Lines, args: &[i64]) {
     for (at, arg) in args.iter().enumerate() {
         lines.put(if at == 0 { "" } else { ", " });
-        lines.put_number(*arg);
+        lines.show(arg);
     }
 }
 
@@ -38,30 +38,25 @@ fn put_op(lines: &mut Lines, op: &Op) {
     }
 }
 
-fn request_line(alloc: Global, request: &Request) -> Result<Vec<u8>, Trouble> {
-    let mut lines = Lines::new(alloc);
-    lines.put_number(request.id);
+fn put_request(lines: &mut Lines, request: &Request) {
+    lines.show(&request.id);
     lines.put(" ");
-    put_label(&mut lines, &request.who);
+    put_label(lines, &request.who);
     lines.put(": ");
-    put_op(&mut lines, &request.op);
+    put_op(lines, &request.op);
     lines.end();
-    lines.into_bytes()
-}
-
-// The line of a copy of the request.
-fn copy_line(alloc: Global, request: Request) -> Result<Vec<u8>, Trouble> {
-    let copy = request.copy(alloc)?;
-    drop(request);
-    request_line(alloc, &copy)
 }
 
 /// The request that a line asks, from a copy of it: `ID CLIENT: new CONTRACT into NAME`, `ID CLIENT: NAME.TRANSACTION(ARGUMENTS)` or `none`.
-pub fn request(alloc: Global, line: &[u8]) -> Result<Vec<u8>, Trouble> {
+pub fn request(alloc: Global, line: &[u8], lines: &mut Lines) {
     match read_request(alloc, line) {
-        Ok(request) => copy_line(alloc, request),
-        Err(WireError::NoRequest) => Ok(b"none\n".to_vec(alloc)?),
-        Err(WireError::Memory) => Err(Trouble::Memory),
+        Ok(request) => {
+            if let Some(copy) = lines.made(request.copy(alloc)) {
+                put_request(lines, &copy);
+            }
+        }
+        Err(WireError::NoRequest) => lines.put("none\n"),
+        Err(WireError::Memory) => lines.fail(Trouble::Memory),
     }
 }
 
@@ -88,8 +83,8 @@ fn answer_of(form: &str, digits: &str) -> Result<Answer, Trouble> {
     }
 }
 
-fn reply_of(text: &str) -> Result<Reply, Trouble> {
-    let (id, answer) = text.split_once(' ').ok_or(NO_REPLY)?;
+fn reply_of(text: &[u8]) -> Result<Reply, Trouble> {
+    let (id, answer) = text_of(text)?.split_once(' ').ok_or(NO_REPLY)?;
     let (form, digits) = answer.split_once(' ').unwrap_or((answer, ""));
     let answer = answer_of(form, digits)?;
     let id = match id {
@@ -100,7 +95,13 @@ fn reply_of(text: &str) -> Result<Reply, Trouble> {
 }
 
 /// The line of a reply: `ID object NUMBER`, `ID value NUMBER`, `ID overflow LINE`, `ID fuel`, `ID long` or `ID shape`.
-pub fn reply(alloc: Global, text: &[u8]) -> Result<Vec<u8>, Trouble> {
-    let reply = reply_of(text_of(text)?)?;
-    Ok(reply_bytes(alloc, reply)?)
+pub fn reply(alloc: Global, text: &[u8], lines: &mut Lines) {
+    match reply_of(text) {
+        Ok(reply) => {
+            if let Some(bytes) = lines.made(reply_bytes(alloc, reply)) {
+                lines.put_text(&bytes);
+            }
+        }
+        Err(trouble) => lines.fail(trouble),
+    }
 }
