@@ -1,12 +1,12 @@
-//! The adapters over std, whose bytes no contract tells.
-use crate::{StdFiles, StdSink, StdSource};
+//! What no contract of the adapters tells: the bytes of std's files, and that a reader's fault isn't taken for the end.
+use crate::{StdFiles, StdSource};
 use ob_base::Failed;
-use ob_io::{FileError, Files, Source, write_all};
-use std::io::{Read, Write};
+use ob_io::{FileError, Files, Source};
+use std::io::Read;
 use std::test::Fail;
 use std::{fs, io};
 
-// A reader and writer that fails.
+// A reader that fails.
 #[derive(Drop)]
 struct Broken;
 
@@ -16,58 +16,11 @@ impl Read for Broken {
     }
 }
 
-impl Write for Broken {
-    fn write(&mut self, _: &[u8]) -> io::Result<usize> {
-        Err(io::Error::from(io::ErrorKind::NotFound))
-    }
-
-    fn flush(&mut self) -> io::Result<()> {
-        Ok(())
-    }
-}
-
-#[test]
-fn source_gives_what_the_reader_gives(rt: HostRuntime) -> Result<(), Fail> {
-    let mut source = StdSource::new(b"abc".as_slice());
-    let mut into = [0; 2];
-    assert_eq!(rt; source.read(&mut into), Ok(2));
-    assert_eq!(rt; into.as_slice(), b"ab".as_slice());
-    assert_eq!(rt; source.read(&mut into), Ok(1));
-    assert_eq!(rt; source.read(&mut into), Ok(0));
-    Ok(())
-}
-
 #[test]
 fn source_counts_a_fault_of_the_reader(rt: HostRuntime) -> Result<(), Fail> {
     let mut source = StdSource::new(Broken);
     assert_eq!(rt; source.read(&mut [0; 2]), Err(Failed));
     assert_eq!(rt; source.faults(), 1);
-    Ok(())
-}
-
-#[test]
-fn sink_writes_what_it_is_given(rt: HostRuntime) -> Result<(), Fail> {
-    let mut written = Vec::new(rt.alloc());
-    let mut sink = StdSink::new(&mut written);
-    assert_eq!(rt; write_all(&mut sink, b"abc"), Ok(()));
-    assert_eq!(rt; written.as_slice(), b"abc".as_slice());
-    Ok(())
-}
-
-#[test]
-fn sink_without_room_fails(rt: HostRuntime) -> Result<(), Fail> {
-    let mut room = [0; 2];
-    let mut sink = StdSink::new(room.as_mut_slice());
-    assert_eq!(rt; write_all(&mut sink, b"abc"), Err(Failed));
-    assert_eq!(rt; room.as_slice(), b"ab".as_slice());
-    Ok(())
-}
-
-#[test]
-fn sink_counts_a_fault_of_the_writer(rt: HostRuntime) -> Result<(), Fail> {
-    let mut sink = StdSink::new(Broken);
-    assert_eq!(rt; write_all(&mut sink, b"abc"), Err(Failed));
-    assert_eq!(rt; sink.faults(), 1);
     Ok(())
 }
 
