@@ -4,3 +4,5 @@ pub mod NamingLemmas
 pub mod FrameLemmas
 pub mod BeginningLemmas
 pub mod PremiseLemmas
+pub mod OnceLemmas
+pub mod ListLemmas

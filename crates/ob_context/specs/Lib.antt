@@ -1,3 +1,4 @@
 pub mod Checking
 pub mod View
 pub mod Small
+pub mod Parameters

@@ -12,8 +12,7 @@ ghost use Rattle.ob_flow.specs.Outcomes.{DerivesTo};
 
 use crate::branches::Flow;
 use ob_base::{ContractId, Operator, Perm, Span, StateId, TxId};
-use ob_context::{BodyFrame, Context, FlowError};
-use ob_giving::uses;
+use ob_context::{BodyFrame, Context, FlowError, uses};
 use ob_silica::{Constant, Given, Operand, Place};
 use ob_table::Signature;
 use std::alloc::Global;

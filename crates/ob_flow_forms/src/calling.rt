@@ -5,13 +5,15 @@ ghost use Rattle.ob_silica_rules.specs.Calling.{makes, made, all_reads, calls, c
 ghost use Rattle.ob_silica_rules.specs.Calling.{calls_this, called_this};
 ghost use Rattle.ob_context.specs.View.{context_of, tested_of};
 ghost use Rattle.ob_context.specs.Checking.{Leaves};
-ghost use Rattle.ob_giving.specs.View.{plain_parameters};
+ghost use Rattle.ob_context.specs.Parameters.{plain_parameters};
 ghost use Rattle.ob_flow_premises.specs.Calls.{enters};
 
 use ob_base::{ContractId, Span};
-use ob_context::{BodyFrame, Context, FlowError, known_as};
+use ob_context::{
+    BodyFrame, Context, FlowError, Parameter, all_operands, all_parameters, get_back_all, known_as,
+    parameters, put_result,
+};
 use ob_flow_premises::{call_with, enter, leave_fields, pass};
-use ob_giving::{Parameter, all_operands, all_parameters, get_back_all, parameters, put_result};
 use ob_silica::{Operand, Place};
 use ob_table::{Kind, Signature};
 use std::alloc::Global;

@@ -4,11 +4,10 @@ ghost use Rattle.ob_context.specs.View.{context_of, tested_of};
 ghost use Rattle.ob_context.specs.Checking.{Meets, Leaves};
 
 use ob_base::{Mode, Perm, Span};
-use ob_context::{BodyFrame, Context, FlowError};
+use ob_context::{BodyFrame, Context, FlowError, Parameter, give, uses};
 use ob_flow_premises::{
     all_let_go, end_tests, leaves_fields, leaves_params, leaves_this, sets_fields, still_own,
 };
-use ob_giving::{Parameter, give, uses};
 use ob_silica::{Operand, Place};
 use std::alloc::Global;
 

@@ -14,9 +14,8 @@ ghost use Rattle.ob_flow_forms.specs.Forms.{copied_kind};
 use ob_base::{
     ASSET_OVERWRITTEN, ContractId, FieldId, Memory, NOT_ACCESSIBLE, Operator, Span, UNDER_TEST,
 };
-use ob_context::{BodyFrame, Context, FlowError, Known, is_tested, kind_of, must};
+use ob_context::{BodyFrame, Context, FlowError, Known, fill, got, is_tested, kind_of, must};
 use ob_flow_premises::{copies, disowns, drops_slot, moves_to_slot, operates};
-use ob_giving::{fill, got};
 use ob_perm::{give, unowned};
 use ob_silica::{Constant, Operand, Place};
 use ob_table::LocalKind;

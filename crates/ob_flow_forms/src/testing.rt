@@ -12,9 +12,8 @@ ghost use Rattle.ob_context.specs.View.{context_of, tested_of};
 ghost use Rattle.ob_context.specs.Checking.{Meets, Leaves};
 
 use ob_base::{Mode, Perm, StateId, TEST_TWICE, TEST_UNOWNED, UNDER_TEST};
-use ob_context::{BodyFrame, Context, FlowError, is_tested, must};
+use ob_context::{BodyFrame, Context, FlowError, is_tested, must, uses};
 use ob_flow_premises::{is_owner, is_unowned};
-use ob_giving::uses;
 use ob_perm::{only, owned, shared, within, without};
 use ob_silica::{Operand, Place};
 

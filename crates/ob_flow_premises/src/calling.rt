@@ -6,7 +6,7 @@ ghost use Rattle.ob_silica_rules.specs.Calling.{enters_field, fields_left};
 ghost use Rattle.ob_silica_rules.specs.Binding.{reads_of, given_all, passed};
 ghost use Rattle.ob_context.specs.View.{known_of, known_at, context_of, tested_of};
 ghost use Rattle.ob_context.specs.Checking.{Meets, Leaves};
-ghost use Rattle.ob_giving.specs.View.{plain_parameters};
+ghost use Rattle.ob_context.specs.Parameters.{plain_parameters};
 ghost use Rattle.ob_flow_premises.specs.Calls.{field_after, fields_after, may_call, may_call_this};
 ghost use Rattle.ob_flow_premises.specs.Calls.{passes, calls_with, enters};
 
@@ -14,8 +14,10 @@ use crate::modes::room_for;
 use ob_base::{
     Duplicate, FIELD_MISMATCH, FieldId, Items, Memory, Span, THIS_IN_CONSTRUCTOR, UNDER_TEST,
 };
-use ob_context::{BodyFrame, Context, FlowError, Known, kind_of, must, tests_field};
-use ob_giving::{Parameter, each_once, get_back_all, give_all, keeps_fields, uses};
+use ob_context::{
+    BodyFrame, Context, FlowError, Known, Parameter, each_once, get_back_all, give_all,
+    keeps_fields, kind_of, must, tests_field, uses,
+};
 use ob_silica::{Operand, Place};
 use ob_table::Signature;
 use std::alloc::Global;

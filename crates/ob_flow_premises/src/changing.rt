@@ -22,8 +22,9 @@ use ob_base::{
     ASSET_LOST, ASSET_OVERWRITTEN, FIELD_MISMATCH, FieldId, Items, Memory, NOT_ACCESSIBLE, Span,
     StateId, UNDER_TEST, UNSET, USED_TWICE, VIEW_CHANGES,
 };
-use ob_context::{BodyFrame, Context, FlowError, Known, is_tested, known_as, must, same_place};
-use ob_giving::{fill, got};
+use ob_context::{
+    BodyFrame, Context, FlowError, Known, fill, got, is_tested, known_as, must, same_place,
+};
 use ob_perm::{contains, only, owned};
 use ob_silica::{Given, Place};
 use std::alloc::Global;

@@ -9,8 +9,7 @@ use crate::modes::is_owner;
 use ob_base::{
     ASSERT_FAILS, ASSET_LOST, ASSET_OVERWRITTEN, NOT_ACCESSIBLE, NOT_OWNING, Perm, Span, UNDER_TEST,
 };
-use ob_context::{BodyFrame, Context, FlowError, is_tested, must};
-use ob_giving::{reads, uses};
+use ob_context::{BodyFrame, Context, FlowError, is_tested, must, reads, uses};
 use ob_perm::matches;
 use ob_silica::{Operand, Place};
 

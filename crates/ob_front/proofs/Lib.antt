@@ -1,3 +1,5 @@
 pub mod BracketsLoop
 pub mod StagesLaws
 pub mod ProgramsLaws
+pub mod MiddleLaws
+pub mod MiddleTurns

@@ -14,19 +14,19 @@ use Rattle.ob_table.specs.Statements.{ResolvedBody}
 use Rattle.ob_typing.specs.Conditions.{IsClassTable}
 use Rattle.ob_typing.specs.WellMade.{IsWellMade}
 use Rattle.ob_silica_rules.specs.Numbered.{AllNameStates}
-use Rattle.ob_lowering_states.proofs.Law.{lowered_terms_name_states_lem}
+use Rattle.ob_lowering_made.proofs.NamesStates.{lowered_terms_name_states_lem}
 use Rattle.ob_lower.specs.Lowering.{OnFault as OnSlotFault}
 use Rattle.ob_lower.specs.declared.error.LowerError.{LowerError}
 use Rattle.ob_lower.specs.declared.error.LowerError.TheVariants as lowering
 use Rattle.ob_context.specs.declared.checking.FlowError.{FlowError}
 use Rattle.ob_context.specs.declared.checking.FlowError.TheVariants as checking
 use Rattle.ob_context.specs.Checking.{OnFault as OnFlowFault}
-use Rattle.ob_middle.specs.Lowered.{AreLoweredTo, first_slot_past, LacksSlots}
-use Rattle.ob_middle.specs.Checked.{AllNumbered, first_flow_fault, FailsPremise}
+use Rattle.ob_front.specs.Lowered.{AreLoweredTo, first_slot_past, LacksSlots}
+use Rattle.ob_front.specs.Checked.{AllNumbered, first_flow_fault, FailsPremise}
 use Rattle.ob_front.specs.Compiling.{OnFault, of_lowering, of_checking}
 use Rattle.ob_front.specs.declared.stages.CompileError.{CompileError}
 use Rattle.ob_front.specs.declared.stages.CompileError.TheVariants as compiling
-use Rattle.ob_middle.proofs.MiddleLaws.{some_is, one_lowering, none_past, one_slot_fault, none_fails}
+use Rattle.ob_front.proofs.MiddleLaws.{some_is, one_lowering, none_past, one_slot_fault, none_fails}
 use Rattle.ob_front.specs.Programs.{HasTerms, HasTermsFault, at_table, at_slot, IsProgram, IsAccepted, HasTextFault, at_terms, at_premise}
 use Rattle.ob_front.proofs.StagesLaws.{one_table, table_or_none, one_table_fault_lem, made}
 

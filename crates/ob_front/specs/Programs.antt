@@ -4,8 +4,8 @@ use Rattle.ob_base.specs.declared.fault.ProgramFault.{ProgramFault}
 use Rattle.ob_table.specs.Tables.{ClassTable}
 use Rattle.ob_silica.specs.Terms.{SilicaBody}
 use Rattle.ob_silica_rules.specs.Deriving.{Derives}
-use Rattle.ob_middle.specs.Lowered.{AreLoweredTo, LacksSlots}
-use Rattle.ob_middle.specs.Checked.{FailsPremise}
+use Rattle.ob_front.specs.Lowered.{AreLoweredTo, LacksSlots}
+use Rattle.ob_front.specs.Checked.{FailsPremise}
 use Rattle.ob_front.specs.Stages.{HasTable, HasTableFault}
 
 -- the text has a class table, and these are the terms of its bodies

@@ -2,6 +2,8 @@
 #![tactic(auto)]
 
 mod brackets;
+mod checking;
+mod lowering;
 mod programs;
 mod stages;
 

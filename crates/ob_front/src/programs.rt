@@ -5,9 +5,10 @@ ghost use Rattle.ob_silica.specs.TermsView.{silica_body_of};
 ghost use Rattle.ob_front.specs.Programs.{HasTerms, HasTermsFault, IsProgram, IsAccepted, HasTextFault};
 ghost use Rattle.ob_front.specs.Compiling.{OnFault};
 
+use crate::checking::check_bodies;
+use crate::lowering::lower_bodies;
 use crate::stages::{CompileError, class_table};
 use ob_base::{Duplicate, Items, Memory, both, copy_items};
-use ob_middle::{check_bodies, lower_bodies};
 use ob_silica::TermBody;
 use ob_table::Table;
 use std::alloc::Global;

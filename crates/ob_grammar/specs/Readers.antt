@@ -57,7 +57,7 @@ one_among symbol among t = find (λ x. is_of (number (symbol x) ∷ []) t) among
 abbrev pub one_if : {A : Type 0} → (A → Symbol) → List A → Token → Option (A × Span)
 one_if symbol among t = option_map (λ x. (x, t.span)) (one_among symbol among t)
 
--- the kinds that they are
+-- the kinds of the symbols of these
 abbrev pub kinds_among : {A : Type 0} → (A → Symbol) → List A → List ℕ
 kinds_among symbol among = map (λ x. number (symbol x)) among
 

@@ -1,2 +1,4 @@
 pub mod Beginning
 pub mod Lowering
+pub mod Plain
+pub mod Waits

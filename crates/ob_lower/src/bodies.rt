@@ -13,10 +13,10 @@ ghost use Rattle.ob_lower.specs.Lowering.{OnFault};
 ghost use Rattle.ob_lower.specs.Beginning.{block_of, begins};
 
 use crate::error::LowerError;
+use crate::position::Position;
 use crate::statements::{Branch, lower_scope};
 use ob_base::{Items, Memory, Span};
 use ob_lower_parts::{Frame, Variables, count_slots};
-use ob_lower_rows::Position;
 use ob_lower_slots::{SLOTS_MOST, Stopped};
 use ob_silica::{Form, Term, TermBody};
 use ob_table::{Body, Contract, Signature, Table};

@@ -4,7 +4,11 @@
 
 mod bodies;
 mod error;
+mod position;
+mod rows;
+mod simple;
 mod statements;
+mod values;
 
 pub use bodies::lower;
 pub use error::LowerError;

@@ -10,9 +10,10 @@ ghost use Rattle.ob_lowering_slots.specs.StatementCode.{settled, statement_code,
 ghost use Rattle.ob_lowering_slots.specs.StatementCode.{block_code, otherwise_code};
 ghost use Rattle.ob_lower_slots.specs.Makes.{Makes};
 
+use crate::position::Position;
+use crate::simple::{begin_named, lower_condition, lower_plain};
 use ob_base::{Items, Span};
 use ob_lower_parts::Frame;
-use ob_lower_rows::{Position, begin_named, lower_condition, lower_plain};
 use ob_lower_slots::{Code, Stopped, end_block};
 use ob_silica::{Form, Term};
 use ob_table::{ResolvedBlock, ResolvedStmt};

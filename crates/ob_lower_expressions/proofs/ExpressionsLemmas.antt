@@ -11,7 +11,7 @@ use Rattle.ob_lowering.specs.Points.{Around}
 use Rattle.ob_lowering_slots.specs.Progress.{Stop, ◌>>=◌, Progress, with_term}
 use Rattle.ob_lowering_slots.specs.ExpressionCode.{branching, expression_code, value_code}
 use Rattle.ob_lower_slots.specs.Makes.{progress}
-use Rattle.ob_lower_operands.specs.Operands.{choice_code}
+use Rattle.ob_lower_parts.specs.Operands.{choice_code}
 use Rattle.ob_lower_expressions.specs.Parts.{binary_code, with_slots}
 
 pub bind-assoc : {A B C : Type 0} (r : Result A Stop) (f : A → Result B Stop) (g : B → Result C Stop)

@@ -11,7 +11,7 @@ use Rattle.ob_lowering.specs.Points.{Around}
 use Rattle.ob_lowering_slots.specs.Progress.{Stop, ◌>>=◌, Slots, Progress, with_term}
 use Rattle.ob_lowering_slots.specs.ExpressionCode.{value_code}
 use Rattle.ob_lower_slots.specs.Makes.{progress}
-use Rattle.ob_lower_operands.specs.Operands.{with_value, operation_code, choice_code}
+use Rattle.ob_lower_parts.specs.Operands.{with_value, operation_code, choice_code}
 
 -- the terms of a right side, whose value is copied into the left side's temporary
 abbrev pub right_code : Around → Place → Expression → Slots → Result Progress Stop

@@ -8,10 +8,9 @@ ghost use Rattle.ob_lower_slots.specs.Makes.{Makes, progress};
 ghost use Rattle.ob_lower_expressions.specs.Parts.{right_code, binary_code};
 
 use ob_base::{ContractId, Items, Operator, Span};
-use ob_lower_operands::{
-    Sign, lower_leaf, lower_receiver, put_call, put_choice, put_new, put_operation, valued,
+use ob_lower_parts::{
+    Around, Sign, lower_leaf, lower_receiver, put_call, put_choice, put_new, put_operation, valued,
 };
-use ob_lower_parts::Around;
 use ob_lower_slots::{Code, Slots, Stopped};
 use ob_silica::{Form, Operand, Place, Term};
 use ob_table::{ResolvedCall, ResolvedExpr};

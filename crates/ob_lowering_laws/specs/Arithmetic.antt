@@ -2,7 +2,7 @@
 use Rattle.std.specs.Prelude.{ℕ, ℤ, List, [], ◌∷◌, Option, Some}
 use Rattle.ob_base.specs.declared.operator.Operator.{Operator}
 use Rattle.ob_base.specs.declared.operator.Operator.TheVariants.{Add, Div, Rem}
-use Rattle.ob_content.specs.Values.{int_value}
+use Rattle.ob_meaning.specs.Values.{int_value}
 use Rattle.ob_meaning_laws.specs.Written.{Told}
 use Rattle.ob_meaning_laws.specs.Arithmetic.{arithmetic, calculator_store}
 use Rattle.ob_silica.specs.Terms.{SilicaForm, unit_form, op_form, copy_form, return_form, SilicaTerms, no_terms}

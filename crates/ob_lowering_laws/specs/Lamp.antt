@@ -9,9 +9,9 @@ use Rattle.ob_table.specs.Tables.{ClassTable}
 use Rattle.ob_table.specs.declared.contract.Contract.{Contract}
 use Rattle.ob_table.specs.declared.contract.Kind.TheVariants.{Int, Bool as BoolKind}
 use Rattle.ob_table.specs.declared.seen.LocalKind.TheVariants.{Int as IntLocal}
-use Rattle.ob_content.specs.Values.{Value, int_value, bool_value, nothing, put}
-use Rattle.ob_content.specs.Objects.{Object}
-use Rattle.ob_content.specs.Worlds.{by_revert, object_item}
+use Rattle.ob_meaning.specs.Values.{Value, int_value, bool_value, nothing, put}
+use Rattle.ob_meaning.specs.Objects.{Object}
+use Rattle.ob_meaning.specs.Worlds.{by_revert, object_item}
 use Rattle.ob_meaning_laws.specs.Written.{on_line, contract_number, field_number, state_of_number, transaction_number, owner_in, as_unowned, anywhere_bits, local_at, field_at_line, value_at, param, signature, body, Told, tells, tells_abort, told, spending, run_on_store}
 use Rattle.ob_silica.specs.Terms.{SilicaForm, unit_form, const_form, op_form, copy_form, call_this_form, change_form, if_form, drop_form, return_form, revert_form, bad_row_form, SilicaTerms, no_terms}
 use Rattle.ob_silica.specs.declared.place.Constant.TheVariants.{Int as IntConstant, Bool as BoolConstant, Text as TextConstant}

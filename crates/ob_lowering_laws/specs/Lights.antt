@@ -1,8 +1,8 @@
 -- The light that is flipped while its state is tested, as terms (this project's own program).
 use Rattle.std.specs.Prelude.{ℕ, true, false, List, [], ◌∷◌, ◌++◌, Option, Some, None}
-use Rattle.ob_content.specs.Values.{reference, nothing}
-use Rattle.ob_content.specs.Objects.{Object}
-use Rattle.ob_content.specs.Worlds.{object_item, next_item}
+use Rattle.ob_meaning.specs.Values.{reference, nothing}
+use Rattle.ob_meaning.specs.Objects.{Object}
+use Rattle.ob_meaning.specs.Worlds.{object_item, next_item}
 use Rattle.ob_meaning_laws.specs.Written.{on_line, contract_number, state_of_number, transaction_number, ToldObject, Told, tells, spending}
 use Rattle.ob_meaning_laws.specs.Lights.{lights, lit_store}
 use Rattle.ob_silica.specs.Terms.{unit_form, move_form, new_form, call_form, change_form, test_form, drop_form, return_form, SilicaTerms, no_terms}

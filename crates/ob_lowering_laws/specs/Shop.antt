@@ -4,9 +4,9 @@ use Rattle.ob_perm.specs.Permissions.{Permission, owned, shared, unowned}
 use Rattle.ob_table.specs.declared.contract.Contract.{Contract}
 use Rattle.ob_table.specs.declared.contract.Kind.TheVariants.{Reference}
 use Rattle.ob_table.specs.declared.contract.Signature.{Signature}
-use Rattle.ob_content.specs.Values.{int_value, reference, nothing, put}
-use Rattle.ob_content.specs.Objects.{Object}
-use Rattle.ob_content.specs.Worlds.{first_world}
+use Rattle.ob_meaning.specs.Values.{int_value, reference, nothing, put}
+use Rattle.ob_meaning.specs.Objects.{Object}
+use Rattle.ob_meaning.specs.Worlds.{first_world}
 use Rattle.ob_meaning_laws.specs.Written.{on_line, contract_number, field_number, state_of_number, transaction_number, owner_in, as_unowned, stateless_bit, param, signature, default_constructor}
 use Rattle.ob_meaning_laws.specs.VendingMachine.{coin, candy, machine}
 use Rattle.ob_silica.specs.Terms.{unit_form, call_form, change_form, SilicaTerms}

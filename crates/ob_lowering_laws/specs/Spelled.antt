@@ -1,9 +1,9 @@
 -- Words for terms that are written by hand, and what is told of their runs.
 use Rattle.std.specs.Prelude.{ℕ, List, [], ◌∷◌, map, Option, Some, None}
 use Rattle.ob_table.specs.Tables.{ClassTable}
-use Rattle.ob_content.specs.Values.{Value}
-use Rattle.ob_content.specs.Objects.{Object}
-use Rattle.ob_content.specs.Worlds.{first_world, spent}
+use Rattle.ob_meaning.specs.Values.{Value}
+use Rattle.ob_meaning.specs.Objects.{Object}
+use Rattle.ob_meaning.specs.Worlds.{first_world, spent}
 use Rattle.ob_meaning_laws.specs.Written.{on_line, contract_number, field_number, transaction_number, told_object, Told, tells, tells_abort, tells_wrong}
 use Rattle.ob_silica.specs.Terms.{SilicaForm, return_form, SilicaTerms, no_terms, and_term, SilicaBody}
 use Rattle.ob_silica.specs.declared.place.Operand.{Operand}

@@ -1,7 +1,7 @@
 -- The vending machine of the article as terms (Coblenz et al., TOPLAS 42(3), 2020, section 2).
 use Rattle.std.specs.Prelude.{ℕ, pos, [], ◌∷◌, Option, Some}
 use Rattle.ob_base.specs.declared.operator.Operator.TheVariants.{Add}
-use Rattle.ob_content.specs.Values.{reference}
+use Rattle.ob_meaning.specs.Values.{reference}
 use Rattle.ob_meaning_laws.specs.Written.{contract_number, field_number, state_of_number, Told}
 use Rattle.ob_meaning_laws.specs.VendingMachine.{vending_machine, vending_store}
 use Rattle.ob_silica.specs.Terms.{unit_form, const_form, op_form, copy_form, move_form, change_form, disown_form, return_form, SilicaTerms, no_terms}

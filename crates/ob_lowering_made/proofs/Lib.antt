@@ -10,3 +10,6 @@ mod Staging
 mod Statements
 mod Bodies
 mod Law
+pub mod NamedTerms
+pub mod NamedStatements
+pub mod NamesStates

@@ -7,8 +7,8 @@ use Rattle.ob_table.specs.Statements.{Statements}
 use Rattle.ob_table.specs.Tables.{ClassTable, contract_at}
 use Rattle.ob_typing.specs.WellMade as made
 use Rattle.ob_typing.specs.WellMade.{local_kind, kind_of_seen, kind_of_table, is_reference, IsMade, IsReturned, IsCalled, Pass, constructor_at}
-use Rattle.ob_content.specs.Values.{Value}
-use Rattle.ob_content.specs.Worlds.{World, Outcome, gives, aborts, wrong, ◌>>=◌}
+use Rattle.ob_meaning.specs.Values.{Value}
+use Rattle.ob_meaning.specs.Worlds.{World, Outcome, gives, aborts, wrong, ◌>>=◌}
 use Rattle.ob_meaning.specs.Frames as meaning
 use Rattle.ob_meaning.specs.Frames.{Calls, Flow, goes_on, returns, known, named, Given}
 use Rattle.ob_silica.specs.Terms.{SilicaTerms, no_terms, then_terms, one_term, return_form}
@@ -30,7 +30,7 @@ use Rattle.ob_meaning.specs.Frames.{variables_from, first_locals}
 use Rattle.ob_meaning.specs.Statements.{run_all}
 use Rattle.ob_meaning.specs.Bodies.{result_of}
 use Rattle.ob_meaning.specs.GoingWrong.{is_within, may_pass, may_leave_args, kind_at_exit}
-use Rattle.ob_content.specs.Objects.{Object}
+use Rattle.ob_meaning.specs.Objects.{Object}
 use Rattle.ob_lowering.specs.BodyTerms as low
 use Rattle.ob_lowering.specs.BodyTerms.{beginning, ending}
 use Rattle.ob_lowering.specs.StatementTerms.{LowersBlock}

@@ -4,9 +4,9 @@ use Rattle.std.specs.Prelude.{option_map, option_and_then}
 use Rattle.ob_table.specs.Tables.{ClassTable}
 use Rattle.ob_table.specs.declared.contract.Kind.{Kind}
 use Rattle.ob_table.specs.declared.contract.Param.{Param}
-use Rattle.ob_content.specs.Values.{Value}
-use Rattle.ob_content.specs.Worlds.{World}
-use Rattle.ob_content.specs.Marks.{comes_into}
+use Rattle.ob_meaning.specs.Values.{Value}
+use Rattle.ob_meaning.specs.Worlds.{World}
+use Rattle.ob_meaning.specs.Marks.{comes_into}
 use Rattle.ob_meaning.specs.Bodies.{args_come}
 use Rattle.ob_silica_steps.specs.Cells.{Location, Cell, value_in}
 use Rattle.ob_silica_steps.specs.Configurations.{SilicaProgram, Slots, Next, stuck}

@@ -8,10 +8,10 @@ use Rattle.ob_table.specs.Tables.{ClassTable, contract_at, signature_at, body_at
 use Rattle.ob_table.specs.declared.contract.Contract.{Contract}
 use Rattle.ob_table.specs.declared.contract.Signature.{Signature}
 use Rattle.ob_typing.specs.WellMade.{IsBodyOf, IsWellMade}
-use Rattle.ob_content.specs.Values.{Value}
-use Rattle.ob_content.specs.Contents.{object_at}
-use Rattle.ob_content.specs.Worlds.{World, Outcome, gives, aborts, wrong, ◌>>=◌}
-use Rattle.ob_content.specs.Marks.{leave}
+use Rattle.ob_meaning.specs.Values.{Value}
+use Rattle.ob_meaning.specs.Contents.{object_at}
+use Rattle.ob_meaning.specs.Worlds.{World, Outcome, gives, aborts, wrong, ◌>>=◌}
+use Rattle.ob_meaning.specs.Marks.{leave}
 use Rattle.ob_meaning.specs.Frames.{Calls}
 use Rattle.ob_meaning.specs.Calls.{call_at}
 use Rattle.ob_silica.specs.Terms.{SilicaBody}

@@ -4,9 +4,9 @@ use Rattle.std.specs.Prelude.{option_map, if◌then◌else◌}
 use Rattle.ob_table.specs.Tables.{ClassTable, contract_at}
 use Rattle.ob_typing.specs.WellMade as made
 use Rattle.ob_typing.specs.WellMade.{local_kind, kind_of_seen, kind_of_table, is_reference, IsMade, IsReturned, IsCalled, Pass, constructor_at}
-use Rattle.ob_content.specs.Values.{Value}
-use Rattle.ob_content.specs.Worlds.{World, Outcome, gives, aborts, wrong, ◌>>=◌}
-use Rattle.ob_content.specs.Marks.{unlock}
+use Rattle.ob_meaning.specs.Values.{Value}
+use Rattle.ob_meaning.specs.Worlds.{World, Outcome, gives, aborts, wrong, ◌>>=◌}
+use Rattle.ob_meaning.specs.Marks.{unlock}
 use Rattle.ob_meaning.specs.Frames as meaning
 use Rattle.ob_meaning.specs.Frames.{Calls, Flow, goes_on, returns, known, named, Given}
 use Rattle.ob_silica.specs.Terms.{SilicaTerms, no_terms}
@@ -29,8 +29,8 @@ use Rattle.ob_silica_steps.specs.Configurations.{Ends as BranchEnds, plain_end, 
 use Rattle.ob_silica_steps.specs.Testing.{end_branch}
 use Rattle.ob_perm.specs.Permissions.{shared}
 use Rattle.ob_typing.specs.WellMade.{RefersTo, Refers}
-use Rattle.ob_content.specs.Contents.{object_at}
-use Rattle.ob_content.specs.Worlds.{read_object, is_made, with_read, object_item}
+use Rattle.ob_meaning.specs.Contents.{object_at}
+use Rattle.ob_meaning.specs.Worlds.{read_object, is_made, with_read, object_item}
 
 -- at the end of a branch only permissions change, and the world so
 pub record EndsTo (e : BranchEnds) (change : World → World) : Type 0 where

@@ -6,8 +6,8 @@ use Rattle.ob_base.specs.declared.id.ContractId.{ContractId}
 use Rattle.ob_base.specs.declared.id.TxId.{TxId}
 use Rattle.ob_table.specs.Tables.{ClassTable, contract_at, signature_of}
 use Rattle.ob_typing.specs.WellMade.{constructor_at}
-use Rattle.ob_content.specs.Values.{Value, referred}
-use Rattle.ob_content.specs.Worlds.{World, with_some}
+use Rattle.ob_meaning.specs.Values.{Value, referred}
+use Rattle.ob_meaning.specs.Worlds.{World, with_some}
 use Rattle.ob_meaning.specs.Frames.{of_object, of_this, of_new, Calls}
 use Rattle.ob_silica.specs.Terms.{SilicaTerms, and_term, call_form, call_this_form, new_form}
 use Rattle.ob_silica.specs.declared.place.Operand.{Operand}

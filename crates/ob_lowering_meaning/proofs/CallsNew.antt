@@ -7,10 +7,10 @@ use Rattle.ob_base.specs.declared.id.TxId.{TxId}
 use Rattle.ob_table.specs.Tables.{ClassTable, contract_at, signature_at, signature_of}
 use Rattle.ob_table.specs.declared.contract.Contract.{Contract}
 use Rattle.ob_table.specs.declared.contract.Signature.{Signature}
-use Rattle.ob_content.specs.Values.{Value, reference, nothing}
-use Rattle.ob_content.specs.Objects.{Object}
-use Rattle.ob_content.specs.Contents.{object_at}
-use Rattle.ob_content.specs.Worlds.{World, objects_most, next_item, by_full, with_read, make_object, with_object, Outcome, gives, aborts, wrong, ◌>>=◌, if_right, with_some, unit, with_unit_taken}
+use Rattle.ob_meaning.specs.Values.{Value, reference, nothing}
+use Rattle.ob_meaning.specs.Objects.{Object}
+use Rattle.ob_meaning.specs.Contents.{object_at}
+use Rattle.ob_meaning.specs.Worlds.{World, objects_most, next_item, by_full, with_read, make_object, with_object, Outcome, gives, aborts, wrong, ◌>>=◌, if_right, with_some, unit, with_unit_taken}
 use Rattle.ob_meaning.specs.Frames.{of_new, Calls, Flow, first_locals}
 use Rattle.ob_meaning.specs.GoingWrong.{may_pass, may_return, is_finished}
 use Rattle.ob_meaning.specs.Bodies.{args_come, this_comes, result_of}

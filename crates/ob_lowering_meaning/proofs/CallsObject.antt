@@ -11,11 +11,11 @@ use Rattle.ob_table.specs.declared.contract.Kind.TheVariants as typed
 use Rattle.ob_table.specs.declared.contract.Param.{Param}
 use Rattle.ob_table.specs.declared.contract.Signature.{Signature}
 use Rattle.ob_table.specs.declared.seen.LocalKind.TheVariants.{Reference}
-use Rattle.ob_content.specs.Values.{Value, int_value, bool_value, text_value, reference, referred, nothing}
-use Rattle.ob_content.specs.Objects.{Object}
-use Rattle.ob_content.specs.Contents.{object_at}
-use Rattle.ob_content.specs.Worlds.{World, by_reentry, read_object, with_some, unit, with_unit_taken}
-use Rattle.ob_content.specs.Marks.{comes_into, is_in_progress, enter}
+use Rattle.ob_meaning.specs.Values.{Value, int_value, bool_value, text_value, reference, referred, nothing}
+use Rattle.ob_meaning.specs.Objects.{Object}
+use Rattle.ob_meaning.specs.Contents.{object_at}
+use Rattle.ob_meaning.specs.Worlds.{World, by_reentry, read_object, with_some, unit, with_unit_taken}
+use Rattle.ob_meaning.specs.Marks.{comes_into, is_in_progress, enter}
 use Rattle.ob_meaning.specs.Frames.{of_object, Calls}
 use Rattle.ob_meaning.specs.GoingWrong.{is_within, is_held_within, may_begin}
 use Rattle.ob_meaning.specs.Bodies.{comes_in}

@@ -11,9 +11,9 @@ use Rattle.ob_table.specs.declared.contract.Kind.TheVariants as typed
 use Rattle.ob_table.specs.declared.contract.Param.{Param}
 use Rattle.ob_table.specs.declared.contract.Signature.{Signature}
 use Rattle.ob_table.specs.declared.seen.LocalKind.TheVariants.{Reference}
-use Rattle.ob_content.specs.Values.{Value, reference, nothing}
-use Rattle.ob_content.specs.Worlds.{World, with_some, with_unit_taken}
-use Rattle.ob_content.specs.Marks.{comes_into}
+use Rattle.ob_meaning.specs.Values.{Value, reference, nothing}
+use Rattle.ob_meaning.specs.Worlds.{World, with_some, with_unit_taken}
+use Rattle.ob_meaning.specs.Marks.{comes_into}
 use Rattle.ob_meaning.specs.Frames.{of_this, Calls}
 use Rattle.ob_meaning.specs.GoingWrong.{is_within, is_held_within, may_begin}
 use Rattle.ob_meaning.specs.Calls.{call_on_this, call_with}

@@ -8,8 +8,8 @@ use Rattle.ob_table.specs.declared.seen.LocalKind.TheVariants.{Reference}
 use Rattle.ob_table.specs.Tables.{ClassTable, contract_at}
 use Rattle.ob_typing.specs.WellMade as made
 use Rattle.ob_typing.specs.WellMade.{local_kind, kind_of_seen, kind_of_table, is_reference, IsMade, IsReturned, IsCalled, Pass, constructor_at}
-use Rattle.ob_content.specs.Values.{Value, Numbered}
-use Rattle.ob_content.specs.Worlds.{World, edit_object, Outcome}
+use Rattle.ob_meaning.specs.Values.{Value, Numbered}
+use Rattle.ob_meaning.specs.Worlds.{World, edit_object, Outcome}
 use Rattle.ob_meaning.specs.Frames as meaning
 use Rattle.ob_meaning.specs.Frames.{Calls, Flow, goes_on, returns, known, named, Given}
 use Rattle.ob_meaning.specs.Naming.{values_given, value_of_operand}
@@ -34,9 +34,9 @@ use Rattle.ob_silica_steps.specs.Here.{self_of, field_of}
 use Rattle.ob_perm.specs.Permissions.{owned, owns}
 use Rattle.ob_perm.specs.States.{only}
 use Rattle.std.proofs.Math.Path.{fun_ext}
-use Rattle.ob_content.specs.Objects.{Object, has_field}
-use Rattle.ob_content.specs.Contents.{object_at}
-use Rattle.ob_content.specs.Values.{nothing}
+use Rattle.ob_meaning.specs.Objects.{Object, has_field}
+use Rattle.ob_meaning.specs.Contents.{object_at}
+use Rattle.ob_meaning.specs.Values.{nothing}
 use Rattle.ob_lowering_meaning.proofs.Changes.{edited_fuel, later_edit, noted_edit, quiet_object, bare, Quiet, at_alike}
 use Rattle.ob_lowering_meaning.proofs.Standing.{later_on}
 

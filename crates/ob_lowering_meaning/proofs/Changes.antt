@@ -10,11 +10,11 @@ use Rattle.ob_table.specs.declared.contract.Kind.{Kind}
 use Rattle.ob_table.specs.declared.contract.Kind.TheVariants.{Int, Bool as BoolKind, Text, Reference}
 use Rattle.ob_table.specs.declared.contract.Field.{Field}
 use Rattle.ob_typing.specs.WellMade.{kind_of_table}
-use Rattle.ob_content.specs.Values.{Value, int_value, bool_value, text_value, reference, Numbered}
-use Rattle.ob_content.specs.Objects.{Object}
-use Rattle.ob_content.specs.Contents.{object_at}
-use Rattle.ob_content.specs.Worlds.{World, object_item, is_made, with_read, read_object, set_object, edit_object}
-use Rattle.ob_content.specs.Marks.{has_mark, mark_shared, mark_disowned, comes_into}
+use Rattle.ob_meaning.specs.Values.{Value, int_value, bool_value, text_value, reference, Numbered}
+use Rattle.ob_meaning.specs.Objects.{Object}
+use Rattle.ob_meaning.specs.Contents.{object_at}
+use Rattle.ob_meaning.specs.Worlds.{World, object_item, is_made, with_read, read_object, set_object, edit_object}
+use Rattle.ob_meaning.specs.Marks.{has_mark, mark_shared, mark_disowned, comes_into}
 use Rattle.ob_silica_steps.specs.Cells.{Location, slot, field, Known, known, Cell, noted}
 use Rattle.ob_silica_steps.specs.Configurations.{Notes}
 use Rattle.ob_silica_steps.specs.Here.{Here, at, self_of, field_of, set_permission}

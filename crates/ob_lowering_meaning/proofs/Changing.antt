@@ -8,8 +8,8 @@ use Rattle.ob_table.specs.declared.seen.LocalKind.TheVariants.{Reference}
 use Rattle.ob_table.specs.Tables.{ClassTable, contract_at}
 use Rattle.ob_typing.specs.WellMade as made
 use Rattle.ob_typing.specs.WellMade.{local_kind, kind_of_seen, kind_of_table, is_reference, IsMade, IsReturned, IsCalled, Pass, constructor_at}
-use Rattle.ob_content.specs.Values.{Value, Numbered}
-use Rattle.ob_content.specs.Worlds.{World, by_state, unless_aborted, if_right, with_object, edit_object, Outcome, gives, with_some}
+use Rattle.ob_meaning.specs.Values.{Value, Numbered}
+use Rattle.ob_meaning.specs.Worlds.{World, by_state, unless_aborted, if_right, with_object, edit_object, Outcome, gives, with_some}
 use Rattle.ob_meaning.specs.Frames as meaning
 use Rattle.ob_meaning.specs.Frames.{Calls, Flow, goes_on, returns, known, named, Given}
 use Rattle.ob_meaning.specs.Naming.{values_given}
@@ -38,10 +38,10 @@ use Rattle.ob_lowering_meaning.proofs.Staging.{given_runs}
 use Rattle.ob_lowering_meaning.proofs.Filling.{Filled, Fills, fills, lacks, fill_runs}
 use Rattle.ob_silica_steps.specs.Changing.{all_there, fill_all, changed_here, change_with}
 use Rattle.ob_silica_steps.specs.Here.{self_of}
-use Rattle.ob_content.specs.Objects.{Object, has_all_values}
-use Rattle.ob_content.specs.Contents.{object_at}
-use Rattle.ob_content.specs.Marks.{is_locked}
-use Rattle.ob_content.specs.Values.{nothing}
+use Rattle.ob_meaning.specs.Objects.{Object, has_all_values}
+use Rattle.ob_meaning.specs.Contents.{object_at}
+use Rattle.ob_meaning.specs.Marks.{is_locked}
+use Rattle.ob_meaning.specs.Values.{nothing}
 use Rattle.ob_silica.specs.Terms.{change_form}
 use Rattle.ob_lowering_meaning.proofs.Changes.{edited, quiet_object, Quiet}
 use Rattle.ob_lowering_meaning.proofs.Fresh.{fresh_append, given_fresh}

@@ -16,9 +16,9 @@ use Rattle.ob_table.specs.declared.seen.LocalKind.{LocalKind}
 use Rattle.ob_silica.specs.declared.place.Operand.{Operand}
 use Rattle.ob_typing.specs.WellMade as made
 use Rattle.ob_typing.specs.WellMade.{local_kind, kind_of_seen, kind_of_table, is_reference, IsMade, IsReturned, IsCalled, Pass, constructor_at}
-use Rattle.ob_content.specs.Values.{Value, int_value, bool_value, text_value, reference, referred}
-use Rattle.ob_content.specs.Worlds.{World, by_revert, Outcome, gives, ◌>>=◌, with_some}
-use Rattle.ob_content.specs.Marks.{mark_disowned, unlock}
+use Rattle.ob_meaning.specs.Values.{Value, int_value, bool_value, text_value, reference, referred}
+use Rattle.ob_meaning.specs.Worlds.{World, by_revert, Outcome, gives, ◌>>=◌, with_some}
+use Rattle.ob_meaning.specs.Marks.{mark_disowned, unlock}
 use Rattle.ob_meaning.specs.Frames as meaning
 use Rattle.ob_meaning.specs.Frames.{Calls, Flow, goes_on, returns, known, named, Given}
 use Rattle.ob_meaning.specs.Naming.{value_seen}

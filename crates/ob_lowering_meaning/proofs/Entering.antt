@@ -11,8 +11,8 @@ use Rattle.ob_table.specs.declared.contract.Contract.{Contract}
 use Rattle.ob_table.specs.declared.contract.Signature.{Signature}
 use Rattle.ob_typing.specs.WellMade as made
 use Rattle.ob_typing.specs.WellMade.{IsBodyOf, AreStatements, one_ends_there}
-use Rattle.ob_content.specs.Values.{Value}
-use Rattle.ob_content.specs.Worlds.{World, Outcome, gives, aborts, wrong, ◌>>=◌, if_right, with_some, with_fuel, with_unit_taken}
+use Rattle.ob_meaning.specs.Values.{Value}
+use Rattle.ob_meaning.specs.Worlds.{World, Outcome, gives, aborts, wrong, ◌>>=◌, if_right, with_some, with_fuel, with_unit_taken}
 use Rattle.ob_meaning.specs.Frames.{Calls, Flow, first_locals}
 use Rattle.ob_meaning.specs.Statements.{run_all}
 use Rattle.ob_meaning.specs.GoingWrong.{may_return}

@@ -9,8 +9,8 @@ use Rattle.ob_table.specs.Tables.{ClassTable, contract_at, signature_of}
 use Rattle.ob_table.specs.declared.seen.SeenAt.{SeenAt}
 use Rattle.ob_typing.specs.WellMade as made
 use Rattle.ob_typing.specs.WellMade.{kind_of_table, local_kind, kind_of_seen, is_reference, IsMade, AreMade, HasOperands, IsCalled, Pass, constructor_at, kind_of_expression}
-use Rattle.ob_content.specs.Values.{Value, int_value, bool_value, text_value, reference}
-use Rattle.ob_content.specs.Worlds.{World, Outcome, gives, ◌>>=◌}
+use Rattle.ob_meaning.specs.Values.{Value, int_value, bool_value, text_value, reference}
+use Rattle.ob_meaning.specs.Worlds.{World, Outcome, gives, ◌>>=◌}
 use Rattle.ob_meaning.specs.Frames as meaning
 use Rattle.ob_meaning.specs.Frames.{known, named, of_object, of_this, of_new, Calls}
 use Rattle.ob_meaning.specs.Naming.{value_seen, read as read_name}

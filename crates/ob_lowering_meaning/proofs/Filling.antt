@@ -9,10 +9,10 @@ use Rattle.ob_table.specs.Tables.{ClassTable, contract_at}
 use Rattle.ob_table.specs.declared.contract.Contract.{Contract}
 use Rattle.ob_table.specs.declared.contract.Field.{Field}
 use Rattle.ob_typing.specs.WellMade.{kind_of_table}
-use Rattle.ob_content.specs.Values.{Value, Numbered, put}
-use Rattle.ob_content.specs.Objects.{Object, is_available, has_field}
-use Rattle.ob_content.specs.Contents.{object_at}
-use Rattle.ob_content.specs.Marks.{comes_into}
+use Rattle.ob_meaning.specs.Values.{Value, Numbered, put}
+use Rattle.ob_meaning.specs.Objects.{Object, is_available, has_field}
+use Rattle.ob_meaning.specs.Contents.{object_at}
+use Rattle.ob_meaning.specs.Marks.{comes_into}
 use Rattle.ob_meaning.specs.GoingWrong.{is_givable}
 use Rattle.ob_meaning.specs.Fields.{put_all, come_into_fields}
 use Rattle.ob_silica.specs.declared.place.Given.{Given}

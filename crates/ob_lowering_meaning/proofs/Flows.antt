@@ -9,8 +9,8 @@ use Rattle.ob_table.specs.Statements.{Statements}
 use Rattle.ob_table.specs.Tables.{ClassTable, contract_at}
 use Rattle.ob_typing.specs.WellMade as made
 use Rattle.ob_typing.specs.WellMade.{local_kind, is_reference, IsMade}
-use Rattle.ob_content.specs.Values.{Value}
-use Rattle.ob_content.specs.Worlds.{World, Outcome, gives, aborts, wrong, ◌>>=◌, with_some, unit, with_fuel, with_unit_taken}
+use Rattle.ob_meaning.specs.Values.{Value}
+use Rattle.ob_meaning.specs.Worlds.{World, Outcome, gives, aborts, wrong, ◌>>=◌, with_some, unit, with_fuel, with_unit_taken}
 use Rattle.ob_meaning.specs.Frames as meaning
 use Rattle.ob_meaning.specs.Frames.{Calls, Flow, goes_on, returns, known, named, Given}
 use Rattle.ob_meaning.specs.GoingWrong.{is_row}

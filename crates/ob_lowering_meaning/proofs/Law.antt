@@ -4,8 +4,8 @@ use Rattle.std.specs.Prelude.{IfSome}
 use Rattle.ob_table.specs.Tables.{contract_at, signature_of}
 use Rattle.ob_table.specs.declared.contract.Signature.{Signature}
 use Rattle.ob_typing.specs.WellMade.{constructor_at}
-use Rattle.ob_content.specs.Values.{reference, nothing}
-use Rattle.ob_content.specs.Worlds.{with_some, unit}
+use Rattle.ob_meaning.specs.Values.{reference, nothing}
+use Rattle.ob_meaning.specs.Worlds.{with_some, unit}
 use Rattle.ob_meaning.specs.Frames.{of_object, Calls}
 use Rattle.ob_meaning.specs.Bodies.{comes_in}
 use Rattle.ob_meaning.specs.Calls.{call_after_unit, call_with, no_calls, call_at}

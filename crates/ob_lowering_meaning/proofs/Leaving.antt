@@ -3,9 +3,9 @@ use Rattle.std.proofs.Common.{◌≡◌, ◌≢◌, ℕ, ◌≤◌, List, [], �
 use Rattle.std.specs.Prelude.{option_map, IsSome}
 use Rattle.ob_perm.specs.Permissions.{unowned}
 use Rattle.ob_table.specs.Tables.{contract_at}
-use Rattle.ob_content.specs.Values.{Value}
-use Rattle.ob_content.specs.Contents.{object_at}
-use Rattle.ob_content.specs.Worlds.{World, Outcome, gives, aborts, wrong, ◌>>=◌}
+use Rattle.ob_meaning.specs.Values.{Value}
+use Rattle.ob_meaning.specs.Contents.{object_at}
+use Rattle.ob_meaning.specs.Worlds.{World, Outcome, gives, aborts, wrong, ◌>>=◌}
 use Rattle.ob_meaning.specs.Frames.{Calls}
 use Rattle.ob_silica.specs.Terms.{SilicaTerms}
 use Rattle.ob_silica_steps.specs.Cells.{Cell, noted, value_in}

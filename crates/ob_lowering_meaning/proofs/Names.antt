@@ -6,9 +6,9 @@ use Rattle.ob_table.specs.Tables.{ClassTable, contract_at}
 use Rattle.ob_table.specs.declared.seen.Seen.{Seen}
 use Rattle.ob_table.specs.declared.seen.Seen.TheVariants.{This as ThisSeen, Local, Field as FieldSeen}
 use Rattle.ob_typing.specs.WellMade.{local_kind, kind_of_seen, is_reference}
-use Rattle.ob_content.specs.Values.{Value}
-use Rattle.ob_content.specs.Objects.{has_field}
-use Rattle.ob_content.specs.Contents.{object_at}
+use Rattle.ob_meaning.specs.Values.{Value}
+use Rattle.ob_meaning.specs.Objects.{has_field}
+use Rattle.ob_meaning.specs.Contents.{object_at}
 use Rattle.ob_meaning.specs.Frames as meaning
 use Rattle.ob_meaning.specs.GoingWrong.{is_readable}
 use Rattle.ob_meaning.specs.Naming.{value_of_field, value_seen, kind_seen}

@@ -12,8 +12,8 @@ use Rattle.ob_table.specs.declared.seen.LocalKind.{LocalKind}
 use Rattle.ob_table.specs.declared.seen.SeenAt.{SeenAt}
 use Rattle.ob_typing.specs.WellMade as made
 use Rattle.ob_typing.specs.WellMade.{kind_of_table, local_kind, kind_of_seen, is_reference, IsMade, AreMade, HasOperands, IsCalled, Pass, constructor_at, kind_of_expression}
-use Rattle.ob_content.specs.Values.{Value, referred}
-use Rattle.ob_content.specs.Worlds.{Outcome, gives, aborts, wrong, ◌>>=◌, with_some}
+use Rattle.ob_meaning.specs.Values.{Value, referred}
+use Rattle.ob_meaning.specs.Worlds.{Outcome, gives, aborts, wrong, ◌>>=◌, with_some}
 use Rattle.ob_meaning.specs.Frames as meaning
 use Rattle.ob_meaning.specs.Frames.{known, named, of_object, of_this, of_new, Calls}
 use Rattle.ob_meaning.specs.Naming.{object_seen, value_of_operand, values_of_operands}

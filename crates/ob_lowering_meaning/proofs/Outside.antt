@@ -9,11 +9,11 @@ use Rattle.ob_table.specs.declared.contract.Contract.{Contract}
 use Rattle.ob_table.specs.declared.contract.Kind.TheVariants as typed
 use Rattle.ob_table.specs.declared.contract.Signature.{Signature}
 use Rattle.ob_table.specs.declared.seen.LocalKind.TheVariants.{Reference}
-use Rattle.ob_content.specs.Values.{Value, reference, nothing}
-use Rattle.ob_content.specs.Objects.{Object}
-use Rattle.ob_content.specs.Contents.{object_at}
-use Rattle.ob_content.specs.Worlds.{World, by_reentry, read_object, Outcome, gives, ◌>>=◌, with_some, unit, with_unit_taken}
-use Rattle.ob_content.specs.Marks.{comes_into, is_in_progress, enter}
+use Rattle.ob_meaning.specs.Values.{Value, reference, nothing}
+use Rattle.ob_meaning.specs.Objects.{Object}
+use Rattle.ob_meaning.specs.Contents.{object_at}
+use Rattle.ob_meaning.specs.Worlds.{World, by_reentry, read_object, Outcome, gives, ◌>>=◌, with_some, unit, with_unit_taken}
+use Rattle.ob_meaning.specs.Marks.{comes_into, is_in_progress, enter}
 use Rattle.ob_meaning.specs.Frames.{of_object, Calls}
 use Rattle.ob_meaning.specs.GoingWrong.{is_within, is_held_within, may_begin}
 use Rattle.ob_meaning.specs.Bodies.{comes_in}
@@ -44,7 +44,7 @@ use Rattle.ob_silica_steps.specs.Returning.{leaves_progress}
 use Rattle.ob_silica_steps.specs.Steps.{then_steps, steps}
 use Rattle.ob_silica_steps.specs.Here.{self_of, field_of, with_fuel_left}
 use Rattle.ob_silica_steps.specs.Starting.{first_notes, declared_note, no_note, pass_all, alone, started_call}
-use Rattle.ob_content.specs.Worlds.{aborts, wrong, with_fuel}
+use Rattle.ob_meaning.specs.Worlds.{aborts, wrong, with_fuel}
 use Rattle.ob_table.specs.declared.contract.Field.{Field}
 use Rattle.ob_lowering_meaning.specs.Law.{EndsAs}
 use Rattle.ob_lowering_meaning.proofs.Runs.{leads_on}

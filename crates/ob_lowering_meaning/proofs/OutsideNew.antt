@@ -6,10 +6,10 @@ use Rattle.ob_base.specs.declared.id.TxId.{TxId}
 use Rattle.ob_table.specs.Tables.{ClassTable, contract_at, signature_at, signature_of}
 use Rattle.ob_table.specs.declared.contract.Contract.{Contract}
 use Rattle.ob_table.specs.declared.contract.Signature.{Signature}
-use Rattle.ob_content.specs.Values.{Value, nothing}
-use Rattle.ob_content.specs.Objects.{Object}
-use Rattle.ob_content.specs.Contents.{object_at}
-use Rattle.ob_content.specs.Worlds.{World, objects_most, next_item, by_full, with_read, make_object, with_some, unit, with_unit_taken}
+use Rattle.ob_meaning.specs.Values.{Value, nothing}
+use Rattle.ob_meaning.specs.Objects.{Object}
+use Rattle.ob_meaning.specs.Contents.{object_at}
+use Rattle.ob_meaning.specs.Worlds.{World, objects_most, next_item, by_full, with_read, make_object, with_some, unit, with_unit_taken}
 use Rattle.ob_meaning.specs.Frames.{of_new, Calls}
 use Rattle.ob_meaning.specs.GoingWrong.{may_pass}
 use Rattle.ob_meaning.specs.Bodies.{args_come}
@@ -33,7 +33,7 @@ use Rattle.ob_table.specs.declared.contract.Field.{Field}
 use Rattle.ob_lowering_meaning.proofs.CallsThis.{parameters_length}
 use Rattle.ob_lowering_meaning.proofs.Standing.{Noted, at_other}
 use Rattle.ob_lowering_meaning.proofs.Binding.{holds_on}
-use Rattle.ob_content.specs.Worlds.{with_fuel}
+use Rattle.ob_meaning.specs.Worlds.{with_fuel}
 use Rattle.ob_silica_steps.specs.Configurations.{Slots, Notes}
 use Rattle.ob_silica_steps.specs.Steps.{then_steps, steps}
 use Rattle.ob_silica_steps.specs.Here.{with_fuel_left}

@@ -14,11 +14,11 @@ use Rattle.ob_table.specs.declared.contract.Kind.TheVariants as typed
 use Rattle.ob_table.specs.declared.seen.LocalKind.{LocalKind}
 use Rattle.ob_table.specs.declared.seen.LocalKind.TheVariants.{Int, Bool as BoolKind, Text, Reference}
 use Rattle.ob_typing.specs.WellMade.{kind_of_table, is_reference}
-use Rattle.ob_content.specs.Values.{Value, put}
-use Rattle.ob_content.specs.Objects.{Object, is_available, has_field}
-use Rattle.ob_content.specs.Contents.{object_at}
-use Rattle.ob_content.specs.Worlds.{World, gives, if_right, with_some, edit_object}
-use Rattle.ob_content.specs.Marks.{comes_into}
+use Rattle.ob_meaning.specs.Values.{Value, put}
+use Rattle.ob_meaning.specs.Objects.{Object, is_available, has_field}
+use Rattle.ob_meaning.specs.Contents.{object_at}
+use Rattle.ob_meaning.specs.Worlds.{World, gives, if_right, with_some, edit_object}
+use Rattle.ob_meaning.specs.Marks.{comes_into}
 use Rattle.ob_meaning.specs.Frames as meaning
 use Rattle.ob_meaning.specs.Frames.{Flow, goes_on}
 use Rattle.ob_meaning.specs.Fields.{comes_into_field, with_field, assign_field}

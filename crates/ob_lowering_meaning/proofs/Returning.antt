@@ -5,9 +5,9 @@ use Rattle.std.specs.Option.{option_map_or}
 use Rattle.ob_base.specs.declared.fault.Span.{Span}
 use Rattle.ob_table.specs.Tables.{ClassTable, contract_at}
 use Rattle.ob_silica.specs.declared.place.Operand.{Operand}
-use Rattle.ob_content.specs.Values.{Value, int_value, bool_value, text_value, reference}
-use Rattle.ob_content.specs.Worlds.{World, Outcome, gives, ◌>>=◌, with_some}
-use Rattle.ob_content.specs.Marks.{unlock}
+use Rattle.ob_meaning.specs.Values.{Value, int_value, bool_value, text_value, reference}
+use Rattle.ob_meaning.specs.Worlds.{World, Outcome, gives, ◌>>=◌, with_some}
+use Rattle.ob_meaning.specs.Marks.{unlock}
 use Rattle.ob_meaning.specs.Frames.{Calls}
 use Rattle.ob_silica.specs.Terms.{SilicaTerms, no_terms, and_term, return_form}
 use Rattle.ob_silica_steps.specs.Cells.{Cell, Location, located, value_in}
@@ -27,10 +27,10 @@ use Rattle.ob_table.specs.Tables.{signature_of}
 use Rattle.ob_table.specs.declared.contract.Kind.{Kind}
 use Rattle.ob_table.specs.declared.contract.Kind.TheVariants as typed
 use Rattle.ob_table.specs.declared.contract.Param.{Param}
-use Rattle.ob_content.specs.Objects.{Object}
-use Rattle.ob_content.specs.Contents.{object_at}
-use Rattle.ob_content.specs.Worlds.{object_item, is_made, with_read, read_object, set_object, edit_object, if_right, with_object}
-use Rattle.ob_content.specs.Marks.{has_mark, mark_shared, comes_into}
+use Rattle.ob_meaning.specs.Objects.{Object}
+use Rattle.ob_meaning.specs.Contents.{object_at}
+use Rattle.ob_meaning.specs.Worlds.{object_item, is_made, with_read, read_object, set_object, edit_object, if_right, with_object}
+use Rattle.ob_meaning.specs.Marks.{has_mark, mark_shared, comes_into}
 use Rattle.ob_meaning.specs.GoingWrong.{is_within, is_held_within, may_leave_args, may_give, may_return, is_finished}
 use Rattle.ob_meaning.specs.Bodies.{result_goes, this_comes}
 use Rattle.ob_silica_steps.specs.Binding.{Parameter, parameter_of, bound_cell}

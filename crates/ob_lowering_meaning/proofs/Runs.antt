@@ -1,7 +1,7 @@
 -- How the steps come from one configuration to what follows.
 use Rattle.std.proofs.Common.{◌≡◌, ℕ, suc, ◌≤◌, refl, ap, ◌∙◌, arith}
 use Rattle.ob_silica.specs.Terms.{SilicaTerms, no_terms, and_term, then_terms}
-use Rattle.ob_content.specs.Worlds.{World, Outcome, gives, aborts, wrong, ◌>>=◌}
+use Rattle.ob_meaning.specs.Worlds.{World, Outcome, gives, aborts, wrong, ◌>>=◌}
 use Rattle.ob_silica_steps.specs.Configurations.{SilicaProgram, Configuration, Next, goes, aborted, stuck}
 use Rattle.ob_silica_steps.specs.Steps.{step, then_steps, steps}
 

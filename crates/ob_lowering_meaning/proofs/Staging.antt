@@ -6,8 +6,8 @@ use Rattle.ob_table.specs.Statements.{GivenField, resolved_stage}
 use Rattle.ob_table.specs.Tables.{ClassTable, contract_at, field_at}
 use Rattle.ob_typing.specs.WellMade as made
 use Rattle.ob_typing.specs.WellMade.{local_kind, kind_of_seen, kind_of_table, is_reference, IsMade, IsReturned, IsCalled, Pass, constructor_at}
-use Rattle.ob_content.specs.Values.{Value}
-use Rattle.ob_content.specs.Worlds.{World, Outcome}
+use Rattle.ob_meaning.specs.Values.{Value}
+use Rattle.ob_meaning.specs.Worlds.{World, Outcome}
 use Rattle.ob_meaning.specs.Frames as meaning
 use Rattle.ob_meaning.specs.Frames.{Calls, Flow, goes_on, returns, known, named, Given}
 use Rattle.ob_meaning.specs.Expressions.{operand_of}

@@ -11,10 +11,10 @@ use Rattle.ob_table.specs.declared.seen.LocalKind.{LocalKind}
 use Rattle.ob_table.specs.declared.seen.LocalKind.TheVariants.{Reference}
 use Rattle.ob_typing.specs.WellMade as made
 use Rattle.ob_typing.specs.WellMade.{kind_of_table}
-use Rattle.ob_content.specs.Values.{Value, reference, referred}
-use Rattle.ob_content.specs.Objects.{Object}
-use Rattle.ob_content.specs.Contents.{object_at}
-use Rattle.ob_content.specs.Worlds.{World, Outcome, ◌>>=◌}
+use Rattle.ob_meaning.specs.Values.{Value, reference, referred}
+use Rattle.ob_meaning.specs.Objects.{Object}
+use Rattle.ob_meaning.specs.Contents.{object_at}
+use Rattle.ob_meaning.specs.Worlds.{World, Outcome, ◌>>=◌}
 use Rattle.ob_meaning.specs.Frames as meaning
 use Rattle.ob_silica_steps.specs.Cells.{Cell, value_in, object_in}
 use Rattle.ob_silica_steps.specs.Configurations.{SilicaProgram, Slots, How, Waiting, Control, Notes, Configuration, goes}

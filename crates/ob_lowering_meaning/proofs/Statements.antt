@@ -9,8 +9,8 @@ use Rattle.ob_table.specs.Tables.{ClassTable, contract_at, field_at}
 use Rattle.ob_table.specs.declared.seen.LocalKind.{LocalKind}
 use Rattle.ob_typing.specs.WellMade as made
 use Rattle.ob_typing.specs.WellMade.{local_kind, kind_of_seen, kind_of_table, is_reference, IsMade, IsReturned, IsCalled, Pass, constructor_at}
-use Rattle.ob_content.specs.Values.{Value}
-use Rattle.ob_content.specs.Worlds.{World, Outcome, ◌>>=◌}
+use Rattle.ob_meaning.specs.Values.{Value}
+use Rattle.ob_meaning.specs.Worlds.{World, Outcome, ◌>>=◌}
 use Rattle.ob_meaning.specs.Frames as meaning
 use Rattle.ob_meaning.specs.Frames.{Calls, Flow, goes_on, returns, known, named, Given}
 use Rattle.ob_meaning.specs.GoingWrong.{is_row}
@@ -52,7 +52,7 @@ use Rattle.ob_lowering_meaning.proofs.Testing.{test_runs}
 use Rattle.ob_typing.specs.WellMade.{AreStatements, IsBlock, IsOtherwise, one_ends_there}
 use Rattle.ob_table.specs.Statements.{resolved_block, no_otherwise, otherwise_block}
 use Rattle.ob_meaning.specs.Statements.{run_all, after}
-use Rattle.ob_content.specs.Worlds.{if_right}
+use Rattle.ob_meaning.specs.Worlds.{if_right}
 use Rattle.ob_lowering.specs.Points.{inside}
 use Rattle.ob_lowering.specs.StatementTerms.{LowersStatements, LowersBlock, LowersOtherwise, closing, join_of}
 

@@ -4,9 +4,9 @@ use Rattle.std.specs.Prelude.{⊤}
 use Rattle.ob_table.specs.Expressions.{Expression}
 use Rattle.ob_table.specs.Statements.{Statement, resolved_declare, resolved_assign, resolved_stage, resolved_change, resolved_discard, resolved_test, resolved_if, resolved_return, resolved_revert, resolved_disown, resolved_assert, Block, resolved_block, Otherwise, no_otherwise, otherwise_block, Statements, no_statements, and_statement}
 use Rattle.ob_typing.specs.WellMade.{ends_there, block_ends_there, other_ends_there, one_ends_there}
-use Rattle.ob_content.specs.Values.{Value, int_value, bool_value, text_value, reference}
-use Rattle.ob_content.specs.Worlds.{World, Outcome, gives, aborts, wrong, ◌>>=◌, if_right, unit, with_fuel, with_unit_taken}
-use Rattle.ob_content.specs.Marks.{lock, unlock}
+use Rattle.ob_meaning.specs.Values.{Value, int_value, bool_value, text_value, reference}
+use Rattle.ob_meaning.specs.Worlds.{World, Outcome, gives, aborts, wrong, ◌>>=◌, if_right, unit, with_fuel, with_unit_taken}
+use Rattle.ob_meaning.specs.Marks.{lock, unlock}
 use Rattle.ob_meaning.specs.Frames.{Frame, Locals, Calls, Flow, goes_on, returns}
 use Rattle.ob_meaning.specs.GoingWrong.{is_followed}
 use Rattle.ob_meaning.specs.StateTests.{Tested, holds, holds_locking, fails, test_seen, branch}

@@ -15,8 +15,8 @@ use Rattle.ob_silica.specs.declared.place.Place.{Place}
 use Rattle.ob_silica.specs.declared.place.Place.TheVariants.{This, Field}
 use Rattle.ob_typing.specs.WellMade as made
 use Rattle.ob_typing.specs.WellMade.{local_kind, kind_of_seen, kind_of_table, is_reference, IsMade, IsReturned, IsCalled, Pass, constructor_at}
-use Rattle.ob_content.specs.Values.{Value, int_value, bool_value, text_value, reference, referred}
-use Rattle.ob_content.specs.Worlds.{World, Outcome, ◌>>=◌, with_some}
+use Rattle.ob_meaning.specs.Values.{Value, int_value, bool_value, text_value, reference, referred}
+use Rattle.ob_meaning.specs.Worlds.{World, Outcome, ◌>>=◌, with_some}
 use Rattle.ob_meaning.specs.Frames as meaning
 use Rattle.ob_meaning.specs.Frames.{Calls, Flow, goes_on, returns, known, named, Given}
 use Rattle.ob_meaning.specs.Naming.{value_seen}
@@ -56,10 +56,10 @@ use Rattle.ob_base.specs.declared.id.ContractId.{ContractId}
 use Rattle.ob_table.specs.declared.seen.LocalKind.TheVariants.{Int, Bool as BoolKind, Text, Reference}
 use Rattle.ob_table.specs.declared.contract.Field.{Field as TableField}
 use Rattle.ob_typing.specs.WellMade.{RefersTo, Refers}
-use Rattle.ob_content.specs.Objects.{Object, is_in_state}
-use Rattle.ob_content.specs.Contents.{object_at}
-use Rattle.ob_content.specs.Worlds.{by_state, read_object}
-use Rattle.ob_content.specs.Marks.{is_locked, is_in_progress, lock}
+use Rattle.ob_meaning.specs.Objects.{Object, is_in_state}
+use Rattle.ob_meaning.specs.Contents.{object_at}
+use Rattle.ob_meaning.specs.Worlds.{by_state, read_object}
+use Rattle.ob_meaning.specs.Marks.{is_locked, is_in_progress, lock}
 use Rattle.ob_meaning.specs.StateTests as tests
 use Rattle.ob_meaning.specs.StateTests.{test_seen, branch, is_barred, tested_of}
 use Rattle.ob_meaning.specs.Naming.{contract_seen, contract_of_kind}

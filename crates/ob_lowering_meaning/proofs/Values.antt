@@ -4,9 +4,9 @@ use Rattle.ob_base.specs.declared.fault.Span.{Span}
 use Rattle.ob_base.specs.declared.operator.Operator.{Operator}
 use Rattle.ob_table.specs.Tables.{ClassTable}
 use Rattle.ob_table.specs.declared.seen.LocalKind.{LocalKind}
-use Rattle.ob_content.specs.Values.{Value}
-use Rattle.ob_content.specs.Operations.{Operated, operated, overflows, other_kinds, operate}
-use Rattle.ob_content.specs.Worlds.{gives, with_some}
+use Rattle.ob_meaning.specs.Values.{Value}
+use Rattle.ob_meaning.specs.Operations.{Operated, operated, overflows, other_kinds, operate}
+use Rattle.ob_meaning.specs.Worlds.{gives, with_some}
 use Rattle.ob_meaning.specs.Expressions.{after_operation}
 use Rattle.ob_silica.specs.Terms.{op_form, copy_form, SilicaTerms, and_term}
 use Rattle.ob_silica.specs.declared.place.Operand.{Operand}

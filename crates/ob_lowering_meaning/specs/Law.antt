@@ -5,8 +5,8 @@ use Rattle.ob_base.specs.declared.id.TxId.{TxId}
 use Rattle.ob_table.specs.Tables.{signature_of}
 use Rattle.ob_typing.specs.Conditions.{IsClassTable}
 use Rattle.ob_typing.specs.WellMade.{IsWellMade, constructor_at}
-use Rattle.ob_content.specs.Values.{Value}
-use Rattle.ob_content.specs.Worlds.{World, Outcome, gives, aborts, wrong}
+use Rattle.ob_meaning.specs.Values.{Value}
+use Rattle.ob_meaning.specs.Worlds.{World, Outcome, gives, aborts, wrong}
 use Rattle.ob_meaning.specs.Frames.{of_object, of_new}
 use Rattle.ob_meaning.specs.Calls.{call_at}
 use Rattle.ob_silica_steps.specs.Configurations.{SilicaProgram, HandleNote, Next, ended, aborted, stuck}

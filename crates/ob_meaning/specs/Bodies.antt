@@ -9,9 +9,9 @@ use Rattle.ob_table.specs.declared.contract.Kind.{Kind}
 use Rattle.ob_table.specs.declared.contract.Kind.TheVariants.{Reference}
 use Rattle.ob_table.specs.declared.contract.Param.{Param}
 use Rattle.ob_table.specs.declared.contract.Signature.{Signature}
-use Rattle.ob_content.specs.Values.{Value, reference}
-use Rattle.ob_content.specs.Worlds.{World, Outcome, gives, ◌>>=◌, if_right, with_some}
-use Rattle.ob_content.specs.Marks.{comes_into}
+use Rattle.ob_meaning.specs.Values.{Value, reference}
+use Rattle.ob_meaning.specs.Worlds.{World, Outcome, gives, ◌>>=◌, if_right, with_some}
+use Rattle.ob_meaning.specs.Marks.{comes_into}
 use Rattle.ob_meaning.specs.Frames.{Frame, first_locals, Calls, Flow, goes_on, returns}
 use Rattle.ob_meaning.specs.GoingWrong.{may_return}
 use Rattle.ob_meaning.specs.Statements.{run_all}

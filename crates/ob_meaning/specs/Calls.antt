@@ -10,10 +10,10 @@ use Rattle.ob_table.specs.Tables.{ClassTable, contract_at, signature_at, signatu
 use Rattle.ob_table.specs.declared.contract.Signature.{Signature}
 use Rattle.ob_table.specs.declared.contract.Contract.{Contract}
 use Rattle.ob_typing.specs.WellMade.{constructor_at}
-use Rattle.ob_content.specs.Values.{Value, reference, nothing}
-use Rattle.ob_content.specs.Objects.{Object}
-use Rattle.ob_content.specs.Worlds.{World, objects_most, next_item, by_reentry, by_fuel, by_full, Outcome, gives, abort, ◌>>=◌, if_right, with_some, unless_aborted, unit, with_read, read_object, make_object, with_object}
-use Rattle.ob_content.specs.Marks.{is_in_progress, enter, leave}
+use Rattle.ob_meaning.specs.Values.{Value, reference, nothing}
+use Rattle.ob_meaning.specs.Objects.{Object}
+use Rattle.ob_meaning.specs.Worlds.{World, objects_most, next_item, by_reentry, by_fuel, by_full, Outcome, gives, abort, ◌>>=◌, if_right, with_some, unless_aborted, unit, with_read, read_object, make_object, with_object}
+use Rattle.ob_meaning.specs.Marks.{is_in_progress, enter, leave}
 use Rattle.ob_meaning.specs.Frames.{Frame, of_object, of_this, of_new, Calls}
 use Rattle.ob_meaning.specs.GoingWrong.{is_finished, may_pass, may_begin}
 use Rattle.ob_meaning.specs.Bodies.{args_come, this_comes, comes_in, run_body, run_transaction}

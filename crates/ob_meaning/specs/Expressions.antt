@@ -9,9 +9,9 @@ use Rattle.ob_base.specs.declared.operator.Operator.TheVariants.{And, Or}
 use Rattle.ob_table.specs.Expressions.{Expression, resolved_number, resolved_text, resolved_bool, resolved_seen, resolved_unary, resolved_binary, resolved_call, resolved_new, Arguments, no_arguments, and_argument}
 use Rattle.ob_table.specs.declared.seen.Seen.{Seen}
 use Rattle.ob_table.specs.declared.seen.SeenAt.{SeenAt}
-use Rattle.ob_content.specs.Values.{Value, int_value, bool_value, text_value}
-use Rattle.ob_content.specs.Operations.{Operated, operated, overflows, other_kinds, operate}
-use Rattle.ob_content.specs.Worlds.{World, by_overflow, Outcome, gives, abort, wrong, ◌>>=◌, with_some}
+use Rattle.ob_meaning.specs.Values.{Value, int_value, bool_value, text_value}
+use Rattle.ob_meaning.specs.Operations.{Operated, operated, overflows, other_kinds, operate}
+use Rattle.ob_meaning.specs.Worlds.{World, by_overflow, Outcome, gives, abort, wrong, ◌>>=◌, with_some}
 use Rattle.ob_meaning.specs.Frames.{Frame, Operand, known, named, Locals, Callee, of_object, of_this, of_new, Calls}
 use Rattle.ob_meaning.specs.Naming.{object_seen, read, reference_name, values_of_operands}
 

@@ -6,10 +6,10 @@ use Rattle.std.specs.List.{list_all}
 use Rattle.ob_base.specs.declared.id.StateId.{StateId}
 use Rattle.ob_table.specs.Statements.{GivenField}
 use Rattle.ob_table.specs.declared.contract.Contract.{Contract}
-use Rattle.ob_content.specs.Values.{Value, Numbered, put}
-use Rattle.ob_content.specs.Objects.{Object, has_field, has_all_values}
-use Rattle.ob_content.specs.Worlds.{World, by_state, Outcome, gives, ◌>>=◌, if_right, with_some, unless_aborted, edit_object, with_object}
-use Rattle.ob_content.specs.Marks.{comes_into, is_locked}
+use Rattle.ob_meaning.specs.Values.{Value, Numbered, put}
+use Rattle.ob_meaning.specs.Objects.{Object, has_field, has_all_values}
+use Rattle.ob_meaning.specs.Worlds.{World, by_state, Outcome, gives, ◌>>=◌, if_right, with_some, unless_aborted, edit_object, with_object}
+use Rattle.ob_meaning.specs.Marks.{comes_into, is_locked}
 use Rattle.ob_meaning.specs.Frames.{Frame, Given, Locals, Calls, Flow, goes_on}
 use Rattle.ob_meaning.specs.GoingWrong.{is_assignable, is_givable}
 use Rattle.ob_meaning.specs.Naming.{values_given}

@@ -8,8 +8,8 @@ use Rattle.ob_table.specs.declared.seen.LocalKind.{LocalKind}
 use Rattle.ob_table.specs.declared.contract.Contract.{Contract}
 use Rattle.ob_table.specs.declared.contract.Param.{Param}
 use Rattle.ob_typing.specs.WellMade.{kind_of_table}
-use Rattle.ob_content.specs.Values.{Value, Numbered, nothing, put}
-use Rattle.ob_content.specs.Worlds.{World, Outcome}
+use Rattle.ob_meaning.specs.Values.{Value, Numbered, nothing, put}
+use Rattle.ob_meaning.specs.Worlds.{World, Outcome}
 
 -- what stays while a body runs: the class table, the number of `this`, the number of its contract and the contract, and
 -- whether the body is share-entered: whether it was called on an object that others share

@@ -15,9 +15,9 @@ use Rattle.ob_table.specs.declared.contract.Kind.TheVariants.{Reference}
 use Rattle.ob_table.specs.declared.contract.Param.{Param}
 use Rattle.ob_table.specs.declared.contract.Signature.{Signature}
 use Rattle.ob_table.specs.declared.contract.Contract.{Contract}
-use Rattle.ob_content.specs.Values.{Value, referred}
-use Rattle.ob_content.specs.Objects.{Object, has_field, has_all_values, is_in_states}
-use Rattle.ob_content.specs.Contents.{object_at}
+use Rattle.ob_meaning.specs.Values.{Value, referred}
+use Rattle.ob_meaning.specs.Objects.{Object, has_field, has_all_values, is_in_states}
+use Rattle.ob_meaning.specs.Contents.{object_at}
 
 -- 1. A field of `this` is read that its state lacks or that has no value, or assigned that its state lacks, or given
 -- that the new state lacks.

@@ -7,3 +7,9 @@ pub mod StateTests
 pub mod Statements
 pub mod Bodies
 pub mod Calls
+pub mod Values
+pub mod Operations
+pub mod Objects
+pub mod Contents
+pub mod Worlds
+pub mod Marks

@@ -10,9 +10,9 @@ use Rattle.ob_table.specs.declared.seen.Seen.TheVariants.{This, Local, Field as 
 use Rattle.ob_table.specs.declared.seen.LocalKind.{LocalKind}
 use Rattle.ob_table.specs.declared.seen.LocalKind.TheVariants.{Reference}
 use Rattle.ob_typing.specs.WellMade.{kind_of_table, is_reference}
-use Rattle.ob_content.specs.Values.{Value, reference, referred}
-use Rattle.ob_content.specs.Contents.{object_at}
-use Rattle.ob_content.specs.Worlds.{World, Outcome, gives, with_some}
+use Rattle.ob_meaning.specs.Values.{Value, reference, referred}
+use Rattle.ob_meaning.specs.Contents.{object_at}
+use Rattle.ob_meaning.specs.Worlds.{World, Outcome, gives, with_some}
 use Rattle.ob_meaning.specs.Frames.{Frame, Operand, known, named, Given, Locals}
 use Rattle.ob_meaning.specs.GoingWrong.{is_readable}
 

@@ -5,9 +5,9 @@ use Rattle.ob_base.specs.declared.id.ContractId.{ContractId}
 use Rattle.ob_base.specs.declared.id.StateId.{StateId}
 use Rattle.ob_table.specs.declared.seen.Seen.{Seen}
 use Rattle.ob_table.specs.declared.seen.Seen.TheVariants.{This}
-use Rattle.ob_content.specs.Objects.{Object, is_in_state}
-use Rattle.ob_content.specs.Worlds.{World, by_state, Outcome, gives, ◌>>=◌, with_some, unless_aborted, read_object, with_object}
-use Rattle.ob_content.specs.Marks.{is_locked, lock, unlock, is_in_progress}
+use Rattle.ob_meaning.specs.Objects.{Object, is_in_state}
+use Rattle.ob_meaning.specs.Worlds.{World, by_state, Outcome, gives, ◌>>=◌, with_some, unless_aborted, read_object, with_object}
+use Rattle.ob_meaning.specs.Marks.{is_locked, lock, unlock, is_in_progress}
 use Rattle.ob_meaning.specs.Frames.{Frame, Locals, Flow}
 use Rattle.ob_meaning.specs.Naming.{object_seen, contract_seen}
 

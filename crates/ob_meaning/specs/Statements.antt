@@ -5,9 +5,9 @@ use Rattle.ob_table.specs.Expressions.{Expression}
 use Rattle.ob_table.specs.Statements.{Statement, resolved_declare, resolved_assign, resolved_stage, resolved_change, resolved_discard, resolved_test, resolved_if, resolved_return, resolved_revert, resolved_disown, resolved_assert, Block, resolved_block, Otherwise, no_otherwise, otherwise_block, Statements, no_statements, and_statement}
 use Rattle.ob_table.specs.declared.seen.Seen.{Seen}
 use Rattle.ob_table.specs.declared.seen.Seen.TheVariants.{This, Local, Field as FieldSeen}
-use Rattle.ob_content.specs.Values.{Value, bool_value, text_value, put}
-use Rattle.ob_content.specs.Worlds.{World, by_revert, Outcome, gives, abort, wrong, ◌>>=◌, if_right, with_some, unit}
-use Rattle.ob_content.specs.Marks.{mark_disowned}
+use Rattle.ob_meaning.specs.Values.{Value, bool_value, text_value, put}
+use Rattle.ob_meaning.specs.Worlds.{World, by_revert, Outcome, gives, abort, wrong, ◌>>=◌, if_right, with_some, unit}
+use Rattle.ob_meaning.specs.Marks.{mark_disowned}
 use Rattle.ob_meaning.specs.Frames.{Frame, Variable, Given, Locals, Calls, Flow, goes_on, returns}
 use Rattle.ob_meaning.specs.GoingWrong.{is_followed}
 use Rattle.ob_meaning.specs.Naming.{object_seen}

@@ -1,2 +1,3 @@
-//! What the body of a transaction does: the meaning of its expressions, its statements and its calls.
+//! What a store holds, the world that a run works on, and what the body of a transaction does in it: the meaning of its
+//! expressions, its statements and its calls.
 #![tactic(auto)]

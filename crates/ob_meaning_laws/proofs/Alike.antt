@@ -1,10 +1,10 @@
 -- Two ends of a run that are the same, and whose worlds follow that of its start.
 use Rattle.std.proofs.Common.{◌≡◌, ℕ, zero, suc, ◌<◌, ◌≤◌, Bool, true, false, List, Option, Some, None, refl, ap, subst, arith}
-use Rattle.ob_content.specs.Objects.{Object}
-use Rattle.ob_content.specs.Contents.{object_at}
-use Rattle.ob_content.specs.Values.{Value}
-use Rattle.ob_content.specs.Worlds.{World, Cause, Outcome, gives, aborts, wrong, abort, ◌>>=◌, if_right, with_some, with_object, unless_aborted, with_unit_taken, with_fuel, unit}
-use Rattle.ob_content.specs.Marks.{lock, unlock, enter, leave}
+use Rattle.ob_meaning.specs.Objects.{Object}
+use Rattle.ob_meaning.specs.Contents.{object_at}
+use Rattle.ob_meaning.specs.Values.{Value}
+use Rattle.ob_meaning.specs.Worlds.{World, Cause, Outcome, gives, aborts, wrong, abort, ◌>>=◌, if_right, with_some, with_object, unless_aborted, with_unit_taken, with_fuel, unit}
+use Rattle.ob_meaning.specs.Marks.{lock, unlock, enter, leave}
 use Rattle.ob_meaning.specs.Frames.{Callee, Calls}
 use Rattle.ob_meaning_laws.specs.Laws.{EndsSo}
 use Rattle.ob_meaning_laws.proofs.Follows.{Follows, Tells, follows_self, follows_on, tells_on, tells_now, follows_unit, lock_ends, progress_ends}

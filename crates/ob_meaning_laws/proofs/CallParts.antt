@@ -7,9 +7,9 @@ use Rattle.ob_table.specs.Tables.{ClassTable, contract_at, signature_at, signatu
 use Rattle.ob_table.specs.declared.contract.Signature.{Signature}
 use Rattle.ob_table.specs.declared.contract.Contract.{Contract}
 use Rattle.ob_typing.specs.WellMade.{constructor_at}
-use Rattle.ob_content.specs.Values.{Value}
-use Rattle.ob_content.specs.Worlds.{World, objects_most, next_item, by_reentry, by_full, with_read, read_object, make_object}
-use Rattle.ob_content.specs.Marks.{is_in_progress, enter}
+use Rattle.ob_meaning.specs.Values.{Value}
+use Rattle.ob_meaning.specs.Worlds.{World, objects_most, next_item, by_reentry, by_full, with_read, read_object, make_object}
+use Rattle.ob_meaning.specs.Marks.{is_in_progress, enter}
 use Rattle.ob_meaning.specs.Frames.{Frame, first_locals, Callee, of_object, of_this, of_new, Calls}
 use Rattle.ob_meaning.specs.GoingWrong.{is_finished, may_pass, may_begin, may_return}
 use Rattle.ob_meaning.specs.Bodies.{args_come, comes_in, result_of, run_body, run_transaction}

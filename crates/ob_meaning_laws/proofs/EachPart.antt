@@ -3,8 +3,8 @@ use Rattle.std.proofs.Common.{◌≡◌, ℕ, suc, ◌≤◌, List, arith}
 use Rattle.ob_table.specs.Expressions.{Expression}
 use Rattle.ob_table.specs.Statements.{Statements}
 use Rattle.ob_table.specs.Tables.{ClassTable}
-use Rattle.ob_content.specs.Values.{Value}
-use Rattle.ob_content.specs.Worlds.{World, Spent, Outcome, gives, aborts, wrong}
+use Rattle.ob_meaning.specs.Values.{Value}
+use Rattle.ob_meaning.specs.Worlds.{World, Spent, Outcome, gives, aborts, wrong}
 use Rattle.ob_meaning.specs.Frames.{Frame, Locals, Callee}
 use Rattle.ob_meaning.specs.Expressions.{value_of}
 use Rattle.ob_meaning.specs.Statements.{run_all}

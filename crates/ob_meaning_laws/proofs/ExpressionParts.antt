@@ -7,9 +7,9 @@ use Rattle.ob_base.specs.declared.operator.Operator.{Operator}
 use Rattle.ob_table.specs.Expressions.{Expression, resolved_number, resolved_text, resolved_bool, resolved_seen, resolved_unary, resolved_binary, resolved_call, resolved_new, Arguments, no_arguments, and_argument}
 use Rattle.ob_table.specs.declared.seen.Seen.{Seen}
 use Rattle.ob_table.specs.declared.seen.SeenAt.{SeenAt}
-use Rattle.ob_content.specs.Values.{Value}
-use Rattle.ob_content.specs.Operations.{Operated, operated, overflows, other_kinds, operate}
-use Rattle.ob_content.specs.Worlds.{World, by_overflow, Outcome}
+use Rattle.ob_meaning.specs.Values.{Value}
+use Rattle.ob_meaning.specs.Operations.{Operated, operated, overflows, other_kinds, operate}
+use Rattle.ob_meaning.specs.Worlds.{World, by_overflow, Outcome}
 use Rattle.ob_meaning.specs.Frames.{Frame, Operand, named, Locals, of_new, Calls}
 use Rattle.ob_meaning.specs.Naming.{value_seen, reference_name, values_of_operands}
 use Rattle.ob_meaning.specs.Expressions.{after_operation, Settled, decides, gives_right, works, unfit, settled, after_left, operand_or, with_result, callee_of, started, constructed, value_of, operands_of, operand_of, let_go, run_alone}

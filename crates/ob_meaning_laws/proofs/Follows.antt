@@ -3,10 +3,10 @@ use Rattle.std.proofs.Common.{◌≡◌, ◌≢◌, ℕ, zero, suc, ◌+◌, ◌
 use Rattle.std.proofs.lemmas.List.Folds.{list_any-append}
 use Rattle.std.specs.Prelude.{slice_get, slice_set, nat_eq, if◌then◌else◌}
 use Rattle.std.specs.Option.{option_map_or}
-use Rattle.ob_content.specs.Objects.{Object}
-use Rattle.ob_content.specs.Contents.{object_at}
-use Rattle.ob_content.specs.Worlds.{Item, object_item, World, Spent, is_made, with_unit_taken, with_read, read_object, set_object, edit_object, make_object}
-use Rattle.ob_content.specs.Marks.{is_among, without_first, lock, unlock, enter, leave}
+use Rattle.ob_meaning.specs.Objects.{Object}
+use Rattle.ob_meaning.specs.Contents.{object_at}
+use Rattle.ob_meaning.specs.Worlds.{Item, object_item, World, Spent, is_made, with_unit_taken, with_read, read_object, set_object, edit_object, make_object}
+use Rattle.ob_meaning.specs.Marks.{is_among, without_first, lock, unlock, enter, leave}
 use Rattle.ob_meaning_laws.specs.Laws.{Grows, KeepsObjects}
 
 -- all that one world keeps of an earlier one

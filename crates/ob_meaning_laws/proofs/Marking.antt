@@ -12,9 +12,9 @@ use Rattle.ob_table.specs.declared.contract.Field.{Field}
 use Rattle.ob_table.specs.declared.contract.Param.{Param}
 use Rattle.ob_table.specs.declared.contract.Contract.{Contract}
 use Rattle.ob_table.specs.declared.contract.Signature.{Signature}
-use Rattle.ob_content.specs.Values.{Value, int_value, bool_value, text_value, reference}
-use Rattle.ob_content.specs.Worlds.{World, read_object}
-use Rattle.ob_content.specs.Marks.{has_mark, mark_shared, mark_disowned, comes_into}
+use Rattle.ob_meaning.specs.Values.{Value, int_value, bool_value, text_value, reference}
+use Rattle.ob_meaning.specs.Worlds.{World, read_object}
+use Rattle.ob_meaning.specs.Marks.{has_mark, mark_shared, mark_disowned, comes_into}
 use Rattle.ob_meaning.specs.Fields.{comes_into_field, come_into_fields}
 use Rattle.ob_meaning.specs.Bodies.{args_come, this_comes, result_goes, comes_in}
 use Rattle.ob_meaning_laws.proofs.Follows.{Follows, follows_self, follows_on, follows_read_object, follows_edit}

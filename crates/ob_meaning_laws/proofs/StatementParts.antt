@@ -7,10 +7,10 @@ use Rattle.ob_table.specs.Expressions.{Expression}
 use Rattle.ob_table.specs.Statements.{GivenField, Statement, resolved_declare, resolved_assign, resolved_stage, resolved_change, resolved_discard, resolved_test, resolved_if, resolved_return, resolved_revert, resolved_disown, resolved_assert, Block, resolved_block, Otherwise, no_otherwise, otherwise_block, Statements, no_statements, and_statement}
 use Rattle.ob_table.specs.declared.seen.Seen.{Seen}
 use Rattle.ob_table.specs.declared.seen.Seen.TheVariants.{This, Local, Field as FieldSeen}
-use Rattle.ob_content.specs.Values.{Value, int_value, bool_value, text_value, reference}
-use Rattle.ob_content.specs.Objects.{has_all_values}
-use Rattle.ob_content.specs.Worlds.{World, by_revert, by_state, Outcome, read_object, edit_object}
-use Rattle.ob_content.specs.Marks.{is_locked, lock}
+use Rattle.ob_meaning.specs.Values.{Value, int_value, bool_value, text_value, reference}
+use Rattle.ob_meaning.specs.Objects.{has_all_values}
+use Rattle.ob_meaning.specs.Worlds.{World, by_revert, by_state, Outcome, read_object, edit_object}
+use Rattle.ob_meaning.specs.Marks.{is_locked, lock}
 use Rattle.ob_meaning.specs.Frames.{Frame, Given, Locals, Calls, Flow, goes_on, returns}
 use Rattle.ob_meaning.specs.GoingWrong.{is_assignable, is_givable, is_followed}
 use Rattle.ob_meaning.specs.Naming.{object_seen, contract_seen, values_given}

@@ -8,9 +8,9 @@ use Rattle.ob_table.specs.Tables.{ClassTable}
 use Rattle.ob_table.specs.declared.contract.Kind.TheVariants.{Int}
 use Rattle.ob_table.specs.declared.contract.Signature.{Signature}
 use Rattle.ob_table.specs.declared.contract.Contract.{Contract}
-use Rattle.ob_content.specs.Values.{int_value, nothing}
-use Rattle.ob_content.specs.Objects.{Object}
-use Rattle.ob_content.specs.Worlds.{object_item, by_overflow}
+use Rattle.ob_meaning.specs.Values.{int_value, nothing}
+use Rattle.ob_meaning.specs.Objects.{Object}
+use Rattle.ob_meaning.specs.Worlds.{object_item, by_overflow}
 use Rattle.ob_meaning_laws.specs.Written.{on_line, contract_number, as_unowned, local_at, value_at, param, signature, default_constructor, body, Told, tells, tells_abort, told, spending, run_on_store}
 
 -- a transaction of two whole numbers that gives one

@@ -5,11 +5,11 @@ use Rattle.ob_table.specs.Expressions.{Expression}
 use Rattle.ob_table.specs.Statements.{Statement, Statements, and_statement, ResolvedBody}
 use Rattle.ob_table.specs.Tables.{ClassTable, body_at}
 use Rattle.ob_table.specs.declared.contract.Signature.{Signature}
-use Rattle.ob_content.specs.Values.{Value}
-use Rattle.ob_content.specs.Objects.{Object}
-use Rattle.ob_content.specs.Contents.{object_at}
-use Rattle.ob_content.specs.Worlds.{World, Cause, Spent, Outcome, gives, aborts, wrong}
-use Rattle.ob_content.specs.Marks.{is_among}
+use Rattle.ob_meaning.specs.Values.{Value}
+use Rattle.ob_meaning.specs.Objects.{Object}
+use Rattle.ob_meaning.specs.Contents.{object_at}
+use Rattle.ob_meaning.specs.Worlds.{World, Cause, Spent, Outcome, gives, aborts, wrong}
+use Rattle.ob_meaning.specs.Marks.{is_among}
 use Rattle.ob_meaning.specs.Frames.{Frame, Locals, first_locals, Callee, Calls, Flow}
 use Rattle.ob_meaning.specs.GoingWrong.{is_followed}
 use Rattle.ob_meaning.specs.Expressions.{value_of}

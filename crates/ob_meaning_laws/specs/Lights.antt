@@ -6,9 +6,9 @@ use Rattle.ob_table.specs.Tables.{ClassTable}
 use Rattle.ob_table.specs.declared.seen.LocalKind.TheVariants.{Reference as ReferenceLocal}
 use Rattle.ob_table.specs.declared.contract.Kind.TheVariants.{Reference}
 use Rattle.ob_table.specs.declared.contract.Contract.{Contract}
-use Rattle.ob_content.specs.Values.{Value, reference, nothing}
-use Rattle.ob_content.specs.Objects.{Object}
-use Rattle.ob_content.specs.Worlds.{Outcome, object_item, next_item, by_state}
+use Rattle.ob_meaning.specs.Values.{Value, reference, nothing}
+use Rattle.ob_meaning.specs.Objects.{Object}
+use Rattle.ob_meaning.specs.Worlds.{Outcome, object_item, next_item, by_state}
 use Rattle.ob_meaning_laws.specs.Laws.{objects_after}
 use Rattle.ob_meaning_laws.specs.Written.{on_line, contract_number, state_of_number, transaction_number, as_shared, as_unowned, local_at, param, signature, default_constructor, body, Told, tells, tells_abort, spending, run_on_store}
 

@@ -5,9 +5,9 @@ use Rattle.ob_table.specs.Statements.{Statement, resolved_stage, resolved_change
 use Rattle.ob_table.specs.Tables.{ClassTable}
 use Rattle.ob_table.specs.declared.contract.Kind.TheVariants.{Int}
 use Rattle.ob_table.specs.declared.contract.Contract.{Contract}
-use Rattle.ob_content.specs.Values.{int_value, nothing}
-use Rattle.ob_content.specs.Objects.{Object}
-use Rattle.ob_content.specs.Worlds.{object_item}
+use Rattle.ob_meaning.specs.Values.{int_value, nothing}
+use Rattle.ob_meaning.specs.Objects.{Object}
+use Rattle.ob_meaning.specs.Worlds.{object_item}
 use Rattle.ob_meaning_laws.specs.Written.{on_line, contract_number, field_number, state_of_number, owner_in, as_unowned, field_at_line, value_at, signature, body, Told, tells, told, spending, run_on_store}
 
 -- `state Open { int n; } state Shut;`, a constructor, and `look`, `open`, `shut`, `stay`, `half` and `fill`

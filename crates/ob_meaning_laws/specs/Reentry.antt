@@ -6,9 +6,9 @@ use Rattle.ob_table.specs.Tables.{ClassTable}
 use Rattle.ob_table.specs.declared.seen.LocalKind.TheVariants.{Reference as ReferenceLocal}
 use Rattle.ob_table.specs.declared.contract.Kind.TheVariants.{Int, Reference}
 use Rattle.ob_table.specs.declared.contract.Contract.{Contract}
-use Rattle.ob_content.specs.Values.{int_value, nothing, put}
-use Rattle.ob_content.specs.Objects.{Object}
-use Rattle.ob_content.specs.Worlds.{object_item, next_item, by_reentry}
+use Rattle.ob_meaning.specs.Values.{int_value, nothing, put}
+use Rattle.ob_meaning.specs.Objects.{Object}
+use Rattle.ob_meaning.specs.Worlds.{object_item, next_item, by_reentry}
 use Rattle.ob_meaning_laws.specs.Written.{on_line, contract_number, transaction_number, as_shared, as_unowned, anywhere_bits, this_at, local_at, field_at_line, value_at, param, signature, default_constructor, body, Told, tells, tells_abort, told, spending, run_on_store}
 
 -- `contract B { transaction back(A@Shared a) returns int { return a.get(); } }`

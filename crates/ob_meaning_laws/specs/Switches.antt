@@ -6,9 +6,9 @@ use Rattle.ob_table.specs.Statements.{resolved_change, resolved_discard, resolve
 use Rattle.ob_table.specs.Tables.{ClassTable}
 use Rattle.ob_table.specs.declared.contract.Kind.TheVariants.{Int, Reference}
 use Rattle.ob_table.specs.declared.contract.Contract.{Contract}
-use Rattle.ob_content.specs.Values.{int_value, reference, nothing}
-use Rattle.ob_content.specs.Objects.{Object}
-use Rattle.ob_content.specs.Worlds.{object_item}
+use Rattle.ob_meaning.specs.Values.{int_value, reference, nothing}
+use Rattle.ob_meaning.specs.Objects.{Object}
+use Rattle.ob_meaning.specs.Worlds.{object_item}
 use Rattle.ob_meaning_laws.specs.Written.{on_line, contract_number, state_of_number, transaction_number, as_shared, as_unowned, local_at, param, signature, default_constructor, body, Told, tells, told, spending, run_on_store}
 
 -- `interface Switch { state On; transaction flip(Switch@Shared this); }`

@@ -8,10 +8,10 @@ use Rattle.ob_table.specs.Tables.{ClassTable}
 use Rattle.ob_table.specs.declared.seen.LocalKind.TheVariants.{Reference as ReferenceLocal}
 use Rattle.ob_table.specs.declared.contract.Kind.TheVariants.{Int, Reference}
 use Rattle.ob_table.specs.declared.contract.Contract.{Contract}
-use Rattle.ob_content.specs.Values.{int_value, reference, nothing, put}
-use Rattle.ob_content.specs.Objects.{Object}
-use Rattle.ob_content.specs.Contents.{Content}
-use Rattle.ob_content.specs.Worlds.{object_item, by_fuel}
+use Rattle.ob_meaning.specs.Values.{int_value, reference, nothing, put}
+use Rattle.ob_meaning.specs.Objects.{Object}
+use Rattle.ob_meaning.specs.Contents.{Content}
+use Rattle.ob_meaning.specs.Worlds.{object_item, by_fuel}
 use Rattle.ob_meaning_laws.specs.Written.{on_line, contract_number, state_of_number, owner_in, as_unowned, stateless_bit, anywhere_bits, local_at, field_at_line, value_at, param, signature, default_constructor, body, Told, tells, tells_abort, told, spending, run_on_store}
 
 -- `asset contract Coin { }`

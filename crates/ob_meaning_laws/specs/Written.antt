@@ -16,9 +16,9 @@ use Rattle.ob_table.specs.declared.seen.SeenAt.{SeenAt}
 use Rattle.ob_table.specs.declared.contract.Kind.{Kind}
 use Rattle.ob_table.specs.declared.contract.Param.{Param}
 use Rattle.ob_table.specs.declared.contract.Signature.{Signature}
-use Rattle.ob_content.specs.Values.{Value}
-use Rattle.ob_content.specs.Objects.{Object, state_number}
-use Rattle.ob_content.specs.Worlds.{Cause, Item, Spent, spent, Outcome, gives, aborts, wrong, first_world}
+use Rattle.ob_meaning.specs.Values.{Value}
+use Rattle.ob_meaning.specs.Objects.{Object, state_number}
+use Rattle.ob_meaning.specs.Worlds.{Cause, Item, Spent, spent, Outcome, gives, aborts, wrong, first_world}
 use Rattle.ob_meaning.specs.Frames.{of_object}
 use Rattle.ob_meaning.specs.Calls.{call_at}
 

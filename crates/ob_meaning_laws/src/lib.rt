@@ -2,7 +2,7 @@
 #![tactic(auto)]
 
 ghost use Rattle.std.specs.Prelude.{◌≡◌, pos, negsuc};
-ghost use Rattle.ob_content.specs.Contents.{IsContent};
+ghost use Rattle.ob_meaning.specs.Contents.{IsContent};
 ghost use Rattle.ob_meaning_laws.specs.Laws.{OfCalls, OfExpressions, OfStatements, UnitsAddUp, ReadsGrow, OthersStay, LocksEnd, DepthIsEnoughForCalls, DepthIsEnoughForExpressions, DepthIsEnoughForStatements, AbortEndsStatements, AbortEndsBody, AbortKeepsObjects};
 ghost use Rattle.ob_meaning_laws.specs.Written.{told, tells_wrong};
 ghost use Rattle.ob_meaning_laws.specs.VendingMachine.{vending_machine, vending_content, candy_bought, one_sold, out_of_units};

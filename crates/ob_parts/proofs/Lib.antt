@@ -6,3 +6,7 @@ pub mod WrittenLemmas
 pub mod ParamLemmas
 pub mod ListedLemmas
 pub mod FieldLemmas
+pub mod AgreeLemmas
+pub mod HeldLemmas
+pub mod SameLemmas
+pub mod AskedLemmas

@@ -2,9 +2,9 @@
 use Rattle.std.proofs.Common.{◌≡◌, ℕ, zero, suc, ◌+◌, Bool, true, false, Option, Some, None, refl, ◌∙◌, arith}
 use Rattle.std.specs.Prelude.{if◌then◌else◌}
 use Rattle.ob_table.specs.declared.contract.Kind.{Kind}
-use Rattle.ob_content.specs.Values.{Value}
-use Rattle.ob_content.specs.Worlds.{World, Spent, Cause, by_fuel, with_unit_taken}
-use Rattle.ob_content.specs.Marks.{comes_into, lock, unlock, enter, leave}
+use Rattle.ob_meaning.specs.Values.{Value}
+use Rattle.ob_meaning.specs.Worlds.{World, Spent, Cause, by_fuel, with_unit_taken}
+use Rattle.ob_meaning.specs.Marks.{comes_into, lock, unlock, enter, leave}
 use Rattle.ob_meaning.specs.Fields.{with_field}
 use Rattle.ob_meaning_laws.specs.Laws.{Grows, KeepsObjects}
 use Rattle.ob_meaning_laws.proofs.Follows.{Follows, Tells, grows_none, grows_on, keeps_all, keeps_on, follows_unit, follows_edit}

@@ -2,3 +2,5 @@ pub mod Keeping
 pub mod StepsKeep
 pub mod Counting
 pub mod Parts
+pub mod Outcomes
+pub mod Exits

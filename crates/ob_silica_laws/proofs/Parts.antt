@@ -1,5 +1,5 @@
 -- What all steps keep, part by part.
-use Rattle.ob_content.specs.Worlds.{World}
+use Rattle.ob_meaning.specs.Worlds.{World}
 use Rattle.ob_silica_steps.specs.Configurations.{Next, goes, ended, aborted, stuck}
 use Rattle.ob_silica_laws.specs.Laws.{UnitsAddUp, ReadsGrow, OthersStay}
 use Rattle.ob_silica_laws.proofs.Keeping.{Leads}

@@ -12,12 +12,12 @@ use Rattle.ob_table.specs.declared.contract.Kind.{Kind}
 use Rattle.ob_table.specs.declared.contract.Kind.TheVariants.{Reference as TypedReference}
 use Rattle.ob_typing.specs.WellMade.{kind_of_table}
 use Rattle.ob_table.specs.declared.contract.Signature.{Signature}
-use Rattle.ob_content.specs.Values.{Value, int_value, bool_value, text_value, reference, referred, Numbered, nothing, put}
-use Rattle.ob_content.specs.Objects.{Object, has_field, has_all_values}
-use Rattle.ob_content.specs.Contents.{object_at}
-use Rattle.ob_content.specs.Operations.{Operated, operated, overflows, other_kinds}
-use Rattle.ob_content.specs.Worlds.{World, by_state, by_reentry, next_item, with_read, read_object}
-use Rattle.ob_content.specs.Marks.{comes_into, is_locked, is_in_progress}
+use Rattle.ob_meaning.specs.Values.{Value, int_value, bool_value, text_value, reference, referred, Numbered, nothing, put}
+use Rattle.ob_meaning.specs.Objects.{Object, has_field, has_all_values}
+use Rattle.ob_meaning.specs.Contents.{object_at}
+use Rattle.ob_meaning.specs.Operations.{Operated, operated, overflows, other_kinds}
+use Rattle.ob_meaning.specs.Worlds.{World, by_state, by_reentry, next_item, with_read, read_object}
+use Rattle.ob_meaning.specs.Marks.{comes_into, is_locked, is_in_progress}
 use Rattle.ob_meaning.specs.Calls.{answering, unfinished}
 use Rattle.ob_meaning.specs.GoingWrong.{is_within, is_finished}
 use Rattle.ob_meaning_laws.proofs.Follows.{follows_read, follows_read_object, follows_edit, follows_make}

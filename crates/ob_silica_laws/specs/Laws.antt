@@ -1,6 +1,6 @@
 -- What is kept by each step, and by any number of them (this project's own).
 use Rattle.std.specs.Prelude.{◌≡◌, ◌+◌, ◌≤◌, ⊤}
-use Rattle.ob_content.specs.Worlds.{World, Spent}
+use Rattle.ob_meaning.specs.Worlds.{World, Spent}
 use Rattle.ob_meaning_laws.specs.Laws.{Grows, KeepsObjects}
 use Rattle.ob_silica_steps.specs.Configurations.{Next, goes, ended, aborted, stuck}
 

@@ -2,8 +2,8 @@
 ghost use Rattle.std.specs.Prelude.{◌≡◌, ◌+◌, ℕ, List};
 ghost use Rattle.ob_base.specs.declared.id.ContractId.{ContractId};
 ghost use Rattle.ob_base.specs.declared.id.TxId.{TxId};
-ghost use Rattle.ob_content.specs.Values.{Value};
-ghost use Rattle.ob_content.specs.Worlds.{World};
+ghost use Rattle.ob_meaning.specs.Values.{Value};
+ghost use Rattle.ob_meaning.specs.Worlds.{World};
 ghost use Rattle.ob_silica_steps.specs.Configurations.{SilicaProgram, Configuration, Notes};
 ghost use Rattle.ob_silica_steps.specs.Steps.{then_steps, steps};
 ghost use Rattle.ob_silica_steps.specs.Starting.{started_call, started_new};

@@ -10,7 +10,7 @@ use Rattle.ob_table.specs.declared.contract.Kind.TheVariants.{Reference}
 use Rattle.ob_table.specs.declared.contract.Param.{Param}
 use Rattle.ob_table.specs.declared.contract.Signature.{Signature}
 use Rattle.ob_typing.specs.WellMade.{kind_of_table}
-use Rattle.ob_content.specs.Values.{Value, nothing}
+use Rattle.ob_meaning.specs.Values.{Value, nothing}
 use Rattle.ob_silica_steps.specs.Cells.{Location, slot, field, Known, Cell, cell, permission_of_kind}
 use Rattle.ob_silica_steps.specs.Configurations.{Slots, Loan, Next, stuck}
 use Rattle.ob_silica_steps.specs.Here.{Here, at, read, hand, if_there}

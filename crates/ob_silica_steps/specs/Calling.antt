@@ -4,8 +4,8 @@ use Rattle.std.specs.Prelude.{ℕ, List, ◌∷◌, Option, Some}
 use Rattle.ob_base.specs.declared.id.ContractId.{ContractId}
 use Rattle.ob_base.specs.declared.id.TxId.{TxId}
 use Rattle.ob_table.specs.Tables.{signature_of}
-use Rattle.ob_content.specs.Values.{referred}
-use Rattle.ob_content.specs.Worlds.{World}
+use Rattle.ob_meaning.specs.Values.{referred}
+use Rattle.ob_meaning.specs.Worlds.{World}
 use Rattle.ob_silica.specs.Terms.{SilicaTerms}
 use Rattle.ob_silica_steps.specs.Cells.{Location, this}
 use Rattle.ob_silica_steps.specs.Configurations.{SilicaProgram, Rest, Waiting, Configuration, Next}

@@ -10,7 +10,7 @@ use Rattle.ob_table.specs.declared.contract.Kind.TheVariants.{Reference as Typed
 use Rattle.ob_table.specs.declared.seen.LocalKind.{LocalKind}
 use Rattle.ob_table.specs.declared.seen.LocalKind.TheVariants as kind
 use Rattle.ob_typing.specs.WellMade.{kind_of_binary}
-use Rattle.ob_content.specs.Values.{Value, int_value, bool_value, text_value, referred}
+use Rattle.ob_meaning.specs.Values.{Value, int_value, bool_value, text_value, referred}
 use Rattle.ob_silica.specs.declared.place.Constant.{Constant}
 use Rattle.ob_silica.specs.declared.place.Constant.TheVariants as constant
 use Rattle.ob_silica.specs.declared.place.Operand.{Operand}

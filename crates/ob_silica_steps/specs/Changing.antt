@@ -7,10 +7,10 @@ use Rattle.ob_perm.specs.Permissions.{owned, owns}
 use Rattle.ob_table.specs.Tables.{ClassTable, contract_at}
 use Rattle.ob_table.specs.declared.contract.Contract.{Contract}
 use Rattle.ob_table.specs.declared.contract.Field.{Field}
-use Rattle.ob_content.specs.Values.{Value, Numbered, nothing, put}
-use Rattle.ob_content.specs.Objects.{Object, has_field, has_all_values}
-use Rattle.ob_content.specs.Worlds.{edit_object, by_state}
-use Rattle.ob_content.specs.Marks.{is_locked}
+use Rattle.ob_meaning.specs.Values.{Value, Numbered, nothing, put}
+use Rattle.ob_meaning.specs.Objects.{Object, has_field, has_all_values}
+use Rattle.ob_meaning.specs.Worlds.{edit_object, by_state}
+use Rattle.ob_meaning.specs.Marks.{is_locked}
 use Rattle.ob_silica.specs.Terms.{SilicaTerms}
 use Rattle.ob_silica.specs.declared.place.Given.{Given}
 use Rattle.ob_silica_steps.specs.Cells.{located, Known, Cell, noted}

@@ -5,8 +5,8 @@ use Rattle.ob_base.specs.declared.id.ContractId.{ContractId}
 use Rattle.ob_base.specs.declared.id.TxId.{TxId}
 use Rattle.ob_perm.specs.Permissions.{Permission}
 use Rattle.ob_table.specs.Tables.{ClassTable}
-use Rattle.ob_content.specs.Values.{Value, Numbered}
-use Rattle.ob_content.specs.Worlds.{World, Cause, Spent, spent}
+use Rattle.ob_meaning.specs.Values.{Value, Numbered}
+use Rattle.ob_meaning.specs.Worlds.{World, Cause, Spent, spent}
 use Rattle.ob_silica.specs.Terms.{SilicaTerms, SilicaBody}
 use Rattle.ob_silica_steps.specs.Cells.{Location, Known, Cell}
 

@@ -11,11 +11,11 @@ use Rattle.ob_perm.specs.Masks.{permission_of}
 use Rattle.ob_table.specs.Tables.{ClassTable, contract_at, signature_at}
 use Rattle.ob_table.specs.declared.contract.Signature.{Signature}
 use Rattle.ob_table.specs.declared.seen.LocalKind.TheVariants.{Reference}
-use Rattle.ob_content.specs.Values.{reference}
-use Rattle.ob_content.specs.Objects.{Object}
-use Rattle.ob_content.specs.Contents.{object_at}
-use Rattle.ob_content.specs.Worlds.{World, objects_most, next_item, with_read, read_object, make_object, by_reentry, by_full}
-use Rattle.ob_content.specs.Marks.{is_in_progress, enter}
+use Rattle.ob_meaning.specs.Values.{reference}
+use Rattle.ob_meaning.specs.Objects.{Object}
+use Rattle.ob_meaning.specs.Contents.{object_at}
+use Rattle.ob_meaning.specs.Worlds.{World, objects_most, next_item, with_read, read_object, make_object, by_reentry, by_full}
+use Rattle.ob_meaning.specs.Marks.{is_in_progress, enter}
 use Rattle.ob_meaning.specs.GoingWrong.{is_within}
 use Rattle.ob_meaning.specs.Calls.{answering, unfinished}
 use Rattle.ob_silica_steps.specs.Cells.{Cell, cell, value_in}

@@ -5,11 +5,11 @@ use Rattle.ob_perm.specs.Permissions.{Permission, owned, shared, unowned, kept}
 use Rattle.ob_table.specs.Tables.{ClassTable, contract_at}
 use Rattle.ob_table.specs.declared.contract.Field.{Field}
 use Rattle.ob_table.specs.declared.contract.Kind.{Kind}
-use Rattle.ob_content.specs.Values.{Value}
-use Rattle.ob_content.specs.Objects.{Object, has_field}
-use Rattle.ob_content.specs.Contents.{object_at}
-use Rattle.ob_content.specs.Worlds.{World, edit_object, with_unit_taken, by_fuel}
-use Rattle.ob_content.specs.Marks.{comes_into}
+use Rattle.ob_meaning.specs.Values.{Value}
+use Rattle.ob_meaning.specs.Objects.{Object, has_field}
+use Rattle.ob_meaning.specs.Contents.{object_at}
+use Rattle.ob_meaning.specs.Worlds.{World, edit_object, with_unit_taken, by_fuel}
+use Rattle.ob_meaning.specs.Marks.{comes_into}
 use Rattle.ob_meaning.specs.Fields.{with_field}
 use Rattle.ob_silica_steps.specs.Cells.{Location, slot, field, Known, known, Cell, noted, permission_in, object_in, permission_of_kind}
 use Rattle.ob_silica_steps.specs.Configurations.{Slots, Notes, Control, Configuration, Next, goes, abort, stuck}

@@ -6,8 +6,8 @@ use Rattle.ob_table.specs.Tables.{ClassTable, contract_at, signature_of}
 use Rattle.ob_table.specs.declared.contract.Kind.{Kind}
 use Rattle.ob_table.specs.declared.contract.Kind.TheVariants.{Reference as TypedReference}
 use Rattle.ob_table.specs.declared.contract.Signature.{Signature}
-use Rattle.ob_content.specs.Worlds.{World}
-use Rattle.ob_content.specs.Marks.{leave}
+use Rattle.ob_meaning.specs.Worlds.{World}
+use Rattle.ob_meaning.specs.Marks.{leave}
 use Rattle.ob_meaning.specs.GoingWrong.{is_within, kind_at_exit, is_finished}
 use Rattle.ob_silica_steps.specs.Cells.{Location, this, Cell, noted, value_in}
 use Rattle.ob_silica_steps.specs.Configurations.{SilicaProgram, Slots, How, by_receiver, by_this, by_new, Rest, Loan, Waiting, runs, leaves, Configuration, Next, goes, ended, stuck}

@@ -8,11 +8,11 @@ use Rattle.ob_table.specs.Tables.{ClassTable, signature_of}
 use Rattle.ob_table.specs.declared.contract.Kind.{Kind}
 use Rattle.ob_table.specs.declared.seen.LocalKind.TheVariants.{Int}
 use Rattle.ob_typing.specs.WellMade.{kind_of_table}
-use Rattle.ob_content.specs.Values.{Value, reference, nothing}
-use Rattle.ob_content.specs.Objects.{Object}
-use Rattle.ob_content.specs.Contents.{object_at}
-use Rattle.ob_content.specs.Worlds.{World}
-use Rattle.ob_content.specs.Marks.{comes_into}
+use Rattle.ob_meaning.specs.Values.{Value, reference, nothing}
+use Rattle.ob_meaning.specs.Objects.{Object}
+use Rattle.ob_meaning.specs.Contents.{object_at}
+use Rattle.ob_meaning.specs.Worlds.{World}
+use Rattle.ob_meaning.specs.Marks.{comes_into}
 use Rattle.ob_silica_steps.specs.Cells.{Known, known, permission_of_kind}
 use Rattle.ob_silica_steps.specs.Configurations.{SilicaProgram, Slots, HandleNote, Notes, Next, stuck}
 use Rattle.ob_silica_steps.specs.Here.{at, if_there, field_of, with_unit}

@@ -1,8 +1,8 @@
 -- Silica steps: one case for each form (Coblenz et al., TOPLAS 42(3), 2020, "Silica"; locks, re-entry, units and what
 -- is read are this project's own).
 use Rattle.std.specs.Prelude.{ℕ, zero, suc, List, [], ◌∷◌, Some, None, option_map}
-use Rattle.ob_content.specs.Operations.{operate}
-use Rattle.ob_content.specs.Worlds.{by_revert}
+use Rattle.ob_meaning.specs.Operations.{operate}
+use Rattle.ob_meaning.specs.Worlds.{by_revert}
 use Rattle.ob_silica.specs.Terms.{SilicaForm, unit_form, const_form, op_form, copy_form, move_form, new_form, call_form, call_this_form, change_form, test_form, if_form, assert_form, disown_form, drop_form, return_form, revert_form, bad_row_form, SilicaTerms, no_terms, and_term}
 use Rattle.ob_silica_steps.specs.Cells.{location_of, located, all_located, plain_cell, constant_cell, kind_of_operator}
 use Rattle.ob_silica_steps.specs.Configurations.{SilicaProgram, plain_end, Rest, Control, runs, leaves, Configuration, Next, goes, ended, aborted, abort, stuck}

@@ -7,11 +7,11 @@ use Rattle.ob_table.specs.Tables.{ClassTable}
 use Rattle.ob_table.specs.declared.contract.Field.{Field}
 use Rattle.ob_table.specs.declared.seen.LocalKind.TheVariants.{Reference}
 use Rattle.ob_typing.specs.WellMade.{kind_of_table}
-use Rattle.ob_content.specs.Values.{Value, bool_value, text_value, referred}
-use Rattle.ob_content.specs.Objects.{is_available}
-use Rattle.ob_content.specs.Operations.{Operated, operated, overflows, other_kinds}
-use Rattle.ob_content.specs.Worlds.{World, by_overflow}
-use Rattle.ob_content.specs.Marks.{mark_disowned}
+use Rattle.ob_meaning.specs.Values.{Value, bool_value, text_value, referred}
+use Rattle.ob_meaning.specs.Objects.{is_available}
+use Rattle.ob_meaning.specs.Operations.{Operated, operated, overflows, other_kinds}
+use Rattle.ob_meaning.specs.Worlds.{World, by_overflow}
+use Rattle.ob_meaning.specs.Marks.{mark_disowned}
 use Rattle.ob_silica_steps.specs.Cells.{Location, slot, field, Cell, cell, plain_cell}
 use Rattle.ob_silica_steps.specs.Configurations.{Next, abort, stuck}
 use Rattle.ob_silica_steps.specs.Here.{Here, if_there, self, field_of, counted, set_slot, set_field, set_permission, hand}

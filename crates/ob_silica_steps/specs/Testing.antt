@@ -7,11 +7,11 @@ use Rattle.ob_perm.specs.Permissions.{Permission, owned, shared, unowned, permis
 use Rattle.ob_table.specs.Tables.{ClassTable}
 use Rattle.ob_table.specs.declared.seen.LocalKind.{LocalKind}
 use Rattle.ob_table.specs.declared.seen.LocalKind.TheVariants.{Reference}
-use Rattle.ob_content.specs.Values.{referred}
-use Rattle.ob_content.specs.Objects.{Object, is_in_state}
-use Rattle.ob_content.specs.Contents.{object_at}
-use Rattle.ob_content.specs.Worlds.{read_object, by_state}
-use Rattle.ob_content.specs.Marks.{is_locked, is_in_progress, lock, unlock}
+use Rattle.ob_meaning.specs.Values.{referred}
+use Rattle.ob_meaning.specs.Objects.{Object, is_in_state}
+use Rattle.ob_meaning.specs.Contents.{object_at}
+use Rattle.ob_meaning.specs.Worlds.{read_object, by_state}
+use Rattle.ob_meaning.specs.Marks.{is_locked, is_in_progress, lock, unlock}
 use Rattle.ob_silica.specs.Terms.{SilicaTerms}
 use Rattle.ob_silica_steps.specs.Cells.{Location, Cell, this, same_location}
 use Rattle.ob_silica_steps.specs.Configurations.{Ends, plain_end, test_end, lock_end, Rest, runs, Configuration, Next, abort}

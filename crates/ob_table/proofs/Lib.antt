@@ -1,3 +1,2 @@
 pub mod ExpressionsLost
 pub mod StatementsLost
-pub mod IndexLemmas

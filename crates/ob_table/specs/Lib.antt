@@ -5,4 +5,3 @@ pub mod Statements
 pub mod StatementsView
 pub mod StatementsBack
 pub mod Tables
-pub mod Index

@@ -1,15 +1,12 @@
 //! The class table of a program (the name is that of Igarashi, Pierce and Wadler, TOPLAS 23(3), 2001).
-ghost use Rattle.std.specs.Prelude.{◌≡◌, ◌<◌, ◌^◌, ℕ, List, map, length, IfOk, OnOk};
-ghost use Rattle.std.specs.Option.{option_copied, option_or};
+ghost use Rattle.std.specs.Prelude.{◌≡◌, ◌<◌, ◌≤◌, ◌^◌, map, length, position, IfOk, OnErr};
+ghost use Rattle.std.specs.Option.{option_copied};
 ghost use Rattle.std.specs.Str.{bytes_eq};
-ghost use Rattle.ob_base.specs.Optional.{where_true};
-ghost use Rattle.ob_table.specs.Index.{number_of, IsIndex};
 ghost use Rattle.ob_table.specs.StatementsView.{resolved_body_of};
 ghost use Rattle.ob_table.specs.Tables.{contract_at, contract_named};
 
 use crate::body::Body;
 use crate::contract::Contract;
-use indexmap::IndexMap;
 use ob_base::{ContractId, Duplicate, Items, Memory, both, copy_items};
 use std::alloc::Global;
 use std::marker::Model;
@@ -19,8 +16,6 @@ use std::marker::Model;
 pub struct Table {
     contracts: Items<Contract>,
     bodies: Items<Body>,
-    // The first contract of each name.
-    names: IndexMap<Vec<u8>, ContractId>,
 }
 
 impl Model for Table {
@@ -34,74 +29,34 @@ impl Model for Table {
 
     ghost coded = { Prim.hlevel (codes, statements_code statement.the_row.coded) };
 
-    ghost use Rattle.ob_table.specs.Index.{IsIndex};
+    ghost use Rattle.std.specs.Prelude.{◌<◌, ◌^◌, length};
     ghost use Rattle.ob_table.specs.StatementsView.{resolved_body_of};
 
     ghost view = { λ t. record { contracts = t.contracts; bodies = map resolved_body_of t.bodies } };
 
-    ghost invariant = { λ t. IsIndex t.contracts t.names.entries };
+    ghost invariant = { λ t. length t.contracts < 2 ^ 32 };
 }
 
-// Adds the name, unless it is there.
-#[tactic(auto, using(crate::proofs::IndexLemmas::index))]
-fn add_name(
-    alloc: Global,
-    names: &mut IndexMap<Vec<u8>, ContractId>,
-    name: &[u8],
-    id: ContractId,
-) -> Result<(), Memory>
-    ensures { OnOk result ((other : List ℕ) → number_of names.new.entries other
-        ≡ option_or (number_of names.old.entries other) (where_true (bytes_eq other name.now) id)) }
+// The place of the first contract of this name.
+fn place_named(contracts: &[Contract], name: &[u8]) -> Option<usize>
+    ensures { result ≡ position (λ c. bytes_eq name.now c.name) contracts.now }
 {
-    if names.get(name).is_some() {
-        return Ok(());
-    }
-    match names.insert(Vec::from_slice(alloc, name)?, id) {
-        Ok(_) => Ok(()),
-        Err(_) => Err(Memory),
-    }
-}
-
-// The first contract of each name.
-#[tactic(auto, using(crate::proofs::IndexLemmas::index))]
-fn index_of(alloc: Global, contracts: &[Contract]) -> Result<IndexMap<Vec<u8>, ContractId>, Memory>
-    requires { length contracts.now < 2 ^ 32 }
-    ensures { IfOk result (λ names. IsIndex contracts.now names.entries) }
-{
-    let mut names = IndexMap::new(alloc);
-    let mut number = 0;
-    for contract in contracts {
-        add_name(
-            alloc,
-            &mut names,
-            contract.name.as_bytes(),
-            ContractId(number),
-        )?;
-        number += 1;
-    }
-    Ok(names)
+    contracts
+        .iter()
+        .position(|contract| name == contract.name.as_bytes())
 }
 
 impl Table {
-    /// The table of these contracts and bodies. Of two contracts with one name the first has it. More than 2^32 - 1
-    /// contracts count as want of memory.
-    pub fn new(
-        alloc: Global,
-        contracts: Items<Contract>,
-        bodies: Items<Body>,
-    ) -> Result<Table, Memory>
-        ensures { IfOk result (λ table. table
+    /// The table of these contracts and bodies. More than 2^32 - 1 contracts count as want of memory.
+    pub fn new(contracts: Items<Contract>, bodies: Items<Body>) -> Result<Table, Memory>
+        ensures made { IfOk result (λ table. table
             ≡ record { contracts = contracts; bodies = map resolved_body_of bodies }) }
+        ensures many { OnErr result (2 ^ 32 ≤ length contracts) }
     {
         if contracts.len() > u32::MAX as usize {
             return Err(Memory);
         }
-        let names = index_of(alloc, contracts.as_slice())?;
-        Ok(Table {
-            contracts,
-            bodies,
-            names,
-        })
+        Ok(Table { contracts, bodies })
     }
 
     /// The number of contracts and interfaces.
@@ -129,7 +84,8 @@ impl Table {
     pub fn find(&self, name: &[u8]) -> Option<ContractId>
         ensures { result ≡ contract_named self.now.contracts name.now }
     {
-        self.names.get(name).copied()
+        let place = place_named(self.contracts.as_slice(), name)?;
+        Some(ContractId(place as u32))
     }
 
     /// The bodies, in the order in which they were given.
@@ -146,6 +102,6 @@ impl Duplicate for Table {
             copy_items(alloc, &self.contracts),
             copy_items(alloc, &self.bodies),
         )?;
-        Table::new(alloc, contracts, bodies)
+        Table::new(contracts, bodies)
     }
 }

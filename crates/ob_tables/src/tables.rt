@@ -41,5 +41,5 @@ pub fn make_table(alloc: Global, declared: &Declared<'_>) -> Result<Table, Memor
             add_contract(&around, &mut contracts, &mut bodies, alloc)?;
         }
     }
-    Table::new(alloc, contracts, bodies)
+    Table::new(contracts, bodies)
 }

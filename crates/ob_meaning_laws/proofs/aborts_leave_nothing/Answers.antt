@@ -1,6 +1,6 @@
 -- By what an abort is.
 use Rattle.std.proofs.Common.{◌≡◌, Bool, true, Option, Some, ap}
-use Rattle.ob_content.specs.Worlds.{World, Cause, Spent, Outcome, aborts, ◌>>=◌, if_right, with_some}
+use Rattle.ob_meaning.specs.Worlds.{World, Cause, Spent, Outcome, aborts, ◌>>=◌, if_right, with_some}
 use Rattle.ob_table.specs.Statements.{ResolvedBody}
 use Rattle.ob_table.specs.Tables.{body_at}
 use Rattle.ob_table.specs.declared.contract.Signature.{Signature}

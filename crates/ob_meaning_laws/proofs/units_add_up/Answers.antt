@@ -1,5 +1,5 @@
 -- By the worlds of each part.
-use Rattle.ob_content.specs.Worlds.{World}
+use Rattle.ob_meaning.specs.Worlds.{World}
 use Rattle.ob_meaning.specs.Expressions.{value_of}
 use Rattle.ob_meaning.specs.Statements.{run_all}
 use Rattle.ob_meaning.specs.Calls.{call_at}

@@ -7,8 +7,8 @@ use Rattle.std.proofs.lemmas.Str.{IsUtf8-from_ascii, is_utf8-from_IsUtf8}
 use Rattle.std.proofs.lemmas.Str.Ascii.{IsAscii-nil, IsAscii-cons}
 use Rattle.std.proofs.lemmas.List.Elements.{All-from_recursion}
 use Rattle.ob_perm.specs.Masks.{states_of}
-use Rattle.ob_content.specs.Objects.{has_field}
-use Rattle.ob_content.specs.Contents.{HandleName, Handle, IsValueOf, IsObject, IsHandle, name_order}
+use Rattle.ob_meaning.specs.Objects.{has_field}
+use Rattle.ob_meaning.specs.Contents.{HandleName, Handle, IsValueOf, IsObject, IsHandle, name_order}
 use Rattle.ob_meaning_laws.specs.VendingMachine.{machine, full_machine, vending_machine, vending_store, vending_content}
 use Rattle.ob_meaning_laws.proofs.vending_store_is_content.Goals as goal
 

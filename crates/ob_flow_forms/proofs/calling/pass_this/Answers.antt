@@ -2,7 +2,7 @@ use Rattle.std.proofs.Common.{ap, ◌∙◌}
 use Rattle.ob_silica_steps.specs.Binding.{all_parameters}
 use Rattle.ob_silica_rules.specs.Binding.{reads_of}
 use Rattle.ob_context.specs.View.{context_of, tested_of}
-use Rattle.ob_giving.specs.View.{plain_parameters}
+use Rattle.ob_context.specs.Parameters.{plain_parameters}
 use Rattle.ob_flow_forms.proofs.CallLemmas.{passes_this}
 use Rattle.ob_flow_forms.proofs.calling.pass_this.Goals as goal
 

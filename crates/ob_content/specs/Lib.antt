@@ -1,6 +1,0 @@
-pub mod Values
-pub mod Operations
-pub mod Objects
-pub mod Contents
-pub mod Worlds
-pub mod Marks

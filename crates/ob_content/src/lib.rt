@@ -1,2 +1,0 @@
-//! What a store holds, and the world that a run works on.
-#![tactic(auto)]

@@ -1,4 +1,0 @@
-pub mod AgreeLemmas
-pub mod HeldLemmas
-pub mod SameLemmas
-pub mod AskedLemmas

@@ -1,2 +1,0 @@
-pub mod MiddleLaws
-pub mod MiddleTurns
