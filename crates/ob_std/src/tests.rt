@@ -1,4 +1,4 @@
-//! What no contract of the adapters tells: the bytes of std's files, and that a reader's fault isn't taken for the end.
+//! The adapters over std, where no case reaches: the bytes of files, which no contract tells, and faults.
 use crate::{StdFiles, StdSource};
 use ob_base::Failed;
 use ob_io::{FileError, Files, Source};
