@@ -9,7 +9,7 @@ use Rattle.std.proofs.lemmas.Nat.{from_be_bytes-to_be_bytes_4, from_be_bytes-to_
 use Rattle.ob_base.specs.Bytes.{u8_bytes, u32_bytes, i64_bytes, text_bytes}
 use Rattle.ob_base.specs.Fields.{BeginsWith}
 
--- a length, and behind it as many bytes
+-- a length, and after it as many bytes
 pub text_begins : (bytes rest : List ℕ) (n : ℕ) → bytes ≡ u32_bytes n ++ rest → n < 2 ^ 32 → n ≤ length rest → BeginsWith bytes (take n rest)
 text_begins bytes rest n front small within =
     let len : length (take n rest) ≡ n = omega (arith, length-take n rest) in record {

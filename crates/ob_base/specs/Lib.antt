@@ -4,3 +4,5 @@ pub mod Faults
 pub mod Optional
 pub mod Bytes
 pub mod Fields
+pub mod TextErrors
+pub mod Limits

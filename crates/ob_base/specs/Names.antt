@@ -3,6 +3,7 @@
 use Rattle.std.specs.Prelude.{ℕ, Bool, false, ◌==◌, ◌&&◌, ◌||◌, nat_le, List, [], ◌∷◌, length}
 use Rattle.std.specs.List.{list_all}
 use Rattle.std.specs.Str.{is_utf8}
+use Rattle.ob_base.specs.Limits.{longest_name, longest_string}
 
 -- an ASCII letter, or `_`
 abbrev pub is_letter : ℕ → Bool
@@ -27,12 +28,12 @@ is_word bytes = begins_with_letter bytes && list_all is_letter_or_digit bytes
 
 -- a word of at most 64 bytes
 abbrev pub is_name : List ℕ → Bool
-is_name bytes = nat_le (length bytes) 64 && is_word bytes
+is_name bytes = nat_le (length bytes) longest_name && is_word bytes
 
 -- 1 to 64 bytes of UTF-8
 abbrev pub is_label : List ℕ → Bool
-is_label bytes = nat_le 1 (length bytes) && nat_le (length bytes) 64 && is_utf8 bytes
+is_label bytes = nat_le 1 (length bytes) && nat_le (length bytes) longest_name && is_utf8 bytes
 
 -- at most 1,024 bytes of UTF-8
 abbrev pub is_text : List ℕ → Bool
-is_text bytes = nat_le (length bytes) 1024 && is_utf8 bytes
+is_text bytes = nat_le (length bytes) longest_string && is_utf8 bytes

@@ -118,7 +118,7 @@ pub const USED_TWICE: u16 = 416;
 pub const THIS_IN_CONSTRUCTOR: u16 = 417;
 /// What is asserted isn't so.
 pub const ASSERT_FAILS: u16 = 418;
-/// A staged field without its change of state behind it.
+/// A staged field without its change of state after it.
 pub const BAD_TRANSITION: u16 = 419;
 /// A loop changes what is held.
 pub const LOOP_CHANGES: u16 = 420;

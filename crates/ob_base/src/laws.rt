@@ -5,7 +5,7 @@ ghost use Rattle.std.specs.Int.RustNames.{FitsSigned};
 ghost use Rattle.ob_base.specs.Bytes.{u8_bytes, u32_bytes, i64_bytes, text_bytes};
 
 /// Bytes begin with one value of each kind at most, and leave one rest. So what was put is what is read, and what was put
-/// behind it is left.
+/// after it is left.
 pub fn one_field()
     ensures of_u8 { (a b : ℕ) (r s : List ℕ) → u8_bytes a ++ r ≡ u8_bytes b ++ s → (a ≡ b) × (r ≡ s) }
     ensures of_u32 { (a b : ℕ) (r s : List ℕ) → a < 2 ^ 32 → b < 2 ^ 32

@@ -4,7 +4,7 @@ ghost use Rattle.std.specs.List.{list_all};
 ghost use Rattle.std.specs.Str.{IsUtf8, is_utf8};
 ghost use Rattle.ob_base.specs.Names.{is_letter, is_digit, is_letter_or_digit, is_word, is_name, is_label, is_text};
 
-use crate::{Duplicate, Items, Memory};
+use crate::{Duplicate, Items, LONGEST_NAME, LONGEST_STRING, Memory};
 use std::alloc::{AllocError, Global};
 use std::marker::Model;
 use thiserror::Error;
@@ -30,12 +30,6 @@ impl From<AllocError> for NameError {
         NameError::Memory
     }
 }
-
-/// The most bytes that a name or a label has.
-pub const LONGEST_NAME: usize = 64;
-
-/// The most bytes that a text has.
-pub const LONGEST_TEXT: usize = 1024;
 
 /// An ASCII letter, or `_`: what a name begins with.
 pub fn is_letter(byte: u8) -> bool
@@ -199,7 +193,7 @@ impl Text {
         ensures ok { IfOk result (λ text. (text ≡ bytes.now) × IsTrue (is_text bytes.now)) }
         ensures bad { IsErrOf result NameError.Bad ↔ (is_text bytes.now ≡ false) }
     {
-        if bytes.len() > LONGEST_TEXT || !is_utf8(bytes) {
+        if bytes.len() > LONGEST_STRING || !is_utf8(bytes) {
             return Err(NameError::Bad);
         }
         Ok(Text {

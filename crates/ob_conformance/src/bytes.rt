@@ -18,7 +18,7 @@ impl Bytes {
         }
     }
 
-    /// Puts more behind them.
+    /// Puts more after them.
     pub fn put(&mut self, more: &[u8]) {
         if self.bytes.extend_from_slice(more).is_err() {
             self.fail(Trouble::Memory);

@@ -7,7 +7,7 @@ use std::alloc::Global;
 
 /// What is asked of a text.
 #[derive(Clone, Copy)]
-pub enum Kind {
+pub enum CaseKind {
     /// What `check` writes of it.
     Check,
     /// Its class table, with the bodies of its transactions.
@@ -48,29 +48,29 @@ pub enum Kind {
     Message,
 }
 
-impl Kind {
+impl CaseKind {
     /// The kind of this word.
-    pub fn of(word: &str) -> Option<Kind> {
+    pub fn of(word: &str) -> Option<CaseKind> {
         match word {
-            "check" => Some(Kind::Check),
-            "table" => Some(Kind::Table),
-            "terms" => Some(Kind::Terms),
-            "cuts" => Some(Kind::Cuts),
-            "serve" => Some(Kind::Serve),
-            "run" => Some(Kind::Run),
-            "outside" => Some(Kind::Outside),
-            "layout" => Some(Kind::Layout),
-            "again" => Some(Kind::Again),
-            "tokens" => Some(Kind::Tokens),
-            "tree" => Some(Kind::Tree),
-            "plain" => Some(Kind::Plain),
-            "whole" => Some(Kind::Whole),
-            "fronts" => Some(Kind::Fronts),
-            "request" => Some(Kind::Request),
-            "reply" => Some(Kind::Reply),
-            "form" => Some(Kind::Form),
-            "bytes" => Some(Kind::Bytes),
-            "message" => Some(Kind::Message),
+            "check" => Some(CaseKind::Check),
+            "table" => Some(CaseKind::Table),
+            "terms" => Some(CaseKind::Terms),
+            "cuts" => Some(CaseKind::Cuts),
+            "serve" => Some(CaseKind::Serve),
+            "run" => Some(CaseKind::Run),
+            "outside" => Some(CaseKind::Outside),
+            "layout" => Some(CaseKind::Layout),
+            "again" => Some(CaseKind::Again),
+            "tokens" => Some(CaseKind::Tokens),
+            "tree" => Some(CaseKind::Tree),
+            "plain" => Some(CaseKind::Plain),
+            "whole" => Some(CaseKind::Whole),
+            "fronts" => Some(CaseKind::Fronts),
+            "request" => Some(CaseKind::Request),
+            "reply" => Some(CaseKind::Reply),
+            "form" => Some(CaseKind::Form),
+            "bytes" => Some(CaseKind::Bytes),
+            "message" => Some(CaseKind::Message),
             _ => None,
         }
     }
@@ -79,9 +79,9 @@ impl Kind {
     pub fn has_part(self, name: &str) -> bool {
         match name {
             "text" | "front" | "back" | "every" | "answer-front" | "answer-back" => true,
-            "answer" => !matches!(self, Kind::Run),
-            "words" | "input" | "given" => matches!(self, Kind::Run | Kind::Outside),
-            "output" | "status" => matches!(self, Kind::Run),
+            "answer" => !matches!(self, CaseKind::Run),
+            "words" | "input" | "given" => matches!(self, CaseKind::Run | CaseKind::Outside),
+            "output" | "status" => matches!(self, CaseKind::Run),
             _ => false,
         }
     }
@@ -89,16 +89,16 @@ impl Kind {
     /// The names of what is asked, and of what is expected: the two sides of a row.
     pub fn sides(self) -> (&'static str, &'static str) {
         match self {
-            Kind::Run => ("input", "output"),
-            Kind::Outside => ("given", "answer"),
-            Kind::Tree | Kind::Plain => ("part", "answer"),
+            CaseKind::Run => ("input", "output"),
+            CaseKind::Outside => ("given", "answer"),
+            CaseKind::Tree | CaseKind::Plain => ("part", "answer"),
             _ => ("text", "answer"),
         }
     }
 
     /// What is expected of a case, of which this is written.
     pub fn wanted(self, case: &Case, written: &[u8], bytes: &mut Bytes) {
-        if matches!(self, Kind::Run) {
+        if matches!(self, CaseKind::Run) {
             bytes.put(case.parts.find("status").unwrap_or(b"0 Done"));
             bytes.put(b"\n");
         }
@@ -108,25 +108,25 @@ impl Kind {
     /// Shows what comes of a case, of which this is asked.
     pub fn answer(self, alloc: Global, case: &Case, asked: &[u8], lines: &mut Lines) {
         match self {
-            Kind::Check => run::check(alloc, asked, lines),
-            Kind::Table => table::table(alloc, asked, lines),
-            Kind::Terms => terms::terms(alloc, asked, lines),
-            Kind::Cuts => run::cuts(alloc, asked, lines),
-            Kind::Serve => run::serve(alloc, asked, lines),
-            Kind::Run => run::whole_run(alloc, case, asked, lines),
-            Kind::Outside => run::cut_run(alloc, case, asked, lines),
-            Kind::Layout => tree::layout(alloc, asked, lines),
-            Kind::Again => tree::again(alloc, asked, lines),
-            Kind::Tokens => tokens::tokens(alloc, asked, lines),
-            Kind::Tree => tree::tree(alloc, case.part("text"), asked, lines),
-            Kind::Plain => tree::plain(alloc, case.part("text"), asked, lines),
-            Kind::Whole => fronts::whole(alloc, asked, lines),
-            Kind::Fronts => fronts::fronts(alloc, asked, lines),
-            Kind::Request => wire::request(alloc, asked, lines),
-            Kind::Reply => wire::reply(alloc, asked, lines),
-            Kind::Form => base::form(alloc, asked, lines),
-            Kind::Bytes => base::bytes(alloc, asked, lines),
-            Kind::Message => base::message(asked, lines),
+            CaseKind::Check => run::check(alloc, asked, lines),
+            CaseKind::Table => table::table(alloc, asked, lines),
+            CaseKind::Terms => terms::terms(alloc, asked, lines),
+            CaseKind::Cuts => run::cuts(alloc, asked, lines),
+            CaseKind::Serve => run::serve(alloc, asked, lines),
+            CaseKind::Run => run::whole_run(alloc, case, asked, lines),
+            CaseKind::Outside => run::cut_run(alloc, case, asked, lines),
+            CaseKind::Layout => tree::layout(alloc, asked, lines),
+            CaseKind::Again => tree::again(alloc, asked, lines),
+            CaseKind::Tokens => tokens::tokens(alloc, asked, lines),
+            CaseKind::Tree => tree::tree(alloc, case.part("text"), asked, lines),
+            CaseKind::Plain => tree::plain(alloc, case.part("text"), asked, lines),
+            CaseKind::Whole => fronts::whole(alloc, asked, lines),
+            CaseKind::Fronts => fronts::fronts(alloc, asked, lines),
+            CaseKind::Request => wire::request(alloc, asked, lines),
+            CaseKind::Reply => wire::reply(alloc, asked, lines),
+            CaseKind::Form => base::form(alloc, asked, lines),
+            CaseKind::Bytes => base::bytes(alloc, asked, lines),
+            CaseKind::Message => base::message(asked, lines),
         }
     }
 }

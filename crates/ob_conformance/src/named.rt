@@ -26,7 +26,7 @@ impl Named {
         None
     }
 
-    /// Puts these bytes behind those of this name.
+    /// Puts these bytes after those of this name.
     pub fn add(&mut self, alloc: Global, name: &str, more: &[u8]) -> Result<(), Trouble> {
         for (known, bytes) in self.items.iter_mut() {
             if known.as_str() == name {

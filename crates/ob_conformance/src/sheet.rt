@@ -1,7 +1,7 @@
 //! A file of cases, line by line.
 use crate::bytes::Bytes;
 use crate::case::Case;
-use crate::kind::Kind;
+use crate::kind::CaseKind;
 use crate::named::Named;
 use crate::pieces::put_text;
 use crate::report::Report;
@@ -24,7 +24,7 @@ pub struct Sheet<'a> {
 /// What is said of a line that stands before all cases.
 const NO_CASE: Trouble = Trouble::Line("no case was begun");
 
-// What stands behind the mark of a line, and a blank.
+// What stands after the mark of a line, and a blank.
 fn marked<'a>(line: &'a str, mark: &str) -> Option<&'a str> {
     let rest = line.strip_prefix(mark)?;
     if rest.is_empty() {
@@ -118,7 +118,7 @@ impl<'a> Sheet<'a> {
     // A line that begins with a word: the kind of a new case, or the name of a part.
     fn take_word(&mut self, line: &str) -> Result<(), Trouble> {
         let (word, rest) = line.split_once(' ').unwrap_or((line, ""));
-        match Kind::of(word) {
+        match CaseKind::of(word) {
             Some(kind) => {
                 self.end_case()?;
                 self.case = Some(Case {

@@ -1,5 +1,5 @@
 -- What a line keeps true of the store.
-use Rattle.std.proofs.Common.{◌≡◌, ℕ, zero, suc, ◌-◌, ◌<◌, ◌==◌, nat_lt, ℤ, Bool, true, false, cond, ◌&&◌, List, [], ◌∷◌, length, Option, Some, None, Result, Ok, Err, refl, ◌∙◌, subst, arith, IsTrue, ◌⊎◌, inl, inr, length-append}
+use Rattle.std.proofs.Common.{◌≡◌, ℕ, zero, suc, ◌-◌, ◌<◌, ◌==◌, nat_lt, ℤ, Bool, true, false, cond, ◌&&◌, List, [], ◌∷◌, length, Option, Some, None, Result, Ok, Err, refl, ◌∙◌, subst, arith, IsTrue, inl, inr, length-append}
 use Rattle.std.specs.Prelude.{find, slice_get, slice_set, is_none}
 use Rattle.std.specs.List.{list_all}
 use Rattle.std.specs.Str.{bytes_eq}
@@ -7,6 +7,7 @@ use Rattle.std.proofs.lemmas.Bool.{eqb-true}
 use Rattle.std.proofs.lemmas.Bool.Decides.{nat_tests}
 use Rattle.std.proofs.lemmas.List.{length-set}
 use Rattle.std.proofs.lemmas.List.Folds.{list_all-append}
+use Rattle.ob_base.specs.Limits.{most_handles}
 use Rattle.ob_base.specs.Optional.{◌>>=◌, where_true}
 use Rattle.ob_base.proofs.OptionalLemmas.{bind_some, where_some, both_true, by_cases}
 use Rattle.ob_base.specs.declared.cause.Memory.{Memory}
@@ -23,7 +24,7 @@ use Rattle.ob_wire.specs.declared.request.Op.{Op}
 use Rattle.ob_wire.specs.declared.request.Op.TheVariants.{New, Call}
 use Rattle.ob_wire.specs.declared.reply.Reply.{Reply}
 use Rattle.ob_exec.specs.Stored.{handled, transaction_of}
-use Rattle.ob_exec.specs.Answers.{Steps, fuel, is_new, starts, made, Target, target_of, called, call_step, op_step}
+use Rattle.ob_exec.specs.Answers.{Steps, fuel, is_new, starts, made, Target, target_of, after_call, call_step, op_step}
 use Rattle.ob_exec.specs.Sound.{IsSound, width}
 use Rattle.ob_exec.specs.declared.store.Store.{Store}
 
@@ -95,7 +96,7 @@ course_keeps tx fields args units end is = statements_keep args tx.gives tx.sets
 eqb-same : (a b : ℕ) → a ≡ b → (a == b) ≡ true
 eqb-same a b e = grind (arith, nat_tests)
 
-called_sound : (program : Option Plain) (store : Store) (id : ℤ) (object : ObjectId) (n : ℕ) (course : Course) → IsSound program store → n ≡ width program → ((end : ℤ × List ℤ) → course ≡ Ok end → length end.1 ≡ n) → IsSound program (called store id object course).after
+called_sound : (program : Option Plain) (store : Store) (id : ℤ) (object : ObjectId) (n : ℕ) (course : Course) → IsSound program store → n ≡ width program → ((end : ℤ × List ℤ) → course ≡ Ok end → length end.1 ≡ n) → IsSound program (after_call store id object course).after
 called_sound program store id object n (Ok end) sound is keeps = record {
   wide = set_passes (λ fields. length fields == width program) store.objects object.0 end.1 sound.wide (eqb-same _ _ (keeps end refl ∙ is));
   counted = length-set store.objects object.0 end.1 ∙ sound.counted;
@@ -109,7 +110,7 @@ call_sound program store id who on tx args (Some target) sound closed is =
     let h = target_closed program store who on tx args target sound closed is in
     called_sound program store id target.object (length target.fields) (course_of target.tx target.fields args fuel) sound h.1 (λ end e. course_keeps target.tx target.fields args fuel end e)
 
-made_sound : (program : Option Plain) (store : Store) (id : ℤ) (who into : List ℕ) (b : Bool) → IsSound program store → length (starts program) ≡ width program → length store.handles < 65536 → nat_lt (length (starts program)) fuel ≡ b → IsSound program (made store id who into (starts program)).after
+made_sound : (program : Option Plain) (store : Store) (id : ℤ) (who into : List ℕ) (b : Bool) → IsSound program store → length (starts program) ≡ width program → length store.handles < most_handles → nat_lt (length (starts program)) fuel ≡ b → IsSound program (made store id who into (starts program)).after
 made_sound program store id who into true sound wide few is = rw is (record {
   wide = list_all-append (λ fields. length fields == width program) store.objects (starts program ∷ []) ∙ rw (sound.wide, eqb-same _ _ wide) refl;
   counted = omega (arith, sound.counted, length-append store.objects (starts program ∷ []), length-append store.handles (record { client = who; name = into; object = record { 0 = length store.objects } } ∷ []));
@@ -122,7 +123,7 @@ new_sound program store id who contract into false sound closed is = rw is sound
 new_sound None store id who contract into true sound closed is = absurd cc
 new_sound (Some program) store id who contract into true sound closed is =
     let open_ = both_true (length program.start == length program.fields) (list_all (λ t. names_exist (length program.fields) (length t.params) t) program.transactions) closed in
-    let room = both_true (bytes_eq contract program.name && is_none (handled store.handles who into)) (nat_lt (length store.handles) 65536) is in
+    let room = both_true (bytes_eq contract program.name && is_none (handled store.handles who into)) (nat_lt (length store.handles) most_handles) is in
     rw is (made_sound (Some program) store id who into _ sound (eqb-true _ _ open_.0) (grind (arith, nat_tests, room.1)) refl)
 
 op_sound : (program : Option Plain) (store : Store) (id : ℤ) (who : List ℕ) (op : Op) → IsSound program store → IsTrue (is_closed_program program) → IsSound program (op_step program store id who op).after

@@ -1,6 +1,7 @@
 -- What a line is answered with, and what is stored after it: the meaning of one line on a store.
 use Rattle.std.specs.Prelude.{ℕ, ◌≡◌, ℤ, Bool, false, ◌==◌, ◌&&◌, nat_lt, List, [], ◌∷◌, ◌++◌, length, Option, Some, None, Result, Ok, Err, is_none, slice_get, slice_set, if◌then◌else◌}
 use Rattle.std.specs.Str.{bytes_eq}
+use Rattle.ob_base.specs.Limits.{most_handles, longest_line}
 use Rattle.ob_base.specs.Optional.{◌>>=◌, where_true}
 use Rattle.ob_base.specs.declared.cause.Memory.{Memory}
 use Rattle.ob_base.specs.declared.id.ObjectId.{ObjectId}
@@ -32,10 +33,6 @@ pub record Step : Type 0 where
 -- how many units of fuel a request has
 abbrev pub fuel : ℕ
 fuel = 100000
-
--- how many handles there are at most
-abbrev pub most_handles : ℕ
-most_handles = 65536
 
 -- the line isn't taken up, and nothing changes
 abbrev pub refused : Store → Refusal → Step
@@ -84,14 +81,14 @@ cause_of (early.Overflow line) = cause.Overflow line
 cause_of early.Fuel = cause.Fuel
 
 -- A transaction that returns leaves its fields; one that is undone changes nothing.
-abbrev pub called : Store → ℤ → ObjectId → Course → Step
-called store id object (Ok end) = record { reply = record { id = Some id; answer = answer.Ok (Int end.0) }; after = record store { objects = slice_set store.objects object.0 end.1 } }
-called store id object (Err early) = record { reply = record { id = Some id; answer = answer.Abort (cause_of early) }; after = store }
+abbrev pub after_call : Store → ℤ → ObjectId → Course → Step
+after_call store id object (Ok end) = record { reply = record { id = Some id; answer = answer.Ok (Int end.0) }; after = record store { objects = slice_set store.objects object.0 end.1 } }
+after_call store id object (Err early) = record { reply = record { id = Some id; answer = answer.Abort (cause_of early) }; after = store }
 
 -- a call on what it runs, if there is such
 abbrev pub call_step : Store → ℤ → List ℤ → Option Target → Step
 call_step store id args None = refused store Shape
-call_step store id args (Some target) = called store id target.object (course_of target.tx target.fields args fuel)
+call_step store id args (Some target) = after_call store id target.object (course_of target.tx target.fields args fuel)
 
 -- what a request gives, by its kind
 abbrev pub op_step : Option Plain → Store → ℤ → List ℕ → Op → Step
@@ -105,7 +102,7 @@ request_step program store (Some request) = op_step program store request.id req
 
 -- what a line gives
 abbrev pub step_of : Option Plain → Store → List ℕ → Step
-step_of program store line = if nat_lt 65536 (length line) then refused store LongLine else request_step program store (request_of line)
+step_of program store line = if nat_lt longest_line (length line) then refused store LongLine else request_step program store (request_of line)
 
 -- a call answers what a step says, and want of memory leaves the store as it was
 abbrev pub Steps : Result Reply Memory → Store → Store → Step → Type 0

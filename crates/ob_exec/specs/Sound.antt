@@ -1,6 +1,7 @@
 -- What a session keeps true of its store.
 use Rattle.std.specs.Prelude.{ℕ, ◌≡◌, ◌≤◌, ◌==◌, length, Option, Some, None, IsTrue}
 use Rattle.std.specs.List.{list_all}
+use Rattle.ob_base.specs.Limits.{most_handles}
 use Rattle.ob_machine.specs.declared.plain.Plain.{Plain}
 use Rattle.ob_exec.specs.declared.store.Store.{Store}
 
@@ -13,4 +14,4 @@ width (Some program) = length program.fields
 pub record IsSound (program : Option Plain) (store : Store) : Type 0 where
   pub wide : IsTrue (list_all (λ fields. length fields == width program) store.objects)
   pub counted : length store.objects ≡ length store.handles
-  pub few : length store.handles ≤ 65536
+  pub few : length store.handles ≤ most_handles

@@ -2,26 +2,20 @@
 ghost use Rattle.std.specs.Prelude.{◌≡◌, ◌<◌, ◌^◌, ℕ, ℤ, List, Some, length, slice_get, IsTrue, IfOk, MatchOption, OnErr, Option, None};
 ghost use Rattle.ob_machine.specs.Meaning.{course_of};
 ghost use Rattle.ob_machine.specs.declared.plain.Plain.{Plain};
-ghost use Rattle.ob_exec.specs.Answers.{Steps, is_new, with_object, called, target_of, op_step, step_of, IsOkAnswer};
+ghost use Rattle.ob_exec.specs.Answers.{Steps, is_new, with_object, after_call, target_of, op_step, step_of, IsOkAnswer};
 ghost use Rattle.ob_exec.specs.Sound.{IsSound};
 ghost use Rattle.ob_machine.specs.Closed.{names_exist, is_closed_program};
 ghost use Rattle.ob_exec.specs.declared.store.Store.{Store};
 
 use crate::find::{handled, transaction_of};
 use crate::{Handle, Store};
-use ob_base::{Items, Label, Memory, ObjectId};
+use ob_base::{Items, LONGEST_LINE, Label, MOST_HANDLES, Memory, ObjectId};
 use ob_machine::{Plain, PlainTx, Ran, run_plain};
 use ob_wire::{Answer, Cause, Op, Outcome, Refusal, Reply, Request, WireError, read_request};
 use std::alloc::Global;
 
 /// How many units of fuel a request has.
 pub const FUEL: u32 = 100_000;
-
-/// How many handles there are at most.
-pub const MOST_HANDLES: usize = 65_536;
-
-/// How many bytes a line has at most that is taken up.
-pub const LONGEST_LINE: usize = 65_536;
 
 /// The reply to a line that isn't taken up.
 pub fn refused(refusal: Refusal) -> Reply
@@ -124,7 +118,7 @@ fn run_on(
     requires exists { object.0 < length store.old.objects }
     requires closed { (fields : List ℤ) → slice_get store.old.objects object.0 ≡ Some fields → IsTrue (names_exist (length fields) (length args.now) tx.now) }
     ensures { (fields : List ℤ) → slice_get store.old.objects object.0 ≡ Some fields
-        → Steps result store.old store.new (called store.old id object (course_of tx.now fields args.now 100000)) }
+        → Steps result store.old store.new (after_call store.old id object (course_of tx.now fields args.now 100000)) }
 {
     let Some(fields) = store.objects.get(object.0 as usize) else {
         unreachable!()

@@ -5,5 +5,5 @@ mod answering;
 mod find;
 mod store;
 
-pub use answering::{FUEL, LONGEST_LINE, MOST_HANDLES, answer, changes_nothing, refused};
+pub use answering::{FUEL, answer, changes_nothing, refused};
 pub use store::{Handle, Store};

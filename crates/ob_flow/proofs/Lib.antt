@@ -1,3 +1,6 @@
+pub mod FormsLemmas
+pub mod StateLemmas
+pub mod CallLemmas
 pub mod OutcomeLemmas
 pub mod TermLemmas
 pub mod BodyLemmas

@@ -1,24 +1,40 @@
 //! The check of bodies.
 ghost use Rattle.std.specs.Prelude.{◌≡◌, IfOk, IfErr};
+ghost use Rattle.std.specs.Option.{option_copied};
 ghost use Rattle.ob_perm.specs.Masks.{permission_of};
+ghost use Rattle.ob_table.specs.Tables.{signature_of};
 ghost use Rattle.ob_silica.specs.TermsView.{form_of, terms_of, silica_body_of};
-ghost use Rattle.ob_silica_steps.specs.Cells.{located};
-ghost use Rattle.ob_typing.specs.Conditions.{IsClassTable};
-ghost use Rattle.ob_silica_rules.specs.Numbered.{NamesStates, AllNameStates};
-ghost use Rattle.ob_silica_rules.specs.Testing.{tested_with};
-ghost use Rattle.ob_silica_rules.specs.Deriving.{derive, derive_all, Derives, IsFlowFault};
-ghost use Rattle.ob_context.specs.View.{context_of, tested_of};
-ghost use Rattle.ob_context.specs.Checking.{OnFault};
+ghost use Rattle.ob_silica_places.specs.Places.{located};
+ghost use Rattle.ob_table_spec.specs.Conditions.{IsClassTable};
+ghost use Rattle.ob_flow_spec.specs.Numbered.{NamesStates, AllNameStates};
+ghost use Rattle.ob_flow_spec.specs.Testing.{tested_with};
+ghost use Rattle.ob_flow_spec.specs.Deriving.{derive, derive_all, Derives, IsFlowFault};
+ghost use Rattle.ob_flow_context.specs.View.{context_of, tested_of};
+ghost use Rattle.ob_base.specs.TextErrors.{OnFault};
 ghost use Rattle.ob_flow.specs.Outcomes.{DerivesTo};
 
 use crate::branches::{Flow, end_branch, join_branches, tested_with, this_left};
-use crate::forms;
-use ob_base::{BAD_TRANSITION, Duplicate, Items, Perm, ProgramFault, Span};
-use ob_context::{BodyFrame, Context, FlowError, beginning, uses};
-use ob_flow_forms::{in_other_state, in_tested_state, test};
+use crate::calling::{call, call_this, make};
+use crate::changing::change;
+use crate::returning::leave;
+use crate::straight::{copy, disown, drop_slot, move_reference, operate, put_constant};
+use crate::testing::{in_other_state, in_tested_state, test};
+use ob_base::{BAD_TRANSITION, ContractId, Duplicate, Items, Perm, ProgramFault, Span, TxId};
+use ob_flow_context::{BodyFrame, Context, FlowError, beginning, uses_place};
+use ob_flow_premises::assert_held;
 use ob_silica::{Form, Operand, Place, Term, TermBody};
-use ob_table::Table;
+use ob_table::{Signature, Table};
 use std::alloc::Global;
+
+// The constructor or transaction of this number, of the contract or interface of a number.
+fn signature_of<'a>(frame: &BodyFrame<'a>, contract: ContractId, tx: TxId) -> Option<&'a Signature>
+    ensures { option_copied result ≡ signature_of frame.now.table contract tx }
+{
+    match frame.table().contract(contract) {
+        Some(contract) => contract.signature(tx),
+        None => None,
+    }
+}
 
 // A form.
 #[cycle(check)]
@@ -37,66 +53,66 @@ fn check_form(
 {
     match form {
         Form::Unit => Ok(Flow::On),
-        Form::Const { slot, value } => forms::put_constant(
-            frame, tested, context, at, *slot, value,
-        ),
+        Form::Const { slot, value } => {
+            put_constant(context, *slot, value)?;
+            Ok(Flow::On)
+        }
         Form::Op {
             slot,
             operator,
             a,
             b,
-            line,
-        } => forms::operate(frame, tested, context, at, *slot, *operator, *a, *b, *line),
-        Form::Copy { to, from } => forms::copy(frame, tested, context, at, *to, *from),
+            ..
+        } => {
+            operate(frame, context, *slot, *operator, *a, *b)?;
+            Ok(Flow::On)
+        }
+        Form::Copy { to, from } => {
+            copy(frame, context, at, *to, *from)?;
+            Ok(Flow::On)
+        }
         Form::Move { to, from, contract } => {
-            forms::move_reference(alloc, frame, tested, context, at, *to, *from, *contract)
+            move_reference(alloc, frame, tested, context, at, *to, *from, *contract)?;
+            Ok(Flow::On)
         }
         Form::New {
             slot,
             contract,
             args,
-        } => forms::make(
-            alloc,
-            frame,
-            tested,
-            context,
-            at,
-            *slot,
-            *contract,
-            args.as_slice(),
-        ),
+        } => {
+            if let Some(signature) = signature_of(frame, *contract, TxId(0)) {
+                let args = args.as_slice();
+                make(
+                    alloc, frame, tested, context, *slot, *contract, signature, args,
+                )?;
+            }
+            Ok(Flow::On)
+        }
         Form::Call {
             slot,
             receiver,
             contract,
             tx,
             args,
-        } => forms::call(
-            alloc,
-            frame,
-            tested,
-            context,
-            at,
-            *slot,
-            *receiver,
-            *contract,
-            *tx,
-            args.as_slice(),
-        ),
+        } => {
+            if let Some(signature) = signature_of(frame, *contract, *tx) {
+                let args = args.as_slice();
+                call(
+                    alloc, frame, tested, context, *slot, *receiver, *contract, signature, args,
+                )?;
+            }
+            Ok(Flow::On)
+        }
         Form::CallThis { slot, tx, args } => {
-            forms::call_this(
-                alloc,
-                frame,
-                tested,
-                context,
-                at,
-                *slot,
-                *tx,
-                args.as_slice(),
-            )
+            if let Some(signature) = frame.own().signature(*tx) {
+                let args = args.as_slice();
+                call_this(alloc, frame, tested, context, at, *slot, signature, args)?;
+            }
+            Ok(Flow::On)
         }
         Form::Change { state, given } => {
-            forms::change(alloc, frame, tested, context, at, *state, given.as_slice())
+            change(alloc, frame, tested, context, at, *state, given.as_slice())?;
+            Ok(Flow::On)
         }
         Form::Test {
             place,
@@ -124,7 +140,7 @@ fn check_form(
             otherwise,
             join,
         } => {
-            uses(frame, context, *a)?;
+            uses_place(frame, context, *a)?;
             let mut other = context.copy(alloc)?;
             let first = check_terms(then.as_slice(), frame, tested, context, alloc)?;
             let otherwise = otherwise.as_slice();
@@ -133,12 +149,25 @@ fn check_form(
             join_branches(alloc, frame, under, first, context, second, other, *join)
         }
         Form::Assert { place, perm } => {
-            forms::assert_held(frame, tested, context, at, *place, *perm)
+            assert_held(frame, context, *place, *perm)?;
+            Ok(Flow::On)
         }
-        Form::Disown { place } => forms::disown(frame, tested, context, at, *place),
-        Form::Drop { slot } => forms::drop_slot(frame, tested, context, at, *slot),
-        Form::Return { place } => forms::leave(alloc, frame, tested, context, at, *place),
-        Form::Revert { text } => forms::revert(frame, tested, context, at, *text),
+        Form::Disown { place } => {
+            disown(frame, tested, context, *place)?;
+            Ok(Flow::On)
+        }
+        Form::Drop { slot } => {
+            drop_slot(frame, tested, context, at, *slot)?;
+            Ok(Flow::On)
+        }
+        Form::Return { place } => {
+            leave(alloc, frame, tested, context, at, *place)?;
+            Ok(Flow::Ended)
+        }
+        Form::Revert { text } => {
+            uses_place(frame, context, *text)?;
+            Ok(Flow::Ended)
+        }
         Form::BadRow => Err(FlowError::Fault(ProgramFault {
             number: BAD_TRANSITION,
             span: at,
@@ -166,7 +195,7 @@ fn check_branch(
     check_terms(terms, frame, tested.as_slice(), context, alloc)
 }
 
-// Forms one after another; behind one that ends nothing is looked at.
+// Forms one after another; after one that ends nothing is looked at.
 #[cycle(check)]
 #[tactic(auto, using(crate::proofs::TermLemmas::terms))]
 fn check_terms(

@@ -1,20 +1,21 @@
-//! Where forms end, and what follows behind branches.
+//! Where forms end, and what follows after branches.
 ghost use Rattle.std.specs.Prelude.{◌≡◌, IfOk};
 ghost use Rattle.ob_perm.specs.Masks.{permission_of};
-ghost use Rattle.ob_silica_steps.specs.Cells.{location_of};
-ghost use Rattle.ob_silica_rules.specs.Joining.{joined_branches};
-ghost use Rattle.ob_silica_rules.specs.Testing.{tested_with, first_branch_ended, this_left};
-ghost use Rattle.ob_context.specs.View.{context_of, tested_of};
+ghost use Rattle.ob_silica_places.specs.Places.{location_of};
+ghost use Rattle.ob_flow_spec.specs.Joining.{joined_branches};
+ghost use Rattle.ob_flow_spec.specs.Testing.{tested_with, first_branch_ended, this_left};
+ghost use Rattle.ob_flow_context.specs.View.{context_of, tested_of};
 ghost use Rattle.ob_flow.specs.Outcomes.{reached, DerivesTo};
 
+use crate::joining::join;
+use crate::testing::end_test;
 use ob_base::{Items, Memory, Mode, Perm, Span};
-use ob_context::{BodyFrame, Context, FlowError};
-use ob_flow_forms::{end_test, join};
+use ob_flow_context::{BodyFrame, Context, FlowError};
 use ob_perm::unowned;
 use ob_silica::{Operand, Place};
 use std::alloc::Global;
 
-/// Whether the point behind forms is reached.
+/// Whether the point after forms is reached.
 #[derive(Clone, Copy)]
 pub enum Flow {
     /// They go on to it.
@@ -24,7 +25,7 @@ pub enum Flow {
 }
 
 /// The places under test in the first branch of a test of a place of this permission; the innermost stands last.
-#[tactic(auto, using(ob_context::proofs::TestedLemmas::tested))]
+#[tactic(auto, using(ob_flow_context::proofs::TestedLemmas::tested))]
 pub(crate) fn tested_with(
     alloc: Global,
     permission: Perm,

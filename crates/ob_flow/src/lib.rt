@@ -4,7 +4,12 @@
 
 mod bodies;
 mod branches;
-mod forms;
+mod calling;
+mod changing;
+mod joining;
+mod returning;
+mod straight;
+mod testing;
 
 pub use bodies::check;
-pub use ob_context::FlowError;
+pub use ob_flow_context::FlowError;

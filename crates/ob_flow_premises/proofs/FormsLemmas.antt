@@ -5,11 +5,11 @@ use Rattle.ob_base.specs.Faults.{under_test}
 use Rattle.ob_base.specs.declared.fault.Span.{Span}
 use Rattle.ob_perm.specs.Permissions.{Permission, owned, shared, unowned, owns}
 use Rattle.ob_silica.specs.declared.place.Given.{Given}
-use Rattle.ob_silica_steps.specs.Cells.{Location}
-use Rattle.ob_silica_rules.specs.Premises.{Premise, one, for_all, first_failing}
-use Rattle.ob_silica_rules.specs.Contexts.{BodyFrame, Context, permission_at, Tested}
-use Rattle.ob_silica_rules.specs.Changing.{given_at, is_given}
-use Rattle.ob_silica_rules.specs.Returning.{still_owns, leaves_as}
+use Rattle.ob_silica_places.specs.Places.{Location}
+use Rattle.ob_flow_spec.specs.Premises.{Premise, one, for_all, first_failing}
+use Rattle.ob_flow_spec.specs.Contexts.{BodyFrame, Context, permission_at, TestedPlaces}
+use Rattle.ob_flow_spec.specs.Changing.{given_at, is_given}
+use Rattle.ob_flow_spec.specs.Returning.{still_owns, leaves_as}
 use Rattle.ob_flow_premises.specs.Forms.{all_own, leaves_known_as}
 
 -- Given fields.
@@ -36,6 +36,6 @@ own_so : (a c : Bool) (at : Span) (ps : List Premise) → first_failing ps ≡ f
 own_so true c at ps e = e
 own_so false c at ps e = refl
 
-pub still_own : (g : Context) (at : Span) (ts : Tested) → first_failing (for_all ts (still_owns g at)) ≡ first_failing (one under_test at (all_own g ts))
+pub still_own : (g : Context) (at : Span) (ts : TestedPlaces) → first_failing (for_all ts (still_owns g at)) ≡ first_failing (one under_test at (all_own g ts))
 still_own g at [] = refl
 still_own g at (p ∷ ps) = own_so (owns (permission_at g p)) (all_own g ps) at (for_all ps (still_owns g at)) (still_own g at ps)

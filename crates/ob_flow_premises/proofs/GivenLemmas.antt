@@ -7,17 +7,18 @@ use Rattle.std.proofs.lemmas.List.{reverse-append, take_all}
 use Rattle.ob_base.specs.declared.fault.Span.{Span}
 use Rattle.ob_silica.specs.declared.place.Given.{Given}
 use Rattle.ob_silica.specs.declared.place.Place.TheVariants.{This}
-use Rattle.ob_silica_steps.specs.Cells.{Location, field, same_location, Known}
-use Rattle.ob_silica_rules.specs.Premises.{Premise, first_failing}
-use Rattle.ob_silica_rules.specs.Contexts.{BodyFrame, Context, Tested, put}
-use Rattle.ob_silica_rules.specs.Binding.{read_of}
-use Rattle.ob_silica_rules.specs.Filling.{fills, filled, got}
-use Rattle.ob_silica_rules.specs.Changing.{given_from, given_at, takes_owner, fills_owner, fills_once, fills_all, filled_all}
-use Rattle.ob_context.specs.declared.checking.FlowError.{FlowError}
-use Rattle.ob_context.specs.declared.context.Known.{Known as KnownOfPlace}
-use Rattle.ob_context.specs.Checking.{Fails}
-use Rattle.ob_context.specs.View.{known_of, all_known}
-use Rattle.ob_context.proofs.PremiseLemmas.{holds_more, fails_first, fails_same}
+use Rattle.ob_silica_places.specs.Known.{Known}
+use Rattle.ob_silica_places.specs.Places.{Location, field, same_location}
+use Rattle.ob_flow_spec.specs.Premises.{Premise, first_failing}
+use Rattle.ob_flow_spec.specs.Contexts.{BodyFrame, Context, TestedPlaces, put}
+use Rattle.ob_flow_spec.specs.Binding.{read_of}
+use Rattle.ob_flow_spec.specs.Filling.{fills_field, after_fill, got}
+use Rattle.ob_flow_spec.specs.Changing.{given_from, given_at, takes_owner, fills_owner, fills_once, fills_all, filled_all}
+use Rattle.ob_base.specs.declared.text_error.TextError.{TextError}
+use Rattle.ob_flow_context.specs.declared.context.Known.{Known as KnownOfPlace}
+use Rattle.ob_flow_context.specs.Checking.{FailsPremises}
+use Rattle.ob_flow_context.specs.View.{known_of, all_known}
+use Rattle.ob_flow_context.proofs.PremiseLemmas.{holds_more, fails_first, fails_same}
 use Rattle.ob_flow_premises.specs.Forms.{all_got, put_got}
 use Rattle.ob_flow_premises.specs.Changes.{fills_once_at}
 
@@ -79,8 +80,8 @@ pub once_turn : (b : BodyFrame) (xs : List Given) (i : ℕ) (x : Given) → i < 
     → first_failing (once_from b xs i) ≡ first_failing (once_from b xs (i + 1))
 once_turn b xs i x h is f = ap first_failing (once_here b xs i x h is) ∙ holds_more (fills_once_at b (reverse (take i xs)) x) (once_from b xs (i + 1)) f
 
-pub once_fails : (b : BodyFrame) (xs : List Given) (i : ℕ) (x : Given) (e : FlowError) → i < length xs → x ≡ get_or xs i x
-    → Fails e (fills_once_at b (reverse (take i xs)) x) → Fails e (once_from b xs i)
+pub once_fails : (b : BodyFrame) (xs : List Given) (i : ℕ) (x : Given) (e : TextError) → i < length xs → x ≡ get_or xs i x
+    → FailsPremises e (fills_once_at b (reverse (take i xs)) x) → FailsPremises e (once_from b xs i)
 once_fails b xs i x e h is f = rw (once_here b xs i x h is) (fails_first (fills_once_at b (reverse (take i xs)) x) (once_from b xs (i + 1)) e f)
 
 pub once_end : (b : BodyFrame) (xs : List Given) (i : ℕ) → length xs ≤ i → first_failing (once_from b xs i) ≡ None
@@ -112,22 +113,22 @@ pub known_push : (ks : List (Option KnownOfPlace)) (k : Option KnownOfPlace)
 known_push [] k = refl
 known_push (x ∷ ks) k = ap (λ ys. option_map known_of x ∷ ys) (known_push ks k)
 
-pub asks_turn : (b : BodyFrame) (ts : Tested) (at : Span) (xs : List Given) (now next : Context) (i : ℕ) (x : Given)
+pub asks_turn : (b : BodyFrame) (ts : TestedPlaces) (at : Span) (xs : List Given) (now next : Context) (i : ℕ) (x : Given)
     → i < length xs → x ≡ get_or xs i x
-    → first_failing (fills b ts now at x.field.0 (read_of x.from)) ≡ None → next ≡ filled b now x.field.0 (given_from x)
+    → first_failing (fills_field b ts now at x.field.0 (read_of x.from)) ≡ None → next ≡ after_fill b now x.field.0 (given_from x)
     → first_failing (fills_all b ts now at (drop i xs)) ≡ first_failing (fills_all b ts next at (drop (i + 1) xs))
 asks_turn b ts at xs now next i x h is holds after =
     ap (λ ys. first_failing (fills_all b ts now at ys)) (rest xs i x h is)
-    ∙ holds_more (fills b ts now at x.field.0 (read_of x.from)) (fills_all b ts (filled b now x.field.0 (given_from x)) at (drop (i + 1) xs)) holds
+    ∙ holds_more (fills_field b ts now at x.field.0 (read_of x.from)) (fills_all b ts (after_fill b now x.field.0 (given_from x)) at (drop (i + 1) xs)) holds
     ∙ ap (λ g. first_failing (fills_all b ts g at (drop (i + 1) xs))) (sym after)
 
 pub leaves_turn : (b : BodyFrame) (xs : List Given) (now next : Context) (i : ℕ) (x : Given) → i < length xs → x ≡ get_or xs i x
-    → next ≡ filled b now x.field.0 (given_from x) → filled_all b now (drop i xs) ≡ filled_all b next (drop (i + 1) xs)
+    → next ≡ after_fill b now x.field.0 (given_from x) → filled_all b now (drop i xs) ≡ filled_all b next (drop (i + 1) xs)
 leaves_turn b xs now next i x h is after =
     ap (filled_all b now) (rest xs i x h is) ∙ ap (λ g. filled_all b g (drop (i + 1) xs)) (sym after)
 
 pub gets_turn : (b : BodyFrame) (xs : List Given) (now next : Context) (i : ℕ) (x : Given) (ks more : List (Option Known))
-    → i < length xs → x ≡ get_or xs i x → next ≡ filled b now x.field.0 (given_from x)
+    → i < length xs → x ≡ get_or xs i x → next ≡ after_fill b now x.field.0 (given_from x)
     → more ≡ ks ++ got b now x.field.0 (given_from x) ∷ []
     → ks ++ all_got b now (drop i xs) ≡ more ++ all_got b next (drop (i + 1) xs)
 gets_turn b xs now next i x ks more h is after add =
@@ -136,15 +137,15 @@ gets_turn b xs now next i x ks more h is after add =
     ∙ sym (ap (λ ys. ys ++ all_got b next (drop (i + 1) xs)) add
     ∙ append_assoc ks (got b now x.field.0 (given_from x) ∷ []) (all_got b next (drop (i + 1) xs)))
 
-pub fills_fail : (b : BodyFrame) (ts : Tested) (at : Span) (xs : List Given) (now : Context) (i : ℕ) (x : Given) (e : FlowError)
-    → i < length xs → x ≡ get_or xs i x → Fails e (fills b ts now at x.field.0 (read_of x.from))
-    → Fails e (fills_all b ts now at (drop i xs))
+pub fills_fail : (b : BodyFrame) (ts : TestedPlaces) (at : Span) (xs : List Given) (now : Context) (i : ℕ) (x : Given) (e : TextError)
+    → i < length xs → x ≡ get_or xs i x → FailsPremises e (fills_field b ts now at x.field.0 (read_of x.from))
+    → FailsPremises e (fills_all b ts now at (drop i xs))
 fills_fail b ts at xs now i x e h is fails =
-    subst (λ ys. Fails e (fills_all b ts now at ys)) (sym (rest xs i x h is))
-    (fails_first (fills b ts now at x.field.0 (read_of x.from))
-    (fills_all b ts (filled b now x.field.0 (given_from x)) at (drop (i + 1) xs)) e fails)
+    subst (λ ys. FailsPremises e (fills_all b ts now at ys)) (sym (rest xs i x h is))
+    (fails_first (fills_field b ts now at x.field.0 (read_of x.from))
+    (fills_all b ts (after_fill b now x.field.0 (given_from x)) at (drop (i + 1) xs)) e fails)
 
-pub asks_end : (b : BodyFrame) (ts : Tested) (at : Span) (xs : List Given) (now : Context) (i : ℕ) → length xs ≤ i
+pub asks_end : (b : BodyFrame) (ts : TestedPlaces) (at : Span) (xs : List Given) (now : Context) (i : ℕ) → length xs ≤ i
     → first_failing (fills_all b ts now at (drop i xs)) ≡ None
 asks_end b ts at xs now i le = ap (λ ys. first_failing (fills_all b ts now at ys)) (drop_of_length-le xs le)
 
@@ -174,35 +175,35 @@ pub once_turn_at : (b : BodyFrame) (xs : List Given) (i : ℕ) → i < length xs
     → first_failing (once_from b xs i) ≡ first_failing (once_from b xs (i + 1))
 once_turn_at b xs i h f = once_turn b xs i (get_or xs i blank) h (get_or_same xs i blank h) f
 
-pub once_fails_at : (b : BodyFrame) (xs : List Given) (i : ℕ) (e : FlowError) → i < length xs
+pub once_fails_at : (b : BodyFrame) (xs : List Given) (i : ℕ) (e : TextError) → i < length xs
     → first_failing (fills_once b [] xs) ≡ first_failing (once_from b xs i)
-    → Fails e (fills_once_at b (reverse (take i xs)) (get_or xs i blank)) → Fails e (fills_once b [] xs)
+    → FailsPremises e (fills_once_at b (reverse (take i xs)) (get_or xs i blank)) → FailsPremises e (fills_once b [] xs)
 once_fails_at b xs i e h s f =
     fails_same (fills_once b [] xs) (once_from b xs i) e s (once_fails b xs i (get_or xs i blank) e h (get_or_same xs i blank h) f)
 
-pub asks_turn_at : (b : BodyFrame) (ts : Tested) (at : Span) (xs : List Given) (now next : Context) (i : ℕ) → i < length xs
-    → first_failing (fills b ts now at (get_or xs i blank).field.0 (read_of (get_or xs i blank).from)) ≡ None
-    → next ≡ filled b now (get_or xs i blank).field.0 (given_from (get_or xs i blank))
+pub asks_turn_at : (b : BodyFrame) (ts : TestedPlaces) (at : Span) (xs : List Given) (now next : Context) (i : ℕ) → i < length xs
+    → first_failing (fills_field b ts now at (get_or xs i blank).field.0 (read_of (get_or xs i blank).from)) ≡ None
+    → next ≡ after_fill b now (get_or xs i blank).field.0 (given_from (get_or xs i blank))
     → first_failing (fills_all b ts now at (drop i xs)) ≡ first_failing (fills_all b ts next at (drop (i + 1) xs))
 asks_turn_at b ts at xs now next i h f g = asks_turn b ts at xs now next i (get_or xs i blank) h (get_or_same xs i blank h) f g
 
 pub leaves_turn_at : (b : BodyFrame) (xs : List Given) (now next : Context) (i : ℕ) → i < length xs
-    → next ≡ filled b now (get_or xs i blank).field.0 (given_from (get_or xs i blank))
+    → next ≡ after_fill b now (get_or xs i blank).field.0 (given_from (get_or xs i blank))
     → filled_all b now (drop i xs) ≡ filled_all b next (drop (i + 1) xs)
 leaves_turn_at b xs now next i h g = leaves_turn b xs now next i (get_or xs i blank) h (get_or_same xs i blank h) g
 
 pub gets_turn_at : (b : BodyFrame) (xs : List Given) (now next : Context) (i : ℕ) (ks more : List (Option Known)) → i < length xs
-    → next ≡ filled b now (get_or xs i blank).field.0 (given_from (get_or xs i blank))
+    → next ≡ after_fill b now (get_or xs i blank).field.0 (given_from (get_or xs i blank))
     → more ≡ ks ++ got b now (get_or xs i blank).field.0 (given_from (get_or xs i blank)) ∷ []
     → ks ++ all_got b now (drop i xs) ≡ more ++ all_got b next (drop (i + 1) xs)
 gets_turn_at b xs now next i ks more h g m =
     gets_turn b xs now next i (get_or xs i blank) ks more h (get_or_same xs i blank h) g m
 
-pub fills_fail_at : (b : BodyFrame) (ts : Tested) (at : Span) (xs : List Given) (start now : Context) (i : ℕ) (e : FlowError)
+pub fills_fail_at : (b : BodyFrame) (ts : TestedPlaces) (at : Span) (xs : List Given) (start now : Context) (i : ℕ) (e : TextError)
     → i < length xs
     → first_failing (fills_all b ts start at xs) ≡ first_failing (fills_all b ts now at (drop i xs))
-    → Fails e (fills b ts now at (get_or xs i blank).field.0 (read_of (get_or xs i blank).from))
-    → Fails e (fills_all b ts start at xs)
+    → FailsPremises e (fills_field b ts now at (get_or xs i blank).field.0 (read_of (get_or xs i blank).from))
+    → FailsPremises e (fills_all b ts start at xs)
 fills_fail_at b ts at xs start now i e h s f =
     fails_same (fills_all b ts start at xs) (fills_all b ts now at (drop i xs)) e s
     (fills_fail b ts at xs now i (get_or xs i blank) e h (get_or_same xs i blank h) f)

@@ -1,20 +1,21 @@
--- What is known behind two branches, number by number.
+-- What is known after two branches, number by number.
 use Rattle.std.proofs.Common.{◌≡◌, ℕ, zero, suc, ◌<◌, ◌≤◌, ⊎_elim, List, [], ◌∷◌, length, get_or, min, Option, Some, None, refl, ap, sym, ◌∙◌, arith, lt-ltb, le-ltb}
 use Rattle.std.specs.Prelude.{option_map, if◌then◌else◌}
 use Rattle.std.specs.Option.{option_flatten}
 use Rattle.std.proofs.Math.Path.{fun_ext}
 use Rattle.std.proofs.lemmas.Bool.{cases_lt}
 use Rattle.std.proofs.lemmas.Option.{slice_get_past}
-use Rattle.ob_silica_steps.specs.Cells.{Location, slot, field, Known}
-use Rattle.ob_silica_rules.specs.Contexts.{BodyFrame, field_count}
-use Rattle.ob_silica_rules.specs.Joining.{joined_known, joined_context}
-use Rattle.ob_silica_rules.specs.Calling.{fields_left}
+use Rattle.ob_silica_places.specs.Known.{Known}
+use Rattle.ob_silica_places.specs.Places.{Location, slot, field}
+use Rattle.ob_flow_spec.specs.Contexts.{BodyFrame, field_count}
+use Rattle.ob_flow_spec.specs.Joining.{joined_known, joined_context}
+use Rattle.ob_flow_spec.specs.Calling.{fields_left}
 use Rattle.ob_table.specs.declared.contract.Signature.{Signature}
-use Rattle.ob_context.specs.declared.context.Known.{Known as KnownOfPlace}
-use Rattle.ob_context.specs.declared.context.Context.{Context as ContextOfBody}
-use Rattle.ob_context.specs.View.{known_of, known_at, context_of}
-use Rattle.ob_context.proofs.KnownLemmas.{known_none}
-use Rattle.ob_context.proofs.BeginningLemmas.{first}
+use Rattle.ob_flow_context.specs.declared.context.Known.{Known as KnownOfPlace}
+use Rattle.ob_flow_context.specs.declared.context.Context.{Context as ContextOfBody}
+use Rattle.ob_flow_context.specs.View.{known_of, known_at, context_of}
+use Rattle.ob_flow_context.proofs.KnownLemmas.{known_none}
+use Rattle.ob_flow_context.proofs.BeginningLemmas.{first}
 use Rattle.ob_flow_premises.specs.Calls.{field_after, fields_after}
 use Rattle.ob_flow_premises.specs.Joins.{joined_numbers}
 

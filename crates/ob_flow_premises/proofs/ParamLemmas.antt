@@ -4,13 +4,13 @@ use Rattle.std.proofs.Math.ListN.{drop_of_length-le}
 use Rattle.ob_base.specs.declared.fault.Span.{Span}
 use Rattle.ob_perm.specs.Masks.{permission_of}
 use Rattle.ob_table.specs.declared.contract.Param.{Param}
-use Rattle.ob_silica_steps.specs.Cells.{slot}
-use Rattle.ob_silica_rules.specs.Premises.{Premise, first_failing}
-use Rattle.ob_silica_rules.specs.Contexts.{BodyFrame, Context}
-use Rattle.ob_silica_rules.specs.Returning.{leaves_as, leaves_params}
-use Rattle.ob_context.specs.declared.checking.FlowError.{FlowError}
-use Rattle.ob_context.specs.Checking.{Fails}
-use Rattle.ob_context.proofs.PremiseLemmas.{holds_more, fails_first, fails_same}
+use Rattle.ob_silica_places.specs.Places.{slot}
+use Rattle.ob_flow_spec.specs.Premises.{Premise, first_failing}
+use Rattle.ob_flow_spec.specs.Contexts.{BodyFrame, Context}
+use Rattle.ob_flow_spec.specs.Returning.{leaves_as, leaves_params}
+use Rattle.ob_base.specs.declared.text_error.TextError.{TextError}
+use Rattle.ob_flow_context.specs.Checking.{FailsPremises}
+use Rattle.ob_flow_context.proofs.PremiseLemmas.{holds_more, fails_first, fails_same}
 
 -- what is left to ask of the parameters from this number on
 pub params_from : BodyFrame → Context → Span → List Param → ℕ → List Premise
@@ -34,8 +34,8 @@ pub params_turn : (b : BodyFrame) (g : Context) (at : Span) (ps : List Param) (n
     → first_failing (params_from b g at ps n) ≡ first_failing (params_from b g at ps (n + 1))
 params_turn b g at ps n p h is f = ap first_failing (here b g at ps n p h is) ∙ holds_more (leaves_as b g at (slot (n + 1)) (permission_of p.exit)) (params_from b g at ps (n + 1)) f
 
-pub params_fail : (b : BodyFrame) (g : Context) (at : Span) (ps : List Param) (n : ℕ) (p : Param) (e : FlowError) → n < length ps
-    → p ≡ get_or ps n p → Fails e (leaves_as b g at (slot (n + 1)) (permission_of p.exit)) → Fails e (params_from b g at ps n)
+pub params_fail : (b : BodyFrame) (g : Context) (at : Span) (ps : List Param) (n : ℕ) (p : Param) (e : TextError) → n < length ps
+    → p ≡ get_or ps n p → FailsPremises e (leaves_as b g at (slot (n + 1)) (permission_of p.exit)) → FailsPremises e (params_from b g at ps n)
 params_fail b g at ps n p e h is f = rw (here b g at ps n p h is) (fails_first (leaves_as b g at (slot (n + 1)) (permission_of p.exit)) (params_from b g at ps (n + 1)) e f)
 
 pub params_end : (b : BodyFrame) (g : Context) (at : Span) (ps : List Param) (n : ℕ) → length ps ≤ n → first_failing (params_from b g at ps n) ≡ None

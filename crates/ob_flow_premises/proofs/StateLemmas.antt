@@ -7,12 +7,13 @@ use Rattle.ob_base.specs.declared.id.StateId.{StateId}
 use Rattle.ob_perm.specs.States.{only}
 use Rattle.ob_perm.specs.Permissions.{owned, shared, owns}
 use Rattle.ob_silica.specs.declared.place.Place.{Place}
-use Rattle.ob_silica_steps.specs.Cells.{Location, slot, field, this, same_location, location_of, Known}
-use Rattle.ob_silica_rules.specs.Contexts.{BodyFrame, Context, put, now, with_permission, permission_at, declared_known, available, field_count, Tested, is_tested}
-use Rattle.ob_silica_rules.specs.Changing.{in_state}
-use Rattle.ob_silica_rules.specs.Returning.{tests_ended}
-use Rattle.ob_context.specs.View.{tested_of}
-use Rattle.ob_context.proofs.TestedLemmas.{tested_turn}
+use Rattle.ob_silica_places.specs.Known.{Known}
+use Rattle.ob_silica_places.specs.Places.{Location, slot, field, this, same_location, location_of}
+use Rattle.ob_flow_spec.specs.Contexts.{BodyFrame, Context, put, now, with_permission, permission_at, declared_known, available, field_count, TestedPlaces, is_tested}
+use Rattle.ob_flow_spec.specs.Changing.{in_state}
+use Rattle.ob_flow_spec.specs.Returning.{tests_ended}
+use Rattle.ob_flow_context.specs.View.{tested_of}
+use Rattle.ob_flow_context.proofs.TestedLemmas.{tested_turn}
 use Rattle.ob_flow_premises.specs.Forms.{all_own}
 use Rattle.ob_flow_premises.specs.Changes.{this_in_state, field_in_state, fields_in_state}
 
@@ -34,14 +35,14 @@ same_so (slot j) (field k) e = absurd cc
 same_so (field j) (slot k) e = absurd cc
 same_so (field j) (field k) e = ap field (eqb-true j k e)
 
-ended_at : (ts : Tested) (q : Location) (g : Context) (p : Location) (b : Bool) → same_location p q ≡ b
+ended_at : (ts : TestedPlaces) (q : Location) (g : Context) (p : Location) (b : Bool) → same_location p q ≡ b
     → (if (b || is_tested ts p) then with_permission shared (g p) else g p)
     ≡ (if b then with_permission shared (tests_ended ts g q) else tests_ended ts g p)
 ended_at ts q g p true e =
     ap (λ r. with_permission shared (g r)) (same_so p q e) ∙ sym (twice (g q) (is_tested ts q))
 ended_at ts q g p false e = refl
 
-ended_more : (ts : Tested) (q : Location) (g : Context) → tests_ended (q ∷ ts) g ≡ now (tests_ended ts g) q shared
+ended_more : (ts : TestedPlaces) (q : Location) (g : Context) → tests_ended (q ∷ ts) g ≡ now (tests_ended ts g) q shared
 ended_more ts q g = fun_ext (λ p. ended_at ts q g p (same_location p q) refl)
 
 pub ended_turn : (g : Context) (xs : List Place) (i : ℕ) (x : Place) → i < length xs → x ≡ get_or xs i x

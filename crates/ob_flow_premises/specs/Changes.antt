@@ -5,10 +5,10 @@ use Rattle.ob_base.specs.declared.id.StateId.{StateId}
 use Rattle.ob_perm.specs.States.{only}
 use Rattle.ob_perm.specs.Permissions.{owned, owns}
 use Rattle.ob_silica.specs.declared.place.Given.{Given}
-use Rattle.ob_silica_steps.specs.Cells.{field, this, same_location}
-use Rattle.ob_silica_rules.specs.Premises.{Premise, one}
-use Rattle.ob_silica_rules.specs.Contexts.{BodyFrame, available, declared_known, Context, put, now, permission_at}
-use Rattle.ob_silica_rules.specs.Changing.{given_from, takes_owner, fills_owner}
+use Rattle.ob_silica_places.specs.Places.{field, this, same_location}
+use Rattle.ob_flow_spec.specs.Premises.{Premise, one}
+use Rattle.ob_flow_spec.specs.Contexts.{BodyFrame, available, declared_known, Context, put, now, permission_at}
+use Rattle.ob_flow_spec.specs.Changing.{given_from, takes_owner, fills_owner}
 
 -- of a place that fills a field: no place before it fills one that wants an owner too, and it isn't `this`
 abbrev pub fills_once_at : BodyFrame → List Given → Given → List Premise

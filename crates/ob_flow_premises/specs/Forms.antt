@@ -4,14 +4,15 @@ use Rattle.ob_base.specs.Faults.{asset_lost, exit_mismatch}
 use Rattle.ob_base.specs.declared.fault.Span.{Span}
 use Rattle.ob_perm.specs.Permissions.{Permission, owned, shared, unowned, owns}
 use Rattle.ob_silica.specs.declared.place.Given.{Given}
-use Rattle.ob_silica_steps.specs.Cells.{field, Known}
-use Rattle.ob_silica_rules.specs.Premises.{Premise, one}
-use Rattle.ob_silica_rules.specs.Contexts.{BodyFrame, Context, put, permission_at, Tested, is_held_as, is_owned_asset}
-use Rattle.ob_silica_rules.specs.Filling.{filled, got}
-use Rattle.ob_silica_rules.specs.Changing.{given_from}
+use Rattle.ob_silica_places.specs.Known.{Known}
+use Rattle.ob_silica_places.specs.Places.{field}
+use Rattle.ob_flow_spec.specs.Premises.{Premise, one}
+use Rattle.ob_flow_spec.specs.Contexts.{BodyFrame, Context, put, permission_at, TestedPlaces, is_held_as, is_owned_asset}
+use Rattle.ob_flow_spec.specs.Filling.{after_fill, got}
+use Rattle.ob_flow_spec.specs.Changing.{given_from}
 
 -- whether each of these places owns
-abbrev pub all_own : Context → Tested → Bool
+abbrev pub all_own : Context → TestedPlaces → Bool
 all_own g [] = true
 all_own g (p ∷ ps) = owns (permission_at g p) && all_own g ps
 
@@ -19,7 +20,7 @@ all_own g (p ∷ ps) = owns (permission_at g p) && all_own g ps
 abbrev pub all_got : BodyFrame → Context → List Given → List (Option Known)
 all_got b g [] = []
 all_got b g (x ∷ xs) =
-    got b g x.field.0 (given_from x) ∷ all_got b (filled b g x.field.0 (given_from x)) xs
+    got b g x.field.0 (given_from x) ∷ all_got b (after_fill b g x.field.0 (given_from x)) xs
 
 -- the context once the given fields have got these
 abbrev pub put_got : Context → List Given → List (Option Known) → Context

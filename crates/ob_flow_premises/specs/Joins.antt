@@ -2,12 +2,13 @@
 use Rattle.std.specs.Prelude.{ℕ, not, List, Option}
 use Rattle.ob_base.specs.Faults.{branch_loses}
 use Rattle.ob_base.specs.declared.fault.Span.{Span}
-use Rattle.ob_silica_steps.specs.Cells.{field, Known}
-use Rattle.ob_silica_rules.specs.Premises.{Premise, one}
-use Rattle.ob_silica_rules.specs.Contexts.{BodyFrame, Context}
-use Rattle.ob_silica_rules.specs.Joining.{joined_known, join_loses}
+use Rattle.ob_silica_places.specs.Known.{Known}
+use Rattle.ob_silica_places.specs.Places.{field}
+use Rattle.ob_flow_spec.specs.Premises.{Premise, one}
+use Rattle.ob_flow_spec.specs.Contexts.{BodyFrame, Context}
+use Rattle.ob_flow_spec.specs.Joining.{joined_known, join_loses}
 
--- what is known of slots or of fields behind two branches, by number
+-- what is known of slots or of fields after two branches, by number
 abbrev pub joined_numbers : (ℕ → Option Known) → (ℕ → Option Known) → ℕ → Option Known
 joined_numbers g h = λ n. joined_known (g n) (h n)
 

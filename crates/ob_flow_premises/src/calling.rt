@@ -1,12 +1,12 @@
 //! What calls are asked for while places are given, and what a call on `this` leaves the fields as.
 ghost use Rattle.std.specs.Prelude.{◌≡◌, option_map, IfOk};
-ghost use Rattle.ob_silica_rules.specs.Premises.{each};
-ghost use Rattle.ob_silica_rules.specs.Contexts.{field_count};
-ghost use Rattle.ob_silica_rules.specs.Calling.{enters_field, fields_left};
-ghost use Rattle.ob_silica_rules.specs.Binding.{reads_of, given_all, passed};
-ghost use Rattle.ob_context.specs.View.{known_of, known_at, context_of, tested_of};
-ghost use Rattle.ob_context.specs.Checking.{Meets, Leaves};
-ghost use Rattle.ob_context.specs.Parameters.{plain_parameters};
+ghost use Rattle.ob_flow_spec.specs.Premises.{each};
+ghost use Rattle.ob_flow_spec.specs.Contexts.{field_count};
+ghost use Rattle.ob_flow_spec.specs.Calling.{enters_field, fields_left};
+ghost use Rattle.ob_flow_spec.specs.Binding.{reads_of, given_all, passed};
+ghost use Rattle.ob_flow_context.specs.View.{known_of, known_at, context_of, tested_of};
+ghost use Rattle.ob_flow_context.specs.Checking.{MeetsPremises, Leaves};
+ghost use Rattle.ob_flow_context.specs.Parameters.{plain_parameters};
 ghost use Rattle.ob_flow_premises.specs.Calls.{field_after, fields_after, may_call, may_call_this};
 ghost use Rattle.ob_flow_premises.specs.Calls.{passes, calls_with, enters};
 
@@ -14,9 +14,9 @@ use crate::modes::room_for;
 use ob_base::{
     Duplicate, FIELD_MISMATCH, FieldId, Items, Memory, Span, THIS_IN_CONSTRUCTOR, UNDER_TEST,
 };
-use ob_context::{
+use ob_flow_context::{
     BodyFrame, Context, FlowError, Known, Parameter, each_once, get_back_all, give_all,
-    keeps_fields, kind_of, must, tests_field, uses,
+    keeps_fields, kind_of, must, tests_field, uses_place,
 };
 use ob_silica::{Operand, Place};
 use ob_table::Signature;
@@ -31,7 +31,7 @@ fn enters_field(
     signature: &Signature,
     field: FieldId,
 ) -> Result<(), FlowError>
-    ensures { Meets result (enters_field frame.now (context_of before.now) (context_of context.now) at signature.now
+    ensures { MeetsPremises result (enters_field frame.now (context_of before.now) (context_of context.now) at signature.now
         field.0) }
 {
     let place = Place::Field(field);
@@ -41,7 +41,7 @@ fn enters_field(
 }
 
 // Each field that may be there is held as the call wants it.
-#[tactic(auto, using(ob_context::proofs::PremiseLemmas::for_each))]
+#[tactic(auto, using(ob_flow_context::proofs::PremiseLemmas::for_each))]
 fn enter_fields(
     frame: &BodyFrame<'_>,
     before: &Context,
@@ -49,7 +49,7 @@ fn enter_fields(
     at: Span,
     signature: &Signature,
 ) -> Result<(), FlowError>
-    ensures { Meets result (each (field_count frame.now)
+    ensures { MeetsPremises result (each (field_count frame.now)
         (enters_field frame.now (context_of before.now) (context_of context.now) at signature.now)) }
 {
     for number in 0..frame.field_count() {
@@ -105,7 +105,7 @@ pub fn leave_fields(
 }
 
 // What a call is asked for before anything is given.
-#[tactic(auto, using(ob_context::proofs::PremiseLemmas::premises))]
+#[tactic(auto, using(ob_flow_context::proofs::PremiseLemmas::premises))]
 fn may_call(
     frame: &BodyFrame<'_>,
     context: &Context,
@@ -113,15 +113,15 @@ fn may_call(
     reads: &[Operand],
     params: &[Parameter],
 ) -> Result<(), FlowError>
-    ensures { Meets result (may_call frame.now (context_of context.now) receiver (reads_of reads.now)
+    ensures { MeetsPremises result (may_call frame.now (context_of context.now) receiver (reads_of reads.now)
         (plain_parameters params.now)) }
 {
-    uses(frame, context, receiver)?;
+    uses_place(frame, context, receiver)?;
     each_once(reads, params)
 }
 
 // What a call on `this` is asked for before anything is given.
-#[tactic(auto, using(ob_context::proofs::PremiseLemmas::premises))]
+#[tactic(auto, using(ob_flow_context::proofs::PremiseLemmas::premises))]
 fn may_call_this(
     frame: &BodyFrame<'_>,
     tested: &[Place],
@@ -131,7 +131,7 @@ fn may_call_this(
     reads: &[Operand],
     params: &[Parameter],
 ) -> Result<(), FlowError>
-    ensures { Meets result (may_call_this frame.now (tested_of tested.now) at signature.now args.now
+    ensures { MeetsPremises result (may_call_this frame.now (tested_of tested.now) at signature.now args.now
         (reads_of reads.now) (plain_parameters params.now)) }
 {
     must(THIS_IN_CONSTRUCTOR, at, !frame.constructs())?;
@@ -141,7 +141,7 @@ fn may_call_this(
 }
 
 /// Places are given to parameters, and get back what those give back.
-#[tactic(auto, using(ob_context::proofs::PremiseLemmas::premises))]
+#[tactic(auto, using(ob_flow_context::proofs::PremiseLemmas::premises))]
 pub fn pass(
     alloc: Global,
     frame: &BodyFrame<'_>,
@@ -162,7 +162,7 @@ pub fn pass(
 }
 
 /// Calls a transaction of another object with these places, the receiver first.
-#[tactic(auto, using(ob_context::proofs::PremiseLemmas::premises))]
+#[tactic(auto, using(ob_flow_context::proofs::PremiseLemmas::premises))]
 pub fn call_with(
     alloc: Global,
     frame: &BodyFrame<'_>,
@@ -184,7 +184,7 @@ pub fn call_with(
 }
 
 /// Gives `this` and arguments, and asks for the fields that the call wants.
-#[tactic(auto, using(ob_context::proofs::PremiseLemmas::premises))]
+#[tactic(auto, using(ob_flow_context::proofs::PremiseLemmas::premises))]
 pub fn enter(
     alloc: Global,
     frame: &BodyFrame<'_>,

@@ -2,27 +2,27 @@
 ghost use Rattle.std.specs.Prelude.{◌≡◌, ◌≤◌, [], ◌∷◌, ◌++◌, Some, not, reverse, take, length, IfOk, OnOk};
 ghost use Rattle.ob_base.specs.Faults.{view_changes};
 ghost use Rattle.ob_perm.specs.Permissions.{is_unowned};
-ghost use Rattle.ob_silica_steps.specs.Cells.{location_of, this};
-ghost use Rattle.ob_silica_rules.specs.Numbered.{IsStateNumber};
-ghost use Rattle.ob_silica_rules.specs.Premises.{one, each, for_all};
-ghost use Rattle.ob_silica_rules.specs.Contexts.{field_count, available, permission_at};
-ghost use Rattle.ob_silica_rules.specs.Changing.{given_at, is_given, is_of_state, has_value, takes_owner};
-ghost use Rattle.ob_silica_rules.specs.Changing.{fills_owner, fills_once, tested_field, stays_under_test, fills_all};
-ghost use Rattle.ob_silica_rules.specs.Changing.{filled_all, overwrites_none, loses_none, in_state};
-ghost use Rattle.ob_silica_rules.specs.Changing.{given_from, shares_as_declared};
-ghost use Rattle.ob_context.specs.View.{known_of, context_of, all_known, tested_of};
-ghost use Rattle.ob_context.specs.Checking.{Meets, Leaves};
+ghost use Rattle.ob_silica_places.specs.Places.{location_of, this};
+ghost use Rattle.ob_flow_spec.specs.Numbered.{IsStateNumber};
+ghost use Rattle.ob_flow_spec.specs.Premises.{one, each, for_all};
+ghost use Rattle.ob_flow_spec.specs.Contexts.{field_count, available, permission_at};
+ghost use Rattle.ob_flow_spec.specs.Changing.{given_at, is_given, is_of_state, has_value, takes_owner};
+ghost use Rattle.ob_flow_spec.specs.Changing.{fills_owner, fills_once, tested_field, stays_under_test, fills_all};
+ghost use Rattle.ob_flow_spec.specs.Changing.{filled_all, overwrites_none, loses_none, in_state};
+ghost use Rattle.ob_flow_spec.specs.Changing.{given_from, shares_as_declared};
+ghost use Rattle.ob_flow_context.specs.View.{known_of, context_of, all_known, tested_of};
+ghost use Rattle.ob_flow_context.specs.Checking.{MeetsPremises, Leaves};
 ghost use Rattle.ob_flow_premises.specs.Forms.{all_got, put_got};
 ghost use Rattle.ob_flow_premises.specs.Changes.{fills_once_at, this_in_state, field_in_state, fields_in_state};
-ghost use Rattle.ob_silica_rules.specs.Binding.{read_of};
-ghost use Rattle.ob_silica_rules.specs.Filling.{fills, filled, got};
+ghost use Rattle.ob_flow_spec.specs.Binding.{read_of};
+ghost use Rattle.ob_flow_spec.specs.Filling.{fills_field, after_fill, got};
 
 use crate::modes::{is_owner, is_shared, is_unowned};
 use ob_base::{
     ASSET_LOST, ASSET_OVERWRITTEN, FIELD_MISMATCH, FieldId, Items, Memory, NOT_ACCESSIBLE, Span,
     StateId, UNDER_TEST, UNSET, USED_TWICE, VIEW_CHANGES,
 };
-use ob_context::{
+use ob_flow_context::{
     BodyFrame, Context, FlowError, Known, fill, got, is_tested, known_as, must, same_place,
 };
 use ob_perm::{contains, only, owned};
@@ -31,7 +31,7 @@ use std::alloc::Global;
 
 /// Whether `this` lets its fields change.
 pub fn may_change(context: &Context, at: Span) -> Result<(), FlowError>
-    ensures { Meets result (one view_changes at (not (is_unowned (permission_at (context_of context.now) this)))) }
+    ensures { MeetsPremises result (one view_changes at (not (is_unowned (permission_at (context_of context.now) this)))) }
 {
     must(
         VIEW_CHANGES,
@@ -49,10 +49,10 @@ fn is_in_state(frame: &BodyFrame<'_>, field: FieldId, state: StateId) -> bool
 }
 
 /// Each given field is there in the state.
-#[tactic(auto, using(ob_context::proofs::PremiseLemmas::for_all_things))]
+#[tactic(auto, using(ob_flow_context::proofs::PremiseLemmas::for_all_things))]
 pub fn all_of_state(frame: &BodyFrame<'_>, state: StateId, given: &[Given]) -> Result<(), FlowError>
     requires { IsStateNumber state }
-    ensures { Meets result (for_all given.now (is_of_state frame.now state)) }
+    ensures { MeetsPremises result (for_all given.now (is_of_state frame.now state)) }
 {
     for one in given {
         must(
@@ -95,7 +95,7 @@ fn has_value(
     field: FieldId,
 ) -> Result<(), FlowError>
     requires { IsStateNumber state }
-    ensures { Meets result (has_value frame.now (context_of context.now) at state given.now field.0) }
+    ensures { MeetsPremises result (has_value frame.now (context_of context.now) at state given.now field.0) }
 {
     let has = !is_in_state(frame, field, state)
         || is_given(given, field)
@@ -104,7 +104,7 @@ fn has_value(
 }
 
 /// Each field of the state that isn't given is accessible and set.
-#[tactic(auto, using(ob_context::proofs::PremiseLemmas::for_each))]
+#[tactic(auto, using(ob_flow_context::proofs::PremiseLemmas::for_each))]
 pub fn all_have_values(
     frame: &BodyFrame<'_>,
     context: &Context,
@@ -113,7 +113,7 @@ pub fn all_have_values(
     given: &[Given],
 ) -> Result<(), FlowError>
     requires { IsStateNumber state }
-    ensures { Meets result (each (field_count frame.now)
+    ensures { MeetsPremises result (each (field_count frame.now)
         (has_value frame.now (context_of context.now) at state given.now)) }
 {
     for number in 0..frame.field_count() {
@@ -152,7 +152,7 @@ fn fills_once_at(
     one: &Given,
 ) -> Result<(), FlowError>
     requires { count ≤ length given.now }
-    ensures { Meets result (fills_once_at frame.now (reverse (take count given.now)) one.now) }
+    ensures { MeetsPremises result (fills_once_at frame.now (reverse (take count given.now)) one.now) }
 {
     let this = same_place(one.from.place, Place::This);
     let again = this || fills_owner(frame, one.from.place, given, count);
@@ -166,7 +166,7 @@ fn fills_once_at(
 /// No place fills two fields that want an owner, and `this` fills none.
 #[tactic(auto, using(crate::proofs::GivenLemmas::once))]
 pub fn fills_once(frame: &BodyFrame<'_>, given: &[Given]) -> Result<(), FlowError>
-    ensures { Meets result (fills_once frame.now [] given.now) }
+    ensures { MeetsPremises result (fills_once frame.now [] given.now) }
 {
     for number in 0..given.len() {
         fills_once_at(frame, given, number, &given[number])?;
@@ -183,7 +183,7 @@ fn tested_field(
     given: Option<Given>,
 ) -> Result<(), FlowError>
     requires { IsStateNumber state }
-    ensures { Meets result (tested_field frame.now at state field.0 given) }
+    ensures { MeetsPremises result (tested_field frame.now at state field.0 given) }
 {
     match given {
         Some(one) => must(UNDER_TEST, one.span, false),
@@ -201,7 +201,7 @@ fn stays_under_test(
     field: FieldId,
 ) -> Result<(), FlowError>
     requires { IsStateNumber state }
-    ensures { Meets result (stays_under_test frame.now (tested_of tested.now) at state given.now field.0) }
+    ensures { MeetsPremises result (stays_under_test frame.now (tested_of tested.now) at state given.now field.0) }
 {
     if is_tested(tested, Place::Field(field)) {
         tested_field(frame, at, state, field, given_at(given, field))
@@ -211,7 +211,7 @@ fn stays_under_test(
 }
 
 /// No field under test is given, and each is there in the state.
-#[tactic(auto, using(ob_context::proofs::PremiseLemmas::for_each))]
+#[tactic(auto, using(ob_flow_context::proofs::PremiseLemmas::for_each))]
 pub fn all_stay_under_test(
     frame: &BodyFrame<'_>,
     tested: &[Place],
@@ -220,7 +220,7 @@ pub fn all_stay_under_test(
     given: &[Given],
 ) -> Result<(), FlowError>
     requires { IsStateNumber state }
-    ensures { Meets result (each (field_count frame.now)
+    ensures { MeetsPremises result (each (field_count frame.now)
         (stays_under_test frame.now (tested_of tested.now) at state given.now)) }
 {
     for number in 0..frame.field_count() {
@@ -240,8 +240,8 @@ fn fill_one(
     gots: &mut Items<Option<Known>>,
 ) -> Result<(), FlowError>
     ensures fills { Leaves result (context_of context.new)
-        (fills frame.now (tested_of tested.now) (context_of context.old) at one.now.field.0 (read_of one.now.from))
-        (filled frame.now (context_of context.old) one.now.field.0 (given_from one.now)) }
+        (fills_field frame.now (tested_of tested.now) (context_of context.old) at one.now.field.0 (read_of one.now.from))
+        (after_fill frame.now (context_of context.old) one.now.field.0 (given_from one.now)) }
     ensures gets { OnOk result (all_known gots.new ≡ all_known gots.old
         ++ got frame.now (context_of context.old) one.now.field.0 (given_from one.now) ∷ []) }
 {
@@ -282,13 +282,13 @@ pub fn fill_all(
 }
 
 /// Given fields that may be there own no asset any more.
-#[tactic(auto, using(ob_context::proofs::PremiseLemmas::for_all_things))]
+#[tactic(auto, using(ob_flow_context::proofs::PremiseLemmas::for_all_things))]
 pub fn all_overwrite_none(
     frame: &BodyFrame<'_>,
     context: &Context,
     given: &[Given],
 ) -> Result<(), FlowError>
-    ensures { Meets result (for_all given.now (overwrites_none frame.now (context_of context.now))) }
+    ensures { MeetsPremises result (for_all given.now (overwrites_none frame.now (context_of context.now))) }
 {
     for one in given {
         let overwrites = frame.maybe_there(context, one.field)
@@ -307,7 +307,7 @@ fn loses_none(
     field: FieldId,
 ) -> Result<(), FlowError>
     requires { IsStateNumber state }
-    ensures { Meets result (loses_none frame.now (context_of context.now) at state field.0) }
+    ensures { MeetsPremises result (loses_none frame.now (context_of context.now) at state field.0) }
 {
     let loses = !is_in_state(frame, field, state)
         && frame.maybe_there(context, field)
@@ -316,7 +316,7 @@ fn loses_none(
 }
 
 /// No field that may be there and isn't in the state owns an asset.
-#[tactic(auto, using(ob_context::proofs::PremiseLemmas::for_each))]
+#[tactic(auto, using(ob_flow_context::proofs::PremiseLemmas::for_each))]
 pub fn all_lose_none(
     frame: &BodyFrame<'_>,
     context: &Context,
@@ -324,7 +324,7 @@ pub fn all_lose_none(
     state: StateId,
 ) -> Result<(), FlowError>
     requires { IsStateNumber state }
-    ensures { Meets result (each (field_count frame.now) (loses_none frame.now (context_of context.now) at state)) }
+    ensures { MeetsPremises result (each (field_count frame.now) (loses_none frame.now (context_of context.now) at state)) }
 {
     for number in 0..frame.field_count() {
         loses_none(frame, context, at, state, FieldId(number))?;
@@ -351,7 +351,7 @@ fn shares_as_declared(
     context: &Context,
     one: &Given,
 ) -> Result<(), FlowError>
-    ensures { Meets result (shares_as_declared frame.now (context_of filled.now) (context_of context.now) one.now) }
+    ensures { MeetsPremises result (shares_as_declared frame.now (context_of filled.now) (context_of context.now) one.now) }
 {
     let place = Place::Field(one.field);
     let shares = !is_shared(filled.permission(Place::This))
@@ -361,14 +361,14 @@ fn shares_as_declared(
 }
 
 /// Under a Shared `this` each given field that isn't accessible is held as declared.
-#[tactic(auto, using(ob_context::proofs::PremiseLemmas::for_all_things))]
+#[tactic(auto, using(ob_flow_context::proofs::PremiseLemmas::for_all_things))]
 pub fn all_share_as_declared(
     frame: &BodyFrame<'_>,
     filled: &Context,
     context: &Context,
     given: &[Given],
 ) -> Result<(), FlowError>
-    ensures { Meets result (for_all given.now
+    ensures { MeetsPremises result (for_all given.now
         (shares_as_declared frame.now (context_of filled.now) (context_of context.now))) }
 {
     for one in given {

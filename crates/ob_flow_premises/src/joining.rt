@@ -1,31 +1,31 @@
-//! What a join of two branches is asked for, and what is known behind it.
+//! What a join of two branches is asked for, and what is known after it.
 ghost use Rattle.std.specs.Prelude.{◌≡◌, option_map, IfOk};
 ghost use Rattle.ob_perm.specs.Permissions.{joined};
 ghost use Rattle.ob_perm.specs.Masks.{permission_of};
-ghost use Rattle.ob_silica_rules.specs.Premises.{each};
-ghost use Rattle.ob_silica_rules.specs.Contexts.{field_count};
-ghost use Rattle.ob_silica_rules.specs.Joining.{same_kind, same_mode, joined_known, agrees, join_loses};
-ghost use Rattle.ob_silica_rules.specs.Joining.{joined_context, joins_slot, hands_field_on, joins_field};
-ghost use Rattle.ob_context.specs.View.{known_of, known_at, context_of};
-ghost use Rattle.ob_context.specs.Checking.{Meets};
+ghost use Rattle.ob_flow_spec.specs.Premises.{each};
+ghost use Rattle.ob_flow_spec.specs.Contexts.{field_count};
+ghost use Rattle.ob_flow_spec.specs.Joining.{same_kind, same_mode, joined_known, agrees_with, join_loses};
+ghost use Rattle.ob_flow_spec.specs.Joining.{joined_context, joins_slot, hands_field_on, joins_field};
+ghost use Rattle.ob_flow_context.specs.View.{known_of, known_at, context_of};
+ghost use Rattle.ob_flow_context.specs.Checking.{MeetsPremises};
 ghost use Rattle.ob_flow_premises.specs.Joins.{joined_numbers, field_stays};
 
 use crate::modes::{is_owned_asset, known_at, room_for};
 use ob_base::{BRANCH_LOSES, FIELD_MISMATCH, FieldId, Items, Memory, Mode, Perm, Span};
-use ob_context::{BodyFrame, Context, FlowError, Known, must};
+use ob_flow_context::{BodyFrame, Context, FlowError, Known, must};
 use ob_perm::{owned, shared, union, unowned};
 use ob_silica::Place;
-use ob_table::LocalKind;
+use ob_table::Kind;
 use std::alloc::Global;
 
-fn same_kind(a: LocalKind, b: LocalKind) -> bool
+fn same_kind(a: Kind, b: Kind) -> bool
     ensures { result ≡ same_kind a b }
 {
     match (a, b) {
-        (LocalKind::Int, LocalKind::Int) => true,
-        (LocalKind::Bool, LocalKind::Bool) => true,
-        (LocalKind::Text, LocalKind::Text) => true,
-        (LocalKind::Reference(a), LocalKind::Reference(b)) => a.0 == b.0,
+        (Kind::Int, Kind::Int) => true,
+        (Kind::Bool, Kind::Bool) => true,
+        (Kind::Text, Kind::Text) => true,
+        (Kind::Reference(a), Kind::Reference(b)) => a.0 == b.0,
         _ => false,
     }
 }
@@ -42,7 +42,7 @@ pub fn same_mode(a: Perm, b: Perm) -> bool
     }
 }
 
-// What is held behind two branches.
+// What is held after two branches.
 fn joined(a: Perm, b: Perm) -> Perm
     ensures { permission_of result ≡ joined (permission_of a) (permission_of b) }
 {
@@ -53,7 +53,7 @@ fn joined(a: Perm, b: Perm) -> Perm
     }
 }
 
-// What is known of a place behind two branches.
+// What is known of a place after two branches.
 fn joined_known(a: Option<Known>, b: Option<Known>) -> Option<Known>
     ensures { option_map known_of result ≡ joined_known (option_map known_of a) (option_map known_of b) }
 {
@@ -72,7 +72,7 @@ fn joined_known(a: Option<Known>, b: Option<Known>) -> Option<Known>
 
 // Whether a place is held in the same way in both branches.
 fn agrees(a: Known, b: Known) -> bool
-    ensures { result ≡ agrees (known_of a) (known_of b) }
+    ensures { result ≡ agrees_with (known_of a) (known_of b) }
 {
     same_kind(a.kind, b.kind) && same_mode(a.permission, b.permission)
 }
@@ -89,14 +89,14 @@ fn join_loses(frame: &BodyFrame<'_>, a: Option<Known>, b: Option<Known>) -> bool
     }
 }
 
-// What is known of the place of this number behind two branches.
+// What is known of the place of this number after two branches.
 fn joined_at(a: &[Option<Known>], b: &[Option<Known>], number: usize) -> Option<Known>
     ensures { option_map known_of result ≡ joined_numbers (known_at a.now) (known_at b.now) number }
 {
     joined_known(known_at(a, number), known_at(b, number))
 }
 
-// What is known of places behind two branches; nothing is of one past the end of a list.
+// What is known of places after two branches; nothing is of one past the end of a list.
 fn join_all(
     alloc: Global,
     a: &[Option<Known>],
@@ -126,7 +126,7 @@ fn join_all_fields(alloc: Global, a: &Context, b: &Context) -> Result<Items<Opti
     join_all(alloc, a.fields(), b.fields())
 }
 
-/// The context behind two branches.
+/// The context after two branches.
 pub fn joined_context(alloc: Global, a: &Context, b: &Context) -> Result<Context, Memory>
     ensures { IfOk result (λ c. context_of c ≡ joined_context (context_of a.now) (context_of b.now)) }
 {
@@ -143,7 +143,7 @@ fn joins_slot(
     at: Span,
     slot: u8,
 ) -> Result<(), FlowError>
-    ensures { Meets result (joins_slot frame.now (context_of a.now) (context_of b.now) at slot) }
+    ensures { MeetsPremises result (joins_slot frame.now (context_of a.now) (context_of b.now) at slot) }
 {
     let place = Place::Slot(slot);
     let loses = join_loses(frame, a.get(place), b.get(place));
@@ -151,14 +151,14 @@ fn joins_slot(
 }
 
 /// No slot loses an owner of an asset.
-#[tactic(auto, using(ob_context::proofs::PremiseLemmas::for_each))]
+#[tactic(auto, using(ob_flow_context::proofs::PremiseLemmas::for_each))]
 pub fn joins_slots(
     frame: &BodyFrame<'_>,
     a: &Context,
     b: &Context,
     at: Span,
 ) -> Result<(), FlowError>
-    ensures { Meets result (each frame.now.slots
+    ensures { MeetsPremises result (each frame.now.slots
         (joins_slot frame.now (context_of a.now) (context_of b.now) at)) }
 {
     for slot in 0..frame.slots() {
@@ -167,21 +167,21 @@ pub fn joins_slots(
     Ok(())
 }
 
-// A field that is accessible in a branch and not behind it is held there as declared.
+// A field that is accessible in a branch and not after it is held there as declared.
 fn hands_field_on(
     frame: &BodyFrame<'_>,
     under: Perm,
     context: &Context,
-    behind: &Context,
+    after: &Context,
     at: Span,
     field: FieldId,
 ) -> Result<(), FlowError>
-    ensures { Meets result (hands_field_on frame.now (permission_of under) (context_of context.now)
-        (context_of behind.now) at field.0) }
+    ensures { MeetsPremises result (hands_field_on frame.now (permission_of under) (context_of context.now)
+        (context_of after.now) at field.0) }
 {
     let place = Place::Field(field);
     let hands_on = !frame.accessible_under(under, field)
-        || frame.accessible(behind, field)
+        || frame.accessible(after, field)
         || context.is_held_as(place, frame.declared_permission(field));
     must(FIELD_MISMATCH, at, hands_on)
 }
@@ -194,7 +194,7 @@ fn field_stays(
     at: Span,
     field: FieldId,
 ) -> Result<(), FlowError>
-    ensures { Meets result (field_stays frame.now (context_of a.now) (context_of b.now) at field.0) }
+    ensures { MeetsPremises result (field_stays frame.now (context_of a.now) (context_of b.now) at field.0) }
 {
     let place = Place::Field(field);
     let loses = join_loses(frame, a.get(place), b.get(place));
@@ -202,41 +202,41 @@ fn field_stays(
 }
 
 // A field, which each branch hands on, and of which no owner of an asset is lost.
-#[tactic(auto, using(ob_context::proofs::PremiseLemmas::premises))]
+#[tactic(auto, using(ob_flow_context::proofs::PremiseLemmas::premises))]
 fn joins_field(
     frame: &BodyFrame<'_>,
     under: Perm,
     a: &Context,
     b: &Context,
-    behind: &Context,
+    after: &Context,
     at: Span,
     field: FieldId,
 ) -> Result<(), FlowError>
-    requires { context_of behind.now ≡ joined_context (context_of a.now) (context_of b.now) }
-    ensures { Meets result (joins_field frame.now (permission_of under) (context_of a.now) (context_of b.now) at
+    requires { context_of after.now ≡ joined_context (context_of a.now) (context_of b.now) }
+    ensures { MeetsPremises result (joins_field frame.now (permission_of under) (context_of a.now) (context_of b.now) at
         field.0) }
 {
-    hands_field_on(frame, under, a, behind, at, field)?;
-    hands_field_on(frame, b.permission(Place::This), b, behind, at, field)?;
+    hands_field_on(frame, under, a, after, at, field)?;
+    hands_field_on(frame, b.permission(Place::This), b, after, at, field)?;
     field_stays(frame, a, b, at, field)
 }
 
 /// Each branch hands its fields on, and none loses an owner of an asset.
-#[tactic(auto, using(ob_context::proofs::PremiseLemmas::for_each))]
+#[tactic(auto, using(ob_flow_context::proofs::PremiseLemmas::for_each))]
 pub fn joins_fields(
     frame: &BodyFrame<'_>,
     under: Perm,
     a: &Context,
     b: &Context,
-    behind: &Context,
+    after: &Context,
     at: Span,
 ) -> Result<(), FlowError>
-    requires { context_of behind.now ≡ joined_context (context_of a.now) (context_of b.now) }
-    ensures { Meets result (each (field_count frame.now)
+    requires { context_of after.now ≡ joined_context (context_of a.now) (context_of b.now) }
+    ensures { MeetsPremises result (each (field_count frame.now)
         (joins_field frame.now (permission_of under) (context_of a.now) (context_of b.now) at)) }
 {
     for number in 0..frame.field_count() {
-        joins_field(frame, under, a, b, behind, at, FieldId(number))?;
+        joins_field(frame, under, a, b, after, at, FieldId(number))?;
     }
     Ok(())
 }

@@ -19,4 +19,6 @@ pub use modes::{is_owner, is_unowned};
 pub use returning::{
     all_let_go, end_tests, leaves_fields, leaves_params, leaves_this, sets_fields, still_own,
 };
-pub use straight::{assert_held, copies, disowns, drops_slot, moves_to_slot, operates};
+pub use straight::{
+    assert_held, copies_place, disowns_place, drops_slot, moves_to_slot, operates_on,
+};

@@ -2,12 +2,12 @@
 ghost use Rattle.std.specs.Prelude.{◌≡◌, [], option_map, IfOk};
 ghost use Rattle.ob_perm.specs.Permissions.{owns, is_shared, is_unowned};
 ghost use Rattle.ob_perm.specs.Masks.{permission_of};
-ghost use Rattle.ob_silica_steps.specs.Cells.{slot};
-ghost use Rattle.ob_silica_rules.specs.Contexts.{is_held_as, is_owned_asset};
-ghost use Rattle.ob_context.specs.View.{known_of, known_at, context_of};
+ghost use Rattle.ob_silica_places.specs.Places.{slot};
+ghost use Rattle.ob_flow_spec.specs.Contexts.{is_held_as, is_owned_asset};
+ghost use Rattle.ob_flow_context.specs.View.{known_of, known_at, context_of};
 
 use ob_base::{Items, Memory, Mode, Perm};
-use ob_context::{BodyFrame, Context, Known};
+use ob_flow_context::{BodyFrame, Context, Known};
 use ob_perm::matches;
 use std::alloc::Global;
 
@@ -52,7 +52,7 @@ pub(crate) fn known_at(known: &[Option<Known>], number: usize) -> Option<Known>
 }
 
 /// What is known of the slot of this number.
-#[tactic(auto, using(ob_context::proofs::KnownLemmas::knowing))]
+#[tactic(auto, using(ob_flow_context::proofs::KnownLemmas::knowing))]
 pub(crate) fn slot_known(context: &Context, number: usize) -> Option<Known>
     ensures { option_map known_of result ≡ context_of context.now (slot number) }
 {

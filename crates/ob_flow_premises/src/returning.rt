@@ -2,21 +2,21 @@
 ghost use Rattle.std.specs.Prelude.{◌≡◌, option_map};
 ghost use Rattle.ob_perm.specs.Permissions.{shared};
 ghost use Rattle.ob_perm.specs.Masks.{permission_of};
-ghost use Rattle.ob_silica_steps.specs.Cells.{slot, location_of};
-ghost use Rattle.ob_silica_rules.specs.Premises.{each, for_all};
-ghost use Rattle.ob_silica_rules.specs.Contexts.{now, field_count};
-ghost use Rattle.ob_silica_rules.specs.Returning.{tests_ended, is_let_go};
-ghost use Rattle.ob_silica_rules.specs.Returning.{leaves_as, leaves_params, gives_object, leaves_this, sets_field};
-ghost use Rattle.ob_silica_rules.specs.Returning.{still_owns, leaves_field};
-ghost use Rattle.ob_context.specs.View.{known_of, context_of, tested_of};
-ghost use Rattle.ob_context.specs.Checking.{Meets};
+ghost use Rattle.ob_silica_places.specs.Places.{slot, location_of};
+ghost use Rattle.ob_flow_spec.specs.Premises.{each, for_all};
+ghost use Rattle.ob_flow_spec.specs.Contexts.{now, field_count};
+ghost use Rattle.ob_flow_spec.specs.Returning.{tests_ended, is_let_go};
+ghost use Rattle.ob_flow_spec.specs.Returning.{leaves_as, leaves_params, gives_object, leaves_this, sets_field};
+ghost use Rattle.ob_flow_spec.specs.Returning.{still_owns, leaves_field};
+ghost use Rattle.ob_flow_context.specs.View.{known_of, context_of, tested_of};
+ghost use Rattle.ob_flow_context.specs.Checking.{MeetsPremises};
 ghost use Rattle.ob_flow_premises.specs.Forms.{all_own, leaves_known_as};
 
 use crate::modes::{is_held, is_owned_asset, is_owner, slot_known};
 use ob_base::{
     ASSET_LOST, EXIT_MISMATCH, FIELD_MISMATCH, FieldId, Mode, Perm, Span, UNDER_TEST, UNSET,
 };
-use ob_context::{BodyFrame, Context, FlowError, Known, is_stateless, must};
+use ob_flow_context::{BodyFrame, Context, FlowError, Known, is_stateless, must};
 use ob_perm::{fits, shared};
 use ob_silica::Place;
 use ob_table::Param;
@@ -54,7 +54,7 @@ pub fn end_tests(context: &mut Context, tested: &[Place])
 
 // A slot that is no parameter's owns no asset.
 fn is_let_go(frame: &BodyFrame<'_>, context: &Context, at: Span, slot: u8) -> Result<(), FlowError>
-    ensures { Meets result (is_let_go frame.now (context_of context.now) at slot) }
+    ensures { MeetsPremises result (is_let_go frame.now (context_of context.now) at slot) }
 {
     let param = usize::from(slot) <= frame.signature().params.len();
     let kept = !param && frame.owns_asset(context, Place::Slot(slot));
@@ -62,9 +62,9 @@ fn is_let_go(frame: &BodyFrame<'_>, context: &Context, at: Span, slot: u8) -> Re
 }
 
 /// No slot but a parameter's owns an asset.
-#[tactic(auto, using(ob_context::proofs::PremiseLemmas::for_each))]
+#[tactic(auto, using(ob_flow_context::proofs::PremiseLemmas::for_each))]
 pub fn all_let_go(frame: &BodyFrame<'_>, context: &Context, at: Span) -> Result<(), FlowError>
-    ensures { Meets result (each frame.now.slots (is_let_go frame.now (context_of context.now) at)) }
+    ensures { MeetsPremises result (each frame.now.slots (is_let_go frame.now (context_of context.now) at)) }
 {
     for slot in 0..frame.slots() {
         is_let_go(frame, context, at, slot)?;
@@ -79,7 +79,7 @@ fn leaves_known_as(
     at: Span,
     exit: Perm,
 ) -> Result<(), FlowError>
-    ensures { Meets result (leaves_known_as frame.now (option_map known_of known) at (permission_of exit)) }
+    ensures { MeetsPremises result (leaves_known_as frame.now (option_map known_of known) at (permission_of exit)) }
 {
     match exit.mode {
         Mode::Owned | Mode::Shared => must(EXIT_MISMATCH, at, is_held(known, exit)),
@@ -96,7 +96,7 @@ fn leaves_slot_as(
     number: usize,
     exit: Perm,
 ) -> Result<(), FlowError>
-    ensures { Meets result (leaves_as frame.now (context_of context.now) at (slot number) (permission_of exit)) }
+    ensures { MeetsPremises result (leaves_as frame.now (context_of context.now) at (slot number) (permission_of exit)) }
 {
     leaves_known_as(frame, slot_known(context, number), at, exit)
 }
@@ -109,7 +109,7 @@ pub fn leaves_params(
     at: Span,
     params: &[Param],
 ) -> Result<(), FlowError>
-    ensures { Meets result (leaves_params frame.now (context_of context.now) at 1 params.now) }
+    ensures { MeetsPremises result (leaves_params frame.now (context_of context.now) at 1 params.now) }
 {
     for number in 0..params.len() {
         leaves_slot_as(frame, context, at, number + 1, params[number].exit)?;
@@ -118,9 +118,9 @@ pub fn leaves_params(
 }
 
 // A constructor leaves an object that serves as what it gives, and that is in a state if there are any.
-#[tactic(auto, using(ob_context::proofs::PremiseLemmas::premises))]
+#[tactic(auto, using(ob_flow_context::proofs::PremiseLemmas::premises))]
 fn gives_object(frame: &BodyFrame<'_>, context: &Context, at: Span) -> Result<(), FlowError>
-    ensures { Meets result (gives_object frame.now (context_of context.now) at) }
+    ensures { MeetsPremises result (gives_object frame.now (context_of context.now) at) }
 {
     let this = context.permission(Place::This);
     must(
@@ -138,7 +138,7 @@ fn gives_object(frame: &BodyFrame<'_>, context: &Context, at: Span) -> Result<()
 
 /// `this` is left with its exit.
 pub fn leaves_this(frame: &BodyFrame<'_>, context: &Context, at: Span) -> Result<(), FlowError>
-    ensures { Meets result (leaves_this frame.now (context_of context.now) at) }
+    ensures { MeetsPremises result (leaves_this frame.now (context_of context.now) at) }
 {
     if frame.constructs() {
         gives_object(frame, context, at)
@@ -154,7 +154,7 @@ fn sets_field(
     at: Span,
     field: FieldId,
 ) -> Result<(), FlowError>
-    ensures { Meets result (sets_field frame.now (context_of context.now) at field.0) }
+    ensures { MeetsPremises result (sets_field frame.now (context_of context.now) at field.0) }
 {
     let sets = !frame.constructs()
         || !frame.accessible(context, field)
@@ -163,9 +163,9 @@ fn sets_field(
 }
 
 /// A constructor has set each accessible field.
-#[tactic(auto, using(ob_context::proofs::PremiseLemmas::for_each))]
+#[tactic(auto, using(ob_flow_context::proofs::PremiseLemmas::for_each))]
 pub fn sets_fields(frame: &BodyFrame<'_>, context: &Context, at: Span) -> Result<(), FlowError>
-    ensures { Meets result (each (field_count frame.now) (sets_field frame.now (context_of context.now) at)) }
+    ensures { MeetsPremises result (each (field_count frame.now) (sets_field frame.now (context_of context.now) at)) }
 {
     for number in 0..frame.field_count() {
         sets_field(frame, context, at, FieldId(number))?;
@@ -180,7 +180,7 @@ fn leaves_field(
     at: Span,
     field: FieldId,
 ) -> Result<(), FlowError>
-    ensures { Meets result (leaves_field frame.now (context_of context.now) at field.0) }
+    ensures { MeetsPremises result (leaves_field frame.now (context_of context.now) at field.0) }
 {
     let place = Place::Field(field);
     let leaves = !frame.maybe_there(context, field)
@@ -189,9 +189,9 @@ fn leaves_field(
 }
 
 /// Each field that may be there is left as it is declared or listed.
-#[tactic(auto, using(ob_context::proofs::PremiseLemmas::for_each))]
+#[tactic(auto, using(ob_flow_context::proofs::PremiseLemmas::for_each))]
 pub fn leaves_fields(frame: &BodyFrame<'_>, context: &Context, at: Span) -> Result<(), FlowError>
-    ensures { Meets result (each (field_count frame.now) (leaves_field frame.now (context_of context.now) at)) }
+    ensures { MeetsPremises result (each (field_count frame.now) (leaves_field frame.now (context_of context.now) at)) }
 {
     for number in 0..frame.field_count() {
         leaves_field(frame, context, at, FieldId(number))?;
@@ -202,7 +202,7 @@ pub fn leaves_fields(frame: &BodyFrame<'_>, context: &Context, at: Span) -> Resu
 /// Each place under test still owns.
 #[tactic(auto, using(crate::proofs::FormsLemmas::still_own))]
 pub fn still_own(context: &Context, tested: &[Place], at: Span) -> Result<(), FlowError>
-    ensures { Meets result (for_all (tested_of tested.now) (still_owns (context_of context.now) at)) }
+    ensures { MeetsPremises result (for_all (tested_of tested.now) (still_owns (context_of context.now) at)) }
 {
     must(UNDER_TEST, at, all_own(context, tested))
 }

@@ -3,3 +3,4 @@ pub mod StagesLaws
 pub mod ProgramsLaws
 pub mod MiddleLaws
 pub mod MiddleTurns
+pub mod CompiledLaws

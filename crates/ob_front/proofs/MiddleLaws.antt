@@ -9,8 +9,8 @@ use Rattle.ob_base.specs.declared.fault.ProgramFault.{ProgramFault}
 use Rattle.ob_table.specs.Statements.{ResolvedBody}
 use Rattle.ob_table.specs.Tables.{ClassTable}
 use Rattle.ob_silica.specs.Terms.{SilicaBody}
-use Rattle.ob_silica_rules.specs.Deriving.{derive_body, Derives}
-use Rattle.ob_lowering_slots.specs.BodyCode.{body_code}
+use Rattle.ob_flow_spec.specs.Deriving.{derive_body, Derives}
+use Rattle.ob_lower_functions.specs.BodyCode.{body_code}
 use Rattle.ob_front.specs.Lowered.{AreLoweredTo, first_slot_past, LacksSlots}
 use Rattle.ob_front.specs.Checked.{first_flow_fault}
 

@@ -16,20 +16,17 @@ use Rattle.ob_table.specs.declared.body.Body.{Body}
 use Rattle.ob_silica.specs.Terms.{SilicaBody}
 use Rattle.ob_silica.specs.TermsView.{terms_of, silica_body_of}
 use Rattle.ob_silica.specs.declared.body.TermBody.{TermBody}
-use Rattle.ob_lowering.specs.SlotNeeds.{slots_run_out, IsSlotFault}
-use Rattle.ob_lower.specs.Lowering.{OnFault}
-use Rattle.ob_lower.specs.declared.error.LowerError.{LowerError}
-use Rattle.ob_lower.specs.declared.error.LowerError.TheVariants as lowering
-use Rattle.ob_silica_rules.specs.Deriving.{derive_body, Derives, IsFlowFault}
-use Rattle.ob_silica_rules.specs.Numbered.{AllNameStates}
-use Rattle.ob_context.specs.declared.checking.FlowError.{FlowError}
-use Rattle.ob_context.specs.declared.checking.FlowError.TheVariants as checking
-use Rattle.ob_context.specs.Checking.{OnFault as OnFlowFault}
+use Rattle.ob_lower_spec.specs.SlotNeeds.{slots_run_out, IsSlotFault}
+use Rattle.ob_base.specs.TextErrors.{OnFault}
+use Rattle.ob_base.specs.declared.text_error.TextError.{TextError}
+use Rattle.ob_base.specs.declared.text_error.TextError.TheVariants.{Fault, Memory}
+use Rattle.ob_flow_spec.specs.Deriving.{derive_body, Derives, IsFlowFault}
+use Rattle.ob_flow_spec.specs.Numbered.{AllNameStates}
 use Rattle.ob_front.specs.Checked.{AllNumbered, first_flow_fault, FailsPremise}
 use Rattle.ob_front.proofs.MiddleLaws.{no_error}
 use Rattle.ob_front.specs.Lowered.{IsLoweredTo, AreLoweredTo, first_slot_past, LacksSlots}
 
--- what is left from a place on is the thing there, and what is left behind it
+-- what is left from a place on is the thing there, and what is left after it
 pub turn : {X : Type 0} (xs : List X) (i : ℕ) (x : X) → i < length xs → x ≡ get_or xs i x → drop i xs ≡ x ∷ drop (i + 1) xs
 turn xs i x h is = rw (add-one, drop-cons xs i x) (ap (λ y. y ∷ drop (suc i) xs) (sym is))
 
@@ -64,16 +61,16 @@ left_turn table xs i x o h is fits e =
     sym (ap (λ r. option_or r (first_slot_past table (map resolved_body_of (drop (i + 1) xs)))) fits) ∙ sym (past_turn table xs i x h is) ∙ e
 
 -- the fault of the first body that needs too many slots
-pub lacks_here : (table : ClassTable) (xs : List Body) (i : ℕ) (x : Body) (cause : LowerError) → i < length xs → x ≡ get_or xs i x
+pub lacks_here : (table : ClassTable) (xs : List Body) (i : ℕ) (x : Body) (cause : TextError) → i < length xs → x ≡ get_or xs i x
     → map resolved_body_of xs ≡ table.bodies
     → first_slot_past table (map resolved_body_of (drop i xs)) ≡ first_slot_past table (map resolved_body_of xs)
     → OnFault cause (IsSlotFault table (resolved_body_of x)) → OnFault cause (LacksSlots table)
-lacks_here table xs i x (lowering.Fault fault) h is all left has = record {
+lacks_here table xs i x (Fault fault) h is all left has = record {
   number = has.number;
   place = ap (first_slot_past table) (sym all) ∙ sym left ∙ past_turn table xs i x h is
       ∙ ap (λ r. option_or r (first_slot_past table (map resolved_body_of (drop (i + 1) xs)))) has.place;
 }
-lacks_here table xs i x lowering.Memory h is all left has = tt
+lacks_here table xs i x Memory h is all left has = tt
 
 -- Checking.
 
@@ -91,13 +88,13 @@ derives_turn table xs i x o h is derives e =
     ∙ sym (flow_turn table xs i x h is) ∙ e
 
 -- the fault of the first body that doesn't derive
-pub fails_here : (table : ClassTable) (xs : List TermBody) (i : ℕ) (x : TermBody) (cause : FlowError) → i < length xs → x ≡ get_or xs i x
+pub fails_here : (table : ClassTable) (xs : List TermBody) (i : ℕ) (x : TermBody) (cause : TextError) → i < length xs → x ≡ get_or xs i x
     → first_flow_fault table (map silica_body_of (drop i xs)) ≡ first_flow_fault table (map silica_body_of xs)
-    → OnFlowFault cause (IsFlowFault table (silica_body_of x)) → OnFlowFault cause (FailsPremise table (map silica_body_of xs))
-fails_here table xs i x (checking.Fault fault) h is left has =
+    → OnFault cause (IsFlowFault table (silica_body_of x)) → OnFault cause (FailsPremise table (map silica_body_of xs))
+fails_here table xs i x (Fault fault) h is left has =
     sym left ∙ flow_turn table xs i x h is
     ∙ ap (λ r. option_or (result_err r) (first_flow_fault table (map silica_body_of (drop (i + 1) xs)))) has
-fails_here table xs i x checking.Memory h is left has = tt
+fails_here table xs i x Memory h is left has = tt
 
 -- what holds of all bodies holds of the one at a place
 pub numbered_at : (xs : List TermBody) (i : ℕ) (x : TermBody) → i < length xs → x ≡ get_or xs i x

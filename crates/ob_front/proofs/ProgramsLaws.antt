@@ -7,25 +7,19 @@ use Rattle.ob_table.specs.Tables.{ClassTable}
 use Rattle.ob_silica.specs.Terms.{SilicaBody}
 use Rattle.ob_silica.specs.TermsView.{silica_body_of}
 use Rattle.ob_silica.specs.declared.body.TermBody.{TermBody}
-use Rattle.ob_silica_rules.specs.Deriving.{Derives}
+use Rattle.ob_flow_spec.specs.Deriving.{Derives}
 use Rattle.ob_front.specs.Stages.{HasTable, HasTableFault}
 use Rattle.std.proofs.lemmas.List.Elements.{All-cons}
 use Rattle.ob_table.specs.Statements.{ResolvedBody}
-use Rattle.ob_typing.specs.Conditions.{IsClassTable}
-use Rattle.ob_typing.specs.WellMade.{IsWellMade}
-use Rattle.ob_silica_rules.specs.Numbered.{AllNameStates}
-use Rattle.ob_lowering_made.proofs.NamesStates.{lowered_terms_name_states_lem}
-use Rattle.ob_lower.specs.Lowering.{OnFault as OnSlotFault}
-use Rattle.ob_lower.specs.declared.error.LowerError.{LowerError}
-use Rattle.ob_lower.specs.declared.error.LowerError.TheVariants as lowering
-use Rattle.ob_context.specs.declared.checking.FlowError.{FlowError}
-use Rattle.ob_context.specs.declared.checking.FlowError.TheVariants as checking
-use Rattle.ob_context.specs.Checking.{OnFault as OnFlowFault}
+use Rattle.ob_table_spec.specs.Conditions.{IsClassTable}
+use Rattle.ob_table_spec.specs.WellFormed.{IsWellFormed}
+use Rattle.ob_flow_spec.specs.Numbered.{AllNameStates}
+use Rattle.ob_lower_formed.proofs.NamesStates.{lowered_terms_name_states_lem}
+use Rattle.ob_base.specs.TextErrors.{OnFault}
+use Rattle.ob_base.specs.declared.text_error.TextError.{TextError}
+use Rattle.ob_base.specs.declared.text_error.TextError.TheVariants.{Fault, Memory}
 use Rattle.ob_front.specs.Lowered.{AreLoweredTo, first_slot_past, LacksSlots}
 use Rattle.ob_front.specs.Checked.{AllNumbered, first_flow_fault, FailsPremise}
-use Rattle.ob_front.specs.Compiling.{OnFault, of_lowering, of_checking}
-use Rattle.ob_front.specs.declared.stages.CompileError.{CompileError}
-use Rattle.ob_front.specs.declared.stages.CompileError.TheVariants as compiling
 use Rattle.ob_front.proofs.MiddleLaws.{some_is, one_lowering, none_past, one_slot_fault, none_fails}
 use Rattle.ob_front.specs.Programs.{HasTerms, HasTermsFault, at_table, at_slot, IsProgram, IsAccepted, HasTextFault, at_terms, at_premise}
 use Rattle.ob_front.proofs.StagesLaws.{one_table, table_or_none, one_table_fault_lem, made}
@@ -66,9 +60,9 @@ program_or_premise text table other bodies more fault is terms fails =
     cc
 
 -- a text that is accepted has no first fault
-pub accepted_or_fault_lem : (text : List ℕ) (fault : ProgramFault) → HasTextFault text fault → ¬ (IsAccepted text)
-accepted_or_fault_lem text fault (at_terms has) is = terms_or_fault text is.table is.bodies fault is.is.terms has
-accepted_or_fault_lem text fault (at_premise table bodies terms fails) is = program_or_premise text is.table table is.bodies bodies fault is.is terms fails
+pub never_accepted_and_faulty_lem : (text : List ℕ) (fault : ProgramFault) → HasTextFault text fault → ¬ (IsAccepted text)
+never_accepted_and_faulty_lem text fault (at_terms has) is = terms_or_fault text is.table is.bodies fault is.is.terms has
+never_accepted_and_faulty_lem text fault (at_premise table bodies terms fails) is = program_or_premise text is.table table is.bodies bodies fault is.is terms fails
 
 -- nor has any text two
 pub one_text_fault_lem : (text : List ℕ) (a b : ProgramFault) → HasTextFault text a → HasTextFault text b → a ≡ b
@@ -84,34 +78,34 @@ accepted_program text table bodies is = record { table = table; bodies = bodies;
 -- ---- what is told of a text, stage by stage
 
 -- of a text without a class table
-pub table_told : (text : List ℕ) (cause : CompileError) → OnFault cause (HasTableFault text) → OnFault cause (HasTermsFault text)
-table_told text (compiling.Fault fault) has = at_table has
-table_told text compiling.Memory has = tt
+pub table_told : (text : List ℕ) (cause : TextError) → OnFault cause (HasTableFault text) → OnFault cause (HasTermsFault text)
+table_told text (Fault fault) has = at_table has
+table_told text Memory has = tt
 
 -- of one whose bodies need too many slots
-pub slot_told : (text : List ℕ) (table : ClassTable) (cause : LowerError) → HasTable text table → OnSlotFault cause (LacksSlots table)
-    → OnFault (of_lowering cause) (HasTermsFault text)
-slot_told text table (lowering.Fault fault) has lacks = at_slot table has lacks
-slot_told text table lowering.Memory has lacks = tt
+pub slot_told : (text : List ℕ) (table : ClassTable) (cause : TextError) → HasTable text table → OnFault cause (LacksSlots table)
+    → OnFault cause (HasTermsFault text)
+slot_told text table (Fault fault) has lacks = at_slot table has lacks
+slot_told text table Memory has lacks = tt
 
 -- of one whose bodies have no terms
-pub terms_told : (text : List ℕ) (cause : CompileError) → OnFault cause (HasTermsFault text) → OnFault cause (HasTextFault text)
-terms_told text (compiling.Fault fault) has = at_terms has
-terms_told text compiling.Memory has = tt
+pub terms_told : (text : List ℕ) (cause : TextError) → OnFault cause (HasTermsFault text) → OnFault cause (HasTextFault text)
+terms_told text (Fault fault) has = at_terms has
+terms_told text Memory has = tt
 
 -- of one of whose bodies a premise fails
-pub premise_told : (text : List ℕ) (table : ClassTable) (bodies : List SilicaBody) (cause : FlowError) → HasTerms text table bodies
-    → OnFlowFault cause (FailsPremise table bodies) → OnFault (of_checking cause) (HasTextFault text)
-premise_told text table bodies (checking.Fault fault) terms fails = at_premise table bodies terms fails
-premise_told text table bodies checking.Memory terms fails = tt
+pub premise_told : (text : List ℕ) (table : ClassTable) (bodies : List SilicaBody) (cause : TextError) → HasTerms text table bodies
+    → OnFault cause (FailsPremise table bodies) → OnFault cause (HasTextFault text)
+premise_told text table bodies (Fault fault) terms fails = at_premise table bodies terms fails
+premise_told text table bodies Memory terms fails = tt
 
 -- ---- what the check of permissions needs
 
 pub conditions_met : (text : List ℕ) (table : ClassTable) (bodies : List SilicaBody) → HasTerms text table bodies → IsClassTable table
 conditions_met text table bodies terms = (made text table terms.has).conditions
 
--- terms of well made bodies name states by their numbers
-numbered_of : (table : ClassTable) (bs : List ResolvedBody) (ls : List SilicaBody) → IsClassTable table → All (IsWellMade table) bs
+-- terms of well-formed bodies name states by their numbers
+numbered_of : (table : ClassTable) (bs : List ResolvedBody) (ls : List SilicaBody) → IsClassTable table → All (IsWellFormed table) bs
     → AreLoweredTo table bs ls → AllNumbered ls
 numbered_of table [] [] is made lowered = λ k d h. absurd (omega (arith, h))
 numbered_of table [] (l ∷ ls) is made lowered = absurd lowered
@@ -132,11 +126,11 @@ pub numbered_slice : (text : List ℕ) (table : ClassTable) (bodies slice : List
 numbered_slice text table bodies slice terms whole =
     subst (λ bs. AllNumbered (map silica_body_of bs)) (sym whole) (all_numbered text table (map silica_body_of bodies) terms)
 
-pub slice_told : (text : List ℕ) (table : ClassTable) (bodies slice : List TermBody) (cause : FlowError) → HasTerms text table (map silica_body_of bodies)
-    → slice ≡ bodies → OnFlowFault cause (FailsPremise table (map silica_body_of slice)) → OnFault (of_checking cause) (HasTextFault text)
+pub slice_told : (text : List ℕ) (table : ClassTable) (bodies slice : List TermBody) (cause : TextError) → HasTerms text table (map silica_body_of bodies)
+    → slice ≡ bodies → OnFault cause (FailsPremise table (map silica_body_of slice)) → OnFault cause (HasTextFault text)
 slice_told text table bodies slice cause terms whole fails =
     premise_told text table (map silica_body_of bodies) cause terms
-    (subst (λ bs. OnFlowFault cause (FailsPremise table (map silica_body_of bs))) whole fails)
+    (subst (λ bs. OnFault cause (FailsPremise table (map silica_body_of bs))) whole fails)
 
 pub slice_derives : (text : List ℕ) (table : ClassTable) (bodies slice : List TermBody) → HasTerms text table (map silica_body_of bodies) → slice ≡ bodies
     → All (Derives table) (map silica_body_of slice) → IsProgram text table (map silica_body_of bodies)

@@ -7,29 +7,24 @@ use Rattle.ob_base.specs.declared.fault.ProgramFault.{ProgramFault}
 use Rattle.ob_lexer.specs.Lexis.{HasTokens}
 use Rattle.ob_lexer.specs.declared.token.Token.{Token}
 use Rattle.ob_lexer.specs.declared.lexer.Lexed.{Lexed}
-use Rattle.ob_lexer.specs.declared.lexer.LexError.{LexError}
-use Rattle.ob_lexer.specs.declared.lexer.LexError.TheVariants as lexing
+use Rattle.ob_base.specs.declared.text_error.TextError.{TextError}
+use Rattle.ob_base.specs.declared.text_error.TextError.TheVariants.{Fault, Memory}
 use Rattle.ob_lexer.specs.Flaws.{HasFault}
-use Rattle.ob_lexer.specs.Reading.{OnFault as OnLexFault}
+use Rattle.ob_base.specs.TextErrors.{OnFault}
 use Rattle.ob_lexer.proofs.Readings as lexed'
 use Rattle.ob_tree.specs.Members.{Contract}
-use Rattle.ob_grammar.specs.Grammar.{HasTree, HasSyntaxFault}
-use Rattle.ob_grammar.proofs.ParserLaws as parsed'
-use Rattle.ob_parser.specs.Parsing.{OnFault as OnParseFault}
-use Rattle.ob_parser.specs.declared.parsing.ParseError.{ParseError}
-use Rattle.ob_parser.specs.declared.parsing.ParseError.TheVariants as parsing
-use Rattle.ob_shape.proofs.ContractShapes.{tree_shape}
+use Rattle.ob_parser_spec.specs.Grammar.{HasTree, HasSyntaxFault}
+use Rattle.ob_parser_spec.proofs.ParserLaws as parsed'
+use Rattle.ob_parser_laws.proofs.ContractShapes.{tree_shape}
+use Rattle.ob_parser_laws.proofs.BracketContracts.{no_bracket_lem, no_generic_lem}
 use Rattle.ob_table.specs.Tables.{ClassTable}
-use Rattle.ob_typing.specs.Faults.{HasNoFault}
-use Rattle.ob_typing.specs.TableOf.{table_of}
-use Rattle.ob_typing_laws.proofs.TableLaws.{table_conditions_lem, bodies_made_lem, bodies_there_lem}
-use Rattle.ob_resolve.specs.Resolving.{IsFirstFault, HasClassTable, OnFault as OnResolveFault}
-use Rattle.ob_resolve.specs.declared.resolving.ResolveError.{ResolveError}
-use Rattle.ob_resolve.specs.declared.resolving.ResolveError.TheVariants as resolving
-use Rattle.ob_resolve.proofs.ResolvingLaws.{table_or_fault_lem, one_first_fault_lem}
-use Rattle.ob_front.specs.Brackets.{brackets}
-use Rattle.ob_front.specs.Stages.{IsTreeOf, IsPlainTreeOf, IsResolved, HasTable, IsWellMadeTable, HasBracket, HasTreeFault, at_token, at_row, HasTableFault, at_tree, at_bracket, at_site}
-use Rattle.ob_front.specs.Compiling.{of_lexing, of_parsing, of_resolving, OnFault}
+use Rattle.ob_resolve_spec.specs.Faults.{HasNoFault}
+use Rattle.ob_resolve_spec.specs.TableOf.{table_of}
+use Rattle.ob_resolve_laws.proofs.TableLaws.{table_conditions_lem, bodies_made_lem, bodies_there_lem}
+use Rattle.ob_resolve.specs.Resolving.{IsFirstFault, HasClassTable}
+use Rattle.ob_resolve.proofs.ResolvingLaws.{never_table_and_fault_lem, one_first_fault_lem}
+use Rattle.ob_parser_laws.specs.Brackets.{brackets}
+use Rattle.ob_front.specs.Stages.{IsTreeOf, IsPlainTreeOf, IsResolved, HasTable, IsWellFormedTable, HasBracket, HasTreeFault, at_token, at_row, HasTableFault, at_tree, at_bracket, at_site}
 
 -- ---- trees
 
@@ -49,30 +44,30 @@ same_brackets text a b one other = ap (λ (l : Lexed). brackets l.tokens) (same_
 -- ---- what is told of a text
 
 -- of a text without tokens
-pub no_tokens : (text : List ℕ) (cause : LexError) → OnLexFault cause (HasFault text) → OnFault (of_lexing cause) (HasTreeFault text)
-no_tokens text (lexing.Fault fault) has = at_token has
-no_tokens text lexing.Memory has = tt
+pub no_tokens : (text : List ℕ) (cause : TextError) → OnFault cause (HasFault text) → OnFault cause (HasTreeFault text)
+no_tokens text (Fault fault) has = at_token has
+no_tokens text Memory has = tt
 
-pub told_of_text : (text : List ℕ) (cause : LexError) → OnLexFault cause (HasFault text) → OnFault (of_lexing cause) (HasTableFault text)
-told_of_text text (lexing.Fault fault) has = at_tree (at_token has)
-told_of_text text lexing.Memory has = tt
+pub told_of_text : (text : List ℕ) (cause : TextError) → OnFault cause (HasFault text) → OnFault cause (HasTableFault text)
+told_of_text text (Fault fault) has = at_tree (at_token has)
+told_of_text text Memory has = tt
 
 -- of one whose tokens have no tree
 row_of : (text : List ℕ) (lexed : Lexed) (slice : List Token) (fault : ProgramFault) → HasTokens text lexed → slice ≡ lexed.tokens → HasSyntaxFault slice lexed.end fault → HasTreeFault text fault
 row_of text lexed slice fault spelled whole has = at_row lexed spelled (subst (λ ts. HasSyntaxFault ts lexed.end fault) whole has)
 
-pub no_tree : (text : List ℕ) (lexed : Lexed) (slice : List Token) (cause : ParseError) → HasTokens text lexed → slice ≡ lexed.tokens → OnParseFault cause (HasSyntaxFault slice lexed.end) → OnFault (of_parsing cause) (HasTreeFault text)
-no_tree text lexed slice (parsing.Fault fault) spelled whole has = row_of text lexed slice fault spelled whole has
-no_tree text lexed slice parsing.Memory spelled whole has = tt
+pub no_tree : (text : List ℕ) (lexed : Lexed) (slice : List Token) (cause : TextError) → HasTokens text lexed → slice ≡ lexed.tokens → OnFault cause (HasSyntaxFault slice lexed.end) → OnFault cause (HasTreeFault text)
+no_tree text lexed slice (Fault fault) spelled whole has = row_of text lexed slice fault spelled whole has
+no_tree text lexed slice Memory spelled whole has = tt
 
-pub told_of_tokens : (text : List ℕ) (lexed : Lexed) (slice : List Token) (cause : ParseError) → HasTokens text lexed → slice ≡ lexed.tokens → OnParseFault cause (HasSyntaxFault slice lexed.end) → OnFault (of_parsing cause) (HasTableFault text)
-told_of_tokens text lexed slice (parsing.Fault fault) spelled whole has = at_tree (row_of text lexed slice fault spelled whole has)
-told_of_tokens text lexed slice parsing.Memory spelled whole has = tt
+pub told_of_tokens : (text : List ℕ) (lexed : Lexed) (slice : List Token) (cause : TextError) → HasTokens text lexed → slice ≡ lexed.tokens → OnFault cause (HasSyntaxFault slice lexed.end) → OnFault cause (HasTableFault text)
+told_of_tokens text lexed slice (Fault fault) spelled whole has = at_tree (row_of text lexed slice fault spelled whole has)
+told_of_tokens text lexed slice Memory spelled whole has = tt
 
 -- of one whose tree has a fault
-pub told_of_tree : (text : List ℕ) (tree : List Contract) (cause : ResolveError) → IsPlainTreeOf text tree → OnResolveFault cause (IsFirstFault tree) → OnFault (of_resolving cause) (HasTableFault text)
-told_of_tree text tree (resolving.Fault fault) is has = at_site tree is has
-told_of_tree text tree resolving.Memory is has = tt
+pub told_of_tree : (text : List ℕ) (tree : List Contract) (cause : TextError) → IsPlainTreeOf text tree → OnFault cause (IsFirstFault tree) → OnFault cause (HasTableFault text)
+told_of_tree text tree (Fault fault) is has = at_site tree is has
+told_of_tree text tree Memory is has = tt
 
 first_of : (spans : List Span) (place : Span) → slice_get spans 0 ≡ Some place → (more : List Span) × (spans ≡ place ∷ more)
 first_of [] place e = cc
@@ -87,10 +82,9 @@ abbrev pub tree_is : (text : List ℕ) (lexed : Lexed) (slice : List Token) (tre
 tree_is text lexed slice tree spelled whole has = record { lexed = lexed; spelled = spelled; parsed = subst (λ ts. HasTree ts tree) whole has }
 
 pub plain_is : (text : List ℕ) (lexed : Lexed) (slice other : List Token) (tree : List Contract) → HasTokens text lexed → slice ≡ lexed.tokens → other ≡ lexed.tokens → HasTree other tree → slice_get (brackets slice) 0 ≡ None → IsPlainTreeOf text tree
-plain_is text lexed slice other tree spelled whole whole' has none = record {
-  of = tree_is text lexed other tree spelled whole' has;
-  plain = sym (ap brackets whole) ∙ none_of (brackets slice) none;
-}
+plain_is text lexed slice other tree spelled whole whole' has none =
+    let of = tree_is text lexed other tree spelled whole' has in
+    record { of = of; plain = no_bracket_lem lexed.tokens tree of.parsed (sym (ap brackets whole) ∙ none_of (brackets slice) none) }
 
 pub bracket_is : (text : List ℕ) (lexed : Lexed) (slice other : List Token) (tree : List Contract) (fault : ProgramFault) → HasTokens text lexed → slice ≡ lexed.tokens → other ≡ lexed.tokens → HasTree other tree → slice_get (brackets slice) 0 ≡ Some fault.span → fault.number ≡ not_built → HasTableFault text fault
 bracket_is text lexed slice other tree fault spelled whole whole' has some is =
@@ -101,14 +95,14 @@ bracket_is text lexed slice other tree fault spelled whole whole' has some is =
 pub table_is : (text : List ℕ) (tree : List Contract) (table : ClassTable) → IsPlainTreeOf text tree → HasClassTable tree table → HasTable text table
 table_is text tree table is has = record { resolved = record { tree = tree; is = is; clean = has.clean }; is = has.is }
 
--- a program that is the tree of a text has the shape of one, so its table is well made
-made_of : (text : List ℕ) (tree : List Contract) → IsTreeOf text tree → HasNoFault tree → IsWellMadeTable (table_of tree)
+-- a program that is the tree of a text has the shape of one, so its table is well-formed
+made_of : (text : List ℕ) (tree : List Contract) → IsTreeOf text tree → HasNoFault tree → IsWellFormedTable (table_of tree)
 made_of text tree is clean =
     let shape = tree_shape text is.lexed tree is.spelled is.parsed in
     record { conditions = table_conditions_lem tree shape clean; bodies = bodies_made_lem tree shape clean; each = bodies_there_lem tree shape clean }
 
-pub made : (text : List ℕ) (table : ClassTable) → HasTable text table → IsWellMadeTable table
-made text table has = subst IsWellMadeTable (sym has.is) (made_of text has.resolved.tree has.resolved.is.of has.resolved.clean)
+pub made : (text : List ℕ) (table : ClassTable) → HasTable text table → IsWellFormedTable table
+made text table has = subst IsWellFormedTable (sym has.is) (made_of text has.resolved.tree has.resolved.is.of has.resolved.clean)
 
 -- ---- laws
 
@@ -116,18 +110,19 @@ made text table has = subst IsWellMadeTable (sym has.is) (made_of text has.resol
 tree_or_fault : (text : List ℕ) (a b : Lexed) (tree : List Contract) (fault : ProgramFault) → HasTokens text a → HasTokens text b → HasTree a.tokens tree → ¬ (HasSyntaxFault b.tokens b.end fault)
 tree_or_fault text a b tree fault one other is has =
     let same = lexed'.one_reading_lem text a b one other in
-    parsed'.tree_or_fault_lem b.tokens tree b.end fault (subst (λ (l : Lexed). HasTree l.tokens tree) same is) has
+    parsed'.never_tree_and_fault_lem b.tokens tree b.end fault (subst (λ (l : Lexed). HasTree l.tokens tree) same is) has
 
 -- a text with a tree has no fault of its tokens, nor of the grammar
 tree_or_token : (text : List ℕ) (tree : List Contract) (fault : ProgramFault) → IsTreeOf text tree → ¬ (HasFault text fault)
-tree_or_token text tree fault is has = lexed'.tokens_or_fault_lem text is.lexed fault is.spelled has
+tree_or_token text tree fault is has = lexed'.never_tokens_and_fault_lem text is.lexed fault is.spelled has
 
 tree_or_row : (text : List ℕ) (tree : List Contract) (lexed : Lexed) (fault : ProgramFault) → IsTreeOf text tree → HasTokens text lexed → ¬ (HasSyntaxFault lexed.tokens lexed.end fault)
 tree_or_row text tree lexed fault is spelled has = tree_or_fault text is.lexed lexed tree fault is.spelled spelled is.parsed has
 
 plain_or_bracket : (text : List ℕ) (tree : List Contract) (place : Span) → IsPlainTreeOf text tree → ¬ (HasBracket text place)
 plain_or_bracket text tree place is has =
-    let e : [] ≡ place ∷ has.more = sym is.plain ∙ same_brackets text tree has.tree is.of has.of ∙ has.first in
+    let none = no_generic_lem is.of.lexed.tokens tree is.of.parsed is.plain in
+    let e : [] ≡ place ∷ has.more = sym none ∙ same_brackets text tree has.tree is.of has.of ∙ has.first in
     cc
 
 abbrev fault_with : ℕ → Span → ProgramFault
@@ -163,12 +158,12 @@ pub resolved_or_fault_lem : (text : List ℕ) (fault : ProgramFault) → HasTabl
 resolved_or_fault_lem text fault (at_tree has) is = tree_or_none text is.tree fault is.is.of has
 resolved_or_fault_lem text fault (at_bracket has number) is = plain_or_bracket text is.tree fault.span is.is has
 resolved_or_fault_lem text fault (at_site tree of has) is =
-    table_or_fault_lem is.tree fault (subst (λ t. IsFirstFault t fault) (one_tree text tree is.tree of.of is.is.of) has) is.clean
+    never_table_and_fault_lem is.tree fault (subst (λ t. IsFirstFault t fault) (one_tree text tree is.tree of.of is.is.of) has) is.clean
 
 one_tree_fault : (text : List ℕ) (a b : ProgramFault) → HasTreeFault text a → HasTreeFault text b → a ≡ b
 one_tree_fault text a b (at_token p) (at_token q) = lexed'.one_fault_lem text a b p q
-one_tree_fault text a b (at_token p) (at_row lexed spelled q) = absurd (lexed'.tokens_or_fault_lem text lexed a spelled p)
-one_tree_fault text a b (at_row lexed spelled p) (at_token q) = absurd (lexed'.tokens_or_fault_lem text lexed b spelled q)
+one_tree_fault text a b (at_token p) (at_row lexed spelled q) = absurd (lexed'.never_tokens_and_fault_lem text lexed a spelled p)
+one_tree_fault text a b (at_row lexed spelled p) (at_token q) = absurd (lexed'.never_tokens_and_fault_lem text lexed b spelled q)
 one_tree_fault text a b (at_row lexed spelled p) (at_row other spelled' q) = one_row_fault text lexed other a b spelled spelled' p q
 
 -- nor has any text two of them

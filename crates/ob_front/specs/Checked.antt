@@ -5,8 +5,8 @@ use Rattle.std.specs.Result.{result_err}
 use Rattle.ob_base.specs.declared.fault.ProgramFault.{ProgramFault}
 use Rattle.ob_table.specs.Tables.{ClassTable}
 use Rattle.ob_silica.specs.Terms.{SilicaBody}
-use Rattle.ob_silica_rules.specs.Deriving.{derive_body}
-use Rattle.ob_silica_rules.specs.Numbered.{AllNameStates}
+use Rattle.ob_flow_spec.specs.Deriving.{derive_body}
+use Rattle.ob_flow_spec.specs.Numbered.{AllNameStates}
 
 -- the states that bodies name have the numbers that a state can have
 abbrev pub AllNumbered : List SilicaBody → Type 0

@@ -1,6 +1,5 @@
-pub mod Brackets
 pub mod Stages
 pub mod Programs
-pub mod Compiling
+pub mod Compiled
 pub mod Lowered
 pub mod Checked

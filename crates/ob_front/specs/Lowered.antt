@@ -7,9 +7,9 @@ use Rattle.ob_base.specs.declared.fault.ProgramFault.{ProgramFault}
 use Rattle.ob_table.specs.Statements.{ResolvedBody}
 use Rattle.ob_table.specs.Tables.{ClassTable}
 use Rattle.ob_silica.specs.Terms.{SilicaBody}
-use Rattle.ob_lowering.specs.BodyTerms.{Lowers}
-use Rattle.ob_lowering.specs.SlotNeeds.{slots_run_out}
-use Rattle.ob_lowering_slots.specs.BodyCode.{body_code}
+use Rattle.ob_lower_spec.specs.BodyTerms.{Lowers}
+use Rattle.ob_lower_spec.specs.SlotNeeds.{slots_run_out}
+use Rattle.ob_lower_functions.specs.BodyCode.{body_code}
 
 -- These are the terms of a body: it may be lowered to them, no slot past the most is needed, and the slots are taken one
 -- after the other.

@@ -3,7 +3,7 @@ use Rattle.std.specs.Prelude.{ℕ, List, All}
 use Rattle.ob_base.specs.declared.fault.ProgramFault.{ProgramFault}
 use Rattle.ob_table.specs.Tables.{ClassTable}
 use Rattle.ob_silica.specs.Terms.{SilicaBody}
-use Rattle.ob_silica_rules.specs.Deriving.{Derives}
+use Rattle.ob_flow_spec.specs.Deriving.{Derives}
 use Rattle.ob_front.specs.Lowered.{AreLoweredTo, LacksSlots}
 use Rattle.ob_front.specs.Checked.{FailsPremise}
 use Rattle.ob_front.specs.Stages.{HasTable, HasTableFault}

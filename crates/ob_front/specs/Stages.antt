@@ -1,5 +1,5 @@
 -- What the stages up to names and types find in a text: its class table, or its first fault.
-use Rattle.std.specs.Prelude.{ℕ, ◌≡◌, List, [], ◌∷◌, All}
+use Rattle.std.specs.Prelude.{ℕ, ◌≡◌, List, ◌∷◌, All}
 use Rattle.ob_base.specs.Faults.{not_built}
 use Rattle.ob_base.specs.declared.fault.Span.{Span}
 use Rattle.ob_base.specs.declared.fault.ProgramFault.{ProgramFault}
@@ -7,14 +7,15 @@ use Rattle.ob_lexer.specs.Lexis.{HasTokens}
 use Rattle.ob_lexer.specs.Flaws.{HasFault}
 use Rattle.ob_lexer.specs.declared.lexer.Lexed.{Lexed}
 use Rattle.ob_tree.specs.Members.{Contract}
-use Rattle.ob_grammar.specs.Grammar.{HasTree, HasSyntaxFault}
+use Rattle.ob_parser_spec.specs.Grammar.{HasTree, HasSyntaxFault}
 use Rattle.ob_table.specs.Tables.{ClassTable}
-use Rattle.ob_typing.specs.Faults.{HasNoFault}
-use Rattle.ob_typing.specs.TableOf.{table_of}
-use Rattle.ob_typing.specs.Conditions.{IsClassTable}
-use Rattle.ob_typing.specs.WellMade.{IsWellMade, HasBodies}
+use Rattle.ob_resolve_spec.specs.Faults.{HasNoFault}
+use Rattle.ob_resolve_spec.specs.Generics.{HasNoGenerics}
+use Rattle.ob_resolve_spec.specs.TableOf.{table_of}
+use Rattle.ob_table_spec.specs.Conditions.{IsClassTable}
+use Rattle.ob_table_spec.specs.WellFormed.{IsWellFormed, HasBodies}
 use Rattle.ob_resolve.specs.Resolving.{IsFirstFault}
-use Rattle.ob_front.specs.Brackets.{brackets}
+use Rattle.ob_parser_laws.specs.Brackets.{brackets}
 
 -- the text spells tokens, and they spell the tree
 pub record IsTreeOf (text : List ℕ) (tree : List Contract) : Type 0 where
@@ -25,7 +26,7 @@ pub record IsTreeOf (text : List ℕ) (tree : List Contract) : Type 0 where
 -- the text has a tree without type parameters and type arguments
 pub record IsPlainTreeOf (text : List ℕ) (tree : List Contract) : Type 0 where
   pub of : IsTreeOf text tree
-  pub plain : brackets of.lexed.tokens ≡ []
+  pub plain : HasNoGenerics tree
 
 -- the text has such a tree, and that has no fault of names and types
 pub record IsResolved (text : List ℕ) : Type 0 where
@@ -38,14 +39,15 @@ pub record HasTable (text : List ℕ) (table : ClassTable) : Type 0 where
   pub resolved : IsResolved text
   pub is : table ≡ table_of resolved.tree
 
--- what the later stages need of a class table: it meets its conditions, and its bodies are well made, one for each constructor
+-- what the later stages need of a class table: it meets its conditions, and its bodies are well-formed, one for each constructor
 -- and transaction
-pub record IsWellMadeTable (table : ClassTable) : Type 0 where
+pub record IsWellFormedTable (table : ClassTable) : Type 0 where
   pub conditions : IsClassTable table
-  pub bodies : All (IsWellMade table) table.bodies
+  pub bodies : All (IsWellFormed table) table.bodies
   pub each : HasBodies table
 
--- The text has a tree, and the first type parameter or type argument begins at this place: generics aren't built yet.
+-- The text has a tree, and the first type parameter or type argument begins at this place, that of the first `[` directly
+-- after a name. A tree has such a thing exactly where its tokens have such a `[`. Generics aren't built yet.
 pub record HasBracket (text : List ℕ) (place : Span) : Type 0 where
   pub tree : List Contract
   pub of : IsTreeOf text tree

@@ -1,6 +1,6 @@
 //! Type parameters and type arguments, which aren't built yet.
 ghost use Rattle.std.specs.Prelude.{◌≡◌, slice_get};
-ghost use Rattle.ob_front.specs.Brackets.{is_a_name, is_open_bracket, brackets};
+ghost use Rattle.ob_parser_laws.specs.Brackets.{is_a_name, is_open_bracket, brackets};
 
 use ob_base::Span;
 use ob_lexer::{Sign, Token, TokenKind};
@@ -17,16 +17,16 @@ fn is_open_bracket(kind: &TokenKind) -> bool
     matches!(kind, TokenKind::Sign(Sign::OpenBracket))
 }
 
-/// The place of the first `[` directly behind a name.
+/// The place of the first `[` directly after a name.
 pub fn first_bracket(tokens: &[Token]) -> Option<Span>
     ensures { result ≡ slice_get (brackets tokens.now) 0 }
 {
-    let mut behind_name = false;
+    let mut after_name = false;
     for token in tokens {
-        if behind_name && is_open_bracket(&token.kind) {
+        if after_name && is_open_bracket(&token.kind) {
             return Some(token.span);
         }
-        behind_name = is_a_name(&token.kind);
+        after_name = is_a_name(&token.kind);
     }
     None
 }

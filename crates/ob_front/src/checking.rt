@@ -1,9 +1,9 @@
 //! The check of permissions over the bodies of a class table.
 ghost use Rattle.std.specs.Prelude.{map, All, IfOk, IfErr};
 ghost use Rattle.ob_silica.specs.TermsView.{silica_body_of};
-ghost use Rattle.ob_typing.specs.Conditions.{IsClassTable};
-ghost use Rattle.ob_silica_rules.specs.Deriving.{Derives};
-ghost use Rattle.ob_context.specs.Checking.{OnFault};
+ghost use Rattle.ob_table_spec.specs.Conditions.{IsClassTable};
+ghost use Rattle.ob_flow_spec.specs.Deriving.{Derives};
+ghost use Rattle.ob_base.specs.TextErrors.{OnFault};
 ghost use Rattle.ob_front.specs.Checked.{AllNumbered, FailsPremise};
 
 use ob_flow::{FlowError, check};

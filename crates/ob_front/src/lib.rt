@@ -7,5 +7,8 @@ mod lowering;
 mod programs;
 mod stages;
 
-pub use programs::{Compiled, accepted_or_fault, check_program, compile, lowered, one_text_fault};
+pub use programs::{
+    Compiled, accepted_texts_are_compiled, check_program, compile, lowered,
+    never_accepted_and_faulty, one_text_fault,
+};
 pub use stages::{CompileError, class_table, syntax_tree};

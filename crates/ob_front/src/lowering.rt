@@ -1,7 +1,7 @@
 //! The terms of the bodies of a class table.
 ghost use Rattle.std.specs.Prelude.{◌≡◌, [], ◌∷◌, ◌++◌, map, OnOk, IfOk, IfErr};
 ghost use Rattle.ob_silica.specs.TermsView.{silica_body_of};
-ghost use Rattle.ob_lower.specs.Lowering.{OnFault};
+ghost use Rattle.ob_base.specs.TextErrors.{OnFault};
 ghost use Rattle.ob_front.specs.Lowered.{AreLoweredTo, LacksSlots};
 
 use ob_base::{Items, Memory};

@@ -1,9 +1,12 @@
 //! The stages from a program's text to a program whose bodies are lowered and checked.
 ghost use Rattle.std.specs.Prelude.{◌≡◌, ℕ, List, map, IfOk, IfErr, OnOk};
 ghost use Rattle.ob_base.specs.declared.fault.ProgramFault.{ProgramFault};
+ghost use Rattle.ob_silica.specs.Terms.{SilicaBody};
 ghost use Rattle.ob_silica.specs.TermsView.{silica_body_of};
+ghost use Rattle.ob_table.specs.Tables.{ClassTable};
 ghost use Rattle.ob_front.specs.Programs.{HasTerms, HasTermsFault, IsProgram, IsAccepted, HasTextFault};
-ghost use Rattle.ob_front.specs.Compiling.{OnFault};
+ghost use Rattle.ob_front.specs.Compiled.{IsCompiledProgram};
+ghost use Rattle.ob_base.specs.TextErrors.{OnFault};
 
 use crate::checking::check_bodies;
 use crate::lowering::lower_bodies;
@@ -44,6 +47,7 @@ pub fn lowered(alloc: Global, text: &[u8]) -> Result<Compiled, CompileError>
 /// fails, body by body.
 pub fn compile(alloc: Global, text: &[u8]) -> Result<Compiled, CompileError>
     ensures program { IfOk result (λ c. IsProgram text.now c.table (map silica_body_of c.bodies)) }
+    ensures compiled { IfOk result (λ c. IsCompiledProgram c.table (map silica_body_of c.bodies)) }
     ensures fault { IfErr result (λ e. OnFault e (HasTextFault text.now)) }
 {
     let program = lowered(alloc, text)?;
@@ -61,8 +65,16 @@ pub fn check_program(alloc: Global, text: &[u8]) -> Result<(), CompileError>
     Ok(())
 }
 
+/// A text that is accepted is a program as the laws on programs want it: its class table meets the table conditions, its
+/// bodies are well-formed, one for each constructor and transaction, and may be lowered to its terms, and these are well-formed
+/// and derive.
+pub fn accepted_texts_are_compiled()
+    ensures { (text : List ℕ) (table : ClassTable) (bodies : List SilicaBody) → IsProgram text table bodies
+        → IsCompiledProgram table bodies }
+{}
+
 /// A text that is accepted has no first fault.
-pub fn accepted_or_fault()
+pub fn never_accepted_and_faulty()
     ensures { (text : List ℕ) (fault : ProgramFault) → HasTextFault text fault → ¬ (IsAccepted text) }
 {}
 

@@ -7,6 +7,7 @@ use Rattle.std.proofs.lemmas.List.Folds.{list_any-append}
 use Rattle.std.proofs.lemmas.Bool.Decides.{nat_tests}
 use Rattle.std.proofs.lemmas.List.Sums.{prefix_len-le-length}
 use Rattle.std.specs.Io.KnownBytes.{prepend_known}
+use Rattle.ob_base.specs.Limits.{longest_line}
 use Rattle.ob_base.proofs.OptionalLemmas.{by_cases}
 use Rattle.ob_io.specs.Told.{Takes, TakesFrom}
 use Rattle.ob_io.specs.Views.{SourceView}
@@ -61,7 +62,7 @@ range_nil xs a = let z : a - a ≡ 0 = omega arith in rw z refl
 pub no_newline_join : (a b : List ℕ) → has_newline a ≡ false → has_newline b ≡ false → has_newline (a ++ b) ≡ false
 no_newline_join a b p q = list_any-append (λ x. x == 10) a b ∙ rw (p, q) refl
 
-pub so_far_short : (long : Bool) (line part : List ℕ) → IsSoFar long line part → length line ≤ 65536
+pub so_far_short : (long : Bool) (line part : List ℕ) → IsSoFar long line part → length line ≤ longest_line
 so_far_short true line part so = rw so.0 (omega arith)
 so_far_short false line part so = rw so.0 so.1
 

@@ -1,7 +1,8 @@
 -- What a reader of lines holds, and what comes next.
-use Rattle.std.specs.Prelude.{ℕ, ◌≡◌, ◌+◌, ◌-◌, ◌^◌, ◌<◌, ◌≤◌, Bool, true, false, ◌==◌, List, [], ◌∷◌, ◌++◌, length, slice_range, ⊤, Option}
+use Rattle.std.specs.Prelude.{ℕ, ◌≡◌, ◌+◌, ◌-◌, ◌<◌, ◌≤◌, Bool, true, false, ◌==◌, List, [], ◌∷◌, ◌++◌, length, slice_range, ⊤, Option}
 use Rattle.std.specs.List.{list_any}
 use Rattle.std.specs.Io.KnownBytes.{prepend_known}
+use Rattle.ob_base.specs.Limits.{longest_line, most_taken}
 use Rattle.ob_io.specs.Told.{Takes, TakesFrom, IsEnd}
 use Rattle.ob_io.specs.Views.{SourceView}
 use Rattle.ob_io.specs.declared.lines.Lines.{Lines}
@@ -39,9 +40,9 @@ IsLine true line bytes = (bytes ≡ line) × (0 < length line)
 
 -- what `next` answers, whether the text has ended, the line, and the bytes that were handed on
 abbrev pub IsNext : Next → Bool → List ℕ → List ℕ → Type 0
-IsNext Line ended line bytes = (has_newline line ≡ false) × (length line ≤ 65536) × IsLine ended line bytes
+IsNext Line ended line bytes = (has_newline line ≡ false) × (length line ≤ longest_line) × IsLine ended line bytes
 IsNext LongLine ended line bytes =
-    (long : List ℕ) × (has_newline long ≡ false) × (65536 < length long) × IsLine ended long bytes
+    (long : List ℕ) × (has_newline long ≡ false) × (longest_line < length long) × IsLine ended long bytes
 IsNext End ended line bytes = (ended ≡ true) × (bytes ≡ [])
 IsNext Fault ended line bytes = (ended ≡ false) × (has_newline bytes ≡ false)
 IsNext Limit ended line bytes = (ended ≡ false) × (has_newline bytes ≡ false)
@@ -62,8 +63,8 @@ EndIsTold lines left = has_ended lines ≡ true → IsEnd (pending lines left)
 
 -- a line so far, of which part has come: it is dropped once it is too long
 abbrev pub IsSoFar : Bool → List ℕ → List ℕ → Type 0
-IsSoFar true line part = (line ≡ []) × (65536 < length part)
-IsSoFar false line part = (line ≡ part) × (length part ≤ 65536)
+IsSoFar true line part = (line ≡ []) × (longest_line < length part)
+IsSoFar false line part = (line ≡ part) × (length part ≤ longest_line)
 
 -- nothing is held: all that was taken was handed on
 abbrev pub HoldsNothing : Lines → Type 0
@@ -79,8 +80,8 @@ HoldsAtStop Limit lines = HoldsNothing lines
 
 -- how many bytes were handed on, at each answer
 abbrev pub IsWithin : Next → ℕ → Type 0
-IsWithin Line count = count ≤ 2 ^ 40
-IsWithin LongLine count = count ≤ 2 ^ 40
-IsWithin End count = count < 2 ^ 40
-IsWithin Fault count = count < 2 ^ 40
-IsWithin Limit count = count ≡ 2 ^ 40
+IsWithin Line count = count ≤ most_taken
+IsWithin LongLine count = count ≤ most_taken
+IsWithin End count = count < most_taken
+IsWithin Fault count = count < most_taken
+IsWithin Limit count = count ≡ most_taken

@@ -11,7 +11,7 @@ mod sure;
 
 pub use asks::Asks;
 pub use files::{FileError, Files};
-pub use lines::{LONGEST_LINE, Lines, MOST_TAKEN, Next};
+pub use lines::{Lines, Next};
 pub use memory::{MemoryFiles, MemorySink, MemorySource};
 pub use sink::{Sink, write_all};
 pub use source::Source;

@@ -1,16 +1,11 @@
 //! The lines of what a source has left.
-ghost use Rattle.std.specs.Prelude.{◌≡◌, ◌≢◌, ◌+◌, ◌-◌, ◌<◌, ◌≤◌, ◌*◌, ◌^◌, ◌==◌, ℕ, List, true, false, [], ◌∷◌, ◌++◌, length, take, vec_len, MatchBool, MatchResult, IsTrue, IfOk, OnOk, OnErr, if◌then◌else◌};
+ghost use Rattle.std.specs.Prelude.{◌≡◌, ◌≢◌, ◌+◌, ◌-◌, ◌<◌, ◌≤◌, ◌*◌, ◌==◌, ℕ, List, true, false, [], ◌∷◌, ◌++◌, length, take, vec_len, MatchBool, MatchResult, IsTrue, IfOk, OnOk, OnErr, if◌then◌else◌};
+ghost use Rattle.ob_base.specs.Limits.{longest_line, most_taken};
 ghost use Rattle.ob_io.specs.Causes.{HasCause, Rose};
 
 use crate::Source;
-use ob_base::{Failed, Memory};
+use ob_base::{Failed, LONGEST_LINE, MOST_TAKEN, Memory};
 use std::alloc::Global;
-
-/// The most bytes of a line that is answered, without its newline.
-pub const LONGEST_LINE: usize = 65536;
-
-/// The most bytes that are taken of a source.
-pub const MOST_TAKEN: u64 = 1 << 40;
 
 // How many bytes are asked of the source at once.
 const PIECE: usize = 4096;
@@ -41,10 +36,10 @@ pub struct Lines {
     ghost in_order: { start ≤ end },
     ghost within: { end ≤ vec_len buffer },
     ghost room: { vec_len buffer ≡ 4096 },
-    ghost few: { taken ≤ 2 ^ 40 },
+    ghost few: { taken ≤ most_taken },
     ghost counted: { end - start ≤ taken },
     ghost ended_empty: { IsTrue ended → start ≡ end },
-    ghost ended_within: { IsTrue ended → taken < 2 ^ 40 },
+    ghost ended_within: { IsTrue ended → taken < most_taken },
 }
 
 impl Lines {
@@ -77,7 +72,7 @@ impl Lines {
 
     // Adds a piece of a line, and says whether the line is too long by now. Without memory the line is lost.
     fn add(line: &mut Vec<u8>, is_long: bool, piece: &[u8]) -> Result<bool, Memory>
-        requires { length line.old.items ≤ 65536 }
+        requires { length line.old.items ≤ longest_line }
         ensures so_far { IfOk result (λ long. (part : List ℕ) →
             IsSoFar is_long line.old.items part → IsSoFar long line.new.items (part ++ piece.now)) }
         ensures lost { OnErr result (line.new.items ≡ []) }
@@ -96,7 +91,7 @@ impl Lines {
     // Hands on what is held, up to the first newline, and says whether it was there, and whether the line is
     // too long.
     fn hand_on(&mut self, line: &mut Vec<u8>, is_long: bool) -> Result<(bool, bool), Memory>
-        requires { length line.old.items ≤ 65536 }
+        requires { length line.old.items ≤ longest_line }
         ensures piece { IfOk result (λ got. (piece : List ℕ)
             × (has_newline piece ≡ false)
             × (handed self.new ≡ handed self.old + length piece + (if got.0 then 1 else 0))
@@ -137,7 +132,7 @@ impl Lines {
 
     // Takes the next bytes of the source, as many as there is a place for and may still be taken.
     fn refill<S: Source>(&mut self, source: &mut S) -> Result<(), Failed>
-        requires few { self.old.taken < 2 ^ 40 }
+        requires few { self.old.taken < most_taken }
         requires empty { held self.old ≡ [] }
         requires goes_on { self.old.ended ≡ false }
         ensures bytes { Takes (S.view source.old).left (pending self.new (S.view source.new).left) [] }
@@ -178,7 +173,7 @@ impl Lines {
 
         // It takes no more than the limit, and stops where as much was taken and no line is left of it.
         ensures taken { CountsTaken self.old self.new (S.view source.old) (S.view source.new) }
-        ensures bound { taken self.new ≤ 2 ^ 40 }
+        ensures bound { taken self.new ≤ most_taken }
         ensures within { IfOk result (λ next. IsWithin next (handed self.new)) }
 
         // At the first fault it stops: no read follows.

@@ -8,7 +8,7 @@ use Rattle.ob_lexer.specs.Lexing.{close_from}
 abbrev closes : ℕ → ℕ → Bool
 closes a b = a == 42 && b == 47
 
--- `*/` stands behind these bytes, and no earlier one
+-- `*/` stands after these bytes, and no earlier one
 pub record IsFirstClose (bytes before after : List ℕ) : Type 0 where
   pub parts : bytes ≡ before ++ codes "*/" ++ after
   pub first : ¬ (HasClose (before ++ codes "*"))
@@ -29,21 +29,21 @@ no_close_at : (before after : List ℕ) → [] ≡ before ++ codes "*/" ++ after
 no_close_at [] after e = cc
 no_close_at (x ∷ before) after e = cc
 
--- ---- a close at the front, or behind the first byte
+-- ---- a close at the front, or after the first byte
 
-close_behind_at : (a b : ℕ) (rest before after : List ℕ) → closes a b ≡ false → a ∷ b ∷ rest ≡ before ++ codes "*/" ++ after → HasClose (b ∷ rest)
-close_behind_at a b rest [] after isnt e =
+close_after_at : (a b : ℕ) (rest before after : List ℕ) → closes a b ≡ false → a ∷ b ∷ rest ≡ before ++ codes "*/" ++ after → HasClose (b ∷ rest)
+close_after_at a b rest [] after isnt e =
     let first : a ≡ 42 = cc in
     let second : b ≡ 47 = cc in
     let is : closes a b ≡ true = rw (first, second) refl in
     absurd (both_ways (closes a b) isnt is)
-close_behind_at a b rest (x ∷ before) after isnt e = record { before = before; after = after; closed = cc }
+close_after_at a b rest (x ∷ before) after isnt e = record { before = before; after = after; closed = cc }
 
--- a close in bytes that begin with none stands behind the first byte
-close_behind : (a b : ℕ) (rest : List ℕ) → closes a b ≡ false → HasClose (a ∷ b ∷ rest) → HasClose (b ∷ rest)
-close_behind a b rest isnt has = close_behind_at a b rest has.before has.after isnt has.closed
+-- a close in bytes that begin with none stands after the first byte
+close_after : (a b : ℕ) (rest : List ℕ) → closes a b ≡ false → HasClose (a ∷ b ∷ rest) → HasClose (b ∷ rest)
+close_after a b rest isnt has = close_after_at a b rest has.before has.after isnt has.closed
 
--- a close behind the first byte is one
+-- a close after the first byte is one
 close_before : (a : ℕ) (rest : List ℕ) → HasClose rest → HasClose (a ∷ rest)
 close_before a rest has = record { before = a ∷ has.before; after = has.after; closed = ap (λ (l : List ℕ). a ∷ l) has.closed }
 
@@ -61,21 +61,21 @@ close_none at [] e has = no_close_in_none has
 close_none at (a ∷ []) e has = no_close_in_one a has
 close_none at (a ∷ b ∷ rest) e has = elim (cases_Bool (closes a b)) [
   | inl is ↦ let some : Some at ≡ None = rw is at e in cc
-  | inr isnt ↦ close_none (at + 1) (b ∷ rest) (rw isnt at e) (close_behind a b rest isnt has)
+  | inr isnt ↦ close_none (at + 1) (b ∷ rest) (rw isnt at e) (close_after a b rest isnt has)
 ]
 
 no_earlier : (a b : ℕ) (rest before after : List ℕ) → closes a b ≡ false → IsFirstClose (b ∷ rest) before after → ¬ (HasClose ((a ∷ before) ++ codes "*"))
 no_earlier a b rest [] after isnt f has =
     let first : b ≡ 42 = cc (f.parts) in
-    let behind : HasClose (b ∷ []) = close_behind a b [] isnt (rw first has) in
+    let behind : HasClose (b ∷ []) = close_after a b [] isnt (rw first has) in
     no_close_in_one b behind
 no_earlier a b rest (x ∷ before) after isnt f has =
     let first : b ≡ x = cc (f.parts) in
-    f.first (close_behind a x (before ++ codes "*") (rw (← first) isnt) has)
+    f.first (close_after a x (before ++ codes "*") (rw (← first) isnt) has)
 
 -- the first close of bytes that begin with none
-first_behind : (a b : ℕ) (rest before after : List ℕ) → closes a b ≡ false → IsFirstClose (b ∷ rest) before after → IsFirstClose (a ∷ b ∷ rest) (a ∷ before) after
-first_behind a b rest before after isnt f = record {
+first_after : (a b : ℕ) (rest before after : List ℕ) → closes a b ≡ false → IsFirstClose (b ∷ rest) before after → IsFirstClose (a ∷ b ∷ rest) (a ∷ before) after
+first_after a b rest before after isnt f = record {
   parts = ap (λ (l : List ℕ). a ∷ l) f.parts;
   first = no_earlier a b rest before after isnt f;
 }
@@ -90,7 +90,7 @@ close_some at n (a ∷ b ∷ rest) e = elim (cases_Bool (closes a b)) [
       ([], rest, record { parts = at_front a b rest is; first = no_close_in_one 42 }, omega arith)
   | inr isnt ↦
       let r = close_some (at + 1) n (b ∷ rest) (rw isnt at e) in
-      (a ∷ r.0, r.1, first_behind a b rest r.0 r.1 isnt r.2, omega (arith, r.3))
+      (a ∷ r.0, r.1, first_after a b rest r.0 r.1 isnt r.2, omega (arith, r.3))
 ]
 
 -- ---- the first close is found
@@ -98,8 +98,8 @@ close_some at n (a ∷ b ∷ rest) e = elim (cases_Bool (closes a b)) [
 abbrev Found : ℕ → List ℕ → List ℕ → Type 0
 Found at before after = close_from at (before ++ codes "*/" ++ after) ≡ Some (at + length before)
 
-found_behind : (at a b : ℕ) (rest before after : List ℕ) → b ∷ rest ≡ before ++ codes "*/" ++ after → closes a b ≡ false → Found (at + 1) before after → close_from at (a ∷ b ∷ rest) ≡ Some (at + length (a ∷ before))
-found_behind at a b rest before after parts isnt found =
+found_after : (at a b : ℕ) (rest before after : List ℕ) → b ∷ rest ≡ before ++ codes "*/" ++ after → closes a b ≡ false → Found (at + 1) before after → close_from at (a ∷ b ∷ rest) ≡ Some (at + length (a ∷ before))
+found_after at a b rest before after parts isnt found =
     let count : at + 1 + length before ≡ at + length (a ∷ before) = omega arith in
     rw isnt (ap (close_from (at + 1)) parts ∙ found ∙ ap Some count)
 
@@ -113,9 +113,9 @@ pub close_found : (at : ℕ) (before after : List ℕ) → ¬ (HasClose (before 
 close_found at [] after none = ap Some (omega arith)
 close_found at (a ∷ []) after none =
     let isnt : closes a 42 ≡ false = elim (cases_Bool (a == 42)) [ inl is ↦ rw is refl | inr other ↦ rw other refl ] in
-    found_behind at a 42 (47 ∷ after) [] after refl isnt (close_found (at + 1) [] after (no_close_in_one 42))
+    found_after at a 42 (47 ∷ after) [] after refl isnt (close_found (at + 1) [] after (no_close_in_one 42))
 close_found at (a ∷ b ∷ before) after none =
-    found_behind at a b (before ++ codes "*/" ++ after) (b ∷ before) after refl (not_closing a b before after none) (close_found (at + 1) (b ∷ before) after (λ has. none (close_before a ((b ∷ before) ++ codes "*") has)))
+    found_after at a b (before ++ codes "*/" ++ after) (b ∷ before) after refl (not_closing a b before after none) (close_found (at + 1) (b ∷ before) after (λ has. none (close_before a ((b ∷ before) ++ codes "*") has)))
 
 pub no_close_none : (at : ℕ) (bytes : List ℕ) → ¬ (HasClose bytes) → close_from at bytes ≡ None
 no_close_none at [] none = refl

@@ -6,6 +6,7 @@ use Rattle.std.specs.Str.{IsUtf8}
 use Rattle.std.proofs.lemmas.Bool.{and_parts, cases_Bool, not-true, eqb-true, lt-leb, leb-true, leb-false, and_left}
 use Rattle.std.proofs.lemmas.List.Folds.{length-prefix_len}
 use Rattle.std.proofs.Math.Seq.{take-append_seam}
+use Rattle.ob_base.specs.Limits.{longest_name, longest_string}
 use Rattle.ob_base.specs.Names.{is_letter, is_digit, is_letter_or_digit, is_word, is_name, is_text}
 use Rattle.ob_base.specs.Faults as faults
 use Rattle.ob_lexer.specs.declared.token.TokenKind.TheVariants as kind
@@ -84,7 +85,7 @@ unreserved bytes no_word = elim (option_cases (word_of bytes)) [
 
 name_found : (bytes rest : List ℕ) → IsTrue (is_name bytes) → ¬ (IsReserved bytes) → IsLongest bytes rest → step_at (bytes ++ rest) ≡ Token (kind.Name bytes) (length bytes)
 name_found bytes rest name no_word longest =
-    let is : IsTrue (is_word bytes) = (and_parts (nat_le (length bytes) 64) (is_word bytes) name).1 in
+    let is : IsTrue (is_word bytes) = (and_parts (nat_le (length bytes) longest_name) (is_word bytes) name).1 in
     word_steps bytes rest is longest ∙ rw (unreserved bytes no_word, name) refl
 
 digits_step : (bytes rest : List ℕ) → IsTrue (is_digits bytes) → IsLongest bytes rest → step_at (bytes ++ rest) ≡ number_step bytes
@@ -143,21 +144,21 @@ heard_itself b is =
     rw (quote.0, none.1, quote.1) refl
 
 -- the parts of a string are read one after the other, as long as there is room for what they stand for
-parts_read : (parts : List StringPart) (content : List ℕ) (taken : ℕ) (rest : List ℕ) → AreParts parts → length content + length parts ≤ 1024
+parts_read : (parts : List StringPart) (content : List ℕ) (taken : ℕ) (rest : List ℕ) → AreParts parts → length content + length parts ≤ longest_string
     → string_from false content taken (spelled parts ++ rest) ≡ string_from false (content ++ values parts) (taken + length (spelled parts)) rest
 parts_read [] content taken rest are room =
     ap (λ (l : List ℕ). string_from false l taken rest) (sym (append-nil content)) ∙ ap (λ (n : ℕ). string_from false (content ++ []) n rest) (omega arith)
 parts_read (itself b ∷ parts) content taken rest are room =
-    let small : nat_le 1024 (length content) ≡ false = lt-leb 1024 (length content) (omega arith) in
-    let more : length (content ++ b ∷ []) + length parts ≤ 1024 = omega (arith, length-append content (b ∷ [])) in
+    let small : nat_le longest_string (length content) ≡ false = lt-leb longest_string (length content) (omega arith) in
+    let more : length (content ++ b ∷ []) + length parts ≤ longest_string = omega (arith, length-append content (b ∷ [])) in
     let next = parts_read parts (content ++ b ∷ []) (taken + 1) rest are.1 more in
     let count : taken + 1 + length (spelled parts) ≡ taken + suc (length (spelled parts)) = omega arith in
     let byte : heard_of false b ≡ heard.Value b = heard_itself b are.0 in
     let step : string_from false content taken (b ∷ (spelled parts ++ rest)) ≡ string_from false (content ++ b ∷ []) (taken + 1) (spelled parts ++ rest) = rw (byte, string_from, small) refl in
     step ∙ next ∙ ap (λ (l : List ℕ). string_from false l (taken + 1 + length (spelled parts)) rest) (append_assoc content (b ∷ []) (values parts)) ∙ ap (λ (n : ℕ). string_from false (content ++ b ∷ values parts) n rest) count
 parts_read (escape letter value ∷ parts) content taken rest are room =
-    let small : nat_le 1024 (length content) ≡ false = lt-leb 1024 (length content) (omega arith) in
-    let more : length (content ++ value ∷ []) + length parts ≤ 1024 = omega (arith, length-append content (value ∷ [])) in
+    let small : nat_le longest_string (length content) ≡ false = lt-leb longest_string (length content) (omega arith) in
+    let more : length (content ++ value ∷ []) + length parts ≤ longest_string = omega (arith, length-append content (value ∷ [])) in
     let next = parts_read parts (content ++ value ∷ []) (taken + 1 + 1) rest are.1 more in
     let count : taken + 1 + 1 + length (spelled parts) ≡ taken + suc (suc (length (spelled parts))) = omega arith in
     let byte : heard_of true letter ≡ heard.Value value = ap (λ (o : Option ℕ). or_else o heard.NoEscape heard.Value) are.0 in
@@ -165,45 +166,45 @@ parts_read (escape letter value ∷ parts) content taken rest are room =
     step ∙ next ∙ ap (λ (l : List ℕ). string_from false l (taken + 1 + 1 + length (spelled parts)) rest) (append_assoc content (value ∷ []) (values parts)) ∙ ap (λ (n : ℕ). string_from false (content ++ value ∷ values parts) n rest) count
 
 -- or until they stand for too much
-parts_overflow : (parts : List StringPart) (content : List ℕ) (taken : ℕ) (rest : List ℕ) → AreParts parts → length content ≤ 1024 → 1024 < length content + length parts
+parts_overflow : (parts : List StringPart) (content : List ℕ) (taken : ℕ) (rest : List ℕ) → AreParts parts → length content ≤ longest_string → longest_string < length content + length parts
     → string_from false content taken (spelled parts ++ rest) ≡ Flaw faults.long_string 0 1
 parts_overflow [] content taken rest are short long = absurd (omega arith)
 parts_overflow (itself b ∷ parts) content taken rest are short long =
     let byte : heard_of false b ≡ heard.Value b = heard_itself b are.0 in
-    elim (cases_Bool (nat_le 1024 (length content))) [
+    elim (cases_Bool (nat_le longest_string (length content))) [
       | inl full ↦ rw (byte, string_from, full) refl
       | inr room ↦
-          let few = leb-false 1024 (length content) room in
+          let few = leb-false longest_string (length content) room in
           let next = parts_overflow parts (content ++ b ∷ []) (taken + 1) rest are.1 (omega (arith, length-append content (b ∷ []))) (omega (arith, length-append content (b ∷ []))) in
           rw (byte, string_from, room) next
     ]
 parts_overflow (escape letter value ∷ parts) content taken rest are short long =
     let byte : heard_of true letter ≡ heard.Value value = ap (λ (o : Option ℕ). or_else o heard.NoEscape heard.Value) are.0 in
-    elim (cases_Bool (nat_le 1024 (length content))) [
+    elim (cases_Bool (nat_le longest_string (length content))) [
       | inl full ↦
           let step : string_from true content (taken + 1) (letter ∷ (spelled parts ++ rest)) ≡ Flaw faults.long_string 0 1 = rw (byte, string_from, full) refl in
           step
       | inr room ↦
-          let few = leb-false 1024 (length content) room in
+          let few = leb-false longest_string (length content) room in
           let next = parts_overflow parts (content ++ value ∷ []) (taken + 1 + 1) rest are.1 (omega (arith, length-append content (value ∷ []))) (omega (arith, length-append content (value ∷ []))) in
           let step : string_from true content (taken + 1) (letter ∷ (spelled parts ++ rest)) ≡ string_from false (content ++ value ∷ []) (taken + 1 + 1) (spelled parts ++ rest) = rw (byte, string_from, room) refl in
           step ∙ next
     ]
 
 -- what stands for so much is read
-inside_read : (inside content rest : List ℕ) → StandsFor inside content → length content ≤ 1024 → string_from false [] 0 (inside ++ rest) ≡ string_from false content (length inside) rest
+inside_read : (inside content rest : List ℕ) → StandsFor inside content → length content ≤ longest_string → string_from false [] 0 (inside ++ rest) ≡ string_from false content (length inside) rest
 inside_read inside content rest stands short =
     let count : length content ≡ length stands.parts = ap length stands.means ∙ length-map stands.parts value_of_part in
     let read = parts_read stands.parts [] 0 rest stands.are (omega (arith, count)) in
     let many : 0 + length (spelled stands.parts) ≡ length inside = omega (arith, ap length stands.spelled) in
     ap (λ (l : List ℕ). string_from false [] 0 (l ++ rest)) stands.spelled ∙ read ∙ ap (λ (n : ℕ). string_from false (values stands.parts) n rest) many ∙ ap (λ (l : List ℕ). string_from false l (length inside) rest) (sym stands.means)
 
-inside_overflows : (inside content rest : List ℕ) → StandsFor inside content → 1024 < length content → string_from false [] 0 (inside ++ rest) ≡ Flaw faults.long_string 0 1
+inside_overflows : (inside content rest : List ℕ) → StandsFor inside content → longest_string < length content → string_from false [] 0 (inside ++ rest) ≡ Flaw faults.long_string 0 1
 inside_overflows inside content rest stands long =
     let count : length content ≡ length stands.parts = ap length stands.means ∙ length-map stands.parts value_of_part in
     ap (λ (l : List ℕ). string_from false [] 0 (l ++ rest)) stands.spelled ∙ parts_overflow stands.parts [] 0 rest stands.are (omega arith) (omega (arith, count))
 
-text_found : (content bytes rest : List ℕ) → IsString bytes content → length content ≤ 1024 → IsUtf8Behind (bytes ++ rest) → step_at (bytes ++ rest) ≡ Token (kind.Text content) (length bytes)
+text_found : (content bytes rest : List ℕ) → IsString bytes content → length content ≤ longest_string → IsUtf8Behind (bytes ++ rest) → step_at (bytes ++ rest) ≡ Token (kind.Text content) (length bytes)
 text_found content bytes rest is short utf8 =
     let whole : bytes ++ rest ≡ 34 ∷ (is.inside ++ 34 ∷ rest) = ap (λ (l : List ℕ). l ++ rest) is.quoted ∙ ap (λ (l : List ℕ). 34 ∷ l) (append_assoc is.inside (34 ∷ []) rest) in
     let behind : IsUtf8 (is.inside ++ 34 ∷ rest) = (subst IsUtf8Behind whole utf8) refl in
@@ -270,10 +271,10 @@ cut_off content taken [] cut = refl
 cut_off content taken (b ∷ rest) (inl same) = rw same refl
 cut_off content taken (b ∷ rest) (inr both) = rw (both.0, both.1) refl
 
-string_open : (inside content rest : List ℕ) → StandsFor inside content → length content ≤ 1024 → IsCutOff rest → step_at (34 ∷ inside ++ rest) ≡ Flaw faults.open_string 0 1
+string_open : (inside content rest : List ℕ) → StandsFor inside content → length content ≤ longest_string → IsCutOff rest → step_at (34 ∷ inside ++ rest) ≡ Flaw faults.open_string 0 1
 string_open inside content rest stands short cut = inside_read inside content rest stands short ∙ cut_off content (length inside) rest cut
 
-escape_bad : (inside content : List ℕ) (letter : ℕ) (rest : List ℕ) → StandsFor inside content → length content ≤ 1024 → escaped letter ≡ None → step_at (34 ∷ inside ++ 92 ∷ letter ∷ rest) ≡ Flaw faults.bad_escape (length (34 ∷ inside)) 1
+escape_bad : (inside content : List ℕ) (letter : ℕ) (rest : List ℕ) → StandsFor inside content → length content ≤ longest_string → escaped letter ≡ None → step_at (34 ∷ inside ++ 92 ∷ letter ∷ rest) ≡ Flaw faults.bad_escape (length (34 ∷ inside)) 1
 escape_bad inside content letter rest stands short none =
     let byte : heard_of true letter ≡ heard.NoEscape = ap (λ (o : Option ℕ). or_else o heard.NoEscape heard.Value) none in
     let step : string_from true content (length inside + 1) (letter ∷ rest) ≡ Flaw faults.bad_escape (length inside + 1) 1 = rw (byte, string_from) refl in
@@ -282,12 +283,12 @@ escape_bad inside content letter rest stands short none =
 number_big : (digits' rest : List ℕ) → IsTrue (is_digits digits') → IsLongest digits' rest → 2 ^ 63 ≤ value_of_digits digits' → step_at (digits' ++ rest) ≡ Flaw faults.big_number 0 1
 number_big digits' rest is longest large = digits_step digits' rest is longest ∙ rw (large_none digits' large) refl
 
-long_unreserved : (bytes : List ℕ) → 64 < length bytes → ¬ (IsReserved bytes)
+long_unreserved : (bytes : List ℕ) → longest_name < length bytes → ¬ (IsReserved bytes)
 long_unreserved bytes long reserved = omega (arith, ap length reserved.1, word_is_short reserved.0)
 
-word_long : (word' rest : List ℕ) → IsTrue (is_word word') → IsLongest word' rest → 64 < length word' → step_at (word' ++ rest) ≡ Flaw faults.long_name 0 1
+word_long : (word' rest : List ℕ) → IsTrue (is_word word') → IsLongest word' rest → longest_name < length word' → step_at (word' ++ rest) ≡ Flaw faults.long_name 0 1
 word_long word' rest is longest long =
-    let no_name : is_name word' ≡ false = and_left (nat_le (length word') 64) (is_word word') (lt-leb (length word') 64 long) in
+    let no_name : is_name word' ≡ false = and_left (nat_le (length word') longest_name) (is_word word') (lt-leb (length word') longest_name long) in
     word_steps word' rest is longest ∙ rw (unreserved word' (long_unreserved word' long), no_name) refl
 
 -- one byte of a text that isn't empty

@@ -4,6 +4,7 @@ use Rattle.std.specs.List.{list_all, prefix_len, take_while}
 use Rattle.std.proofs.lemmas.Bool.{and_from, and_cases, both_ways, cases_Bool, eqb-true, eq-eqb, leb-false, le-leb, ltb-true, ltb-false}
 use Rattle.std.proofs.lemmas.List.Sums.{prefix_len-le-length}
 use Rattle.std.proofs.Math.Seq.{take-append_seam, drop-append_seam}
+use Rattle.ob_base.specs.Limits.{longest_name}
 use Rattle.ob_base.specs.Names.{is_letter, is_digit, is_letter_or_digit, begins_with_letter, is_word, is_name}
 use Rattle.ob_base.specs.Faults as faults
 use Rattle.ob_lexer.specs.declared.token.TokenKind.TheVariants as kind
@@ -71,9 +72,9 @@ word_leads b rest letter =
     let longest : IsLongest w behind = subst (λ (l : List ℕ). IsLongest l behind) (sym first) (word_longest b (take_while is_letter_or_digit rest) behind (class-letter b letter) r.stops) in
     (is, record { parts = r.parts; some = some_bytes b w (take_while is_letter_or_digit rest) first; longest = longest })
 
-long_word : (bytes : List ℕ) → IsTrue (is_word bytes) → is_name bytes ≡ false → 64 < length bytes
-long_word bytes is isnt = elim (and_cases (nat_le (length bytes) 64) (is_word bytes) isnt) [
-  | inl long ↦ leb-false (length bytes) 64 long
+long_word : (bytes : List ℕ) → IsTrue (is_word bytes) → is_name bytes ≡ false → longest_name < length bytes
+long_word bytes is isnt = elim (and_cases (nat_le (length bytes) longest_name) (is_word bytes) isnt) [
+  | inl long ↦ leb-false (length bytes) longest_name long
   | inr no_word ↦ absurd (both_ways (is_word bytes) no_word is)
 ]
 

@@ -1,13 +1,13 @@
--- The place behind bytes, byte by byte.
+-- The position after bytes, byte by byte.
 use Rattle.std.proofs.Common.{ℕ, ◌≡◌, ◌+◌, ◌≤◌, Bool, false, not, cond, List, [], ◌∷◌, ◌++◌, length, fold, reverse, inl, inr, refl, sym, ap, ◌∙◌, arith, append_assoc, append-nil, length-append}
 use Rattle.std.specs.List.{take_while, count_by}
 use Rattle.std.proofs.lemmas.Bool.{cases_Bool}
 use Rattle.std.proofs.lemmas.List.{reverse-append, length-reverse}
 use Rattle.std.proofs.lemmas.List.Sums.{sum_by-append, sum_by-cons, count_by-le-length, take_while-cons, prefix_len-le-length}
 use Rattle.std.proofs.lemmas.List.Folds.{length-prefix_len}
-use Rattle.ob_lexer.specs.declared.place.Place.{Place}
-use Rattle.ob_lexer.specs.Places.{is_newline, begins_character, newlines, back_to_newline, line_after, column_after}
-use Rattle.ob_lexer.specs.Lexing.{past, place_of}
+use Rattle.ob_lexer.specs.declared.position.Position.{Position}
+use Rattle.ob_lexer.specs.Spans.{is_newline, begins_character, newlines, back_to_newline, line_after, column_after}
+use Rattle.ob_lexer.specs.Lexing.{past, position_after}
 
 abbrev is_on : ℕ → Bool
 is_on b = not (is_newline b)
@@ -22,14 +22,14 @@ newlines-more before b = omega (arith, sum_by-append (λ c. cond (is_newline c) 
 characters-cons : (b : ℕ) (bytes : List ℕ) → count_by begins_character (b ∷ bytes) ≡ cond (begins_character b) 1 0 + count_by begins_character bytes
 characters-cons b bytes = sum_by-cons (λ c. cond (begins_character c) 1 0) b bytes
 
--- the column behind a byte that is no newline
+-- the column after a byte that is no newline
 column-more : (before : List ℕ) (b : ℕ) → is_newline b ≡ false → column_after (before ++ b ∷ []) ≡ column_after before + cond (begins_character b) 1 0
 column-more before b isnt =
     let back : back_to_newline (before ++ b ∷ []) ≡ b ∷ back_to_newline before = rw isnt at (back-more before b) in
     omega (arith, ap (count_by begins_character) back, characters-cons b (back_to_newline before))
 
-past-place : (before : List ℕ) (b : ℕ) → past (place_of before) b ≡ place_of (before ++ b ∷ [])
-past-place before b = elim (cases_Bool (is_newline b)) [
+past-position : (before : List ℕ) (b : ℕ) → past (position_after before) b ≡ position_after (before ++ b ∷ [])
+past-position before b = elim (cases_Bool (is_newline b)) [
   | inl is ↦
       let offset : length before + 1 ≡ length (before ++ b ∷ []) = omega (arith, length-append before (b ∷ [])) in
       let line : line_after before + 1 ≡ line_after (before ++ b ∷ []) = rw (newlines-more before b, is) (omega arith) in
@@ -48,10 +48,10 @@ past-place before b = elim (cases_Bool (is_newline b)) [
       ]
 ]
 
-pub fold-past : (before bytes : List ℕ) → fold past (place_of before) bytes ≡ place_of (before ++ bytes)
-fold-past before [] = ap place_of (sym (append-nil before))
+pub fold-past : (before bytes : List ℕ) → fold past (position_after before) bytes ≡ position_after (before ++ bytes)
+fold-past before [] = ap position_after (sym (append-nil before))
 fold-past before (b ∷ bytes) =
-    ap (λ (p : Place). fold past p bytes) (past-place before b) ∙ fold-past (before ++ b ∷ []) bytes ∙ ap place_of (append_assoc before (b ∷ []) bytes)
+    ap (λ (p : Position). fold past p bytes) (past-position before b) ∙ fold-past (before ++ b ∷ []) bytes ∙ ap position_after (append_assoc before (b ∷ []) bytes)
 
 pub line_within : (before : List ℕ) → line_after before ≤ length before + 1
 line_within before = omega (arith, count_by-le-length is_newline before)

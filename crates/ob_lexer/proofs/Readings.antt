@@ -4,6 +4,7 @@ use Rattle.std.specs.Str.{IsUtf8, IsValidUpTo}
 use Rattle.std.proofs.lemmas.Str.{utf8_valid_len-IsUtf8, utf8_valid_len-IsValidUpTo}
 use Rattle.std.proofs.Math.Seq.{take-append_seam, drop-append_seam}
 use Rattle.std.proofs.lemmas.Bool.{and_parts}
+use Rattle.ob_base.specs.Limits.{longest_name, longest_program}
 use Rattle.ob_base.specs.Names.{is_word}
 use Rattle.ob_base.specs.Faults as faults
 use Rattle.ob_base.specs.declared.fault.ProgramFault.{ProgramFault}
@@ -11,10 +12,10 @@ use Rattle.ob_lexer.specs.declared.token.Token.{Token}
 use Rattle.ob_lexer.specs.declared.token.TokenKind.TheVariants as kind
 use Rattle.ob_lexer.specs.declared.lexer.Lexed.{Lexed}
 use Rattle.ob_lexer.specs.declared.step.Step.TheVariants as step
-use Rattle.ob_lexer.specs.Places.{span_of, fault_at}
+use Rattle.ob_lexer.specs.Spans.{span_of, fault_at}
 use Rattle.ob_lexer.specs.Lexis.{IsLexeme, word, digits, quoted, sign, blank, line_comment, block_comment, of_line, of_block, Element, space, comment, token, IsElement, IsLongest, Piece, text_of, ArePieces, token_in, tokens_of, HasTokens}
 use Rattle.ob_lexer.specs.Flaws.{Flaw, Begins, IsFlawed, HasFault, too_long, no_utf8, flawed}
-use Rattle.ob_lexer.specs.Lexing.{place_of}
+use Rattle.ob_lexer.specs.Lexing.{position_after}
 use Rattle.ob_lexer.specs.Reading.{span_at}
 use Rattle.ob_lexer.proofs.Reserved.{word_is_word}
 use Rattle.ob_lexer.proofs.FirstBytes.{lexeme_some}
@@ -69,7 +70,7 @@ element_lexeme : (e : Element) (bytes : List ℕ) → IsElement e bytes → IsLe
 element_lexeme space bytes is = blank is
 element_lexeme comment bytes (of_line is) = line_comment is
 element_lexeme comment bytes (of_block is) = block_comment is
-element_lexeme (token (kind.Name name)) bytes is = word (and_parts (nat_le (length bytes) 64) (is_word bytes) is.1).1
+element_lexeme (token (kind.Name name)) bytes is = word (and_parts (nat_le (length bytes) longest_name) (is_word bytes) is.1).1
 element_lexeme (token (kind.Number number)) bytes is = digits is.0
 element_lexeme (token (kind.Text content)) bytes is = quoted content is.0
 element_lexeme (token (kind.Word w)) bytes is = word (rw is (word_is_word w))
@@ -146,10 +147,10 @@ flawed_same text a b p q =
     let many : length p.flaw.bytes ≡ length q.flaw.bytes = cc in
     let before : p.flaw.before ≡ q.flaw.before = m.front ∙ ap (λ (k : ℕ). take k p.rest) count ∙ sym n.front in
     let texts : text_of p.pieces ≡ text_of q.pieces = r.texts in
-    let place : text_of p.pieces ++ p.flaw.before ≡ text_of q.pieces ++ q.flaw.before = λ i. texts i ++ before i in
-    p.is ∙ (λ i. record { number = number i; span = span_at (place_of (place i)) (many i) }) ∙ sym q.is
+    let position : text_of p.pieces ++ p.flaw.before ≡ text_of q.pieces ++ q.flaw.before = λ i. texts i ++ before i in
+    p.is ∙ (λ i. record { number = number i; span = span_at (position_after (position i)) (many i) }) ∙ sym q.is
 
-long_and_short : (text : List ℕ) → 1048576 < length text → length text ≤ 1048576 → ⊥
+long_and_short : (text : List ℕ) → longest_program < length text → length text ≤ longest_program → ⊥
 long_and_short text long short = omega arith
 
 pub one_fault_lem : (text : List ℕ) (a b : ProgramFault) → HasFault text a → HasFault text b → a ≡ b
@@ -170,10 +171,10 @@ no_flaw_at_end flaw begins =
     let s : step.Gap 0 ≡ step.Flaw flaw.number (length flaw.before) (length flaw.bytes) = (flaw_found [] flaw begins).step in
     cc
 
-pub tokens_or_fault_lem : (text : List ℕ) (lexed : Lexed) (fault : ProgramFault) → HasTokens text lexed → ¬ (HasFault text fault)
-tokens_or_fault_lem text lexed fault t (too_long f) = long_and_short text f.long t.short
-tokens_or_fault_lem text lexed fault t (no_utf8 f) = no_utf8_twice text f.valid t.utf8 f.up_to
-tokens_or_fault_lem text lexed fault t (flawed f) =
+pub never_tokens_and_fault_lem : (text : List ℕ) (lexed : Lexed) (fault : ProgramFault) → HasTokens text lexed → ¬ (HasFault text fault)
+never_tokens_and_fault_lem text lexed fault t (too_long f) = long_and_short text f.long t.short
+never_tokens_and_fault_lem text lexed fault t (no_utf8 f) = no_utf8_twice text f.valid t.utf8 f.up_to
+never_tokens_and_fault_lem text lexed fault t (flawed f) =
     let whole : text ≡ text_of t.pieces ++ [] = t.whole ∙ sym (append-nil (text_of t.pieces)) in
     let r = agree text [] t.pieces f.pieces [] f.rest t.utf8 whole (sym whole ∙ f.whole) t.spelled f.spelled (at_end refl) (at_flaw f.flaw f.begins) in
     no_flaw_at_end f.flaw (subst (λ (l : List ℕ). Begins l f.flaw) (sym r.rests) f.begins)

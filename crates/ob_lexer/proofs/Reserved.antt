@@ -3,6 +3,7 @@ use Rattle.std.proofs.Common.{ℕ, ◌≡◌, ◌≤◌, List, length, arith, []
 use Rattle.std.proofs.lemmas.Bool.{cases_Bool}
 use Rattle.std.proofs.lemmas.Slice.Eq.{bytes_eq-Decides}
 use Rattle.std.specs.Str.{bytes_eq}
+use Rattle.ob_base.specs.Limits.{longest_name}
 use Rattle.ob_base.specs.Names.{is_word}
 use Rattle.ob_lexer.specs.declared.token.Word.{Word}
 use Rattle.ob_lexer.specs.declared.token.Word.TheVariants as word
@@ -24,7 +25,7 @@ unfolding word_of
 word_of-Some bytes w e = among-Some words bytes w e
 
 -- a word is found by its spelling, which has the form of a name
-spelled : (w : Word) → (word_of (spelling_of_word w) ≡ Some w) × IsTrue (is_word (spelling_of_word w)) × (length (spelling_of_word w) ≤ 64)
+spelled : (w : Word) → (word_of (spelling_of_word w) ≡ Some w) × IsTrue (is_word (spelling_of_word w)) × (length (spelling_of_word w) ≤ longest_name)
 unfolding word_of
 spelled word.Contract = (refl, refl, omega arith)
 spelled word.Asset = (refl, refl, omega arith)
@@ -74,5 +75,5 @@ pub word_is_word : (w : Word) → IsTrue (is_word (spelling_of_word w))
 word_is_word w = (spelled w).1
 
 -- no reserved word is long
-pub word_is_short : (w : Word) → length (spelling_of_word w) ≤ 64
+pub word_is_short : (w : Word) → length (spelling_of_word w) ≤ longest_name
 word_is_short w = (spelled w).2

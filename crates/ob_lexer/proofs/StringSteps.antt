@@ -6,6 +6,7 @@ use Rattle.std.proofs.lemmas.Bool.{cases_Bool, eqb-true, leb-true, leb-false}
 use Rattle.std.proofs.lemmas.List.{map-append}
 use Rattle.std.proofs.lemmas.Grind.{flat_map-append}
 use Rattle.std.proofs.Math.Seq.{take-append_seam, drop-append_seam}
+use Rattle.ob_base.specs.Limits.{longest_string}
 use Rattle.ob_base.specs.Names.{is_text}
 use Rattle.ob_base.specs.Faults as faults
 use Rattle.ob_lexer.specs.declared.token.TokenKind.TheVariants as kind
@@ -84,7 +85,7 @@ pub record IsSoFar (text : List ℕ) (backslash : Bool) (content seen rest : Lis
   pub reads : seen ≡ spelled parts ++ tail backslash
   pub means : content ≡ values parts
   pub whole : text ≡ 34 ∷ seen ++ rest
-  pub short : length content ≤ 1024
+  pub short : length content ≤ longest_string
 
 are_more : (parts : List StringPart) (p : StringPart) → AreParts parts → IsPart p → AreParts (parts ++ p ∷ [])
 are_more [] p are is = (is, tt)
@@ -101,7 +102,7 @@ pub option_cases : {A : Type 0} (o : Option A) → (o ≡ None) ⊎ ((x : A) × 
 option_cases None = inl refl
 option_cases (Some x) = inr (x, refl)
 
--- what a byte is that stands behind no backslash
+-- what a byte is that stands after no backslash
 data IsPlain (b : ℕ) (h : Heard) : Type 0 where
   is_quote : b ≡ 34 → h ≡ heard.Quote → IsPlain b h
   is_newline : b ≡ 10 → h ≡ heard.Newline → IsPlain b h
@@ -125,18 +126,18 @@ plain b = elim (cases_Bool (b == 34)) [
 spelled_more : (parts : List StringPart) (p : StringPart) → spelled (parts ++ p ∷ []) ≡ spelled parts ++ spelling_of_part p
 spelled_more parts p = flat_map-append spelling_of_part parts (p ∷ []) ∙ ap (λ (l : List ℕ). spelled parts ++ l) (append-nil (spelling_of_part p))
 
-module _ (text : List ℕ) (behind : Bool) (content seen : List ℕ) (b : ℕ) (rest : List ℕ) (s : IsSoFar text behind content seen (b ∷ rest)) where
+module _ (text : List ℕ) (after : Bool) (content seen : List ℕ) (b : ℕ) (rest : List ℕ) (s : IsSoFar text after content seen (b ∷ rest)) where
   -- the byte is among those that were read
   read_on : text ≡ 34 ∷ (seen ++ b ∷ []) ++ rest
   read_on = s.whole ∙ ap (λ (l : List ℕ). 34 ∷ l) (sym (append_assoc seen (b ∷ []) rest))
 
-  module _ (value : ℕ) (last : IsLast behind b value) where
+  module _ (value : ℕ) (last : IsLast after b value) where
     are_on : AreParts (s.parts ++ last.part ∷ [])
     are_on = are_more s.parts last.part s.are last.is
 
     reads_on : seen ++ b ∷ [] ≡ spelled (s.parts ++ last.part ∷ [])
     reads_on =
-        ap (λ (l : List ℕ). l ++ b ∷ []) s.reads ∙ append_assoc (spelled s.parts) (tail behind) (b ∷ []) ∙ ap (λ (l : List ℕ). spelled s.parts ++ l) last.reads ∙ sym (spelled_more s.parts last.part)
+        ap (λ (l : List ℕ). l ++ b ∷ []) s.reads ∙ append_assoc (spelled s.parts) (tail after) (b ∷ []) ∙ ap (λ (l : List ℕ). spelled s.parts ++ l) last.reads ∙ sym (spelled_more s.parts last.part)
 
     means_on : content ++ value ∷ [] ≡ values (s.parts ++ last.part ∷ [])
     means_on =
@@ -145,9 +146,9 @@ module _ (text : List ℕ) (behind : Bool) (content seen : List ℕ) (b : ℕ) (
     stands_on : StandsFor (seen ++ b ∷ []) (content ++ value ∷ [])
     stands_on = record { parts = s.parts ++ last.part ∷ []; are = are_on; spelled = reads_on; means = means_on }
 
-    goes_on_with : (nat_le 1024 (length content)) ≡ false → IsSoFar text false (content ++ value ∷ []) (seen ++ b ∷ []) rest
+    goes_on_with : (nat_le longest_string (length content)) ≡ false → IsSoFar text false (content ++ value ∷ []) (seen ++ b ∷ []) rest
     goes_on_with room =
-        let few : length content < 1024 = leb-false 1024 (length content) room in
+        let few : length content < longest_string = leb-false longest_string (length content) room in
         record {
           parts = s.parts ++ last.part ∷ [];
           are = are_on;
@@ -157,10 +158,10 @@ module _ (text : List ℕ) (behind : Bool) (content seen : List ℕ) (b : ℕ) (
           short = omega (arith, length-append content (value ∷ []));
         }
 
-    too_long : (nat_le 1024 (length content)) ≡ true → IsStepAt text (Flaw faults.long_string 0 1)
+    too_long : (nat_le longest_string (length content)) ≡ true → IsStepAt text (Flaw faults.long_string 0 1)
     too_long full =
-        let many : 1024 ≤ length content = leb-true 1024 (length content) full in
-        let long : 1024 < length (content ++ value ∷ []) = omega (arith, length-append content (value ∷ [])) in
+        let many : longest_string ≤ length content = leb-true longest_string (length content) full in
+        let long : longest_string < length (content ++ value ∷ []) = omega (arith, length-append content (value ∷ [])) in
         subst (λ (t : List ℕ). IsStepAt t (Flaw faults.long_string 0 1)) (sym read_on) (flaw_at_first 34 ((seen ++ b ∷ []) ++ rest) faults.long_string (long_string (seen ++ b ∷ []) (content ++ value ∷ []) rest refl stands_on long refl))
 
 -- without a backslash at the end, what was read stands for the content
@@ -168,15 +169,15 @@ stands_so_far : (text content seen rest : List ℕ) → IsSoFar text false conte
 stands_so_far text content seen rest s =
     record { parts = s.parts; are = s.are; spelled = s.reads ∙ append-nil (spelled s.parts); means = s.means }
 
-parts_stand : (text : List ℕ) (behind : Bool) (content seen rest : List ℕ) → (s : IsSoFar text behind content seen rest) → StandsFor (spelled s.parts) content
-parts_stand text behind content seen rest s = record { parts = s.parts; are = s.are; spelled = refl; means = s.means }
+parts_stand : (text : List ℕ) (after : Bool) (content seen rest : List ℕ) → (s : IsSoFar text after content seen rest) → StandsFor (spelled s.parts) content
+parts_stand text after content seen rest s = record { parts = s.parts; are = s.are; spelled = refl; means = s.means }
 
 -- the line or the text ends within a string
-open_at : (text content inside rest : List ℕ) → text ≡ 34 ∷ inside ++ rest → StandsFor inside content → length content ≤ 1024 → IsCutOff rest → IsStepAt text (Flaw faults.open_string 0 1)
+open_at : (text content inside rest : List ℕ) → text ≡ 34 ∷ inside ++ rest → StandsFor inside content → length content ≤ longest_string → IsCutOff rest → IsStepAt text (Flaw faults.open_string 0 1)
 open_at text content inside rest whole stands short cut =
     subst (λ (t : List ℕ). IsStepAt t (Flaw faults.open_string 0 1)) (sym whole) (flaw_at_first 34 (inside ++ rest) faults.open_string (open_string inside content rest refl stands short cut refl))
 
-open_at_end : (behind : Bool) (text content seen : List ℕ) → IsSoFar text behind content seen [] → IsStepAt text (Flaw faults.open_string 0 1)
+open_at_end : (after : Bool) (text content seen : List ℕ) → IsSoFar text after content seen [] → IsStepAt text (Flaw faults.open_string 0 1)
 open_at_end false text content seen s = open_at text content seen [] s.whole (stands_so_far text content seen [] s) s.short tt
 open_at_end true text content seen s =
     let whole : text ≡ 34 ∷ spelled s.parts ++ 92 ∷ [] = s.whole ∙ ap (λ (l : List ℕ). 34 ∷ l) (append-nil seen ∙ s.reads) in
@@ -186,8 +187,8 @@ open_at_end true text content seen s =
 quote_at : (text content seen : List ℕ) (taken : ℕ) (rest : List ℕ) → IsUtf8 (drop 1 text) → IsSoFar text false content seen (34 ∷ rest) → taken ≡ length seen → IsStepAt text (text_step content (taken + 2))
 quote_at text content seen taken rest utf8 s count =
     let stands = stands_so_far text content seen (34 ∷ rest) s in
-    let behind : IsUtf8 (seen ++ 34 ∷ rest) = subst IsUtf8 (ap (drop 1) s.whole) utf8 in
-    let text' : is_text content ≡ true = content_is_text seen content rest behind stands s.short in
+    let after : IsUtf8 (seen ++ 34 ∷ rest) = subst IsUtf8 (ap (drop 1) s.whole) utf8 in
+    let text' : is_text content ≡ true = content_is_text seen content rest after stands s.short in
     let is : IsString (34 ∷ seen ++ 34 ∷ []) content = record { inside = seen; quoted = refl; stands = stands } in
     let parts : text ≡ (34 ∷ seen ++ 34 ∷ []) ++ rest = s.whole ∙ ap (λ (l : List ℕ). 34 ∷ l) (sym (append_assoc seen (34 ∷ []) rest)) in
     let many : taken + 2 ≡ length (34 ∷ seen ++ 34 ∷ []) = omega (arith, count, length-append seen (34 ∷ [])) in
@@ -208,8 +209,8 @@ bad_at text content seen taken b rest s count none =
 
 -- ---- the step of a string
 
-pub string_at : (rest text : List ℕ) (behind : Bool) (content seen : List ℕ) (taken : ℕ) → IsUtf8 (drop 1 text) → IsSoFar text behind content seen rest → taken ≡ length seen → IsStepAt text (string_from behind content taken rest)
-string_at [] text behind content seen taken utf8 s count = open_at_end behind text content seen s
+pub string_at : (rest text : List ℕ) (after : Bool) (content seen : List ℕ) (taken : ℕ) → IsUtf8 (drop 1 text) → IsSoFar text after content seen rest → taken ≡ length seen → IsStepAt text (string_from after content taken rest)
+string_at [] text after content seen taken utf8 s count = open_at_end after text content seen s
 string_at (b ∷ rest) text true content seen taken utf8 s count =
     let counted : taken + 1 ≡ length (seen ++ b ∷ []) = omega (arith, count, length-append seen (b ∷ [])) in
     elim (option_cases (escaped b)) [
@@ -219,7 +220,7 @@ string_at (b ∷ rest) text true content seen taken utf8 s count =
       | inr v ↦
           let heard : heard_of true b ≡ heard.Value v.0 = ap (λ (o : Option ℕ). or_else o heard.NoEscape heard.Value) v.1 in
           let last : IsLast true b v.0 = record { part = escape b v.0; is = v.1; reads = refl; means = refl } in
-          elim (cases_Bool (nat_le 1024 (length content))) [
+          elim (cases_Bool (nat_le longest_string (length content))) [
             | inl full ↦ rw (heard, string_from, full) (too_long text true content seen b rest s v.0 last full)
             | inr room ↦ rw (heard, string_from, room) (string_at rest text false (content ++ v.0 ∷ []) (seen ++ b ∷ []) (taken + 1) utf8 (goes_on_with text true content seen b rest s v.0 last room) counted)
           ]
@@ -243,7 +244,7 @@ string_at (b ∷ rest) text false content seen taken utf8 s count =
           rw (heard, string_from) (string_at rest text true content (seen ++ b ∷ []) (taken + 1) utf8 next counted)
       | is_value is heard ↦
           let last : IsLast false b b = record { part = itself b; is = is; reads = refl; means = refl } in
-          elim (cases_Bool (nat_le 1024 (length content))) [
+          elim (cases_Bool (nat_le longest_string (length content))) [
             | inl full ↦ rw (heard, string_from, full) (too_long text false content seen b rest s b last full)
             | inr room ↦ rw (heard, string_from, room) (string_at rest text false (content ++ b ∷ []) (seen ++ b ∷ []) (taken + 1) utf8 (goes_on_with text false content seen b rest s b last room) counted)
           ]

@@ -6,6 +6,7 @@ use Rattle.std.specs.Str.{IsUtf8, is_utf8, all_scalars, encode_utf8_all}
 use Rattle.std.proofs.lemmas.Bool.{cases_Bool, cases_lt, and_parts, and_from, eqb-true, le-leb, lt-ltb}
 use Rattle.std.proofs.lemmas.Str.{IsUtf8-append, IsUtf8-nil, IsUtf8-encode, IsUtf8-take, IsUtf8-drop, is_utf8-from_IsUtf8, IsCharBoundary-before_ascii, IsCharBoundary-after_ascii, encode_ascii, inside_one, char_from_byte}
 use Rattle.std.proofs.Math.Seq.{take-append_seam, drop-append-add, get_or-append_seam}
+use Rattle.ob_base.specs.Limits.{longest_string}
 use lib.Utf8.{scalar}
 use Rattle.ob_base.specs.Names.{is_text}
 use Rattle.ob_lexer.specs.Spelling.{escaped, StringPart, itself, escape, AreParts, spelling_of_part, value_of_part, StandsFor}
@@ -35,22 +36,22 @@ abbrev AreHigh : List ℕ → Type 0
 AreHigh [] = Unit {0}
 AreHigh (b ∷ bytes) = (128 ≤ b) × AreHigh bytes
 
--- The parts behind such bytes, and what all of them stand for.
+-- The parts after such bytes, and what all of them stand for.
 record IsBehind (bytes rest : List ℕ) (parts : List StringPart) : Type 0 where
-  behind : List StringPart
-  are : AreParts behind
-  spelled : rest ≡ flat_map spelling_of_part behind
-  means : map value_of_part parts ≡ bytes ++ map value_of_part behind
+  after : List StringPart
+  are : AreParts after
+  spelled : rest ≡ flat_map spelling_of_part after
+  means : map value_of_part parts ≡ bytes ++ map value_of_part after
 
 peel : (bytes rest : List ℕ) (parts : List StringPart) → AreHigh bytes → AreParts parts → bytes ++ rest ≡ flat_map spelling_of_part parts → IsBehind bytes rest parts
-peel [] rest parts high are e = record { behind = parts; are = are; spelled = e; means = refl }
+peel [] rest parts high are e = record { after = parts; are = are; spelled = e; means = refl }
 peel (b ∷ bytes) rest [] high are e = absurd cc
 peel (b ∷ bytes) rest (itself c ∷ parts) high are e =
     let first : b ≡ c = cc in
     let others : bytes ++ rest ≡ flat_map spelling_of_part parts = cc in
     let r = peel bytes rest parts high.1 are.1 others in
     let front : c ∷ map value_of_part parts ≡ b ∷ map value_of_part parts = cc in
-    record { behind = r.behind; are = r.are; spelled = r.spelled; means = front ∙ ap (λ (l : List ℕ). b ∷ l) r.means }
+    record { after = r.after; are = r.are; spelled = r.spelled; means = front ∙ ap (λ (l : List ℕ). b ∷ l) r.means }
 peel (b ∷ bytes) rest (escape letter value ∷ parts) high are e =
     let first : b ≡ 92 = cc in
     absurd (omega (arith, high.0))
@@ -78,7 +79,7 @@ IsSpelled true bytes (escape letter value ∷ parts) = bytes ≡ letter ∷ flat
 
 -- One byte of parts: it stands for itself, or is a backslash.
 data ByteOf (c : ℕ) (rest : List ℕ) (parts : List StringPart) : Type 0 where
-  is_itself : (behind : List StringPart) → AreParts behind → IsSpelled false rest behind → map value_of_part parts ≡ c ∷ map value_of_part behind → ByteOf c rest parts
+  is_itself : (after : List StringPart) → AreParts after → IsSpelled false rest after → map value_of_part parts ≡ c ∷ map value_of_part after → ByteOf c rest parts
   is_backslash : IsSpelled true rest parts → ByteOf c rest parts
 
 byte_of : (c : ℕ) (rest : List ℕ) (parts : List StringPart) → AreParts parts → c ∷ rest ≡ flat_map spelling_of_part parts → ByteOf c rest parts
@@ -118,13 +119,13 @@ content_of_parts (c ∷ cs) false parts scalars are e =
       | inl low ↦
           let whole : c ∷ encode_utf8_all cs ≡ flat_map spelling_of_part parts = ap (λ (l : List ℕ). l ++ encode_utf8_all cs) (sym (encode_ascii c low)) ∙ e in
           elim (byte_of c (encode_utf8_all cs) parts are whole) [
-            | is_itself behind others spelled means ↦
-                rw means (IsUtf8-append (c ∷ []) (map value_of_part behind) (one_byte c low) (content_of_parts cs false behind both.1 others spelled))
+            | is_itself after others spelled means ↦
+                rw means (IsUtf8-append (c ∷ []) (map value_of_part after) (one_byte c low) (content_of_parts cs false after both.1 others spelled))
             | is_backslash spelled ↦ content_of_parts cs true parts both.1 are spelled
           ]
       | inr high ↦
           let r = peel (encode_utf8 c) (encode_utf8_all cs) parts (encode_high c high) are e in
-          rw r.means (IsUtf8-append (encode_utf8 c) (map value_of_part r.behind) (IsUtf8-encode c both.0) (content_of_parts cs false r.behind both.1 r.are r.spelled))
+          rw r.means (IsUtf8-append (encode_utf8 c) (map value_of_part r.after) (IsUtf8-encode c both.0) (content_of_parts cs false r.after both.1 r.are r.spelled))
     ]
 content_of_parts (c ∷ cs) true [] scalars are e = absurd e
 content_of_parts (c ∷ cs) true (itself b ∷ parts) scalars are e = absurd e
@@ -142,17 +143,17 @@ before_quote inside rest utf8 =
     let cut = IsCharBoundary-before_ascii (inside ++ 34 ∷ rest) (length inside) within (omega arith) in
     subst IsUtf8 (take-append_seam inside (34 ∷ rest)) (IsUtf8-take (inside ++ 34 ∷ rest) (length inside) utf8 cut)
 
--- and so is what stands behind one
-pub behind_quote : (before rest : List ℕ) → IsUtf8 (before ++ 34 ∷ rest) → IsUtf8 rest
-behind_quote before rest utf8 =
+-- and so is what stands after one
+pub after_quote : (before rest : List ℕ) → IsUtf8 (before ++ 34 ∷ rest) → IsUtf8 rest
+after_quote before rest utf8 =
     let at : get_or (before ++ 34 ∷ rest) (length before) 0 ≡ 34 = get_or-append_seam before 34 rest 0 in
     let within : length before < length (before ++ 34 ∷ rest) = omega (arith, length-append before (34 ∷ rest)) in
     let cut = IsCharBoundary-after_ascii (before ++ 34 ∷ rest) (length before) utf8 within (omega arith) in
     subst IsUtf8 (drop-append-add before (34 ∷ rest) 1) (IsUtf8-drop (before ++ 34 ∷ rest) (length before + 1) utf8 cut)
 
 -- The content of a string in a text is a text, if it isn't too long.
-pub content_is_text : (inside content rest : List ℕ) → IsUtf8 (inside ++ 34 ∷ rest) → StandsFor inside content → length content ≤ 1024 → is_text content ≡ true
+pub content_is_text : (inside content rest : List ℕ) → IsUtf8 (inside ++ 34 ∷ rest) → StandsFor inside content → length content ≤ longest_string → is_text content ≡ true
 content_is_text inside content rest utf8 stands short =
     let u = before_quote inside rest utf8 in
     let text : IsUtf8 content = rw stands.means (content_of_parts u.0 false stands.parts u.1.0 stands.are (u.1.1 ∙ stands.spelled)) in
-    and_from (nat_le (length content) 1024) (is_utf8 content) (le-leb (length content) 1024 short) (is_utf8-from_IsUtf8 content text)
+    and_from (nat_le (length content) longest_string) (is_utf8 content) (le-leb (length content) longest_string short) (is_utf8-from_IsUtf8 content text)

@@ -1,7 +1,8 @@
 -- What the steps of the lexer answer.
-use Rattle.std.specs.Prelude.{ℕ, ℤ, pos, ◌≡◌, ◌+◌, ◌^◌, ◌==◌, ◌&&◌, nat_lt, nat_le, not, if◌then◌else◌, Bool, true, false, List, [], ◌∷◌, ◌++◌, length, Option, Some, None}
+use Rattle.std.specs.Prelude.{ℕ, ℤ, pos, ◌+◌, ◌^◌, ◌==◌, ◌&&◌, nat_lt, nat_le, not, if◌then◌else◌, Bool, true, false, List, [], ◌∷◌, ◌++◌, length, Option, Some, None}
 use Rattle.std.specs.List.{find, prefix_len, take_while}
 use Rattle.std.specs.Str.{bytes_eq}
+use Rattle.ob_base.specs.Limits.{longest_string}
 use Rattle.ob_base.specs.Names.{is_letter, is_digit, is_letter_or_digit, is_name, is_text}
 use Rattle.ob_base.specs.Faults.{bad_character, open_comment, open_string, big_number, long_name, long_string, bad_escape}
 use Rattle.ob_lexer.specs.declared.token.TokenKind.TheVariants as kind
@@ -15,9 +16,9 @@ use Rattle.ob_lexer.specs.declared.strings.Heard.{Heard}
 use Rattle.ob_lexer.specs.declared.strings.Heard.TheVariants as heard
 use Rattle.ob_lexer.specs.declared.step.Step.{Step}
 use Rattle.ob_lexer.specs.declared.step.Step.TheVariants.{Gap, Token, Flaw}
-use Rattle.ob_lexer.specs.declared.place.Place.{Place}
+use Rattle.ob_lexer.specs.declared.position.Position.{Position}
 use Rattle.ob_lexer.specs.Spelling.{spelling_of_word, value_of_digits, escaped}
-use Rattle.ob_lexer.specs.Places.{is_newline, begins_character, line_after, column_after}
+use Rattle.ob_lexer.specs.Spans.{is_newline, begins_character, line_after, column_after}
 use Rattle.ob_lexer.specs.Lexis.{is_blank}
 
 -- ---- words, signs, numbers
@@ -82,7 +83,7 @@ close_of bytes = close_from 0 bytes
 abbrev pub is_no_newline : ℕ → Bool
 is_no_newline b = not (is_newline b)
 
--- behind a `/`: what a comment or the sign is
+-- after a `/`: what a comment or the sign is
 abbrev pub slash_step : List ℕ → Step
 slash_step [] = Token (kind.Sign sign.Slash) 1
 slash_step (b ∷ rest) =
@@ -104,7 +105,7 @@ sign_step b rest =
 
 -- ---- strings
 
--- what a byte is in a string, behind a backslash or not
+-- what a byte is in a string, after a backslash or not
 abbrev pub heard_of : Bool → ℕ → Heard
 heard_of true b = or_else (escaped b) heard.NoEscape heard.Value
 heard_of false b = if b == 34 then heard.Quote else (if b == 10 then heard.Newline else (if b == 92 then heard.Backslash else heard.Value b))
@@ -113,12 +114,12 @@ heard_of false b = if b == 34 then heard.Quote else (if b == 10 then heard.Newli
 abbrev pub text_step : List ℕ → ℕ → Step
 text_step content length = if is_text content then Token (kind.Text content) length else Flaw long_string 0 1
 
--- What a string is, where so many bytes behind its quote were read, of which the last may be a backslash, and this is
+-- What a string is, where so many bytes after its quote were read, of which the last may be a backslash, and this is
 -- their content.
 abbrev pub string_from : Bool → List ℕ → ℕ → List ℕ → Step
 string_from backslash content taken [] = Flaw open_string 0 1
 string_from backslash content taken (b ∷ rest) = elim (heard_of backslash b) [
-  | heard.Value value ↦ if nat_le 1024 (length content) then Flaw long_string 0 1 else string_from false (content ++ value ∷ []) (taken + 1) rest
+  | heard.Value value ↦ if nat_le longest_string (length content) then Flaw long_string 0 1 else string_from false (content ++ value ∷ []) (taken + 1) rest
   | heard.Backslash ↦ string_from true content (taken + 1) rest
   | heard.Quote ↦ text_step content (taken + 2)
   | heard.Newline ↦ Flaw open_string 0 1
@@ -140,13 +141,13 @@ step_in class.Other b rest = sign_step b rest
 abbrev pub first_step : ℕ → List ℕ → Step
 first_step b rest = step_in (class_of b) b rest
 
--- ---- places
+-- ---- positions
 
--- the place behind one byte more
-abbrev pub past : Place → ℕ → Place
+-- the position after one byte more
+abbrev pub past : Position → ℕ → Position
 past p b =
     if is_newline b then record { offset = p.offset + 1; line = p.line + 1; column = 1 } else (if begins_character b then record { offset = p.offset + 1; line = p.line; column = p.column + 1 } else record { offset = p.offset + 1; line = p.line; column = p.column })
 
--- the place behind these bytes
-abbrev pub place_of : List ℕ → Place
-place_of before = record { offset = length before; line = line_after before; column = column_after before }
+-- the position after these bytes
+abbrev pub position_after : List ℕ → Position
+position_after before = record { offset = length before; line = line_after before; column = column_after before }

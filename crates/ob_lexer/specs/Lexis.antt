@@ -3,9 +3,10 @@
 use Rattle.std.specs.Prelude.{ℕ, ◌≡◌, ◌≢◌, ◌≤◌, ◌==◌, ◌||◌, not, ⊤, Bool, List, [], ◌∷◌, ◌++◌, length, codes, IsTrue}
 use Rattle.std.specs.List.{list_all, flat_map}
 use Rattle.std.specs.Str.{IsUtf8}
+use Rattle.ob_base.specs.Limits.{longest_program}
 use Rattle.ob_base.specs.Names.{is_word}
 use Rattle.ob_lexer.specs.Spelling.{spelling_of_sign, is_digits, IsString, IsSpelling}
-use Rattle.ob_lexer.specs.Places.{is_newline, span_of}
+use Rattle.ob_lexer.specs.Spans.{is_newline, span_of}
 use Rattle.ob_lexer.specs.declared.token.Sign.{Sign}
 use Rattle.ob_lexer.specs.declared.token.Token.{Token}
 use Rattle.ob_lexer.specs.declared.token.TokenKind.{TokenKind}
@@ -21,7 +22,7 @@ pub record IsBlank (bytes : List ℕ) : Type 0 where
   pub one : bytes ≡ byte ∷ []
   pub blank : IsTrue (is_blank byte)
 
--- `//` and no newline behind it
+-- `//` and no newline after it
 pub record IsLineComment (bytes : List ℕ) : Type 0 where
   pub inside : List ℕ
   pub marked : bytes ≡ codes "//" ++ inside
@@ -33,7 +34,7 @@ pub record HasClose (bytes : List ℕ) : Type 0 where
   pub after : List ℕ
   pub closed : bytes ≡ before ++ codes "*/" ++ after
 
--- `/*` up to the first `*/` behind it, with which it shares no character
+-- `/*` up to the first `*/` after it, with which it shares no character
 pub record IsBlockComment (bytes : List ℕ) : Type 0 where
   pub inside : List ℕ
   pub marked : bytes ≡ codes "/*" ++ inside ++ codes "*/"
@@ -82,25 +83,25 @@ pub record Piece : Type 0 where
 abbrev pub text_of : List Piece → List ℕ
 text_of pieces = flat_map (λ p. p.bytes) pieces
 
--- Each piece is such an element, and the longest that begins at its place, where the rest follows them.
+-- Each piece is such an element, and the longest that begins at its position, where the rest follows them.
 abbrev pub ArePieces : List Piece → List ℕ → Type 0
 ArePieces [] rest = ⊤
 ArePieces (p ∷ pieces) rest = IsElement p.element p.bytes × IsLongest p.bytes (text_of pieces ++ rest) × ArePieces pieces rest
 
--- the token that a piece is, if it is one, behind these bytes
+-- the token that a piece is, if it is one, after these bytes
 abbrev pub token_in : List ℕ → Element → List ℕ → List Token
 token_in before space bytes = []
 token_in before comment bytes = []
 token_in before (token kind) bytes = record { kind = kind; span = span_of before bytes } ∷ []
 
--- the tokens among pieces behind these bytes
+-- the tokens among pieces after these bytes
 abbrev pub tokens_of : List ℕ → List Piece → List Token
 tokens_of before [] = []
 tokens_of before (p ∷ pieces) = token_in before p.element p.bytes ++ tokens_of (before ++ p.bytes) pieces
 
 -- A text of at most 1,048,576 bytes of UTF-8 is made of pieces, and these are the tokens among them and its end.
 pub record HasTokens (text : List ℕ) (lexed : Lexed) : Type 0 where
-  pub short : length text ≤ 1048576
+  pub short : length text ≤ longest_program
   pub utf8 : IsUtf8 text
   pub pieces : List Piece
   pub whole : text ≡ text_of pieces

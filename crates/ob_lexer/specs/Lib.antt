@@ -1,6 +1,6 @@
 pub mod Spelling
-pub mod Places
 pub mod Lexis
 pub mod Flaws
 pub mod Lexing
 pub mod Reading
+pub mod Spans

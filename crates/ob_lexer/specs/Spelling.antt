@@ -1,6 +1,7 @@
 -- How each token is spelled (the Obsidian language documentation, "Lexical structure").
 use Rattle.std.specs.Prelude.{ℕ, ◌≡◌, ◌+◌, ◌-◌, ◌*◌, ◌<◌, ◌≤◌, ◌^◌, ◌&&◌, ◌||◌, ◌==◌, not, nat_le, pos, if◌then◌else◌, ⊤, Bool, Option, Some, None, List, [], ◌∷◌, ◌++◌, length, map, codes, fold, IsTrue}
 use Rattle.std.specs.List.{list_all, flat_map}
+use Rattle.ob_base.specs.Limits.{longest_string}
 use Rattle.ob_base.specs.Names.{is_digit, is_name}
 use Rattle.ob_lexer.specs.declared.token.TokenKind.{TokenKind}
 use Rattle.ob_lexer.specs.declared.token.TokenKind.TheVariants as kind
@@ -136,6 +137,6 @@ pub record IsString (bytes content : List ℕ) : Type 0 where
 abbrev pub IsSpelling : TokenKind → List ℕ → Type 0
 IsSpelling (kind.Name name) bytes = (bytes ≡ name) × IsTrue (is_name bytes) × ¬ (IsReserved bytes)
 IsSpelling (kind.Number number) bytes = IsTrue (is_digits bytes) × (number ≡ pos (value_of_digits bytes)) × (value_of_digits bytes < 2 ^ 63)
-IsSpelling (kind.Text text) bytes = IsString bytes text × (length text ≤ 1024)
+IsSpelling (kind.Text text) bytes = IsString bytes text × (length text ≤ longest_string)
 IsSpelling (kind.Word w) bytes = bytes ≡ spelling_of_word w
 IsSpelling (kind.Sign s) bytes = bytes ≡ spelling_of_sign s

@@ -3,7 +3,7 @@ ghost use Rattle.std.specs.Prelude.{◌≡◌, ◌+◌, ◌≤◌, length, IfSom
 ghost use Rattle.std.specs.List.{prefix_len, take_while};
 ghost use Rattle.ob_base.specs.Names.{is_digit, is_letter_or_digit};
 ghost use Rattle.ob_lexer.specs.Lexis.{is_blank};
-ghost use Rattle.ob_lexer.specs.Places.{begins_character};
+ghost use Rattle.ob_lexer.specs.Spans.{begins_character};
 ghost use Rattle.ob_lexer.specs.Lexing.{class_of, close_of, is_no_newline, goes_on};
 
 use ob_base::{is_digit, is_letter, is_letter_or_digit};

@@ -1,28 +1,29 @@
 //! The tokens of a text.
 ghost use Rattle.std.specs.Prelude.{◌≡◌, ℕ, ◌+◌, ◌<◌, ◌≤◌, ◌^◌, List, length, take, drop, IfOk, IfErr, MatchOption};
 ghost use Rattle.std.specs.Str.{IsUtf8, IsValidUpTo};
+ghost use Rattle.ob_base.specs.Limits.{longest_program};
 ghost use Rattle.ob_base.specs.declared.fault.ProgramFault.{ProgramFault};
+ghost use Rattle.ob_base.specs.TextErrors.{OnFault};
 ghost use Rattle.ob_lexer.specs.declared.lexer.Lexed.{Lexed};
 ghost use Rattle.ob_lexer.specs.Lexis.{HasTokens};
 ghost use Rattle.ob_lexer.specs.Flaws.{HasFault};
-ghost use Rattle.ob_lexer.specs.Reading.{IsUtf8Behind, fault_behind, TakesUp, BeginsWith, OnFault};
+ghost use Rattle.ob_lexer.specs.Reading.{IsUtf8Behind, fault_after, TakesUp, BeginsWith};
 
 use crate::Token;
-use crate::place::Place;
+use crate::position::Position;
 use crate::step::{Step, first_step};
-use ob_base::{Duplicate, Items, LONG_PROGRAM, Memory, NOT_UTF8, ProgramFault, Span, copy_items};
-use std::alloc::{AllocError, Global};
-use thiserror::Error;
-
-/// The most bytes that a program's text has.
-const LONGEST_TEXT: usize = 1_048_576;
+use ob_base::{
+    Duplicate, Items, LONG_PROGRAM, LONGEST_PROGRAM, Memory, NOT_UTF8, ProgramFault, Span,
+    TextError, copy_items,
+};
+use std::alloc::Global;
 
 /// What a text is made of, but for blanks and comments.
 #[derive(Debug, Drop)]
 pub struct Lexed {
     /// The tokens, in the order of the text.
     pub tokens: Items<Token>,
-    /// The place just behind the last character, which has no bytes.
+    /// The position just after the last character, which has no bytes.
     pub end: Span,
 }
 
@@ -36,37 +37,7 @@ impl Duplicate for Lexed {
 }
 
 /// Why a text has no tokens.
-#[derive(Clone, Copy, PartialEq, Eq, Debug, Error)]
-pub enum LexError {
-    /// The first fault in the text.
-    #[error("the text has no tokens")]
-    Fault(ProgramFault),
-    /// Memory ran out.
-    #[error("out of memory")]
-    Memory,
-}
-
-impl From<AllocError> for LexError {
-    ghost use Rattle.std.specs.Prelude.{◌≡◌};
-    ghost use Rattle.ob_lexer.specs.declared.lexer.LexError.TheVariants.{Memory};
-
-    ghost from_gives = { λ _ e. e ≡ Memory };
-
-    fn from(_: AllocError) -> LexError {
-        LexError::Memory
-    }
-}
-
-impl From<Memory> for LexError {
-    ghost use Rattle.std.specs.Prelude.{◌≡◌};
-    ghost use Rattle.ob_lexer.specs.declared.lexer.LexError.TheVariants.{Memory};
-
-    ghost from_gives = { λ _ e. e ≡ Memory };
-
-    fn from(_: Memory) -> LexError {
-        LexError::Memory
-    }
-}
+pub type LexError = TextError;
 
 /// How many bytes stand before the first one that begins no character, if the text is no UTF-8.
 fn valid_len(text: &[u8]) -> Option<usize>
@@ -78,36 +49,36 @@ fn valid_len(text: &[u8]) -> Option<usize>
     }
 }
 
-/// The fault of so many bytes, behind others at a place.
-fn fault_behind(number: u16, place: Place, before: &[u8], count: usize) -> ProgramFault
-    requires room { place.offset + length before.now + count < 2 ^ 31 }
-    requires line { place.line ≤ place.offset + 1 }
-    requires column { place.column ≤ place.offset + 1 }
-    ensures { result ≡ fault_behind number place before.now count }
+/// The fault of so many bytes, after others at a position.
+fn fault_after(number: u16, position: Position, before: &[u8], count: usize) -> ProgramFault
+    requires room { position.offset + length before.now + count < 2 ^ 31 }
+    requires line { position.line ≤ position.offset + 1 }
+    requires column { position.column ≤ position.offset + 1 }
+    ensures { result ≡ fault_after number position before.now count }
 {
-    let span = place.after(before).span(count);
+    let span = position.after(before).span(count);
     ProgramFault { number, span }
 }
 
-/// Takes up the piece of the text at this place: adds its token, if it is one, and answers how many bytes it has.
+/// Takes up the piece of the text at this position: adds its token, if it is one, and answers how many bytes it has.
 fn take_up(
     alloc: Global,
-    place: Place,
+    position: Position,
     text: &[u8],
     tokens: &mut Items<Token>,
 ) -> Result<usize, LexError>
     requires some { 0 < length text.now }
     requires utf8 { IsUtf8Behind text.now }
-    requires room { place.offset + length text.now < 2 ^ 31 }
-    requires line { place.line ≤ place.offset + 1 }
-    requires column { place.column ≤ place.offset + 1 }
-    ensures ok { IfOk result (λ count. TakesUp place text.now tokens.old tokens.new count) }
-    ensures err { IfErr result (λ e. OnFault e (BeginsWith place text.now)) }
+    requires room { position.offset + length text.now < 2 ^ 31 }
+    requires line { position.line ≤ position.offset + 1 }
+    requires column { position.column ≤ position.offset + 1 }
+    ensures ok { IfOk result (λ count. TakesUp position text.now tokens.old tokens.new count) }
+    ensures err { IfErr result (λ e. OnFault e (BeginsWith position text.now)) }
 {
     match first_step(alloc, text)? {
         Step::Gap { length } => Ok(length),
         Step::Token { kind, length } => {
-            let span = place.span(length);
+            let span = position.span(length);
             tokens.push(Token { kind, span })?;
             Ok(length)
         }
@@ -115,27 +86,27 @@ fn take_up(
             number,
             before,
             length,
-        } => Err(LexError::Fault(fault_behind(number, place, &text[..before], length))),
+        } => Err(LexError::Fault(fault_after(number, position, &text[..before], length))),
     }
 }
 
 /// The tokens of a text of UTF-8.
 fn tokens_in(alloc: Global, text: &[u8]) -> Result<Lexed, LexError>
-    requires short { length text.now ≤ 1048576 }
+    requires short { length text.now ≤ longest_program }
     requires utf8 { IsUtf8 text.now }
     ensures tokens { IfOk result (λ lexed. HasTokens text.now lexed) }
     ensures fault { IfErr result (λ e. OnFault e (HasFault text.now)) }
 {
     let mut tokens = Items::new(alloc);
     let mut rest = text;
-    let mut place = Place::START;
+    let mut position = Position::START;
     'pieces: while !rest.is_empty() {
-        let count = take_up(alloc, place, rest, &mut tokens)?;
+        let count = take_up(alloc, position, rest, &mut tokens)?;
         let (piece, after) = rest.split_at(count);
-        place = place.after(piece);
+        position = position.after(piece);
         rest = after;
     }
-    let end = place.span(0);
+    let end = position.span(0);
     Ok(Lexed { tokens, end })
 }
 
@@ -144,11 +115,11 @@ pub fn lex(alloc: Global, text: &[u8]) -> Result<Lexed, LexError>
     ensures tokens { IfOk result (λ lexed. HasTokens text.now lexed) }
     ensures fault { IfErr result (λ e. OnFault e (HasFault text.now)) }
 {
-    if text.len() > LONGEST_TEXT {
-        return Err(LexError::Fault(fault_behind(LONG_PROGRAM, Place::START, &[], 0)));
+    if text.len() > LONGEST_PROGRAM {
+        return Err(LexError::Fault(fault_after(LONG_PROGRAM, Position::START, &[], 0)));
     }
     if let Some(valid) = valid_len(text) {
-        let fault = fault_behind(NOT_UTF8, Place::START, &text[..valid], 1);
+        let fault = fault_after(NOT_UTF8, Position::START, &text[..valid], 1);
         return Err(LexError::Fault(fault));
     }
     tokens_in(alloc, text)
@@ -165,6 +136,6 @@ pub fn one_fault()
 {}
 
 /// A text that spells tokens has no fault.
-pub fn tokens_or_fault()
+pub fn never_tokens_and_fault()
     ensures { (text : List ℕ) (lexed : Lexed) (fault : ProgramFault) → HasTokens text lexed → ¬ (HasFault text fault) }
 {}

@@ -3,12 +3,12 @@
 
 mod bytes;
 mod lexer;
-mod place;
+mod position;
 mod signs;
 mod step;
 mod strings;
 mod token;
 mod words;
 
-pub use lexer::{LexError, Lexed, lex, one_fault, one_reading, tokens_or_fault};
+pub use lexer::{LexError, Lexed, lex, never_tokens_and_fault, one_fault, one_reading};
 pub use token::{Sign, Token, TokenKind, Word};

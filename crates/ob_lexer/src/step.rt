@@ -23,7 +23,7 @@ pub enum Step {
         kind: TokenKind,
         length: usize,
     },
-    /// None of these: the fault's number, how many bytes stand before its place, and how many at it.
+    /// None of these: the fault's number, how many bytes stand before its position, and how many at it.
     Flaw {
         number: u16,
         before: usize,

@@ -5,11 +5,8 @@ ghost use Rattle.ob_lexer.specs.Lexing.{heard_of, text_step, string_from};
 
 use crate::TokenKind;
 use crate::step::{Step, flaw};
-use ob_base::{BAD_ESCAPE, LONG_STRING, Memory, NameError, OPEN_STRING, Text};
+use ob_base::{BAD_ESCAPE, LONG_STRING, LONGEST_STRING, Memory, NameError, OPEN_STRING, Text};
 use std::alloc::Global;
-
-/// The most bytes that a string has.
-const LONGEST_STRING: usize = 1024;
 
 /// What a byte of a string is.
 #[derive(Clone, Copy)]
@@ -22,7 +19,7 @@ pub enum Heard {
     Quote,
     /// The line ends.
     Newline,
-    /// It stands behind a backslash, and is no letter of an escape.
+    /// It stands after a backslash, and is no letter of an escape.
     NoEscape,
 }
 
@@ -69,7 +66,7 @@ fn text_step(alloc: Global, content: &[u8], length: usize) -> Result<Step, Memor
     }
 }
 
-/// The string behind an opening quote.
+/// The string after an opening quote.
 pub fn string_step(alloc: Global, text: &[u8]) -> Result<Step, Memory>
     requires { length text.now < 2 ^ 62 }
     ensures { IfOk result (λ step. step ≡ string_from false [] 0 text.now) }

@@ -4,7 +4,7 @@ ghost use Rattle.std.specs.Prelude.{◌≡◌, IfOk};
 use ob_base::{Duplicate, Memory, Name, Span, Text};
 use std::alloc::Global;
 
-/// A token of a program, with the place where it stands.
+/// A token of a program, with the position where it stands.
 #[derive(Debug, Drop)]
 pub struct Token {
     /// Which token it is, with the name, number or text that it stands for, if any.

@@ -1,8 +1,8 @@
 -- What waits for a change of state, seen as plain data.
 use Rattle.std.specs.Prelude.{Result}
 use Rattle.ob_silica.specs.Terms.{SilicaTerms}
-use Rattle.ob_lowering_slots.specs.Progress.{Stop, ◌>>=◌}
-use Rattle.ob_lowering_slots.specs.StatementCode as code
+use Rattle.ob_lower_functions.specs.Progress.{Stop, ◌>>=◌}
+use Rattle.ob_lower_functions.specs.StatementCode as code
 use Rattle.ob_lower.specs.declared.position.Waiting.{Waiting}
 use Rattle.ob_lower.specs.declared.position.Waiting.TheVariants.{Nothing, Fields, Refused}
 
@@ -12,6 +12,6 @@ waiting_of Nothing = code.none_waits
 waiting_of (Fields row) = code.row_waits row.first row.given row.slots
 waiting_of Refused = code.refused_waits
 
--- the terms of a statement that declares and stages nothing, with the position behind it
-abbrev pub then_settled : code.Position → Result SilicaTerms Stop → Result (code.Position × SilicaTerms) Stop
-then_settled q terms = terms >>= code.behind q
+-- the terms of a statement that declares and stages nothing, with the position after it
+abbrev pub then_settled : code.BlockPosition → Result SilicaTerms Stop → Result (code.BlockPosition × SilicaTerms) Stop
+then_settled q terms = terms >>= code.past_statement q

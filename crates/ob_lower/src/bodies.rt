@@ -1,29 +1,28 @@
 //! The bodies of transactions and constructors.
 ghost use Rattle.std.specs.Prelude.{◌≡◌, ◌≤◌, ◌<◌, None, Ok, IfOk, IfErr, OnOk, if◌then◌else◌};
 ghost use Rattle.ob_table.specs.StatementsView.{resolved_body_of};
-ghost use Rattle.ob_typing.specs.WellMade.{block_ends_there};
+ghost use Rattle.ob_table_spec.specs.WellFormed.{block_ends_there};
 ghost use Rattle.ob_silica.specs.Terms.{no_terms, then_terms, one_term, return_form};
 ghost use Rattle.ob_silica.specs.TermsView.{terms_of, silica_body_of};
-ghost use Rattle.ob_lowering.specs.BodyTerms.{Lowers};
-ghost use Rattle.ob_lowering.specs.SlotNeeds.{slots_run_out, IsSlotFault};
-ghost use Rattle.ob_lowering_slots.specs.StatementCode.{block_code};
-ghost use Rattle.ob_lowering_slots.specs.BodyCode.{body_of_terms, code_with, body_code};
-ghost use Rattle.ob_lower_slots.specs.Makes.{Makes};
-ghost use Rattle.ob_lower.specs.Lowering.{OnFault};
+ghost use Rattle.ob_lower_spec.specs.BodyTerms.{Lowers};
+ghost use Rattle.ob_lower_spec.specs.SlotNeeds.{slots_run_out, IsSlotFault};
+ghost use Rattle.ob_lower_functions.specs.StatementCode.{block_code};
+ghost use Rattle.ob_lower_functions.specs.BodyCode.{body_of_terms, code_with, body_code};
+ghost use Rattle.ob_lower_parts.specs.Makes.{Makes};
+ghost use Rattle.ob_base.specs.TextErrors.{OnFault};
 ghost use Rattle.ob_lower.specs.Beginning.{block_of, begins};
 
-use crate::error::LowerError;
-use crate::position::Position;
+use crate::error::{LowerError, error_of};
+use crate::position::BlockPosition;
 use crate::statements::{Branch, lower_scope};
-use ob_base::{Items, Memory, Span};
-use ob_lower_parts::{Frame, Variables, count_slots};
-use ob_lower_slots::{SLOTS_MOST, Stopped};
+use ob_base::{Items, MOST_SLOTS, Memory, Span};
+use ob_lower_parts::{StaticFrame, Stopped, Variables, count_slots};
 use ob_silica::{Form, Term, TermBody};
 use ob_table::{Body, Contract, Signature, Table};
 use std::alloc::Global;
 
 // The terms of a body: where its end is reached, it is a `return` without a value.
-#[tactic(auto, using(ob_lower_slots::proofs::CodeLemmas::terms))]
+#[tactic(auto, using(ob_lower_parts::proofs::CodeLemmas::terms))]
 fn with_ending(block: Branch, end: Span) -> Result<Items<Term>, Memory>
     ensures { IfOk result (λ ts. terms_of ts ≡ then_terms (terms_of block.terms)
         (if block.ends then no_terms else one_term (return_form None) end)) }
@@ -40,7 +39,7 @@ fn with_ending(block: Branch, end: Span) -> Result<Items<Term>, Memory>
 
 // A body with so many parameters, whose statements have these terms.
 fn body_with(body: &Body, params: usize, block: Branch) -> Result<TermBody, Stopped>
-    requires { params < 128 }
+    requires { params < MOST_SLOTS }
     ensures { Makes result silica_body_of (Ok (body_of_terms (resolved_body_of body.now) params
         (then_terms (terms_of block.terms) (if block.ends then no_terms else one_term (return_form None) body.now.end)))) }
 {
@@ -60,7 +59,7 @@ fn body_with(body: &Body, params: usize, block: Branch) -> Result<TermBody, Stop
 // The statements of a body, at whose beginning these variables are visible, which have so many slots with `this`.
 fn lower_whole(
     body: &Body,
-    frame: &Frame<'_>,
+    frame: &StaticFrame<'_>,
     variables: Variables,
     slots: u8,
     alloc: Global,
@@ -69,7 +68,7 @@ fn lower_whole(
         (block_code frame.now (block_of (resolved_body_of body.now)) (begins variables slots)) }
     ensures ends { IfOk result (λ b. b.ends ≡ block_ends_there (block_of (resolved_body_of body.now))) }
 {
-    let mut position = Position::new(variables, slots);
+    let mut position = BlockPosition::new(variables, slots);
     let statements = body.statements.as_slice();
     lower_scope(statements, body.end, frame, &mut position, alloc)
 }
@@ -87,10 +86,10 @@ fn lower_with(
         (code_with table.now own.now signature.now (resolved_body_of body.now)) }
 {
     let params = signature.params.as_slice();
-    if params.len() >= SLOTS_MOST as usize {
+    if params.len() >= MOST_SLOTS as usize {
         return Err(Stopped::Unmade);
     }
-    let frame = Frame::new(table, body.contract, own, signature);
+    let frame = StaticFrame::new(table, body.contract, own, signature);
     let variables = Variables::of_params(alloc, params)?;
     let block = lower_whole(body, &frame, variables, params.len() as u8 + 1, alloc)?;
     body_with(body, params.len(), block)
@@ -114,11 +113,11 @@ pub fn lower(alloc: Global, table: &Table, body: &Body) -> Result<TermBody, Lowe
     ensures lowered { IfOk result (λ terms. Lowers table.now (resolved_body_of body.now) (silica_body_of terms)) }
     ensures in_order { IfOk result (λ terms. body_code table.now (resolved_body_of body.now) ≡ Ok (silica_body_of terms)) }
     ensures fits { IfOk result (λ terms. slots_run_out table.now (resolved_body_of body.now) ≡ None) }
-    ensures few { IfOk result (λ terms. terms.slots ≤ 128) }
+    ensures few { IfOk result (λ terms. terms.slots ≤ MOST_SLOTS) }
     ensures fault { IfErr result (λ e. OnFault e (IsSlotFault table.now (resolved_body_of body.now))) }
 {
     match lower_body(body, table, alloc) {
         Ok(terms) => Ok(terms),
-        Err(stopped) => Err(LowerError::from(stopped)),
+        Err(stopped) => Err(error_of(stopped)),
     }
 }

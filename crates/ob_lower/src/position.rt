@@ -1,14 +1,13 @@
 //! Positions in a block.
 ghost use Rattle.std.specs.Prelude.{◌≡◌, ◌<◌, ◌-◌, length, drop, OnOk};
-ghost use Rattle.ob_lowering_slots.specs.Progress.{slots_from};
-ghost use Rattle.ob_lowering_slots.specs.StatementCode.{none_waits, settled, waits, declared, around_at, named_code};
-ghost use Rattle.ob_lower_slots.specs.Makes.{Makes};
+ghost use Rattle.ob_lower_functions.specs.Progress.{slots_from};
+ghost use Rattle.ob_lower_functions.specs.StatementCode.{none_waits, settled, waits, declared, around_at, named_code};
+ghost use Rattle.ob_lower_parts.specs.Makes.{Makes};
 ghost use Rattle.ob_lower_parts.specs.Visible.{variable_of};
 ghost use Rattle.ob_lower.specs.Waits.{waiting_of};
 
-use ob_base::{Items, Memory, Span};
-use ob_lower_parts::{Around, Frame, Variable, Variables};
-use ob_lower_slots::{Slots, Stopped};
+use ob_base::{Items, MOST_SLOTS, Memory, Span};
+use ob_lower_parts::{AroundExpression, SlotVariable, Slots, StaticFrame, Stopped, Variables};
 use ob_silica::{Given, Operand};
 use ob_table::SeenAt;
 use std::alloc::Global;
@@ -17,7 +16,7 @@ use std::mem;
 
 /// The fields of a row of staged statements, with the place of the first and the slots with the temporaries.
 #[derive(Drop)]
-pub struct Row {
+pub struct StagedRow {
     /// Where the row begins, which is the place of all its terms.
     pub first: Span,
     /// The fields that it has given so far, in the order of the text.
@@ -32,21 +31,21 @@ pub enum Waiting {
     /// Nothing: the next staged statement begins a row.
     Nothing,
     /// The fields that a row has given so far, up to the change of state that ends it.
-    Fields(Row),
+    Fields(StagedRow),
     /// Nothing, since the row is refused.
     Refused,
 }
 
 /// A position in a block: the visible variables, how many slots `this` and they have, and what waits for a change of state.
 #[derive(Drop)]
-pub struct Position {
+pub struct BlockPosition {
     variables: Variables,
     slots: u8,
     waiting: Waiting,
 }
 
-impl Model for Position {
-    ghost use Rattle.ob_lowering_slots.specs.StatementCode.{Position as Standing};
+impl Model for BlockPosition {
+    ghost use Rattle.ob_lower_functions.specs.StatementCode.{BlockPosition as Standing};
 
     ghost Value = { Standing };
 
@@ -55,12 +54,12 @@ impl Model for Position {
     ghost view = { λ q. record { variables = q.variables; slots = q.slots; waiting = waiting_of q.waiting } };
 }
 
-impl Position {
+impl BlockPosition {
     /// The position at which these variables are visible and nothing waits.
-    pub fn new(variables: Variables, slots: u8) -> Position
+    pub fn new(variables: Variables, slots: u8) -> BlockPosition
         ensures { result ≡ record { variables = variables; slots = slots; waiting = none_waits } }
     {
-        Position {
+        BlockPosition {
             variables,
             slots,
             waiting: Waiting::Nothing,
@@ -68,10 +67,10 @@ impl Position {
     }
 
     /// What stands around an expression of a statement at this place.
-    pub fn around<'a>(&'a self, frame: &'a Frame<'a>, place: Span) -> Around<'a>
+    pub fn around<'a>(&'a self, frame: &'a StaticFrame<'a>, place: Span) -> AroundExpression<'a>
         ensures { result ≡ around_at frame.now self.now place }
     {
-        Around::new(frame, &self.variables, place)
+        AroundExpression::new(frame, &self.variables, place)
     }
 
     /// How many variables are visible.
@@ -99,7 +98,7 @@ impl Position {
     pub fn named(&self, seen: SeenAt) -> Result<Operand, Stopped>
         ensures { Makes result (λ o. o) (named_code self.now seen) }
     {
-        match self.variables.place_of(seen.of) {
+        match self.variables.place_seen(seen.of) {
             None => Err(Stopped::Unmade),
             Some(place) => Ok(Operand {
                 place,
@@ -131,8 +130,8 @@ impl Position {
     }
 
     /// One more variable, which has the next slot.
-    pub fn declare(&mut self, variable: Variable) -> Result<(), Memory>
-        requires { variable.slot < 128 }
+    pub fn declare(&mut self, variable: SlotVariable) -> Result<(), Memory>
+        requires { variable.slot < MOST_SLOTS }
         ensures { OnOk result (self.new ≡ declared self.old (variable_of variable)) }
     {
         self.variables.add(variable)?;

@@ -1,18 +1,17 @@
 //! Staged statements and changes of state (the Obsidian language documentation, "States").
 ghost use Rattle.std.specs.Prelude.{◌≡◌, [], map};
 ghost use Rattle.ob_table.specs.StatementsView.{given_field_of, statements_of};
-ghost use Rattle.ob_lowering.specs.Points.{refused_at};
-ghost use Rattle.ob_lowering_slots.specs.Progress.{slots_from};
-ghost use Rattle.ob_lowering_slots.specs.StatementCode.{row_code, stage_code, given_code, change_after, change_code};
+ghost use Rattle.ob_lower_spec.specs.Points.{refused_at};
+ghost use Rattle.ob_lower_functions.specs.Progress.{slots_from};
+ghost use Rattle.ob_lower_functions.specs.StatementCode.{row_code, stage_code, given_code, change_after, change_code};
 ghost use Rattle.ob_lower.specs.Waits.{then_settled};
-ghost use Rattle.ob_lower_slots.specs.Makes.{Makes, progress};
+ghost use Rattle.ob_lower_parts.specs.Makes.{Makes, progress};
 
-use crate::position::{Position, Row, Waiting};
+use crate::position::{BlockPosition, StagedRow, Waiting};
 use crate::values::{begin_value, end_with};
 use ob_base::{Items, Span, StateId};
 use ob_lower_expressions::lower_value;
-use ob_lower_parts::{Around, Frame};
-use ob_lower_slots::{Code, Slots, Stopped};
+use ob_lower_parts::{AroundExpression, Code, Slots, StaticFrame, Stopped};
 use ob_silica::{Form, Given};
 use ob_table::{ResolvedGiven, ResolvedStmt};
 
@@ -44,12 +43,12 @@ fn refused_at(rest: &[ResolvedStmt], state: StateId, at: Span) -> Option<Span>
     Some(last)
 }
 
-// A staged statement behind these of its row.
+// A staged statement after these of its row.
 fn lower_row(
-    mut row: Row,
+    mut row: StagedRow,
     given: &ResolvedGiven,
-    frame: &Frame<'_>,
-    position: &mut Position,
+    frame: &StaticFrame<'_>,
+    position: &mut BlockPosition,
     out: &mut Code,
 ) -> Result<(), Stopped>
     ensures { Makes result (λ _. (position.new, out.new))
@@ -78,8 +77,8 @@ pub fn lower_stage(
     given: &ResolvedGiven,
     span: Span,
     rest: &[ResolvedStmt],
-    frame: &Frame<'_>,
-    position: &mut Position,
+    frame: &StaticFrame<'_>,
+    position: &mut BlockPosition,
     out: &mut Code,
 ) -> Result<(), Stopped>
     ensures { Makes result (λ _. (position.new, out.new))
@@ -107,20 +106,20 @@ pub fn lower_stage(
 }
 
 // A row that begins at this place.
-fn first_row(position: &Position, first: Span, out: &Code) -> Row
+fn first_row(position: &BlockPosition, first: Span, out: &Code) -> StagedRow
     ensures { result ≡ record { first = first; given = []; slots = slots_from position.now.slots } }
 {
-    Row {
+    StagedRow {
         first,
         given: Items::new(out.alloc()),
         slots: position.fresh_slots(out.alloc()),
     }
 }
 
-// The values of given fields from left to right, behind these.
+// The values of given fields from left to right, after these.
 fn lower_given(
     given: &[ResolvedGiven],
-    around: &Around<'_>,
+    around: &AroundExpression<'_>,
     fields: &mut Items<Given>,
     out: &mut Code,
     slots: &mut Slots,
@@ -139,13 +138,13 @@ fn lower_given(
     Ok(())
 }
 
-// A change of state behind such a row.
+// A change of state after such a row.
 fn change_after(
-    mut row: Row,
+    mut row: StagedRow,
     state: StateId,
     given: &[ResolvedGiven],
-    frame: &Frame<'_>,
-    position: &Position,
+    frame: &StaticFrame<'_>,
+    position: &BlockPosition,
     out: &mut Code,
 ) -> Result<(), Stopped>
     ensures { Makes result (λ _. out.new)
@@ -154,7 +153,7 @@ fn change_after(
     out.put(Form::Unit, row.first)?;
     let around = position.around(frame, row.first);
     lower_given(given, &around, &mut row.given, out, &mut row.slots)?;
-    let Row {
+    let StagedRow {
         first,
         given,
         slots,
@@ -168,8 +167,8 @@ pub fn lower_change(
     state: StateId,
     given: &[ResolvedGiven],
     span: Span,
-    frame: &Frame<'_>,
-    position: &mut Position,
+    frame: &StaticFrame<'_>,
+    position: &mut BlockPosition,
     out: &mut Code,
 ) -> Result<(), Stopped>
     ensures { Makes result (λ _. (position.new, out.new)) (then_settled position.old

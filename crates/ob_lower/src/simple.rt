@@ -2,54 +2,53 @@
 ghost use Rattle.std.specs.Prelude.{◌≡◌, Ok, Some, option_map, IfOk, OnOk};
 ghost use Rattle.ob_table.specs.ExpressionsView.{expression_of};
 ghost use Rattle.ob_table.specs.StatementsView.{statement_of, statements_of};
-ghost use Rattle.ob_typing.specs.WellMade.{ends_there};
+ghost use Rattle.ob_table_spec.specs.WellFormed.{ends_there};
 ghost use Rattle.ob_silica.specs.Terms.{unit_form, disown_form, assert_form};
 ghost use Rattle.ob_silica.specs.TermsView.{form_of};
-ghost use Rattle.ob_lowering.specs.StatementTerms.{set_slot, set_place};
-ghost use Rattle.ob_lowering_slots.specs.Progress.{with_term};
-ghost use Rattle.ob_lowering_slots.specs.StatementCode.{declare_code, assign_code, discard_code, condition_code};
-ghost use Rattle.ob_lowering_slots.specs.StatementCode.{return_code, revert_code, named_code, settled, statement_code};
-ghost use Rattle.ob_lower_slots.specs.Makes.{Makes};
-ghost use Rattle.ob_lower.specs.Plain.{IsPlain, about_code, empty_revert, set_seen};
+ghost use Rattle.ob_lower_spec.specs.StatementTerms.{set_slot, set_place};
+ghost use Rattle.ob_lower_functions.specs.Progress.{with_term};
+ghost use Rattle.ob_lower_functions.specs.StatementCode.{declare_code, assign_code, discard_code, condition_code};
+ghost use Rattle.ob_lower_functions.specs.StatementCode.{return_code, revert_code, named_code, settled, statement_code};
+ghost use Rattle.ob_lower_parts.specs.Makes.{Makes};
+ghost use Rattle.ob_lower.specs.Plain.{HasNoBlock, about_code, empty_revert, set_seen};
 ghost use Rattle.ob_lower.specs.Waits.{then_settled};
 
-use crate::position::Position;
+use crate::position::BlockPosition;
 use crate::rows::{lower_change, lower_stage};
 use crate::values::{begin_expression, begin_value, end_temporaries, end_with, value_alone};
 use ob_base::{Perm, Span, Text};
-use ob_lower_parts::{Around, Frame, Variable, slot_operand};
-use ob_lower_slots::{Code, Stopped};
+use ob_lower_parts::{AroundExpression, Code, SlotVariable, StaticFrame, Stopped, slot_operand};
 use ob_silica::{Constant, Form, Operand, Place};
-use ob_table::{LocalKind, ResolvedExpr, ResolvedStmt, Seen, SeenAt};
+use ob_table::{Kind, ResolvedExpr, ResolvedStmt, Seen, SeenAt};
 
 // What sets a slot of this kind.
-fn set_slot(kind: LocalKind, slot: u8, from: Operand) -> Form
+fn set_slot(kind: Kind, slot: u8, from: Operand) -> Form
     ensures { form_of result ≡ set_slot kind slot from }
 {
     let to = Place::Slot(slot);
     match kind {
-        LocalKind::Reference(contract) => Form::Move {
+        Kind::Reference(contract) => Form::Move {
             to,
             from,
             contract: Some(contract),
         },
-        LocalKind::Int | LocalKind::Bool | LocalKind::Text => Form::Copy { to, from },
+        Kind::Int | Kind::Bool | Kind::Text => Form::Copy { to, from },
     }
 }
 
 // What sets a place of this kind.
-fn set_place(kind: LocalKind, place: Place, from: Operand) -> Form
+fn set_place(kind: Kind, place: Place, from: Operand) -> Form
     ensures { form_of result ≡ set_place kind place from }
 {
     match place {
         Place::Slot(slot) => set_slot(kind, slot, from),
         Place::Field(_) => match kind {
-            LocalKind::Reference(_) => Form::Move {
+            Kind::Reference(_) => Form::Move {
                 to: place,
                 from,
                 contract: None,
             },
-            LocalKind::Int | LocalKind::Bool | LocalKind::Text => Form::Copy { to: place, from },
+            Kind::Int | Kind::Bool | Kind::Text => Form::Copy { to: place, from },
         },
         Place::This => Form::Copy { to: place, from },
     }
@@ -60,7 +59,7 @@ fn set_place(kind: LocalKind, place: Place, from: Operand) -> Form
 struct Declared {
     local: u32,
     name: Span,
-    of: LocalKind,
+    of: Kind,
 }
 
 // A declaration.
@@ -68,8 +67,8 @@ fn lower_declare(
     declared: Declared,
     value: &ResolvedExpr,
     span: Span,
-    frame: &Frame<'_>,
-    position: &mut Position,
+    frame: &StaticFrame<'_>,
+    position: &mut BlockPosition,
     out: &mut Code,
 ) -> Result<(), Stopped>
     ensures { Makes result (λ _. (position.new, out.new))
@@ -80,7 +79,7 @@ fn lower_declare(
     let slot = slots.next(declared.name)?;
     let from = begin_value(value, span, frame, position, out, &mut slots)?;
     end_with(set_slot(declared.of, slot, from), span, slots, out)?;
-    position.declare(Variable {
+    position.declare(SlotVariable {
         local: declared.local,
         kind: declared.of,
         slot,
@@ -89,10 +88,10 @@ fn lower_declare(
 }
 
 // What sets the place of a name.
-fn set_seen(seen: Seen, from: Operand, around: &Around<'_>) -> Result<Form, Stopped>
+fn set_seen(seen: Seen, from: Operand, around: &AroundExpression<'_>) -> Result<Form, Stopped>
     ensures { Makes result form_of (set_seen around.now seen from) }
 {
-    match (around.kind_of_seen(seen), around.place_of(seen)) {
+    match (around.kind_of_seen(seen), around.place_seen(seen)) {
         (Some(kind), Some(place)) => Ok(set_place(kind, place, from)),
         _ => Err(Stopped::Unmade),
     }
@@ -103,8 +102,8 @@ fn lower_assign(
     target: SeenAt,
     value: &ResolvedExpr,
     span: Span,
-    frame: &Frame<'_>,
-    position: &mut Position,
+    frame: &StaticFrame<'_>,
+    position: &mut BlockPosition,
     out: &mut Code,
 ) -> Result<(), Stopped>
     ensures { Makes result (λ _. (position.new, out.new))
@@ -122,8 +121,8 @@ fn lower_assign(
 fn lower_discard(
     value: &ResolvedExpr,
     span: Span,
-    frame: &Frame<'_>,
-    position: &mut Position,
+    frame: &StaticFrame<'_>,
+    position: &mut BlockPosition,
     out: &mut Code,
 ) -> Result<(), Stopped>
     ensures { Makes result (λ _. (position.new, out.new))
@@ -140,8 +139,8 @@ fn lower_discard(
 pub fn lower_condition(
     condition: &ResolvedExpr,
     span: Span,
-    frame: &Frame<'_>,
-    position: &mut Position,
+    frame: &StaticFrame<'_>,
+    position: &mut BlockPosition,
     out: &mut Code,
 ) -> Result<Operand, Stopped>
     ensures code { Makes result (λ o. (out.new, o))
@@ -159,8 +158,8 @@ pub fn lower_condition(
 fn return_value(
     value: &ResolvedExpr,
     span: Span,
-    frame: &Frame<'_>,
-    position: &Position,
+    frame: &StaticFrame<'_>,
+    position: &BlockPosition,
     out: &mut Code,
 ) -> Result<(), Stopped>
     ensures { Makes result (λ _. out.new)
@@ -175,8 +174,8 @@ fn return_value(
 fn lower_return(
     value: &Option<ResolvedExpr>,
     span: Span,
-    frame: &Frame<'_>,
-    position: &mut Position,
+    frame: &StaticFrame<'_>,
+    position: &mut BlockPosition,
     out: &mut Code,
 ) -> Result<(), Stopped>
     ensures { Makes result (λ _. (position.new, out.new)) (then_settled position.old
@@ -197,8 +196,8 @@ fn lower_return(
 fn revert_with(
     text: &ResolvedExpr,
     span: Span,
-    frame: &Frame<'_>,
-    position: &Position,
+    frame: &StaticFrame<'_>,
+    position: &BlockPosition,
     out: &mut Code,
 ) -> Result<(), Stopped>
     ensures { Makes result (λ _. out.new)
@@ -228,8 +227,8 @@ fn revert_empty(slot: u8, span: Span, out: &mut Code) -> Result<(), Stopped>
 fn lower_revert(
     text: &Option<ResolvedExpr>,
     span: Span,
-    frame: &Frame<'_>,
-    position: &mut Position,
+    frame: &StaticFrame<'_>,
+    position: &mut BlockPosition,
     out: &mut Code,
 ) -> Result<(), Stopped>
     ensures { Makes result (λ _. (position.new, out.new)) (then_settled position.old
@@ -250,7 +249,7 @@ fn lower_revert(
 pub fn begin_named(
     seen: SeenAt,
     span: Span,
-    position: &mut Position,
+    position: &mut BlockPosition,
     out: &mut Code,
 ) -> Result<Operand, Stopped>
     ensures named { Makes result (λ o. o) (named_code position.old seen) }
@@ -267,7 +266,7 @@ pub fn begin_named(
 fn lower_disown(
     subject: SeenAt,
     span: Span,
-    position: &mut Position,
+    position: &mut BlockPosition,
     out: &mut Code,
 ) -> Result<(), Stopped>
     ensures { Makes result (λ _. (position.new, out.new)) (about_code position.old subject disown_form span out.old) }
@@ -282,7 +281,7 @@ fn lower_assert(
     subject: SeenAt,
     perm: Perm,
     span: Span,
-    position: &mut Position,
+    position: &mut BlockPosition,
     out: &mut Code,
 ) -> Result<(), Stopped>
     ensures { Makes result (λ _. (position.new, out.new)) (about_code position.old subject
@@ -298,11 +297,11 @@ fn lower_assert(
 fn put_plain(
     statement: &ResolvedStmt,
     rest: &[ResolvedStmt],
-    frame: &Frame<'_>,
-    position: &mut Position,
+    frame: &StaticFrame<'_>,
+    position: &mut BlockPosition,
     out: &mut Code,
 ) -> Result<(), Stopped>
-    requires { IsPlain (statement_of statement.now) }
+    requires { HasNoBlock (statement_of statement.now) }
     ensures { Makes result (λ _. (position.new, out.new))
         (statement_code frame.now (statement_of statement.now) (statements_of rest.now) position.old out.old) }
 {
@@ -342,10 +341,10 @@ fn put_plain(
     }
 }
 
-// Whether nothing is reached behind a statement without blocks.
+// Whether nothing is reached after a statement without blocks.
 #[tactic(auto, using(ob_table::specs::StatementsView::statement_views))]
 fn ends_there(statement: &ResolvedStmt) -> bool
-    requires { IsPlain (statement_of statement.now) }
+    requires { HasNoBlock (statement_of statement.now) }
     ensures { result ≡ ends_there (statement_of statement.now) }
 {
     match statement {
@@ -354,15 +353,15 @@ fn ends_there(statement: &ResolvedStmt) -> bool
     }
 }
 
-/// A statement without blocks before these: whether nothing is reached behind it.
+/// A statement without blocks before these: whether nothing is reached after it.
 pub fn lower_plain(
     statement: &ResolvedStmt,
     rest: &[ResolvedStmt],
-    frame: &Frame<'_>,
-    position: &mut Position,
+    frame: &StaticFrame<'_>,
+    position: &mut BlockPosition,
     out: &mut Code,
 ) -> Result<bool, Stopped>
-    requires { IsPlain (statement_of statement.now) }
+    requires { HasNoBlock (statement_of statement.now) }
     ensures code { Makes result (λ _. (position.new, out.new))
         (statement_code frame.now (statement_of statement.now) (statements_of rest.now) position.old out.old) }
     ensures ends { IfOk result (λ ends. ends ≡ ends_there (statement_of statement.now)) }

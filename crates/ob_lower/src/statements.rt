@@ -2,24 +2,23 @@
 ghost use Rattle.std.specs.Prelude.{◌≡◌, ◌&&◌, Ok, IfOk, OnOk};
 ghost use Rattle.ob_table.specs.Statements.{resolved_block};
 ghost use Rattle.ob_table.specs.StatementsView.{statement_of, statements_of, resolved_block_of, otherwise_of};
-ghost use Rattle.ob_typing.specs.WellMade.{ends_there, one_ends_there, block_ends_there, other_ends_there};
+ghost use Rattle.ob_table_spec.specs.WellFormed.{ends_there, one_ends_there, block_ends_there, other_ends_there};
 ghost use Rattle.ob_silica.specs.TermsView.{form_of, terms_of};
-ghost use Rattle.ob_lowering.specs.StatementTerms.{join_of};
-ghost use Rattle.ob_lowering_slots.specs.Progress.{with_term};
-ghost use Rattle.ob_lowering_slots.specs.StatementCode.{settled, statement_code, statements_code};
-ghost use Rattle.ob_lowering_slots.specs.StatementCode.{block_code, otherwise_code};
-ghost use Rattle.ob_lower_slots.specs.Makes.{Makes};
+ghost use Rattle.ob_lower_spec.specs.StatementTerms.{join_of};
+ghost use Rattle.ob_lower_functions.specs.Progress.{with_term};
+ghost use Rattle.ob_lower_functions.specs.StatementCode.{settled, statement_code, statements_code};
+ghost use Rattle.ob_lower_functions.specs.StatementCode.{block_code, otherwise_code};
+ghost use Rattle.ob_lower_parts.specs.Makes.{Makes};
 
-use crate::position::Position;
+use crate::position::BlockPosition;
 use crate::simple::{begin_named, lower_condition, lower_plain};
 use ob_base::{Items, Span};
-use ob_lower_parts::Frame;
-use ob_lower_slots::{Code, Stopped, end_block};
+use ob_lower_parts::{Code, StaticFrame, Stopped, end_block};
 use ob_silica::{Form, Term};
 use ob_table::{ResolvedBlock, ResolvedStmt};
 use std::alloc::Global;
 
-/// The terms of a block, and whether nothing is reached behind it.
+/// The terms of a block, and whether nothing is reached after it.
 #[derive(Drop)]
 pub struct Branch {
     /// Its terms, in the order in which they are done.
@@ -39,7 +38,7 @@ fn join_of(then: &ResolvedBlock, otherwise: &Option<ResolvedBlock>) -> Span
     }
 }
 
-// A form with two branches: whether nothing is reached behind it, as where both end.
+// A form with two branches: whether nothing is reached after it, as where both end.
 fn put_branches(
     form: Form,
     first_ends: bool,
@@ -54,14 +53,14 @@ fn put_branches(
     Ok(first_ends && second_ends)
 }
 
-// A statement before these: whether nothing is reached behind it.
+// A statement before these: whether nothing is reached after it.
 #[cycle(lower_statement)]
 #[tactic(auto, using(ob_table::specs::StatementsView::statement_views))]
 fn lower_statement(
     statement: &ResolvedStmt,
     rest: &[ResolvedStmt],
-    frame: &Frame<'_>,
-    position: &mut Position,
+    frame: &StaticFrame<'_>,
+    position: &mut BlockPosition,
     out: &mut Code,
 ) -> Result<bool, Stopped>
     ensures code { Makes result (λ _. (position.new, out.new))
@@ -109,13 +108,13 @@ fn lower_statement(
     }
 }
 
-// Statements: whether nothing is reached behind them.
+// Statements: whether nothing is reached after them.
 #[cycle(lower_statement)]
 #[tactic(auto, using(ob_table::specs::StatementsView::statement_views))]
 fn lower_statements(
     statements: &[ResolvedStmt],
-    frame: &Frame<'_>,
-    position: &mut Position,
+    frame: &StaticFrame<'_>,
+    position: &mut BlockPosition,
     out: &mut Code,
 ) -> Result<bool, Stopped>
     ensures code { Makes result (λ _. (position.new, out.new))
@@ -138,8 +137,8 @@ fn lower_statements(
 pub fn lower_scope(
     statements: &[ResolvedStmt],
     end: Span,
-    frame: &Frame<'_>,
-    position: &mut Position,
+    frame: &StaticFrame<'_>,
+    position: &mut BlockPosition,
     alloc: Global,
 ) -> Result<Branch, Stopped>
     ensures code { Makes result (λ b. terms_of b.terms)
@@ -164,8 +163,8 @@ pub fn lower_scope(
 #[tactic(auto, using(ob_table::specs::StatementsView::statement_views))]
 fn lower_block(
     block: &ResolvedBlock,
-    frame: &Frame<'_>,
-    position: &mut Position,
+    frame: &StaticFrame<'_>,
+    position: &mut BlockPosition,
     alloc: Global,
 ) -> Result<Branch, Stopped>
     ensures code { Makes result (λ b. terms_of b.terms)
@@ -186,8 +185,8 @@ fn lower_block(
 #[tactic(auto, using(ob_table::specs::StatementsView::statement_views))]
 fn lower_otherwise(
     otherwise: &Option<ResolvedBlock>,
-    frame: &Frame<'_>,
-    position: &mut Position,
+    frame: &StaticFrame<'_>,
+    position: &mut BlockPosition,
     alloc: Global,
 ) -> Result<Branch, Stopped>
     ensures code { Makes result (λ b. terms_of b.terms)

@@ -3,27 +3,26 @@ ghost use Rattle.std.specs.Prelude.{◌≡◌, OnOk};
 ghost use Rattle.ob_table.specs.ExpressionsView.{expression_of};
 ghost use Rattle.ob_silica.specs.Terms.{then_terms};
 ghost use Rattle.ob_silica.specs.TermsView.{form_of};
-ghost use Rattle.ob_lowering.specs.Points.{drops};
-ghost use Rattle.ob_lowering_slots.specs.Progress.{ended};
-ghost use Rattle.ob_lowering_slots.specs.ExpressionCode.{expression_code, value_code};
-ghost use Rattle.ob_lowering_slots.specs.StatementCode.{around_at, begun};
-ghost use Rattle.ob_lower_slots.specs.Makes.{Makes, progress};
+ghost use Rattle.ob_lower_spec.specs.Points.{drops};
+ghost use Rattle.ob_lower_functions.specs.Progress.{ended};
+ghost use Rattle.ob_lower_functions.specs.ExpressionCode.{expression_code, value_code};
+ghost use Rattle.ob_lower_functions.specs.StatementCode.{around_at, begun};
+ghost use Rattle.ob_lower_parts.specs.Makes.{Makes, progress};
 ghost use Rattle.ob_lower.specs.Plain.{alone_code};
 
-use crate::position::Position;
+use crate::position::BlockPosition;
 use ob_base::{Memory, Span};
 use ob_lower_expressions::{lower_expression, lower_value};
-use ob_lower_parts::Frame;
-use ob_lower_slots::{Code, Slots, Stopped, drop_temporaries};
+use ob_lower_parts::{Code, Slots, StaticFrame, Stopped, drop_temporaries};
 use ob_silica::{Form, Operand};
 use ob_table::ResolvedExpr;
 
-/// An expression with which a statement begins, behind a unit of fuel.
+/// An expression with which a statement begins, after a unit of fuel.
 pub fn begin_expression(
     e: &ResolvedExpr,
     span: Span,
-    frame: &Frame<'_>,
-    position: &Position,
+    frame: &StaticFrame<'_>,
+    position: &BlockPosition,
     out: &mut Code,
     slots: &mut Slots,
 ) -> Result<Option<Operand>, Stopped>
@@ -35,12 +34,12 @@ pub fn begin_expression(
     lower_expression(e, &around, out, slots)
 }
 
-/// An expression that must have a value, with which a statement begins, behind a unit of fuel.
+/// An expression that must have a value, with which a statement begins, after a unit of fuel.
 pub fn begin_value(
     e: &ResolvedExpr,
     span: Span,
-    frame: &Frame<'_>,
-    position: &Position,
+    frame: &StaticFrame<'_>,
+    position: &BlockPosition,
     out: &mut Code,
     slots: &mut Slots,
 ) -> Result<Operand, Stopped>
@@ -71,8 +70,8 @@ pub fn end_with(form: Form, span: Span, slots: Slots, out: &mut Code) -> Result<
 pub fn value_alone(
     e: &ResolvedExpr,
     span: Span,
-    frame: &Frame<'_>,
-    position: &Position,
+    frame: &StaticFrame<'_>,
+    position: &BlockPosition,
     out: &mut Code,
 ) -> Result<Operand, Stopped>
     ensures { Makes result (λ o. (out.new, o)) (alone_code frame.now (expression_of e.now) span position.now out.old) }

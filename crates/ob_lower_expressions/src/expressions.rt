@@ -1,19 +1,19 @@
 //! Expressions (the Obsidian language documentation, "Expressions").
 ghost use Rattle.std.specs.Prelude.{[]};
 ghost use Rattle.ob_table.specs.Expressions.{resolved_unary, resolved_new};
-ghost use Rattle.ob_table.specs.ExpressionsView.{expression_of, arguments_of, called as call_at};
+ghost use Rattle.ob_table.specs.ExpressionsView.{expression_of, arguments_of, call_at_span as call_at};
 ghost use Rattle.ob_silica.specs.TermsView.{terms_of};
-ghost use Rattle.ob_lowering_slots.specs.ExpressionCode.{expression_code, arguments_code, value_code};
-ghost use Rattle.ob_lower_slots.specs.Makes.{Makes, progress};
-ghost use Rattle.ob_lower_expressions.specs.Parts.{right_code, binary_code};
+ghost use Rattle.ob_lower_functions.specs.ExpressionCode.{expression_code, arguments_code, value_code};
+ghost use Rattle.ob_lower_parts.specs.Makes.{Makes, progress};
+ghost use Rattle.ob_lower_expressions.specs.Parts.{right_code, binary_code, logical_rest};
 
-use ob_base::{ContractId, Items, Operator, Span};
+use ob_base::{ContractId, Items, Span};
 use ob_lower_parts::{
-    Around, Sign, lower_leaf, lower_receiver, put_call, put_choice, put_new, put_operation, valued,
+    AroundExpression, Code, Sign, Slots, Stopped, lower_leaf, lower_receiver, put_call, put_choice,
+    put_new, put_operation, valued,
 };
-use ob_lower_slots::{Code, Slots, Stopped};
-use ob_silica::{Form, Operand, Place, Term};
-use ob_table::{ResolvedCall, ResolvedExpr};
+use ob_silica::{Form, Operand, Place, SilicaOperator, Term};
+use ob_table::{BinaryOperator, LogicalOperator, ResolvedCall, ResolvedExpr, UnaryOperator};
 use std::alloc::Global;
 
 /// An expression: the operand that stands for its value, if it has one.
@@ -21,7 +21,7 @@ use std::alloc::Global;
 #[tactic(auto, using(crate::proofs::ExpressionsLemmas::expressions))]
 pub fn lower_expression(
     e: &ResolvedExpr,
-    around: &Around<'_>,
+    around: &AroundExpression<'_>,
     out: &mut Code,
     slots: &mut Slots,
 ) -> Result<Option<Operand>, Stopped>
@@ -34,13 +34,7 @@ pub fn lower_expression(
             sign,
             operand,
             span,
-        } => {
-            let sign = Sign {
-                operator: *operator,
-                span: *sign,
-            };
-            lower_unary(operand.get(), sign, *span, around, out, slots)
-        }
+        } => { lower_unary(operand.get(), *operator, *sign, *span, around, out, slots) }
         ResolvedExpr::Binary {
             operator,
             sign,
@@ -48,12 +42,36 @@ pub fn lower_expression(
             right,
             span,
         } => {
-            let sign = Sign {
-                operator: *operator,
-                span: *sign,
-            };
             let left = lower_value(left.get(), around, out, slots)?;
-            lower_binary(right.get(), left, sign, *span, around, out, slots)
+            lower_binary(
+                right.get(),
+                left,
+                *operator,
+                *sign,
+                *span,
+                around,
+                out,
+                slots,
+            )
+        }
+        ResolvedExpr::Logical {
+            operator,
+            sign,
+            left,
+            right,
+            span,
+        } => {
+            let first = lower_value(left.get(), around, out, slots)?;
+            lower_logical(
+                right.get(),
+                first,
+                *operator,
+                *sign,
+                *span,
+                around,
+                out,
+                slots,
+            )
         }
         ResolvedExpr::Call { call, span } => lower_call(call, *span, around, out, slots),
         ResolvedExpr::New {
@@ -70,7 +88,7 @@ pub fn lower_expression(
 #[tactic(auto, using(crate::proofs::ExpressionsLemmas::expressions))]
 pub fn lower_value(
     e: &ResolvedExpr,
-    around: &Around<'_>,
+    around: &AroundExpression<'_>,
     out: &mut Code,
     slots: &mut Slots,
 ) -> Result<Operand, Stopped>
@@ -85,7 +103,7 @@ pub fn lower_value(
 #[tactic(auto, using(crate::proofs::ExpressionsLemmas::expressions))]
 fn lower_args(
     args: &[ResolvedExpr],
-    around: &Around<'_>,
+    around: &AroundExpression<'_>,
     out: &mut Code,
     slots: &mut Slots,
 ) -> Result<Items<Operand>, Stopped>
@@ -104,7 +122,7 @@ fn lower_args(
 fn lower_call(
     call: &ResolvedCall,
     span: Span,
-    around: &Around<'_>,
+    around: &AroundExpression<'_>,
     out: &mut Code,
     slots: &mut Slots,
 ) -> Result<Option<Operand>, Stopped>
@@ -122,7 +140,7 @@ fn lower_new(
     args: &[ResolvedExpr],
     contract: ContractId,
     span: Span,
-    around: &Around<'_>,
+    around: &AroundExpression<'_>,
     out: &mut Code,
     slots: &mut Slots,
 ) -> Result<Option<Operand>, Stopped>
@@ -138,27 +156,32 @@ fn lower_new(
 #[tactic(auto, using(crate::proofs::ExpressionsLemmas::expressions))]
 fn lower_unary(
     operand: &ResolvedExpr,
-    sign: Sign,
+    operator: UnaryOperator,
+    sign: Span,
     span: Span,
-    around: &Around<'_>,
+    around: &AroundExpression<'_>,
     out: &mut Code,
     slots: &mut Slots,
 ) -> Result<Option<Operand>, Stopped>
     ensures { Makes result (λ o. (progress out.new slots.new, o))
-        (expression_code around.now (resolved_unary sign.operator sign.span (expression_of operand.now) span)
+        (expression_code around.now (resolved_unary operator sign (expression_of operand.now) span)
         (progress out.old slots.old)) }
 {
     let a = lower_value(operand, around, out, slots)?;
+    let sign = Sign {
+        operator: SilicaOperator::Unary(operator),
+        span: sign,
+    };
     put_operation(sign, a, a, span, around, out, slots)
 }
 
-// The right side of an operator that stops early: terms of their own, whose value is copied into the left side's temporary.
+// The right side of `&&` or `||`: terms of their own, whose value is copied into the left side's temporary.
 #[cycle(lower_expression)]
 #[tactic(auto, using(crate::proofs::ExpressionsLemmas::expressions))]
 fn lower_right(
     right: &ResolvedExpr,
     to: Place,
-    around: &Around<'_>,
+    around: &AroundExpression<'_>,
     alloc: Global,
     slots: &mut Slots,
 ) -> Result<Items<Term>, Stopped>
@@ -167,47 +190,61 @@ fn lower_right(
 {
     let mut branch = Code::new(alloc);
     let from = lower_value(right, around, &mut branch, slots)?;
-    branch.put(Form::Copy { to, from }, around.place())?;
+    branch.put(Form::Copy { to, from }, around.span())?;
     Ok(branch.into_terms())
 }
 
-// The rest of an operator with two operands behind the left one.
+// The rest of an operator that needs both operands, after the left one.
 #[cycle(lower_expression)]
 #[tactic(auto, using(crate::proofs::ExpressionsLemmas::expressions))]
 fn lower_binary(
     right: &ResolvedExpr,
     left: Operand,
-    sign: Sign,
+    operator: BinaryOperator,
+    sign: Span,
     span: Span,
-    around: &Around<'_>,
+    around: &AroundExpression<'_>,
     out: &mut Code,
     slots: &mut Slots,
 ) -> Result<Option<Operand>, Stopped>
     ensures { Makes result (λ o. (progress out.new slots.new, o))
-        (binary_code around.now sign.operator sign.span span (expression_of right.now)
+        (binary_code around.now operator sign span (expression_of right.now)
+        (progress out.old slots.old, left)) }
+{
+    let right = lower_value(right, around, out, slots)?;
+    let sign = Sign {
+        operator: SilicaOperator::Binary(operator),
+        span: sign,
+    };
+    put_operation(sign, left, right, span, around, out, slots)
+}
+
+// The rest of `&&` or `||` after the left operand.
+#[cycle(lower_expression)]
+#[tactic(auto, using(crate::proofs::ExpressionsLemmas::expressions))]
+fn lower_logical(
+    right: &ResolvedExpr,
+    left: Operand,
+    operator: LogicalOperator,
+    sign: Span,
+    span: Span,
+    around: &AroundExpression<'_>,
+    out: &mut Code,
+    slots: &mut Slots,
+) -> Result<Option<Operand>, Stopped>
+    ensures { Makes result (λ o. (progress out.new slots.new, o))
+        (logical_rest around.now operator sign span (expression_of right.now)
         (progress out.old slots.old, left)) }
 {
     let alloc = out.alloc();
-    match sign.operator {
-        Operator::And => {
+    match operator {
+        LogicalOperator::And => {
             let then = lower_right(right, left.place, around, alloc, slots)?;
-            put_choice(left, then, Items::new(alloc), sign.span, span, around, out)
+            put_choice(left, then, Items::new(alloc), sign, span, around, out)
         }
-        Operator::Or => {
+        LogicalOperator::Or => {
             let otherwise = lower_right(right, left.place, around, alloc, slots)?;
-            put_choice(
-                left,
-                Items::new(alloc),
-                otherwise,
-                sign.span,
-                span,
-                around,
-                out,
-            )
-        }
-        _ => {
-            let right = lower_value(right, around, out, slots)?;
-            put_operation(sign, left, right, span, around, out, slots)
+            put_choice(left, Items::new(alloc), otherwise, sign, span, around, out)
         }
     }
 }

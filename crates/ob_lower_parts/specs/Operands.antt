@@ -1,14 +1,14 @@
--- Operands, and operators behind their operands.
+-- Operands, and operators after their operands.
 use Rattle.std.specs.Prelude.{⊤, ℕ, Option, Some, false, Result, Ok}
 use Rattle.ob_base.specs.declared.fault.Span.{Span}
-use Rattle.ob_base.specs.declared.operator.Operator.{Operator}
-use Rattle.ob_table.specs.Expressions.{Expression, resolved_number, resolved_text, resolved_bool, resolved_seen, resolved_unary, resolved_binary, resolved_call, resolved_new}
+use Rattle.ob_table.specs.Expressions.{Expression, resolved_number, resolved_text, resolved_bool, resolved_seen, resolved_unary, resolved_binary, resolved_logical, resolved_call, resolved_new}
 use Rattle.ob_silica.specs.Terms.{SilicaForm, SilicaTerms, op_form, if_form}
 use Rattle.ob_silica.specs.declared.place.Operand.{Operand}
-use Rattle.ob_lowering.specs.Points.{Around}
-use Rattle.ob_lowering.specs.ExpressionTerms.{operand, slot_operand}
-use Rattle.ob_lowering_slots.specs.Progress.{Stop, ◌>>=◌, Progress, with_term, into_slot}
-use Rattle.ob_lowering_slots.specs.ExpressionCode.{value}
+use Rattle.ob_silica.specs.declared.term.SilicaOperator.{SilicaOperator}
+use Rattle.ob_lower_spec.specs.Points.{AroundExpression}
+use Rattle.ob_lower_spec.specs.ExpressionTerms.{operand, slot_operand}
+use Rattle.ob_lower_functions.specs.Progress.{Stop, ◌>>=◌, Progress, with_term, into_slot}
+use Rattle.ob_lower_functions.specs.ExpressionCode.{value}
 
 -- an expression without parts
 abbrev pub IsLeaf : Expression → Type 0
@@ -18,6 +18,7 @@ IsLeaf (resolved_bool truth span) = ⊤
 IsLeaf (resolved_seen seen span) = ⊤
 IsLeaf (resolved_unary operator sign e span) = ⊥
 IsLeaf (resolved_binary operator sign left right span) = ⊥
+IsLeaf (resolved_logical operator sign left right span) = ⊥
 IsLeaf (resolved_call receiver contract tx name args span) = ⊥
 IsLeaf (resolved_new contract args span) = ⊥
 
@@ -26,14 +27,14 @@ abbrev pub with_value : Result (Progress × Operand) Stop → Result (Progress �
 with_value made = made >>= value
 
 -- a term that sets this slot, which stands for the expression at this place
-abbrev pub set_code : Around → ℕ → SilicaForm → Span → SilicaTerms → Result (SilicaTerms × Option Operand) Stop
-set_code a k form span out = Ok (with_term out form a.place, Some (slot_operand k span))
+abbrev pub set_code : AroundExpression → ℕ → SilicaForm → Span → SilicaTerms → Result (SilicaTerms × Option Operand) Stop
+set_code a k form span out = Ok (with_term out form a.span, Some (slot_operand k span))
 
 -- the value of an operator with these operands
-abbrev pub operation_code : Around → Operator → Span → Span → Operand → Operand → Progress → Result (Progress × Operand) Stop
+abbrev pub operation_code : AroundExpression → SilicaOperator → Span → Span → Operand → Operand → Progress → Result (Progress × Operand) Stop
 operation_code a operator sign span left right p = into_slot a false span (λ k. op_form k operator left right sign.line) p
 
--- an operator that stops early, with its left side's temporary and the terms for each value of it
-abbrev pub choice_code : Around → Span → Span → Operand → SilicaTerms → SilicaTerms → SilicaTerms → Result (SilicaTerms × Option Operand) Stop
+-- `&&` or `||`, with its left side's temporary and the terms for each value of it
+abbrev pub choice_code : AroundExpression → Span → Span → Operand → SilicaTerms → SilicaTerms → SilicaTerms → Result (SilicaTerms × Option Operand) Stop
 choice_code a sign span left branch other out =
-    Ok (with_term out (if_form left branch other sign) a.place, Some (operand left.place span))
+    Ok (with_term out (if_form left branch other sign) a.span, Some (operand left.place span))

@@ -4,6 +4,7 @@ ghost use Rattle.ob_silica.specs.Slots.{slots_of_place, slots_of_operand, slots_
 ghost use Rattle.ob_silica.specs.Slots.{slots_of_result, slots_of_returned, slots_of_form, slots_of_terms, slots_of};
 ghost use Rattle.ob_silica.specs.TermsView.{form_of, terms_of};
 
+use ob_base::MOST_SLOTS;
 use ob_silica::{Form, Given, Operand, Place, Term};
 
 // One more than the slot of a place.
@@ -122,7 +123,7 @@ fn of_terms(terms: &[Term]) -> usize
 
 /// One more than the greatest slot among `this`, so many parameters, and the slots that these terms name.
 pub fn count_slots(params: usize, terms: &[Term]) -> usize
-    requires { params < 128 }
+    requires { params < MOST_SLOTS }
     ensures { result ≡ slots_of params (terms_of terms.now) }
 {
     (params + 1).max(of_terms(terms))

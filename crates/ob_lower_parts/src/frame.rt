@@ -2,27 +2,27 @@
 ghost use Rattle.std.specs.Prelude.{◌≡◌, option_map};
 ghost use Rattle.std.specs.Option.{option_and_then};
 ghost use Rattle.ob_table.specs.Tables.{signature_of};
-ghost use Rattle.ob_typing.specs.WellMade.{frame_of, kind_of_seen, kind_of_table};
-ghost use Rattle.ob_lowering.specs.Points.{locals_of, place_of};
-ghost use Rattle.ob_lowering_slots.specs.ExpressionCode.{kind_of_result};
+ghost use Rattle.ob_table_spec.specs.WellFormed.{frame_of, kind_of_seen, kind_of_resolved};
+ghost use Rattle.ob_lower_spec.specs.Points.{locals_of, place_seen};
+ghost use Rattle.ob_lower_functions.specs.ExpressionCode.{kind_of_result};
 
 use crate::variables::Variables;
 use ob_base::{ContractId, Span, TxId};
 use ob_silica::Place;
-use ob_table::{Contract, Kind, LocalKind, Seen, Signature, Table};
+use ob_table::{Contract, Kind, ResolvedType, Seen, Signature, Table};
 use std::marker::Model;
 
 /// The table, the body's contract with its number, and the body's signature.
 #[derive(Drop)]
-pub struct Frame<'a> {
+pub struct StaticFrame<'a> {
     table: &'a Table,
     here: ContractId,
     own: &'a Contract,
     signature: &'a Signature,
 }
 
-impl<'a> Model for Frame<'a> {
-    ghost use Rattle.ob_typing.specs.WellMade.{Frame as Standing};
+impl<'a> Model for StaticFrame<'a> {
+    ghost use Rattle.ob_table_spec.specs.WellFormed.{StaticFrame as Standing};
     ghost use Rattle.std.specs.Coded.{codes};
     ghost use Rattle.ob_table.specs.StatementsBack.{statements_code};
     ghost use Rattle.ob_table.specs.contracts.stmt.ResolvedStmt as statement;
@@ -31,34 +31,34 @@ impl<'a> Model for Frame<'a> {
 
     ghost coded = { Prim.hlevel (codes, statements_code statement.the_row.coded) };
 
-    ghost use Rattle.ob_typing.specs.WellMade.{frame_of};
+    ghost use Rattle.ob_table_spec.specs.WellFormed.{frame_of};
 
     ghost view = { λ f. frame_of f.table.now f.here f.own.now f.signature.now };
 }
 
 /// The kind of a type, without its permission.
-pub fn kind_of_table(kind: &Kind) -> LocalKind
-    ensures { result ≡ kind_of_table kind.now }
+pub fn kind_of_resolved(kind: &ResolvedType) -> Kind
+    ensures { result ≡ kind_of_resolved kind.now }
 {
     match kind {
-        Kind::Int => LocalKind::Int,
-        Kind::Bool => LocalKind::Bool,
-        Kind::Text => LocalKind::Text,
-        Kind::Reference(contract, _) => LocalKind::Reference(*contract),
+        ResolvedType::Int => Kind::Int,
+        ResolvedType::Bool => Kind::Bool,
+        ResolvedType::Text => Kind::Text,
+        ResolvedType::Reference(contract, _) => Kind::Reference(*contract),
     }
 }
 
-impl<'a> Frame<'a> {
+impl<'a> StaticFrame<'a> {
     /// Around a body of this contract, which has this number, with this signature.
     pub fn new(
         table: &'a Table,
         here: ContractId,
         own: &'a Contract,
         signature: &'a Signature,
-    ) -> Frame<'a>
+    ) -> StaticFrame<'a>
         ensures { result ≡ frame_of table.now here own.now signature.now }
     {
-        Frame {
+        StaticFrame {
             table,
             here,
             own,
@@ -69,14 +69,14 @@ impl<'a> Frame<'a> {
 
 /// What stands around an expression: the body's frame, what is visible, and the place of its terms.
 #[derive(Drop)]
-pub struct Around<'a> {
-    frame: &'a Frame<'a>,
+pub struct AroundExpression<'a> {
+    frame: &'a StaticFrame<'a>,
     variables: &'a Variables,
-    place: Span,
+    span: Span,
 }
 
-impl<'a> Model for Around<'a> {
-    ghost use Rattle.ob_lowering.specs.Points.{Around as Standing};
+impl<'a> Model for AroundExpression<'a> {
+    ghost use Rattle.ob_lower_spec.specs.Points.{AroundExpression as Standing};
     ghost use Rattle.std.specs.Coded.{codes};
     ghost use Rattle.ob_table.specs.StatementsBack.{statements_code};
     ghost use Rattle.ob_table.specs.contracts.stmt.ResolvedStmt as statement;
@@ -85,30 +85,34 @@ impl<'a> Model for Around<'a> {
 
     ghost coded = { Prim.hlevel (codes, statements_code statement.the_row.coded) };
 
-    ghost view = { λ a. record { frame = a.frame.now; variables = a.variables.now; place = a.place } };
+    ghost view = { λ a. record { frame = a.frame.now; variables = a.variables.now; span = a.span } };
 }
 
-impl<'a> Around<'a> {
+impl<'a> AroundExpression<'a> {
     /// Around an expression of a statement at this place.
-    pub fn new(frame: &'a Frame<'a>, variables: &'a Variables, place: Span) -> Around<'a>
-        ensures { result ≡ record { frame = frame.now; variables = variables.now; place = place } }
+    pub fn new(
+        frame: &'a StaticFrame<'a>,
+        variables: &'a Variables,
+        span: Span,
+    ) -> AroundExpression<'a>
+        ensures { result ≡ record { frame = frame.now; variables = variables.now; span = span } }
     {
-        Around {
+        AroundExpression {
             frame,
             variables,
-            place,
+            span,
         }
     }
 
     /// The place of the expression's terms.
-    pub fn place(&self) -> Span
-        ensures { result ≡ self.now.place }
+    pub fn span(&self) -> Span
+        ensures { result ≡ self.now.span }
     {
-        self.place
+        self.span
     }
 
     /// The kind of the result of a transaction, if it has one.
-    pub fn kind_of_result(&self, contract: ContractId, tx: TxId) -> Option<LocalKind>
+    pub fn kind_of_result(&self, contract: ContractId, tx: TxId) -> Option<Kind>
         ensures { result ≡ kind_of_result self.now contract tx }
     {
         let frame = self.frame;
@@ -118,31 +122,31 @@ impl<'a> Around<'a> {
                 None => None,
                 Some(signature) => match &signature.result {
                     None => None,
-                    Some(kind) => Some(kind_of_table(kind)),
+                    Some(kind) => Some(kind_of_resolved(kind)),
                 },
             },
         }
     }
 
     /// The kind of what a name stands for.
-    pub fn kind_of_seen(&self, seen: Seen) -> Option<LocalKind>
+    pub fn kind_of_seen(&self, seen: Seen) -> Option<Kind>
         ensures { result ≡ kind_of_seen self.now.frame (locals_of self.now.variables) seen }
     {
         let frame = self.frame;
         match seen {
-            Seen::This => Some(LocalKind::Reference(frame.here)),
+            Seen::This => Some(Kind::Reference(frame.here)),
             Seen::Local(local) => self.variables.kind_of(local),
             Seen::Field(id) => match frame.own.field(id) {
                 None => None,
-                Some(field) => Some(kind_of_table(&field.of)),
+                Some(field) => Some(kind_of_resolved(&field.of)),
             },
         }
     }
 
     /// Where what a name stands for is found.
-    pub fn place_of(&self, seen: Seen) -> Option<Place>
-        ensures { result ≡ place_of self.now.variables seen }
+    pub fn place_seen(&self, seen: Seen) -> Option<Place>
+        ensures { result ≡ place_seen self.now.variables seen }
     {
-        self.variables.place_of(seen)
+        self.variables.place_seen(seen)
     }
 }

@@ -1,13 +1,13 @@
 //! Expressions without parts (the Obsidian language documentation, "Expressions").
 ghost use Rattle.ob_table.specs.ExpressionsView.{expression_of};
-ghost use Rattle.ob_lowering_slots.specs.ExpressionCode.{expression_code};
-ghost use Rattle.ob_lower_slots.specs.Makes.{Makes, progress};
+ghost use Rattle.ob_lower_functions.specs.ExpressionCode.{expression_code};
+ghost use Rattle.ob_lower_parts.specs.Makes.{Makes, progress};
 ghost use Rattle.ob_lower_parts.specs.Operands.{IsLeaf};
 
-use crate::frame::Around;
+use crate::frame::AroundExpression;
 use crate::names::lower_seen;
 use crate::operands::{lower_constant, lower_text};
-use ob_lower_slots::{Code, Slots, Stopped};
+use crate::{Code, Slots, Stopped};
 use ob_silica::{Constant, Operand};
 use ob_table::ResolvedExpr;
 
@@ -15,7 +15,7 @@ use ob_table::ResolvedExpr;
 #[tactic(auto, using(ob_table::specs::ExpressionsView::expression_views))]
 pub fn lower_leaf(
     e: &ResolvedExpr,
-    around: &Around<'_>,
+    around: &AroundExpression<'_>,
     out: &mut Code,
     slots: &mut Slots,
 ) -> Result<Option<Operand>, Stopped>
@@ -34,6 +34,7 @@ pub fn lower_leaf(
         ResolvedExpr::Seen { seen, span } => lower_seen(seen.of, *span, around, out, slots),
         ResolvedExpr::Unary { .. }
         | ResolvedExpr::Binary { .. }
+        | ResolvedExpr::Logical { .. }
         | ResolvedExpr::Call { .. }
         | ResolvedExpr::New { .. } => unreachable!(),
     }

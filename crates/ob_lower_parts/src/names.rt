@@ -1,21 +1,21 @@
 //! Names (the Obsidian language documentation, "Expressions").
-ghost use Rattle.ob_typing.specs.WellMade.{is_reference};
-ghost use Rattle.ob_lowering_slots.specs.ExpressionCode.{name_code, seen_code, receiver_code};
-ghost use Rattle.ob_lower_slots.specs.Makes.{Makes, progress};
+ghost use Rattle.ob_table_spec.specs.WellFormed.{is_reference};
+ghost use Rattle.ob_lower_functions.specs.ExpressionCode.{name_code, seen_code, receiver_code};
+ghost use Rattle.ob_lower_parts.specs.Makes.{Makes, progress};
 ghost use Rattle.ob_lower_parts.specs.Operands.{with_value};
 
-use crate::frame::Around;
+use crate::frame::AroundExpression;
 use crate::operands::{is_reference, put_into};
+use crate::{Code, Slots, Stopped};
 use ob_base::Span;
-use ob_lower_slots::{Code, Slots, Stopped};
 use ob_silica::{Form, Operand, Place};
-use ob_table::{LocalKind, Seen, SeenAt};
+use ob_table::{Kind, Seen, SeenAt};
 
 // A name of this kind, which stands for this place.
 fn lower_name(
-    kind: LocalKind,
+    kind: Kind,
     from: Operand,
-    around: &Around<'_>,
+    around: &AroundExpression<'_>,
     out: &mut Code,
     slots: &mut Slots,
 ) -> Result<Option<Operand>, Stopped>
@@ -34,7 +34,7 @@ fn lower_name(
 pub fn lower_seen(
     seen: Seen,
     span: Span,
-    around: &Around<'_>,
+    around: &AroundExpression<'_>,
     out: &mut Code,
     slots: &mut Slots,
 ) -> Result<Option<Operand>, Stopped>
@@ -44,7 +44,7 @@ pub fn lower_seen(
     let Some(kind) = around.kind_of_seen(seen) else {
         return Err(Stopped::Unmade);
     };
-    let Some(place) = around.place_of(seen) else {
+    let Some(place) = around.place_seen(seen) else {
         return Err(Stopped::Unmade);
     };
     lower_name(kind, Operand { place, span }, around, out, slots)
@@ -53,13 +53,13 @@ pub fn lower_seen(
 /// The receiver of a call, if it has one.
 pub fn lower_receiver(
     receiver: Option<SeenAt>,
-    around: &Around<'_>,
+    around: &AroundExpression<'_>,
 ) -> Result<Option<Operand>, Stopped>
     ensures { Makes result (λ o. o) (receiver_code around.now receiver) }
 {
     match receiver {
         None => Ok(None),
-        Some(receiver) => match around.place_of(receiver.of) {
+        Some(receiver) => match around.place_seen(receiver.of) {
             None => Err(Stopped::Unmade),
             Some(place) => Ok(Some(Operand {
                 place,

@@ -1,19 +1,19 @@
 //! Operands, and values that are written in the text.
 ghost use Rattle.std.specs.Prelude.{◌≡◌, OnOk};
-ghost use Rattle.ob_typing.specs.WellMade.{is_reference};
+ghost use Rattle.ob_table_spec.specs.WellFormed.{is_reference};
 ghost use Rattle.ob_silica.specs.TermsView.{form_of};
 ghost use Rattle.ob_silica.specs.declared.place.Constant.TheVariants.{Text as text_constant};
-ghost use Rattle.ob_lowering.specs.ExpressionTerms.{slot_operand};
-ghost use Rattle.ob_lowering_slots.specs.Progress.{found, kept};
-ghost use Rattle.ob_lowering_slots.specs.ExpressionCode.{constant_code};
-ghost use Rattle.ob_lower_slots.specs.Makes.{Makes, progress};
+ghost use Rattle.ob_lower_spec.specs.ExpressionTerms.{slot_operand};
+ghost use Rattle.ob_lower_functions.specs.Progress.{found, kept};
+ghost use Rattle.ob_lower_functions.specs.ExpressionCode.{constant_code};
+ghost use Rattle.ob_lower_parts.specs.Makes.{Makes, progress};
 ghost use Rattle.ob_lower_parts.specs.Operands.{with_value, set_code};
 
-use crate::frame::Around;
+use crate::frame::AroundExpression;
+use crate::{Code, Slots, Stopped};
 use ob_base::{Duplicate, Memory, Span, Text};
-use ob_lower_slots::{Code, Slots, Stopped};
 use ob_silica::{Constant, Form, Operand, Place};
-use ob_table::LocalKind;
+use ob_table::Kind;
 
 /// A slot that stands for a part of the text.
 pub fn slot_operand(slot: u8, span: Span) -> Operand
@@ -36,10 +36,10 @@ pub fn valued(operand: Option<Operand>) -> Result<Operand, Stopped>
 }
 
 /// Whether a kind is that of references.
-pub fn is_reference(kind: LocalKind) -> bool
+pub fn is_reference(kind: Kind) -> bool
     ensures { result ≡ is_reference kind }
 {
-    matches!(kind, LocalKind::Reference(_))
+    matches!(kind, Kind::Reference(_))
 }
 
 /// A slot is kept to be dropped, if it is a reference.
@@ -57,13 +57,13 @@ pub fn put_into(
     slot: u8,
     form: Form,
     span: Span,
-    around: &Around<'_>,
+    around: &AroundExpression<'_>,
     out: &mut Code,
 ) -> Result<Option<Operand>, Stopped>
     ensures { Makes result (λ o. (out.new, o))
         (set_code around.now slot (form_of form) span out.old) }
 {
-    out.put(form, around.place())?;
+    out.put(form, around.span())?;
     Ok(Some(slot_operand(slot, span)))
 }
 
@@ -71,7 +71,7 @@ pub fn put_into(
 pub fn lower_constant(
     constant: Constant,
     span: Span,
-    around: &Around<'_>,
+    around: &AroundExpression<'_>,
     out: &mut Code,
     slots: &mut Slots,
 ) -> Result<Option<Operand>, Stopped>
@@ -87,7 +87,7 @@ pub fn lower_constant(
 pub fn lower_text(
     text: &Text,
     span: Span,
-    around: &Around<'_>,
+    around: &AroundExpression<'_>,
     out: &mut Code,
     slots: &mut Slots,
 ) -> Result<Option<Operand>, Stopped>

@@ -1,19 +1,19 @@
-//! Operators behind their operands (the Obsidian language documentation, "Expressions").
+//! Operators after their operands (the Obsidian language documentation, "Expressions").
 ghost use Rattle.ob_silica.specs.TermsView.{terms_of};
-ghost use Rattle.ob_lower_slots.specs.Makes.{Makes, progress};
+ghost use Rattle.ob_lower_parts.specs.Makes.{Makes, progress};
 ghost use Rattle.ob_lower_parts.specs.Operands.{with_value, operation_code, choice_code};
 
-use crate::frame::Around;
+use crate::frame::AroundExpression;
 use crate::operands::put_into;
-use ob_base::{Items, Operator, Span};
-use ob_lower_slots::{Code, Slots, Stopped};
-use ob_silica::{Form, Operand, Term};
+use crate::{Code, Slots, Stopped};
+use ob_base::{Items, Span};
+use ob_silica::{Form, Operand, SilicaOperator, Term};
 
 /// A binary operator or a unary one, and its place.
 #[derive(Clone, Copy)]
 pub struct Sign {
     /// Which operator it is.
-    pub operator: Operator,
+    pub operator: SilicaOperator,
     /// Where its sign stands in the text: the term of the operation keeps the line.
     pub span: Span,
 }
@@ -24,7 +24,7 @@ pub fn put_operation(
     a: Operand,
     b: Operand,
     span: Span,
-    around: &Around<'_>,
+    around: &AroundExpression<'_>,
     out: &mut Code,
     slots: &mut Slots,
 ) -> Result<Option<Operand>, Stopped>
@@ -42,14 +42,14 @@ pub fn put_operation(
     put_into(slot, form, span, around, out)
 }
 
-/// The value of an operator that stops early, with these terms for each value of its left side.
+/// The value of `&&` or `||`, with these terms for each value of its left side.
 pub fn put_choice(
     left: Operand,
     then: Items<Term>,
     otherwise: Items<Term>,
     sign: Span,
     span: Span,
-    around: &Around<'_>,
+    around: &AroundExpression<'_>,
     out: &mut Code,
 ) -> Result<Option<Operand>, Stopped>
     ensures { Makes result (λ o. (out.new, o))
@@ -61,7 +61,7 @@ pub fn put_choice(
         otherwise,
         join: sign,
     };
-    out.put(form, around.place())?;
+    out.put(form, around.span())?;
     Ok(Some(Operand {
         place: left.place,
         span,

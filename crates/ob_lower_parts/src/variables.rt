@@ -1,25 +1,25 @@
 //! The variables that are visible.
 ghost use Rattle.std.specs.Prelude.{◌≡◌, ◌<◌, ◌-◌, ◌∷◌, length, drop, option_map, IfOk, OnOk};
 ghost use Rattle.std.specs.Option.{option_copied};
-ghost use Rattle.ob_typing.specs.WellMade.{local_kind};
-ghost use Rattle.ob_lowering.specs.Points.{locals_of, place_of};
-ghost use Rattle.ob_lowering.specs.BodyTerms.{params_from};
+ghost use Rattle.ob_table_spec.specs.WellFormed.{local_kind};
+ghost use Rattle.ob_lower_spec.specs.Points.{locals_of, place_seen};
+ghost use Rattle.ob_lower_spec.specs.BodyTerms.{params_from};
 ghost use Rattle.ob_lower_parts.specs.Visible.{variable_of, newest_first, variable_at};
 
-use crate::frame::kind_of_table;
-use ob_base::Memory;
+use crate::frame::kind_of_resolved;
+use ob_base::{MOST_SLOTS, Memory};
 use ob_silica::Place;
-use ob_table::{LocalKind, Param, Seen};
+use ob_table::{Kind, Param, Seen};
 use std::alloc::Global;
 use std::marker::Model;
 
 /// A variable that is visible: its number, its kind, and its slot.
 #[derive(Clone, Copy, PartialEq, Eq, Debug)]
-pub struct Variable {
+pub struct SlotVariable {
     /// Its number in the body, from 1: the parameters beside `this` come first.
     pub local: u32,
     /// The kind of its value, without a permission.
-    pub kind: LocalKind,
+    pub kind: Kind,
     /// The slot that its value is in, from 1 to 127.
     pub slot: u8,
 }
@@ -27,12 +27,12 @@ pub struct Variable {
 /// The variables that are visible, the last declared last.
 #[derive(Drop)]
 pub struct Variables {
-    items: Vec<Variable>,
+    items: Vec<SlotVariable>,
 }
 
 impl Model for Variables {
     ghost use Rattle.std.specs.Prelude.{List};
-    ghost use Rattle.ob_lowering.specs.Points.{Variable as Point};
+    ghost use Rattle.ob_lower_spec.specs.Points.{SlotVariable as Point};
     ghost use Rattle.ob_lower_parts.specs.Visible.{newest_first};
 
     ghost Value = { List Point };
@@ -42,7 +42,7 @@ impl Model for Variables {
 
 // The variable of this number among these, of which the last declared is the last.
 #[tactic(auto, using(crate::proofs::VariablesLemmas::variables))]
-fn find(variables: &[Variable], local: u32) -> Option<&Variable>
+fn find(variables: &[SlotVariable], local: u32) -> Option<&SlotVariable>
     ensures { option_map variable_of (option_copied result) ≡ variable_at (newest_first variables.now) local }
 {
     for index in (0..variables.len()).rev() {
@@ -58,14 +58,14 @@ impl Variables {
     /// The parameters beside `this`, each with the slot of its number.
     #[tactic(auto, using(crate::proofs::VariablesLemmas::variables))]
     pub fn of_params(alloc: Global, params: &[Param]) -> Result<Variables, Memory>
-        requires { length params.now < 128 }
+        requires { length params.now < MOST_SLOTS }
         ensures { IfOk result (λ vs. vs ≡ params_from 1 params.now) }
     {
         let mut items = Vec::new(alloc);
         for index in (0..params.len()).rev() {
-            items.push(Variable {
+            items.push(SlotVariable {
                 local: index as u32 + 1,
-                kind: kind_of_table(&params[index].of),
+                kind: kind_of_resolved(&params[index].of),
                 slot: index as u8 + 1,
             })?;
         }
@@ -74,7 +74,7 @@ impl Variables {
 
     /// One more variable.
     #[tactic(auto, using(crate::proofs::VariablesLemmas::variables))]
-    pub fn add(&mut self, variable: Variable) -> Result<(), Memory>
+    pub fn add(&mut self, variable: SlotVariable) -> Result<(), Memory>
         ensures { OnOk result (self.new ≡ variable_of variable ∷ self.old) }
     {
         self.items.push(variable)?;
@@ -99,7 +99,7 @@ impl Variables {
 
     /// The kind of the variable of this number.
     #[tactic(auto, using(crate::proofs::VariablesLemmas::found))]
-    pub fn kind_of(&self, local: u32) -> Option<LocalKind>
+    pub fn kind_of(&self, local: u32) -> Option<Kind>
         ensures { result ≡ local_kind (locals_of self.now) local }
     {
         match find(self.items.as_slice(), local) {
@@ -110,8 +110,8 @@ impl Variables {
 
     /// Where what a name stands for is found.
     #[tactic(auto, using(crate::proofs::VariablesLemmas::found))]
-    pub fn place_of(&self, seen: Seen) -> Option<Place>
-        ensures { result ≡ place_of self.now seen }
+    pub fn place_seen(&self, seen: Seen) -> Option<Place>
+        ensures { result ≡ place_seen self.now seen }
     {
         match seen {
             Seen::This => Some(Place::This),

@@ -1,14 +1,14 @@
 -- That the rows of the loops over fields, members and contracts have tokens.
 use Rattle.std.proofs.Common.{ℕ, ◌<◌, []}
-use Rattle.ob_grammar.specs.MemberRows.{field, member, interface_member, contract}
-use Rattle.ob_grammar.specs.NameReaders.{read_named}
-use Rattle.ob_grammar.specs.MemberReaders.{types, read_field}
-use Rattle.ob_grammar.specs.ContractReaders.{member_first, read_member, promise_first, read_interface_member, contract_first, read_contract}
-use Rattle.ob_grammar.specs.AllReaders.{all_refs, all_blocks}
-use Rattle.ob_grammar.proofs.FieldLaws.{field_laws}
-use Rattle.ob_grammar.proofs.MemberLaws.{member_laws, interface_member_laws}
-use Rattle.ob_grammar.proofs.ContractLaws.{contract_laws}
-use Rattle.ob_grammar.proofs.BlockLaws.{all_refs_laws, all_named_laws, all_blocks_laws}
+use Rattle.ob_parser_spec.specs.MemberRows.{field, member, interface_member, contract}
+use Rattle.ob_parser_spec.specs.NameReaders.{read_named}
+use Rattle.ob_parser_spec.specs.MemberReaders.{types, read_field}
+use Rattle.ob_parser_spec.specs.ContractReaders.{member_first, read_member, promise_first, read_interface_member, contract_first, read_contract}
+use Rattle.ob_parser_spec.specs.AllReaders.{all_refs, all_blocks}
+use Rattle.ob_parser_spec.proofs.FieldLaws.{field_laws}
+use Rattle.ob_parser_spec.proofs.MemberLaws.{member_laws, interface_member_laws}
+use Rattle.ob_parser_spec.proofs.ContractLaws.{contract_laws}
+use Rattle.ob_parser_spec.proofs.BlockLaws.{all_refs_laws, all_named_laws, all_blocks_laws}
 use Rattle.ob_parser_names.proofs.Loops.{Consumes, consumes}
 
 module _ (room : ℕ) (less : room < 256) where

@@ -10,11 +10,11 @@
 ghost use Rattle.std.specs.Prelude.{◌≡◌, map, option_map};
 ghost use Rattle.ob_tree.specs.NamesView.{named_of};
 ghost use Rattle.ob_tree.specs.MembersView.{member_of, contract_of};
-ghost use Rattle.ob_grammar.specs.Readers.{read_as, read_many};
-ghost use Rattle.ob_grammar.specs.NameReaders.{read_named};
-ghost use Rattle.ob_grammar.specs.ContractReaders.{member_first, read_member, promise_first, read_interface_member, read_flag, read_bound, read_generic, read_maybe_generic, read_title, read_body, read_implements, read_contract_kind, read_interface_kind, read_kind, contract_of as made_contract, read_main, read_other, read_contract};
-ghost use Rattle.ob_grammar.specs.AllReaders.{all_refs, all_blocks, all_programs};
-ghost use Rattle.ob_grammar.specs.StmtReaders.{read_sign};
+ghost use Rattle.ob_parser_spec.specs.Readers.{read_as, read_many};
+ghost use Rattle.ob_parser_spec.specs.NameReaders.{read_named};
+ghost use Rattle.ob_parser_spec.specs.ContractReaders.{member_first, read_member, promise_first, read_interface_member, read_flag, read_bound, read_generic, read_maybe_generic, read_title, read_body, read_implements, read_contract_kind, read_interface_kind, read_kind, contract_of as made_contract, read_main, read_other, read_contract};
+ghost use Rattle.ob_parser_spec.specs.AllReaders.{all_refs, all_blocks, all_programs};
+ghost use Rattle.ob_parser_spec.specs.StmtReaders.{read_sign};
 ghost use Rattle.ob_lexer.specs.declared.token.Sign.TheVariants.{CloseBrace};
 ghost use Rattle.ob_parser.specs.Parts.{title_part, body_parts, kind_part};
 ghost use Rattle.ob_parser_names.specs.Answering.{Answers, as_it_is};
@@ -23,7 +23,7 @@ use crate::members::{interface_member, member};
 use ob_base::{Items, Mode, Span};
 use ob_lexer::{Sign, Token, Word};
 use ob_parser_names::{
-    Halt, Symbol, before, fixed, mode_word, name_part, named, place_between, starts_with,
+    Halt, Symbol, before, fixed, mode_word, name_part, named, span_between, starts_with,
     starts_with_one_of, with,
 };
 use ob_tree::{ContractNode, Member, NamePart, NamedNode, ParamNode};
@@ -116,7 +116,7 @@ fn generic(alloc: Global, tokens: &[Token]) -> Result<(ParamNode, &[Token]), Hal
             name,
             perm,
             bound,
-            span: place_between(tokens, rest),
+            span: span_between(tokens, rest),
         },
         rest,
     ))
@@ -347,7 +347,7 @@ fn contract(alloc: Global, room: u8, tokens: &[Token]) -> Result<(ContractNode, 
     other_contract(alloc, room, tokens)
 }
 
-/// `program`, and what is behind it.
+/// `program`, and what is after it.
 pub fn program(
     alloc: Global,
     room: u8,

@@ -8,16 +8,16 @@
 //! transaction = ["private" ["(" listed {"," listed} ")"]] head block
 //! ```
 //!
-//! The members of an interface are states without fields and heads, with `;` behind each.
+//! The members of an interface are states without fields and heads, with `;` after each.
 
 ghost use Rattle.std.specs.Prelude.{◌≡◌, map, option_map};
 ghost use Rattle.ob_tree.specs.NamesView.{ref_of, type_of};
 ghost use Rattle.ob_tree.specs.MembersView.{field_of, member_of};
-ghost use Rattle.ob_grammar.specs.Readers.{◌>>=◌ as ◌then◌, done, name_if, read_token, read_both, read_many};
-ghost use Rattle.ob_grammar.specs.MemberReaders.{types, field_of as made_field, read_states, read_available, read_field, read_result, read_head};
-ghost use Rattle.ob_grammar.specs.ContractReaders.{read_braced, read_fields, read_state, read_privacy, read_transaction, read_value_field, read_constructed, read_held, read_member_tail, member_behind, read_behind_ref, read_member, read_bare_state, read_promise, read_interface_member};
-ghost use Rattle.ob_grammar.specs.AllReaders.{all_refs, all_blocks};
-ghost use Rattle.ob_grammar.specs.StmtReaders.{read_sign};
+ghost use Rattle.ob_parser_spec.specs.Readers.{◌>>=◌ as ◌then◌, done, name_if, read_token, read_both, read_many};
+ghost use Rattle.ob_parser_spec.specs.MemberReaders.{types, field_of as made_field, read_states, read_available, read_field, read_result, read_head};
+ghost use Rattle.ob_parser_spec.specs.ContractReaders.{read_braced, read_fields, read_state, read_privacy, read_transaction, read_value_field, read_constructed, read_held, read_member_tail, member_after, read_after_ref, read_member, read_bare_state, read_promise, read_interface_member};
+ghost use Rattle.ob_parser_spec.specs.AllReaders.{all_refs, all_blocks};
+ghost use Rattle.ob_parser_spec.specs.StmtReaders.{read_sign};
 ghost use Rattle.ob_lexer.specs.declared.token.Sign.TheVariants.{Semicolon};
 ghost use Rattle.ob_parser.specs.Parts.{access_part, head_part, tail_part};
 ghost use Rattle.ob_parser_names.specs.Answering.{Answers, as_it_is};
@@ -26,7 +26,7 @@ use ob_base::{Items, Span};
 use ob_lexer::{Sign, Token, Word};
 use ob_parser_names::{
     Halt, Symbol, TYPES, VALUE_TYPES, before, ended, fixed, listed_part, name_list, name_part,
-    params, place_between, reference, starts_with, starts_with_one_of, type_node, value_type, with,
+    params, reference, span_between, starts_with, starts_with_one_of, type_node, value_type, with,
 };
 use ob_parser_statements::block;
 use ob_tree::{Block, FieldNode, FormalNode, ListedNode, Member, NamePart, RefNode, TypeNode};
@@ -47,7 +47,7 @@ struct HeadPart {
     result: Option<TypeNode>,
 }
 
-/// What stands behind `named "@" perm`: the rest of a constructor or of a field.
+/// What stands after `named "@" perm`: the rest of a constructor or of a field.
 #[derive(Drop)]
 enum TailPart {
     Constructed {
@@ -87,7 +87,7 @@ fn available(alloc: Global, tokens: &[Token]) -> Result<(Items<NamePart>, &[Toke
     states(alloc, tokens)
 }
 
-/// `NAME ["available" "in" NAME {"," NAME}] ";"`, behind the type of the field.
+/// `NAME ["available" "in" NAME {"," NAME}] ";"`, after the type of the field.
 fn field_of_type(
     alloc: Global,
     of: TypeNode,
@@ -177,7 +177,7 @@ fn state(alloc: Global, room: u8, tokens: &[Token]) -> Result<(Member, &[Token])
     let (_, rest) = fixed(Symbol::Word(Word::State), tokens)?;
     let (name, rest) = name_part(alloc, rest)?;
     let (name, fields, rest) = with(name, state_fields(alloc, room, rest))?;
-    let span = place_between(tokens, rest);
+    let span = span_between(tokens, rest);
     Ok((Member::State { name, fields, span }, rest))
 }
 
@@ -271,7 +271,7 @@ fn transaction(alloc: Global, room: u8, tokens: &[Token]) -> Result<(Member, &[T
             params: head.params,
             result: head.result,
             body: Some(body),
-            span: place_between(tokens, rest),
+            span: span_between(tokens, rest),
         },
         rest,
     ))
@@ -323,7 +323,7 @@ fn held(alloc: Global, tokens: &[Token]) -> Result<(TailPart, &[Token]), Halt>
     )
 }
 
-/// What stands behind `named "@" perm`.
+/// What stands after `named "@" perm`.
 fn tail(alloc: Global, room: u8, tokens: &[Token]) -> Result<(TailPart, &[Token]), Halt>
     ensures { Answers tail_part result (read_member_tail (all_refs room) (all_blocks room) tokens.now) }
 {
@@ -334,8 +334,8 @@ fn tail(alloc: Global, room: u8, tokens: &[Token]) -> Result<(TailPart, &[Token]
 }
 
 /// The constructor or the field that these parts make.
-fn member_behind(of: RefNode, tail: TailPart, span: Span) -> Member
-    ensures { member_of result ≡ member_behind ((ref_of of, tail_part tail), span) }
+fn member_after(of: RefNode, tail: TailPart, span: Span) -> Member
+    ensures { member_of result ≡ member_after ((ref_of of, tail_part tail), span) }
 {
     match tail {
         TailPart::Constructed { params, body } => Member::Constructor {
@@ -354,13 +354,13 @@ fn member_behind(of: RefNode, tail: TailPart, span: Span) -> Member
 }
 
 /// `field | constructor`, where a name comes first.
-fn behind_reference(alloc: Global, room: u8, tokens: &[Token]) -> Result<(Member, &[Token]), Halt>
-    ensures { Answers member_of result (read_behind_ref (all_refs room) (all_blocks room) tokens.now) }
+fn after_reference(alloc: Global, room: u8, tokens: &[Token]) -> Result<(Member, &[Token]), Halt>
+    ensures { Answers member_of result (read_after_ref (all_refs room) (all_blocks room) tokens.now) }
 {
     let (of, rest) = reference(alloc, room, tokens)?;
     let (of, tail, rest) = with(of, tail(alloc, room, rest))?;
-    let span = place_between(tokens, rest);
-    Ok((member_behind(of, tail, span), rest))
+    let span = span_between(tokens, rest);
+    Ok((member_after(of, tail, span), rest))
 }
 
 // ---- members
@@ -379,7 +379,7 @@ pub fn member(alloc: Global, room: u8, tokens: &[Token]) -> Result<(Member, &[To
         let (field, rest) = value_field(alloc, tokens)?;
         return Ok((Member::Field(field), rest));
     }
-    behind_reference(alloc, room, tokens)
+    after_reference(alloc, room, tokens)
 }
 
 /// `"state" NAME ";" | head ";"`

@@ -1,36 +1,26 @@
 //! The tree of a program, or its first fault.
 
 ghost use Rattle.std.specs.Prelude.{◌≡◌, IfOk, IfErr};
+ghost use Rattle.ob_base.specs.Limits.{most_open};
 ghost use Rattle.ob_tree.specs.MembersView.{tree_of};
-ghost use Rattle.ob_grammar.specs.Grammar.{HasTree, HasSyntaxFault};
-ghost use Rattle.ob_grammar.specs.AllReaders.{all_programs};
-ghost use Rattle.ob_parser.specs.Parsing.{OnFault, AnswersWhole, place_at, error_at};
+ghost use Rattle.ob_parser_spec.specs.Grammar.{HasTree, HasSyntaxFault};
+ghost use Rattle.ob_parser_spec.specs.AllReaders.{all_programs};
+ghost use Rattle.ob_parser.specs.Parsing.{AnswersWhole, span_at, error_at};
+ghost use Rattle.ob_base.specs.TextErrors.{OnFault};
 
 use crate::contracts::program;
-use ob_base::{EXPECTED, ProgramFault, Span, TOO_DEEP};
+use ob_base::{EXPECTED, MOST_OPEN, ProgramFault, Span, TOO_DEEP, TextError};
 use ob_lexer::Token;
 use ob_parser_names::{Halt, refused};
 use ob_tree::Tree;
 use std::alloc::Global;
-use thiserror::Error;
-
-/// How many parts may be open inside one another.
-const ROOM: u8 = 64;
 
 /// Why tokens became no tree.
-#[derive(Clone, Copy, PartialEq, Eq, Debug, Error)]
-pub enum ParseError {
-    /// The first fault.
-    #[error("the tokens have no tree")]
-    Fault(ProgramFault),
-    /// Memory ran out.
-    #[error("out of memory")]
-    Memory,
-}
+pub type ParseError = TextError;
 
-/// The place of the first of so many last tokens, or the end behind them all.
-fn place_of(tokens: &[Token], end: Span, left: usize) -> Span
-    ensures { result ≡ place_at tokens.now end left }
+/// The place of the first of so many last tokens, or the end after them all.
+fn span_of(tokens: &[Token], end: Span, left: usize) -> Span
+    ensures { result ≡ span_at tokens.now end left }
 {
     let before = tokens.len().saturating_sub(left);
     match &tokens[before..] {
@@ -46,21 +36,21 @@ fn error_of(halt: Halt, tokens: &[Token], end: Span) -> ParseError
     match halt {
         Halt::Expected { left } => ParseError::Fault(ProgramFault {
             number: EXPECTED,
-            span: place_of(tokens, end, left),
+            span: span_of(tokens, end, left),
         }),
         Halt::TooDeep { left } => ParseError::Fault(ProgramFault {
             number: TOO_DEEP,
-            span: place_of(tokens, end, left),
+            span: span_of(tokens, end, left),
         }),
         Halt::Memory => ParseError::Memory,
     }
 }
 
-/// `program`, with nothing behind it.
+/// `program`, with nothing after it.
 fn whole_program(alloc: Global, tokens: &[Token]) -> Result<Tree, Halt>
-    ensures { AnswersWhole result (all_programs 64 tokens.now) }
+    ensures { AnswersWhole result (all_programs most_open tokens.now) }
 {
-    let (contracts, rest) = program(alloc, ROOM, tokens)?;
+    let (contracts, rest) = program(alloc, MOST_OPEN, tokens)?;
     if !rest.is_empty() {
         return Err(refused(rest));
     }
@@ -68,7 +58,7 @@ fn whole_program(alloc: Global, tokens: &[Token]) -> Result<Tree, Halt>
 }
 
 /// The tree that a program's tokens spell, or the first fault: the first token with which they begin no program, or
-/// with which too many parts are open. `end` is the place behind the tokens.
+/// with which too many parts are open. `end` is the place after the tokens.
 pub fn parse(alloc: Global, tokens: &[Token], end: Span) -> Result<Tree, ParseError>
     ensures tree { IfOk result (λ tree. HasTree tokens.now (tree_of tree)) }
     ensures fault { IfErr result (λ e. OnFault e (HasSyntaxFault tokens.now end)) }

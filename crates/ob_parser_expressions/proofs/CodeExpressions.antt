@@ -6,31 +6,31 @@ use Rattle.ob_base.specs.declared.fault.Span.{Span}
 use Rattle.ob_base.specs.declared.operator.Operator.{Operator}
 use Rattle.ob_lexer.specs.declared.token.Token.{Token}
 use Rattle.ob_lexer.specs.declared.token.Sign.TheVariants.{OpenParen, CloseParen, Comma}
-use Rattle.ob_tree.specs.Exprs.{Expr, binary_expr, place_of}
+use Rattle.ob_tree.specs.Exprs.{Expr, binary_expr, span_of_expr}
 use Rattle.ob_tree.specs.ExprsView.{expr_of, exprs_of}
 use Rattle.ob_tree.specs.declared.expr.Expr as made
-use Rattle.ob_grammar.specs.Rows.{joined}
-use Rattle.ob_grammar.specs.ExprRows.{expr}
-use Rattle.ob_grammar.specs.Readers.{Read, done, stop, deep, Reader, ◌>>=◌, begin_with, behind, open_if, read_opened, read_maybe, read_many_from, place_between}
-use Rattle.ob_grammar.specs.NameReaders.{on, read_item, read_parted, read_counted}
-use Rattle.ob_grammar.specs.Operators.{operator_if, signs_of_level}
-use Rattle.ob_grammar.specs.Chains.{Counted, Step, count_after, with_step, with_steps, steps_of, maybe_of, read_step, read_chain, read_single}
-use Rattle.ob_grammar.specs.ExprReaders.{unary_if, unary_signs, negated}
-use Rattle.ob_grammar.specs.Primaries.{expr_first, grouped, read_group, arguments_of, read_arguments, read_primary}
-use Rattle.ob_grammar.specs.AllReaders.{all_refs, all_unary, all_counted, all_exprs}
+use Rattle.ob_parser_spec.specs.Rows.{joined}
+use Rattle.ob_parser_spec.specs.ExprRows.{expr}
+use Rattle.ob_parser_spec.specs.Readers.{Read, done, stop, deep, Reader, ◌>>=◌, begin_with, and_after, open_if, read_opened, read_maybe, read_many_from, span_between}
+use Rattle.ob_parser_spec.specs.NameReaders.{on, read_item, read_parted, read_counted}
+use Rattle.ob_parser_spec.specs.Operators.{operator_if, signs_of_level}
+use Rattle.ob_parser_spec.specs.Chains.{Counted, Step, count_after, with_step, with_steps, steps_of, maybe_of, read_step, read_chain, read_single}
+use Rattle.ob_parser_spec.specs.ExprReaders.{unary_if, unary_signs, negated}
+use Rattle.ob_parser_spec.specs.Primaries.{expr_first, grouped, read_group, arguments_of, read_arguments, read_primary}
+use Rattle.ob_parser_spec.specs.AllReaders.{all_refs, all_unary, all_counted, all_exprs}
 use Rattle.ob_parser_expressions.specs.declared.levels.Level.{Level}
 use Rattle.ob_parser_expressions.specs.declared.levels.Level.TheVariants.{Or, And, Equality, Relation, Sum, Product}
 use Rattle.ob_parser_names.specs.declared.halt.Halt.{Halt}
 use Rattle.ob_parser_names.specs.declared.halt.Halt.TheVariants as halt
 use Rattle.ob_parser_expressions.specs.Levels.{number_of_level, repeats, read_row, read_operand, read_further}
 use Rattle.ob_parser_names.specs.Answering.{Halts, Answers, prefixed}
-use Rattle.ob_grammar.proofs.Laws.{Laws, Case, is_done, is_stop, is_deep, case_of}
-use Rattle.ob_grammar.proofs.Lists.{behind_sign, item_laws}
-use Rattle.ob_grammar.proofs.Chains.{at_level}
-use Rattle.ob_grammar.proofs.ExprLaws.{after_operand, row_1, row_2, row_3, row_4, row_5, row_6}
-use Rattle.ob_grammar.proofs.DepthLaws.{unary_all, after_expr}
-use Rattle.ob_grammar.proofs.Arguments.{expr_laws}
-use Rattle.ob_grammar.proofs.Deeper.{unary_step}
+use Rattle.ob_parser_spec.proofs.Laws.{Laws, Case, is_done, is_stop, is_deep, case_of}
+use Rattle.ob_parser_spec.proofs.Lists.{after_sign, item_laws}
+use Rattle.ob_parser_spec.proofs.Chains.{at_level}
+use Rattle.ob_parser_spec.proofs.ExprLaws.{after_operand, row_1, row_2, row_3, row_4, row_5, row_6}
+use Rattle.ob_parser_spec.proofs.DepthLaws.{unary_all, after_expr}
+use Rattle.ob_parser_spec.proofs.Arguments.{expr_laws}
+use Rattle.ob_parser_spec.proofs.Deeper.{unary_step}
 use Rattle.ob_parser_names.proofs.Halts.{halts_bind}
 use Rattle.ob_parser_names.proofs.Loops.{Consumes, consumes, one_more_from, none_from, halts_from}
 
@@ -53,10 +53,10 @@ module _ (room : ℕ) (less : room < 256) where
   operand_consumes Product = consumes room (at_level 7) _ expr_first _ (below room (omega arith))
 
 module _ {A B : Type 0} (more room : ℕ) (p : ℕ → Reader B) where
-  fewer_behind : (x : A) (t : Token) (ts : List Token) (y : A × B) (rest : List Token) → Consumes (p (room - more)) → Case (p (room - more) ts) → (p (room - more) ts >>= (λ z left. done (x, z) left)) ≡ done y rest → length rest < length (t ∷ ts)
-  fewer_behind x t ts y rest c (is_stop left e) is = absurd (let wrong : stop left ≡ done y rest = ap (λ r. r >>= (λ z l. done (x, z) l)) (sym e) ∙ is in cc)
-  fewer_behind x t ts y rest c (is_deep left e) is = absurd (let wrong : deep left ≡ done y rest = ap (λ r. r >>= (λ z l. done (x, z) l)) (sym e) ∙ is in cc)
-  fewer_behind x t ts y rest c (is_done z mid e) is =
+  fewer_after : (x : A) (t : Token) (ts : List Token) (y : A × B) (rest : List Token) → Consumes (p (room - more)) → Case (p (room - more) ts) → (p (room - more) ts >>= (λ z left. done (x, z) left)) ≡ done y rest → length rest < length (t ∷ ts)
+  fewer_after x t ts y rest c (is_stop left e) is = absurd (let wrong : stop left ≡ done y rest = ap (λ r. r >>= (λ z l. done (x, z) l)) (sym e) ∙ is in cc)
+  fewer_after x t ts y rest c (is_deep left e) is = absurd (let wrong : deep left ≡ done y rest = ap (λ r. r >>= (λ z l. done (x, z) l)) (sym e) ∙ is in cc)
+  fewer_after x t ts y rest c (is_done z mid e) is =
       let same : done (x, z) mid ≡ done y rest = ap (λ r. r >>= (λ z l. done (x, z) l)) (sym e) ∙ is in
       let left : mid ≡ rest = cc in
       let fewer : length mid < length ts = c.fewer ts z mid e in
@@ -65,7 +65,7 @@ module _ {A B : Type 0} (more room : ℕ) (p : ℕ → Reader B) where
   fewer_in : (o : Option A) (t : Token) (ts : List Token) (y : A × B) (rest : List Token) → Consumes (p (room - more)) → open_if o more room p t ts ≡ done y rest → length rest < length (t ∷ ts)
   fewer_in None t ts y rest c is = absurd cc
   fewer_in (Some x) t ts y rest c is = elim (cases_Bool (nat_le more room)) [
-    | inl does ↦ fewer_behind x t ts y rest c (case_of (p (room - more) ts)) (rw does at is)
+    | inl does ↦ fewer_after x t ts y rest c (case_of (p (room - more) ts)) (rw does at is)
     | inr fails ↦ absurd (let wrong : deep (t ∷ ts) ≡ done y rest = rw fails at is in cc)
   ]
 
@@ -78,7 +78,7 @@ step_consumes level room less n = record {
   fewer = λ ts y rest is. fewer_opened (n + 1) room (read_operand level) (operator_if (number_of_level level)) ts y rest (operand_consumes (room - (n + 1)) (omega (arith, less)) level) is;
 }
 
--- how many tokens are left behind an operator and its operand
+-- how many tokens are left after an operator and its operand
 pub fewer_left : (level : Level) (room : ℕ) → room < 256 → (ts rest : List Token) (x : Step) → read_opened (operator_if (number_of_level level)) 1 room (read_operand level) ts ≡ done x rest → length rest < length ts
 fewer_left level room less ts rest x is = fewer_opened 1 room (read_operand level) (operator_if (number_of_level level)) ts x rest (operand_consumes (room - 1) (omega (arith, less)) level) is
 
@@ -90,14 +90,14 @@ fewer_extended level room less ts rest c left (is_done x mid e) is =
 fewer_extended level room less ts rest c left (is_stop mid e) is = absurd (let wrong : stop mid ≡ done c rest = ap (λ r. r >>= (λ y after. done (with_step (left, 0) y) after)) (sym e) ∙ is in cc)
 fewer_extended level room less ts rest c left (is_deep mid e) is = absurd (let wrong : deep mid ≡ done c rest = ap (λ r. r >>= (λ y after. done (with_step (left, 0) y) after)) (sym e) ∙ is in cc)
 
--- an argument behind a comma
+-- an argument after a comma
 argument_laws : (room : ℕ) → room < 256 → Laws room expr (all_exprs room) expr_first after_expr false
 argument_laws room less = expr_laws room (all_counted room) expr_first after_expr (row_1 expr_first all_unary room (below room less) room (omega arith))
 
 pub expr_item : (room : ℕ) → room < 256 → Consumes (read_item Comma (all_exprs room))
-expr_item room less = consumes room (behind_sign Comma expr) (read_item Comma (all_exprs room)) (on Comma) after_expr (item_laws Comma room expr (all_exprs room) expr_first after_expr (argument_laws room less) refl)
+expr_item room less = consumes room (after_sign Comma expr) (read_item Comma (all_exprs room)) (on Comma) after_expr (item_laws Comma room expr (all_exprs room) expr_first after_expr (argument_laws room less) refl)
 
--- ---- an operator behind others, in the room that they leave
+-- ---- an operator after others, in the room that they leave
 
 tests_same : (n room : ℕ) (b c : Bool) → nat_le (n + 1) room ≡ b → nat_le 1 (room - n) ≡ c → b ≡ c
 tests_same n room true true e f = refl
@@ -124,10 +124,10 @@ module _ (next : ℕ → Reader Counted) (room n : ℕ) where
 
 -- ---- a row of operators
 
-put_behind : (c : Counted) (r : Read (List Step)) → ((r >>= (λ y rest. done (c, y) rest)) >>= (λ x rest. done (steps_of x) rest)) ≡ (r >>= (λ x rest. done (with_steps c x) rest))
-put_behind c (done x rest) = refl
-put_behind c (stop rest) = refl
-put_behind c (deep rest) = refl
+put_after : (c : Counted) (r : Read (List Step)) → ((r >>= (λ y rest. done (c, y) rest)) >>= (λ x rest. done (steps_of x) rest)) ≡ (r >>= (λ x rest. done (with_steps c x) rest))
+put_after c (done x rest) = refl
+put_after c (stop rest) = refl
+put_after c (deep rest) = refl
 
 put_step : (c : Counted) (x : Step) (r : Read (List Step)) → (prefixed (x ∷ []) r >>= (λ y rest. done (with_steps c y) rest)) ≡ (r >>= (λ y rest. done (with_steps (with_step c x) y) rest))
 put_step c x (done ys rest) = refl
@@ -147,10 +147,10 @@ module _ (level : Level) (room : ℕ) where
   -- a row that repeats, from its first operand on
   pub row_begins : (ts mid : List Token) (c : Counted) → read_operand level room ts ≡ done c mid → read_chain kinds operator (read_operand level) room ts ≡ read_further level room c mid
   row_begins ts mid c e =
-      ap (λ r. (r >>= behind (λ d. read_many_from kinds step count_after d.1)) >>= (λ x rest. done (steps_of x) rest)) e
-      ∙ put_behind c (read_many_from kinds step count_after c.1 mid)
+      ap (λ r. (r >>= and_after (λ d. read_many_from kinds step count_after d.1)) >>= (λ x rest. done (steps_of x) rest)) e
+      ∙ put_after c (read_many_from kinds step count_after c.1 mid)
 
-  pub row_goes_on : room < 256 → (before new : Expr) (n k : ℕ) (ts rest : List Token) (o : Operator) (s : Span) (right : Expr) (m : ℕ) (whole : Read Counted) → whole ≡ read_further level room (before, n) ts → begin_with kinds ts ≡ true → read_opened operator 1 (room - n) (read_operand level) ts ≡ done ((o, s), (right, m)) rest → new ≡ binary_expr o s before right (joined (place_of before) (place_of right)) → k ≡ n + (1 + m) → whole ≡ read_further level room (new, k) rest
+  pub row_goes_on : room < 256 → (before new : Expr) (n k : ℕ) (ts rest : List Token) (o : Operator) (s : Span) (right : Expr) (m : ℕ) (whole : Read Counted) → whole ≡ read_further level room (before, n) ts → begin_with kinds ts ≡ true → read_opened operator 1 (room - n) (read_operand level) ts ≡ done ((o, s), (right, m)) rest → new ≡ binary_expr o s before right (joined (span_of_expr before) (span_of_expr right)) → k ≡ n + (1 + m) → whole ≡ read_further level room (new, k) rest
   row_goes_on less before new n k ts rest o s right m whole same does e made count =
       let x : Step = ((o, s), (right, m)) in
       let is : step n ts ≡ done x rest = step_is (read_operand level) room n operator ts ∙ e in
@@ -161,7 +161,7 @@ module _ (level : Level) (room : ℕ) where
       ∙ ap (λ b. read_further level room (b, n + 1 + m) rest) (sym made)
       ∙ ap (λ j. read_further level room (new, j) rest) (sym more)
 
-  -- an operation behind its left operand
+  -- an operation after its left operand
   abbrev extended : Expr → Read Step → Read Counted
   extended left r = r >>= (λ x rest. done (with_step (left, 0) x) rest)
 
@@ -193,13 +193,13 @@ module _ (level : Level) (room : ℕ) where
 
   single_begins : (ts mid : List Token) (c : Counted) (b : Bool) → read_operand level room ts ≡ done c mid → begin_with kinds mid ≡ b → read_single kinds operator (read_operand level) room ts ≡ put c (choose b c mid)
   single_begins ts mid c b e begins =
-      ap (λ r. (r >>= behind (λ d. read_maybe kinds (step d.1))) >>= (λ x rest. done (maybe_of x) rest)) e
+      ap (λ r. (r >>= and_after (λ d. read_maybe kinds (step d.1))) >>= (λ x rest. done (maybe_of x) rest)) e
       ∙ ap (λ v. put c (choose v c mid)) begins
 
   pub single_ends : (ts mid : List Token) (c : Counted) → read_operand level room ts ≡ done c mid → begin_with kinds mid ≡ false → read_single kinds operator (read_operand level) room ts ≡ done c mid
   single_ends ts mid c begins fails = single_begins ts mid c false begins fails
 
-  pub single_goes_on : (left new : Expr) (n k : ℕ) (ts mid rest : List Token) (o : Operator) (s : Span) (right : Expr) (m : ℕ) → read_operand level room ts ≡ done (left, n) mid → begin_with kinds mid ≡ true → read_opened operator 1 (room - n) (read_operand level) mid ≡ done ((o, s), (right, m)) rest → new ≡ binary_expr o s left right (joined (place_of left) (place_of right)) → k ≡ n + 1 + m → read_single kinds operator (read_operand level) room ts ≡ done (new, k) rest
+  pub single_goes_on : (left new : Expr) (n k : ℕ) (ts mid rest : List Token) (o : Operator) (s : Span) (right : Expr) (m : ℕ) → read_operand level room ts ≡ done (left, n) mid → begin_with kinds mid ≡ true → read_opened operator 1 (room - n) (read_operand level) mid ≡ done ((o, s), (right, m)) rest → new ≡ binary_expr o s left right (joined (span_of_expr left) (span_of_expr right)) → k ≡ n + 1 + m → read_single kinds operator (read_operand level) room ts ≡ done (new, k) rest
   single_goes_on left new n k ts mid rest o s right m begins does e made count =
       let x : Step = ((o, s), (right, m)) in
       let is : step n mid ≡ done x rest = step_is (read_operand level) room n operator mid ∙ e in
@@ -249,11 +249,11 @@ module _ (room : ℕ) (less : room < 256) (ts : List Token) where
   abbrev negation : Reader ((Operator × Span) × Counted)
   negation = read_opened unary_if 1 room all_unary
 
-  abbrev with_place : Read ((Operator × Span) × Counted) → Read (((Operator × Span) × Counted) × Span)
-  with_place r = r >>= (λ x rest. done (x, place_between ts rest) rest)
+  abbrev with_span : Read ((Operator × Span) × Counted) → Read (((Operator × Span) × Counted) × Span)
+  with_span r = r >>= (λ x rest. done (x, span_between ts rest) rest)
 
   abbrev one_or_other : Bool → Read Counted
-  one_or_other b = cond b (with_place (negation ts) >>= (λ x rest. done (negated x) rest)) (read_primary all_refs all_counted room ts)
+  one_or_other b = cond b (with_span (negation ts) >>= (λ x rest. done (negated x) rest)) (read_primary all_refs all_counted room ts)
 
   operand_is : (b : Bool) → begin_with unary_signs ts ≡ b → all_unary room ts ≡ one_or_other b
   operand_is b begins = unary_step room less ts ∙ ap one_or_other begins
@@ -261,11 +261,11 @@ module _ (room : ℕ) (less : room < 256) (ts : List Token) where
   pub negation_halts : (e : Halt) → begin_with unary_signs ts ≡ true → Halts e (negation ts) → Halts e (all_unary room ts)
   negation_halts e does is =
       rw (operand_is true does)
-      (halts_bind e (with_place (negation ts)) (λ x rest. done (negated x) rest)
-      (halts_bind e (negation ts) (λ x rest. done (x, place_between ts rest) rest) is))
+      (halts_bind e (with_span (negation ts)) (λ x rest. done (negated x) rest)
+      (halts_bind e (negation ts) (λ x rest. done (x, span_between ts rest) rest) is))
 
-  pub negation_done : begin_with unary_signs ts ≡ true → (x : (Operator × Span) × Counted) (rest : List Token) → negation ts ≡ done x rest → all_unary room ts ≡ done (negated (x, place_between ts rest)) rest
-  negation_done does x rest is = operand_is true does ∙ ap (λ r. with_place r >>= (λ y left. done (negated y) left)) is
+  pub negation_done : begin_with unary_signs ts ≡ true → (x : (Operator × Span) × Counted) (rest : List Token) → negation ts ≡ done x rest → all_unary room ts ≡ done (negated (x, span_between ts rest)) rest
+  negation_done does x rest is = operand_is true does ∙ ap (λ r. with_span r >>= (λ y left. done (negated y) left)) is
 
   pub primary_is : begin_with unary_signs ts ≡ false → all_unary room ts ≡ read_primary all_refs all_counted room ts
   primary_is fails = operand_is false fails
@@ -289,14 +289,14 @@ module _ (room : ℕ) (ts : List Token) where
 
   pub group_halts : (e : Halt) → Halts e between → Halts e (read_group all_counted room ts)
   group_halts e is =
-      halts_bind e (between >>= (λ x rest. done (x, place_between ts rest) rest)) (λ x rest. done (grouped x) rest)
-      (halts_bind e between (λ x rest. done (x, place_between ts rest) rest) is)
+      halts_bind e (between >>= (λ x rest. done (x, span_between ts rest) rest)) (λ x rest. done (grouped x) rest)
+      (halts_bind e between (λ x rest. done (x, span_between ts rest) rest) is)
 
-  pub group_done : (c : Counted) (rest : List Token) → between ≡ done c rest → read_group all_counted room ts ≡ done (grouped (c, place_between ts rest)) rest
-  group_done c rest is = ap (λ r. (r >>= (λ x left. done (x, place_between ts left) left)) >>= (λ x left. done (grouped x) left)) is
+  pub group_done : (c : Counted) (rest : List Token) → between ≡ done c rest → read_group all_counted room ts ≡ done (grouped (c, span_between ts rest)) rest
+  group_done c rest is = ap (λ r. (r >>= (λ x left. done (x, span_between ts left) left)) >>= (λ x left. done (grouped x) left)) is
 
--- an operation behind its left operand
-pub extended_is : (r : Read Step) (left new : Expr) (o : Operator) (s : Span) (right : Expr) (m : ℕ) (rest : List Token) → r ≡ done ((o, s), (right, m)) rest → new ≡ binary_expr o s left right (joined (place_of left) (place_of right)) → (r >>= (λ x after. done (with_step (left, 0) x) after)) ≡ done (new, 1 + m) rest
+-- an operation after its left operand
+pub extended_is : (r : Read Step) (left new : Expr) (o : Operator) (s : Span) (right : Expr) (m : ℕ) (rest : List Token) → r ≡ done ((o, s), (right, m)) rest → new ≡ binary_expr o s left right (joined (span_of_expr left) (span_of_expr right)) → (r >>= (λ x after. done (with_step (left, 0) x) after)) ≡ done (new, 1 + m) rest
 extended_is r left new o s right m rest is made =
     let many : 0 + 1 + m ≡ 1 + m = omega arith in
     ap (λ q. q >>= (λ x after. done (with_step (left, 0) x) after)) is

@@ -5,8 +5,8 @@ use Rattle.ob_tree.specs.Exprs.{Exprs}
 use Rattle.ob_tree.specs.ExprsView.{expr_of, exprs_of}
 use Rattle.ob_tree.specs.declared.name.NamePart.{NamePart}
 use Rattle.ob_tree.specs.declared.expr.Expr as made
-use Rattle.ob_grammar.specs.Chains.{Counted, Step}
-use Rattle.ob_grammar.specs.Primaries.{Tail, method, applied}
+use Rattle.ob_parser_spec.specs.Chains.{Counted, Step}
+use Rattle.ob_parser_spec.specs.Primaries.{Tail, method, applied}
 use Rattle.ob_parser_expressions.specs.declared.primaries.TailPart.{TailPart}
 use Rattle.ob_parser_expressions.specs.declared.primaries.TailPart.TheVariants.{Method, Applied}
 use Rattle.ob_parser_expressions.specs.declared.primaries.Operation.{Operation}
@@ -19,7 +19,7 @@ with_count e n = (expr_of e, n)
 abbrev pub with_none : made.Expr → Counted
 with_none e = (expr_of e, 0)
 
--- what stands behind a name
+-- what stands after a name
 abbrev pub tail_of : TailPart → Tail
 tail_of (Method part args) = method part (exprs_of args)
 tail_of (Applied args) = applied (exprs_of args)
@@ -28,6 +28,6 @@ tail_of (Applied args) = applied (exprs_of args)
 abbrev pub method_parts : Span → NamePart × List made.Expr → Span × (NamePart × Exprs)
 method_parts dot called = (dot, (called.0, exprs_of called.1))
 
--- an operator and the operand behind it, with the count of that
+-- an operator and the operand after it, with the count of that
 abbrev pub step_of : Operation → ℕ → Step
 step_of operation n = ((operation.operator, operation.sign), (expr_of operation.right, n))

@@ -2,11 +2,11 @@
 use Rattle.std.specs.Prelude.{ℕ, Bool, true, false, Option, Some, None}
 use Rattle.ob_base.specs.declared.fault.Span.{Span}
 use Rattle.ob_base.specs.declared.operator.Operator.{Operator}
-use Rattle.ob_grammar.specs.Readers.{Reader, read_as, read_many_from}
-use Rattle.ob_grammar.specs.Operators.{operator_if, signs_of_level}
-use Rattle.ob_grammar.specs.Chains.{Counted, count_after, with_steps, read_step}
-use Rattle.ob_grammar.specs.ExprReaders.{read_row_1, read_row_2, read_row_3, read_row_4, read_row_5, read_row_6}
-use Rattle.ob_grammar.specs.AllReaders.{all_unary}
+use Rattle.ob_parser_spec.specs.Readers.{Reader, read_as, read_many_from}
+use Rattle.ob_parser_spec.specs.Operators.{operator_if, signs_of_level}
+use Rattle.ob_parser_spec.specs.Chains.{Counted, count_after, with_steps, read_step}
+use Rattle.ob_parser_spec.specs.ExprReaders.{read_row_1, read_row_2, read_row_3, read_row_4, read_row_5, read_row_6}
+use Rattle.ob_parser_spec.specs.AllReaders.{all_unary}
 use Rattle.ob_parser_expressions.specs.declared.levels.Level.{Level}
 use Rattle.ob_parser_expressions.specs.declared.levels.Level.TheVariants.{Or, And, Equality, Relation, Sum, Product}
 
@@ -44,8 +44,8 @@ repeats Relation = false
 repeats level = true
 
 -- an operator and its place
-abbrev pub operator_with_place : Operator → Span → Operator × Span
-operator_with_place o span = (o, span)
+abbrev pub operator_with_span : Operator → Span → Operator × Span
+operator_with_span o span = (o, span)
 
 -- the row of a level
 abbrev pub read_row : Level → ℕ → Reader Counted
@@ -65,6 +65,6 @@ read_tighter None = all_unary
 abbrev pub read_operand : Level → ℕ → Reader Counted
 read_operand level = read_tighter (tighter level)
 
--- what a row reads behind its first operand: the operators that follow, and their operands
+-- what a row reads after its first operand: the operators that follow, and their operands
 abbrev pub read_further : Level → ℕ → Counted → Reader Counted
 read_further level room c = read_as (with_steps c) (read_many_from (signs_of_level (number_of_level level)) (read_step (operator_if (number_of_level level)) (read_operand level) room) count_after c.1)

@@ -18,13 +18,13 @@
 ghost use Rattle.std.specs.Prelude.{◌+◌, ◌≤◌, map, IfOk};
 ghost use Rattle.ob_lexer.specs.declared.token.Sign.TheVariants.{Comma};
 ghost use Rattle.ob_tree.specs.ExprsView.{expr_of, exprs_of};
-ghost use Rattle.ob_grammar.specs.Readers.{read_as, read_opened};
-ghost use Rattle.ob_grammar.specs.NameReaders.{read_parted};
-ghost use Rattle.ob_grammar.specs.Operators.{operator_if, signs_of_level};
-ghost use Rattle.ob_grammar.specs.Chains.{with_step, read_chain, read_single};
-ghost use Rattle.ob_grammar.specs.Primaries.{uncounted, read_group, read_arguments, read_applied, read_new, read_method, read_this, read_tail, read_name, read_primary};
-ghost use Rattle.ob_grammar.specs.StmtReaders.{read_called_name, read_called_this};
-ghost use Rattle.ob_grammar.specs.AllReaders.{all_refs, all_unary, all_counted, all_exprs};
+ghost use Rattle.ob_parser_spec.specs.Readers.{read_as, read_opened};
+ghost use Rattle.ob_parser_spec.specs.NameReaders.{read_parted};
+ghost use Rattle.ob_parser_spec.specs.Operators.{operator_if, signs_of_level};
+ghost use Rattle.ob_parser_spec.specs.Chains.{with_step, read_chain, read_single};
+ghost use Rattle.ob_parser_spec.specs.Primaries.{uncounted, read_group, read_arguments, read_applied, read_new, read_method, read_this, read_tail, read_name, read_primary};
+ghost use Rattle.ob_parser_spec.specs.StmtReaders.{read_called_name, read_called_this};
+ghost use Rattle.ob_parser_spec.specs.AllReaders.{all_refs, all_unary, all_counted, all_exprs};
 ghost use Rattle.ob_parser_expressions.specs.Levels.{number_of_level, read_row, read_operand};
 ghost use Rattle.ob_parser_names.specs.Answering.{Answers, AnswersBoth};
 ghost use Rattle.ob_parser_expressions.specs.ExprAnswers.{with_count, with_none, tail_of, method_parts, step_of};
@@ -36,7 +36,7 @@ use crate::primaries::{Operation, TailPart, binary, called, called_this, literal
 use ob_base::{Items, Span};
 use ob_lexer::{Sign, Token, Word};
 use ob_parser_names::{
-    Halt, Symbol, before, fixed, name_part, named, opens, place_between, starts_with,
+    Halt, Symbol, before, fixed, name_part, named, opens, span_between, starts_with,
     starts_with_one_of,
 };
 use ob_tree::{Expr, NamePart};
@@ -150,7 +150,7 @@ fn operand(
     }
 }
 
-/// An operator and the operand behind it, in the room that the operators before them leave.
+/// An operator and the operand after it, in the room that the operators before them leave.
 #[cycle(expr)]
 fn operation(
     alloc: Global,
@@ -174,7 +174,7 @@ fn operation(
     ))
 }
 
-/// An operation behind its left operand, and how many operators are read for it.
+/// An operation after its left operand, and how many operators are read for it.
 #[cycle(expr)]
 fn extended(
     alloc: Global,
@@ -207,7 +207,7 @@ fn unary(alloc: Global, room: u8, tokens: &[Token]) -> Result<(Expr, u8, &[Token
     if starts_with_unary(tokens) {
         let (operator, sign, rest) = opens_unary(room, tokens)?;
         let (operand, count, rest) = unary(alloc, room - 1, rest)?;
-        let expr = negated(alloc, operator, sign, operand, place_between(tokens, rest))?;
+        let expr = negated(alloc, operator, sign, operand, span_between(tokens, rest))?;
         return Ok((expr, count, rest));
     }
     let (expr, rest) = primary(alloc, room, tokens)?;
@@ -242,7 +242,7 @@ fn group(alloc: Global, room: u8, tokens: &[Token]) -> Result<(Expr, &[Token]), 
     let (_, rest) = opens(room, Symbol::Sign(Sign::OpenParen), tokens)?;
     let (expr, _, rest) = row(alloc, Level::Or, room - 1, rest)?;
     let (expr, rest) = before(expr, Symbol::Sign(Sign::CloseParen), rest)?;
-    Ok((moved(place_between(tokens, rest), expr), rest))
+    Ok((moved(span_between(tokens, rest), expr), rest))
 }
 
 /// `new`
@@ -257,7 +257,7 @@ fn new(alloc: Global, room: u8, tokens: &[Token]) -> Result<(Expr, &[Token]), Ha
         Expr::New {
             of,
             args,
-            span: place_between(tokens, rest),
+            span: span_between(tokens, rest),
         },
         rest,
     ))
@@ -270,11 +270,11 @@ fn name(alloc: Global, room: u8, tokens: &[Token]) -> Result<(Expr, &[Token]), H
 {
     let (name, rest) = name_part(alloc, tokens)?;
     if !starts_with_one_of(rest, &TAIL_FIRST) {
-        let span = place_between(tokens, rest);
+        let span = span_between(tokens, rest);
         return Ok((Expr::Name { name, span }, rest));
     }
     let (tail, rest) = tail(alloc, room, rest)?;
-    Ok((called(name, tail, place_between(tokens, rest)), rest))
+    Ok((called(name, tail, span_between(tokens, rest)), rest))
 }
 
 /// `"this"`, or a call that begins with it.
@@ -284,19 +284,19 @@ fn this(alloc: Global, room: u8, tokens: &[Token]) -> Result<(Expr, &[Token]), H
 {
     let (token, rest) = fixed(Symbol::Word(Word::This), tokens)?;
     if !starts_with(rest, Symbol::Sign(Sign::Dot)) {
-        let span = place_between(tokens, rest);
+        let span = span_between(tokens, rest);
         return Ok((Expr::This { token, span }, rest));
     }
     let (_, (name, args), rest) = method(alloc, room, rest)?;
     Ok((
-        called_this(token, name, args, place_between(tokens, rest)),
+        called_this(token, name, args, span_between(tokens, rest)),
         rest,
     ))
 }
 
 // ---- calls
 
-/// What stands behind the name that begins a call.
+/// What stands after the name that begins a call.
 #[cycle(expr)]
 fn tail(alloc: Global, room: u8, tokens: &[Token]) -> Result<(TailPart, &[Token]), Halt>
     ensures { Answers tail_of result (read_tail all_counted room tokens.now) }
@@ -371,7 +371,7 @@ pub fn named_call(alloc: Global, room: u8, tokens: &[Token]) -> Result<(Expr, &[
 {
     let (name, rest) = name_part(alloc, tokens)?;
     let (tail, rest) = tail(alloc, room, rest)?;
-    Ok((called(name, tail, place_between(tokens, rest)), rest))
+    Ok((called(name, tail, span_between(tokens, rest)), rest))
 }
 
 /// A call of `this`.
@@ -381,7 +381,7 @@ pub fn this_call(alloc: Global, room: u8, tokens: &[Token]) -> Result<(Expr, &[T
     let (token, rest) = fixed(Symbol::Word(Word::This), tokens)?;
     let (_, (name, args), rest) = method(alloc, room, rest)?;
     Ok((
-        called_this(token, name, args, place_between(tokens, rest)),
+        called_this(token, name, args, span_between(tokens, rest)),
         rest,
     ))
 }

@@ -11,10 +11,10 @@
 //! ```
 
 ghost use Rattle.std.specs.Prelude.{◌≡◌, ◌<◌, ◌≤◌, IfOk, IfSome};
-ghost use Rattle.ob_grammar.specs.Readers.{one_among, begin_with, read_token};
-ghost use Rattle.ob_grammar.specs.Operators.{of_level, symbol_of_operator, operator_if, signs_of_level};
-ghost use Rattle.ob_grammar.specs.ExprReaders.{unary_if, unary_signs};
-ghost use Rattle.ob_parser_expressions.specs.Levels.{number_of_level, levels_from, tighter, repeats, operator_with_place};
+ghost use Rattle.ob_parser_spec.specs.Readers.{one_among, begin_with, read_token};
+ghost use Rattle.ob_parser_spec.specs.Operators.{of_level, symbol_of_operator, operator_if, signs_of_level};
+ghost use Rattle.ob_parser_spec.specs.ExprReaders.{unary_if, unary_signs};
+ghost use Rattle.ob_parser_expressions.specs.Levels.{number_of_level, levels_from, tighter, repeats, operator_with_span};
 ghost use Rattle.ob_parser_names.specs.Answering.{AnswersBoth, read_open};
 
 use ob_base::{Operator, Span};
@@ -100,7 +100,7 @@ fn starts_with_level(level: u8, tokens: &[Token]) -> bool
 }
 
 fn operator_token(level: u8, tokens: &[Token]) -> Result<(Operator, Span, &[Token]), Halt>
-    ensures { AnswersBoth operator_with_place result (read_token (operator_if level) tokens.now) }
+    ensures { AnswersBoth operator_with_span result (read_token (operator_if level) tokens.now) }
 {
     match tokens {
         [token, rest @ ..] => match operator_among(&OPERATORS, level, token) {
@@ -112,7 +112,7 @@ fn operator_token(level: u8, tokens: &[Token]) -> Result<(Operator, Span, &[Toke
 }
 
 fn opens_level(level: u8, room: u8, tokens: &[Token]) -> Result<(Operator, Span, &[Token]), Halt>
-    ensures read { AnswersBoth operator_with_place result (read_open (operator_if level) 1 room tokens.now) }
+    ensures read { AnswersBoth operator_with_span result (read_open (operator_if level) 1 room tokens.now) }
     ensures room { IfOk result (λ _. 1 ≤ room) }
 {
     let (operator, sign, rest) = operator_token(level, tokens)?;
@@ -129,13 +129,13 @@ pub fn starts_with_operator(level: Level, tokens: &[Token]) -> bool
     starts_with_level(number_of_level(level), tokens)
 }
 
-/// An operator of this level. What stands behind it has one less room.
+/// An operator of this level. What stands after it has one less room.
 pub fn opens_operator(
     level: Level,
     room: u8,
     tokens: &[Token],
 ) -> Result<(Operator, Span, &[Token]), Halt>
-    ensures read { AnswersBoth operator_with_place result (read_open (operator_if (number_of_level level)) 1 room tokens.now) }
+    ensures read { AnswersBoth operator_with_span result (read_open (operator_if (number_of_level level)) 1 room tokens.now) }
     ensures room { IfOk result (λ _. 1 ≤ room) }
 {
     opens_level(number_of_level(level), room, tokens)
@@ -150,9 +150,9 @@ pub fn starts_with_unary(tokens: &[Token]) -> bool
     starts_with_level(level_of(Operator::Not), tokens)
 }
 
-/// An operator with one operand. What stands behind it has one less room.
+/// An operator with one operand. What stands after it has one less room.
 pub fn opens_unary(room: u8, tokens: &[Token]) -> Result<(Operator, Span, &[Token]), Halt>
-    ensures read { AnswersBoth operator_with_place result (read_open unary_if 1 room tokens.now) }
+    ensures read { AnswersBoth operator_with_span result (read_open unary_if 1 room tokens.now) }
     ensures room { IfOk result (λ _. 1 ≤ room) }
 {
     opens_level(level_of(Operator::Not), room, tokens)

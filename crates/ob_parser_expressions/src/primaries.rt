@@ -1,11 +1,11 @@
 //! The parts of expressions that need no other expression.
 ghost use Rattle.std.specs.Prelude.{◌≡◌, Option, Some, None, IfOk, IfErr};
-ghost use Rattle.ob_tree.specs.Exprs.{unary_expr, binary_expr, call_expr, call_with, place_of};
+ghost use Rattle.ob_tree.specs.Exprs.{unary_expr, binary_expr, call_expr, call_with, span_of_expr};
 ghost use Rattle.ob_tree.specs.ExprsView.{expr_of, exprs_of};
 ghost use Rattle.ob_tree.specs.declared.name.Subject.TheVariants.{This};
-ghost use Rattle.ob_grammar.specs.Rows.{joined};
-ghost use Rattle.ob_grammar.specs.Readers.{read_token};
-ghost use Rattle.ob_grammar.specs.Primaries.{moved, literal_if, name_with_tail};
+ghost use Rattle.ob_parser_spec.specs.Rows.{joined};
+ghost use Rattle.ob_parser_spec.specs.Readers.{read_token};
+ghost use Rattle.ob_parser_spec.specs.Primaries.{moved, literal_if, name_with_tail};
 ghost use Rattle.ob_parser_names.specs.Answering.{Answers};
 ghost use Rattle.ob_parser_expressions.specs.ExprAnswers.{with_none, tail_of};
 ghost use Rattle.ob_parser_names.specs.declared.halt.Halt.TheVariants.{Memory};
@@ -13,10 +13,10 @@ ghost use Rattle.ob_parser_names.specs.declared.halt.Halt.TheVariants.{Memory};
 use ob_base::{Boxed, Duplicate, Items, Operator, Span};
 use ob_lexer::{Token, TokenKind, Word};
 use ob_parser_names::{Halt, joined, refused};
-use ob_tree::{CallNode, Expr, NamePart, Subject, place_of};
+use ob_tree::{CallNode, Expr, NamePart, Subject, span_of_expr};
 use std::alloc::Global;
 
-/// What stands behind a name that begins a call.
+/// What stands after a name that begins a call.
 #[derive(Drop)]
 pub enum TailPart {
     /// `"." NAME "(" [expr {"," expr}] ")"`
@@ -25,14 +25,14 @@ pub enum TailPart {
     Applied { args: Items<Expr> },
 }
 
-/// A binary operator, its place, and what stands behind it.
+/// A binary operator, its place, and what stands after it.
 #[derive(Drop)]
 pub struct Operation {
     /// Which operator it is.
     pub operator: Operator,
     /// The place of the operator.
     pub sign: Span,
-    /// The operand behind it.
+    /// The operand after it.
     pub right: Expr,
 }
 
@@ -82,7 +82,7 @@ pub fn moved(span: Span, expr: Expr) -> Expr
 /// `left OPERATOR right`
 pub fn binary(alloc: Global, left: Expr, operation: Operation) -> Result<Expr, Halt>
     ensures ok { IfOk result (λ e. expr_of e ≡ binary_expr operation.operator operation.sign (expr_of left) (expr_of operation.right)
-        (joined (place_of (expr_of left)) (place_of (expr_of operation.right)))) }
+        (joined (span_of_expr (expr_of left)) (span_of_expr (expr_of operation.right)))) }
     ensures err { IfErr result (λ e. e ≡ Memory) }
 {
     let Operation {
@@ -90,7 +90,7 @@ pub fn binary(alloc: Global, left: Expr, operation: Operation) -> Result<Expr, H
         sign,
         right,
     } = operation;
-    let span = joined(place_of(&left), place_of(&right));
+    let span = joined(span_of_expr(&left), span_of_expr(&right));
     match (Boxed::new(alloc, left), Boxed::new(alloc, right)) {
         (Ok(left), Ok(right)) => Ok(Expr::Binary {
             operator,

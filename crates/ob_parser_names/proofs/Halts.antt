@@ -1,7 +1,7 @@
 -- Why a row isn't read: as what it begins with.
 use Rattle.std.proofs.Common.{List}
 use Rattle.ob_lexer.specs.declared.token.Token.{Token}
-use Rattle.ob_grammar.specs.Readers.{Read, done, stop, deep, ◌>>=◌}
+use Rattle.ob_parser_spec.specs.Readers.{Read, done, stop, deep, ◌>>=◌}
 use Rattle.ob_parser_names.specs.Answering.{Halts}
 use Rattle.ob_parser_names.specs.declared.halt.Halt.{Halt}
 use Rattle.ob_parser_names.specs.declared.halt.Halt.TheVariants as halt

@@ -1,17 +1,17 @@
--- Loops that read rows one behind the other.
+-- Loops that read rows one after the other.
 use Rattle.std.proofs.Common.{ℕ, suc, zero, ◌≡◌, ◌<◌, ◌≤◌, ◌+◌, Bool, true, false, cond, List, [], ◌∷◌, ◌++◌, map, length, inl, inr, refl, sym, ap, ◌∙◌, arith, append_assoc, append-nil}
 use Rattle.std.proofs.lemmas.Bool.{cases_Bool}
 use Rattle.std.proofs.lemmas.List.{length-append, map-append}
 use Rattle.ob_lexer.specs.declared.token.Token.{Token}
 use Rattle.ob_lexer.specs.declared.token.Sign.{Sign}
-use Rattle.ob_grammar.specs.Readers.{Read, done, stop, deep, Reader, ◌>>=◌, begin_with, behind, put_before, read_each, read_many_from, read_many}
-use Rattle.ob_grammar.specs.NameReaders.{on, read_item, read_parted}
-use Rattle.ob_grammar.specs.Rows.{Row, Loaded}
-use Rattle.ob_grammar.specs.Grammar.{tokens_of}
+use Rattle.ob_parser_spec.specs.Readers.{Read, done, stop, deep, Reader, ◌>>=◌, begin_with, and_after, put_before, read_each, read_many_from, read_many}
+use Rattle.ob_parser_spec.specs.NameReaders.{on, read_item, read_parted}
+use Rattle.ob_parser_spec.specs.Rows.{Row, Loaded}
+use Rattle.ob_parser_spec.specs.Grammar.{tokens_of}
 use Rattle.ob_parser_names.specs.Answering.{Halts, prefixed}
 use Rattle.ob_parser_names.specs.declared.halt.Halt.{Halt}
 use Rattle.ob_parser_names.proofs.Halts.{halts_bind}
-use Rattle.ob_grammar.proofs.Laws.{Begin, Laws, Case, is_done, is_stop, is_deep, case_of}
+use Rattle.ob_parser_spec.proofs.Laws.{Begin, Laws, Case, is_done, is_stop, is_deep, case_of}
 
 -- what is read has a token
 pub record Consumes {A : Type 0} (p : Reader A) : Type 0 where
@@ -31,7 +31,7 @@ consumes room reads p first more a = record {
 
 module _ {A S : Type 0} (kinds : List ℕ) (p : S → Reader A) (next : S → A → S) (c : (s : S) → Consumes (p s)) where
   abbrev rest_of : ℕ → S → A → List Token → Read (A × List A)
-  rest_of n s = behind (λ (x : A). read_each kinds p next n (next s x))
+  rest_of n s = and_after (λ (x : A). read_each kinds p next n (next s x))
 
   abbrev put : Read (A × List A) → Read (List A)
   put r = r >>= (λ pair rest. done (put_before pair) rest)
@@ -78,7 +78,7 @@ pub none_from : {A S : Type 0} (kinds : List ℕ) (p : S → Reader A) (next : S
 none_from kinds p next s ts fails = rw fails refl
 
 pub halts_from : {A S : Type 0} (kinds : List ℕ) (p : S → Reader A) (next : S → A → S) (s : S) (ts : List Token) (e : Halt) → begin_with kinds ts ≡ true → Halts e (p s ts) → Halts e (read_many_from kinds p next s ts)
-halts_from kinds p next s ts e does is = rw does (halts_bind e (p s ts >>= behind (λ x. read_each kinds p next (length ts) (next s x))) (λ pair rest. done (put_before pair) rest) (halts_bind e (p s ts) (behind (λ x. read_each kinds p next (length ts) (next s x))) is))
+halts_from kinds p next s ts e does is = rw does (halts_bind e (p s ts >>= and_after (λ x. read_each kinds p next (length ts) (next s x))) (λ pair rest. done (put_before pair) rest) (halts_bind e (p s ts) (and_after (λ x. read_each kinds p next (length ts) (next s x))) is))
 
 -- ---- what has been read before
 
@@ -93,7 +93,7 @@ prefixed_twice xs x (done ys rest) = ap (λ l. done l rest) (sym (append_assoc x
 prefixed_twice xs x (stop rest) = refl
 prefixed_twice xs x (deep rest) = refl
 
--- rows that are read alike, behind those that have been read
+-- rows that are read alike, after those that have been read
 pub one_more : {A : Type 0} (kinds : List ℕ) (p : Reader A) (c : Consumes p) (xs : List A) (ts : List Token) (x : A) (rest : List Token) → begin_with kinds ts ≡ true → p ts ≡ done x rest → prefixed xs (read_many kinds p ts) ≡ prefixed (xs ++ x ∷ []) (read_many kinds p rest)
 one_more kinds p c xs ts x rest does e = ap (prefixed xs) (one_more_from {S = Unit {0}} kinds (λ u. p) (λ u x. u) (λ u. c) tt ts x rest does e) ∙ prefixed_twice xs x (read_many kinds p rest)
 
@@ -111,7 +111,7 @@ kept kinds p xs new ts rest x whole c same pushed does is = same ∙ one_more ki
 pub kept_as : {T A : Type 0} (kinds : List ℕ) (p : Reader A) (view : T → A) (xs new : List T) (ts rest : List Token) (x : T) (whole : Read (List A)) → Consumes p → whole ≡ prefixed (map view xs) (read_many kinds p ts) → new ≡ xs ++ x ∷ [] → begin_with kinds ts ≡ true → p ts ≡ done (view x) rest → whole ≡ prefixed (map view new) (read_many kinds p rest)
 kept_as kinds p view xs new ts rest x whole c same pushed does is = kept kinds p (map view xs) (map view new) ts rest (view x) whole c same (ap (map view) pushed ∙ map-append view xs (x ∷ [])) does is
 
--- what a list begins with, behind which others may follow
+-- what a list begins with, after which others may follow
 put_first : {A : Type 0} (x : A) (r : Read (List A)) → ((r >>= (λ y rest. done (x, y) rest)) >>= (λ pair rest. done (put_before pair) rest)) ≡ prefixed (x ∷ []) r
 put_first x (done ys rest) = refl
 put_first x (stop rest) = refl
@@ -119,6 +119,6 @@ put_first x (deep rest) = refl
 
 pub parted_begins : {A : Type 0} (s : Sign) (p : Reader A) (ts rest : List Token) (x : A) (xs : List A) → p ts ≡ done x rest → xs ≡ x ∷ [] → read_parted s p ts ≡ prefixed xs (read_many (on s) (read_item s p) rest)
 parted_begins s p ts rest x xs is first =
-    ap (λ r. (r >>= behind (λ y. read_many (on s) (read_item s p))) >>= (λ pair left. done (put_before pair) left)) is
+    ap (λ r. (r >>= and_after (λ y. read_many (on s) (read_item s p))) >>= (λ pair left. done (put_before pair) left)) is
     ∙ put_first x (read_many (on s) (read_item s p) rest)
     ∙ ap (λ l. prefixed l (read_many (on s) (read_item s p) rest)) (sym first)

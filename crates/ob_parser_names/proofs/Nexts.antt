@@ -1,8 +1,8 @@
--- What is read behind a part: what `with` hands on of it.
+-- What is read after a part: what `with` hands on of it.
 use Rattle.std.proofs.Common.{◌≡◌, sym, ap, List, Result, Ok, Err}
 use Rattle.std.specs.Borrow.{Bor}
 use Rattle.ob_lexer.specs.declared.token.Token.{Token}
-use Rattle.ob_grammar.specs.Readers.{Read, done}
+use Rattle.ob_parser_spec.specs.Readers.{Read, done}
 use Rattle.ob_parser_names.specs.Answering.{Halts, Answers}
 use Rattle.ob_parser_names.specs.declared.halt.Halt.{Halt}
 

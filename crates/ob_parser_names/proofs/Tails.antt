@@ -4,10 +4,10 @@ use Rattle.std.specs.Borrow.{Bor}
 use Rattle.ob_base.specs.declared.fault.Span.{Span}
 use Rattle.ob_lexer.specs.declared.token.Token.{Token}
 use Rattle.ob_lexer.specs.declared.token.Sign.{Sign}
-use Rattle.ob_grammar.specs.Symbols.{a_sign}
-use Rattle.ob_grammar.specs.Readers.{Read, done, stop, deep, Reader, ◌>>=◌, begin_with, place_if, read_token, read_as, read_maybe, read_many}
-use Rattle.ob_grammar.specs.NameReaders.{read_item}
-use Rattle.ob_grammar.specs.MemberReaders.{list_of}
+use Rattle.ob_parser_spec.specs.Symbols.{a_sign}
+use Rattle.ob_parser_spec.specs.Readers.{Read, done, stop, deep, Reader, ◌>>=◌, begin_with, span_if, read_token, read_as, read_maybe, read_many}
+use Rattle.ob_parser_spec.specs.NameReaders.{read_item}
+use Rattle.ob_parser_spec.specs.MemberReaders.{list_of}
 use Rattle.ob_parser_names.specs.Answering.{Halts, Answers, prefixed}
 use Rattle.ob_parser_names.specs.declared.halt.Halt.{Halt}
 use Rattle.ob_parser_names.proofs.Halts.{halts_bind}
@@ -18,8 +18,8 @@ pub made_answer : {T A B : Type 0} (view : T → A) (other : T → B) (r : Resul
 made_answer view other (Ok x) read then same is = ap (λ l. l >>= then) is ∙ same x.0 x.1.now
 made_answer view other (Err e) read then same is = halts_bind e read then is
 
--- a row behind a sign
-pub item_answer : {T A : Type 0} (view : T → A) (s : Sign) (p : Reader A) (r : Result (T × Bor (List Token)) Halt) (ts rest : List Token) (x : Span) → read_token (place_if (a_sign s)) ts ≡ done x rest → Answers view r (p rest) → Answers view r (read_item s p ts)
+-- a row after a sign
+pub item_answer : {T A : Type 0} (view : T → A) (s : Sign) (p : Reader A) (r : Result (T × Bor (List Token)) Halt) (ts rest : List Token) (x : Span) → read_token (span_if (a_sign s)) ts ≡ done x rest → Answers view r (p rest) → Answers view r (read_item s p ts)
 item_answer view s p r ts rest x e is =
     rw e (made_answer (λ t. (x, view t)) view r (p rest >>= (λ y left. done (x, y) left)) (λ pair left. done pair.1 left) (λ t left. refl)
     (made_answer view (λ t. (x, view t)) r (p rest) (λ y left. done (x, y) left) (λ t left. refl) is))

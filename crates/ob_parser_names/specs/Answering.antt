@@ -2,8 +2,8 @@
 use Rattle.std.specs.Prelude.{ℕ, cond, nat_le, ◌≡◌, ◌++◌, List, [], ◌∷◌, length, Option, Some, None, Result, Ok, Err, map}
 use Rattle.std.specs.Borrow.{Bor}
 use Rattle.ob_lexer.specs.declared.token.Token.{Token}
-use Rattle.ob_grammar.specs.Symbols.{Symbol, a_name, a_number, a_text, number, a_word, a_sign}
-use Rattle.ob_grammar.specs.Readers.{Read, done, stop, deep, Reader, ◌>>=◌}
+use Rattle.ob_parser_spec.specs.Symbols.{Symbol, a_name, a_number, a_text, number, a_word, a_sign}
+use Rattle.ob_parser_spec.specs.Readers.{Read, done, stop, deep, Reader, ◌>>=◌}
 use Rattle.ob_parser_names.specs.declared.tokens.Symbol.{Symbol as Wanted}
 use Rattle.ob_parser_names.specs.declared.tokens.Symbol.TheVariants as wanted
 use Rattle.ob_parser_names.specs.declared.halt.Halt.{Halt}
@@ -52,7 +52,7 @@ abbrev pub AnswersBoth : {S T A : Type 0} → (S → T → A) → Result (S × T
 AnswersBoth view (Ok x) read = read ≡ done (view x.0 x.1) x.2.now
 AnswersBoth view (Err e) read = Halts e read
 
--- behind what has been read of a list
+-- after what has been read of a list
 abbrev pub prefixed : {A : Type 0} → List A → Read (List A) → Read (List A)
 prefixed xs read = read >>= (λ ys rest. done (xs ++ ys) rest)
 

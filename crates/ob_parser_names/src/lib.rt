@@ -19,6 +19,6 @@ pub use names::{
 pub use parameters::{TYPES, listed_part, params};
 pub use parts::{before, ended, with};
 pub use tokens::{
-    Symbol, fixed, is_symbol, joined, opens, place_between, refused, starts_with, starts_with_both,
+    Symbol, fixed, is_symbol, joined, opens, refused, span_between, starts_with, starts_with_both,
     starts_with_one_of,
 };

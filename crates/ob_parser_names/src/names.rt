@@ -10,10 +10,10 @@
 
 ghost use Rattle.std.specs.Prelude.{◌≡◌, option_map, IfOk, IfErr};
 ghost use Rattle.ob_tree.specs.NamesView.{named_of, ref_of, type_of};
-ghost use Rattle.ob_grammar.specs.Readers.{one_among, begin_with, name_if, read_token};
-ghost use Rattle.ob_grammar.specs.NameReaders.{read_counted, read_parted, read_item, read_argument, read_named, symbol_of_mode, kinds_of_modes, mode_if, mode_with_place, read_perm};
-ghost use Rattle.ob_grammar.specs.MemberReaders.{subject_if, value_type_if, read_type};
-ghost use Rattle.ob_grammar.specs.AllReaders.{all_refs};
+ghost use Rattle.ob_parser_spec.specs.Readers.{one_among, begin_with, name_if, read_token};
+ghost use Rattle.ob_parser_spec.specs.NameReaders.{read_counted, read_parted, read_item, read_argument, read_named, symbol_of_mode, kinds_of_modes, mode_if, mode_with_span, read_perm};
+ghost use Rattle.ob_parser_spec.specs.MemberReaders.{subject_if, value_type_if, read_type};
+ghost use Rattle.ob_parser_spec.specs.AllReaders.{all_refs};
 ghost use Rattle.ob_parser_names.specs.Answering.{Answers, AnswersBoth, as_it_is};
 ghost use Rattle.ob_lexer.specs.declared.token.Sign.TheVariants.{OpenBracket, CloseBracket};
 ghost use Rattle.ob_parser_names.specs.declared.halt.Halt.TheVariants.{Memory};
@@ -21,7 +21,7 @@ ghost use Rattle.ob_parser_names.specs.declared.halt.Halt.TheVariants.{Memory};
 use crate::halt::Halt;
 use crate::parts::{before, with};
 use crate::tokens::{
-    Symbol, fixed, is_symbol, opens, place_between, refused, starts_with, starts_with_one_of,
+    Symbol, fixed, is_symbol, opens, refused, span_between, starts_with, starts_with_one_of,
 };
 use ob_base::{Boxed, Items, Mode, Name, Span, Text};
 use ob_lexer::{Sign, Token, TokenKind, Word};
@@ -131,7 +131,7 @@ fn starts_with_mode(tokens: &[Token]) -> bool
 
 /// `mode`
 pub fn mode_word(tokens: &[Token]) -> Result<(Mode, Span, &[Token]), Halt>
-    ensures { AnswersBoth mode_with_place result (read_token mode_if tokens.now) }
+    ensures { AnswersBoth mode_with_span result (read_token mode_if tokens.now) }
 {
     match tokens {
         [token, rest @ ..] => match mode_among(&MODES, token) {
@@ -198,7 +198,7 @@ pub fn named(alloc: Global, room: u8, tokens: &[Token]) -> Result<(NamedNode, &[
         NamedNode {
             name: part.name,
             argument,
-            span: place_between(tokens, rest),
+            span: span_between(tokens, rest),
         },
         rest,
     ))

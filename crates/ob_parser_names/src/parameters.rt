@@ -9,10 +9,10 @@
 ghost use Rattle.std.specs.Prelude.{map};
 ghost use Rattle.ob_lexer.specs.declared.token.Sign.TheVariants.{Comma};
 ghost use Rattle.ob_tree.specs.MembersView.{formal_of, listed_of};
-ghost use Rattle.ob_grammar.specs.NameReaders.{read_item, read_parted};
-ghost use Rattle.ob_grammar.specs.MemberReaders.{types, read_exit, read_param, read_listed, read_maybe_parted};
-ghost use Rattle.ob_grammar.specs.ContractReaders.{read_parens, listed_behind};
-ghost use Rattle.ob_grammar.specs.AllReaders.{all_refs};
+ghost use Rattle.ob_parser_spec.specs.NameReaders.{read_item, read_parted};
+ghost use Rattle.ob_parser_spec.specs.MemberReaders.{types, read_exit, read_param, read_listed, read_maybe_parted};
+ghost use Rattle.ob_parser_spec.specs.ContractReaders.{read_parens, listed_after};
+ghost use Rattle.ob_parser_spec.specs.AllReaders.{all_refs};
 ghost use Rattle.ob_parser_names.specs.Answering.{Answers, as_it_is};
 
 use crate::halt::Halt;
@@ -153,7 +153,7 @@ pub fn listed_part(
     room: u8,
     tokens: &[Token],
 ) -> Result<(Items<ListedNode>, &[Token]), Halt>
-    ensures { Answers (map listed_of) result (listed_behind (all_refs room) tokens.now) }
+    ensures { Answers (map listed_of) result (listed_after (all_refs room) tokens.now) }
 {
     if !starts_with(tokens, Symbol::Sign(Sign::OpenParen)) {
         return Ok((Items::new(alloc), tokens));

@@ -1,8 +1,8 @@
 //! The first token, or the first two.
 ghost use Rattle.std.specs.Prelude.{◌≡◌, ◌≤◌, [], ◌∷◌, length, IfOk};
-ghost use Rattle.ob_grammar.specs.Symbols.{number};
-ghost use Rattle.ob_grammar.specs.Rows.{joined};
-ghost use Rattle.ob_grammar.specs.Readers.{is_of, begin_with, begin_with_both, place_if, read_token, place_between};
+ghost use Rattle.ob_parser_spec.specs.Symbols.{number};
+ghost use Rattle.ob_parser_spec.specs.Rows.{joined};
+ghost use Rattle.ob_parser_spec.specs.Readers.{is_of, begin_with, begin_with_both, span_if, read_token, span_between};
 ghost use Rattle.ob_parser_names.specs.Answering.{Answers, as_it_is, symbol_for, numbers, read_open};
 ghost use Rattle.ob_parser_names.specs.declared.halt.Halt.TheVariants.{Expected};
 
@@ -46,8 +46,8 @@ pub fn joined(first: Span, last: Span) -> Span
 }
 
 /// The place of the tokens before those that are left.
-pub fn place_between(tokens: &[Token], rest: &[Token]) -> Span
-    ensures { result ≡ place_between tokens.now rest.now }
+pub fn span_between(tokens: &[Token], rest: &[Token]) -> Span
+    ensures { result ≡ span_between tokens.now rest.now }
 {
     let count = tokens.len().saturating_sub(rest.len());
     match &tokens[..count] {
@@ -114,9 +114,9 @@ pub fn starts_with_both(tokens: &[Token], symbols: &[Symbol], others: &[Symbol])
     }
 }
 
-/// The place of a word or a sign, and what is behind it.
+/// The place of a word or a sign, and what is after it.
 pub fn fixed(symbol: Symbol, tokens: &[Token]) -> Result<(Span, &[Token]), Halt>
-    ensures { Answers as_it_is result (read_token (place_if (symbol_for symbol)) tokens.now) }
+    ensures { Answers as_it_is result (read_token (span_if (symbol_for symbol)) tokens.now) }
 {
     match tokens {
         [token, rest @ ..] if is_symbol(token, symbol) => Ok((token.span, rest)),
@@ -124,9 +124,9 @@ pub fn fixed(symbol: Symbol, tokens: &[Token]) -> Result<(Span, &[Token]), Halt>
     }
 }
 
-/// The place of a word or a sign that opens a part, and what is behind it. The part has one less room.
+/// The place of a word or a sign that opens a part, and what is after it. The part has one less room.
 pub fn opens(room: u8, symbol: Symbol, tokens: &[Token]) -> Result<(Span, &[Token]), Halt>
-    ensures read { Answers as_it_is result (read_open (place_if (symbol_for symbol)) 1 room tokens.now) }
+    ensures read { Answers as_it_is result (read_open (span_if (symbol_for symbol)) 1 room tokens.now) }
     ensures room { IfOk result (λ _. 1 ≤ room) }
 {
     let (span, rest) = fixed(symbol, tokens)?;

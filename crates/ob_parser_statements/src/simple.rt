@@ -16,13 +16,13 @@ ghost use Rattle.std.specs.Prelude.{option_map, map, [], ◌∷◌};
 ghost use Rattle.ob_tree.specs.Stmts.{named_local, declare_stmt, change_stmt};
 ghost use Rattle.ob_tree.specs.ExprsView.{expr_of};
 ghost use Rattle.ob_tree.specs.StmtsView.{local_of, given_of, stmt_of};
-ghost use Rattle.ob_grammar.specs.Symbols.{a_name, a_word, number};
-ghost use Rattle.ob_grammar.specs.Readers.{◌>>=◌ as ◌then◌, done, name_if, place_between, read_token, read_both, read_either, read_as, read_maybe};
-ghost use Rattle.ob_grammar.specs.NameReaders.{read_named, read_item, read_parted};
-ghost use Rattle.ob_grammar.specs.Primaries.{uncounted, expr_first, read_new};
-ghost use Rattle.ob_grammar.specs.MemberReaders.{read_maybe_parted};
-ghost use Rattle.ob_grammar.specs.StmtReaders.{read_sign, value_local_if, read_assigned, read_declare, read_assign, read_stage, read_given, read_enclosed_given, read_all_given, read_change, read_called_name, read_called_this, read_call, read_return, read_revert, read_disown, read_assert, read_behind_name, read_simple};
-ghost use Rattle.ob_grammar.specs.AllReaders.{all_refs, all_counted, all_exprs};
+ghost use Rattle.ob_parser_spec.specs.Symbols.{a_name, a_word, number};
+ghost use Rattle.ob_parser_spec.specs.Readers.{◌>>=◌ as ◌then◌, done, name_if, span_between, read_token, read_both, read_either, read_as, read_maybe};
+ghost use Rattle.ob_parser_spec.specs.NameReaders.{read_named, read_item, read_parted};
+ghost use Rattle.ob_parser_spec.specs.Primaries.{uncounted, expr_first, read_new};
+ghost use Rattle.ob_parser_spec.specs.MemberReaders.{read_maybe_parted};
+ghost use Rattle.ob_parser_spec.specs.StmtReaders.{read_sign, value_local_if, read_assigned, read_declare, read_assign, read_stage, read_given, read_enclosed_given, read_all_given, read_change, read_called_name, read_called_this, read_call, read_return, read_revert, read_disown, read_assert, read_after_name, read_simple};
+ghost use Rattle.ob_parser_spec.specs.AllReaders.{all_refs, all_counted, all_exprs};
 ghost use Rattle.ob_parser_names.specs.Answering.{Answers};
 ghost use Rattle.ob_parser_statements.specs.CodeStatements.{named_value};
 ghost use Rattle.ob_lexer.specs.declared.token.Sign.TheVariants.{Comma, Semicolon};
@@ -32,8 +32,8 @@ use ob_base::Items;
 use ob_lexer::{Sign, Token, TokenKind, Word};
 use ob_parser_expressions::{EXPRESSION_FIRST, creation, expression, named_call, this_call};
 use ob_parser_names::{
-    Halt, Symbol, VALUE_TYPES, before, ended, fixed, name_part, named, permission, place_between,
-    refused, starts_with, starts_with_both, starts_with_one_of, subject, with,
+    Halt, Symbol, VALUE_TYPES, before, ended, fixed, name_part, named, permission, refused,
+    span_between, starts_with, starts_with_both, starts_with_one_of, subject, with,
 };
 use ob_tree::{Expr, GivenNode, LocalType, NamePart, Stmt};
 use std::alloc::Global;
@@ -94,7 +94,7 @@ fn value_local(tokens: &[Token]) -> Result<(LocalType, &[Token]), Halt>
 
 // ---- values
 
-/// `NAME "=" expr ";"`, behind the type with which the declaration begins.
+/// `NAME "=" expr ";"`, after the type with which the declaration begins.
 fn declared<'t>(
     alloc: Global,
     room: u8,
@@ -103,10 +103,10 @@ fn declared<'t>(
     rest: &'t [Token],
 ) -> Result<(Stmt, &'t [Token]), Halt>
     ensures { Answers stmt_of result (read_both (read_token name_if) (read_assigned (all_exprs room)) rest.now
-        then (λ parts left. done (declare_stmt (local_of of) parts.0 parts.1 (place_between tokens.now left)) left)) }
+        then (λ parts left. done (declare_stmt (local_of of) parts.0 parts.1 (span_between tokens.now left)) left)) }
 {
     let ((name, value), rest) = name_assigned(alloc, room, rest)?;
-    let span = place_between(tokens, rest);
+    let span = span_between(tokens, rest);
     Ok((
         Stmt::Declare {
             of,
@@ -139,7 +139,7 @@ fn assignment(alloc: Global, room: u8, tokens: &[Token]) -> Result<(Stmt, &[Toke
     ensures { Answers stmt_of result (read_assign (all_exprs room) tokens.now) }
 {
     let ((name, value), rest) = name_assigned(alloc, room, tokens)?;
-    let span = place_between(tokens, rest);
+    let span = span_between(tokens, rest);
     Ok((Stmt::Assign { name, value, span }, rest))
 }
 
@@ -150,7 +150,7 @@ fn staging(alloc: Global, room: u8, tokens: &[Token]) -> Result<(Stmt, &[Token])
     let (state, rest) = name_part(alloc, tokens)?;
     let (state, rest) = before(state, Symbol::Sign(Sign::DoubleColon), rest)?;
     let (state, (field, value), rest) = with(state, name_assigned(alloc, room, rest))?;
-    let span = place_between(tokens, rest);
+    let span = span_between(tokens, rest);
     Ok((
         Stmt::Stage {
             state,
@@ -243,7 +243,7 @@ fn all_given(
     enclosed_given(alloc, room, tokens)
 }
 
-/// `["(" [NAME "=" expr {"," NAME "=" expr}] ")"] ";"`, behind the state to which the change leads.
+/// `["(" [NAME "=" expr {"," NAME "=" expr}] ")"] ";"`, after the state to which the change leads.
 fn changed<'t>(
     alloc: Global,
     room: u8,
@@ -252,7 +252,7 @@ fn changed<'t>(
     rest: &'t [Token],
 ) -> Result<(Stmt, &'t [Token]), Halt>
     ensures { Answers stmt_of result (read_both (read_all_given (all_exprs room)) (read_sign Semicolon) rest.now
-        then (λ parts left. done (change_stmt state parts.0 (place_between tokens.now left)) left)) }
+        then (λ parts left. done (change_stmt state parts.0 (span_between tokens.now left)) left)) }
 {
     let (given, rest) = all_given(alloc, room, rest)?;
     let (given, span, rest) = ended(given, tokens, rest)?;
@@ -351,12 +351,12 @@ fn assertion(alloc: Global, tokens: &[Token]) -> Result<(Stmt, &[Token]), Halt>
 /// The first token of what begins with a name.
 const NAMES: [Symbol; 1] = [Symbol::Name];
 
-/// What is behind the name where it begins a call.
+/// What is after the name where it begins a call.
 const CALL_SIGNS: [Symbol; 2] = [Symbol::Sign(Sign::Dot), Symbol::Sign(Sign::OpenParen)];
 
-/// A statement that begins with a name: what is behind the name says which.
-fn behind_name(alloc: Global, room: u8, tokens: &[Token]) -> Result<(Stmt, &[Token]), Halt>
-    ensures { Answers stmt_of result (read_behind_name all_refs all_counted room tokens.now) }
+/// A statement that begins with a name: what is after the name says which.
+fn after_name(alloc: Global, room: u8, tokens: &[Token]) -> Result<(Stmt, &[Token]), Halt>
+    ensures { Answers stmt_of result (read_after_name all_refs all_counted room tokens.now) }
 {
     if starts_with_both(tokens, &NAMES, &[Symbol::Sign(Sign::Equals)]) {
         return assignment(alloc, room, tokens);
@@ -375,7 +375,7 @@ pub fn simple(alloc: Global, room: u8, tokens: &[Token]) -> Result<(Stmt, &[Toke
     ensures { Answers stmt_of result (read_simple all_refs all_counted room tokens.now) }
 {
     if starts_with(tokens, Symbol::Name) {
-        return behind_name(alloc, room, tokens);
+        return after_name(alloc, room, tokens);
     }
     if starts_with_one_of(tokens, &VALUE_TYPES) {
         return value_declaration(alloc, room, tokens);

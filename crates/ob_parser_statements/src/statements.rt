@@ -12,9 +12,9 @@
 ghost use Rattle.std.specs.Prelude.{◌≡◌, IfOk, IfErr};
 ghost use Rattle.ob_tree.specs.Stmts.{block_with, and_stmt, no_stmts};
 ghost use Rattle.ob_tree.specs.StmtsView.{stmt_of, stmts_of, block_of, else_of};
-ghost use Rattle.ob_grammar.specs.StmtRows.{end_of_else};
-ghost use Rattle.ob_grammar.specs.StmtReaders.{read_tested, read_question, if_with, read_if, read_chained, read_block_or_if, read_alternative, read_stmt};
-ghost use Rattle.ob_grammar.specs.AllReaders.{all_refs, all_counted, all_exprs, all_branches, all_stmts, all_blocks};
+ghost use Rattle.ob_parser_spec.specs.StmtRows.{end_of_else};
+ghost use Rattle.ob_parser_spec.specs.StmtReaders.{read_tested, read_question, if_with, read_if, read_chained, read_block_or_if, read_alternative, read_stmt};
+ghost use Rattle.ob_parser_spec.specs.AllReaders.{all_refs, all_counted, all_exprs, all_branches, all_stmts, all_blocks};
 ghost use Rattle.ob_parser_names.specs.Answering.{Answers};
 ghost use Rattle.ob_parser_statements.specs.CodeStatements.{question_of, branches_of};
 ghost use Rattle.ob_parser_names.specs.declared.halt.Halt.TheVariants.{Memory};
@@ -24,20 +24,20 @@ use ob_base::{Items, Span};
 use ob_lexer::{Sign, Token, Word};
 use ob_parser_expressions::expression;
 use ob_parser_names::{
-    Halt, Symbol, before, fixed, name_part, opens, place_between, starts_with, starts_with_both,
+    Halt, Symbol, before, fixed, name_part, opens, span_between, starts_with, starts_with_both,
     starts_with_one_of, subject, with,
 };
 use ob_tree::{Block, Expr, NamePart, Stmt, Subject};
 use std::alloc::Global;
 
-/// What stands between the parentheses behind `if`.
+/// What stands between the parentheses after `if`.
 #[derive(Drop)]
 enum QuestionPart {
     Test { subject: Subject, state: NamePart },
     Condition(Expr),
 }
 
-/// What stands behind `if`.
+/// What stands after `if`.
 #[derive(Drop)]
 struct BranchesPart {
     question: QuestionPart,
@@ -185,13 +185,13 @@ fn if_statement(alloc: Global, room: u8, tokens: &[Token]) -> Result<(Stmt, &[To
     ensures { Answers stmt_of result (read_if all_branches room tokens.now) }
 {
     let (_, rest) = fixed(Symbol::Word(Word::If), tokens)?;
-    let (branches, rest) = behind_if(alloc, room, rest)?;
-    Ok((asked(branches, place_between(tokens, rest)), rest))
+    let (branches, rest) = after_if(alloc, room, rest)?;
+    Ok((asked(branches, span_between(tokens, rest)), rest))
 }
 
 /// `"(" ((NAME | "this") "in" NAME | expr) ")" block ["else" (block | if)]`
 #[cycle(stmt)]
-fn behind_if(alloc: Global, room: u8, tokens: &[Token]) -> Result<(BranchesPart, &[Token]), Halt>
+fn after_if(alloc: Global, room: u8, tokens: &[Token]) -> Result<(BranchesPart, &[Token]), Halt>
     ensures { Answers branches_of result (all_branches room tokens.now) }
 {
     let (_, rest) = fixed(Symbol::Sign(Sign::OpenParen), tokens)?;
@@ -234,14 +234,14 @@ fn block_or_if(alloc: Global, room: u8, tokens: &[Token]) -> Result<(Block, &[To
     chained(alloc, room, tokens)
 }
 
-/// `if`, behind an `else`.
+/// `if`, after an `else`.
 #[cycle(stmt)]
 fn chained(alloc: Global, room: u8, tokens: &[Token]) -> Result<(Block, &[Token]), Halt>
     ensures { Answers block_of result (read_chained all_branches room tokens.now) }
 {
     let (_, rest) = opens(room, Symbol::Word(Word::If), tokens)?;
-    let (branches, rest) = behind_if(alloc, room - 1, rest)?;
+    let (branches, rest) = after_if(alloc, room - 1, rest)?;
     let end = end_of(&branches);
-    let statement = asked(branches, place_between(tokens, rest));
+    let statement = asked(branches, span_between(tokens, rest));
     Ok((block_of_one(alloc, statement, end)?, rest))
 }

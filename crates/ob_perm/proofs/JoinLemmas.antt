@@ -1,4 +1,4 @@
--- What holds of what is held behind two branches.
+-- What holds of what is held after two branches.
 use Rattle.std.proofs.Common.{◌≡◌, ℕ, Bool, true, false, not, ◌&&◌, ◌||◌, IsTrue, refl, ap, ◌∙◌, ⊎_elim}
 use Rattle.std.specs.Bool.{◌==◌}
 use Rattle.std.proofs.Math.Path.{fun_ext}

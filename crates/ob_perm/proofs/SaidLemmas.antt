@@ -9,7 +9,7 @@ use Rattle.std.proofs.lemmas.Option.{slice_get_within, slice_get-get_or}
 use Rattle.ob_base.specs.declared.id.StateId.{StateId}
 use Rattle.ob_perm.specs.States.{States, stateless, unnamed, states_max, subset, intersection, all_states, image, preimage}
 use Rattle.ob_perm.specs.Permissions.{Permission, owned, shared, unowned, fits, matches, is_on}
-use Rattle.ob_perm.specs.Naming.{Names, IsNaming, called, seen, states_for_interface, states_for_contract, for_interface, for_contract}
+use Rattle.ob_perm.specs.Naming.{Names, IsNaming, called_in_interface, seen, states_for_interface, states_for_contract, for_interface, for_contract}
 use Rattle.ob_perm.proofs.SetLemmas.{any_below_at, any_below_from}
 use Rattle.ob_perm.proofs.FitLemmas.{subset_at, subset_from, subset_itself, fits-owned}
 
@@ -26,7 +26,7 @@ named_below (Some (Some k)) low = omega (arith, low (Some k) refl)
 -- What the interface sees is one of its states, no state or any other.
 pub seen_below : (names : Names) (s : ℕ) → IsNaming names → seen names s < states_max
 unfolding states_max
-seen_below names s is = cond_both (s == stateless) stateless (called names s) (λ n. n < 34) (λ none. lit< tt)
+seen_below names s is = cond_both (s == stateless) stateless (called_in_interface names s) (λ n. n < 34) (λ none. lit< tt)
     (λ some. named_below (slice_get names s) (λ x found.
     let within = slice_get_within names s x found in
     let same : get_or names s x ≡ x = cc (slice_get-get_or names s x within) in
@@ -38,8 +38,8 @@ in_image f a s h in_a = any_below_from states_max (λ k. a k && f s == f k) s h
     (and_from (a s) (f s == f s) in_a (eq-eqb (f s) (f s) refl))
 
 pub from_image : (f : ℕ → ℕ) (a : States) (i : ℕ) → image f a i ≡ true → (s : ℕ) × (s < states_max) × (a s ≡ true) × (i ≡ f s)
-from_image f a i called =
-    let some : (s : ℕ) × (s < states_max) × ((a s && i == f s) ≡ true) = any_below_at states_max (λ s. a s && i == f s) called in
+from_image f a i called_in_interface =
+    let some : (s : ℕ) × (s < states_max) × ((a s && i == f s) ≡ true) = any_below_at states_max (λ s. a s && i == f s) called_in_interface in
     let parts = and_parts (a some.0) (i == f some.0) some.2 in
     (some.0, some.1, parts.0, eqb-true i (f some.0) parts.1)
 
@@ -50,8 +50,8 @@ image-subset f all a b low among = both_ways (subset (image f a) b) (subset a (i
     (λ there. subset_from a (intersection all (preimage f b)) (λ s h in_a.
     and_from (all s) (b (f s)) (subset_at a all among s h in_a)
     (subset_at (image f a) b there (f s) (low s) (in_image f a s h in_a))))
-    (λ back. subset_from (image f a) b (λ i h called.
-    let some = from_image f a i called in
+    (λ back. subset_from (image f a) b (λ i h called_in_interface.
+    let some = from_image f a i called_in_interface in
     let in_back = subset_at a (intersection all (preimage f b)) back some.0 some.1 some.2 in
     ap b some.3 ∙ (and_parts (all some.0) (b (f some.0)) in_back).1))
 

@@ -15,12 +15,12 @@ pub record IsNaming (names : Names) : Type 0 where
   pub of_interface : All (λ name. IfSome name (λ k. k.0 < 32)) names
 
 -- what the interface calls a state of the contract: its own state of that name, or else any that it doesn't name
-abbrev pub called : Names → ℕ → ℕ
-called names s = option_map_or (λ (k : StateId). k.0) (option_flatten (slice_get names s)) unnamed
+abbrev pub called_in_interface : Names → ℕ → ℕ
+called_in_interface names s = option_map_or (λ (k : StateId). k.0) (option_flatten (slice_get names s)) unnamed
 
 -- as which state the interface sees one of the contract, or no state
 abbrev pub seen : Names → ℕ → ℕ
-seen names s = if s == stateless then stateless else called names s
+seen names s = if s == stateless then stateless else called_in_interface names s
 
 -- the states of a contract, said for its interface
 abbrev pub states_for_interface : Names → States → States

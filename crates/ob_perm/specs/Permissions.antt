@@ -1,5 +1,5 @@
 -- What a reference may do with its object (Coblenz et al., TOPLAS 42(3), 2020, "Permissions"; what the giver keeps, and
--- what is held behind two branches, is this project's own).
+-- what is held after two branches, is this project's own).
 use Rattle.std.specs.Prelude.{ℕ, Bool, true, false, not, Option, Some, None, is_none, if◌then◌else◌, ⊤}
 use Rattle.ob_base.specs.Faults.{not_owning, wrong_state, not_shared}
 use Rattle.ob_perm.specs.States.{States, IsNumbered, union, within, without, subset, all_states}
@@ -77,7 +77,7 @@ kept p unowned = p
 kept p shared = shared
 kept p (owned b) = unowned
 
--- what is held behind two branches: what both hold, if they hold the object in the same way, and else no say
+-- what is held after two branches: what both hold, if they hold the object in the same way, and else no say
 abbrev pub joined : Permission → Permission → Permission
 joined (owned a) (owned b) = owned (union a b)
 joined (owned a) shared = unowned
@@ -89,7 +89,7 @@ joined unowned (owned b) = unowned
 joined unowned shared = unowned
 joined unowned unowned = unowned
 
--- whether one of two branches holds the object as its owner and the other doesn't, so that the owner is lost behind
+-- whether one of two branches holds the object as its owner and the other doesn't, so that the owner is lost after
 abbrev pub loses_owner : Permission → Permission → Bool
 loses_owner (owned a) q = not (owns q)
 loses_owner shared q = owns q

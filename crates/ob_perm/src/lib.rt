@@ -1,4 +1,4 @@
-//! Permissions: what fits, what the giver keeps, what is held behind two branches, and how a permission on a contract
+//! Permissions: what fits, what the giver keeps, what is held after two branches, and how a permission on a contract
 //! is said for its interface. A set of states is a number here, whose bit i says whether state i is in it.
 #![tactic(auto)]
 

@@ -37,7 +37,7 @@ impl FitFault {
     }
 }
 
-/// One branch holds the object as its owner and the other doesn't, so an asset would be lost behind them.
+/// One branch holds the object as its owner and the other doesn't, so an asset would be lost after them.
 #[derive(Clone, Copy, PartialEq, Eq, Debug, Error)]
 #[error("an asset is kept by one branch and not by the other")]
 pub struct Loses;
@@ -117,7 +117,7 @@ pub fn give(p: Perm, want: Perm) -> Perm
     }
 }
 
-/// What is held behind two branches. `Loses` exactly where the object is an asset, and one branch holds it as its owner
+/// What is held after two branches. `Loses` exactly where the object is an asset, and one branch holds it as its owner
 /// and the other doesn't.
 pub fn join(a: Perm, b: Perm, asset: bool) -> Result<Perm, Loses>
     ensures is { IfOk result (λ p. permission_of p ≡ joined (permission_of a) (permission_of b)) }

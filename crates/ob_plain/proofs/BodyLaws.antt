@@ -13,7 +13,7 @@ use Rattle.ob_plain.specs.declared.built.BuiltError.TheVariants.{NotBuilt, Memor
 use Rattle.ob_plain.specs.declared.tree.SetTree.{SetTree}
 use Rattle.ob_plain.specs.declared.tree.SumTree.{SumTree}
 
--- sets, and what is returned behind them
+-- sets, and what is returned after them
 abbrev body_with : Option (List SetTree) → Option SumTree → Option (List SetTree × SumTree)
 body_with sets gives = sets >>= λ ss. gives >>= λ g. Some (ss, g)
 

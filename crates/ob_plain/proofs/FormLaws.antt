@@ -6,11 +6,11 @@ use Rattle.ob_machine.specs.declared.plain.Plain.{Plain}
 use Rattle.ob_machine.specs.Closed.{is_closed_program}
 use Rattle.ob_front.specs.Stages.{IsTreeOf, HasTreeFault, at_tree}
 use Rattle.ob_front.specs.Programs.{at_table, HasTextFault, at_terms}
-use Rattle.ob_front.specs.Compiling.{OnFault}
-use Rattle.ob_front.specs.declared.stages.CompileError.{CompileError}
-use Rattle.ob_front.specs.declared.stages.CompileError.TheVariants as compiling
+use Rattle.ob_base.specs.TextErrors.{OnFault}
+use Rattle.ob_base.specs.declared.text_error.TextError.{TextError}
+use Rattle.ob_base.specs.declared.text_error.TextError.TheVariants.{Fault, Memory}
 use Rattle.ob_front.proofs.StagesLaws.{one_tree, tree_or_none}
-use Rattle.ob_front.proofs.ProgramsLaws.{accepted_or_fault_lem, one_text_fault_lem}
+use Rattle.ob_front.proofs.ProgramsLaws.{never_accepted_and_faulty_lem, one_text_fault_lem}
 use Rattle.ob_plain.specs.BuiltForm.{program_of}
 use Rattle.ob_plain.specs.Resolved.{plain_of}
 use Rattle.ob_plain.specs.Form.{is_valid, HasProgram, IsOfForm, IsFaulty, in_text, in_form}
@@ -55,9 +55,9 @@ no_form : (text : List ℕ) (fault : ProgramFault) → HasTreeFault text fault �
 no_form text fault none of = tree_or_none text of.1.tree fault (tree_of_program text of.0 of.1) none
 
 -- what is told of a text without a tree
-pub faulty_without_tree : (text : List ℕ) (cause : CompileError) → OnFault cause (HasTreeFault text) → OnFault cause (IsFaulty text)
-faulty_without_tree text (compiling.Fault fault) none = in_text (at_terms (at_table (at_tree none))) (no_form text fault none)
-faulty_without_tree text compiling.Memory none = tt
+pub faulty_without_tree : (text : List ℕ) (cause : TextError) → OnFault cause (HasTreeFault text) → OnFault cause (IsFaulty text)
+faulty_without_tree text (Fault fault) none = in_text (at_terms (at_table (at_tree none))) (no_form text fault none)
+faulty_without_tree text Memory none = tt
 
 -- a text whose tree is of another form is of no form
 other_form : (text : List ℕ) (tree : List Contract) → IsTreeOf text tree → Forms tree Other → ¬ (IsOfForm text)
@@ -70,18 +70,18 @@ told_of_form : (text : List ℕ) (fault : ProgramFault) → ¬ (IsOfForm text) �
 told_of_form text fault none (inl has) = in_text has none
 told_of_form text fault none (inr (is, e)) = in_form is none e
 
-pub faulty_tree : (text : List ℕ) (tree : List Contract) (cause : CompileError) → IsTreeOf text tree → Forms tree Other → OnFault cause (IsToldOf text) → OnFault cause (IsFaulty text)
-faulty_tree text tree (compiling.Fault fault) is other told = told_of_form text fault (other_form text tree is other) told
-faulty_tree text tree compiling.Memory is other told = tt
+pub faulty_tree : (text : List ℕ) (tree : List Contract) (cause : TextError) → IsTreeOf text tree → Forms tree Other → OnFault cause (IsToldOf text) → OnFault cause (IsFaulty text)
+faulty_tree text tree (Fault fault) is other told = told_of_form text fault (other_form text tree is other) told
+faulty_tree text tree Memory is other told = tt
 
-pub form_or_fault_lem : (text : List ℕ) (fault : ProgramFault) → IsFaulty text fault → ¬ (IsOfForm text)
-form_or_fault_lem text fault (in_text has none) of = none of
-form_or_fault_lem text fault (in_form is none e) of = none of
+pub never_of_form_and_faulty_lem : (text : List ℕ) (fault : ProgramFault) → IsFaulty text fault → ¬ (IsOfForm text)
+never_of_form_and_faulty_lem text fault (in_text has none) of = none of
+never_of_form_and_faulty_lem text fault (in_form is none e) of = none of
 
 pub one_fault_told : (text : List ℕ) (a b : ProgramFault) → IsFaulty text a → IsFaulty text b → a ≡ b
 one_fault_told text a b (in_text p none) (in_text q none') = one_text_fault_lem text a b p q
-one_fault_told text a b (in_text p none) (in_form is none' e) = absurd (accepted_or_fault_lem text a p is)
-one_fault_told text a b (in_form is none e) (in_text q none') = absurd (accepted_or_fault_lem text b q is)
+one_fault_told text a b (in_text p none) (in_form is none' e) = absurd (never_accepted_and_faulty_lem text a p is)
+one_fault_told text a b (in_form is none e) (in_text q none') = absurd (never_accepted_and_faulty_lem text b q is)
 one_fault_told text a b (in_form is none e) (in_form is' none' e') = e ∙ sym e'
 
 -- ---- what a tree comes to
@@ -94,6 +94,6 @@ pub formed_other : (tree : List Contract) → program_of tree ≡ None → Forms
 formed_other tree none program e = let f : None ≡ Some program = sym none ∙ e in cc
 
 -- what is told of a text with a fault
-pub told_with_fault : (text : List ℕ) (cause : CompileError) → OnFault cause (HasTextFault text) → OnFault cause (IsToldOf text)
-told_with_fault text (compiling.Fault fault) has = inl has
-told_with_fault text compiling.Memory has = tt
+pub told_with_fault : (text : List ℕ) (cause : TextError) → OnFault cause (HasTextFault text) → OnFault cause (IsToldOf text)
+told_with_fault text (Fault fault) has = inl has
+told_with_fault text Memory has = tt

@@ -19,7 +19,7 @@ pub list_of-stmts : (ss : List Stmt) → list_of (stmts ss) ≡ ss
 list_of-stmts [] = refl
 list_of-stmts (s ∷ ss) = ap (λ more. s ∷ more) (list_of-stmts ss)
 
--- a transaction with a list behind `private` is of no form
+-- a transaction with a list after `private` is of no form
 pub listed_none : (private : Bool) (listed : List ListedNode) (part : NamePart) (params : List Formal) (result : Option TypeExpr) (body : Option Block) (span : Span) → ¬ (listed ≡ []) → transaction_of (transaction_member private (map listed_of listed) part params result body span) ≡ None
 listed_none true listed part params result body span some = refl
 listed_none false [] part params result body span some = absurd (some refl)

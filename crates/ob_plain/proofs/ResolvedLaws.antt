@@ -9,7 +9,7 @@ use Rattle.std.proofs.lemmas.Bool.{and_parts, and_from}
 use Rattle.ob_machine.specs.Closed.{term_exists, sum_exists, set_exists, names_exist, is_closed}
 use Rattle.ob_machine.specs.declared.plain.PlainTerm.TheVariants as plain
 use Rattle.ob_plain.specs.Conditions.{is_among, is_known_term, is_known_sum, is_known_set, is_transaction, are_starts, meets_conditions}
-use Rattle.ob_plain.specs.Resolved.{place_of, plain_term, plain_addend, plain_sum, plain_set, plain_transaction, plain_of}
+use Rattle.ob_plain.specs.Resolved.{number_of, plain_term, plain_addend, plain_sum, plain_set, plain_transaction, plain_of}
 use Rattle.ob_plain.specs.declared.tree.ProgramTree.{ProgramTree}
 use Rattle.ob_plain.specs.declared.tree.StartTree.{StartTree}
 use Rattle.ob_plain.specs.declared.tree.TransactionTree.{TransactionTree}
@@ -25,11 +25,11 @@ place_step true among place count rest h = omega arith
 place_step false among place count rest h = omega (arith, rest h)
 
 -- the place of a name that stands among names is below their number
-place_below : (name : List ℕ) (names : List (List ℕ)) → is_among name names ≡ true → place_of name names < length names
+place_below : (name : List ℕ) (names : List (List ℕ)) → is_among name names ≡ true → number_of name names < length names
 place_below name [] h = absurd (cc)
-place_below name (n ∷ names) h = place_step (bytes_eq name n) (is_among name names) (place_of name names) (length names) (place_below name names) h
+place_below name (n ∷ names) h = place_step (bytes_eq name n) (is_among name names) (number_of name names) (length names) (place_below name names) h
 
-place_passes : (name : List ℕ) (names : List (List ℕ)) → is_among name names ≡ true → nat_lt (place_of name names) (length names) ≡ true
+place_passes : (name : List ℕ) (names : List (List ℕ)) → is_among name names ≡ true → nat_lt (number_of name names) (length names) ≡ true
 place_passes name names h = let below = place_below name names h in grind (arith, nat_tests)
 
 -- ---- lists
@@ -51,7 +51,7 @@ starts_length (f ∷ fields) (s ∷ starts) h =
 
 -- ---- the parts of a program
 
-name_exists : (name : List ℕ) (fields params : List (List ℕ)) (field : Bool) → is_among name fields ≡ field → (field || is_among name params) ≡ true → term_exists (length fields) (length params) (if field then plain.Field (record { 0 = place_of name fields }) else plain.Param (place_of name params)) ≡ true
+name_exists : (name : List ℕ) (fields params : List (List ℕ)) (field : Bool) → is_among name fields ≡ field → (field || is_among name params) ≡ true → term_exists (length fields) (length params) (if field then plain.Field (record { 0 = number_of name fields }) else plain.Param (number_of name params)) ≡ true
 name_exists name fields params true is h = place_passes name fields is
 name_exists name fields params false is h = place_passes name params h
 

@@ -40,7 +40,7 @@ term_of (number_expr value span) = Some (term'.Number value)
 term_of (name_expr part span) = name_of part.name >>= (λ n. Some (term'.Name n))
 term_of e = None
 
--- one more term, behind a `+` on this line
+-- one more term, after a `+` on this line
 abbrev pub and_term : SumTree → ℕ → TermTree → SumTree
 and_term s line t = record { first = s.first; more = s.more ++ record { line = line; term = t } ∷ [] }
 
@@ -89,12 +89,12 @@ abbrev pub is_int : TypeExpr → Bool
 is_int (int_type span) = true
 is_int t = false
 
--- no `>>`, and `this` behind the type
+-- no `>>`, and `this` after the type
 abbrev pub this_of : Option (List ℕ) → Option PermNode → Subject → Option (List ℕ)
 this_of of None (subject'.This span) = of
 this_of of exit name = None
 
--- no `>>`, and a name behind `int`
+-- no `>>`, and a name after `int`
 abbrev pub int_of : Bool → Option PermNode → Subject → Option (List ℕ)
 int_of true None (subject'.Name part) = name_of part.name
 int_of is exit name = None
@@ -121,7 +121,7 @@ abbrev pub transaction_of : Member → Option TransactionTree
 transaction_of (transaction_member false [] part params (Some (int_type place)) (Some (block_with body end)) span) = transaction_with part.name params (list_of body)
 transaction_of m = None
 
--- a name behind `int`, with no states behind it
+-- a name after `int`, with no states after it
 abbrev pub field_with : Bool → List ℕ → List NamePart → Option (List ℕ)
 field_with true name [] = name_of name
 field_with int name available = None
@@ -160,7 +160,7 @@ parts_of (m ∷ ms) =
 abbrev pub program_with : List ℕ → Parts → ProgramTree
 program_with name parts = record { name = name; fields = parts.fields; constructor = parts.constructor; starts = parts.starts; transactions = parts.transactions }
 
--- a main contract that is no asset and has nothing in brackets or behind `implements`
+-- a main contract that is no asset and has nothing in brackets or after `implements`
 abbrev pub is_plain : Contract → Bool
 is_plain c = c.main && not c.asset && not c.interface && is_none c.param && is_none c.implements
 

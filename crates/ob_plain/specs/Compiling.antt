@@ -2,7 +2,7 @@
 use Rattle.std.specs.Prelude.{ℕ, ◌≡◌, ◌⊎◌, [], false, List, Option, Some, option_map, IsTrue}
 use Rattle.ob_base.specs.Faults.{not_built}
 use Rattle.ob_base.specs.declared.fault.ProgramFault.{ProgramFault}
-use Rattle.ob_lexer.specs.Places.{fault_at}
+use Rattle.ob_lexer.specs.Spans.{fault_at}
 use Rattle.ob_tree.specs.Members.{Contract}
 use Rattle.ob_front.specs.Programs.{IsAccepted, HasTextFault}
 use Rattle.ob_plain.specs.BuiltForm.{program_of}

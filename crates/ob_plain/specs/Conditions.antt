@@ -3,6 +3,7 @@
 use Rattle.std.specs.Prelude.{ℕ, Bool, true, false, ◌&&◌, not, nat_le, List, [], ◌∷◌, ◌++◌, length, map}
 use Rattle.std.specs.List.{list_all, list_any}
 use Rattle.std.specs.Str.{bytes_eq}
+use Rattle.ob_base.specs.Limits.{most_fields, most_transactions, most_params}
 use Rattle.ob_plain.specs.declared.tree.ProgramTree.{ProgramTree}
 use Rattle.ob_plain.specs.declared.tree.StartTree.{StartTree}
 use Rattle.ob_plain.specs.declared.tree.TransactionTree.{TransactionTree}
@@ -37,7 +38,7 @@ is_known_set fields names set = is_among set.field fields && is_known_sum names 
 -- sums are known.
 abbrev pub is_transaction : List ℕ → List (List ℕ) → TransactionTree → Bool
 is_transaction contract fields t =
-    bytes_eq t.this contract && nat_le (length t.params) 16 && are_distinct t.params && list_all (λ p. not (is_among p fields)) t.params
+    bytes_eq t.this contract && nat_le (length t.params) most_params && are_distinct t.params && list_all (λ p. not (is_among p fields)) t.params
     && list_all (is_known_set fields (fields ++ t.params)) t.sets && is_known_sum (fields ++ t.params) t.gives
 
 -- the constructor assigns each field once, in the order of the fields
@@ -51,5 +52,5 @@ are_starts (f ∷ fields) (s ∷ starts) = bytes_eq f s.field && are_starts fiel
 -- fields in order; and each transaction meets its own conditions.
 abbrev pub meets_conditions : ProgramTree → Bool
 meets_conditions p =
-    bytes_eq p.constructor p.name && nat_le (length p.fields) 64 && are_distinct p.fields && are_starts p.fields p.starts
-    && nat_le (length p.transactions) 256 && are_distinct (map (λ t. t.name) p.transactions) && list_all (is_transaction p.name p.fields) p.transactions
+    bytes_eq p.constructor p.name && nat_le (length p.fields) most_fields && are_distinct p.fields && are_starts p.fields p.starts
+    && nat_le (length p.transactions) most_transactions && are_distinct (map (λ t. t.name) p.transactions) && list_all (is_transaction p.name p.fields) p.transactions

@@ -2,11 +2,11 @@
 use Rattle.std.specs.Prelude.{ℕ, ◌≡◌, Bool, true, List, [], Option, Some, None, option_map, IsTrue}
 use Rattle.ob_base.specs.Faults.{not_built}
 use Rattle.ob_base.specs.declared.fault.ProgramFault.{ProgramFault}
-use Rattle.ob_lexer.specs.Places.{fault_at}
+use Rattle.ob_lexer.specs.Spans.{fault_at}
 use Rattle.ob_lexer.specs.Lexis.{HasTokens}
 use Rattle.ob_lexer.specs.declared.lexer.Lexed.{Lexed}
 use Rattle.ob_tree.specs.Members.{Contract}
-use Rattle.ob_grammar.specs.Grammar.{HasTree}
+use Rattle.ob_parser_spec.specs.Grammar.{HasTree}
 use Rattle.ob_front.specs.Programs.{IsAccepted, HasTextFault}
 use Rattle.ob_machine.specs.declared.plain.Plain.{Plain}
 use Rattle.ob_plain.specs.BuiltForm.{program_of}

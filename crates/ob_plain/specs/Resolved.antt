@@ -18,14 +18,14 @@ use Rattle.ob_plain.specs.declared.tree.TermTree.{TermTree}
 use Rattle.ob_plain.specs.declared.tree.TermTree.TheVariants.{Number, Name}
 
 -- the place of a name among names, from 0
-abbrev pub place_of : List ℕ → List (List ℕ) → ℕ
-place_of name [] = 0
-place_of name (n ∷ names) = if bytes_eq name n then 0 else suc (place_of name names)
+abbrev pub number_of : List ℕ → List (List ℕ) → ℕ
+number_of name [] = 0
+number_of name (n ∷ names) = if bytes_eq name n then 0 else suc (number_of name names)
 
 -- a name is the field of that name, or else the parameter
 abbrev pub plain_term : List (List ℕ) → List (List ℕ) → TermTree → PlainTerm
 plain_term fields params (Number z) = plain.Number z
-plain_term fields params (Name n) = if is_among n fields then plain.Field (record { 0 = place_of n fields }) else plain.Param (place_of n params)
+plain_term fields params (Name n) = if is_among n fields then plain.Field (record { 0 = number_of n fields }) else plain.Param (number_of n params)
 
 -- an added term keeps the line of its `+`
 abbrev pub plain_addend : List (List ℕ) → List (List ℕ) → AddendTree → PlainAddend
@@ -37,7 +37,7 @@ plain_sum fields params s = record { first = plain_term fields params s.first; m
 
 -- an assignment to the field at the place of its name
 abbrev pub plain_set : List (List ℕ) → List (List ℕ) → SetTree → PlainSet
-plain_set fields params s = record { field = record { 0 = place_of s.field fields }; sum = plain_sum fields params s.sum }
+plain_set fields params s = record { field = record { 0 = number_of s.field fields }; sum = plain_sum fields params s.sum }
 
 -- a transaction, statement by statement
 abbrev pub plain_transaction : List (List ℕ) → TransactionTree → PlainTx

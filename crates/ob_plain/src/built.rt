@@ -395,7 +395,7 @@ fn parts(alloc: Global, members: &[Member]) -> Result<Contents, BuiltError>
 
 // ---- programs
 
-// Main and no asset, with nothing in brackets or behind `implements`.
+// Main and no asset, with nothing in brackets or after `implements`.
 fn is_plain(contract: &ContractNode) -> bool
     ensures { result ≡ is_plain (contract_of contract.now) }
 {

@@ -4,7 +4,7 @@ ghost use Rattle.ob_base.specs.declared.fault.ProgramFault.{ProgramFault};
 ghost use Rattle.ob_tree.specs.MembersView.{tree_of};
 ghost use Rattle.ob_machine.specs.Closed.{is_closed_program};
 ghost use Rattle.ob_machine.specs.declared.plain.Plain.{Plain};
-ghost use Rattle.ob_front.specs.Compiling.{OnFault};
+ghost use Rattle.ob_base.specs.TextErrors.{OnFault};
 ghost use Rattle.ob_plain.specs.Form.{HasProgram, IsOfForm, IsFaulty};
 ghost use Rattle.ob_plain.specs.Compiling.{Resolves, Forms, IsToldOf};
 
@@ -90,7 +90,7 @@ pub fn one_program()
 {}
 
 /// A text that is of the form of a program has no fault that is told.
-pub fn form_or_fault()
+pub fn never_of_form_and_faulty()
     ensures { (text : List ℕ) (fault : ProgramFault) → IsFaulty text fault → ¬ (IsOfForm text) }
 {}
 

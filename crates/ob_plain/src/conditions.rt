@@ -9,16 +9,7 @@ ghost use Rattle.ob_plain.specs.Conditions.{is_among, are_distinct, is_known_ter
 use crate::tree::{
     AddendTree, ProgramTree, SetTree, StartTree, SumTree, TermTree, TransactionTree,
 };
-use ob_base::Name;
-
-/// The most fields that a contract has.
-const MOST_FIELDS: usize = 64;
-
-/// The most parameters that a transaction has.
-const MOST_PARAMS: usize = 16;
-
-/// The most transactions that a contract has.
-const MOST_TRANSACTIONS: usize = 256;
+use ob_base::{MOST_FIELDS, MOST_PARAMS, MOST_TRANSACTIONS, Name};
 
 /// The most terms that are added to the first of a sum.
 const MOST_ADDENDS: usize = 16;

@@ -7,4 +7,4 @@ mod conditions;
 mod resolver;
 mod tree;
 
-pub use compiling::{compile_plain, form_or_fault, one_fault, one_program};
+pub use compiling::{compile_plain, never_of_form_and_faulty, one_fault, one_program};

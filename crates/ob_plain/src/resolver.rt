@@ -1,7 +1,7 @@
 //! From the tree of a program to the program, with places in the place of names.
 ghost use Rattle.std.specs.Prelude.{◌≡◌, ◌<◌, map, length, All, IsTrue, IfOk};
 ghost use Rattle.ob_plain.specs.Conditions.{meets_conditions};
-ghost use Rattle.ob_plain.specs.Resolved.{place_of, plain_term, plain_addend, plain_sum, plain_set, plain_transaction, plain_of};
+ghost use Rattle.ob_plain.specs.Resolved.{number_of, plain_term, plain_addend, plain_sum, plain_set, plain_transaction, plain_of};
 
 use crate::conditions::is_among;
 use crate::tree::{ProgramTree, SetTree, StartTree, SumTree, TermTree, TransactionTree};
@@ -10,9 +10,9 @@ use ob_machine::{Plain, PlainAddend, PlainSet, PlainSum, PlainTerm, PlainTx};
 use std::alloc::Global;
 
 // The place of the name, from 0: the number of names, where it is none of them.
-fn place_of(name: &Name, names: &[Name]) -> u8
+fn number_of(name: &Name, names: &[Name]) -> u8
     requires { length names.now < 256 }
-    ensures { result ≡ place_of name.now names.now }
+    ensures { result ≡ number_of name.now names.now }
 {
     let mut place = 0;
     for other in names {
@@ -33,9 +33,9 @@ fn term(fields: &[Name], params: &[Name], term: &TermTree) -> PlainTerm
         TermTree::Number(number) => PlainTerm::Number(*number),
         TermTree::Name(name) => {
             if is_among(name, fields) {
-                PlainTerm::Field(FieldId(place_of(name, fields)))
+                PlainTerm::Field(FieldId(number_of(name, fields)))
             } else {
-                PlainTerm::Param(place_of(name, params))
+                PlainTerm::Param(number_of(name, params))
             }
         }
     }
@@ -65,7 +65,7 @@ fn set(alloc: Global, fields: &[Name], params: &[Name], set: &SetTree) -> Result
     ensures { IfOk result (λ plain. plain ≡ plain_set fields.now params.now set.now) }
 {
     Ok(PlainSet {
-        field: FieldId(place_of(&set.field, fields)),
+        field: FieldId(number_of(&set.field, fields)),
         sum: sum(alloc, fields, params, &set.sum)?,
     })
 }

@@ -1,13 +1,11 @@
 -- Which fault is told of a program, and what the resolver answers.
-use Rattle.std.specs.Prelude.{◌≡◌, ⊤, Some}
+use Rattle.std.specs.Prelude.{◌≡◌, Some}
 use Rattle.ob_base.specs.declared.fault.ProgramFault.{ProgramFault}
 use Rattle.ob_table.specs.Tables.{ClassTable}
-use Rattle.ob_typing.specs.Declarations.{Program}
-use Rattle.ob_typing.specs.Faults.{HasNoFault, IsLeast}
-use Rattle.ob_typing.specs.Least.{least_fault}
-use Rattle.ob_typing.specs.TableOf.{table_of}
-use Rattle.ob_resolve.specs.declared.resolving.ResolveError.{ResolveError}
-use Rattle.ob_resolve.specs.declared.resolving.ResolveError.TheVariants.{Fault, Memory}
+use Rattle.ob_resolve_spec.specs.Declarations.{Program}
+use Rattle.ob_resolve_spec.specs.Faults.{HasNoFault, IsLeast}
+use Rattle.ob_resolve_spec.specs.Least.{least_fault}
+use Rattle.ob_resolve_spec.specs.TableOf.{table_of}
 
 -- The fault that is told of a program: none has a lesser place, or at its place a lesser number. Of several with this place
 -- and number it is that of the first site.
@@ -19,8 +17,3 @@ pub record IsFirstFault (program : Program) (fault : ProgramFault) : Type 0 wher
 pub record HasClassTable (program : Program) (table : ClassTable) : Type 0 where
   pub clean : HasNoFault program
   pub is : table ≡ table_of program
-
--- a fact of the fault that is answered. Where memory runs out nothing is said
-abbrev pub OnFault : ResolveError → (ProgramFault → Type 0) → Type 0
-OnFault (Fault fault) says = says fault
-OnFault Memory says = ⊤

@@ -1,7 +1,8 @@
 -- From what is done with a text to what a run says.
-use Rattle.std.proofs.Common.{◌≡◌, ◌⊎◌, inl, inr, ℕ, ◌<◌, ◌≤◌, ◌^◌, List, length, take, Option, None, Some, refl, ap, subst, arith, length-append, length-take}
+use Rattle.std.proofs.Common.{◌≡◌, ◌⊎◌, inl, inr, ℕ, ◌<◌, ◌≤◌, List, length, take, Option, None, Some, refl, ap, subst, arith, length-append, length-take}
 use Rattle.std.proofs.lemmas.Bool.{cases_lt}
 use Rattle.std.proofs.lemmas.List.{take_all}
+use Rattle.ob_base.specs.Limits.{longest_program, most_taken}
 use Rattle.ob_io.specs.Files.{IsAsked}
 use Rattle.ob_io.specs.Told.{Takes}
 use Rattle.ob_machine.specs.declared.plain.Plain.{Plain}
@@ -9,70 +10,70 @@ use Rattle.ob_base.specs.declared.fault.ProgramFault.{ProgramFault}
 use Rattle.ob_lexer.specs.Flaws.{HasFault, too_long, no_utf8, flawed}
 use Rattle.ob_front.specs.Stages.{at_token, at_row, HasTableFault, at_tree, at_bracket, at_site}
 use Rattle.ob_front.specs.Programs.{HasTermsFault, at_table, at_slot, IsAccepted, HasTextFault, at_terms, at_premise}
-use Rattle.ob_front.proofs.ProgramsLaws.{accepted_or_fault_lem}
+use Rattle.ob_front.proofs.ProgramsLaws.{never_accepted_and_faulty_lem}
 use Rattle.ob_plain.specs.Form.{IsOfForm, IsFaulty, in_text, in_form}
-use Rattle.ob_plain.proofs.FormLaws.{form_or_fault_lem}
+use Rattle.ob_plain.proofs.FormLaws.{never_of_form_and_faulty_lem}
 use Rattle.ob_serve.specs.Served.{Streams, IsAll, Finishes, FailsToRead, FailsToWrite, GivesUp, ReachesLimit}
-use Rattle.ob_run.specs.Asked.{program_ask}
+use Rattle.ob_run.specs.Asked.{most_read, program_ask}
 use Rattle.ob_run.specs.Commands.{Command, serve, check, file_of, command_of}
 use Rattle.ob_run.specs.Outside.{Outside, streams}
-use Rattle.ob_run.specs.Statuses.{ServesProgram, IsToldBy, IsRefusal, IsFinding, IsOfText, Treats, TreatsFile, IsDone, IsRefused, IsUsage, IsFileFault, IsReadFault, IsWriteFault, IsMemory, IsLong, Meets, IsSmooth, IsSmoothCheck}
+use Rattle.ob_run.specs.Statuses.{ServesProgram, IsToldBy, IsRefusal, IsFinding, IsOfText, Treats, TreatsFile, IsDone, IsRefused, IsUsage, IsFileFault, IsReadFault, IsWriteFault, IsMemory, IsLong, MeetsStatus, IsSmooth, IsSmoothCheck}
 use Rattle.ob_run.specs.TextRead.{IsReadOf}
 use Rattle.ob_run.specs.declared.exit.Exit.{Exit}
 use Rattle.ob_run.specs.declared.exit.Exit.TheVariants.{Done, Refused, Usage, ReadFault, WriteFault, FileFault, Memory, Long}
 
 -- ---- what is done with a text that was cut is done with all of it
 
-long_and_short : (text : List ℕ) → 1048576 < length text → length text ≤ 1048576 → ⊥
+long_and_short : (text : List ℕ) → longest_program < length text → length text ≤ longest_program → ⊥
 long_and_short text long short = omega arith
 
 -- a text that is longer than a program may have has the same fault as what was read of it
-module _ (content : List ℕ) (long : 1048576 < length (take 1048577 content)) where
-  too_long_tokens : (fault : ProgramFault) → HasFault (take 1048577 content) fault → HasFault content fault
-  too_long_tokens fault (too_long f) = too_long (record { long = omega (arith, length-take 1048577 content); is = f.is })
-  too_long_tokens fault (no_utf8 f) = absurd (long_and_short (take 1048577 content) long f.short)
-  too_long_tokens fault (flawed f) = absurd (long_and_short (take 1048577 content) long f.short)
+module _ (content : List ℕ) (long : longest_program < length (take most_read content)) where
+  too_long_tokens : (fault : ProgramFault) → HasFault (take most_read content) fault → HasFault content fault
+  too_long_tokens fault (too_long f) = too_long (record { long = omega (arith, length-take most_read content); is = f.is })
+  too_long_tokens fault (no_utf8 f) = absurd (long_and_short (take most_read content) long f.short)
+  too_long_tokens fault (flawed f) = absurd (long_and_short (take most_read content) long f.short)
 
-  too_long_table : (fault : ProgramFault) → HasTableFault (take 1048577 content) fault → HasTableFault content fault
+  too_long_table : (fault : ProgramFault) → HasTableFault (take most_read content) fault → HasTableFault content fault
   too_long_table fault (at_tree (at_token has)) = at_tree (at_token (too_long_tokens fault has))
-  too_long_table fault (at_tree (at_row lexed spelled has)) = absurd (long_and_short (take 1048577 content) long spelled.short)
-  too_long_table fault (at_bracket has number) = absurd (long_and_short (take 1048577 content) long has.of.spelled.short)
-  too_long_table fault (at_site tree is has) = absurd (long_and_short (take 1048577 content) long is.of.spelled.short)
+  too_long_table fault (at_tree (at_row lexed spelled has)) = absurd (long_and_short (take most_read content) long spelled.short)
+  too_long_table fault (at_bracket has number) = absurd (long_and_short (take most_read content) long has.of.spelled.short)
+  too_long_table fault (at_site tree is has) = absurd (long_and_short (take most_read content) long is.of.spelled.short)
 
-  too_long_terms : (fault : ProgramFault) → HasTermsFault (take 1048577 content) fault → HasTermsFault content fault
+  too_long_terms : (fault : ProgramFault) → HasTermsFault (take most_read content) fault → HasTermsFault content fault
   too_long_terms fault (at_table has) = at_table (too_long_table fault has)
-  too_long_terms fault (at_slot table has lacks) = absurd (long_and_short (take 1048577 content) long has.resolved.is.of.spelled.short)
+  too_long_terms fault (at_slot table has lacks) = absurd (long_and_short (take most_read content) long has.resolved.is.of.spelled.short)
 
-  too_long_text : (fault : ProgramFault) → HasTextFault (take 1048577 content) fault → HasTextFault content fault
+  too_long_text : (fault : ProgramFault) → HasTextFault (take most_read content) fault → HasTextFault content fault
   too_long_text fault (at_terms has) = at_terms (too_long_terms fault has)
-  too_long_text fault (at_premise table bodies terms fails) = absurd (long_and_short (take 1048577 content) long terms.has.resolved.is.of.spelled.short)
+  too_long_text fault (at_premise table bodies terms fails) = absurd (long_and_short (take most_read content) long terms.has.resolved.is.of.spelled.short)
 
   too_long_form : ¬ (IsOfForm content)
-  too_long_form of = long_and_short content (omega (arith, length-take 1048577 content)) of.1.spelled.short
+  too_long_form of = long_and_short content (omega (arith, length-take most_read content)) of.1.spelled.short
 
-  too_long_program : (fault : ProgramFault) → IsFaulty (take 1048577 content) fault → IsFaulty content fault
+  too_long_program : (fault : ProgramFault) → IsFaulty (take most_read content) fault → IsFaulty content fault
   too_long_program fault (in_text has none) = in_text (too_long_text fault has) too_long_form
-  too_long_program fault (in_form is none e) = absurd (long_and_short (take 1048577 content) long is.is.terms.has.resolved.is.of.spelled.short)
+  too_long_program fault (in_form is none e) = absurd (long_and_short (take most_read content) long is.is.terms.has.resolved.is.of.spelled.short)
 
-  too_long_told : (command : Command) (fault : ProgramFault) → IsToldBy command (take 1048577 content) fault → IsToldBy command content fault
+  too_long_told : (command : Command) (fault : ProgramFault) → IsToldBy command (take most_read content) fault → IsToldBy command content fault
   too_long_told (serve name) fault told = too_long_program fault told
   too_long_told (check name) fault told = too_long_text fault told
 
-  too_long_refusal : (command : Command) (bytes : List ℕ) → IsRefusal command (take 1048577 content) bytes → IsRefusal command content bytes
+  too_long_refusal : (command : Command) (bytes : List ℕ) → IsRefusal command (take most_read content) bytes → IsRefusal command content bytes
   too_long_refusal command bytes h = record { fault = h.fault; told = too_long_told command h.fault h.told; line = h.line }
 
-  not_found : (command : Command) (bytes : List ℕ) → IsFinding command (take 1048577 content) bytes → ⊥
+  not_found : (command : Command) (bytes : List ℕ) → IsFinding command (take most_read content) bytes → ⊥
   not_found (serve name) bytes h = h
-  not_found (check name) bytes h = long_and_short (take 1048577 content) long h.0.is.terms.has.resolved.is.of.spelled.short
+  not_found (check name) bytes h = long_and_short (take most_read content) long h.0.is.terms.has.resolved.is.of.spelled.short
 
-  not_served : (command : Command) (says : Option Plain → Type 0) → ServesProgram command (take 1048577 content) says → ⊥
-  not_served command says h = long_and_short (take 1048577 content) long h.has.spelled.short
+  not_served : (command : Command) (says : Option Plain → Type 0) → ServesProgram command (take most_read content) says → ⊥
+  not_served command says h = long_and_short (take most_read content) long h.has.spelled.short
 
-  too_long_of_text : (command : Command) (bytes : List ℕ) → IsOfText command (take 1048577 content) bytes → IsOfText command content bytes
+  too_long_of_text : (command : Command) (bytes : List ℕ) → IsOfText command (take most_read content) bytes → IsOfText command content bytes
   too_long_of_text command bytes (inl h) = inl (too_long_refusal command bytes h)
   too_long_of_text command bytes (inr h) = absurd (not_found command bytes h)
 
-  too_long_treated : (command : Command) (old new : Streams) (exit : Exit) → Treats command (take 1048577 content) old new exit → Treats command content old new exit
+  too_long_treated : (command : Command) (old new : Streams) (exit : Exit) → Treats command (take most_read content) old new exit → Treats command content old new exit
   too_long_treated command old new Done (inl h) = absurd (not_served command (λ program. Finishes program old new) h)
   too_long_treated command old new Done (inr h) = absurd (not_found command h.bytes h.said)
   too_long_treated command old new Refused h = record { bytes = h.bytes; said = too_long_refusal command h.bytes h.said; written = h.written; input = h.input }
@@ -86,11 +87,11 @@ module _ (content : List ℕ) (long : 1048576 < length (take 1048577 content)) w
   too_long_treated command old new Long h = absurd (not_served command (λ program. ReachesLimit program old new) h)
 
 -- a text that isn't too long was read whole
-whole : (content : List ℕ) → length (take 1048577 content) ≤ 1048576 → take 1048577 content ≡ content
-whole content short = take_all 1048577 content (omega (arith, length-take 1048577 content))
+whole : (content : List ℕ) → length (take most_read content) ≤ longest_program → take most_read content ≡ content
+whole content short = take_all most_read content (omega (arith, length-take most_read content))
 
-treated_whole : (command : Command) (content : List ℕ) (old new : Streams) (exit : Exit) → Treats command (take 1048577 content) old new exit → Treats command content old new exit
-treated_whole command content old new exit h = elim (cases_lt 1048576 (length (take 1048577 content))) [
+treated_whole : (command : Command) (content : List ℕ) (old new : Streams) (exit : Exit) → Treats command (take most_read content) old new exit → Treats command content old new exit
+treated_whole command content old new exit h = elim (cases_lt longest_program (length (take most_read content))) [
   | inl long ↦ too_long_treated content long command old new exit h
   | inr short ↦ subst (λ (l : List ℕ). Treats command l old new exit) (whole content short) h
 ]
@@ -112,7 +113,7 @@ treated_all command (Some content) text old new exit read h = record {
 -- ---- what a command did with a text that was read is what its status says
 
 module _ (words : List (List ℕ)) (old new : Outside) where
-  met : (exit : Exit) → TreatsFile words old new exit → Meets words old new exit
+  met : (exit : Exit) → TreatsFile words old new exit → MeetsStatus words old new exit
   met Done h = h
   met Refused h = h
   met Usage h = absurd h.treats
@@ -122,7 +123,7 @@ module _ (words : List (List ℕ)) (old new : Outside) where
   met Memory h = inr h
   met Long h = h
 
-  pub treated : (command : Command) (text : List ℕ) (exit : Exit) → command_of words ≡ Some command → IsAsked old.files.asks new.files.asks (program_ask command) → IsReadOf (old.files.content (file_of command)) text → Treats command text (streams old) (streams new) exit → Meets words old new exit
+  pub treated : (command : Command) (text : List ℕ) (exit : Exit) → command_of words ≡ Some command → IsAsked old.files.asks new.files.asks (program_ask command) → IsReadOf (old.files.content (file_of command)) text → Treats command text (streams old) (streams new) exit → MeetsStatus words old new exit
   treated command text exit is asked read h =
       let all = treated_all command (old.files.content (file_of command)) text (streams old) (streams new) exit read h in
       met exit (record { command = command; is = is; asked = asked; text = all.text; told = all.told; treats = all.treats })
@@ -130,29 +131,29 @@ module _ (words : List (List ℕ)) (old new : Outside) where
 -- ---- each clause of the top call
 
 module _ (words : List (List ℕ)) (old new : Outside) where
-  pub when_done : (e : Exit) → Meets words old new e → e ≡ Done → IsDone words old new
-  when_done e h is = subst (Meets words old new) is h
+  pub when_done : (e : Exit) → MeetsStatus words old new e → e ≡ Done → IsDone words old new
+  when_done e h is = subst (MeetsStatus words old new) is h
 
-  pub when_refused : (e : Exit) → Meets words old new e → e ≡ Refused → IsRefused words old new
-  when_refused e h is = subst (Meets words old new) is h
+  pub when_refused : (e : Exit) → MeetsStatus words old new e → e ≡ Refused → IsRefused words old new
+  when_refused e h is = subst (MeetsStatus words old new) is h
 
-  pub when_usage : (e : Exit) → Meets words old new e → e ≡ Usage → IsUsage words old new
-  when_usage e h is = subst (Meets words old new) is h
+  pub when_usage : (e : Exit) → MeetsStatus words old new e → e ≡ Usage → IsUsage words old new
+  when_usage e h is = subst (MeetsStatus words old new) is h
 
-  pub when_read_fault : (e : Exit) → Meets words old new e → e ≡ ReadFault → IsReadFault words old new
-  when_read_fault e h is = subst (Meets words old new) is h
+  pub when_read_fault : (e : Exit) → MeetsStatus words old new e → e ≡ ReadFault → IsReadFault words old new
+  when_read_fault e h is = subst (MeetsStatus words old new) is h
 
-  pub when_write_fault : (e : Exit) → Meets words old new e → e ≡ WriteFault → IsWriteFault words old new
-  when_write_fault e h is = subst (Meets words old new) is h
+  pub when_write_fault : (e : Exit) → MeetsStatus words old new e → e ≡ WriteFault → IsWriteFault words old new
+  when_write_fault e h is = subst (MeetsStatus words old new) is h
 
-  pub when_file_fault : (e : Exit) → Meets words old new e → e ≡ FileFault → IsFileFault words old new
-  when_file_fault e h is = subst (Meets words old new) is h
+  pub when_file_fault : (e : Exit) → MeetsStatus words old new e → e ≡ FileFault → IsFileFault words old new
+  when_file_fault e h is = subst (MeetsStatus words old new) is h
 
-  pub when_memory : (e : Exit) → Meets words old new e → e ≡ Memory → IsMemory words old new
-  when_memory e h is = subst (Meets words old new) is h
+  pub when_memory : (e : Exit) → MeetsStatus words old new e → e ≡ Memory → IsMemory words old new
+  when_memory e h is = subst (MeetsStatus words old new) is h
 
-  pub when_long : (e : Exit) → Meets words old new e → e ≡ Long → IsLong words old new
-  when_long e h is = subst (Meets words old new) is h
+  pub when_long : (e : Exit) → MeetsStatus words old new e → e ≡ Long → IsLong words old new
+  when_long e h is = subst (MeetsStatus words old new) is h
 
 -- ---- nothing is refused without reason
 
@@ -168,7 +169,7 @@ treated_told words old new command whole exit is told h =
     subst (λ (l : List ℕ). Treats command l (streams old) (streams new) exit) (same_text (old.files.content (file_of command)) all.text whole told all.told) all.treats
 
 -- so many bytes weren't taken of an input that has fewer
-too_many : (left now : Option (List ℕ)) (input taken : List ℕ) → left ≡ Some input → length input < 2 ^ 40 → Takes left now taken → length taken ≡ 2 ^ 40 → ⊥
+too_many : (left now : Option (List ℕ)) (input taken : List ℕ) → left ≡ Some input → length input < most_taken → Takes left now taken → length taken ≡ most_taken → ⊥
 too_many None now input taken told few took exactly = cc
 too_many (Some xs) None input taken told few took exactly = took
 too_many (Some xs) (Some ys) input taken told few took exactly =
@@ -188,10 +189,10 @@ module _ (words : List (List ℕ)) (old new : Outside) (smooth : IsSmooth words 
   not_long h = too_many old.input.left new.input.left smooth.input h.holds.so_far.taken smooth.input_told smooth.few h.holds.so_far.took.told h.holds.exactly
 
   -- a text of the form is served
-  pub served : (e : Exit) → Meets words old new e → IsOfForm smooth.text → (e ≡ Done) ⊎ (e ≡ Memory)
+  pub served : (e : Exit) → MeetsStatus words old new e → IsOfForm smooth.text → (e ≡ Done) ⊎ (e ≡ Memory)
   served Done h form = inl refl
   served Memory h form = inr refl
-  served Refused h form = let refusal = (told Refused h).said in absurd (form_or_fault_lem smooth.text refusal.fault refusal.told form)
+  served Refused h form = let refusal = (told Refused h).said in absurd (never_of_form_and_faulty_lem smooth.text refusal.fault refusal.told form)
   served Usage h form = absurd (cc (h.command, smooth.command))
   served ReadFault h form = absurd (smooth.reads (told ReadFault h).holds.cause)
   served WriteFault h form = absurd (no_write_fault (told WriteFault h))
@@ -203,7 +204,7 @@ module _ (words : List (List ℕ)) (old new : Outside) (smooth : IsSmooth words 
   not_done fault (inr h) = h.said
 
   -- a text that isn't of the form is refused
-  pub refused : (e : Exit) → Meets words old new e → ¬ (IsOfForm smooth.text) → (e ≡ Refused) ⊎ (e ≡ Memory)
+  pub refused : (e : Exit) → MeetsStatus words old new e → ¬ (IsOfForm smooth.text) → (e ≡ Refused) ⊎ (e ≡ Memory)
   refused Done h fault = absurd (not_done fault (told Done h))
   refused Memory h fault = inr refl
   refused Refused h fault = inl refl
@@ -226,10 +227,10 @@ module _ (words : List (List ℕ)) (old new : Outside) (smooth : IsSmoothCheck w
   no_write_fault_check (inr h) = smooth.writes h.cause
 
   -- a text that has a tree is accepted
-  pub checked : (e : Exit) → Meets words old new e → IsAccepted smooth.text → (e ≡ Done) ⊎ (e ≡ Memory)
+  pub checked : (e : Exit) → MeetsStatus words old new e → IsAccepted smooth.text → (e ≡ Done) ⊎ (e ≡ Memory)
   checked Done h accepted = inl refl
   checked Memory h accepted = inr refl
-  checked Refused h accepted = let refusal = (told_check Refused h).said in absurd (accepted_or_fault_lem smooth.text refusal.fault refusal.told accepted)
+  checked Refused h accepted = let refusal = (told_check Refused h).said in absurd (never_accepted_and_faulty_lem smooth.text refusal.fault refusal.told accepted)
   checked Usage h accepted = absurd (cc (h.command, smooth.command))
   checked ReadFault h accepted = absurd (serves_nothing (λ program. FailsToRead program (streams old) (streams new)) (told_check ReadFault h))
   checked WriteFault h accepted = absurd (no_write_fault_check (told_check WriteFault h))
@@ -241,7 +242,7 @@ module _ (words : List (List ℕ)) (old new : Outside) (smooth : IsSmoothCheck w
   not_accepted fault (inr h) = fault h.said.0
 
   -- a text that has none is refused
-  pub unaccepted : (e : Exit) → Meets words old new e → ¬ (IsAccepted smooth.text) → (e ≡ Refused) ⊎ (e ≡ Memory)
+  pub unaccepted : (e : Exit) → MeetsStatus words old new e → ¬ (IsAccepted smooth.text) → (e ≡ Refused) ⊎ (e ≡ Memory)
   unaccepted Done h fault = absurd (not_accepted fault (told_check Done h))
   unaccepted Memory h fault = inr refl
   unaccepted Refused h fault = inl refl
@@ -252,7 +253,7 @@ module _ (words : List (List ℕ)) (old new : Outside) (smooth : IsSmoothCheck w
   unaccepted Long h fault = absurd (serves_nothing (λ program. ReachesLimit program (streams old) (streams new)) (told_check Long h))
 
 -- words that are no command are Usage
-pub unknown : (words : List (List ℕ)) (old new : Outside) (e : Exit) → Meets words old new e → command_of words ≡ None → e ≡ Usage
+pub unknown : (words : List (List ℕ)) (old new : Outside) (e : Exit) → MeetsStatus words old new e → command_of words ≡ None → e ≡ Usage
 unknown words old new Usage h none = refl
 unknown words old new Done h none = absurd (cc (h.is, none))
 unknown words old new Refused h none = absurd (cc (h.is, none))

@@ -1,5 +1,6 @@
 -- What each status of a run says of the words, the files and the two streams, before and after.
-use Rattle.std.specs.Prelude.{ℕ, ◌≡◌, ◌<◌, ◌^◌, ◌⊎◌, ◌++◌, List, [], ◌∷◌, length, codes, Option, None, Some}
+use Rattle.std.specs.Prelude.{ℕ, ◌≡◌, ◌<◌, ◌⊎◌, ◌++◌, List, [], ◌∷◌, length, codes, Option, None, Some}
+use Rattle.ob_base.specs.Limits.{most_taken}
 use Rattle.ob_base.specs.declared.fault.ProgramFault.{ProgramFault}
 use Rattle.ob_io.specs.Causes.{Rose}
 use Rattle.ob_io.specs.Files.{IsAsked}
@@ -113,22 +114,22 @@ pub record RunsOutEarly (words : List (List ℕ)) (old new : Outside) : Type 0 w
 abbrev pub IsMemory : List (List ℕ) → Outside → Outside → Type 0
 IsMemory words old new = RunsOutEarly words old new ⊎ TreatsFile words old new Memory
 
--- Long: exactly 2^40 bytes of input were taken.
+-- Long: exactly `most_taken` bytes of input were taken.
 abbrev pub IsLong : List (List ℕ) → Outside → Outside → Type 0
 IsLong words old new = TreatsFile words old new Long
 
 -- each status says its own
-abbrev pub Meets : List (List ℕ) → Outside → Outside → Exit → Type 0
-Meets words old new Done = IsDone words old new
-Meets words old new Refused = IsRefused words old new
-Meets words old new Usage = IsUsage words old new
-Meets words old new ReadFault = IsReadFault words old new
-Meets words old new WriteFault = IsWriteFault words old new
-Meets words old new FileFault = IsFileFault words old new
-Meets words old new Memory = IsMemory words old new
-Meets words old new Long = IsLong words old new
+abbrev pub MeetsStatus : List (List ℕ) → Outside → Outside → Exit → Type 0
+MeetsStatus words old new Done = IsDone words old new
+MeetsStatus words old new Refused = IsRefused words old new
+MeetsStatus words old new Usage = IsUsage words old new
+MeetsStatus words old new ReadFault = IsReadFault words old new
+MeetsStatus words old new WriteFault = IsWriteFault words old new
+MeetsStatus words old new FileFault = IsFileFault words old new
+MeetsStatus words old new Memory = IsMemory words old new
+MeetsStatus words old new Long = IsLong words old new
 
--- The words are `serve P`, the input is told and has fewer than 2^40 bytes, and no count of faults rises.
+-- The words are `serve P`, the input is told and has fewer than `most_taken` bytes, and no count of faults rises.
 pub record IsSmooth (words : List (List ℕ)) (old new : Outside) : Type 0 where
   pub name : List ℕ
   pub command : command_of words ≡ Some (serve name)
@@ -136,7 +137,7 @@ pub record IsSmooth (words : List (List ℕ)) (old new : Outside) : Type 0 where
   pub told : old.files.content name ≡ Some text
   pub input : List ℕ
   pub input_told : old.input.left ≡ Some input
-  pub few : length input < 2 ^ 40
+  pub few : length input < most_taken
   pub reads : ¬ (Rose old.input.faults new.input.faults)
   pub writes : ¬ (Rose old.output.faults new.output.faults)
   pub files : ¬ (Rose old.files.faults new.files.faults)

@@ -3,14 +3,15 @@ use Rattle.std.specs.Prelude.{ℕ, ◌≡◌, ◌≤◌, List, length, take, Opt
 use Rattle.ob_base.specs.declared.fault.ProgramFault.{ProgramFault}
 use Rattle.ob_front.specs.Programs.{IsAccepted}
 use Rattle.ob_io.specs.Views.{SourceView, SinkView}
+use Rattle.ob_run.specs.Asked.{most_read}
 use Rattle.ob_run.specs.Commands.{Command, check}
 use Rattle.ob_run.specs.Statuses.{IsToldBy, Treats}
 use Rattle.ob_run.specs.declared.exit.Exit.{Exit}
 
--- what was read of a file: at most 1,048,577 bytes, and where its content is told, that content's front
+-- what was read of a file: at most `most_read` bytes, and where its content is told, that content's front
 abbrev pub IsReadOf : Option (List ℕ) → List ℕ → Type 0
-IsReadOf None text = length text ≤ 1048577
-IsReadOf (Some content) text = text ≡ take 1048577 content
+IsReadOf None text = length text ≤ most_read
+IsReadOf (Some content) text = text ≡ take most_read content
 
 -- a command treats a text so, whatever the input is
 abbrev pub TreatsAlone : Command → List ℕ → SinkView → SinkView → Exit → Type 0

@@ -8,13 +8,13 @@ ghost use Rattle.ob_run.specs.Asked.{AsksFor, program_ask};
 ghost use Rattle.ob_run.specs.CommandView.{command_view};
 ghost use Rattle.ob_run.specs.Commands.{serve, check, command_of, file_of};
 ghost use Rattle.ob_run.specs.Outside.{outside, faults_of, IsCalm};
-ghost use Rattle.ob_run.specs.Statuses.{Treats, Meets, IsDone, IsRefused, IsUsage, IsReadFault, IsWriteFault, IsFileFault, IsMemory, IsLong, IsSmooth, IsSmoothCheck};
+ghost use Rattle.ob_run.specs.Statuses.{Treats, MeetsStatus, IsDone, IsRefused, IsUsage, IsReadFault, IsWriteFault, IsFileFault, IsMemory, IsLong, IsSmooth, IsSmoothCheck};
 ghost use Rattle.ob_run.specs.TextRead.{IsReadOf, TreatsAlone, Refuses, Accepts};
 
 use crate::command::Command;
 use crate::exit::Exit;
 use crate::fault::fault_line;
-use ob_base::ProgramFault;
+use ob_base::{LONGEST_PROGRAM, ProgramFault};
 use ob_front::{CompileError, check_program};
 use ob_io::{FileError, Files, Sink, Source, write_all};
 use ob_plain::compile_plain;
@@ -22,7 +22,7 @@ use ob_serve::{Served, serve};
 use std::alloc::Global;
 
 /// The most bytes of a program's file that are read: one more than a program may have.
-const MOST_READ: usize = 1_048_577;
+const MOST_READ: usize = LONGEST_PROGRAM + 1;
 
 // The text of a command's file, as far as it is read.
 fn read_text<F: Files>(
@@ -146,7 +146,7 @@ fn run_words<F: Files, S: Source, K: Sink>(
     input: &mut S,
     output: &mut K,
 ) -> Exit
-    ensures meets { Meets (map string_bytes words.now)
+    ensures meets { MeetsStatus (map string_bytes words.now)
         (outside (F.view files.old) (S.view input.old) (K.view output.old))
         (outside (F.view files.new) (S.view input.new) (K.view output.new))
         result }

@@ -1,7 +1,8 @@
 -- How a session goes on.
-use Rattle.std.proofs.Common.{◌≡◌, Vec, ℕ, ◌+◌, ◌^◌, ◌≤◌, Bool, true, false, not, cond, List, [], ◌∷◌, ◌++◌, length, take, Option, None, Some, refl, sym, ◌∙◌, ap, subst, arith, append_assoc, length-append}
+use Rattle.std.proofs.Common.{◌≡◌, Vec, ℕ, ◌+◌, ◌≤◌, Bool, true, false, not, cond, List, [], ◌∷◌, ◌++◌, length, take, Option, None, Some, refl, sym, ◌∙◌, ap, subst, arith, append_assoc, length-append}
 use Rattle.std.specs.declared.alloc.Global.{Global}
 use Rattle.std.proofs.lemmas.List.{append-nil, take_at}
+use Rattle.ob_base.specs.Limits.{most_taken}
 use Rattle.ob_io.specs.Causes.{Rose}
 use Rattle.ob_io.specs.Told.{Takes, TakesFrom, TakesAtMost, Gives, GivesFront, IsEnd}
 use Rattle.ob_io.specs.LinesOfText.{lines_of, IsSplit}
@@ -12,17 +13,17 @@ use Rattle.ob_io.proofs.ToldLemmas.{gives_none, gives_then, takes_none, takes_th
 use Rattle.ob_machine.specs.declared.plain.Plain.{Plain}
 use Rattle.ob_exec.specs.Sound.{IsSound}
 use Rattle.ob_exec.specs.declared.store.Store.{Store}
-use Rattle.ob_serve.specs.Session.{Item, session, state_after, requests_in, replies, is_blank_line}
+use Rattle.ob_serve.specs.Session.{SessionItem, session, state_after, requests_in, replies, is_blank_line}
 use Rattle.ob_serve.specs.Replies.{answer_of, blank, items_of, replies_to}
 use Rattle.ob_serve.specs.Served.{Streams, IsAll, Finishes, BreaksOff, StopsIn, FailsToWrite, GivesUp, EndsAs}
 use Rattle.ob_serve.specs.Stops.{LineReader, ReadsLine, ReadsPart, ReadsEnd, IsStop, Replied}
 use Rattle.ob_serve.specs.declared.serving.Served.{Served}
 use Rattle.ob_serve.specs.declared.serving.Served.TheVariants.{Done, ReadFault, WriteFault, Memory, Long}
 
-module _ {S : Type 0} (answer : S → List ℕ → Item S) where
+module _ {S : Type 0} (answer : S → List ℕ → SessionItem S) where
   pub session-append : (s : S) (xs ys : List (List ℕ)) → session answer s (xs ++ ys) ≡ session answer s xs ++ session answer (state_after answer s xs) ys
   session-append s [] ys = refl
-  session-append s (x ∷ xs) ys = ap (λ (is : List (Item S)). answer s x ∷ is) (session-append (answer s x).after xs ys)
+  session-append s (x ∷ xs) ys = ap (λ (is : List (SessionItem S)). answer s x ∷ is) (session-append (answer s x).after xs ys)
 
   pub state_after-append : (s : S) (xs ys : List (List ℕ)) → state_after answer s (xs ++ ys) ≡ state_after answer (state_after answer s xs) ys
   state_after-append s [] ys = refl
@@ -32,7 +33,7 @@ module _ {S : Type 0} (answer : S → List ℕ → Item S) where
   length-session s [] = refl
   length-session s (x ∷ xs) = omega (arith, length-session (answer s x).after xs)
 
-pub replies-append : {S : Type 0} (xs ys : List (Item S)) → replies (xs ++ ys) ≡ replies xs ++ replies ys
+pub replies-append : {S : Type 0} (xs ys : List (SessionItem S)) → replies (xs ++ ys) ≡ replies xs ++ replies ys
 replies-append [] ys = refl
 replies-append (x ∷ xs) ys = ap (λ (l : List ℕ). x.reply ++ l) (replies-append xs ys) ∙ sym (append_assoc x.reply (replies xs) (replies ys))
 
@@ -46,7 +47,7 @@ requests_in-append (x ∷ xs) ys =
     ap (λ (l : List (List ℕ)). cond (not (is_blank_line x)) (x ∷ l) l) (requests_in-append xs ys) ∙ cond-append (not (is_blank_line x)) x (requests_in xs) (requests_in ys)
 
 -- a session so far: what of the input was handed on, which lines it is, what was written, and the store
-pub record Progress {S : Type 0} (answer : S → List ℕ → Item S) (start : S) (first pending written gave : Option (List ℕ)) (ended : Bool) (handed : ℕ) (store : S) : Type 0 where
+pub record Progress {S : Type 0} (answer : S → List ℕ → SessionItem S) (start : S) (first pending written gave : Option (List ℕ)) (ended : Bool) (handed : ℕ) (store : S) : Type 0 where
   pub taken : List ℕ
   pub lines : List (List ℕ)
   pub took : Takes first pending taken
@@ -56,7 +57,7 @@ pub record Progress {S : Type 0} (answer : S → List ℕ → Item S) (start : S
   pub given : Gives written gave (replies (session answer start (requests_in lines)))
   pub stands : store ≡ state_after answer start (requests_in lines)
 
-module _ {S : Type 0} (answer : S → List ℕ → Item S) (start : S) (first written : Option (List ℕ)) where
+module _ {S : Type 0} (answer : S → List ℕ → SessionItem S) (start : S) (first written : Option (List ℕ)) where
   -- no line has come
   pub begun : (pending : Option (List ℕ)) (ended : Bool) (handed : ℕ) → pending ≡ first → ended ≡ false → handed ≡ 0 → Progress answer start first pending written written ended handed start
   begun pending ended handed same goes_on none = record {
@@ -109,12 +110,12 @@ reached (Some xs) (Some ys) taken true lines took split ends = record {
 }
 reached (Some xs) (Some ys) taken false lines took split ends = record { input = xs; is = refl; rest = lines_of ys; all = ap lines_of took ∙ (split ys).0 }
 
-module _ {S : Type 0} (answer : S → List ℕ → Item S) (start : S) where
+module _ {S : Type 0} (answer : S → List ℕ → SessionItem S) (start : S) where
   -- the items of the first lines
   pub front_items : (lines rest : List (List ℕ)) → take (length (requests_in lines)) (session answer start (requests_in (lines ++ rest))) ≡ session answer start (requests_in lines)
   front_items lines rest =
       ap (λ (ls : List (List ℕ)). take (length (requests_in lines)) (session answer start ls)) (requests_in-append lines rest)
-      ∙ ap (λ (is : List (Item S)). take (length (requests_in lines)) is) (session-append answer start (requests_in lines) (requests_in rest))
+      ∙ ap (λ (is : List (SessionItem S)). take (length (requests_in lines)) is) (session-append answer start (requests_in lines) (requests_in rest))
       ∙ take_at (session answer start (requests_in lines)) _ (length (requests_in lines)) (length-session answer start (requests_in lines))
 
 -- ---- the session of a program
@@ -125,7 +126,7 @@ SoFar program first pending written gave ended handed store = Progress (answer_o
 
 -- memory runs out before a reply
 pub gives_up : (program : Option Plain) (old new : Streams) (pending : Option (List ℕ)) (ended : Bool) (handed : ℕ) (store : Store)
-    → SoFar program old.input.left pending old.output.written new.output.written ended handed store → TakesAtMost old.input new.input (2 ^ 40) → GivesUp program old new
+    → SoFar program old.input.left pending old.output.written new.output.written ended handed store → TakesAtMost old.input new.input most_taken → GivesUp program old new
 gives_up program old new pending ended handed store was few =
     let at = reached old.input.left pending was.taken ended was.lines was.took was.split was.ends in
     let k = length (requests_in was.lines) in
@@ -143,7 +144,7 @@ none_taken old count none = ([], takes_from_none old, none)
 pub more_taken : (old mid now : SourceView) (before count : ℕ) → HasTaken old mid before → (bytes : List ℕ) × TakesFrom mid now bytes × (count ≡ before + length bytes) → HasTaken old now count
 more_taken old mid now before count was more = (was.0 ++ more.0, takes_from_then old mid now was.0 more.0 was.1 more.1, omega (arith, was.2, more.2, length-append was.0 more.0))
 
-pub few_taken : (old now : SourceView) (count : ℕ) → HasTaken old now count → count ≤ 2 ^ 40 → TakesAtMost old now (2 ^ 40)
+pub few_taken : (old now : SourceView) (count : ℕ) → HasTaken old now count → count ≤ most_taken → TakesAtMost old now most_taken
 few_taken old now count has few = (has.0, has.1, omega (arith, has.2, few))
 
 -- as many bytes as were handed on
@@ -187,7 +188,7 @@ rose_later a b c le rose = omega arith
 -- what a session that ends before a reply says
 pub stopped : (program : Option Plain) (served : Served) (old new : Streams) (from now : LineReader) (store : Store)
     → SoFar program old.input.left from.pending old.output.written new.output.written from.ended from.handed store → IsStop from now served → old.input.faults ≤ from.faults → now.left ≡ new.input.left → now.faults ≡ new.input.faults
-    → HasTaken old.input new.input now.taken → now.taken ≤ 2 ^ 40 → EndsAs program old new served
+    → HasTaken old.input new.input now.taken → now.taken ≤ most_taken → EndsAs program old new served
 stopped program Done old new from now store was stop later left faults has bound = finished program old new from now store was stop left has
 stopped program ReadFault old new from now store was stop later left faults has bound =
     let cut = cut_off program old new from now store was stop.1 left has in
@@ -248,14 +249,14 @@ stops_in program lines rest all full reply front back is shows replied split =
       front = front;
       rest = back;
       some = omega (arith, many, length-session answer blank (requests_in all), ap (λ (ls : List (List ℕ)). length (requests_in ls)) is, ap length (requests_in-append (lines ++ full ∷ []) rest), length-append (requests_in (lines ++ full ∷ [])) (requests_in rest));
-      given_is = ap (λ (is : List (Item Store)). replies is ++ front) (sym before);
-      next = ap replies after ∙ replies-append so_far more ∙ ap (λ (l : List ℕ). replies so_far ++ l) (sym replied ∙ split) ∙ ap (λ (is : List (Item Store)). replies is ++ (front ++ back)) (sym before);
+      given_is = ap (λ (is : List (SessionItem Store)). replies is ++ front) (sym before);
+      next = ap replies after ∙ replies-append so_far more ∙ ap (λ (l : List ℕ). replies so_far ++ l) (sym replied ∙ split) ∙ ap (λ (is : List (SessionItem Store)). replies is ++ (front ++ back)) (sym before);
     }
 
 -- a reply was written in part
 pub write_stops : (program : Option Plain) (old new : Streams) (from now : LineReader) (gave : SinkView) (store store' : Store) (is_long : Bool) (line : List ℕ) (reply : Vec ℕ Global)
     → SoFar program old.input.left from.pending old.output.written gave.written from.ended from.handed store → (read : ReadsLine from now is_long line) → Replied program store store' read.full (Some reply) → GivesFront gave.written new.output.written reply.items
-    → old.output.faults ≤ gave.faults → Rose gave.faults new.output.faults → TakesAtMost old.input new.input (2 ^ 40)
+    → old.output.faults ≤ gave.faults → Rose gave.faults new.output.faults → TakesAtMost old.input new.input most_taken
     → FailsToWrite program old new
 write_stops program old new from now gave store store' is_long line reply was read replied front later rose few =
     let lines = was.lines ++ read.full ∷ [] in

@@ -4,10 +4,10 @@ use Rattle.ob_machine.specs.declared.plain.Plain.{Plain}
 use Rattle.ob_wire.specs.Replies.{reply_text}
 use Rattle.ob_exec.specs.Answers.{step_of}
 use Rattle.ob_exec.specs.declared.store.Store.{Store}
-use Rattle.ob_serve.specs.Session.{Item, session, requests_in, replies}
+use Rattle.ob_serve.specs.Session.{SessionItem, session, requests_in, replies}
 
 -- what a line gives on a store
-abbrev pub answer_of : Option Plain → Store → List ℕ → Item Store
+abbrev pub answer_of : Option Plain → Store → List ℕ → SessionItem Store
 answer_of program store line = record { reply = reply_text (step_of program store line).reply; after = (step_of program store line).after }
 
 -- no object and no handle
@@ -15,7 +15,7 @@ abbrev pub blank : Store
 blank = record { objects = []; handles = [] }
 
 -- the items of the lines of an input
-abbrev pub items_of : Option Plain → List (List ℕ) → List (Item Store)
+abbrev pub items_of : Option Plain → List (List ℕ) → List (SessionItem Store)
 items_of program lines = session (answer_of program) blank (requests_in lines)
 
 -- the bytes of the replies to these lines

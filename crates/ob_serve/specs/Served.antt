@@ -1,12 +1,13 @@
 -- What each end of a session says of the two streams.
-use Rattle.std.specs.Prelude.{ℕ, ◌≡◌, ◌+◌, ◌<◌, ◌^◌, ⊤, List, ◌++◌, length, take, Option, None, Some}
+use Rattle.std.specs.Prelude.{ℕ, ◌≡◌, ◌+◌, ◌<◌, ⊤, List, ◌++◌, length, take, Option, None, Some}
+use Rattle.ob_base.specs.Limits.{most_taken}
 use Rattle.ob_io.specs.Causes.{Rose}
 use Rattle.ob_io.specs.Told.{TakesFrom, TakesAtMost, Gives, IsEnd}
 use Rattle.ob_io.specs.LinesOfText.{lines_of, whole_lines}
 use Rattle.ob_io.specs.Views.{SourceView, SinkView}
 use Rattle.ob_machine.specs.declared.plain.Plain.{Plain}
 use Rattle.ob_exec.specs.declared.store.Store.{Store}
-use Rattle.ob_serve.specs.Session.{Item, replies}
+use Rattle.ob_serve.specs.Session.{SessionItem, replies}
 use Rattle.ob_serve.specs.Replies.{items_of, replies_to}
 use Rattle.ob_serve.specs.declared.serving.Served.{Served}
 use Rattle.ob_serve.specs.declared.serving.Served.TheVariants.{Done, ReadFault, WriteFault, Memory, Long}
@@ -26,7 +27,7 @@ pub record Finishes (program : Option Plain) (old new : Streams) : Type 0 where
   pub input : List ℕ
   pub took : TakesFrom old.input new.input input
   pub end : IsEnd new.input.left
-  pub within : length input < 2 ^ 40
+  pub within : length input < most_taken
   pub written : Gives old.output.written new.output.written (replies_to program (lines_of input))
 
 -- Some bytes were taken, and the replies to the lines that they hold whole were written.
@@ -39,15 +40,15 @@ pub record BreaksOff (program : Option Plain) (old new : Streams) : Type 0 where
 pub record FailsToRead (program : Option Plain) (old new : Streams) : Type 0 where
   pub cause : Rose old.input.faults new.input.faults
   pub so_far : BreaksOff program old new
-  pub within : length so_far.taken < 2 ^ 40
+  pub within : length so_far.taken < most_taken
 
 -- Exactly 2^40 bytes were taken, and no line is left of them.
 pub record ReachesLimit (program : Option Plain) (old new : Streams) : Type 0 where
   pub so_far : BreaksOff program old new
-  pub exactly : length so_far.taken ≡ 2 ^ 40
+  pub exactly : length so_far.taken ≡ most_taken
 
 -- the replies of k items, and a front of the next
-pub record StopsIn (items : List (Item Store)) (given : List ℕ) : Type 0 where
+pub record StopsIn (items : List (SessionItem Store)) (given : List ℕ) : Type 0 where
   pub k : ℕ
   pub front : List ℕ
   pub rest : List ℕ
@@ -58,7 +59,7 @@ pub record StopsIn (items : List (Item Store)) (given : List ℕ) : Type 0 where
 -- A write failed, within a reply, and at most 2^40 bytes were taken.
 pub record FailsToWrite (program : Option Plain) (old new : Streams) : Type 0 where
   pub cause : Rose old.output.faults new.output.faults
-  pub few : TakesAtMost old.input new.input (2 ^ 40)
+  pub few : TakesAtMost old.input new.input most_taken
   pub input : List ℕ
   pub is : IsAll old.input.left input
   pub given : List ℕ
@@ -67,7 +68,7 @@ pub record FailsToWrite (program : Option Plain) (old new : Streams) : Type 0 wh
 
 -- Memory ran out before a reply: those of k items were written, and at most 2^40 bytes were taken.
 pub record GivesUp (program : Option Plain) (old new : Streams) : Type 0 where
-  pub few : TakesAtMost old.input new.input (2 ^ 40)
+  pub few : TakesAtMost old.input new.input most_taken
   pub input : List ℕ
   pub is : IsAll old.input.left input
   pub k : ℕ

@@ -1,6 +1,7 @@
 -- What a session learns of the next line; for private clauses.
-use Rattle.std.specs.Prelude.{ℕ, ◌≡◌, ◌+◌, ◌<◌, ◌≤◌, ◌^◌, ⊤, Bool, true, false, List, [], length, Option, Some, None, Vec}
+use Rattle.std.specs.Prelude.{ℕ, ◌≡◌, ◌+◌, ◌<◌, ◌≤◌, ⊤, Bool, true, false, List, [], length, Option, Some, None, Vec}
 use Rattle.std.specs.declared.alloc.Global.{Global}
+use Rattle.ob_base.specs.Limits.{longest_line, most_taken}
 use Rattle.ob_io.specs.Causes.{Rose}
 use Rattle.ob_io.specs.Told.{Takes, IsEnd}
 use Rattle.ob_io.specs.Lines.{has_newline, has_ended, IsLine, taken, handed, pending}
@@ -35,8 +36,8 @@ reader lines source = record {
 
 -- the line that was read: a long one isn't kept
 abbrev pub IsFull : Bool → List ℕ → List ℕ → Type 0
-IsFull true line full = 65536 < length full
-IsFull false line full = (full ≡ line) × (length line ≤ 65536)
+IsFull true line full = longest_line < length full
+IsFull false line full = (full ≡ line) × (length line ≤ longest_line)
 
 -- a line was read
 pub record ReadsLine (old new : LineReader) (is_long : Bool) (line : List ℕ) : Type 0 where
@@ -50,7 +51,7 @@ pub record ReadsLine (old new : LineReader) (is_long : Bool) (line : List ℕ) :
   pub is : IsLine new.ended full bytes
   pub is_full : IsFull is_long line full
   pub some : 0 < length bytes
-  pub short : length line ≤ 65536
+  pub short : length line ≤ longest_line
 
 -- no line was read: all that was taken was handed on, and the last of it is a part of a line
 pub record ReadsPart (old new : LineReader) : Type 0 where
@@ -67,13 +68,13 @@ pub record ReadsEnd (old new : LineReader) : Type 0 where
   pub end : IsEnd new.left
   pub counted : new.handed ≡ old.handed
   pub all : new.handed ≡ new.taken
-  pub within : new.handed < 2 ^ 40
+  pub within : new.handed < most_taken
 
 -- why no line was read
 abbrev pub IsStop : LineReader → LineReader → Served → Type 0
 IsStop old new Done = ReadsEnd old new
-IsStop old new ReadFault = Rose old.faults new.faults × ReadsPart old new × (new.handed < 2 ^ 40)
-IsStop old new Long = ReadsPart old new × (new.handed ≡ 2 ^ 40)
+IsStop old new ReadFault = Rose old.faults new.faults × ReadsPart old new × (new.handed < most_taken)
+IsStop old new Long = ReadsPart old new × (new.handed ≡ most_taken)
 IsStop old new Memory = ⊤
 IsStop old new WriteFault = ⊥
 

@@ -1,6 +1,7 @@
 //! The session.
-ghost use Rattle.std.specs.Prelude.{◌≡◌, ◌≢◌, ◌+◌, ◌^◌, ◌<◌, ◌≤◌, List, ℕ, length, IsTrue, IfOk, IfErr};
+ghost use Rattle.std.specs.Prelude.{◌≡◌, ◌≢◌, ◌+◌, ◌<◌, ◌≤◌, List, ℕ, length, IsTrue, IfOk, IfErr};
 ghost use Rattle.std.specs.List.{list_all};
+ghost use Rattle.ob_base.specs.Limits.{longest_line, most_taken};
 ghost use Rattle.ob_io.specs.Lines.{EndIsTold, CountsTaken, taken};
 ghost use Rattle.ob_io.specs.Told.{TakesAtMost};
 ghost use Rattle.ob_exec.specs.Sound.{IsSound};
@@ -44,7 +45,7 @@ fn are_spaces(line: &[u8]) -> bool
 }
 
 fn is_blank(line: &[u8]) -> bool
-    requires { length line.now ≤ 65536 }
+    requires { length line.now ≤ longest_line }
     ensures { result ≡ is_blank_line line.now }
 {
     are_spaces(line)
@@ -58,7 +59,7 @@ fn reply_to(
     is_long: bool,
     line: &[u8],
 ) -> Result<Option<Vec<u8>>, Memory>
-    requires short { length line.now ≤ 65536 }
+    requires short { length line.now ≤ longest_line }
     requires sound { IsSound program.now store.old }
     requires closed { IsTrue (is_closed_program program.now) }
     ensures replied { IfOk result (λ reply. (full : List ℕ) → IsFull is_long line.now full →
@@ -88,7 +89,7 @@ fn next_line<S: Source>(
     ensures err { IfErr result (IsStop
         (reader lines.old (S.view input.old)) (reader lines.new (S.view input.new))) }
     ensures taken { CountsTaken lines.old lines.new (S.view input.old) (S.view input.new) }
-    ensures bound { taken lines.new ≤ 2 ^ 40 }
+    ensures bound { taken lines.new ≤ most_taken }
     ensures later { (S.view input.old).faults ≤ (S.view input.new).faults }
     ensures calm { result ≢ Err Served.ReadFault → (S.view input.new).faults ≡ (S.view input.old).faults }
     ensures once { (S.view input.new).faults ≤ (S.view input.old).faults + 1 }
@@ -117,7 +118,7 @@ pub fn serve<S: Source, K: Sink>(
         result }
 
     // However it ends, at most 2^40 bytes of input were taken.
-    ensures few { TakesAtMost (S.view input.old) (S.view input.new) (2 ^ 40) }
+    ensures few { TakesAtMost (S.view input.old) (S.view input.new) most_taken }
 
     // No count of faults falls.
     ensures later_read { (S.view input.old).faults ≤ (S.view input.new).faults }

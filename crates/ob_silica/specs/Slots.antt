@@ -6,10 +6,6 @@ use Rattle.ob_silica.specs.declared.place.Place.TheVariants.{This, Slot, Field}
 use Rattle.ob_silica.specs.declared.place.Operand.{Operand}
 use Rattle.ob_silica.specs.declared.place.Given.{Given}
 
--- the most slots that a body may have
-unfoldable pub slots_most : ℕ
-slots_most = 128
-
 -- one more than the slot of a place; `this` is slot 0, and a field has none
 abbrev pub slots_of_place : Place → ℕ
 slots_of_place This = 1

@@ -5,12 +5,12 @@ use Rattle.ob_base.specs.declared.fault.Span.{Span}
 use Rattle.ob_base.specs.declared.id.ContractId.{ContractId}
 use Rattle.ob_base.specs.declared.id.StateId.{StateId}
 use Rattle.ob_base.specs.declared.id.TxId.{TxId}
-use Rattle.ob_base.specs.declared.operator.Operator.{Operator}
 use Rattle.ob_base.specs.declared.permission.Perm.{Perm}
 use Rattle.ob_silica.specs.declared.place.Place.{Place}
 use Rattle.ob_silica.specs.declared.place.Operand.{Operand}
 use Rattle.ob_silica.specs.declared.place.Given.{Given}
 use Rattle.ob_silica.specs.declared.place.Constant.{Constant}
+use Rattle.ob_silica.specs.declared.term.SilicaOperator.{SilicaOperator}
 
 mutual
   -- what a term does
@@ -18,7 +18,7 @@ mutual
     unit_form : SilicaForm
     const_form : ℕ → Constant → SilicaForm
     -- the slot, the operator, its operands (of one operand twice the same) and its line
-    op_form : ℕ → Operator → Operand → Operand → ℕ → SilicaForm
+    op_form : ℕ → SilicaOperator → Operand → Operand → ℕ → SilicaForm
     copy_form : Place → Operand → SilicaForm
     move_form : Place → Operand → Option ContractId → SilicaForm
     new_form : ℕ → ContractId → List Operand → SilicaForm

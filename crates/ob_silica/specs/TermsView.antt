@@ -5,7 +5,6 @@ use Rattle.ob_base.specs.declared.fault.Span.{Span}
 use Rattle.ob_base.specs.declared.id.ContractId.{ContractId}
 use Rattle.ob_base.specs.declared.id.StateId.{StateId}
 use Rattle.ob_base.specs.declared.id.TxId.{TxId}
-use Rattle.ob_base.specs.declared.operator.Operator.{Operator}
 use Rattle.ob_base.specs.declared.permission.Perm.{Perm}
 use Rattle.ob_silica.specs.Terms.{SilicaForm, unit_form, const_form, op_form, copy_form, move_form, new_form, call_form, call_this_form, change_form, test_form, if_form, assert_form, disown_form, drop_form, return_form, revert_form, bad_row_form, SilicaTerms, silica_terms, SilicaBody}
 use Rattle.ob_silica.specs.declared.place.Place.{Place}
@@ -13,6 +12,7 @@ use Rattle.ob_silica.specs.declared.place.Operand.{Operand}
 use Rattle.ob_silica.specs.declared.place.Given.{Given}
 use Rattle.ob_silica.specs.declared.place.Constant.{Constant}
 use Rattle.ob_silica.specs.declared.body.TermBody.{TermBody}
+use Rattle.ob_silica.specs.declared.term.SilicaOperator.{SilicaOperator}
 use Rattle.ob_silica.specs.declared.term.Term.{Term, Term-F, fold-Term, fold_out-Term}
 use Rattle.ob_silica.specs.declared.term.Form as made
 use Rattle.ob_silica.specs.declared.term.Form.TheOpen as open'
@@ -64,7 +64,7 @@ form_of-Unit = ap form_of (sym rolls-Unit) ∙ made.fold-roll-Form SilicaForm (S
 pub form_of-Const : (slot : ℕ) (value : Constant) → form_of (made.Const slot value) ≡ const_form slot value
 form_of-Const slot value = ap form_of (sym (rolls-Const slot value)) ∙ made.fold-roll-Form SilicaForm (SilicaForm × Span) form_step term_step (open'.Const slot value)
 
-pub form_of-Op : (slot : ℕ) (operator : Operator) (a b : Operand) (line : ℕ) → form_of (made.Op slot operator a b line) ≡ op_form slot operator a b line
+pub form_of-Op : (slot : ℕ) (operator : SilicaOperator) (a b : Operand) (line : ℕ) → form_of (made.Op slot operator a b line) ≡ op_form slot operator a b line
 form_of-Op slot operator a b line = ap form_of (sym (rolls-Op slot operator a b line)) ∙ made.fold-roll-Form SilicaForm (SilicaForm × Span) form_step term_step (open'.Op slot operator a b line)
 
 pub form_of-Copy : (to : Place) (from : Operand) → form_of (made.Copy to from) ≡ copy_form to from

@@ -8,4 +8,4 @@ mod term;
 
 pub use body::{TermBody, term_body_loses_nothing};
 pub use place::{Constant, Given, Operand, Place};
-pub use term::{Form, Term};
+pub use term::{Form, SilicaOperator, Term};

@@ -3,8 +3,18 @@
 ghost use Rattle.std.specs.Prelude.{◌≡◌, IfOk};
 
 use crate::place::{Constant, Given, Operand, Place};
-use ob_base::{ContractId, Duplicate, Items, Memory, Operator, Perm, Span, StateId, TxId, both};
+use ob_base::{ContractId, Duplicate, Items, Memory, Perm, Span, StateId, TxId, both};
+use ob_table::{BinaryOperator, UnaryOperator};
 use std::alloc::Global;
+
+/// An operator of an operation: `&&` and `||` are none, they are tests of a `bool`.
+#[derive(Clone, Copy, PartialEq, Eq, Debug)]
+pub enum SilicaOperator {
+    /// An operator of one operand.
+    Unary(UnaryOperator),
+    /// An operator of two operands.
+    Binary(BinaryOperator),
+}
 
 /// A form, and its place in the text: that of those of its faults that aren't an operand's, a given field's or a
 /// join's.
@@ -31,7 +41,7 @@ pub enum Form {
     /// Sets a slot to an operator's value. Of one operand, `b` equals `a`.
     Op {
         slot: u8,
-        operator: Operator,
+        operator: SilicaOperator,
         a: Operand,
         b: Operand,
         /// The line of the operator, from 1.
@@ -116,7 +126,7 @@ pub enum Form {
     Revert {
         text: Operand,
     },
-    /// A staged field without its change of state behind it, which has no step.
+    /// A staged field without its change of state after it, which has no step.
     BadRow,
 }
 

@@ -1,10 +1,10 @@
 -- How numbers of steps add up.
 use Rattle.std.proofs.Common.{◌≡◌, ℕ, zero, suc, ◌+◌, refl, ap, ◌∙◌, arith}
-use Rattle.ob_silica_steps.specs.Configurations.{SilicaProgram, Configuration, Next, goes, ended, aborted, stuck}
+use Rattle.ob_silica_steps.specs.Configurations.{SilicaProgram, Configuration, NextStep, goes, ended, aborted, stuck}
 use Rattle.ob_silica_steps.specs.Steps.{step, then_steps, steps}
 use Rattle.ob_silica_laws.specs.Laws.{IsOver}
 
-then_all : (program : SilicaProgram) (n m : ℕ) (next : Next) → ((c : Configuration) → steps program (n + m) c ≡ then_steps (steps program n c) (steps program m)) → then_steps next (steps program (n + m)) ≡ then_steps (then_steps next (steps program n)) (steps program m)
+then_all : (program : SilicaProgram) (n m : ℕ) (next : NextStep) → ((c : Configuration) → steps program (n + m) c ≡ then_steps (steps program n c) (steps program m)) → then_steps next (steps program (n + m)) ≡ then_steps (then_steps next (steps program n)) (steps program m)
 then_all program n m (goes c) each = each c
 then_all program n m (ended result w) each = refl
 then_all program n m (aborted cause s) each = refl
@@ -20,7 +20,7 @@ pub steps_add : (program : SilicaProgram) (n m : ℕ) (c : Configuration) → st
 steps_add program zero m c = ap (λ k. steps program k c) (no_more m)
 steps_add program (suc n) m c = ap (λ k. steps program k c) (one_more n m) ∙ then_all program n m (step program c) (steps_add program n m)
 
-then_none : (next : Next) (go : Configuration → Next) → IsOver next → then_steps next go ≡ next
+then_none : (next : NextStep) (go : Configuration → NextStep) → IsOver next → then_steps next go ≡ next
 then_none (goes c) go over = absurd over
 then_none (ended result w) go over = refl
 then_none (aborted cause s) go over = refl

@@ -2,5 +2,3 @@ pub mod Keeping
 pub mod StepsKeep
 pub mod Counting
 pub mod Parts
-pub mod Outcomes
-pub mod Exits

@@ -1,5 +1,5 @@
 -- Each step keeps what all steps keep.
-use Rattle.std.proofs.Common.{ℕ, zero, suc, Bool, true, false, List, [], ◌∷◌, Option, Some, None}
+use Rattle.std.proofs.Common.{ℕ, zero, suc, Bool, true, false, List, [], ◌∷◌, Option, Some, None, refl}
 use Rattle.std.specs.Prelude.{option_map, ◌||◌, slice_get}
 use Rattle.ob_base.specs.declared.id.ContractId.{ContractId}
 use Rattle.ob_base.specs.declared.id.StateId.{StateId}
@@ -8,40 +8,44 @@ use Rattle.ob_perm.specs.Permissions.{Permission, owned, shared, unowned}
 use Rattle.ob_table.specs.Tables.{ClassTable, contract_at, signature_at, signature_of}
 use Rattle.ob_table.specs.declared.contract.Contract.{Contract}
 use Rattle.ob_table.specs.declared.contract.Field.{Field}
-use Rattle.ob_table.specs.declared.contract.Kind.{Kind}
-use Rattle.ob_table.specs.declared.contract.Kind.TheVariants.{Reference as TypedReference}
-use Rattle.ob_typing.specs.WellMade.{kind_of_table}
+use Rattle.ob_table.specs.declared.contract.ResolvedType.{ResolvedType}
+use Rattle.ob_table.specs.declared.contract.ResolvedType.TheVariants.{Reference as TypedReference}
+use Rattle.ob_table_spec.specs.WellFormed.{kind_of_resolved, constructor_at}
 use Rattle.ob_table.specs.declared.contract.Signature.{Signature}
-use Rattle.ob_meaning.specs.Values.{Value, int_value, bool_value, text_value, reference, referred, Numbered, nothing, put}
-use Rattle.ob_meaning.specs.Objects.{Object, has_field, has_all_values}
-use Rattle.ob_meaning.specs.Contents.{object_at}
-use Rattle.ob_meaning.specs.Operations.{Operated, operated, overflows, other_kinds}
-use Rattle.ob_meaning.specs.Worlds.{World, by_state, by_reentry, next_item, with_read, read_object}
-use Rattle.ob_meaning.specs.Marks.{comes_into, is_locked, is_in_progress}
-use Rattle.ob_meaning.specs.Calls.{answering, unfinished}
-use Rattle.ob_meaning.specs.GoingWrong.{is_within, is_finished}
-use Rattle.ob_meaning_laws.proofs.Follows.{follows_read, follows_read_object, follows_edit, follows_make}
-use Rattle.ob_meaning_laws.proofs.Marking.{follows_into, follows_mark_disowned}
+use Rattle.ob_heap_spec.specs.Values.{Value, int_value, bool_value, text_value, reference, referred, Numbered, nothing, put}
+use Rattle.ob_heap_spec.specs.Objects.{Object, has_field, has_all_values}
+use Rattle.ob_heap_spec.specs.Contents.{object_at}
+use Rattle.ob_heap_spec.specs.Operations.{Operated, operated, overflows, other_kinds}
+use Rattle.ob_heap_spec.specs.Worlds.{World, by_state, by_reentry, next_item, with_read, read_object}
+use Rattle.ob_heap_spec.specs.Marks.{comes_into, is_locked, is_in_progress}
+use Rattle.ob_heap_spec.specs.Dispatch.{answering}
+use Rattle.ob_heap_spec.specs.Objects.{unfinished}
+use Rattle.ob_heap_spec.specs.GoingWrong.{is_within, is_finished}
+use Rattle.ob_source_laws.proofs.Follows.{follows_read, follows_read_object, follows_edit, follows_make, spared_this}
+use Rattle.ob_source_laws.proofs.Marking.{follows_into, follows_mark_disowned}
 use Rattle.ob_silica.specs.Terms.{SilicaForm, unit_form, const_form, op_form, copy_form, move_form, new_form, call_form, call_this_form, change_form, test_form, if_form, assert_form, disown_form, drop_form, return_form, revert_form, bad_row_form, SilicaTerms, no_terms, and_term}
 use Rattle.ob_silica.specs.declared.place.Given.{Given}
-use Rattle.ob_silica_steps.specs.Cells.{Location, slot, field, located, all_located, location_of, this, same_location, Cell, plain_cell}
-use Rattle.ob_silica_steps.specs.Configurations.{SilicaProgram, Slots, Notes, Rest, Loan, Waiting, Control, runs, leaves, How, by_receiver, by_this, by_new, Frame, Configuration, Next, goes, ended, aborted, stuck}
-use Rattle.ob_silica_steps.specs.Here.{Here, at, here, goes_to, self_of, self, read, hand}
-use Rattle.ob_silica_steps.specs.Converting.{got_from}
-use Rattle.ob_silica_steps.specs.Binding.{Parameter, bound_cell, this_parameter, Bound, bind_one, bind_all, unbound, parameters, all_parameters, without_field_loans}
+use Rattle.ob_silica_steps.specs.Cells.{Cell, plain_cell}
+use Rattle.ob_silica_places.specs.Places.{Location, slot, field, located, all_located, location_of, this, same_location}
+use Rattle.ob_silica_steps.specs.Configurations.{SilicaProgram, SlotCells, Notes, Rest, Loan, Waiting, Control, runs, leaves, How, by_receiver, by_this, by_new, SilicaFrame, Configuration, NextStep, goes, ended, aborted, stuck}
+use Rattle.ob_silica_steps.specs.Here.{Here, here, goes_to, self_of, self, read, hand}
+use Rattle.ob_silica_places.specs.Known.{at}
+use Rattle.ob_silica_steps.specs.Getting.{got_from}
+use Rattle.ob_silica_steps.specs.Binding.{bound_cell, Bound, bind_one, bind_all, unbound, without_field_loans}
+use Rattle.ob_silica_places.specs.Parameters.{Parameter, this_parameter, parameters, all_parameters}
 use Rattle.ob_silica_steps.specs.Entering.{Entered, enters, begins_on, calls_object, calls_this, makes_object}
 use Rattle.ob_silica_steps.specs.Changing.{all_there, fill_all, changed_object, changed_here, is_locked_out, change_with, change_step}
-use Rattle.ob_silica_steps.specs.Testing.{Tested, tells, test_shared_this, test_this_as, test_this, test_shared, test_other, test_object, is_in, reads_object, test_step}
+use Rattle.ob_silica_steps.specs.Testing.{StateTest, tells, test_shared_this, test_this_as, test_this, test_shared, test_other, test_object, is_in, reads_object, test_step}
 use Rattle.ob_silica_steps.specs.Returning.{exits_are_within, gives_this, gives_none, gives, return_step, gives_back, goes_back, leave_step, left_world}
-use Rattle.ob_silica_steps.specs.Straight.{with_operated, with_truth, with_text, available_field, copy_to, move_to_slot, move_to, disowns}
+use Rattle.ob_silica_steps.specs.Straight.{with_operated, with_truth, with_text, available_field, copy_to, move_to_slot, move_to, disowns_object}
 use Rattle.ob_silica_steps.specs.Calling.{entered_with, constructor_id, call_step, call_this_step, new_step}
 use Rattle.ob_silica_steps.specs.Steps.{act, pop_step, run_step, control_step, step, then_steps, steps}
 use Rattle.ob_silica_steps.specs.Starting.{pass_all, alone, started_call, started_new}
-use Rattle.ob_silica_laws.proofs.Keeping.{Keeps, Leads, tells_then, keeps_self, keeps_then, then_follows, keeps_lock, keeps_enter, keeps_progress, leads_abort, leads_there, leads_if, leads_unit, leads_goes, leads_to, leads_ended, leads_stuck, keeps_permission, keeps_field, keeps_hand, keeps_end}
+use Rattle.ob_silica_laws.proofs.Keeping.{Keeps, Leads, tells_then, keeps_self, keeps_then, then_follows, then_edits, keeps_lock, keeps_enter, keeps_progress, leads_abort, leads_there, leads_if, leads_unit, leads_goes, leads_to, leads_ended, leads_stuck, keeps_permission, keeps_field, keeps_hand, keeps_end}
 
 -- Binding and entering.
 
-bound_keeps : {w : World} (table : ClassTable) (b : Bound) (places : List Location) (k : ℕ) (ps : List Parameter) (go : Bound → Next) → Keeps w b.from.world → ((d : Bound) → Keeps w d.from.world → Leads w (go d)) → Leads w (bind_all table b places k ps go)
+bound_keeps : {w : World} (table : ClassTable) (b : Bound) (places : List Location) (k : ℕ) (ps : List Parameter) (go : Bound → NextStep) → Keeps w b.from.world → ((d : Bound) → Keeps w d.from.world → Leads w (go d)) → Leads w (bind_all table b places k ps go)
 bound_keeps table b [] k [] go a each = each b a
 bound_keeps {w = w} table b [] k (p ∷ ps) go a each = leads_stuck w
 bound_keeps {w = w} table b (place ∷ places) k [] go a each = leads_stuck w
@@ -65,7 +69,7 @@ calls_keep program e contract tx asked n a =
     leads_there (signature_at own t) _ (λ s.
     begins_keeps program (record e { world = w }) n o t s k)))))
 
-calls_this_keep : {w : World} (program : SilicaProgram) (e : Entered) (caller : Frame) (tx : TxId) (s : Signature) → Keeps w e.world → Leads w (calls_this program e caller tx s)
+calls_this_keep : {w : World} (program : SilicaProgram) (e : Entered) (caller : SilicaFrame) (tx : TxId) (s : Signature) → Keeps w e.world → Leads w (calls_this program e caller tx s)
 calls_this_keep program e caller tx s a = leads_if _ _ stuck (enters_keeps program e caller.contract tx by_this _ a) (leads_stuck _)
 
 pub makes_keep : {w : World} (program : SilicaProgram) (e : Entered) (contract : ContractId) (tx : TxId) (s : Signature) → Keeps w e.world → Leads w (makes_object program e contract tx s)
@@ -76,7 +80,7 @@ makes_keep program e contract tx s a =
 
 -- Changes.
 
-filled_keep : {w : World} (table : ClassTable) (c : Contract) (state : StateId) (h : Here) (gs : List Given) (got : Numbered Cell) (go : Here → Numbered Cell → Next) → Keeps w h.world → ((i : Here) (all : Numbered Cell) → Keeps w i.world → Leads w (go i all)) → Leads w (fill_all table c state h gs got go)
+filled_keep : {w : World} (table : ClassTable) (c : Contract) (state : StateId) (h : Here) (gs : List Given) (got : Numbered Cell) (go : Here → Numbered Cell → NextStep) → Keeps w h.world → ((i : Here) (all : Numbered Cell) → Keeps w i.world → Leads w (go i all)) → Leads w (fill_all table c state h gs got go)
 filled_keep table c state h [] got go a each = each h got a
 filled_keep table c state h (g ∷ gs) got go a each =
     leads_there (slice_get c.fields g.field.0) _ (λ (f : Field). leads_there (read table h (located g.from)) _ (λ x.
@@ -88,7 +92,7 @@ changed_keeps : {w : World} (own : Contract) (state : StateId) (rest : SilicaTer
 changed_keeps own state rest outer c h got a =
     leads_there (self (changed_here own state got h)) _ (λ o.
     leads_if (has_all_values own o) (goes_to c (changed_here own state got h) (runs rest outer)) stuck
-    (leads_goes _ (then_follows a (follows_edit h.world (changed_object own state got) (self_of h.slots)))) (leads_stuck _))
+    (leads_goes _ (then_edits (self_of h.slots) a (follows_edit h.world (changed_object own state got) (self_of h.slots) (λ o. record { contract = refl; shared = λ e. e; disowned = λ e. e }) (spared_this h.world (self_of h.slots))))) (leads_stuck _))
 
 change_keeps : (table : ClassTable) (state : StateId) (given : List Given) (rest : SilicaTerms) (outer : List Rest) (c : Configuration) → Leads c.world (change_step table state given rest outer c)
 change_keeps table state given rest outer c =
@@ -99,37 +103,37 @@ change_keeps table state given rest outer c =
 
 -- Tests.
 
-tells_keep : {w : World} (c : Configuration) (h : Here) (t : Tested) (x : Cell) (holds : Bool) → Keeps w h.world → Leads w (tells c h t x holds)
+tells_keep : {w : World} (c : Configuration) (h : Here) (t : StateTest) (x : Cell) (holds : Bool) → Keeps w h.world → Leads w (tells c h t x holds)
 tells_keep c h t x holds a = leads_goes _ (keeps_permission t.place _ h a)
 
-shared_this_keeps : {w : World} (c : Configuration) (h : Here) (t : Tested) (holds : Bool) → Keeps w h.world → Leads w (test_shared_this c h t holds)
+shared_this_keeps : {w : World} (c : Configuration) (h : Here) (t : StateTest) (holds : Bool) → Keeps w h.world → Leads w (test_shared_this c h t holds)
 shared_this_keeps c h t true a = leads_goes _ (keeps_permission t.place _ h a)
 shared_this_keeps c h t false a = leads_goes _ a
 
-this_as_keeps : {w : World} (p : Permission) (c : Configuration) (h : Here) (t : Tested) (x : Cell) (holds : Bool) → Keeps w h.world → Leads w (test_this_as p c h t x holds)
+this_as_keeps : {w : World} (p : Permission) (c : Configuration) (h : Here) (t : StateTest) (x : Cell) (holds : Bool) → Keeps w h.world → Leads w (test_this_as p c h t x holds)
 this_as_keeps shared c h t x holds a = shared_this_keeps c h t holds a
 this_as_keeps (owned s) c h t x holds a = tells_keep c h t x holds a
 this_as_keeps unowned c h t x holds a = tells_keep c h t x holds a
 
-shared_keeps : {w : World} (c : Configuration) (h : Here) (t : Tested) (n : ℕ) (holds : Bool) → Keeps w h.world → Leads w (test_shared c h t n holds)
+shared_keeps : {w : World} (c : Configuration) (h : Here) (t : StateTest) (n : ℕ) (holds : Bool) → Keeps w h.world → Leads w (test_shared c h t n holds)
 shared_keeps c h t n true a = leads_goes _ (keeps_lock n (keeps_permission t.place _ h a))
 shared_keeps c h t n false a = leads_goes _ a
 
-this_keeps : {w : World} (c : Configuration) (h : Here) (t : Tested) (x : Cell) (n : ℕ) (holds : Bool) → Keeps w h.world → Leads w (test_this c h t x n holds)
+this_keeps : {w : World} (c : Configuration) (h : Here) (t : StateTest) (x : Cell) (n : ℕ) (holds : Bool) → Keeps w h.world → Leads w (test_this c h t x n holds)
 this_keeps c h t x n holds a =
     leads_if (is_locked_out c.frame h) _ _ (leads_abort (by_state n None) a) (this_as_keeps x.note.permission c h t x holds a)
 
-other_keeps : {w : World} (c : Configuration) (h : Here) (t : Tested) (x : Cell) (n : ℕ) (o : Object) (holds : Bool) → Keeps w h.world → Leads w (test_other c h t x n o holds)
+other_keeps : {w : World} (c : Configuration) (h : Here) (t : StateTest) (x : Cell) (n : ℕ) (o : Object) (holds : Bool) → Keeps w h.world → Leads w (test_other c h t x n o holds)
 other_keeps c h t x n o holds a =
     leads_if o.shared _ _
     (leads_if (is_locked h.world n || is_in_progress h.world n) _ _ (leads_abort (by_state n None) a) (shared_keeps c h t n holds a))
     (tells_keep c h t x holds a)
 
-object_keeps : {w : World} (c : Configuration) (h : Here) (t : Tested) (x : Cell) (n : ℕ) (o : Object) (holds : Bool) → Keeps w h.world → Leads w (test_object c h t x n o holds)
+object_keeps : {w : World} (c : Configuration) (h : Here) (t : StateTest) (x : Cell) (n : ℕ) (o : Object) (holds : Bool) → Keeps w h.world → Leads w (test_object c h t x n o holds)
 object_keeps c h t x n o holds a =
     leads_if (same_location t.place this) _ _ (this_keeps c h t x n holds a) (other_keeps c h t x n o holds a)
 
-test_keeps : (table : ClassTable) (t : Tested) (state : StateId) (c : Configuration) → Leads c.world (test_step table t state c)
+test_keeps : (table : ClassTable) (t : StateTest) (state : StateId) (c : Configuration) → Leads c.world (test_step table t state c)
 test_keeps table t state c =
     leads_there (read table (here c) t.place) _ (λ x. leads_there (referred x.value) _ (λ n.
     leads_there (object_at c.world.objects n) _ (λ o.
@@ -150,7 +154,7 @@ gives_none_keeps by_receiver program s outer c = leads_goes _ (keeps_self c.worl
 gives_none_keeps by_this program s outer c = leads_goes _ (keeps_self c.world)
 gives_none_keeps by_new program s outer c = gives_this_keeps program s outer c
 
-gives_keep : (program : SilicaProgram) (s : Signature) (result : Option Kind) (place : Option Location) (outer : List Rest) (c : Configuration) → Leads c.world (gives program s result place outer c)
+gives_keep : (program : SilicaProgram) (s : Signature) (result : Option ResolvedType) (place : Option Location) (outer : List Rest) (c : Configuration) → Leads c.world (gives program s result place outer c)
 gives_keep program s result None outer c = gives_none_keeps c.frame.how program s outer c
 gives_keep program s None (Some place) outer c =
     leads_there (read program.table (here c) place) _ (λ x. leads_goes _ (keeps_self c.world))
@@ -180,39 +184,39 @@ leave_keeps result (r ∷ outer) c = leads_goes _ (keeps_end r.ends (here c) (ke
 
 -- Straight forms.
 
-operated_keeps : {w : World} (line : ℕ) (o : Operated) (go : Value → Next) → ((v : Value) → Leads w (go v)) → Leads w (with_operated line w o go)
+operated_keeps : {w : World} (line : ℕ) (o : Operated) (go : Value → NextStep) → ((v : Value) → Leads w (go v)) → Leads w (with_operated line w o go)
 operated_keeps line (operated v) go each = each v
 operated_keeps {w = w} line overflows go each = leads_abort _ (keeps_self w)
 operated_keeps {w = w} line other_kinds go each = leads_stuck w
 
-truth_keeps : {w : World} (v : Value) (x y : Next) → Leads w x → Leads w y → Leads w (with_truth v x y)
+truth_keeps : {w : World} (v : Value) (x y : NextStep) → Leads w x → Leads w y → Leads w (with_truth v x y)
 truth_keeps (bool_value true) x y a b = a
 truth_keeps (bool_value false) x y a b = b
 truth_keeps (int_value z) x y a b = leads_stuck _
 truth_keeps (text_value bytes) x y a b = leads_stuck _
 truth_keeps (reference n) x y a b = leads_stuck _
 
-text_keeps : {w : World} (v : Value) (go : List ℕ → Next) → ((bytes : List ℕ) → Leads w (go bytes)) → Leads w (with_text v go)
+text_keeps : {w : World} (v : Value) (go : List ℕ → NextStep) → ((bytes : List ℕ) → Leads w (go bytes)) → Leads w (with_text v go)
 text_keeps (text_value bytes) go each = each bytes
 text_keeps (int_value z) go each = leads_stuck _
 text_keeps (bool_value b) go each = leads_stuck _
 text_keeps (reference n) go each = leads_stuck _
 
-copy_keeps : {w : World} (table : ClassTable) (to : Location) (x : Cell) (h : Here) (go : Here → Next) → Keeps w h.world → ((i : Here) → Keeps w i.world → Leads w (go i)) → Leads w (copy_to table to x h go)
+copy_keeps : {w : World} (table : ClassTable) (to : Location) (x : Cell) (h : Here) (go : Here → NextStep) → Keeps w h.world → ((i : Here) → Keeps w i.world → Leads w (go i)) → Leads w (copy_to table to x h go)
 copy_keeps table (slot k) x h go a each = each _ a
 copy_keeps table (field k) x h go a each = leads_there (available_field table h k) _ (λ f.
-    each _ (keeps_field k (plain_cell x.value (kind_of_table f.of)) h a))
+    each _ (keeps_field k (plain_cell x.value (kind_of_resolved f.of)) h a))
 
-move_slot_keeps : {w : World} (table : ClassTable) (k : ℕ) (contract : Option ContractId) (place : Location) (x : Cell) (h : Here) (go : Here → Next) → Keeps w h.world → ((i : Here) → Keeps w i.world → Leads w (go i)) → Leads w (move_to_slot table k contract place x h go)
+move_slot_keeps : {w : World} (table : ClassTable) (k : ℕ) (contract : Option ContractId) (place : Location) (x : Cell) (h : Here) (go : Here → NextStep) → Keeps w h.world → ((i : Here) → Keeps w i.world → Leads w (go i)) → Leads w (move_to_slot table k contract place x h go)
 move_slot_keeps table k None place x h go a each = leads_stuck _
 move_slot_keeps table k (Some id) place x h go a each = each _ (keeps_permission place _ h a)
 
-move_keeps : {w : World} (table : ClassTable) (to : Location) (contract : Option ContractId) (place : Location) (x : Cell) (h : Here) (go : Here → Next) → Keeps w h.world → ((i : Here) → Keeps w i.world → Leads w (go i)) → Leads w (move_to table to contract place x h go)
+move_keeps : {w : World} (table : ClassTable) (to : Location) (contract : Option ContractId) (place : Location) (x : Cell) (h : Here) (go : Here → NextStep) → Keeps w h.world → ((i : Here) → Keeps w i.world → Leads w (go i)) → Leads w (move_to table to contract place x h go)
 move_keeps table (slot k) contract place x h go a each = move_slot_keeps table k contract place x h go a each
 move_keeps table (field k) contract place x h go a each = leads_there (available_field table h k) _ (λ f.
     each _ (keeps_field k (got_from table f.of h place x) (hand f.of place x h) (keeps_hand f.of place x h a)))
 
-disowns_keep : {w : World} (place : Location) (x : Cell) (h : Here) (go : Here → Next) → Keeps w h.world → ((i : Here) → Keeps w i.world → Leads w (go i)) → Leads w (disowns place x h go)
+disowns_keep : {w : World} (place : Location) (x : Cell) (h : Here) (go : Here → NextStep) → Keeps w h.world → ((i : Here) → Keeps w i.world → Leads w (go i)) → Leads w (disowns_object place x h go)
 disowns_keep place x h go a each = leads_there _ _ (λ n. each _ (keeps_permission place _ _ (then_follows a (follows_mark_disowned h.world n))))
 
 call_keeps : (program : SilicaProgram) (result : Option ℕ) (receiver : Location) (contract : ContractId) (tx : TxId) (args : List Location) (rest : SilicaTerms) (outer : List Rest) (c : Configuration) → Leads c.world (call_step program result receiver contract tx args rest outer c)
@@ -277,13 +281,13 @@ control_keeps program (leaves result outer) c = leave_keeps result outer c
 pub step_keeps : (program : SilicaProgram) (c : Configuration) → Leads c.world (step program c)
 step_keeps program c = control_keeps program c.control c
 
-leads_after : {w v : World} (next : Next) → Keeps w v → Leads v next → Leads w next
+leads_after : {w v : World} (next : NextStep) → Keeps w v → Leads v next → Leads w next
 leads_after (goes c) a b = record { by = keeps_then a b.by }
 leads_after (ended result u) a b = record { by = keeps_then a b.by }
 leads_after (aborted cause s) a b = record { by = tells_then a b.by }
 leads_after stuck a b = leads_stuck _
 
-then_leads : {w : World} (next : Next) (go : Configuration → Next) → Leads w next → ((c : Configuration) → Leads c.world (go c)) → Leads w (then_steps next go)
+then_leads : {w : World} (next : NextStep) (go : Configuration → NextStep) → Leads w next → ((c : Configuration) → Leads c.world (go c)) → Leads w (then_steps next go)
 then_leads (goes c) go a each = leads_after (go c) a.by (each c)
 then_leads (ended result u) go a each = a
 then_leads (aborted cause s) go a each = a
@@ -295,7 +299,7 @@ steps_keep program (suc n) c = then_leads (step program c) (steps program n) (st
 
 -- Runs from outside.
 
-passed_keeps : {w : World} (vs : List Value) (k : ℕ) (ps : List Parameter) (slots : Slots) (v : World) (go : Slots → World → Next) → Keeps w v → ((s : Slots) (u : World) → Keeps w u → Leads w (go s u)) → Leads w (pass_all vs k ps slots v go)
+passed_keeps : {w : World} (vs : List Value) (k : ℕ) (ps : List Parameter) (slots : SlotCells) (v : World) (go : SlotCells → World → NextStep) → Keeps w v → ((s : SlotCells) (u : World) → Keeps w u → Leads w (go s u)) → Leads w (pass_all vs k ps slots v go)
 passed_keeps [] k [] slots v go a each = each slots v a
 passed_keeps [] k (p ∷ ps) slots v go a each = leads_stuck _
 passed_keeps (x ∷ vs) k [] slots v go a each = leads_stuck _
@@ -310,9 +314,9 @@ started_call_keeps program contract tx n args notes w =
 
 pub started_new_keeps : (program : SilicaProgram) (contract : ContractId) (args : List Value) (notes : Notes) (w : World) → Leads w (started_new program contract args notes w)
 started_new_keeps program contract args notes w =
-    leads_there (signature_of program.table contract constructor_id) _ (λ s.
+    leads_there (constructor_at program.table contract) _ (λ s.
     passed_keeps args 1 (parameters s) nothing w _ (keeps_self w) (λ slots v a.
     leads_unit v _ a (λ u k. makes_keep program (alone slots notes u) contract constructor_id s k)))
 
-pub run_keeps_all : {w : World} (program : SilicaProgram) (next : Next) (most : ℕ) → Leads w next → Leads w (then_steps next (steps program most))
+pub run_keeps_all : {w : World} (program : SilicaProgram) (next : NextStep) (most : ℕ) → Leads w next → Leads w (then_steps next (steps program most))
 run_keeps_all program next most a = then_leads next (steps program most) a (steps_keep program most)

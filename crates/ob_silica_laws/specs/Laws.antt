@@ -1,30 +1,30 @@
 -- What is kept by each step, and by any number of them (this project's own).
 use Rattle.std.specs.Prelude.{◌≡◌, ◌+◌, ◌≤◌, ⊤}
-use Rattle.ob_meaning.specs.Worlds.{World, Spent}
-use Rattle.ob_meaning_laws.specs.Laws.{Grows, KeepsObjects}
-use Rattle.ob_silica_steps.specs.Configurations.{Next, goes, ended, aborted, stuck}
+use Rattle.ob_heap_spec.specs.Worlds.{World, Spent}
+use Rattle.ob_source_laws.specs.Laws.{Grows, KeepsObjects}
+use Rattle.ob_silica_steps.specs.Configurations.{NextStep, goes, ended, aborted, stuck}
 
 -- where steps lead to a world, the first holds of it; where they abort, the second of what the run has spent
-abbrev pub LeadsSo : (World → Type 0) → (Spent → Type 0) → Next → Type 0
+abbrev pub LeadsSo : (World → Type 0) → (Spent → Type 0) → NextStep → Type 0
 LeadsSo P Q (goes c) = P c.world
 LeadsSo P Q (ended result w) = P w
 LeadsSo P Q (aborted cause s) = Q s
 LeadsSo P Q stuck = ⊤
 
 -- Units left and units taken add up to those that were there; an aborted run has taken no more than were there.
-abbrev pub UnitsAddUp : World → Next → Type 0
+abbrev pub UnitsAddUp : World → NextStep → Type 0
 UnitsAddUp w next = LeadsSo (λ v. v.fuel + v.taken ≡ w.fuel + w.taken) (λ s. s.taken ≤ w.fuel + w.taken) next
 
 -- What was read stays read.
-abbrev pub ReadsGrow : World → Next → Type 0
+abbrev pub ReadsGrow : World → NextStep → Type 0
 ReadsGrow w next = LeadsSo (λ v. Grows w.reads v.reads) (λ s. Grows w.reads s.reads) next
 
--- What the steps don't set or make stays.
-abbrev pub OthersStay : World → Next → Type 0
-OthersStay w next = LeadsSo (KeepsObjects w) (λ s. ⊤) next
+-- No object goes away or becomes one of another contract, and no mark is taken off.
+abbrev pub ObjectsStay : World → NextStep → Type 0
+ObjectsStay w next = LeadsSo (KeepsObjects w) (λ s. ⊤) next
 
 -- no further step follows: the run has ended, has aborted, or is stuck
-abbrev pub IsOver : Next → Type 0
+abbrev pub IsOver : NextStep → Type 0
 IsOver (goes c) = ⊥
 IsOver (ended result w) = ⊤
 IsOver (aborted cause s) = ⊤

@@ -2,12 +2,12 @@
 ghost use Rattle.std.specs.Prelude.{◌≡◌, ◌+◌, ℕ, List};
 ghost use Rattle.ob_base.specs.declared.id.ContractId.{ContractId};
 ghost use Rattle.ob_base.specs.declared.id.TxId.{TxId};
-ghost use Rattle.ob_meaning.specs.Values.{Value};
-ghost use Rattle.ob_meaning.specs.Worlds.{World};
+ghost use Rattle.ob_heap_spec.specs.Values.{Value};
+ghost use Rattle.ob_heap_spec.specs.Worlds.{World};
 ghost use Rattle.ob_silica_steps.specs.Configurations.{SilicaProgram, Configuration, Notes};
 ghost use Rattle.ob_silica_steps.specs.Steps.{then_steps, steps};
 ghost use Rattle.ob_silica_steps.specs.Starting.{started_call, started_new};
-ghost use Rattle.ob_silica_laws.specs.Laws.{UnitsAddUp, ReadsGrow, OthersStay, IsOver};
+ghost use Rattle.ob_silica_laws.specs.Laws.{UnitsAddUp, ReadsGrow, ObjectsStay, IsOver};
 
 /// Units left and units taken add up to those that were there, after any number of steps and for each run from
 /// outside; an aborted run has taken no more than were there.
@@ -38,12 +38,13 @@ pub fn reads_grow()
         (w : World) → ReadsGrow w (then_steps (started_new program contract args notes w) (steps program most)) }
 {}
 
-/// What the steps don't set or make stays, and what they make comes behind all that was there.
-pub fn others_stay()
-    ensures steps { (program : SilicaProgram) (n : ℕ) (c : Configuration) → OthersStay c.world (steps program n c) }
+/// No object goes away or becomes one of another contract, no mark is taken off, and what the steps make comes after all
+/// that was there.
+pub fn objects_stay()
+    ensures steps { (program : SilicaProgram) (n : ℕ) (c : Configuration) → ObjectsStay c.world (steps program n c) }
     ensures calls { (program : SilicaProgram) (most : ℕ) (contract : ContractId) (tx : TxId) (n : ℕ) (args : List Value)
         (notes : Notes) (w : World)
-        → OthersStay w (then_steps (started_call program contract tx n args notes w) (steps program most)) }
+        → ObjectsStay w (then_steps (started_call program contract tx n args notes w) (steps program most)) }
     ensures news { (program : SilicaProgram) (most : ℕ) (contract : ContractId) (args : List Value) (notes : Notes)
-        (w : World) → OthersStay w (then_steps (started_new program contract args notes w) (steps program most)) }
+        (w : World) → ObjectsStay w (then_steps (started_new program contract args notes w) (steps program most)) }
 {}

@@ -1,50 +1,27 @@
 -- How a call hands its receiver and its arguments over (this project's own).
-use Rattle.std.specs.Prelude.{ℕ, suc, List, [], ◌∷◌, ◌++◌, map, Some, if◌then◌else◌}
-use Rattle.ob_base.specs.declared.id.ContractId.{ContractId}
-use Rattle.ob_base.specs.declared.permission.Perm.{Perm}
+use Rattle.std.specs.Prelude.{ℕ, suc, List, [], ◌∷◌, ◌++◌, Some, if◌then◌else◌}
 use Rattle.ob_perm.specs.Permissions.{owns}
 use Rattle.ob_perm.specs.Masks.{permission_of}
 use Rattle.ob_table.specs.Tables.{ClassTable}
-use Rattle.ob_table.specs.declared.contract.Kind.{Kind}
-use Rattle.ob_table.specs.declared.contract.Kind.TheVariants.{Reference}
-use Rattle.ob_table.specs.declared.contract.Param.{Param}
-use Rattle.ob_table.specs.declared.contract.Signature.{Signature}
-use Rattle.ob_typing.specs.WellMade.{kind_of_table}
-use Rattle.ob_meaning.specs.Values.{Value, nothing}
-use Rattle.ob_silica_steps.specs.Cells.{Location, slot, field, Known, Cell, cell, permission_of_kind}
-use Rattle.ob_silica_steps.specs.Configurations.{Slots, Loan, Next, stuck}
-use Rattle.ob_silica_steps.specs.Here.{Here, at, read, hand, if_there}
-use Rattle.ob_silica_steps.specs.Converting.{converted}
-
--- a parameter, or `this`: its type with the permission at the entry, and the permission at the exit
-pub record Parameter : Type 0 where
-  pub of : Kind
-  pub exit : Perm
-
--- a parameter of a signature
-abbrev pub parameter_of : Param → Parameter
-parameter_of p = record { of = p.of; exit = p.exit }
-
--- the parameters beside `this`
-abbrev pub parameters : Signature → List Parameter
-parameters s = map parameter_of s.params
-
--- `this` of a transaction of a contract, as a parameter
-abbrev pub this_parameter : ContractId → Signature → Parameter
-this_parameter contract s = record { of = Reference contract s.entry; exit = s.exit }
-
--- `this` and the parameters beside it, by the numbers of their slots
-abbrev pub all_parameters : ContractId → Signature → List Parameter
-all_parameters contract s = this_parameter contract s ∷ parameters s
+use Rattle.ob_table.specs.declared.contract.ResolvedType.{ResolvedType}
+use Rattle.ob_table_spec.specs.WellFormed.{kind_of_resolved}
+use Rattle.ob_heap_spec.specs.Values.{Value, nothing}
+use Rattle.ob_silica_steps.specs.Cells.{Cell, cell}
+use Rattle.ob_silica_places.specs.Known.{Known, permission_of_type, at}
+use Rattle.ob_silica_places.specs.Places.{Location, slot, field}
+use Rattle.ob_silica_steps.specs.Configurations.{SlotCells, Loan, NextStep, stuck}
+use Rattle.ob_silica_steps.specs.Here.{Here, read, hand, if_there}
+use Rattle.ob_silica_places.specs.Converting.{converted}
+use Rattle.ob_silica_places.specs.Parameters.{Parameter}
 
 -- the cell that a parameter gets
-abbrev pub bound_cell : Kind → Value → Cell
-bound_cell of value = cell value (kind_of_table of) (permission_of_kind of)
+abbrev pub bound_cell : ResolvedType → Value → Cell
+bound_cell of value = cell value (kind_of_resolved of) (permission_of_type of)
 
 -- what is bound of a call so far: what its caller is left with, the callee's slots, and what is lent
 pub record Bound : Type 0 where
   pub from : Here
-  pub slots : Slots
+  pub slots : SlotCells
   pub loans : List Loan
 
 -- nothing is bound
@@ -54,11 +31,11 @@ unbound h = record { from = h; slots = nothing; loans = [] }
 -- what is given to an owner is lent up to the return, and then the place has the exit, said for its own contract
 abbrev pub loan_of : ClassTable → Location → ℕ → Parameter → Known → List Loan
 loan_of table place k p note =
-    if owns (permission_of_kind p.of)
+    if owns (permission_of_type p.of)
     then record {
       place = place;
       param = k;
-      exit = converted table (kind_of_table p.of) note.kind (permission_of p.exit);
+      exit = converted table (kind_of_resolved p.of) note.kind (permission_of p.exit);
     } ∷ []
     else []
 
@@ -71,7 +48,7 @@ bind_one table b place c k p = record {
 }
 
 -- places are handed over, one after the other, to parameters from this number on; there are as many of both
-abbrev pub bind_all : ClassTable → Bound → List Location → ℕ → List Parameter → (Bound → Next) → Next
+abbrev pub bind_all : ClassTable → Bound → List Location → ℕ → List Parameter → (Bound → NextStep) → NextStep
 bind_all table b [] k [] go = go b
 bind_all table b [] k (p ∷ ps) go = stuck
 bind_all table b (place ∷ places) k [] go = stuck

@@ -5,10 +5,12 @@ use Rattle.ob_base.specs.declared.id.ContractId.{ContractId}
 use Rattle.ob_base.specs.declared.id.TxId.{TxId}
 use Rattle.ob_perm.specs.Permissions.{Permission}
 use Rattle.ob_table.specs.Tables.{ClassTable}
-use Rattle.ob_meaning.specs.Values.{Value, Numbered}
-use Rattle.ob_meaning.specs.Worlds.{World, Cause, Spent, spent}
+use Rattle.ob_heap_spec.specs.Values.{Value, Numbered}
+use Rattle.ob_heap_spec.specs.Worlds.{World, AbortCause, Spent, spent}
 use Rattle.ob_silica.specs.Terms.{SilicaTerms, SilicaBody}
-use Rattle.ob_silica_steps.specs.Cells.{Location, Known, Cell}
+use Rattle.ob_silica_steps.specs.Cells.{Cell}
+use Rattle.ob_silica_places.specs.Known.{Known}
+use Rattle.ob_silica_places.specs.Places.{Location}
 
 -- Programs.
 
@@ -29,8 +31,8 @@ terms_at program contract tx =
 -- Frames.
 
 -- the slots of a frame, each set or unset
-abbrev pub Slots : Type 0
-Slots = Numbered Cell
+abbrev pub SlotCells : Type 0
+SlotCells = Numbered Cell
 
 -- how a frame was entered: by a call with a receiver, by one on `this`, by a `new`
 pub data How : Type 0 where
@@ -39,8 +41,8 @@ pub data How : Type 0 where
   by_new : How
 
 -- a frame: its slots, whose body it runs, how it was entered, and whether it is share-entered
-pub record Frame : Type 0 where
-  pub slots : Slots
+pub record SilicaFrame : Type 0 where
+  pub slots : SlotCells
   pub contract : ContractId
   pub tx : TxId
   pub how : How
@@ -66,7 +68,7 @@ pub record Loan : Type 0 where
 
 -- a frame that waits for a call: what it goes on with, where the result goes, and what it has lent
 pub record Waiting : Type 0 where
-  pub frame : Frame
+  pub frame : SilicaFrame
   pub terms : SilicaTerms
   pub outer : List Rest
   pub result : Option ℕ
@@ -93,20 +95,20 @@ pub record Notes : Type 0 where
 
 -- a configuration: the innermost frame and what it is about to do, the frames that wait, the notes and the world
 pub record Configuration : Type 0 where
-  pub frame : Frame
+  pub frame : SilicaFrame
   pub control : Control
   pub stack : List Waiting
   pub notes : Notes
   pub world : World
 
 -- what a step leads to: another configuration; the end of the run, with its result; an abort, with what the run
--- has spent; or there is none
-pub data Next : Type 0 where
-  goes : Configuration → Next
-  ended : Option Value → World → Next
-  aborted : Cause → Spent → Next
-  stuck : Next
+-- has spent; or there is no step, and the run is stuck
+pub data NextStep : Type 0 where
+  goes : Configuration → NextStep
+  ended : Option Value → World → NextStep
+  aborted : AbortCause → Spent → NextStep
+  stuck : NextStep
 
 -- an abort in a world
-abbrev pub abort : Cause → World → Next
-abort cause w = aborted cause (spent w)
+abbrev pub abort_step : AbortCause → World → NextStep
+abort_step cause w = aborted cause (spent w)

@@ -1,22 +1,23 @@
 -- Reading and writing the places of a frame (this project's own).
-use Rattle.std.specs.Prelude.{ℕ, zero, suc, false, nat_eq, Option, Some, None, option_map, option_and_then, unwrap_or, slice_get, if◌then◌else◌}
+use Rattle.std.specs.Prelude.{ℕ, zero, suc, false, Option, Some, None, option_map, option_and_then, unwrap_or, slice_get, if◌then◌else◌}
 use Rattle.std.specs.Option.{option_map_or}
-use Rattle.ob_perm.specs.Permissions.{Permission, owned, shared, unowned, kept}
+use Rattle.ob_perm.specs.Permissions.{Permission, kept}
 use Rattle.ob_table.specs.Tables.{ClassTable, contract_at}
 use Rattle.ob_table.specs.declared.contract.Field.{Field}
-use Rattle.ob_table.specs.declared.contract.Kind.{Kind}
-use Rattle.ob_meaning.specs.Values.{Value}
-use Rattle.ob_meaning.specs.Objects.{Object, has_field}
-use Rattle.ob_meaning.specs.Contents.{object_at}
-use Rattle.ob_meaning.specs.Worlds.{World, edit_object, with_unit_taken, by_fuel}
-use Rattle.ob_meaning.specs.Marks.{comes_into}
-use Rattle.ob_meaning.specs.Fields.{with_field}
-use Rattle.ob_silica_steps.specs.Cells.{Location, slot, field, Known, known, Cell, noted, permission_in, object_in, permission_of_kind}
-use Rattle.ob_silica_steps.specs.Configurations.{Slots, Notes, Control, Configuration, Next, goes, abort, stuck}
+use Rattle.ob_table.specs.declared.contract.ResolvedType.{ResolvedType}
+use Rattle.ob_heap_spec.specs.Values.{Value}
+use Rattle.ob_heap_spec.specs.Objects.{Object, has_field, with_field}
+use Rattle.ob_heap_spec.specs.Contents.{object_at}
+use Rattle.ob_heap_spec.specs.Worlds.{World, edit_object, with_unit_taken, by_fuel}
+use Rattle.ob_heap_spec.specs.Marks.{comes_into}
+use Rattle.ob_silica_steps.specs.Cells.{Cell, noted, permission_in, object_in}
+use Rattle.ob_silica_places.specs.Known.{Known, known, permission_of_type, unowned_under, at}
+use Rattle.ob_silica_places.specs.Places.{Location, slot, field}
+use Rattle.ob_silica_steps.specs.Configurations.{SlotCells, Notes, Control, Configuration, NextStep, goes, abort_step, stuck}
 
 -- what a form works on: the slots of its frame, the notes and the world
 pub record Here : Type 0 where
-  pub slots : Slots
+  pub slots : SlotCells
   pub notes : Notes
   pub world : World
 
@@ -24,8 +25,8 @@ pub record Here : Type 0 where
 abbrev pub here : Configuration → Here
 here c = record { slots = c.frame.slots; notes = c.notes; world = c.world }
 
--- the step to what the innermost frame is about to do, with this left by a form
-abbrev pub goes_to : Configuration → Here → Control → Next
+-- the next configuration: the innermost frame works on this, and is about to do what the control says
+abbrev pub goes_to : Configuration → Here → Control → NextStep
 goes_to c h control = goes (record {
   frame = record c.frame { slots = h.slots };
   control = control;
@@ -35,23 +36,24 @@ goes_to c h control = goes (record {
 })
 
 -- what follows where there is a thing; else there is no step
-abbrev pub if_there : {A : Type 0} → Option A → (A → Next) → Next
+abbrev pub if_there : {A : Type 0} → Option A → (A → NextStep) → NextStep
 if_there None go = stuck
 if_there (Some a) go = go a
 
 -- what follows where so many units are left, at least one, of which one is taken; where none is left the run aborts
-abbrev pub with_fuel_left : ℕ → World → (World → Next) → Next
-with_fuel_left zero w go = abort by_fuel w
+abbrev pub with_fuel_left : ℕ → World → (World → NextStep) → NextStep
+with_fuel_left zero w go = abort_step by_fuel w
 with_fuel_left (suc n) w go = go (with_unit_taken w n)
 
 -- a unit is taken
-abbrev pub with_unit : World → (World → Next) → Next
+abbrev pub with_unit : World → (World → NextStep) → NextStep
 with_unit w go = with_fuel_left w.fuel w go
 
 -- `this`.
 
--- the number of the object that `this` is
-abbrev pub self_of : Slots → ℕ
+-- The number of the object that `this` is. Where slot 0 holds no reference the 0 is a default that means nothing: each
+-- call and each `new` puts a reference there, and no term to which a body may be lowered sets that slot.
+abbrev pub self_of : SlotCells → ℕ
 self_of slots = unwrap_or (object_in (slots 0)) 0
 
 -- the object that `this` is
@@ -76,24 +78,12 @@ read table h (field k) =
     option_map (λ v. record { value = v; note = h.notes.fields (self_of h.slots) k })
     (option_and_then (λ o. field_value table o k) (self h))
 
--- a field's permission as it counts under that of `this`: an owner's as Unowned where `this` is Unowned
-abbrev pub unowned_under : Permission → Permission → Permission
-unowned_under (owned a) p = p
-unowned_under shared p = p
-unowned_under unowned (owned a) = unowned
-unowned_under unowned shared = shared
-unowned_under unowned unowned = unowned
-
--- the permission of a place with this cell, as it counts
+-- the permission that counts for a place with this cell: a field's is limited by that of `this`
 abbrev pub counted : Here → Location → Cell → Permission
 counted h (slot k) c = c.note.permission
 counted h (field k) c = unowned_under (permission_in (h.slots 0)) c.note.permission
 
 -- Writing.
-
--- the same with another thing at one number
-abbrev pub at : {A : Type 0} → (ℕ → A) → ℕ → A → ℕ → A
-at xs k x = λ i. if nat_eq i k then x else xs i
 
 -- what is noted of one field of an object
 abbrev pub with_field_note : Notes → ℕ → ℕ → Known → Notes
@@ -119,7 +109,7 @@ set_permission (field k) p h =
 
 -- A place with this cell hands its value over where one of this type is wanted: first the object is marked if the
 -- type is declared Shared, then the place keeps what a giver keeps.
-abbrev pub hand : Kind → Location → Cell → Here → Here
+abbrev pub hand : ResolvedType → Location → Cell → Here → Here
 hand of place c h =
-    set_permission place (kept c.note.permission (permission_of_kind of))
+    set_permission place (kept c.note.permission (permission_of_type of))
     (record h { world = comes_into of c.value h.world })

@@ -1,7 +1,6 @@
 pub mod Cells
 pub mod Configurations
 pub mod Here
-pub mod Converting
 pub mod Binding
 pub mod Entering
 pub mod Changing
@@ -11,3 +10,4 @@ pub mod Straight
 pub mod Calling
 pub mod Steps
 pub mod Starting
+pub mod Getting

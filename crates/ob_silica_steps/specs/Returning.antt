@@ -3,16 +3,19 @@
 use Rattle.std.specs.Prelude.{ℕ, Bool, List, [], ◌∷◌, map, Option, Some, None, option_map, if◌then◌else◌}
 use Rattle.ob_perm.specs.Permissions.{unowned}
 use Rattle.ob_table.specs.Tables.{ClassTable, contract_at, signature_of}
-use Rattle.ob_table.specs.declared.contract.Kind.{Kind}
-use Rattle.ob_table.specs.declared.contract.Kind.TheVariants.{Reference as TypedReference}
+use Rattle.ob_table.specs.declared.contract.ResolvedType.{ResolvedType}
+use Rattle.ob_table.specs.declared.contract.ResolvedType.TheVariants.{Reference as TypedReference}
 use Rattle.ob_table.specs.declared.contract.Signature.{Signature}
-use Rattle.ob_meaning.specs.Worlds.{World}
-use Rattle.ob_meaning.specs.Marks.{leave}
-use Rattle.ob_meaning.specs.GoingWrong.{is_within, kind_at_exit, is_finished}
-use Rattle.ob_silica_steps.specs.Cells.{Location, this, Cell, noted, value_in}
-use Rattle.ob_silica_steps.specs.Configurations.{SilicaProgram, Slots, How, by_receiver, by_this, by_new, Rest, Loan, Waiting, runs, leaves, Configuration, Next, goes, ended, stuck}
-use Rattle.ob_silica_steps.specs.Here.{Here, here, goes_to, if_there, self_of, self, read, at, set_permission, hand}
-use Rattle.ob_silica_steps.specs.Binding.{Parameter, all_parameters, bound_cell}
+use Rattle.ob_heap_spec.specs.Worlds.{World}
+use Rattle.ob_heap_spec.specs.Marks.{leave}
+use Rattle.ob_heap_spec.specs.GoingWrong.{is_within, type_at_exit, is_finished}
+use Rattle.ob_silica_steps.specs.Cells.{Cell, noted, value_in}
+use Rattle.ob_silica_places.specs.Places.{Location, this}
+use Rattle.ob_silica_steps.specs.Configurations.{SilicaProgram, SlotCells, How, by_receiver, by_this, by_new, Rest, Loan, Waiting, runs, leaves, Configuration, NextStep, goes, ended, stuck}
+use Rattle.ob_silica_steps.specs.Here.{Here, here, goes_to, if_there, self_of, self, read, set_permission, hand}
+use Rattle.ob_silica_places.specs.Known.{at}
+use Rattle.ob_silica_steps.specs.Binding.{bound_cell}
+use Rattle.ob_silica_places.specs.Parameters.{Parameter, all_parameters}
 use Rattle.ob_silica_steps.specs.Entering.{are_within}
 use Rattle.ob_silica_steps.specs.Testing.{end_branch}
 
@@ -20,7 +23,7 @@ use Rattle.ob_silica_steps.specs.Testing.{end_branch}
 
 -- a parameter at the exit
 abbrev pub at_exit : Parameter → Parameter
-at_exit p = record { of = kind_at_exit p.of p.exit; exit = p.exit }
+at_exit p = record { of = type_at_exit p.of p.exit; exit = p.exit }
 
 -- whether the object of each owning exit is in one of the declared states
 abbrev pub exits_are_within : ClassTable → Configuration → Signature → Bool
@@ -30,11 +33,11 @@ exits_are_within table c s =
 -- The return.
 
 -- the frame leaves with this result
-abbrev pub leaves_with : Configuration → Here → Option Cell → List Rest → Next
+abbrev pub leaves_with : Configuration → Here → Option Cell → List Rest → NextStep
 leaves_with c h result outer = goes_to c h (leaves result outer)
 
 -- a constructor gives `this` as it declares, whose object is finished
-abbrev pub gives_this : SilicaProgram → Signature → List Rest → Configuration → Next
+abbrev pub gives_this : SilicaProgram → Signature → List Rest → Configuration → NextStep
 gives_this program s outer c =
     if_there (contract_at program.table c.frame.contract) (λ own. if_there (self (here c)) (λ o.
     if_there (read program.table (here c) this) (λ x.
@@ -44,27 +47,27 @@ gives_this program s outer c =
     else stuck)))
 
 -- a value is given as the result is declared; where an owner is wanted, the object is in one of the states
-abbrev pub gives_value : SilicaProgram → Kind → Location → List Rest → Configuration → Next
+abbrev pub gives_value : SilicaProgram → ResolvedType → Location → List Rest → Configuration → NextStep
 gives_value program of place outer c = if_there (read program.table (here c) place) (λ x.
     if is_within program.table c.world.objects of x.value
     then leaves_with c (hand of place x (here c)) (Some (bound_cell of x.value)) outer
     else stuck)
 
 -- a return without a value: a constructor gives `this`
-abbrev pub gives_none : How → SilicaProgram → Signature → List Rest → Configuration → Next
+abbrev pub gives_none : How → SilicaProgram → Signature → List Rest → Configuration → NextStep
 gives_none by_receiver program s outer c = leaves_with c (here c) None outer
 gives_none by_this program s outer c = leaves_with c (here c) None outer
 gives_none by_new program s outer c = gives_this program s outer c
 
 -- the result is taken
-abbrev pub gives : SilicaProgram → Signature → Option Kind → Option Location → List Rest → Configuration → Next
+abbrev pub gives : SilicaProgram → Signature → Option ResolvedType → Option Location → List Rest → Configuration → NextStep
 gives program s result None outer c = gives_none c.frame.how program s outer c
 gives program s None (Some place) outer c =
     if_there (read program.table (here c) place) (λ x. leaves_with c (here c) (Some (noted unowned x)) outer)
 gives program s (Some of) (Some place) outer c = gives_value program of place outer c
 
 -- the step of a return: the objects of owning exits are in the declared states
-abbrev pub return_step : SilicaProgram → Option Location → List Rest → Configuration → Next
+abbrev pub return_step : SilicaProgram → Option Location → List Rest → Configuration → NextStep
 return_step program place outer c = if_there (signature_of program.table c.frame.contract c.frame.tx) (λ s.
     if exits_are_within program.table c s then gives program s s.result place outer c else stuck)
 
@@ -81,12 +84,12 @@ abbrev pub left_world : Configuration → World
 left_world c = leaves_progress c.frame.how (self_of c.frame.slots) c.world
 
 -- the result is set
-abbrev pub with_result : Option ℕ → Option Cell → Slots → Slots
+abbrev pub with_result : Option ℕ → Option Cell → SlotCells → SlotCells
 with_result None result slots = slots
 with_result (Some k) result slots = at slots k result
 
 -- the frame that waits goes on
-abbrev pub resumes : Waiting → Option Cell → List Waiting → Configuration → Next
+abbrev pub resumes : Waiting → Option Cell → List Waiting → Configuration → NextStep
 resumes h result stack c = goes (record {
   frame = record h.frame { slots = with_result h.result result h.frame.slots };
   control = runs h.terms h.outer;
@@ -96,7 +99,7 @@ resumes h result stack c = goes (record {
 })
 
 -- a slot keeps its value and is Unowned
-abbrev pub without_owner : ℕ → Slots → Slots
+abbrev pub without_owner : ℕ → SlotCells → SlotCells
 without_owner k slots = at slots k (option_map (noted unowned) (slots k))
 
 -- what the waiting frame works on once the place of a loan has its exit
@@ -105,7 +108,7 @@ returned_to h loan c =
     set_permission loan.place loan.exit (record { slots = h.frame.slots; notes = c.notes; world = c.world })
 
 -- the step in which a loan goes back: its place has the exit, and the parameter that had it is Unowned
-abbrev pub unlends : Option Cell → Waiting → Loan → List Loan → List Waiting → Configuration → Next
+abbrev pub unlends : Option Cell → Waiting → Loan → List Loan → List Waiting → Configuration → NextStep
 unlends result h loan loans stack c = goes (record {
   frame = record c.frame { slots = without_owner loan.param c.frame.slots };
   control = leaves result [];
@@ -115,16 +118,16 @@ unlends result h loan loans stack c = goes (record {
 })
 
 -- one loan after the other goes back, and then the frame that waits goes on
-abbrev pub gives_back : List Loan → Option Cell → Waiting → List Waiting → Configuration → Next
+abbrev pub gives_back : List Loan → Option Cell → Waiting → List Waiting → Configuration → NextStep
 gives_back [] result h stack c = resumes h result stack c
 gives_back (loan ∷ loans) result h stack c = unlends result h loan loans stack c
 
--- to the frame that waits, if there is one; else the run ends
-abbrev pub goes_back : List Waiting → Option Cell → Configuration → Next
+-- control goes back to the frame that waits, if there is one; else the run ends
+abbrev pub goes_back : List Waiting → Option Cell → Configuration → NextStep
 goes_back [] result c = ended (value_in result) (left_world c)
 goes_back (h ∷ stack) result c = gives_back h.loans result h stack c
 
 -- the step of a frame that leaves: first the lists around it end
-abbrev pub leave_step : Option Cell → List Rest → Configuration → Next
+abbrev pub leave_step : Option Cell → List Rest → Configuration → NextStep
 leave_step result [] c = goes_back c.stack result c
 leave_step result (r ∷ outer) c = goes_to c (end_branch r.ends (here c)) (leaves result outer)

@@ -1,19 +1,19 @@
 -- No part of an expression is lost on the way to plain data.
 use Rattle.std.proofs.Common.{◌≡◌, List, [], ◌∷◌, map, ap, sym, ◌∙◌, refl, subst}
 use Rattle.ob_base.specs.declared.fault.Span.{Span}
-use Rattle.ob_table.specs.ExpressionsView.{expression_of, called, arguments_of, expression_of-Number, expression_of-Text, expression_of-Bool, expression_of-Seen, expression_of-Unary, expression_of-Binary, expression_of-Call, expression_of-New, called-fields}
+use Rattle.ob_table.specs.ExpressionsView.{expression_of, call_at_span, arguments_of, expression_of-Number, expression_of-Text, expression_of-Bool, expression_of-Seen, expression_of-Unary, expression_of-Binary, expression_of-Logical, expression_of-Call, expression_of-New, called-fields}
 use Rattle.ob_table.specs.ExpressionsBack.{expression_back, arguments_back}
 use Rattle.ob_table.specs.declared.expr.ResolvedCall.{ResolvedCall, ResolvedCall-F, map-ResolvedCall, roll-ResolvedCall}
 use Rattle.ob_table.specs.declared.expr.ResolvedExpr as made
 use Rattle.ob_table.specs.declared.expr.ResolvedExpr.TheOpen as open'
-use Rattle.ob_table.specs.declared.expr.ResolvedExpr.TheVariants.{rolls-Number, rolls-Text, rolls-Bool, rolls-Seen, rolls-Unary, rolls-Binary, rolls-Call, rolls-New}
+use Rattle.ob_table.specs.declared.expr.ResolvedExpr.TheVariants.{rolls-Number, rolls-Text, rolls-Bool, rolls-Seen, rolls-Unary, rolls-Binary, rolls-Logical, rolls-Call, rolls-New}
 
 abbrev IsBack : made.ResolvedExpr → Type 0
 IsBack node = expression_back (expression_of node) ≡ node
 
 -- the same of a call, at each place
 abbrev IsCallBack : ResolvedCall → Type 0
-IsCallBack call = (span : Span) → expression_back (called call span) ≡ made.Call call span
+IsCallBack call = (span : Span) → expression_back (call_at_span call span) ≡ made.Call call span
 
 all_back : {A : Type 0} (f : A → made.ResolvedExpr) → ((a : A) → IsBack (f a)) → (nodes : List A) → arguments_back (arguments_of (map f nodes)) ≡ map f nodes
 all_back f back [] = refl
@@ -30,6 +30,9 @@ step (open'.Unary operator sign operand span) f g back calls =
 step (open'.Binary operator sign left right span) f g back calls =
     subst IsBack (sym (rolls-Binary operator sign (f left) (f right) span))
     (ap expression_back (expression_of-Binary operator sign (f left) (f right) span) ∙ ap (λ e. made.Binary operator sign e (expression_back (expression_of (f right))) span) (back left) ∙ ap (λ e. made.Binary operator sign (f left) e span) (back right))
+step (open'.Logical operator sign left right span) f g back calls =
+    subst IsBack (sym (rolls-Logical operator sign (f left) (f right) span))
+    (ap expression_back (expression_of-Logical operator sign (f left) (f right) span) ∙ ap (λ e. made.Logical operator sign e (expression_back (expression_of (f right))) span) (back left) ∙ ap (λ e. made.Logical operator sign (f left) e span) (back right))
 step (open'.Call call span) f g back calls =
     subst IsBack (sym (rolls-Call (g call) span)) (ap expression_back (expression_of-Call (g call) span) ∙ calls call span)
 step (open'.New contract args span) f g back calls =

@@ -4,7 +4,9 @@ use Rattle.std.specs.Prelude.{ℕ, ℤ, Bool, Option, List, [], ◌∷◌}
 use Rattle.ob_base.specs.declared.fault.Span.{Span}
 use Rattle.ob_base.specs.declared.id.ContractId.{ContractId}
 use Rattle.ob_base.specs.declared.id.TxId.{TxId}
-use Rattle.ob_base.specs.declared.operator.Operator.{Operator}
+use Rattle.ob_table.specs.declared.operator.UnaryOperator.{UnaryOperator}
+use Rattle.ob_table.specs.declared.operator.BinaryOperator.{BinaryOperator}
+use Rattle.ob_table.specs.declared.operator.LogicalOperator.{LogicalOperator}
 use Rattle.ob_table.specs.declared.seen.SeenAt.{SeenAt}
 
 mutual
@@ -15,8 +17,11 @@ mutual
     resolved_bool : Bool → Span → Expression
     resolved_seen : SeenAt → Span → Expression
     -- the operator, its place, its operand
-    resolved_unary : Operator → Span → Expression → Span → Expression
-    resolved_binary : Operator → Span → Expression → Expression → Span → Expression
+    resolved_unary : UnaryOperator → Span → Expression → Span → Expression
+    -- the operator, its place, its operands
+    resolved_binary : BinaryOperator → Span → Expression → Expression → Span → Expression
+    -- `&&` or `||`: the right operand is evaluated only where the left one leaves the value open
+    resolved_logical : LogicalOperator → Span → Expression → Expression → Span → Expression
     -- the receiver unless it is `this`, its contract, the transaction, the place of its name, the arguments
     resolved_call : Option SeenAt → ContractId → TxId → Span → Arguments → Span → Expression
     resolved_new : ContractId → Arguments → Span → Expression

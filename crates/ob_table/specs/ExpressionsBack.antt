@@ -1,10 +1,10 @@
 -- The expressions of a body that plain data stands for.
 use Rattle.std.specs.Prelude.{◌≡◌, List, [], ◌∷◌}
 use Rattle.std.proofs.Common.{ap, ◌∙◌, refl}
-use Rattle.ob_table.specs.Expressions.{Expression, resolved_number, resolved_text, resolved_bool, resolved_seen, resolved_unary, resolved_binary, resolved_call, resolved_new, Arguments, no_arguments, and_argument}
-use Rattle.ob_table.specs.ExpressionsView.{expression_of, arguments_of, expression_of-Number, expression_of-Text, expression_of-Bool, expression_of-Seen, expression_of-Unary, expression_of-Binary, expression_of-Call, expression_of-New, called-fields}
+use Rattle.ob_table.specs.Expressions.{Expression, resolved_number, resolved_text, resolved_bool, resolved_seen, resolved_unary, resolved_binary, resolved_logical, resolved_call, resolved_new, Arguments, no_arguments, and_argument}
+use Rattle.ob_table.specs.ExpressionsView.{expression_of, arguments_of, expression_of-Number, expression_of-Text, expression_of-Bool, expression_of-Seen, expression_of-Unary, expression_of-Binary, expression_of-Logical, expression_of-Call, expression_of-New, called-fields}
 use Rattle.ob_table.specs.declared.expr.ResolvedCall.{ResolvedCall}
-use Rattle.ob_table.specs.declared.expr.ResolvedExpr.{ResolvedExpr, Number, Text, Bool, Seen, Unary, Binary, Call, New}
+use Rattle.ob_table.specs.declared.expr.ResolvedExpr.{ResolvedExpr, Number, Text, Bool, Seen, Unary, Binary, Logical, Call, New}
 
 abbrev mutual
   -- an expression
@@ -15,6 +15,7 @@ abbrev mutual
   expression_back (resolved_seen seen span) = Seen seen span
   expression_back (resolved_unary operator sign operand span) = Unary operator sign (expression_back operand) span
   expression_back (resolved_binary operator sign left right span) = Binary operator sign (expression_back left) (expression_back right) span
+  expression_back (resolved_logical operator sign left right span) = Logical operator sign (expression_back left) (expression_back right) span
   expression_back (resolved_call receiver contract tx name args span) = Call (record { receiver = receiver; contract = contract; tx = tx; name = name; args = arguments_back args }) span
   expression_back (resolved_new contract args span) = New contract (arguments_back args) span
 
@@ -36,6 +37,10 @@ mutual
       expression_of-Binary operator sign (expression_back left) (expression_back right) span
       ∙ ap (λ e. resolved_binary operator sign e (expression_of (expression_back right)) span) (expression_of-back left)
       ∙ ap (λ e. resolved_binary operator sign left e span) (expression_of-back right)
+  expression_of-back (resolved_logical operator sign left right span) =
+      expression_of-Logical operator sign (expression_back left) (expression_back right) span
+      ∙ ap (λ e. resolved_logical operator sign e (expression_of (expression_back right)) span) (expression_of-back left)
+      ∙ ap (λ e. resolved_logical operator sign left e span) (expression_of-back right)
   expression_of-back (resolved_call receiver contract tx name args span) =
       let call : ResolvedCall = record { receiver = receiver; contract = contract; tx = tx; name = name; args = arguments_back args } in
       expression_of-Call call span ∙ called-fields call span ∙ ap (λ es. resolved_call receiver contract tx name es span) (arguments_of-back args)

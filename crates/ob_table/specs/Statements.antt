@@ -9,7 +9,7 @@ use Rattle.ob_base.specs.declared.id.TxId.{TxId}
 use Rattle.ob_base.specs.declared.permission.Perm.{Perm}
 use Rattle.ob_table.specs.Expressions.{Expression}
 use Rattle.ob_table.specs.declared.seen.SeenAt.{SeenAt}
-use Rattle.ob_table.specs.declared.seen.LocalKind.{LocalKind}
+use Rattle.ob_table.specs.declared.seen.Kind.{Kind}
 
 -- a field, the place of its name, and the value that a change of state gives it
 pub record GivenField : Type 0 where
@@ -21,7 +21,7 @@ mutual
   -- a statement; the last place is that of the whole
   pub data Statement : Type 0 where
     -- the variable's number, the place of its name, its type and its first value
-    resolved_declare : ℕ → Span → LocalKind → Expression → Span → Statement
+    resolved_declare : ℕ → Span → Kind → Expression → Span → Statement
     resolved_assign : SeenAt → Expression → Span → Statement
     resolved_stage : StateId → GivenField → Span → Statement
     resolved_change : StateId → List GivenField → Span → Statement
@@ -38,7 +38,7 @@ mutual
   pub data Block : Type 0 where
     resolved_block : Statements → Span → Block
 
-  -- the block behind `else`, if there is one
+  -- the block after `else`, if there is one
   pub data Otherwise : Type 0 where
     no_otherwise : Otherwise
     otherwise_block : Block → Otherwise

@@ -34,7 +34,7 @@ abbrev mutual
   pub block_back : Block → ResolvedBlock
   block_back (resolved_block statements end) = record { statements = statements_back statements; end = end }
 
-  -- the block behind `else`, if there is one
+  -- the block after `else`, if there is one
   pub otherwise_back : Otherwise → Option ResolvedBlock
   otherwise_back no_otherwise = None
   otherwise_back (otherwise_block block) = Some (block_back block)

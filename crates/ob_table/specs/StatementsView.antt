@@ -7,7 +7,7 @@ use Rattle.ob_base.specs.declared.permission.Perm.{Perm}
 use Rattle.ob_table.specs.Statements.{GivenField, Statement, resolved_declare, resolved_assign, resolved_stage, resolved_change, resolved_discard, resolved_test, resolved_if, resolved_return, resolved_revert, resolved_disown, resolved_assert, Block, resolved_block, Otherwise, no_otherwise, otherwise_block, Statements, statements, ResolvedBody}
 use Rattle.ob_table.specs.ExpressionsView.{expression_of, expression_views}
 use Rattle.ob_table.specs.declared.seen.SeenAt.{SeenAt}
-use Rattle.ob_table.specs.declared.seen.LocalKind.{LocalKind}
+use Rattle.ob_table.specs.declared.seen.Kind.{Kind}
 use Rattle.ob_table.specs.declared.body.Body.{Body}
 use Rattle.ob_table.specs.declared.expr.ResolvedExpr.{ResolvedExpr}
 use Rattle.ob_table.specs.declared.stmt.ResolvedGiven.{ResolvedGiven}
@@ -20,7 +20,7 @@ use Rattle.ob_table.specs.declared.stmt.ResolvedStmt.TheVariants.{rolls-Declare,
 abbrev pub given_field_of : ResolvedGiven → GivenField
 given_field_of node = record { field = node.field; span = node.span; value = expression_of node.value }
 
--- the block behind `else`, if there is one
+-- the block after `else`, if there is one
 abbrev pub otherwise : Option Block → Otherwise
 otherwise None = no_otherwise
 otherwise (Some block) = otherwise_block block
@@ -55,7 +55,7 @@ resolved_block_of = fold-ResolvedBlock Statement Block statement_step block_step
 abbrev pub statements_of : List made.ResolvedStmt → Statements
 statements_of nodes = statements (map statement_of nodes)
 
--- the block behind `else`, if a statement has one
+-- the block after `else`, if a statement has one
 abbrev pub otherwise_of : Option ResolvedBlock → Otherwise
 otherwise_of node = otherwise (option_map resolved_block_of node)
 
@@ -63,7 +63,7 @@ otherwise_of node = otherwise (option_map resolved_block_of node)
 abbrev pub resolved_body_of : Body → ResolvedBody
 resolved_body_of body = record { contract = body.contract; tx = body.tx; statements = statements_of body.statements; end = body.end }
 
-pub statement_of-Declare : (local : ℕ) (name : Span) (of : LocalKind) (value : ResolvedExpr) (span : Span) → statement_of (made.Declare local name of value span) ≡ resolved_declare local name of (expression_of value) span
+pub statement_of-Declare : (local : ℕ) (name : Span) (of : Kind) (value : ResolvedExpr) (span : Span) → statement_of (made.Declare local name of value span) ≡ resolved_declare local name of (expression_of value) span
 statement_of-Declare local name of value span = ap statement_of (sym (rolls-Declare local name of value span)) ∙ made.fold-roll-ResolvedStmt Statement Block statement_step block_step (open'.Declare local name of value span)
 
 pub statement_of-Assign : (target : SeenAt) (value : ResolvedExpr) (span : Span) → statement_of (made.Assign target value span) ≡ resolved_assign target (expression_of value) span

@@ -5,7 +5,6 @@ use Rattle.std.specs.Option.{option_and_then}
 use Rattle.std.specs.Str.{bytes_eq}
 use Rattle.ob_base.specs.declared.id.ContractId.{ContractId}
 use Rattle.ob_base.specs.declared.id.FieldId.{FieldId}
-use Rattle.ob_base.specs.declared.id.StateId.{StateId}
 use Rattle.ob_base.specs.declared.id.TxId.{TxId}
 use Rattle.ob_table.specs.Statements.{ResolvedBody}
 use Rattle.ob_table.specs.declared.contract.Contract.{Contract}
@@ -28,10 +27,6 @@ contract_id n = record { 0 = n }
 -- the number of the first contract or interface of a name
 abbrev pub contract_named : List Contract → List ℕ → Option ContractId
 contract_named contracts name = option_map contract_id (position (λ c. bytes_eq name c.name) contracts)
-
--- the name of the state of a number
-abbrev pub state_at : Contract → StateId → Option (List ℕ)
-state_at c id = slice_get c.states id.0
 
 -- the field of a number
 abbrev pub field_at : Contract → FieldId → Option Field

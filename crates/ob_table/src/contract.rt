@@ -10,7 +10,7 @@ use std::alloc::Global;
 
 /// The type of a field, a parameter or a result.
 #[derive(Clone, Copy, PartialEq, Eq, Debug)]
-pub enum Kind {
+pub enum ResolvedType {
     /// `int`: a whole number from -2^63 to 2^63 - 1.
     Int,
     /// `bool`
@@ -27,7 +27,7 @@ pub struct Field {
     /// The name of the field.
     pub name: Name,
     /// Its type, with the permission that is declared of a reference.
-    pub of: Kind,
+    pub of: ResolvedType,
     /// The states in which an object has it, as a set of bits: bit i is the state i, and bit `NO_STATE_BIT` no state.
     pub available: u64,
 }
@@ -48,7 +48,7 @@ pub struct Param {
     /// The name of the parameter.
     pub name: Name,
     /// Its type, with the permission at the entry.
-    pub of: Kind,
+    pub of: ResolvedType,
     /// The permission at the exit; `Unowned` for a value.
     pub exit: Perm,
 }
@@ -88,7 +88,7 @@ pub struct Signature {
     /// The parameters beside `this`, in the order of the text.
     pub params: Items<Param>,
     /// The type of its result, with what the caller holds of it; `None` without a result.
-    pub result: Option<Kind>,
+    pub result: Option<ResolvedType>,
     /// The fields that it lists, each once: none unless it is private.
     pub listed: Items<Listed>,
 }

@@ -1,8 +1,9 @@
 //! Expressions with numbers in place of names (the Obsidian language documentation, "Expressions").
 ghost use Rattle.std.specs.Prelude.{◌≡◌, IfOk};
 
+use crate::operator::{BinaryOperator, LogicalOperator, UnaryOperator};
 use crate::seen::SeenAt;
-use ob_base::{Boxed, ContractId, Duplicate, Items, Memory, Operator, Span, Text, TxId, both};
+use ob_base::{Boxed, ContractId, Duplicate, Items, Memory, Span, Text, TxId, both};
 use std::alloc::Global;
 
 /// An expression. Its `span` runs from its first token to its last, the parentheses around it included.
@@ -31,7 +32,7 @@ pub enum ResolvedExpr {
     },
     /// An operator before its operand, as `!a`.
     Unary {
-        operator: Operator,
+        operator: UnaryOperator,
         /// The place of the operator.
         sign: Span,
         operand: Boxed<ResolvedExpr>,
@@ -39,7 +40,16 @@ pub enum ResolvedExpr {
     },
     /// An operator between its operands, as `a + b`.
     Binary {
-        operator: Operator,
+        operator: BinaryOperator,
+        /// The place of the operator.
+        sign: Span,
+        left: Boxed<ResolvedExpr>,
+        right: Boxed<ResolvedExpr>,
+        span: Span,
+    },
+    /// `a && b` or `a || b`
+    Logical {
+        operator: LogicalOperator,
         /// The place of the operator.
         sign: Span,
         left: Boxed<ResolvedExpr>,
@@ -146,6 +156,22 @@ impl Duplicate for ResolvedExpr {
             } => {
                 let (left, right) = both(copy_boxed(left, alloc), copy_boxed(right, alloc))?;
                 Ok(ResolvedExpr::Binary {
+                    operator: *operator,
+                    sign: *sign,
+                    left,
+                    right,
+                    span: *span,
+                })
+            }
+            ResolvedExpr::Logical {
+                operator,
+                sign,
+                left,
+                right,
+                span,
+            } => {
+                let (left, right) = both(copy_boxed(left, alloc), copy_boxed(right, alloc))?;
+                Ok(ResolvedExpr::Logical {
                     operator: *operator,
                     sign: *sign,
                     left,

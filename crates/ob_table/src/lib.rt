@@ -5,13 +5,15 @@
 mod body;
 mod contract;
 mod expr;
+mod operator;
 mod seen;
 mod stmt;
 mod table;
 
 pub use body::{Body, body_loses_nothing};
-pub use contract::{Contract, Field, Kind, Listed, Param, Signature};
+pub use contract::{Contract, Field, Listed, Param, ResolvedType, Signature};
 pub use expr::{ResolvedCall, ResolvedExpr};
-pub use seen::{LocalKind, Seen, SeenAt};
+pub use operator::{BinaryOperator, LogicalOperator, UnaryOperator};
+pub use seen::{Kind, Seen, SeenAt};
 pub use stmt::{ResolvedBlock, ResolvedGiven, ResolvedStmt};
 pub use table::Table;

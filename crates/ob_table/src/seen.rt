@@ -25,7 +25,7 @@ pub struct SeenAt {
 /// The type of a local variable, which has no permission of its own (Coblenz et al., TOPLAS 42(3), 2020, where the
 /// permission of a variable follows from its use).
 #[derive(Clone, Copy, PartialEq, Eq, Debug)]
-pub enum LocalKind {
+pub enum Kind {
     /// `int`: a whole number from -2^63 to 2^63 - 1.
     Int,
     /// `bool`

@@ -2,7 +2,7 @@
 ghost use Rattle.std.specs.Prelude.{◌≡◌, IfOk};
 
 use crate::expr::ResolvedExpr;
-use crate::seen::{LocalKind, SeenAt};
+use crate::seen::{Kind, SeenAt};
 use ob_base::{
     Duplicate, FieldId, Items, Memory, Perm, Span, StateId, both, copy_items, copy_option,
 };
@@ -25,7 +25,7 @@ pub struct ResolvedGiven {
     pub field: FieldId,
     /// The place of the field's name.
     pub span: Span,
-    /// The expression behind `=`.
+    /// The expression after `=`.
     pub value: ResolvedExpr,
 }
 
@@ -49,7 +49,7 @@ pub enum ResolvedStmt {
         local: u32,
         /// The place of its name.
         name: Span,
-        of: LocalKind,
+        of: Kind,
         value: ResolvedExpr,
         span: Span,
     },
@@ -71,7 +71,7 @@ pub enum ResolvedStmt {
         given: Items<ResolvedGiven>,
         span: Span,
     },
-    /// A call or a `new`, with `;` behind it.
+    /// A call or a `new`, with `;` after it.
     Call {
         value: ResolvedExpr,
         span: Span,

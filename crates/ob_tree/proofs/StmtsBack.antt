@@ -1,6 +1,6 @@
 -- From plain data back to the statements of a tree.
 use Rattle.std.proofs.Common.{◌≡◌, List, [], ◌∷◌, Option, Some, None, map, option_map, ap, sym, ◌∙◌, refl, subst}
-use Rattle.ob_tree.specs.Stmts.{Local, int_local, bool_local, text_local, named_local, Given, Stmt, declare_stmt, assign_stmt, stage_stmt, change_stmt, call_stmt, test_stmt, if_stmt, return_stmt, revert_stmt, disown_stmt, assert_stmt, Block, block_with, Else, no_else, else_with, Stmts, no_stmts, and_stmt}
+use Rattle.ob_tree.specs.Stmts.{Local, int_local, bool_local, text_local, named_local, GivenExpr, Stmt, declare_stmt, assign_stmt, stage_stmt, change_stmt, call_stmt, test_stmt, if_stmt, return_stmt, revert_stmt, disown_stmt, assert_stmt, Block, block_with, Else, no_else, else_with, Stmts, no_stmts, and_stmt}
 use Rattle.ob_tree.specs.StmtsView.{local_of, given_of, stmt_of, block_of, stmts_of, stmt_of-Declare, stmt_of-Assign, stmt_of-Stage, stmt_of-Change, stmt_of-Call, stmt_of-Test, stmt_of-If, stmt_of-Return, stmt_of-Revert, stmt_of-Disown, stmt_of-Assert, block_of-fields}
 use Rattle.ob_tree.specs.ExprsView.{expr_of}
 use Rattle.ob_tree.proofs.BackLemmas.{map_back, option_back}
@@ -26,7 +26,7 @@ local_back-of (local.Bool span) = refl
 local_back-of (local.Text span) = refl
 local_back-of (local.Named of) = ap local.Named (named_back-of of)
 
-abbrev pub given_back : Given → GivenNode
+abbrev pub given_back : GivenExpr → GivenNode
 given_back given = record { field = given.field; value = expr_back given.value }
 
 given_back-of : (node : GivenNode) → given_back (given_of node) ≡ node

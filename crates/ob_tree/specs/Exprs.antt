@@ -35,13 +35,13 @@ exprs [] = no_exprs
 exprs (e ∷ es) = and_expr e (exprs es)
 
 -- the place of an expression
-abbrev pub place_of : Expr → Span
-place_of (number_expr value span) = span
-place_of (text_expr value span) = span
-place_of (bool_expr value span) = span
-place_of (name_expr part span) = span
-place_of (this_expr token span) = span
-place_of (unary_expr o sign operand span) = span
-place_of (binary_expr o sign left right span) = span
-place_of (call_expr call span) = span
-place_of (new_expr of args span) = span
+abbrev pub span_of_expr : Expr → Span
+span_of_expr (number_expr value span) = span
+span_of_expr (text_expr value span) = span
+span_of_expr (bool_expr value span) = span
+span_of_expr (name_expr part span) = span
+span_of_expr (this_expr token span) = span
+span_of_expr (unary_expr o sign operand span) = span
+span_of_expr (binary_expr o sign left right span) = span
+span_of_expr (call_expr call span) = span
+span_of_expr (new_expr of args span) = span

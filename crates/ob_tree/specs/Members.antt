@@ -9,19 +9,19 @@ use Rattle.ob_tree.specs.declared.name.PermNode.{PermNode}
 use Rattle.ob_tree.specs.declared.name.Subject.{Subject}
 use Rattle.ob_tree.specs.declared.contract.ParamNode.{ParamNode}
 
--- a field, and the states behind `available in`
+-- a field, and the states after `available in`
 pub record Field : Type 0 where
   pub of : TypeExpr
   pub name : NamePart
   pub available : List NamePart
 
--- a parameter, with the permission behind `>>`
+-- a parameter, with the permission after `>>`
 pub record Formal : Type 0 where
   pub of : TypeExpr
   pub exit : Option PermNode
   pub name : Subject
 
--- a field in the list of a private transaction, with the permission behind `>>`
+-- a field in the list of a private transaction, with the permission after `>>`
 pub record Listed : Type 0 where
   pub of : Ref
   pub exit : Option PermNode

@@ -5,7 +5,7 @@ use Rattle.ob_base.specs.declared.fault.Span.{Span}
 use Rattle.ob_tree.specs.declared.name.PermNode.{PermNode}
 
 mutual
-  -- a name, alone or with the argument in brackets behind it
+  -- a name, alone or with the argument in brackets after it
   pub data Named : Type 0 where
     bare_name : List ℕ → Span → Named
     name_with : List ℕ → Ref → Span → Named

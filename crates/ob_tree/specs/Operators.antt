@@ -51,22 +51,22 @@ level_of Negate = 7
 
 -- The loosest level that stands on the left of an operator without parentheses: its own, but for equality and order,
 -- which don't chain.
-abbrev pub left_place : Operator → ℕ
-left_place Equal = 4
-left_place NotEqual = 4
-left_place Less = 5
-left_place LessEqual = 5
-left_place Greater = 5
-left_place GreaterEqual = 5
-left_place o = level_of o
+abbrev pub left_span : Operator → ℕ
+left_span Equal = 4
+left_span NotEqual = 4
+left_span Less = 5
+left_span LessEqual = 5
+left_span Greater = 5
+left_span GreaterEqual = 5
+left_span o = level_of o
 
 -- the loosest level that stands on the right
-abbrev pub right_place : Operator → ℕ
-right_place o = suc (level_of o)
+abbrev pub right_span : Operator → ℕ
+right_span o = suc (level_of o)
 
 -- the loosest level of the operand of an operator that has one
-abbrev pub operand_place : ℕ
-operand_place = 7
+abbrev pub operand_span : ℕ
+operand_span = 7
 
 -- how tight an expression binds without parentheses around it: what is no operator's binds tightest
 abbrev pub level : Expr → ℕ

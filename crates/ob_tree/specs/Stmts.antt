@@ -16,7 +16,7 @@ pub data Local : Type 0 where
   named_local : Named → Local
 
 -- a field and the value that it is given
-pub record Given : Type 0 where
+pub record GivenExpr : Type 0 where
   pub field : NamePart
   pub value : Expr
 
@@ -26,7 +26,7 @@ mutual
     declare_stmt : Local → NamePart → Expr → Span → Stmt
     assign_stmt : NamePart → Expr → Span → Stmt
     stage_stmt : NamePart → NamePart → Expr → Span → Stmt
-    change_stmt : NamePart → List Given → Span → Stmt
+    change_stmt : NamePart → List GivenExpr → Span → Stmt
     call_stmt : Expr → Span → Stmt
     test_stmt : Subject → NamePart → Block → Else → Span → Stmt
     if_stmt : Expr → Block → Else → Span → Stmt
@@ -39,7 +39,7 @@ mutual
   pub data Block : Type 0 where
     block_with : Stmts → Span → Block
 
-  -- the block behind `else`, if there is one
+  -- the block after `else`, if there is one
   pub data Else : Type 0 where
     no_else : Else
     else_with : Block → Else

@@ -2,7 +2,7 @@
 use Rattle.std.specs.Prelude.{◌≡◌, List, map, Option, Some, None, option_map}
 use Rattle.std.proofs.Common.{ap, sym, ◌∙◌}
 use Rattle.ob_base.specs.declared.fault.Span.{Span}
-use Rattle.ob_tree.specs.Stmts.{Local, int_local, bool_local, text_local, named_local, Given, Stmt, declare_stmt, assign_stmt, stage_stmt, change_stmt, call_stmt, test_stmt, if_stmt, return_stmt, revert_stmt, disown_stmt, assert_stmt, Block, block_with, Else, no_else, else_with, Stmts, stmts}
+use Rattle.ob_tree.specs.Stmts.{Local, int_local, bool_local, text_local, named_local, GivenExpr, Stmt, declare_stmt, assign_stmt, stage_stmt, change_stmt, call_stmt, test_stmt, if_stmt, return_stmt, revert_stmt, disown_stmt, assert_stmt, Block, block_with, Else, no_else, else_with, Stmts, stmts}
 use Rattle.ob_tree.specs.NamesView.{named_of}
 use Rattle.ob_tree.specs.ExprsView.{expr_of}
 use Rattle.ob_tree.specs.declared.name.NamePart.{NamePart}
@@ -25,10 +25,10 @@ local_of (local.Text span) = text_local span
 local_of (local.Named of) = named_local (named_of of)
 
 -- a field and the value that it is given
-abbrev pub given_of : GivenNode → Given
+abbrev pub given_of : GivenNode → GivenExpr
 given_of node = record { field = node.field; value = expr_of node.value }
 
--- the block behind `else`, if there is one
+-- the block after `else`, if there is one
 abbrev pub else_block : Option Block → Else
 else_block None = no_else
 else_block (Some block) = else_with block
@@ -63,7 +63,7 @@ block_of = fold-Block Stmt Block stmt_step block_step
 abbrev pub stmts_of : List made.Stmt → Stmts
 stmts_of nodes = stmts (map stmt_of nodes)
 
--- the block behind `else`, if a tree has one
+-- the block after `else`, if a tree has one
 abbrev pub else_of : Option BlockNode → Else
 else_of node = else_block (option_map block_of node)
 

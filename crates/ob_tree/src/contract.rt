@@ -17,16 +17,16 @@ use crate::name::{NamePart, NamedNode};
 use ob_base::{Duplicate, Items, Memory, Mode, Span, Text, both, copy_items, copy_option};
 use std::alloc::Global;
 
-/// The type parameter of a contract, in brackets behind its name.
+/// The type parameter of a contract, in brackets after its name.
 #[derive(Debug, Drop)]
 pub struct ParamNode {
     /// Whether `asset` stands before its name.
     pub asset: bool,
     /// The name before `@`.
     pub name: NamePart,
-    /// The name behind `@`.
+    /// The name after `@`.
     pub perm: NamePart,
-    /// The name behind `where`, and the mode behind `is`.
+    /// The name after `where`, and the mode after `is`.
     pub bound: Option<(NamePart, Mode)>,
     /// From the opening bracket to the closing one.
     pub span: Span,
@@ -73,7 +73,7 @@ pub struct ContractNode {
     pub name: Text,
     /// The type parameter in brackets, if there is one.
     pub param: Option<ParamNode>,
-    /// The interface behind `implements`.
+    /// The interface after `implements`.
     pub implements: Option<NamedNode>,
     /// What its braces enclose, in the order of the text.
     pub members: Items<Member>,

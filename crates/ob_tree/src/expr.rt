@@ -1,6 +1,6 @@
 //! Expressions as they are written (the Obsidian language documentation, "Expressions").
 ghost use Rattle.std.specs.Prelude.{◌≡◌, IfOk};
-ghost use Rattle.ob_tree.specs.Exprs.{place_of};
+ghost use Rattle.ob_tree.specs.Exprs.{span_of_expr};
 ghost use Rattle.ob_tree.specs.ExprsView.{expr_of};
 
 use crate::name::{NamePart, NamedNode, Subject};
@@ -80,8 +80,8 @@ pub struct CallNode {
 }
 
 /// The place of an expression.
-pub fn place_of(expr: &Expr) -> Span
-    ensures { result ≡ place_of (expr_of expr.now) }
+pub fn span_of_expr(expr: &Expr) -> Span
+    ensures { result ≡ span_of_expr (expr_of expr.now) }
 {
     match expr {
         Expr::Number { span, .. } => *span,

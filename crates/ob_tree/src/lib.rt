@@ -11,7 +11,7 @@ mod stmt;
 mod word;
 
 pub use contract::{ContractNode, ParamNode, Tree, view_loses_nothing};
-pub use expr::{CallNode, Expr, place_of};
+pub use expr::{CallNode, Expr, span_of_expr};
 pub use member::{FieldNode, FormalNode, ListedNode, Member};
 pub use name::{NamePart, NamedNode, PermNode, RefNode, Subject, TypeNode};
 pub use operator::{OPERATORS, level_of, sign_of_operator};

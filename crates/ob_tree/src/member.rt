@@ -25,7 +25,7 @@ pub struct FieldNode {
     pub of: TypeNode,
     /// The name of the field.
     pub name: NamePart,
-    /// The states behind `available in`; empty where that isn't written.
+    /// The states after `available in`; empty where that isn't written.
     pub available: Items<NamePart>,
 }
 
@@ -48,7 +48,7 @@ impl Duplicate for FieldNode {
 pub struct FormalNode {
     /// The type before the name, with the permission at the entry.
     pub of: TypeNode,
-    /// The permission behind `>>`.
+    /// The permission after `>>`.
     pub exit: Option<PermNode>,
     /// The name of the parameter, or `this` for the contract's own object.
     pub name: Subject,
@@ -69,7 +69,7 @@ impl Duplicate for FormalNode {
 pub struct ListedNode {
     /// The type before the name, with the permission at the entry.
     pub of: RefNode,
-    /// The permission behind `>>`.
+    /// The permission after `>>`.
     pub exit: Option<PermNode>,
     /// The name of the field.
     pub name: NamePart,
@@ -110,7 +110,7 @@ pub enum Member {
         listed: Items<ListedNode>,
         name: NamePart,
         params: Items<FormalNode>,
-        /// The type behind `returns`.
+        /// The type after `returns`.
         result: Option<TypeNode>,
         /// Missing in an interface.
         body: Option<Block>,

@@ -66,7 +66,7 @@ impl Duplicate for PermNode {
     }
 }
 
-/// The name of a contract, an interface or a type parameter, and the argument in brackets behind it.
+/// The name of a contract, an interface or a type parameter, and the argument in brackets after it.
 #[derive(Debug, Drop)]
 #[cycle(named)]
 pub struct NamedNode {
@@ -84,7 +84,7 @@ pub struct NamedNode {
 pub struct RefNode {
     /// What stands before `@`.
     pub of: NamedNode,
-    /// The permission behind `@`.
+    /// The permission after `@`.
     pub perm: PermNode,
 }
 

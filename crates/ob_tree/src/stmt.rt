@@ -21,7 +21,7 @@ pub struct Block {
 pub struct GivenNode {
     /// The name before `=`.
     pub field: NamePart,
-    /// The expression behind `=`.
+    /// The expression after `=`.
     pub value: Expr,
 }
 
@@ -86,7 +86,7 @@ pub enum Stmt {
         given: Items<GivenNode>,
         span: Span,
     },
-    /// A call or a `new`, with `;` behind it.
+    /// A call or a `new`, with `;` after it.
     Call {
         value: Expr,
         span: Span,

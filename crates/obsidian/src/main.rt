@@ -1,8 +1,8 @@
 //! Serves a program of the Obsidian language, request lines in and replies out; or checks its text.
 #![tactic(auto)]
 
+use ob_io_std::{StdFiles, StdSink, StdSource};
 use ob_run::{Exit, run};
-use ob_std::{StdFiles, StdSink, StdSource};
 use std::io::writer;
 use std::process::ExitCode;
 use std::{env, io};

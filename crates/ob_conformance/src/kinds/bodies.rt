@@ -1,9 +1,10 @@
 //! The bodies of a class table as lines, one for each statement and expression.
 use crate::kinds::lines::Lines;
-use ob_base::{ContractId, Operator, Span, StateId};
+use ob_base::{ContractId, Span, StateId};
 use ob_table::{
     Body, ResolvedBlock, ResolvedCall, ResolvedExpr, ResolvedGiven, ResolvedStmt, SeenAt,
 };
+use std::fmt::Debug;
 
 // A line that says what a statement or an expression is about.
 fn put_about(lines: &mut Lines, word: &str, span: Span, seen: SeenAt) {
@@ -12,9 +13,9 @@ fn put_about(lines: &mut Lines, word: &str, span: Span, seen: SeenAt) {
     lines.end();
 }
 
-fn put_operator(lines: &mut Lines, word: &str, span: Span, operator: Operator, sign: Span) {
+fn put_operator<T: Debug>(lines: &mut Lines, word: &str, span: Span, operator: &T, sign: Span) {
     lines.begin_at(word, span);
-    lines.name(&operator);
+    lines.name(operator);
     lines.put_at(sign);
     lines.end();
 }
@@ -90,7 +91,7 @@ fn put_expr(expr: &ResolvedExpr, lines: &mut Lines) {
             operand,
             span,
         } => {
-            put_operator(lines, "Unary", *span, *operator, *sign);
+            put_operator(lines, "Unary", *span, operator, *sign);
             put_value(operand.get(), lines);
         }
         ResolvedExpr::Binary {
@@ -100,7 +101,18 @@ fn put_expr(expr: &ResolvedExpr, lines: &mut Lines) {
             right,
             span,
         } => {
-            put_operator(lines, "Binary", *span, *operator, *sign);
+            put_operator(lines, "Binary", *span, operator, *sign);
+            put_value(left.get(), lines);
+            put_value(right.get(), lines);
+        }
+        ResolvedExpr::Logical {
+            operator,
+            sign,
+            left,
+            right,
+            span,
+        } => {
+            put_operator(lines, "Binary", *span, operator, *sign);
             put_value(left.get(), lines);
             put_value(right.get(), lines);
         }

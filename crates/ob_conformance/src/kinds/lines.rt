@@ -3,7 +3,7 @@ use crate::kinds::tokens::text_of;
 use crate::trouble::Trouble;
 use ob_base::{ContractId, Memory, Mode, NO_STATE_BIT, OTHER_STATE_BIT, Perm, Span};
 use ob_run::Exit;
-use ob_table::{Kind, LocalKind, Seen, SeenAt};
+use ob_table::{Kind, ResolvedType, Seen, SeenAt};
 use std::alloc::Global;
 use std::fmt::{Debug, Display};
 
@@ -95,7 +95,7 @@ impl Lines {
         }
     }
 
-    /// Puts the name of a value, behind a blank; a text in quotes.
+    /// Puts the name of a value, after a blank; a text in quotes.
     pub fn name<T: Debug>(&mut self, value: &T) {
         if write!(self.text, " {value:?}").is_err() {
             self.fail(Trouble::Memory);
@@ -108,13 +108,13 @@ impl Lines {
         self.name(&exit);
     }
 
-    /// Puts a word, and a number right behind it.
+    /// Puts a word, and a number right after it.
     pub fn put_with(&mut self, word: &str, number: u32) {
         self.put(word);
         self.show(&number);
     }
 
-    /// Puts a word, and behind a blank the number of what it speaks of, or `none`.
+    /// Puts a word, and after a blank the number of what it speaks of, or `none`.
     pub fn put_optional(&mut self, word: &str, number: Option<u32>) {
         self.put(word);
         match number {
@@ -123,19 +123,19 @@ impl Lines {
         }
     }
 
-    /// Puts a word, and behind it whether what it speaks of holds.
+    /// Puts a word, and after it whether what it speaks of holds.
     pub fn put_truth(&mut self, word: &str, holds: bool) {
         self.put(word);
         self.put(if holds { "true" } else { "false" });
     }
 
-    /// Puts a word, and a count right behind it.
+    /// Puts a word, and a count right after it.
     pub fn put_count(&mut self, word: &str, count: usize) {
         self.put(word);
         self.show(&count);
     }
 
-    /// Bytes that are a text, in quotes, behind a blank.
+    /// Bytes that are a text, in quotes, after a blank.
     pub fn put_quoted(&mut self, bytes: &[u8]) {
         match text_of(bytes) {
             Ok(text) => self.name(&text),
@@ -170,7 +170,7 @@ impl Lines {
         self.put("\n");
     }
 
-    /// A name, or `-` where it is empty, behind a blank.
+    /// A name, or `-` where it is empty, after a blank.
     pub fn put_name(&mut self, name: &[u8]) {
         self.put(" ");
         self.put_text(if name.is_empty() { b"-" } else { name });
@@ -212,7 +212,7 @@ impl Lines {
         self.put(if mark == "{" { "{}" } else { "}" });
     }
 
-    /// A permission, behind a blank.
+    /// A permission, after a blank.
     pub fn put_perm(&mut self, perm: Perm) {
         match perm.mode {
             Mode::Owned => {
@@ -224,30 +224,30 @@ impl Lines {
         }
     }
 
-    /// A type, behind a blank.
-    pub fn put_kind(&mut self, kind: Kind) {
+    /// A type, after a blank.
+    pub fn put_kind(&mut self, kind: ResolvedType) {
         match kind {
-            Kind::Int => self.put(" Int"),
-            Kind::Bool => self.put(" Bool"),
-            Kind::Text => self.put(" Text"),
-            Kind::Reference(ContractId(contract), perm) => {
+            ResolvedType::Int => self.put(" Int"),
+            ResolvedType::Bool => self.put(" Bool"),
+            ResolvedType::Text => self.put(" Text"),
+            ResolvedType::Reference(ContractId(contract), perm) => {
                 self.put_with(" Reference ", contract);
                 self.put_perm(perm);
             }
         }
     }
 
-    /// The type of a local variable, behind a blank.
-    pub fn put_local_kind(&mut self, kind: LocalKind) {
+    /// The type of a local variable, after a blank.
+    pub fn put_local_kind(&mut self, kind: Kind) {
         match kind {
-            LocalKind::Int => self.put(" Int"),
-            LocalKind::Bool => self.put(" Bool"),
-            LocalKind::Text => self.put(" Text"),
-            LocalKind::Reference(ContractId(contract)) => self.put_with(" Reference ", contract),
+            Kind::Int => self.put(" Int"),
+            Kind::Bool => self.put(" Bool"),
+            Kind::Text => self.put(" Text"),
+            Kind::Reference(ContractId(contract)) => self.put_with(" Reference ", contract),
         }
     }
 
-    /// What a name stands for, and its place, behind a blank.
+    /// What a name stands for, and its place, after a blank.
     pub fn put_seen(&mut self, seen: SeenAt) {
         match seen.of {
             Seen::This => self.put(" this"),
@@ -257,7 +257,7 @@ impl Lines {
         self.put_at(seen.span);
     }
 
-    /// Two hexadecimal digits for each byte, or `-` where there is none, behind a blank.
+    /// Two hexadecimal digits for each byte, or `-` where there is none, after a blank.
     pub fn put_hex(&mut self, bytes: &[u8]) {
         self.put(if bytes.is_empty() { " -" } else { " " });
         for byte in bytes {

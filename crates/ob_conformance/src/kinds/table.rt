@@ -4,7 +4,7 @@ use crate::kinds::lines::Lines;
 use crate::kinds::tokens::put_error;
 use ob_base::{Duplicate, Name, Perm, TxId};
 use ob_front::class_table;
-use ob_table::{Contract, Field, Kind, Listed, Param, Signature, Table};
+use ob_table::{Contract, Field, Listed, Param, ResolvedType, Signature, Table};
 use std::alloc::Global;
 
 // Begins the line of what has this number among its like.
@@ -34,11 +34,11 @@ fn put_fields(lines: &mut Lines, fields: &[Field], states: usize) {
 }
 
 // The permission at the exit: a value has none.
-fn put_exit(lines: &mut Lines, of: Kind, exit: Perm) {
+fn put_exit(lines: &mut Lines, of: ResolvedType, exit: Perm) {
     lines.put(" exit");
     match of {
-        Kind::Int | Kind::Bool | Kind::Text => lines.put(" -"),
-        Kind::Reference(..) => lines.put_perm(exit),
+        ResolvedType::Int | ResolvedType::Bool | ResolvedType::Text => lines.put(" -"),
+        ResolvedType::Reference(..) => lines.put_perm(exit),
     }
 }
 

@@ -1,17 +1,17 @@
 //! The terms of a text's bodies, as lines.
 use crate::kinds::lines::Lines;
 use crate::kinds::tokens::put_error;
-use ob_base::{ContractId, Duplicate, FieldId, Operator, StateId, TxId};
+use ob_base::{ContractId, Duplicate, FieldId, StateId, TxId};
 use ob_front::{Compiled, lowered};
-use ob_silica::{Constant, Form, Given, Operand, Place, Term, TermBody};
+use ob_silica::{Constant, Form, Given, Operand, Place, SilicaOperator, Term, TermBody};
 use std::alloc::Global;
 
-// A slot, behind a blank.
+// A slot, after a blank.
 fn put_slot(lines: &mut Lines, slot: u8) {
     lines.put_with(" s", u32::from(slot));
 }
 
-// The slot of a result, or `none`, behind a blank.
+// The slot of a result, or `none`, after a blank.
 fn put_result(lines: &mut Lines, slot: Option<u8>) {
     match slot {
         None => lines.put(" none"),
@@ -19,12 +19,12 @@ fn put_result(lines: &mut Lines, slot: Option<u8>) {
     }
 }
 
-// A field, behind a blank.
+// A field, after a blank.
 fn put_field(lines: &mut Lines, field: FieldId) {
     lines.put_with(" f", u32::from(field.0));
 }
 
-// A place that terms name, behind a blank.
+// A place that terms name, after a blank.
 fn put_named(lines: &mut Lines, place: Place) {
     match place {
         Place::This => lines.put(" this"),
@@ -82,8 +82,11 @@ fn put_constant(lines: &mut Lines, value: &Constant) {
     }
 }
 
-fn put_operation(lines: &mut Lines, operator: Operator, a: Operand, b: Operand, line: u32) {
-    lines.name(&operator);
+fn put_operation(lines: &mut Lines, operator: SilicaOperator, a: Operand, b: Operand, line: u32) {
+    match operator {
+        SilicaOperator::Unary(operator) => lines.name(&operator),
+        SilicaOperator::Binary(operator) => lines.name(&operator),
+    }
     put_operand(lines, a);
     put_operand(lines, b);
     lines.put_with(" line ", line);
@@ -95,7 +98,7 @@ fn put_way(lines: &mut Lines, to: Place, from: Operand) {
     put_operand(lines, from);
 }
 
-// What stands behind the word and the place of a call or of `new`.
+// What stands after the word and the place of a call or of `new`.
 fn put_callee(lines: &mut Lines, form: &Form) {
     match form {
         Form::New {
@@ -131,7 +134,7 @@ fn put_callee(lines: &mut Lines, form: &Form) {
     }
 }
 
-// What stands behind the word and the place of a term that gives a slot or a field another value.
+// What stands after the word and the place of a term that gives a slot or a field another value.
 fn put_setting(lines: &mut Lines, form: &Form) {
     match form {
         Form::Const { slot, value } => {
@@ -163,7 +166,7 @@ fn put_setting(lines: &mut Lines, form: &Form) {
     }
 }
 
-// What stands behind the word and the place of a term that reads a place alone.
+// What stands after the word and the place of a term that reads a place alone.
 fn put_reading(lines: &mut Lines, form: &Form) {
     match form {
         Form::Assert { place, perm } => {

@@ -71,7 +71,7 @@ fn put_tokens(lines: &mut Lines, lexed: &Lexed) {
 }
 
 /// The tokens of a text, from a copy of them, or its fault: `LINE:COLUMN START..END KIND`, and between two `; `. The end stands
-/// behind them.
+/// after them.
 pub fn tokens(alloc: Global, text: &[u8], lines: &mut Lines) {
     match lex(alloc, text) {
         Ok(lexed) => {

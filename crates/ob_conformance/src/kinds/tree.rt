@@ -4,10 +4,10 @@ use crate::kinds::tokens::put_error;
 use crate::trouble::Trouble;
 use ob_base::{Duplicate, copy_option};
 use ob_front::syntax_tree;
-use ob_layout::print;
 use ob_machine::Plain;
 use ob_plain::compile_plain;
 use ob_tree::Tree;
+use ob_tree_print::print;
 use std::alloc::Global;
 use std::fmt::Debug;
 

@@ -1,4 +1,4 @@
-use Rattle.ob_context.specs.View.{context_of, tested_of}
+use Rattle.ob_flow_context.specs.View.{context_of, tested_of}
 use Rattle.ob_flow.proofs.TermLemmas.{Left}
 use Rattle.ob_flow.proofs.bodies.+check.Given as goal
 

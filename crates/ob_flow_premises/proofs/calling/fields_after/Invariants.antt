@@ -1,6 +1,6 @@
 use Rattle.std.proofs.Common.{◌≡◌, length}
-use Rattle.ob_context.specs.View.{known_at}
-use Rattle.ob_context.proofs.BeginningLemmas.{first}
+use Rattle.ob_flow_context.specs.View.{known_at}
+use Rattle.ob_flow_context.proofs.BeginningLemmas.{first}
 use Rattle.ob_flow_premises.specs.Calls.{field_after}
 use Rattle.ob_flow_premises.proofs.calling.fields_after.Given as goal
 

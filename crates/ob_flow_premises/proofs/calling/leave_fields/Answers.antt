@@ -1,5 +1,5 @@
 use Rattle.std.proofs.Common.{ap, ◌∙◌}
-use Rattle.ob_context.specs.View.{context_of}
+use Rattle.ob_flow_context.specs.View.{context_of}
 use Rattle.ob_flow_premises.proofs.JoinLemmas.{fields_are}
 use Rattle.ob_flow_premises.proofs.calling.leave_fields.Goals as goal
 

@@ -1,7 +1,7 @@
 use Rattle.std.proofs.Common.{◌≡◌, None}
-use Rattle.ob_silica_rules.specs.Premises.{each, first_failing}
-use Rattle.ob_silica_rules.specs.Changing.{loses_none}
-use Rattle.ob_context.specs.View.{context_of}
+use Rattle.ob_flow_spec.specs.Premises.{each, first_failing}
+use Rattle.ob_flow_spec.specs.Changing.{loses_none}
+use Rattle.ob_flow_context.specs.View.{context_of}
 use Rattle.ob_flow_premises.proofs.changing.all_lose_none.Given as goal
 
 abbrev pub invariant-loop-number : goal.invariant-loop-number

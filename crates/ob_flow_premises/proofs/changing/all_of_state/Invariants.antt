@@ -1,6 +1,6 @@
 use Rattle.std.proofs.Common.{◌≡◌, drop}
-use Rattle.ob_silica_rules.specs.Premises.{for_all, first_failing}
-use Rattle.ob_silica_rules.specs.Changing.{is_of_state}
+use Rattle.ob_flow_spec.specs.Premises.{for_all, first_failing}
+use Rattle.ob_flow_spec.specs.Changing.{is_of_state}
 use Rattle.ob_flow_premises.proofs.changing.all_of_state.Given as goal
 
 abbrev pub invariant-loop-one : goal.invariant-loop-one

@@ -1,7 +1,7 @@
 use Rattle.std.proofs.Common.{◌≡◌, drop}
-use Rattle.ob_silica_rules.specs.Premises.{for_all, first_failing}
-use Rattle.ob_silica_rules.specs.Changing.{shares_as_declared}
-use Rattle.ob_context.specs.View.{context_of}
+use Rattle.ob_flow_spec.specs.Premises.{for_all, first_failing}
+use Rattle.ob_flow_spec.specs.Changing.{shares_as_declared}
+use Rattle.ob_flow_context.specs.View.{context_of}
 use Rattle.ob_flow_premises.proofs.changing.all_share_as_declared.Given as goal
 
 abbrev pub invariant-loop-one : goal.invariant-loop-one

@@ -1,7 +1,7 @@
 use Rattle.std.proofs.Common.{◌≡◌, None}
-use Rattle.ob_silica_rules.specs.Premises.{each, first_failing}
-use Rattle.ob_silica_rules.specs.Changing.{stays_under_test}
-use Rattle.ob_context.specs.View.{tested_of}
+use Rattle.ob_flow_spec.specs.Premises.{each, first_failing}
+use Rattle.ob_flow_spec.specs.Changing.{stays_under_test}
+use Rattle.ob_flow_context.specs.View.{tested_of}
 use Rattle.ob_flow_premises.proofs.changing.all_stay_under_test.Given as goal
 
 abbrev pub invariant-loop-number : goal.invariant-loop-number

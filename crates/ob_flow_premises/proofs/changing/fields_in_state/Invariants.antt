@@ -1,5 +1,5 @@
 use Rattle.std.proofs.Common.{◌≡◌}
-use Rattle.ob_context.specs.View.{context_of}
+use Rattle.ob_flow_context.specs.View.{context_of}
 use Rattle.ob_flow_premises.specs.Changes.{fields_in_state}
 use Rattle.ob_flow_premises.proofs.changing.fields_in_state.Given as goal
 

@@ -1,6 +1,6 @@
 use Rattle.std.proofs.Common.{◌∙◌}
 use Rattle.std.proofs.lemmas.Result.{err_from_is_err_and}
-use Rattle.ob_context.specs.View.{context_of, tested_of, all_known}
+use Rattle.ob_flow_context.specs.View.{context_of, tested_of, all_known}
 use Rattle.ob_flow_premises.proofs.GivenLemmas.{asks_turn_at, leaves_turn_at, gets_turn_at, fills_fail_at}
 use Rattle.ob_flow_premises.proofs.changing.fill_all.Goals as goal
 

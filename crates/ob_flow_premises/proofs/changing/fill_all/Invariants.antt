@@ -1,7 +1,7 @@
 use Rattle.std.proofs.Common.{◌≡◌, ◌++◌, drop}
-use Rattle.ob_silica_rules.specs.Premises.{first_failing}
-use Rattle.ob_silica_rules.specs.Changing.{fills_all, filled_all}
-use Rattle.ob_context.specs.View.{context_of, tested_of, all_known}
+use Rattle.ob_flow_spec.specs.Premises.{first_failing}
+use Rattle.ob_flow_spec.specs.Changing.{fills_all, filled_all}
+use Rattle.ob_flow_context.specs.View.{context_of, tested_of, all_known}
 use Rattle.ob_flow_premises.specs.Forms.{all_got}
 use Rattle.ob_flow_premises.proofs.changing.fill_all.Given as goal
 

@@ -1,6 +1,6 @@
 use Rattle.std.proofs.Common.{◌≡◌, []}
-use Rattle.ob_silica_rules.specs.Premises.{first_failing}
-use Rattle.ob_silica_rules.specs.Changing.{fills_once}
+use Rattle.ob_flow_spec.specs.Premises.{first_failing}
+use Rattle.ob_flow_spec.specs.Changing.{fills_once}
 use Rattle.ob_flow_premises.proofs.GivenLemmas.{once_from}
 use Rattle.ob_flow_premises.proofs.changing.fills_once.Given as goal
 

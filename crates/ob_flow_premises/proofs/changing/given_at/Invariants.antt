@@ -1,5 +1,5 @@
 use Rattle.std.proofs.Common.{◌≡◌, drop}
-use Rattle.ob_silica_rules.specs.Changing.{given_at}
+use Rattle.ob_flow_spec.specs.Changing.{given_at}
 use Rattle.ob_flow_premises.proofs.changing.given_at.Given as goal
 
 abbrev pub invariant-loop-one : goal.invariant-loop-one

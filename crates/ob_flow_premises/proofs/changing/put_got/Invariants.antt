@@ -1,5 +1,5 @@
 use Rattle.std.proofs.Common.{◌≡◌, drop}
-use Rattle.ob_context.specs.View.{context_of, all_known}
+use Rattle.ob_flow_context.specs.View.{context_of, all_known}
 use Rattle.ob_flow_premises.specs.Forms.{put_got}
 use Rattle.ob_flow_premises.proofs.changing.put_got.Given as goal
 

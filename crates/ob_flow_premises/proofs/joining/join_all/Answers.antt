@@ -1,6 +1,6 @@
 use Rattle.std.proofs.Common.{[], ◌∷◌, length, length-append, ap, ◌∙◌, arith}
-use Rattle.ob_context.specs.View.{known_at}
-use Rattle.ob_context.proofs.BeginningLemmas.{first_none, first_more}
+use Rattle.ob_flow_context.specs.View.{known_at}
+use Rattle.ob_flow_context.proofs.BeginningLemmas.{first_none, first_more}
 use Rattle.ob_flow_premises.specs.Joins.{joined_numbers}
 use Rattle.ob_flow_premises.proofs.JoinLemmas.{joined_all}
 use Rattle.ob_flow_premises.proofs.joining.join_all.Goals as goal

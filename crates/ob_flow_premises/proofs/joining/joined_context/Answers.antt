@@ -1,5 +1,5 @@
 use Rattle.std.proofs.Common.{ap, ◌∙◌}
-use Rattle.ob_context.specs.View.{context_of}
+use Rattle.ob_flow_context.specs.View.{context_of}
 use Rattle.ob_flow_premises.proofs.JoinLemmas.{joined_is}
 use Rattle.ob_flow_premises.proofs.joining.joined_context.Goals as goal
 

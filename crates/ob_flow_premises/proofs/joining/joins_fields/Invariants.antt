@@ -1,8 +1,8 @@
 use Rattle.std.proofs.Common.{◌≡◌, None}
-use Rattle.ob_silica_rules.specs.Premises.{each, first_failing}
+use Rattle.ob_flow_spec.specs.Premises.{each, first_failing}
 use Rattle.ob_perm.specs.Masks.{permission_of}
-use Rattle.ob_silica_rules.specs.Joining.{joins_field}
-use Rattle.ob_context.specs.View.{context_of}
+use Rattle.ob_flow_spec.specs.Joining.{joins_field}
+use Rattle.ob_flow_context.specs.View.{context_of}
 use Rattle.ob_flow_premises.proofs.joining.joins_fields.Given as goal
 
 abbrev pub invariant-loop-number : goal.invariant-loop-number

@@ -1,5 +1,5 @@
 use Rattle.std.proofs.Common.{◌≡◌, take}
-use Rattle.ob_context.specs.View.{context_of, tested_of}
+use Rattle.ob_flow_context.specs.View.{context_of, tested_of}
 use Rattle.ob_flow_premises.specs.Forms.{all_own}
 use Rattle.ob_flow_premises.proofs.returning.all_own.Given as goal
 

@@ -1,5 +1,5 @@
 use Rattle.ob_silica.specs.declared.place.Place.TheVariants.{This}
-use Rattle.ob_context.specs.View.{context_of}
+use Rattle.ob_flow_context.specs.View.{context_of}
 use Rattle.ob_flow_premises.proofs.StateLemmas.{ended_at_number}
 use Rattle.ob_flow_premises.proofs.returning.end_tests.Goals as goal
 

@@ -1,6 +1,6 @@
 use Rattle.std.proofs.Common.{◌≡◌, take}
-use Rattle.ob_silica_rules.specs.Returning.{tests_ended}
-use Rattle.ob_context.specs.View.{context_of, tested_of}
+use Rattle.ob_flow_spec.specs.Returning.{tests_ended}
+use Rattle.ob_flow_context.specs.View.{context_of, tested_of}
 use Rattle.ob_flow_premises.proofs.returning.end_tests.Given as goal
 
 abbrev pub invariant-loop-place : goal.invariant-loop-place

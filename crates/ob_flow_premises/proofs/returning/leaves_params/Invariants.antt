@@ -1,7 +1,7 @@
 use Rattle.std.proofs.Common.{◌≡◌}
-use Rattle.ob_silica_rules.specs.Premises.{first_failing}
-use Rattle.ob_silica_rules.specs.Returning.{leaves_params}
-use Rattle.ob_context.specs.View.{context_of}
+use Rattle.ob_flow_spec.specs.Premises.{first_failing}
+use Rattle.ob_flow_spec.specs.Returning.{leaves_params}
+use Rattle.ob_flow_context.specs.View.{context_of}
 use Rattle.ob_flow_premises.proofs.ParamLemmas.{params_from}
 use Rattle.ob_flow_premises.proofs.returning.leaves_params.Given as goal
 

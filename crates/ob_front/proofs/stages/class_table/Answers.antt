@@ -1,14 +1,26 @@
-use Rattle.std.proofs.lemmas.Result.{err_from_is_err_and}
+use Rattle.std.proofs.lemmas.Result.{IfOk-weaker, IfErr-weaker}
+use Rattle.ob_base.specs.TextErrors.{OnFault}
+use Rattle.ob_tree.specs.MembersView.{tree_of}
+use Rattle.ob_resolve.specs.Resolving.{HasClassTable, IsFirstFault}
+use Rattle.ob_front.specs.Stages.{HasTable, IsWellFormedTable, HasTableFault}
 use Rattle.ob_front.proofs.StagesLaws.{told_of_tree, table_is, made}
 use Rattle.ob_front.proofs.stages.class_table.Goals as goal
 
-pub returns-in_err-resolve-clause-fault : goal.returns-in_err-resolve-clause-fault
-returns-in_err-resolve-clause-fault c =
-    let failed = err_from_is_err_and c.from_residual-in_err-resolve.result c.from_residual-in_err-resolve.ensures.1 in
-    rw (failed.1, failed.2) (told_of_tree _ _ _ c.in_ok-tree.ensures.tree c.in_err-resolve.ensures.fault)
-
 pub returns-clause-table : goal.returns-clause-table
-returns-clause-table c = table_is _ _ _ c.in_ok-tree.ensures.tree c.in_ok-resolve.ensures.table
+returns-clause-table c =
+    IfOk-weaker c.resolve.result (HasClassTable (tree_of c.in_ok-tree.tree)) (HasTable c.args.text.now)
+    (λ table has. table_is _ _ table c.in_ok-tree.ensures.tree has)
+    c.resolve.ensures.table
 
 pub returns-clause-made : goal.returns-clause-made
-returns-clause-made c = made _ _ (table_is _ _ _ c.in_ok-tree.ensures.tree c.in_ok-resolve.ensures.table)
+returns-clause-made c =
+    IfOk-weaker c.resolve.result (HasClassTable (tree_of c.in_ok-tree.tree)) IsWellFormedTable
+    (λ table has. made c.args.text.now table (table_is _ _ table c.in_ok-tree.ensures.tree has))
+    c.resolve.ensures.table
+
+pub returns-clause-fault : goal.returns-clause-fault
+returns-clause-fault c =
+    IfErr-weaker c.resolve.result (λ e. OnFault e (IsFirstFault (tree_of c.in_ok-tree.tree)))
+    (λ e. OnFault e (HasTableFault c.args.text.now))
+    (λ cause has. told_of_tree _ _ cause c.in_ok-tree.ensures.tree has)
+    c.resolve.ensures.fault

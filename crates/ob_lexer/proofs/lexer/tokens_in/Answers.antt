@@ -13,7 +13,7 @@ take_up-requires-clause-utf8 c = utf8_so_far _ _ _ _ c.requires.utf8 c.pieces.in
 
 pub pieces-preserved : goal.pieces-preserved
 pieces-preserved c =
-    rw (c.after-place.ensures.place, c.split_at.ensures.front, c.split_at.ensures.back) (steps _ _ _ _ _ _ c.pieces.invariant c.in_ok-count.ensures.ok)
+    rw (c.after-position.ensures.position, c.split_at.ensures.front, c.split_at.ensures.back) (steps _ _ _ _ _ _ c.pieces.invariant c.in_ok-count.ensures.ok)
 
 pub returns-in_err-count-clause-fault : goal.returns-in_err-count-clause-fault
 returns-in_err-count-clause-fault c =

@@ -1,6 +1,6 @@
 use Rattle.ob_table.specs.StatementsView.{resolved_body_of}
 use Rattle.ob_silica.specs.TermsView.{silica_body_of}
-use Rattle.ob_lowering_slots.proofs.Bodies.{gives_terms}
+use Rattle.ob_lower_functions.proofs.Bodies.{gives_terms}
 use Rattle.ob_lower.proofs.BodiesLemmas.{few_slots, told}
 use Rattle.ob_lower.proofs.bodies.lower.Goals as goal
 
@@ -18,4 +18,4 @@ returns-in-Ok-clause-few c =
 
 pub returns-in-Err-clause-fault : goal.returns-in-Err-clause-fault
 returns-in-Err-clause-fault c =
-    told c.args.table.now (resolved_body_of c.args.body.now) c.in-Err.stopped c.from.result c.from.ensures c.in-Err.ensures
+    told c.args.table.now (resolved_body_of c.args.body.now) c.in-Err.stopped c.error_of.result c.error_of.ensures c.in-Err.ensures

@@ -1,7 +1,7 @@
 use Rattle.std.proofs.Common.{◌≡◌, map, drop}
 use Rattle.ob_table.specs.StatementsView.{given_field_of}
-use Rattle.ob_lowering_slots.specs.StatementCode.{given_code}
-use Rattle.ob_lower_slots.specs.Makes.{progress}
+use Rattle.ob_lower_functions.specs.StatementCode.{given_code}
+use Rattle.ob_lower_parts.specs.Makes.{progress}
 use Rattle.ob_lower.proofs.rows.lower_given.Given as goal
 
 abbrev pub invariant-loop-one : goal.invariant-loop-one

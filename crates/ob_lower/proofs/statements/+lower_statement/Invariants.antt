@@ -1,8 +1,8 @@
 use Rattle.std.proofs.Common.{◌≡◌, drop}
 use Rattle.std.specs.Prelude.{◌||◌}
 use Rattle.ob_table.specs.StatementsView.{statements_of}
-use Rattle.ob_typing.specs.WellMade.{one_ends_there}
-use Rattle.ob_lowering_slots.specs.StatementCode.{statements_code}
+use Rattle.ob_table_spec.specs.WellFormed.{one_ends_there}
+use Rattle.ob_lower_functions.specs.StatementCode.{statements_code}
 use Rattle.ob_lower.proofs.statements.+lower_statement.Given as goal
 
 abbrev pub invariant-lower_statements-loop-index : goal.invariant-lower_statements-loop-index

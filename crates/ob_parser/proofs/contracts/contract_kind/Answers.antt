@@ -1,8 +1,8 @@
 use Rattle.std.proofs.Common.{rules, refl, option_map}
 use Rattle.ob_tree.specs.NamesView.{named_of}
-use Rattle.ob_grammar.specs.NameReaders.{read_named}
-use Rattle.ob_grammar.specs.ContractReaders.{read_contract_kind}
-use Rattle.ob_grammar.specs.AllReaders.{all_refs, all_blocks}
+use Rattle.ob_parser_spec.specs.NameReaders.{read_named}
+use Rattle.ob_parser_spec.specs.ContractReaders.{read_contract_kind}
+use Rattle.ob_parser_spec.specs.AllReaders.{all_refs, all_blocks}
 use Rattle.ob_parser_names.specs.Answering.{Halts}
 use Rattle.ob_parser.specs.Parts.{body_parts}
 use Rattle.ob_parser_names.proofs.Halts.{halts_bind}

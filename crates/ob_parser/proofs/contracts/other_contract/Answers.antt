@@ -1,7 +1,7 @@
 use Rattle.std.proofs.Common.{rules}
-use Rattle.ob_grammar.specs.NameReaders.{read_named}
-use Rattle.ob_grammar.specs.ContractReaders.{read_other}
-use Rattle.ob_grammar.specs.AllReaders.{all_refs, all_blocks}
+use Rattle.ob_parser_spec.specs.NameReaders.{read_named}
+use Rattle.ob_parser_spec.specs.ContractReaders.{read_other}
+use Rattle.ob_parser_spec.specs.AllReaders.{all_refs, all_blocks}
 use Rattle.ob_parser_names.specs.Answering.{Halts}
 use Rattle.ob_parser_names.proofs.Halts.{halts_bind}
 use Rattle.ob_parser.proofs.contracts.other_contract.Goals as goal

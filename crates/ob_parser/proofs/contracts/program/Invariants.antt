@@ -1,9 +1,9 @@
 use Rattle.std.proofs.Common.{◌≡◌, map, length}
 use Rattle.ob_tree.specs.MembersView.{contract_of}
-use Rattle.ob_grammar.specs.Readers.{read_many}
-use Rattle.ob_grammar.specs.NameReaders.{read_named}
-use Rattle.ob_grammar.specs.ContractReaders.{contract_first, read_contract}
-use Rattle.ob_grammar.specs.AllReaders.{all_refs, all_blocks}
+use Rattle.ob_parser_spec.specs.Readers.{read_many}
+use Rattle.ob_parser_spec.specs.NameReaders.{read_named}
+use Rattle.ob_parser_spec.specs.ContractReaders.{contract_first, read_contract}
+use Rattle.ob_parser_spec.specs.AllReaders.{all_refs, all_blocks}
 use Rattle.ob_parser_names.specs.Answering.{prefixed}
 use Rattle.ob_parser.proofs.contracts.program.Given as goal
 

@@ -1,8 +1,8 @@
 use Rattle.std.proofs.Common.{◌≡◌, map, length}
 use Rattle.ob_tree.specs.MembersView.{field_of}
-use Rattle.ob_grammar.specs.Readers.{read_many}
-use Rattle.ob_grammar.specs.MemberReaders.{types, read_field}
-use Rattle.ob_grammar.specs.AllReaders.{all_refs}
+use Rattle.ob_parser_spec.specs.Readers.{read_many}
+use Rattle.ob_parser_spec.specs.MemberReaders.{types, read_field}
+use Rattle.ob_parser_spec.specs.AllReaders.{all_refs}
 use Rattle.ob_parser_names.specs.Answering.{prefixed}
 use Rattle.ob_parser.proofs.members.field_list.Given as goal
 

@@ -1,7 +1,7 @@
 use Rattle.std.proofs.Common.{rules}
 use Rattle.ob_tree.specs.StmtsView.{block_of}
-use Rattle.ob_grammar.specs.ContractReaders.{read_transaction}
-use Rattle.ob_grammar.specs.AllReaders.{all_refs, all_blocks}
+use Rattle.ob_parser_spec.specs.ContractReaders.{read_transaction}
+use Rattle.ob_parser_spec.specs.AllReaders.{all_refs, all_blocks}
 use Rattle.ob_parser_names.specs.Answering.{Halts}
 use Rattle.ob_parser.specs.Parts.{head_part}
 use Rattle.ob_parser_names.proofs.Halts.{halts_bind}

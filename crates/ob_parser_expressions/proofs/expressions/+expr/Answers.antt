@@ -1,14 +1,14 @@
 use Rattle.std.proofs.Common.{rules, ◌∙◌, ◌-◌, [], ◌∷◌, ◌++◌, map, ap, sym, refl, arith}
 use Rattle.ob_tree.specs.ExprsView.{expr_of, exprs_of}
 use Rattle.ob_lexer.specs.declared.token.Sign.TheVariants.{OpenParen, CloseParen, Comma}
-use Rattle.ob_grammar.specs.Operators.{operator_if}
-use Rattle.ob_grammar.specs.ExprReaders.{unary_if}
-use Rattle.ob_grammar.specs.Readers.{done, read_opened}
-use Rattle.ob_grammar.specs.Chains.{with_step}
-use Rattle.ob_grammar.proofs.Laws.{case_of}
-use Rattle.ob_grammar.specs.Primaries.{read_arguments}
-use Rattle.ob_grammar.specs.NameReaders.{on, read_item, read_parted}
-use Rattle.ob_grammar.specs.AllReaders.{all_unary, all_counted, all_exprs}
+use Rattle.ob_parser_spec.specs.Operators.{operator_if}
+use Rattle.ob_parser_spec.specs.ExprReaders.{unary_if}
+use Rattle.ob_parser_spec.specs.Readers.{done, read_opened}
+use Rattle.ob_parser_spec.specs.Chains.{with_step}
+use Rattle.ob_parser_spec.proofs.Laws.{case_of}
+use Rattle.ob_parser_spec.specs.Primaries.{read_arguments}
+use Rattle.ob_parser_spec.specs.NameReaders.{on, read_item, read_parted}
+use Rattle.ob_parser_spec.specs.AllReaders.{all_unary, all_counted, all_exprs}
 use Rattle.ob_parser_expressions.specs.Levels.{number_of_level, read_operand}
 use Rattle.ob_parser_names.specs.Answering.{Halts}
 use Rattle.ob_parser_names.proofs.Halts.{halts_bind}
@@ -105,7 +105,7 @@ pub unary-returns-then-starts_with_unary-clause-read : goal.unary-returns-then-s
 unary-returns-then-starts_with_unary-clause-read t c =
     let reads = negation_done c.args.room c.ranges.room.fits c.args.tokens.now (sym c.starts_with_unary.ensures ∙ c.if-starts_with_unary.true) _ c.in_ok-operand.rest.now (opened_done unary_if c.args.room all_unary c.args.tokens.now c.in_ok-operator.rest.now _ c.in_ok-operator.ensures.read _ c.in_ok-operand.rest.now c.in_ok-operand.ensures.read) in
     let made = c.in_ok-expr.ensures.ok in
-    let place = c.place_between.ensures in
+    let place = c.span_between.ensures in
     rw made (rw place reads)
 
 pub unary-returns-in_err-expr-2-clause-read : goal.unary-returns-in_err-expr-2-clause-read
@@ -129,7 +129,7 @@ group-returns-in_err-expr-2 t c =
 pub group-returns : goal.group-returns
 group-returns t c =
     let reads = group_done c.args.room c.args.tokens.now _ c.in_ok-expr-2.rest.now (counted_done OpenParen CloseParen c.args.room all_counted c.args.tokens.now c.in_ok-rest.rest.now _ c.in_ok-rest.ensures.read _ c.in_ok-expr.rest.now c.in_ok-expr.ensures.read _ c.in_ok-expr-2.rest.now c.in_ok-expr-2.ensures.ok) in
-    rw (c.moved.ensures, c.place_between.ensures, c.in_ok-expr-2.ensures.part) reads
+    rw (c.moved.ensures, c.span_between.ensures, c.in_ok-expr-2.ensures.part) reads
 
 -- calls
 

@@ -1,11 +1,11 @@
 use Rattle.std.proofs.Common.{◌≡◌, ◌+◌, ◌*◌, ◌≤◌, length, map}
 use Rattle.ob_lexer.specs.declared.token.Sign.TheVariants.{Comma}
 use Rattle.ob_tree.specs.ExprsView.{expr_of}
-use Rattle.ob_grammar.specs.Readers.{read_many}
-use Rattle.ob_grammar.specs.NameReaders.{on, read_parted, read_item}
-use Rattle.ob_grammar.specs.AllReaders.{all_exprs}
-use Rattle.ob_grammar.specs.Operators.{operator_if, signs_of_level}
-use Rattle.ob_grammar.specs.Chains.{read_chain}
+use Rattle.ob_parser_spec.specs.Readers.{read_many}
+use Rattle.ob_parser_spec.specs.NameReaders.{on, read_parted, read_item}
+use Rattle.ob_parser_spec.specs.AllReaders.{all_exprs}
+use Rattle.ob_parser_spec.specs.Operators.{operator_if, signs_of_level}
+use Rattle.ob_parser_spec.specs.Chains.{read_chain}
 use Rattle.ob_parser_expressions.specs.Levels.{number_of_level, levels_from, read_operand, read_further}
 use Rattle.ob_parser_names.specs.Answering.{prefixed}
 use Rattle.ob_parser_expressions.proofs.expressions.+expr.Given as goal

@@ -1,5 +1,5 @@
 use Rattle.std.proofs.Common.{rules, arith}
-use Rattle.ob_grammar.specs.Operators.{operator_if}
+use Rattle.ob_parser_spec.specs.Operators.{operator_if}
 use Rattle.ob_parser_names.proofs.CodeTokens.{open_halts, open_deep, open_done}
 use Rattle.ob_parser_expressions.proofs.levels.opens_level.Goals as goal
 

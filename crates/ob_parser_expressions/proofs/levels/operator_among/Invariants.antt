@@ -1,6 +1,6 @@
 use Rattle.std.proofs.Common.{◌≡◌, drop}
-use Rattle.ob_grammar.specs.Readers.{one_among}
-use Rattle.ob_grammar.specs.Operators.{of_level, symbol_of_operator}
+use Rattle.ob_parser_spec.specs.Readers.{one_among}
+use Rattle.ob_parser_spec.specs.Operators.{of_level, symbol_of_operator}
 use Rattle.ob_parser_expressions.proofs.levels.operator_among.Given as goal
 
 -- what is left of the operators gives the answer

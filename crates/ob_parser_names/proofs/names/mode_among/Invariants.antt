@@ -1,6 +1,6 @@
 use Rattle.std.proofs.Common.{◌≡◌, drop}
-use Rattle.ob_grammar.specs.Readers.{one_among}
-use Rattle.ob_grammar.specs.NameReaders.{symbol_of_mode}
+use Rattle.ob_parser_spec.specs.Readers.{one_among}
+use Rattle.ob_parser_spec.specs.NameReaders.{symbol_of_mode}
 use Rattle.ob_parser_names.proofs.names.mode_among.Given as goal
 
 -- what is left of the modes gives the answer

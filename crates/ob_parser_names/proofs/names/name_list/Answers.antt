@@ -1,7 +1,7 @@
 use Rattle.ob_parser_names.proofs.Halts.{halts_bind}
 use Rattle.std.proofs.Common.{rules, ◌∙◌, [], ◌∷◌, ◌++◌, ap, sym}
-use Rattle.ob_grammar.specs.Readers.{name_if, read_token}
-use Rattle.ob_grammar.specs.NameReaders.{on, read_item}
+use Rattle.ob_parser_spec.specs.Readers.{name_if, read_token}
+use Rattle.ob_parser_spec.specs.NameReaders.{on, read_item}
 use Rattle.ob_parser_names.proofs.Loops.{parted_begins, kept, none_more}
 use Rattle.ob_parser_names.proofs.CodeItems.{name_item}
 use Rattle.ob_parser_names.proofs.names.name_list.Goals as goal

@@ -1,6 +1,6 @@
 use Rattle.std.proofs.Common.{◌≡◌, length}
-use Rattle.ob_grammar.specs.Readers.{name_if, read_token, read_many}
-use Rattle.ob_grammar.specs.NameReaders.{on, read_parted, read_item}
+use Rattle.ob_parser_spec.specs.Readers.{name_if, read_token, read_many}
+use Rattle.ob_parser_spec.specs.NameReaders.{on, read_parted, read_item}
 use Rattle.ob_parser_names.specs.Answering.{prefixed}
 use Rattle.ob_parser_names.proofs.names.name_list.Given as goal
 

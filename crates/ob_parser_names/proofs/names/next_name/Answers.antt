@@ -1,6 +1,6 @@
 use Rattle.std.proofs.Common.{rules}
 use Rattle.ob_parser_names.proofs.Halts.{halts_bind}
-use Rattle.ob_grammar.specs.Readers.{name_if, read_token}
+use Rattle.ob_parser_spec.specs.Readers.{name_if, read_token}
 use Rattle.ob_parser_names.specs.Answering.{as_it_is}
 use Rattle.ob_parser_names.proofs.Tails.{item_answer}
 use Rattle.ob_parser_names.proofs.names.next_name.Goals as goal

@@ -1,9 +1,9 @@
 use Rattle.std.proofs.Common.{◌∙◌, sym, rules}
 use Rattle.ob_lexer.specs.declared.token.Sign.TheVariants.{Comma}
 use Rattle.ob_tree.specs.MembersView.{listed_of}
-use Rattle.ob_grammar.specs.NameReaders.{on, read_item}
-use Rattle.ob_grammar.specs.MemberReaders.{read_listed}
-use Rattle.ob_grammar.specs.AllReaders.{all_refs}
+use Rattle.ob_parser_spec.specs.NameReaders.{on, read_item}
+use Rattle.ob_parser_spec.specs.MemberReaders.{read_listed}
+use Rattle.ob_parser_spec.specs.AllReaders.{all_refs}
 use Rattle.ob_parser_names.proofs.Halts.{halts_bind}
 use Rattle.ob_parser_names.proofs.Loops.{kept_as}
 use Rattle.ob_parser_names.proofs.CodeParams.{listed_item}

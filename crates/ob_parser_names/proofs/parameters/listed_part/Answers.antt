@@ -1,10 +1,10 @@
 use Rattle.std.proofs.Common.{◌∙◌, sym, map}
 use Rattle.ob_lexer.specs.declared.token.Sign.TheVariants.{OpenParen, Comma}
 use Rattle.ob_tree.specs.MembersView.{listed_of}
-use Rattle.ob_grammar.specs.NameReaders.{on, read_parted}
-use Rattle.ob_grammar.specs.MemberReaders.{read_listed}
-use Rattle.ob_grammar.specs.ContractReaders.{read_parens}
-use Rattle.ob_grammar.specs.AllReaders.{all_refs}
+use Rattle.ob_parser_spec.specs.NameReaders.{on, read_parted}
+use Rattle.ob_parser_spec.specs.MemberReaders.{read_listed}
+use Rattle.ob_parser_spec.specs.ContractReaders.{read_parens}
+use Rattle.ob_parser_spec.specs.AllReaders.{all_refs}
 use Rattle.ob_parser_names.proofs.Tails.{list_answer}
 use Rattle.ob_parser_names.proofs.parameters.listed_part.Goals as goal
 

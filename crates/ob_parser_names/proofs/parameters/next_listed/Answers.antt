@@ -2,8 +2,8 @@ use Rattle.std.proofs.Common.{rules}
 use Rattle.ob_parser_names.proofs.Halts.{halts_bind}
 use Rattle.ob_lexer.specs.declared.token.Sign.TheVariants.{Comma}
 use Rattle.ob_tree.specs.MembersView.{listed_of}
-use Rattle.ob_grammar.specs.MemberReaders.{read_listed}
-use Rattle.ob_grammar.specs.AllReaders.{all_refs}
+use Rattle.ob_parser_spec.specs.MemberReaders.{read_listed}
+use Rattle.ob_parser_spec.specs.AllReaders.{all_refs}
 use Rattle.ob_parser_names.proofs.Tails.{item_answer}
 use Rattle.ob_parser_names.proofs.parameters.next_listed.Goals as goal
 

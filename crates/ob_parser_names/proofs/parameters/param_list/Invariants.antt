@@ -1,10 +1,10 @@
 use Rattle.std.proofs.Common.{◌≡◌, map, length}
 use Rattle.ob_lexer.specs.declared.token.Sign.TheVariants.{Comma}
 use Rattle.ob_tree.specs.MembersView.{formal_of}
-use Rattle.ob_grammar.specs.Readers.{read_many}
-use Rattle.ob_grammar.specs.NameReaders.{on, read_item, read_parted}
-use Rattle.ob_grammar.specs.MemberReaders.{read_param}
-use Rattle.ob_grammar.specs.AllReaders.{all_refs}
+use Rattle.ob_parser_spec.specs.Readers.{read_many}
+use Rattle.ob_parser_spec.specs.NameReaders.{on, read_item, read_parted}
+use Rattle.ob_parser_spec.specs.MemberReaders.{read_param}
+use Rattle.ob_parser_spec.specs.AllReaders.{all_refs}
 use Rattle.ob_parser_names.specs.Answering.{prefixed}
 use Rattle.ob_parser_names.proofs.parameters.param_list.Given as goal
 

@@ -1,9 +1,9 @@
 use Rattle.std.proofs.Common.{◌∙◌, sym, map}
 use Rattle.ob_lexer.specs.declared.token.Sign.TheVariants.{Comma}
 use Rattle.ob_tree.specs.MembersView.{formal_of}
-use Rattle.ob_grammar.specs.NameReaders.{read_parted}
-use Rattle.ob_grammar.specs.MemberReaders.{types, read_param}
-use Rattle.ob_grammar.specs.AllReaders.{all_refs}
+use Rattle.ob_parser_spec.specs.NameReaders.{read_parted}
+use Rattle.ob_parser_spec.specs.MemberReaders.{types, read_param}
+use Rattle.ob_parser_spec.specs.AllReaders.{all_refs}
 use Rattle.ob_parser_names.proofs.Tails.{list_answer}
 use Rattle.ob_parser_names.proofs.parameters.params.Goals as goal
 

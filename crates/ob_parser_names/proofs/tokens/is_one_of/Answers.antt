@@ -1,8 +1,8 @@
 use Rattle.std.proofs.Common.{◌∙◌, [], ◌∷◌, rules, tests}
 use Rattle.std.proofs.lemmas.Iterator.{YieldsList-from_slice}
 use Rattle.std.proofs.lemmas.Iterator.Search.{any_from_yields_List}
-use Rattle.ob_grammar.specs.Symbols.{number}
-use Rattle.ob_grammar.specs.Readers.{is_of}
+use Rattle.ob_parser_spec.specs.Symbols.{number}
+use Rattle.ob_parser_spec.specs.Readers.{is_of}
 use Rattle.ob_parser_names.specs.Answering.{symbol_for}
 use Rattle.ob_parser_names.proofs.CodeTokens.{one_of_them}
 use Rattle.ob_parser_names.proofs.tokens.is_one_of.Goals as goal

@@ -1,9 +1,9 @@
 use Rattle.std.proofs.Common.{◌∙◌, sym, map}
 use Rattle.ob_lexer.specs.declared.token.Sign.TheVariants.{OpenParen}
 use Rattle.ob_tree.specs.StmtsView.{given_of}
-use Rattle.ob_grammar.specs.NameReaders.{on}
-use Rattle.ob_grammar.specs.StmtReaders.{read_enclosed_given}
-use Rattle.ob_grammar.specs.AllReaders.{all_exprs}
+use Rattle.ob_parser_spec.specs.NameReaders.{on}
+use Rattle.ob_parser_spec.specs.StmtReaders.{read_enclosed_given}
+use Rattle.ob_parser_spec.specs.AllReaders.{all_exprs}
 use Rattle.ob_parser_names.proofs.Tails.{list_answer}
 use Rattle.ob_parser_statements.proofs.simple.all_given.Goals as goal
 

@@ -1,5 +1,5 @@
 use Rattle.std.proofs.Common.{rules}
-use Rattle.ob_grammar.specs.AllReaders.{all_exprs}
+use Rattle.ob_parser_spec.specs.AllReaders.{all_exprs}
 use Rattle.ob_parser_names.proofs.Halts.{halts_bind}
 use Rattle.ob_parser_statements.proofs.CodeStatements.{changed_answer}
 use Rattle.ob_parser_statements.proofs.simple.change.Goals as goal

@@ -1,8 +1,8 @@
 use Rattle.std.proofs.Common.{rules, ap}
 use Rattle.ob_tree.specs.Stmts.{named_local}
-use Rattle.ob_grammar.specs.Readers.{done, ◌>>=◌, read_as}
-use Rattle.ob_grammar.specs.NameReaders.{read_named}
-use Rattle.ob_grammar.specs.AllReaders.{all_refs, all_exprs}
+use Rattle.ob_parser_spec.specs.Readers.{done, ◌>>=◌, read_as}
+use Rattle.ob_parser_spec.specs.NameReaders.{read_named}
+use Rattle.ob_parser_spec.specs.AllReaders.{all_refs, all_exprs}
 use Rattle.ob_parser_names.proofs.Halts.{halts_bind}
 use Rattle.ob_parser_statements.proofs.CodeStatements.{declared_answer}
 use Rattle.ob_parser_statements.proofs.simple.declaration.Goals as goal

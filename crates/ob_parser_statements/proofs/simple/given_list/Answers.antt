@@ -2,9 +2,9 @@ use Rattle.ob_parser_names.proofs.Halts.{halts_bind}
 use Rattle.std.proofs.Common.{rules, ◌∙◌, sym, map}
 use Rattle.ob_lexer.specs.declared.token.Sign.TheVariants.{Comma}
 use Rattle.ob_tree.specs.StmtsView.{given_of}
-use Rattle.ob_grammar.specs.NameReaders.{on, read_item}
-use Rattle.ob_grammar.specs.StmtReaders.{read_given}
-use Rattle.ob_grammar.specs.AllReaders.{all_exprs}
+use Rattle.ob_parser_spec.specs.NameReaders.{on, read_item}
+use Rattle.ob_parser_spec.specs.StmtReaders.{read_given}
+use Rattle.ob_parser_spec.specs.AllReaders.{all_exprs}
 use Rattle.ob_parser_names.proofs.Loops.{kept_as, none_more}
 use Rattle.ob_parser_statements.proofs.CodeStatements.{given_consumes}
 use Rattle.ob_parser_statements.proofs.simple.given_list.Goals as goal

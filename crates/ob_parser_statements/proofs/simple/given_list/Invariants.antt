@@ -1,10 +1,10 @@
 use Rattle.std.proofs.Common.{◌≡◌, map, length}
 use Rattle.ob_tree.specs.StmtsView.{given_of}
 use Rattle.ob_lexer.specs.declared.token.Sign.TheVariants.{Comma}
-use Rattle.ob_grammar.specs.Readers.{read_many}
-use Rattle.ob_grammar.specs.NameReaders.{on, read_parted, read_item}
-use Rattle.ob_grammar.specs.StmtReaders.{read_given}
-use Rattle.ob_grammar.specs.AllReaders.{all_exprs}
+use Rattle.ob_parser_spec.specs.Readers.{read_many}
+use Rattle.ob_parser_spec.specs.NameReaders.{on, read_parted, read_item}
+use Rattle.ob_parser_spec.specs.StmtReaders.{read_given}
+use Rattle.ob_parser_spec.specs.AllReaders.{all_exprs}
 use Rattle.ob_parser_names.specs.Answering.{prefixed}
 use Rattle.ob_parser_statements.proofs.simple.given_list.Given as goal
 

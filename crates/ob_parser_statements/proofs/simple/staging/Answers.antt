@@ -17,4 +17,4 @@ returns-in_err-state-3 c = search (rules, halts_bind)
 pub returns : goal.returns
 returns c =
     let value = next_done named_value c.name_assigned.result _ _ _ c.in_ok-state-3.ensures.ok c.name_assigned.ensures in
-    rw (c.place_between-span.ensures, c.in_ok-state-3.ensures.part, c.in_ok-state-2.ensures.part, c.in_ok-state.ensures, c.in_ok-state-2.ensures.ok, value) (search (rules, stmt_views))
+    rw (c.span_between-span.ensures, c.in_ok-state-3.ensures.part, c.in_ok-state-2.ensures.part, c.in_ok-state.ensures, c.in_ok-state-2.ensures.ok, value) (search (rules, stmt_views))

@@ -1,7 +1,7 @@
 use Rattle.std.proofs.Common.{rules}
-use Rattle.ob_grammar.specs.StmtReaders.{value_local_if}
-use Rattle.ob_grammar.specs.Readers.{read_token}
-use Rattle.ob_grammar.specs.AllReaders.{all_exprs}
+use Rattle.ob_parser_spec.specs.StmtReaders.{value_local_if}
+use Rattle.ob_parser_spec.specs.Readers.{read_token}
+use Rattle.ob_parser_spec.specs.AllReaders.{all_exprs}
 use Rattle.ob_parser_names.proofs.Halts.{halts_bind}
 use Rattle.ob_parser_statements.proofs.CodeStatements.{declared_answer}
 use Rattle.ob_parser_statements.proofs.simple.value_declaration.Goals as goal

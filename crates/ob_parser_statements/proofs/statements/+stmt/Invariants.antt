@@ -1,8 +1,8 @@
 use Rattle.std.proofs.Common.{◌≡◌, ◌+◌, ◌*◌, map, length}
 use Rattle.ob_tree.specs.StmtsView.{stmt_of}
-use Rattle.ob_grammar.specs.Readers.{read_many}
-use Rattle.ob_grammar.specs.StmtReaders.{stmt_first, read_stmt}
-use Rattle.ob_grammar.specs.AllReaders.{all_refs, all_counted, all_branches}
+use Rattle.ob_parser_spec.specs.Readers.{read_many}
+use Rattle.ob_parser_spec.specs.StmtReaders.{stmt_first, read_stmt}
+use Rattle.ob_parser_spec.specs.AllReaders.{all_refs, all_counted, all_branches}
 use Rattle.ob_parser_names.specs.Answering.{prefixed}
 use Rattle.ob_parser_statements.proofs.statements.+stmt.Given as goal
 
@@ -18,8 +18,8 @@ decreases-block_or_if l = 8 * l.room + 1
 abbrev pub decreases-alternative : goal.decreases-alternative
 decreases-alternative l = 8 * l.room + 2
 
-abbrev pub decreases-behind_if : goal.decreases-behind_if
-decreases-behind_if l = 8 * l.room + 3
+abbrev pub decreases-after_if : goal.decreases-after_if
+decreases-after_if l = 8 * l.room + 3
 
 abbrev pub decreases-if_statement : goal.decreases-if_statement
 decreases-if_statement l = 8 * l.room + 4

@@ -1,7 +1,7 @@
 use Rattle.std.proofs.Common.{◌≡◌, None, IfOk, map, subst}
 use Rattle.ob_tree.specs.MembersView.{contract_of}
-use Rattle.ob_typing.specs.MemberSites.{sites_of}
-use Rattle.ob_notes.specs.Noted.{noted_is}
+use Rattle.ob_resolve_spec.specs.MemberSites.{sites_of}
+use Rattle.ob_resolve_sites.specs.Noted.{noted_is}
 use Rattle.ob_resolve.proofs.resolving.least_of.Goals as goal
 
 -- the least of all sites' faults, noted one after another

@@ -1,7 +1,8 @@
 use Rattle.std.proofs.Common.{◌∙◌, map, subst}
 use Rattle.std.specs.Prelude.{IfOk, IfErr}
 use Rattle.ob_tree.specs.MembersView.{contract_of}
-use Rattle.ob_resolve.specs.Resolving.{HasClassTable, IsFirstFault, OnFault}
+use Rattle.ob_resolve.specs.Resolving.{HasClassTable, IsFirstFault}
+use Rattle.ob_base.specs.TextErrors.{OnFault}
 use Rattle.ob_resolve.proofs.resolving.resolve.Goals as goal
 
 pub returns-clause-table : goal.returns-clause-table

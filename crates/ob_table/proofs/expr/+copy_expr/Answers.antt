@@ -11,6 +11,12 @@ ResolvedExprDuplicate::copy-returns-in_ok-left-in-Binary t c =
     let right = rw c.in_ok-left-in-Binary.ensures.1 at c.copy_boxed-in-Binary-2.ensures in
     rw (left, right) (sym c.in-Binary.is)
 
+pub ResolvedExprDuplicate::copy-returns-in_ok-left-in-Logical : goal.ResolvedExprDuplicate::copy-returns-in_ok-left-in-Logical
+ResolvedExprDuplicate::copy-returns-in_ok-left-in-Logical t c =
+    let left = rw c.in_ok-left-in-Logical.ensures.0 at c.copy_boxed-in-Logical.ensures in
+    let right = rw c.in_ok-left-in-Logical.ensures.1 at c.copy_boxed-in-Logical-2.ensures in
+    rw (left, right) (sym c.in-Logical.is)
+
 pub ResolvedExprDuplicate::copy-returns-in_ok-copy-in-Text : goal.ResolvedExprDuplicate::copy-returns-in_ok-copy-in-Text
 ResolvedExprDuplicate::copy-returns-in_ok-copy-in-Text t c = rw c.in_ok-copy-in-Text.ensures (sym c.in-Text.is)
 

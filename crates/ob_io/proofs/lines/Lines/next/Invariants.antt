@@ -1,4 +1,5 @@
-use Rattle.std.proofs.Common.{◌≤◌, ◌≡◌, ◌+◌, ◌-◌, ◌^◌, List, ℕ, false, length}
+use Rattle.std.proofs.Common.{◌≤◌, ◌≡◌, ◌+◌, ◌-◌, List, ℕ, false, length}
+use Rattle.ob_base.specs.Limits.{longest_line, most_taken}
 use Rattle.ob_io.specs.Told.{Takes}
 use Rattle.ob_io.specs.Lines.{pending, handed, has_newline, IsSoFar, CountsTaken}
 use Rattle.ob_io.proofs.lines.Lines.next.Given as goal
@@ -9,7 +10,7 @@ invariant-pieces g l = record {
   part : List ℕ;
   one_line : has_newline part ≡ false;
   so_far : IsSoFar l.is_long l.line.items part;
-  short : length l.line.items ≤ 65536;
+  short : length l.line.items ≤ longest_line;
   took : Takes (pending l.fn.self (g.S.Source.view l.fn.source).left) (pending l.self (g.S.Source.view l.source).left) part;
   drawn : CountsTaken l.fn.self l.self (g.S.Source.view l.fn.source) (g.S.Source.view l.source);
   counted : handed l.self ≡ handed l.fn.self + length part;
@@ -18,4 +19,4 @@ invariant-pieces g l = record {
 }
 
 abbrev pub decreases-pieces : goal.decreases-pieces
-decreases-pieces g l = 2 ^ 40 - l.self.taken
+decreases-pieces g l = most_taken - l.self.taken

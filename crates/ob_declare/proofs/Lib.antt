@@ -1,4 +1,0 @@
-pub mod NameTurns
-pub mod MemberLemmas
-pub mod ContractLemmas
-pub mod ProgramLemmas

@@ -1,0 +1,13 @@
+-- The runs are computed.
+use Rattle.std.proofs.Common.{refl}
+use Rattle.ob_perm.specs.States.{states_max}
+use Rattle.ob_perm.specs.Masks.{states_of}
+use Rattle.ob_examples.proofs.steps.flip_under_test_aborts.Goals as goal
+
+pub returns : goal.returns
+unfolding states_max states_of
+returns c = record {
+  flip = refl;
+  next_number = refl;
+  other = refl;
+}

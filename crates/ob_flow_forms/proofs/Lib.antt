@@ -1,3 +1,0 @@
-pub mod FormsLemmas
-pub mod StateLemmas
-pub mod CallLemmas

@@ -1,4 +1,0 @@
-use Rattle.ob_flow_forms.proofs.joining.join.Goals as goal
-
-pub returns : goal.returns
-returns c = (c.in_ok-joins.ensures, c.in_ok-behind.ensures)

@@ -1,0 +1,20 @@
+-- What is known of each program that is accepted.
+use Rattle.std.specs.Prelude.{List, All}
+use Rattle.ob_table.specs.Tables.{ClassTable}
+use Rattle.ob_table_spec.specs.WellFormed.{HasBodies}
+use Rattle.ob_silica.specs.Terms.{SilicaBody}
+use Rattle.ob_silica_formed.specs.WellFormedTerms.{IsWellFormedTerms}
+use Rattle.ob_flow_spec.specs.Deriving.{Derives}
+use Rattle.ob_lower_correct.specs.Law.{IsLoweredProgram}
+use Rattle.ob_front.specs.Checked.{AllNumbered}
+
+-- A class table and terms as the laws on programs want them, where what is proved of the runs of an accepted text begins:
+-- the table meets the table conditions, its bodies are well-formed and may be lowered to the terms, so that these keep their
+-- meaning; there is one body for each constructor and transaction; and the terms are well-formed, name states by numbers that
+-- a state can have, and derive by the permission rules.
+pub record IsCompiledProgram (table : ClassTable) (bodies : List SilicaBody) : Type 0 where
+  pub lowered : IsLoweredProgram (record { table = table; bodies = bodies })
+  pub each : HasBodies table
+  pub made : All (IsWellFormedTerms table) bodies
+  pub states : AllNumbered bodies
+  pub derive : All (Derives table) bodies

@@ -1,5 +1,0 @@
-use Rattle.ob_layout_laws.proofs.LayoutAgain.{layout_again}
-use Rattle.ob_layout_laws.proofs.layout_is_read_again.Goals as goal
-
-pub returns : goal.returns
-returns c = layout_again

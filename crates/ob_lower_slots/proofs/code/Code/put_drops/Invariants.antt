@@ -1,8 +1,0 @@
-use Rattle.std.proofs.Common.{◌≡◌, drop}
-use Rattle.ob_silica.specs.Terms.{then_terms}
-use Rattle.ob_lowering.specs.Points.{drops}
-use Rattle.ob_lower_slots.proofs.code.Code.put_drops.Given as goal
-
-abbrev pub invariant-loop-slot : goal.invariant-loop-slot
-invariant-loop-slot l =
-    then_terms l.self (drops (drop l.slot-index l.slots) l.span) ≡ then_terms l.fn.self (drops l.slots l.span)

@@ -1,6 +1,0 @@
--- By the law.
-use Rattle.ob_lowering_made.proofs.Law.{lowering_makes_well, lowering_makes_all_well}
-use Rattle.ob_lowering_made.proofs.lowered_terms_are_well_made.Goals as goal
-
-pub returns : goal.returns
-returns c = record { one = lowering_makes_well; each = lowering_makes_all_well }

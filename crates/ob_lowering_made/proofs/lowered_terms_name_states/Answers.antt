@@ -1,5 +1,0 @@
-use Rattle.ob_lowering_made.proofs.NamesStates.{lowered_terms_name_states_lem}
-use Rattle.ob_lowering_made.proofs.lowered_terms_name_states.Goals as goal
-
-pub returns : goal.returns
-returns c = lowered_terms_name_states_lem

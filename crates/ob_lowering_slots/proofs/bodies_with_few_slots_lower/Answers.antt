@@ -1,6 +1,0 @@
--- By the law.
-use Rattle.ob_lowering_slots.proofs.MadeBodies.{each_has_terms}
-use Rattle.ob_lowering_slots.proofs.bodies_with_few_slots_lower.Goals as goal
-
-pub returns : goal.returns
-returns c = record { each = each_has_terms }

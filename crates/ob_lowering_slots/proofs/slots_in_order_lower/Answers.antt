@@ -1,6 +1,0 @@
--- By the law.
-use Rattle.ob_lowering_slots.proofs.Bodies.{gives_terms}
-use Rattle.ob_lowering_slots.proofs.slots_in_order_lower.Goals as goal
-
-pub returns : goal.returns
-returns c = record { gives = gives_terms }

@@ -1,6 +1,0 @@
--- By the law.
-use Rattle.ob_lowering_slots.proofs.Bodies.{fails_where_full}
-use Rattle.ob_lowering_slots.proofs.slots_in_order_run_out.Goals as goal
-
-pub returns : goal.returns
-returns c = record { fails = fails_where_full }

@@ -1,0 +1,12 @@
+mod BracketFacts
+mod BracketNames
+mod BracketExprs
+mod BracketStmts
+mod BracketMembers
+pub mod BracketContracts
+mod TokenNames
+mod RowFacts
+mod ExprShapes
+mod StmtShapes
+mod MemberShapes
+pub mod ContractShapes

@@ -1,0 +1,13 @@
+pub mod ListTurns
+pub mod SeenLemmas
+pub mod DistinctTurns
+pub mod DistinctLists
+pub mod WrittenLemmas
+pub mod ParamLemmas
+pub mod ListedLemmas
+pub mod FieldLemmas
+pub mod AgreeLemmas
+pub mod HeldLemmas
+pub mod SameLemmas
+pub mod AskedLemmas
+pub mod OnceLemmas

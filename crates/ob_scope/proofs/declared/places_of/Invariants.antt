@@ -1,7 +1,0 @@
-use Rattle.std.proofs.Common.{◌≡◌, map, take}
-use Rattle.ob_tree.specs.MembersView.{member_of}
-use Rattle.ob_scope.specs.Members.{places_from}
-use Rattle.ob_scope.proofs.declared.places_of.Given as goal
-
-abbrev pub invariant-loop-place : goal.invariant-loop-place
-invariant-loop-place l = l.places ≡ places_from 0 (map member_of (take l.place l.members))

@@ -1,7 +1,0 @@
-use Rattle.std.proofs.Common.{ap, ◌∙◌}
-use Rattle.ob_scope.specs.Numbered.{plain}
-use Rattle.ob_scope.proofs.NamesLemmas.{take-plain}
-use Rattle.ob_scope.proofs.names.cut.Goals as goal
-
-pub returns : goal.returns
-returns c = ap plain c.truncate.ensures.entries ∙ take-plain _ _

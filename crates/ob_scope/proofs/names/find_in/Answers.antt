@@ -1,6 +1,0 @@
-use Rattle.std.proofs.Common.{◌∙◌}
-use Rattle.ob_scope.proofs.NamesLemmas.{find-plain}
-use Rattle.ob_scope.proofs.names.find_in.Goals as goal
-
-pub returns : goal.returns
-returns c = c.copied.ensures ∙ c.get.ensures.value ∙ find-plain c.args.name.now c.args.map.now.entries

@@ -1,5 +1,0 @@
-pub mod Numbered
-pub mod Types
-pub mod Members
-pub mod Around
-pub mod Params

@@ -1,6 +1,0 @@
-mod TokenNames
-mod RowFacts
-mod ExprShapes
-mod StmtShapes
-mod MemberShapes
-pub mod ContractShapes

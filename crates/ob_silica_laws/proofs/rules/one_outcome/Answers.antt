@@ -1,5 +1,0 @@
-use Rattle.ob_silica_laws.proofs.Outcomes.{one_outcome}
-use Rattle.ob_silica_laws.proofs.rules.one_outcome.Goals as goal
-
-pub returns : goal.returns
-returns c = one_outcome

@@ -1,5 +1,0 @@
-use Rattle.ob_silica_laws.proofs.Outcomes.{in_turn}
-use Rattle.ob_silica_laws.proofs.rules.terms_in_turn.Goals as goal
-
-pub returns : goal.returns
-returns c = in_turn

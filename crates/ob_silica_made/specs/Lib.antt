@@ -1,3 +1,0 @@
-pub mod Holdings
-pub mod Points
-pub mod WellMadeTerms

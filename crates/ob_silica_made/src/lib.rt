@@ -1,2 +1,0 @@
-//! What a well-made body of terms is: what the flow check and the code generator need of a body.
-#![tactic(auto)]

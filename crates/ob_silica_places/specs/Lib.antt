@@ -1,0 +1,4 @@
+pub mod Places
+pub mod Known
+pub mod Converting
+pub mod Parameters

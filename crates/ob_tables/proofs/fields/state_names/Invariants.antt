@@ -1,9 +1,0 @@
-use Rattle.std.proofs.Common.{◌≡◌, map, take}
-use Rattle.std.specs.Prelude.{flat_map}
-use Rattle.ob_tree.specs.MembersView.{member_of}
-use Rattle.ob_typing.specs.Declarations.{states_of_member}
-use Rattle.ob_tables.proofs.fields.state_names.Given as goal
-
-abbrev pub invariant-loop-member : goal.invariant-loop-member
-invariant-loop-member l = l.names ≡ map (λ s. s.name) (flat_map states_of_member
-    (map member_of (take l.member-index l.members)))

@@ -1,5 +1,0 @@
-use Rattle.ob_typing_laws.proofs.TableLaws.{bodies_made_lem, bodies_there_lem}
-use Rattle.ob_typing_laws.proofs.well_made_bodies.Goals as goal
-
-pub returns : goal.returns
-returns c = record { made = bodies_made_lem; each = bodies_there_lem }
