@@ -1,0 +1,83 @@
+#!/usr/bin/env python3
+"""Says how the crates stand on one another, as crates.txt has it.
+
+It prints the longest chain of crates. It fails, with a line for each cause, where
+- that chain is longer than 12 crates,
+- a crate of the source meaning, of Silica, of lowering or of the flow check stands, however far below, on the lexer or the tree,
+- or the table of floors in docs/ARCHITECTURE.md isn't the one that follows from crates.txt; with `--write` it is written there.
+A crate's floor is the number of crates in the longest chain below it. Libraries of the toolchain don't count.
+"""
+import pathlib
+import sys
+
+TOP = pathlib.Path(__file__).resolve().parent.parent
+DOCUMENT = TOP / "docs" / "ARCHITECTURE.md"
+LONGEST = 12
+# What means the same whatever the text looked like, and what it therefore never stands on.
+MEANINGS = ("ob_source_", "ob_heap_spec", "ob_table_spec", "ob_silica", "ob_lower", "ob_flow")
+TEXTS = ("ob_lexer", "ob_tree")
+# A crate with one of these endings has definitions and laws, and no code but types of which they speak.
+WITHOUT_CODE = ("_spec", "_meaning", "_steps", "_places", "_formed", "_functions", "_laws", "_correct", "_examples")
+HEAD = ["| floor | code | definitions and laws |", "|---|---|---|"]
+
+
+def read_crates():
+    """The crates of crates.txt, each with those of them that it names."""
+    lines = [line.split("#")[0] for line in (TOP / "crates.txt").read_text().splitlines()]
+    named = {line.split(":")[0].split()[0]: line.split(":")[1].split() for line in lines if ":" in line}
+    return {name: [it for it in below if it in named] for name, below in named.items()}
+
+
+def longest_chain(name, crates, found):
+    """The longest chain that ends with this crate, lowest first; found has those that are known already."""
+    if name not in found:
+        below = [longest_chain(it, crates, found) for it in crates[name]]
+        found[name] = max(below, key=len, default=[]) + [name]
+    return found[name]
+
+
+def way_to_text(name, crates):
+    """The crates from this one down to the lexer or the tree; none if it stands on neither."""
+    if name in TEXTS:
+        return [name]
+    ways = [way_to_text(it, crates) for it in crates[name]]
+    return next(([name, *way] for way in ways if way), [])
+
+
+def floors(chains):
+    """The table of floors, highest first."""
+    rows = []
+    for size in sorted({len(chain) for chain in chains.values()}, reverse=True):
+        here = sorted(name for name, chain in chains.items() if len(chain) == size)
+        laws = [name for name in here if name.endswith(WITHOUT_CODE)]
+        code = [name for name in here if name not in laws]
+        rows.append(f"| {size - 1} | {', '.join(code)} | {', '.join(laws)} |".replace("|  |", "| |"))
+    return HEAD + rows
+
+
+def main():
+    crates, chains, wrong = read_crates(), {}, []
+    longest = max((longest_chain(name, crates, chains) for name in crates), key=len)
+    print(f"the longest chain has {len(longest)} crates: {', '.join(longest)}")
+    if len(longest) > LONGEST:
+        wrong.append(f"the longest chain has {len(longest)} crates, and at most {LONGEST} are allowed")
+    ways = [way_to_text(name, crates) for name in crates if name.startswith(MEANINGS)]
+    wrong += [f"{way[0]} stands on {way[-1]}: {', '.join(way)}" for way in ways if way]
+
+    text = DOCUMENT.read_text()
+    front, head, rest = text.partition(HEAD[0])
+    after = rest.split("\n\n", 1)[-1]
+    right = front + "\n".join(floors(chains)) + "\n\n" + after
+    if not head:
+        wrong.append("docs/ARCHITECTURE.md has no table of floors, which begins with " + HEAD[0])
+    elif text != right and "--write" in sys.argv[1:]:
+        DOCUMENT.write_text(right)
+    elif text != right:
+        wrong.append("the table of floors in docs/ARCHITECTURE.md isn't that of crates.txt: run python3 docs/chains.py --write")
+
+    for why in wrong:
+        print(f"chains.py: {why}", file=sys.stderr)
+    return 1 if wrong else 0
+
+
+sys.exit(main())
