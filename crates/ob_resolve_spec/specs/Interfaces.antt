@@ -105,7 +105,7 @@ abbrev pub has_answer : Program → Contract → Contract → Transaction → Bo
 has_answer program interface own asked =
     option_map_or (answers program interface own asked) (transaction_named own asked.name.name) false
 
--- whether a contract has what its interface asks: an asset only after an asset interface, each of the states, and each of
+-- whether a contract has what its interface asks: an asset only behind an asset interface, each of the states, and each of
 -- the transactions
 abbrev pub meets : Program → Contract → Contract → Bool
 meets program interface own =

@@ -55,7 +55,7 @@ abbrev pub other_situations : Contract → List Name → List Situation
 other_situations c [] = (if c.interface then in_other_state ∷ [] else []) ++ in_no_state ∷ []
 other_situations c (state ∷ states) = if c.interface then in_other_state ∷ [] else []
 
--- where an object of a contract may be found: in one of its states, or in no state if it has none; an object after an
+-- where an object of a contract may be found: in one of its states, or in no state if it has none; an object behind an
 -- interface also in a state that the interface doesn't name
 abbrev pub situations : Contract → List Situation
 situations c = map in_state (state_names c) ++ other_situations c (state_names c)

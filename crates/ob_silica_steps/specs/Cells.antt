@@ -8,8 +8,6 @@ use Rattle.ob_silica.specs.declared.place.Constant.{Constant}
 use Rattle.ob_silica.specs.declared.place.Constant.TheVariants as constant
 use Rattle.ob_silica_places.specs.Known.{Known, kind_of_constant, known}
 
--- Places.
-
 -- What is noted.
 
 -- a value and what is noted of it; no step tests a noted permission
