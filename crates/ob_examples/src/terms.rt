@@ -39,7 +39,7 @@ pub fn lamp_lowers()
 
 /// The terms of the vending machine's `buy` are well-formed. They aren't with a slot too few; nor is a body that drops
 /// its parameter's slot, one that sets a slot that holds a reference, and one that returns another contract's object.
-pub fn terms_are_well_formed_or_not()
+pub fn well_formed_and_other_terms()
     ensures made { IsWellFormedTerms vending_machine buy_made }
     ensures short { IsWellFormedTerms vending_machine buy_short → ⊥ }
     ensures dropping { IsWellFormedTerms vending_machine buy_dropping → ⊥ }

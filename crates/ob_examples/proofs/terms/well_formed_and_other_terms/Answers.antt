@@ -4,7 +4,7 @@ use Rattle.ob_base.specs.Limits.{most_slots}
 use Rattle.ob_examples.specs.VendingMachine.{vending_machine}
 use Rattle.ob_silica_formed.specs.WellFormedTerms.{IsWellFormedTerms}
 use Rattle.ob_examples.specs.MadeTerms.{buy_made}
-use Rattle.ob_examples.proofs.terms.terms_are_well_formed_or_not.Goals as goal
+use Rattle.ob_examples.proofs.terms.well_formed_and_other_terms.Goals as goal
 
 few_slots : buy_made.slots ≤ most_slots
 unfolding most_slots
