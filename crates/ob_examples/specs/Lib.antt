@@ -15,4 +15,4 @@ pub mod ReentryTerms
 pub mod ArithmeticTerms
 pub mod LampTerms
 pub mod Shop
-pub mod MadeTerms
+pub mod BuyBodies

@@ -99,7 +99,7 @@ impl BlockPosition {
         ensures { Makes result (λ o. o) (named_code self.now seen) }
     {
         match self.variables.place_seen(seen.of) {
-            None => Err(Stopped::Unmade),
+            None => Err(Stopped::NotWellFormed),
             Some(place) => Ok(Operand {
                 place,
                 span: seen.span,

@@ -9,7 +9,7 @@ use Rattle.ob_table.specs.Expressions.{Expression, resolved_number, resolved_tex
 use Rattle.ob_table.specs.Tables.{ClassTable, contract_at, signature_of}
 use Rattle.ob_table.specs.declared.seen.SeenAt.{SeenAt}
 use Rattle.ob_table_spec.specs.WellFormed as made
-use Rattle.ob_table_spec.specs.WellFormed.{kind_of_resolved, local_kind, kind_of_seen, is_reference, IsWellFormedExpression, AreMade, IsCalled, PassTo, constructor_at, kind_of_expression}
+use Rattle.ob_table_spec.specs.WellFormed.{kind_of_resolved, local_kind, kind_of_seen, is_reference, IsWellFormedExpression, AreWellFormedArguments, IsCalled, PassTo, constructor_at, kind_of_expression}
 use Rattle.ob_heap_spec.specs.Values.{Value, int_value, bool_value, text_value, reference}
 use Rattle.ob_heap_spec.specs.Worlds.{World, RunOutcome, gives, ◌>>=◌}
 use Rattle.ob_source_meaning.specs.Frames as meaning
@@ -248,7 +248,7 @@ module _ (program : SilicaProgram) (most : ℕ) (calls : Calls) (called : CallsR
         (subst (λ o. IsSomeAnd o (λ d. length d.params ≡ length x.operands)) (sym g.1) (as_many F ws a used g.0.params args x lx g.2)) m (fit_on w fit comes))))
 
     pub operands_run : (es : Arguments) (l : LoweredArguments) (used : List ℕ) (h : Here) (rest : SilicaTerms) (outer : List Rest)
-        → LowersArguments a used es l → AreMade F ws es → Within seen_used used → Fit h
+        → LowersArguments a used es l → AreWellFormedArguments F ws es → Within seen_used used → Fit h
         → OperandsRun l used h rest outer (operands_of calls f es ls h.world)
     operands_run no_arguments l used h rest outer is made w fit =
         rw is (record { by = record { slots = h.slots; notes = h.notes; comes = comes_self table most used fit.stands; holds = record { by = tt }; leads = stays program _ } })

@@ -18,7 +18,7 @@ pub fn table_conditions()
 /// The bodies of a program without faults are well-formed, and there is one for each constructor and transaction of its
 /// contracts.
 pub fn well_formed_bodies()
-    ensures made { (program : Program) → HasShape program → HasNoFault program → All (IsWellFormed (table_of program)) (table_of program).bodies }
+    ensures well_formed { (program : Program) → HasShape program → HasNoFault program → All (IsWellFormed (table_of program)) (table_of program).bodies }
     ensures each { (program : Program) → HasShape program → HasNoFault program → HasBodies (table_of program) }
 {}
 
