@@ -113,7 +113,7 @@ after_joined {used} {left} {h} {a} {b} false false x y e = record {
 }
 
 module _ (f : StaticFrame) where
-  -- terms that are made as they must be, after which, where it is reached, slots hold this
+  -- well-formed terms, after which, where it is reached, slots hold this
   pub record Runs (h : Holdings) (ts : SilicaTerms) (used left : List ℕ) : Type 0 where
     pub each : Each IsWellFormedForm f h ts
     pub follows : NoneFollows ts
@@ -155,10 +155,10 @@ module _ (f : StaticFrame) where
 
   -- a form without branches that doesn't end
   pub record Plain (h : Holdings) (form : SilicaForm) : Type 0 where
-    pub made : IsWellFormedForm f h form
+    pub well_formed : IsWellFormedForm f h form
     pub within : EachWithin IsWellFormedForm f h form
     pub follows : NoneFollowsWithin form
-    pub behind : after_form f form h ≡ written f form h
+    pub after : after_form f form h ≡ written f form h
     pub goes_on : form_ends form ≡ false
 
   -- one that sets a slot
@@ -166,10 +166,10 @@ module _ (f : StaticFrame) where
       → Plain h form → slot_written form ≡ Some k → kind_written f h form ≡ kind → (held kind).refers ≡ b → among k used ≡ false
       → Quiet used left h → Leaves h (one_term form span) used (left ++ if_refers k b)
   set_leaves {h} {form} span used left k kind b p slot is refers apart quiet = record {
-    each = (p.made, p.within, tt);
+    each = (p.well_formed, p.within, tt);
     follows = ((λ t. absurd (true≢false (sym t ∙ p.goes_on))), p.follows, tt);
     goes_on = or_from (form_ends form) false p.goes_on refl;
-    after = subst (λ g. After used (left ++ if_refers k b) h g) (sym (p.behind ∙ ap (λ o. with_slot_if o (held (kind_written f h form)) h) slot ∙ ap (λ o. with_slot k (held o) h) is))
+    after = subst (λ g. After used (left ++ if_refers k b) h g) (sym (p.after ∙ ap (λ o. with_slot_if o (held (kind_written f h form)) h) slot ∙ ap (λ o. with_slot k (held o) h) is))
         (record { kept = set_kept used k (held kind) h apart; quiet = set_quiet used left k (held kind) h b refers quiet });
   }
 
@@ -177,16 +177,16 @@ module _ (f : StaticFrame) where
       → Plain h form → slot_written form ≡ Some k → kind_written f h form ≡ kind
       → after_terms f (one_term form span) h ≡ with_slot k (held kind) h
   set_after {h} {form} span k kind p slot is =
-      p.behind ∙ ap (λ o. with_slot_if o (held (kind_written f h form)) h) slot ∙ ap (λ o. with_slot k (held o) h) is
+      p.after ∙ ap (λ o. with_slot_if o (held (kind_written f h form)) h) slot ∙ ap (λ o. with_slot k (held o) h) is
 
   -- one that sets none
   pub quiet_leaves : {h : Holdings} {form : SilicaForm} (span : Span) (used left : List ℕ)
       → Plain h form → slot_written form ≡ None → Quiet used left h → Leaves h (one_term form span) used left
   quiet_leaves {h} {form} span used left p slot quiet = record {
-    each = (p.made, p.within, tt);
+    each = (p.well_formed, p.within, tt);
     follows = ((λ t. absurd (true≢false (sym t ∙ p.goes_on))), p.follows, tt);
     goes_on = or_from (form_ends form) false p.goes_on refl;
-    after = subst (λ g. After used left h g) (sym (p.behind ∙ ap (λ o. with_slot_if o (held (kind_written f h form)) h) slot))
+    after = subst (λ g. After used left h g) (sym (p.after ∙ ap (λ o. with_slot_if o (held (kind_written f h form)) h) slot))
         (record { kept = kept_self used h; quiet = quiet });
   }
 

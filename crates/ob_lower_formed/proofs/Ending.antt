@@ -211,10 +211,10 @@ module _ (f : StaticFrame) (outer : List ℕ) (p : Point) (ws : LocalKinds) (row
   disown_did subject o is et eq refers =
       let n = named (λ c. ⊤) subject o is refers in
       let plain : Plain f h (disown_form o) = record {
-        made = record { numbers = n.there; kinds = n.reference; results = tt; params = tt; references = tt; bodies = tt; returns = tt };
+        well_formed = record { numbers = n.there; kinds = n.reference; results = tt; params = tt; references = tt; bodies = tt; returns = tt };
         within = tt;
         follows = tt;
-        behind = refl;
+        after = refl;
         goes_on = refl;
       } in
       let whole = quiet_leaves f span p.used [] plain refl s.quiet in
@@ -226,10 +226,10 @@ module _ (f : StaticFrame) (outer : List ℕ) (p : Point) (ws : LocalKinds) (row
   assert_did subject perm o is et eq refers =
       let n = named (λ c. IsPermOn c perm) subject o is refers in
       let plain : Plain f h (assert_form o perm) = record {
-        made = record { numbers = (n.there, n.refers); kinds = n.reference; results = tt; params = tt; references = tt; bodies = tt; returns = tt };
+        well_formed = record { numbers = (n.there, n.refers); kinds = n.reference; results = tt; params = tt; references = tt; bodies = tt; returns = tt };
         within = tt;
         follows = tt;
-        behind = refl;
+        after = refl;
         goes_on = refl;
       } in
       let whole = quiet_leaves f span p.used [] plain refl s.quiet in

@@ -86,7 +86,7 @@ binary_plain o = refl
 pub new_plain : {f : StaticFrame} {h : Holdings} {used : List ℕ} (k : ℕ) (contract : ContractId) (os : List Operand) (s : Signature)
     → constructor_at f.table contract ≡ Some s → Arguments f used h s.params os → f.params < k → (h k).refers ≡ false → Plain f h (new_form k contract os)
 new_plain {f} {h} {used} k contract os s there args own quiet = record {
-  made = record {
+  well_formed = record {
     numbers = (contract_there (contract_at f.table contract) there, arguments_there args);
     kinds = if_so (constructor_at f.table contract) (λ s. ArePassed f h s.params os) s there (arguments_pass args);
     results = tt;
@@ -97,7 +97,7 @@ new_plain {f} {h} {used} k contract os s there args own quiet = record {
   };
   within = tt;
   follows = tt;
-  behind = refl;
+  after = refl;
   goes_on = refl;
 }
   where
@@ -113,7 +113,7 @@ new_plain {f} {h} {used} k contract os s there args own quiet = record {
     no_interface None e = tt
     no_interface (Some c) e = by_interface c.interface (slice_get c.transactions 0) e
 
--- a call that is made as it must be
+-- a well-formed call
 pub record Called (f : StaticFrame) (h : Holdings) (k : Option ℕ) (contract : ContractId) (tx : TxId) (form : SilicaForm) : Type 0 where
   pub plain : Plain f h form
   pub slot : slot_written form ≡ k
@@ -127,7 +127,7 @@ pub call_made : {f : StaticFrame} {vs : List SlotVariable} (ws : LocalKinds) {us
 call_made {f} {vs} ws {used} {h} at agree k receiver contract tx os form s (calls_this) st sig is apart args result own quiet =
     subst (λ c. Called f h k c tx (call_this_form k tx os)) (sym is) (record {
       plain = record {
-        made = record {
+        well_formed = record {
           numbers = (ap is_some here, arguments_there args);
           kinds = if_so (signature_of f.table f.here tx) (λ s. ArePassed f h s.params os) s here (arguments_pass args);
           results = if_so (signature_of f.table f.here tx) (λ s. is_some k ≡ is_some s.result) s here result;
@@ -138,7 +138,7 @@ call_made {f} {vs} ws {used} {h} at agree k receiver contract tx os form s (call
         };
         within = tt;
         follows = tt;
-        behind = refl;
+        after = refl;
         goes_on = refl;
       };
       slot = refl;
@@ -149,7 +149,7 @@ call_made {f} {vs} ws {used} {h} at agree k receiver contract tx os form s (call
     here = ap (λ c. signature_of f.table c tx) (sym is) ∙ sig
 call_made {f} {vs} ws {used} {h} at agree k (Some receiver) contract tx os form s (calls_other {place = place} e) st sig is apart args result own quiet = record {
   plain = record {
-    made = record {
+    well_formed = record {
       numbers = (ap is_some sig, place_there f h place (Reference contract) there.is, arguments_there args);
       kinds = (there.is, if_so (signature_of f.table contract tx) (λ s. ArePassed f h s.params os) s sig (arguments_pass args));
       results = if_so (signature_of f.table contract tx) (λ s. is_some k ≡ is_some s.result) s sig result;
@@ -160,7 +160,7 @@ call_made {f} {vs} ws {used} {h} at agree k (Some receiver) contract tx os form 
     };
     within = tt;
     follows = tt;
-    behind = refl;
+    after = refl;
     goes_on = refl;
   };
   slot = refl;
@@ -311,19 +311,19 @@ parts_leave {f} {h} {x} {y} used a b l m =
 op_plain : {f : StaticFrame} {g : Holdings} (k : ℕ) (o : SilicaOperator) (a b : Operand) (line : ℕ) → IsPlace f a.place → IsPlace f b.place → HaveOperands f g o a b
     → f.params < k → (g k).refers ≡ false → Plain f g (op_form k o a b line)
 op_plain k o a b line pa pb have own quiet = record {
-  made = record { numbers = (pa, pb); kinds = have; results = tt; params = own; references = quiet; bodies = tt; returns = tt };
+  well_formed = record { numbers = (pa, pb); kinds = have; results = tt; params = own; references = quiet; bodies = tt; returns = tt };
   within = tt;
   follows = tt;
-  behind = refl;
+  after = refl;
   goes_on = refl;
 }
 
 pub const_plain : {f : StaticFrame} {g : Holdings} (k : ℕ) (value : _) → f.params < k → (g k).refers ≡ false → Plain f g (const_form k value)
 const_plain k value own quiet = record {
-  made = record { numbers = tt; kinds = tt; results = tt; params = own; references = quiet; bodies = tt; returns = tt };
+  well_formed = record { numbers = tt; kinds = tt; results = tt; params = own; references = quiet; bodies = tt; returns = tt };
   within = tt;
   follows = tt;
-  behind = refl;
+  after = refl;
   goes_on = refl;
 }
 

@@ -132,10 +132,10 @@ module _ (f : StaticFrame) (outer : List ℕ) (p : Point) (ws : LocalKinds) (row
     first_did (Some at) eo er (et, eq) =
         let s : Stands f p.variables p.used h = closed_stands a (ap made_before er) in
         let plain : Plain f h bad_row_form = record {
-          made = record { numbers = tt; kinds = tt; results = tt; params = tt; references = tt; bodies = tt; returns = tt };
+          well_formed = record { numbers = tt; kinds = tt; results = tt; params = tt; references = tt; bodies = tt; returns = tt };
           within = tt;
           follows = tt;
-          behind = refl;
+          after = refl;
           goes_on = refl;
         } in
         let l = quiet_leaves f at p.used [] plain refl s.quiet in
@@ -258,10 +258,10 @@ module _ (f : StaticFrame) (outer : List ℕ) (p : Point) (ws : LocalKinds) (row
       let once : Once (fields_of (given_before p.row ++ x.given)) = subst Once (sym (fields_append_names (given_before p.row) x.given ∙ ap (λ l. fields_of (given_before p.row) ++ l) gg.names))
       (once_given f ws (fields_of (given_before p.row)) row given a.once (λ y e. row_apart p.row row y a.row_is e) made) in
       let plain : Plain f g form = record {
-        made = record { numbers = (there, fields_there all); kinds = (fields_served all, once_pairs (fields_of (given_before p.row ++ x.given)) once); results = tt; params = tt; references = tt; bodies = tt; returns = tt };
+        well_formed = record { numbers = (there, fields_there all); kinds = (fields_served all, once_pairs (fields_of (given_before p.row ++ x.given)) once); results = tt; params = tt; references = tt; bodies = tt; returns = tt };
         within = tt;
         follows = tt;
-        behind = refl;
+        after = refl;
         goes_on = refl;
       } in
       let first : Leaves f h x.terms p.used (references (before ++ x.made)) = subst (λ l. Leaves f h x.terms p.used l) (sym (references_append before x.made))

@@ -1,4 +1,4 @@
--- The terms of statements and blocks are made as they must be.
+-- The terms of statements and blocks are well-formed.
 use Rattle.std.proofs.Common.{◌≡◌, ℕ, ◌<◌, Bool, true, false, ◌||◌, List, [], Some, refl, sym, ap, ◌∙◌, subst, ◌⊎◌, inl, inr, true≢false, if◌then◌else◌}
 use Rattle.std.proofs.lemmas.Bool.{or_parts, or_left}
 use Rattle.ob_base.specs.declared.fault.Span.{Span}
