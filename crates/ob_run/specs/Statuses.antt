@@ -24,7 +24,7 @@ pub record ServesProgram (command : Command) (text : List ℕ) (says : Option Pl
   pub is : command ≡ serve name
   pub program : Option Plain
   pub has : HasProgram text program
-  pub holds : says program
+  pub said : says program
 
 -- the faults that a command tells of a text
 abbrev pub IsToldBy : Command → List ℕ → ProgramFault → Type 0
