@@ -16,16 +16,16 @@ use Rattle.ob_flow_laws.specs.Laws.{at_return, MeetsExit, IsConstructed, MeetsEx
 record Hold (ps : List Premise) : Type 0 where
   pub all : first_failing ps ≡ None
 
-more_hold : (p : Premise) (ps qs : List Premise) → (Hold (ps ++ qs) → Hold ps × Hold qs) → (b : Bool) → p.holds ≡ b
+more_hold : (p : Premise) (ps qs : List Premise) → (Hold (ps ++ qs) → Hold ps × Hold qs) → (b : Bool) → p.condition ≡ b
     → (if b then first_failing (ps ++ qs) else Some p.fault) ≡ None → Hold (p ∷ ps) × Hold qs
 more_hold p ps qs go true e f = let r = go (record { all = f }) in (record { all = rw e r.0.all }, r.1)
 more_hold p ps qs go false e f = absurd (cc)
 
 front_holds : (ps qs : List Premise) → Hold (ps ++ qs) → Hold ps × Hold qs
 front_holds [] qs h = (record { all = refl }, h)
-front_holds (p ∷ ps) qs h = more_hold p ps qs (front_holds ps qs) p.holds refl h.all
+front_holds (p ∷ ps) qs h = more_hold p ps qs (front_holds ps qs) p.condition refl h.all
 
-one_holds : (number : ℕ) (place : Span) (b : Bool) → Hold (one number place b) → b ≡ true
+one_holds : (number : ℕ) (span : Span) (b : Bool) → Hold (one number span b) → b ≡ true
 one_holds number place true h = refl
 one_holds number place false h = absurd (let f = h.all in cc)
 

@@ -66,11 +66,11 @@ impl BlockPosition {
         }
     }
 
-    /// What stands around an expression of a statement at this place.
-    pub fn around<'a>(&'a self, frame: &'a StaticFrame<'a>, place: Span) -> AroundExpression<'a>
-        ensures { result ≡ around_at frame.now self.now place }
+    /// What stands around an expression of a statement at this span.
+    pub fn around<'a>(&'a self, frame: &'a StaticFrame<'a>, span: Span) -> AroundExpression<'a>
+        ensures { result ≡ around_at frame.now self.now span }
     {
-        AroundExpression::new(frame, &self.variables, place)
+        AroundExpression::new(frame, &self.variables, span)
     }
 
     /// How many variables are visible.

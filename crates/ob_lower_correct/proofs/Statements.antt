@@ -39,7 +39,7 @@ use Rattle.ob_heap_spec.specs.GoingWrong.{is_followed}
 use Rattle.ob_source_meaning.specs.Statements.{run_block, run_otherwise}
 use Rattle.ob_silica.specs.Terms.{change_form}
 use Rattle.ob_silica_steps.specs.Configurations.{stuck}
-use Rattle.ob_lower_spec.specs.Points.{refused_at, place_in, given_before, with_row}
+use Rattle.ob_lower_spec.specs.Points.{refused_at, span_of_terms, given_before, with_row}
 use Rattle.ob_lower_spec.specs.GivenTerms.{LoweredGiven, LowersGiven, given_from, LowersStage}
 use Rattle.ob_lower_correct.proofs.Setting.{placed_declares}
 use Rattle.ob_lower_correct.proofs.Fresh.{Fresh, fresh_append}
@@ -279,8 +279,8 @@ module _ (program : SilicaProgram) (most : ℕ) (calls : Calls) (called : CallsR
         (record { stands = a.stands; visible = a.visible; row = subst (λ r. RowStands p.variables p.used r ls.staged h) er a.row; kept = a.kept }))
 
     change_by : (p : Point) (ws : made.LocalKinds) (ls : meaning.Locals) (h : Here) (rest : SilicaTerms) (outer : List Rest) (state : StateId) (given : List GivenField) (span : Span) (names : List ℕ) (row : StagedRow) (x : LoweredGiven)
-        → p.row ≡ row → LowersGiven (around F p (place_in row span)) (in_use (made_before row) p.used) given x → made.AreGiven F ws names given → Places p ws → Stand p ls h
-        → Runs (passed p) rest outer h (config s h (runs (then_terms (with_unit (place_in row span) (ended_by (place_in row span) x.terms (change_form state (given_before row ++ x.given)) (made_before row ++ x.made))) rest) outer)) (run calls f (resolved_change state given span) ls h.world)
+        → p.row ≡ row → LowersGiven (around F p (span_of_terms row span)) (in_use (made_before row) p.used) given x → made.AreGiven F ws names given → Places p ws → Stand p ls h
+        → Runs (passed p) rest outer h (config s h (runs (then_terms (with_unit (span_of_terms row span) (ended_by (span_of_terms row span) x.terms (change_form state (given_before row ++ x.given)) (made_before row ++ x.made))) rest) outer)) (run calls f (resolved_change state given span) ls h.world)
     change_by p ws ls h rest outer state given span names no_row x er lx ok placed a =
         change_runs program most calls called s found start finish fixed zero_fixed p ws ls h rest outer state given span span names [] [] x lx ok (placed_row params fixed p ws (staged_row span [] []) placed (record { by = λ n u. absurd u }))
         (staged_at p ls h span (subst (λ r. RowStands p.variables p.used r ls.staged h) er a.row) (record { stands = a.stands; visible = a.visible; row = subst (λ r. RowStands p.variables p.used r ls.staged h) er a.row; kept = a.kept }))

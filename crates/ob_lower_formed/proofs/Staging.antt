@@ -12,7 +12,7 @@ use Rattle.ob_table_spec.specs.WellFormed.{StaticFrame, LocalKinds, local_kind, 
 use Rattle.ob_silica.specs.Terms.{SilicaForm, bad_row_form, change_form, SilicaTerms, no_terms, one_term}
 use Rattle.ob_silica.specs.declared.place.Given.{Given}
 use Rattle.ob_silica_formed.specs.Holdings.{Holdings, after_terms}
-use Rattle.ob_lower_spec.specs.Points.{Temporary, in_use, references, SlotVariable, locals_of, StagedRow, no_row, staged_row, refused_row, refused_at, place_in, given_before, made_before, Point, with_row, passed, used_at, around}
+use Rattle.ob_lower_spec.specs.Points.{Temporary, in_use, references, SlotVariable, locals_of, StagedRow, no_row, staged_row, refused_row, refused_at, span_of_terms, given_before, made_before, Point, with_row, passed, used_at, around}
 use Rattle.ob_lower_spec.specs.ExpressionTerms.{Lowered, LowersExpression}
 use Rattle.ob_lower_spec.specs.GivenTerms.{with_unit, LoweredGiven, given_from, LowersGiven, LowersFirstStage, LowersStage}
 use Rattle.ob_lower_spec.specs.StatementTerms.{ended_by}
@@ -244,11 +244,11 @@ module _ (f : StaticFrame) (outer : List ℕ) (p : Point) (ws : LocalKinds) (row
 
   -- a change of state
   pub change_did : (given : List GivenField) (x : LoweredGiven) → At f p ws row (and_statement (resolved_change state given span) rest) h
-      → LowersGiven (around f p (place_in p.row span)) (used_at p) given x
-      → ts ≡ with_unit (place_in p.row span) (ended_by (place_in p.row span) x.terms (change_form state (given_before p.row ++ x.given)) (made_before p.row ++ x.made))
+      → LowersGiven (around f p (span_of_terms p.row span)) (used_at p) given x
+      → ts ≡ with_unit (span_of_terms p.row span) (ended_by (span_of_terms p.row span) x.terms (change_form state (given_before p.row ++ x.given)) (made_before p.row ++ x.made))
       → q ≡ passed p → state.0 < length f.own.states → AreGiven f ws row given → Did f outer p q ws row (resolved_change state given span) rest ts h
   change_did given x a lx et eq there made =
-      let at : Span = place_in p.row span in
+      let at : Span = span_of_terms p.row span in
       let before : List Temporary = made_before p.row in
       let used : List ℕ = in_use before p.used in
       let gg = given_made f p.variables ws a.agree at given x used h row lx made a.stands in

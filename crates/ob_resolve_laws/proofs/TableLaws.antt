@@ -11,7 +11,7 @@ use Rattle.ob_resolve_laws.proofs.Clean.{clean_sites}
 use Rattle.ob_resolve_laws.proofs.TableFacts.{table_is, placed, clear_program}
 use Rattle.ob_resolve_laws.proofs.BodyFacts.{all_bodies_made, bodies_there}
 
--- no condition of a fault holds at any site, so each part of the table is as it must be
+-- the program has its shape (`HasShape`), and no condition of a fault holds at any site, so each part of the table is as it must be
 pub table_conditions_lem : (program : Program) → HasShape program → HasNoFault program → IsClassTable (table_of program)
 table_conditions_lem program shape none = table_is program shape (clean_sites program none)
 

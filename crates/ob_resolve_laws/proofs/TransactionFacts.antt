@@ -56,7 +56,7 @@ default_is_well_formed program own = record {
   public = refl;
   result = refl;
   listed = refl;
-  gives = gives_some own as_owner refl;
+  exit_not_unowned = gives_some own as_owner refl;
 }
 
 constructor_is_well_formed : (program : Program) (own : Contract) (m : Constructor) (span : Span)
@@ -78,7 +78,7 @@ constructor_is_well_formed program own m span g p f =
       public = refl;
       result = refl;
       listed = refl;
-      gives = gives_some own (written_permission m.perm) u;
+      exit_not_unowned = gives_some own (written_permission m.perm) u;
     }
 
 well_formed_of_member : (program : Program) (own : Contract) (m : Member) → Each Clean (member_sites program own m)
@@ -146,7 +146,7 @@ transaction_is program own t name private types l f r =
         exit = held.at_exit;
       };
       name = name;
-      leaves = held.leaves;
+      exit_may_follow = held.exit_may_follow;
       listed = All-from_recursion _ (map (listed_in_table program own) t.listed)
           (listed_are program own t.listed types l);
       distinct = listed_distinct program own t.listed l;
