@@ -28,7 +28,7 @@ buy_losing =
     ∷ return_form (Some (field_on 0 15)) ∷ [])
     no_terms) 3
 
--- a number of more than 64 bits is put in a slot
+-- 2^63, which is no `int`, is put in a slot
 abbrev pub buy_large : SilicaBody
 buy_large =
     terms_body 2 1 (on 15 (const_form 2 (Int (pos (2 ^ 63))) ∷ return_form (Some (field_on 0 15)) ∷ []) no_terms) 3

@@ -38,8 +38,8 @@ pub fn lamp_lowers()
 {}
 
 /// The terms of the vending machine's `buy` are well-formed. They aren't with a slot too few; nor is a body that drops
-/// its parameter's slot, one that sets a slot that holds a reference, one with a number of more than 64 bits, and one
-/// that returns another contract's object.
+/// its parameter's slot, one that sets a slot that holds a reference, one with a number that is no `int`, and one that
+/// returns another contract's object.
 pub fn well_formed_and_other_terms()
     ensures made { IsWellFormedTerms vending_machine buy_made }
     ensures short { IsWellFormedTerms vending_machine buy_short → ⊥ }
