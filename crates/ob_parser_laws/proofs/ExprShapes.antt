@@ -56,7 +56,8 @@ placed_says : {Holds : Type 0} (place : ℕ) (e : Expr) (reads : Reads) → ((n 
 placed_says {Holds} place e reads a n = record { says = λ read ranges is. by read ranges is.1 }
   where
     by : (read : List Loaded) → ReadInRange read
-        → (IsTrue (nat_le place (level e)) × reads n read) ⊎ ((n ≡ 0) × (depth : ℕ) × (inner : ℕ) × enclosed (suc depth) (reads inner) read)
+        → (IsTrue (nat_le place (level e)) × reads n read)
+        ⊎ ((n ≡ 0) × (depth : ℕ) × (inner : ℕ) × enclosed (suc depth) (reads inner) read)
         → Holds
     by read ranges (inl is) = (a n).says read ranges is.1
     by read ranges (inr is) = (enclosed_says (suc is.1) (reads is.2) (a is.2)).says read ranges is.3
@@ -68,7 +69,8 @@ operation_says : {One Other : Type 0} (o : Operator) (place : Span) (left right 
     → ((n : ℕ) → Says (right n) Other) → (n : ℕ) → Says (operation o place left right n) (One × Other)
 operation_says o place left right a b n =
     record {
-      says = λ read ranges is. (both_say (first_says (a is.0)) (then_says (raised_says (is.0 + 1) (then_says (b is.1))))).says read ranges is.3;
+      says = λ read ranges is. (both_say (first_says (a is.0))
+          (then_says (raised_says (is.0 + 1) (then_says (b is.1))))).says read ranges is.3;
     }
 
 mutual

@@ -57,15 +57,18 @@ pub token_says : {k : TokenKind} → Says (token k) (IsInRange k)
 token_says = record { says = λ read ranges is. (subst ReadInRange is.1 ranges).0 }
 
 pub first_says : {row others : Row} {Holds : Type 0} → Says row Holds → Says (row ⨟ others) Holds
-first_says a = record { says = λ read ranges is. a.says is.0 (front_in_range is.0 is.1 (subst ReadInRange is.2 ranges)) is.3 }
+first_says a =
+    record { says = λ read ranges is. a.says is.0 (front_in_range is.0 is.1 (subst ReadInRange is.2 ranges)) is.3 }
 
 pub then_says : {first row : Row} {Holds : Type 0} → Says row Holds → Says (first ⨟ row) Holds
-then_says a = record { says = λ read ranges is. a.says is.1 (back_in_range is.0 is.1 (subst ReadInRange is.2 ranges)) is.4 }
+then_says a =
+    record { says = λ read ranges is. a.says is.1 (back_in_range is.0 is.1 (subst ReadInRange is.2 ranges)) is.4 }
 
 pub spanning_says : {span : Span} {row : Row} {Holds : Type 0} → Says row Holds → Says (spanning span row) Holds
 spanning_says a = record { says = λ read ranges is. a.says read ranges is.1 }
 
-pub provided_says : {condition Holds : Type 0} {row : Row} → (condition → Says row Holds) → Says (provided condition row) Holds
+pub provided_says : {condition Holds : Type 0} {row : Row} → (condition → Says row Holds)
+    → Says (provided condition row) Holds
 provided_says f = record { says = λ read ranges is. (f is.0).says read ranges is.1 }
 
 pub either_says : {one other : Row} {Holds : Type 0} → Says one Holds → Says other Holds → Says (either one other) Holds
@@ -79,7 +82,8 @@ pub raised_says : (more : ℕ) {row : Row} {Holds : Type 0} → Says row Holds �
 raised_says more a =
     record { says = λ read ranges is. a.says is.0 (low_in_range more is.0 (subst ReadInRange is.1 ranges)) is.2 }
 
-pub counted_says : {left right : Sign} {row : Row} {Holds : Type 0} → Says row Holds → Says (counted left row right) Holds
+pub counted_says : {left right : Sign} {row : Row} {Holds : Type 0} → Says row Holds
+    → Says (counted left row right) Holds
 counted_says a = then_says (first_says (raised_says 1 a))
 
 pub each_says : {A : Type 0} (row : A → Row) (Holds : A → Type 0) → ((x : A) → Says (row x) (Holds x)) → (xs : List A)

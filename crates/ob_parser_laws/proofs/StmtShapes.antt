@@ -70,7 +70,9 @@ mutual
 
   chained_says : (body : Stmts) (end : Span) → Says (chained body end) (HaveStmtShapes body)
   chained_says (and_stmt (test_stmt of state then otherwise span) no_stmts) end =
-      provided_says (λ ends. raised_says 1 (so_says (λ known. (known, tt)) (stmt_says (test_stmt of state then otherwise span))))
+      provided_says (λ ends. raised_says 1 (so_says (λ known. (known, tt))
+      (stmt_says (test_stmt of state then otherwise span))))
   chained_says (and_stmt (if_stmt condition then otherwise span) no_stmts) end =
-      provided_says (λ ends. raised_says 1 (so_says (λ known. (known, tt)) (stmt_says (if_stmt condition then otherwise span))))
+      provided_says (λ ends. raised_says 1 (so_says (λ known. (known, tt))
+      (stmt_says (if_stmt condition then otherwise span))))
   chained_says body end = never_says

@@ -43,8 +43,8 @@ string_is_text before bytes rest content utf8 is short =
     after_quote before (is.inside ++ 34 ∷ rest) (subst (λ (l : List ℕ). IsUtf8 (before ++ l)) whole utf8) in
     content_is_text is.inside content rest behind is.stands short
 
-spelled_in_range : (k : TokenKind) (before bytes rest : List ℕ) → IsUtf8 (before ++ (bytes ++ rest)) → IsSpelling k bytes
-    → IsInRange k
+spelled_in_range : (k : TokenKind) (before bytes rest : List ℕ) → IsUtf8 (before ++ (bytes ++ rest))
+    → IsSpelling k bytes → IsInRange k
 spelled_in_range (kind.Name name) before bytes rest utf8 is = subst (λ b. IsTrue (is_name b)) is.0 is.1
 spelled_in_range (kind.Number number) before bytes rest utf8 is =
     subst (λ z. IsTrue (is_int z)) (sym is.1) (lt-ltb (value_of_digits bytes) (2 ^ 63) is.2)

@@ -239,7 +239,8 @@ transaction_made program clear own w t k (Some (block_with statements end)) e is
       well_formed_at program own w (k + 1) s (kind_of_result program t.result) t.params (block_with statements end) is
           (after program own k t is at) statements end refl
           (one_body program clear own w s (kind_of_result program t.result) t.params statements end
-          (subst (λ o. IfSome o HasBlockShape) e sites.shape) (params_known program own false t.params sites.formals) refl r.kind r.in_table_as c),
+          (subst (λ o. IfSome o HasBlockShape) e sites.shape)
+          (params_known program own false t.params sites.formals) refl r.kind r.in_table_as c),
       tt,
     )
 
@@ -282,7 +283,8 @@ constructor_made program clear own w m (block_with statements end) e is made h =
     let at : slice_get (signatures_of program own) 0 ≡ Some s = rw (is, made) refl in
     let c = subst (λ b. Each Clean (body_of_params_sites program own nothing m.params b)) e h.1 in
     well_formed_at program own w 0 s nothing m.params (block_with statements end) is at statements end refl
-    (one_body program clear own w s nothing m.params statements end (subst HasBlockShape e h.2) (params_known program own true m.params h.0)
+    (one_body program clear own w s nothing m.params statements end (subst HasBlockShape e h.2)
+    (params_known program own true m.params h.0)
     refl tt refl c)
 
 default_made : (program : Program) (own : Contract) (w : World program own) → own.interface ≡ false

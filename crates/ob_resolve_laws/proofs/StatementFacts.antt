@@ -300,7 +300,8 @@ given_back h s wanted v w shape g d c =
     )
 
 returned : (h : Here) (s : Scope) (value : Option Expr) (span : Span) (k : InferredKind) → h.around.result ≡ k
-    → IsKnownKind (program h) k → HasShapeIf value → GoodScope (program h) h.params s → Each Clean (returned_sites h.around s value span)
+    → IsKnownKind (program h) k → HasShapeIf value → GoodScope (program h) h.params s
+    → Each Clean (returned_sites h.around s value span)
     → IsReturned (frame h) (by_number s.variables) (as_local k) (option_map (resolved_expr h.around s) value)
 returned h s None span nothing e w shape g c = tt
 returned h s (Some v) span nothing e w shape g c = let f : returns_other (program h) nothing (Some (kind_of h.around s v))
@@ -451,7 +452,8 @@ mutual
   else_fact h q s (else_with block) shape g c = block_fact h q s block shape g c
 
   stmts_fact : (h : Here) (q : Result h) (s : Scope) (row : List Name) (ended : Bool) (xs : Stmts)
-      → HaveStmtShapes xs → GoodScope (program h) h.params s → AreFields h.around.own row → Each Clean (stmts_sites h.around s row ended xs)
+      → HaveStmtShapes xs → GoodScope (program h) h.params s → AreFields h.around.own row
+      → Each Clean (stmts_sites h.around s row ended xs)
       → AreStatements (frame h) (by_number s.variables) (row_ids h.around.own row) (resolved_stmts h.around s xs)
   stmts_fact h q s row ended no_stmts shape g r c = tt
   stmts_fact h q s row ended (and_stmt x xs) shape g r c =

@@ -138,8 +138,8 @@ abbrev pub is_constructor : ClassTable → ContractId → ℕ → Bool
 is_constructor table id tx = option_map_or (λ c. not c.interface && nat_eq tx 0) (contract_at table id) false
 
 abbrev mutual
-  -- an expression is made as it must be: a number is one of 64 bits and a text has at most 1,024 bytes, each name stands
-  -- for something, and each operand has the kind that its place needs
+  -- an expression is made as it must be: a number is one of 64 bits and a text has at most 1,024 bytes, each name
+  -- stands for something, and each operand has the kind that its place needs
   pub IsWellFormedExpression : StaticFrame → LocalKinds → Expression → Type 0
   IsWellFormedExpression f ls (resolved_number value span) = IsTrue (is_int value)
   IsWellFormedExpression f ls (resolved_text value span) = IsTrue (is_text value)
