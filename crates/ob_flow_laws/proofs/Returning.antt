@@ -14,12 +14,14 @@ use Rattle.ob_flow_laws.proofs.Premises.{both_hold, for_all_holds, all_hold}
 use Rattle.ob_flow_laws.proofs.Uses.{can_use, can_give}
 use Rattle.ob_flow_laws.proofs.Exits.{all_left}
 
-pub can_give_value : (b : BodyFrame) (ts : TestedPlaces) (g : Context) (value : Option Operand) (result : Option ResolvedType) → Hold (returns_value b ts g value result) → CanGiveValue b ts g value result
+pub can_give_value : (b : BodyFrame) (ts : TestedPlaces) (g : Context) (value : Option Operand)
+    (result : Option ResolvedType) → Hold (returns_value b ts g value result) → CanGiveValue b ts g value result
 can_give_value b ts g None result h = tt
 can_give_value b ts g (Some o) None h = can_use b g (read_of o) h
 can_give_value b ts g (Some o) (Some of) h = can_give b ts g (read_of o) (result_parameter of) h
 
-pub can_return : (b : BodyFrame) (ts : TestedPlaces) (g : Context) (at : Span) (value : Option Operand) → Hold (returns_result b ts g at value) → CanReturn b ts g value
+pub can_return : (b : BodyFrame) (ts : TestedPlaces) (g : Context) (at : Span) (value : Option Operand)
+    → Hold (returns_result b ts g at value) → CanReturn b ts g value
 can_return b ts g at value h =
     let gives = returns_value b ts g value b.signature.result in
     let owns = still_owns (value_returned g value b.signature.result) at in
@@ -31,5 +33,6 @@ can_return b ts g at value h =
       exits = all_left b (at_return b ts g value) at last.1;
     }
 
-pub at_exits : (b : BodyFrame) (ts : TestedPlaces) (g : Context) (at : Span) (value : Option Operand) → first_failing (returns_result b ts g at value) ≡ None → MeetsExits b (at_return b ts g value)
+pub at_exits : (b : BodyFrame) (ts : TestedPlaces) (g : Context) (at : Span) (value : Option Operand)
+    → first_failing (returns_result b ts g at value) ≡ None → MeetsExits b (at_return b ts g value)
 at_exits b ts g at value h = (can_return b ts g at value (all_hold (returns_result b ts g at value) h)).exits
