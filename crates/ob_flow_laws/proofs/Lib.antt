@@ -2,6 +2,7 @@ pub mod Outcomes
 pub mod Tests
 pub mod Premises
 pub mod Places
+pub mod Held
 pub mod Uses
 pub mod Binding
 pub mod Filling
