@@ -14,11 +14,11 @@ use Rattle.ob_heap_spec.specs.Worlds.{World, first_world, AbortCause, by_state, 
 use Rattle.ob_heap_spec.specs.Marks.{lock}
 use Rattle.ob_heap_spec.specs.GoingWrong.{is_held_within}
 use Rattle.ob_rest_spec.specs.Modes.{is_owned, is_shared}
-use Rattle.ob_invocation_spec.specs.Handles.{NamedHandle, named}
-use Rattle.ob_invocation_spec.specs.Entries.{HandleUse, Entry, values, handle_uses}
+use Rattle.ob_invocation_spec.specs.Handles.{NamedHandle, handle_name}
+use Rattle.ob_invocation_spec.specs.Entries.{HandleUse, Entry, values_of, handle_uses}
 
--- What a `new` and a `call` do: a `new` of a contract with these arguments, and a `call` of a transaction of the contract
--- of an object, on it; from outside, in a world.
+-- What a `new` and a `call` from outside do in a world: the first with a contract and arguments, the second with the
+-- contract of an object, one of its transactions, the object's number and arguments.
 pub record Meaning : Type 0 where
   pub new : ContractId → List Value → World → RunOutcome (Option Value)
   pub call : ContractId → TxId → ℕ → List Value → World → RunOutcome (Option Value)
@@ -26,12 +26,12 @@ pub record Meaning : Type 0 where
 -- The entry test.
 
 -- a use that owns its object at the entry finds it in none of the declared states
-abbrev pub is_outside : ClassTable → List Object → HandleUse → Bool
-is_outside table objects u = not (is_held_within table objects u.contract u.entry (Some u.handle.object))
+abbrev pub is_outside_use : ClassTable → List Object → HandleUse → Bool
+is_outside_use table objects u = not (is_held_within table objects u.contract u.entry (Some u.handle.object))
 
 -- the first such use: of the receiver, or else of an argument
-abbrev pub outside_use : ClassTable → Content → Entry → Option HandleUse
-outside_use table content e = find (is_outside table content.objects) (handle_uses content e)
+abbrev pub first_outside_use : ClassTable → Content → Entry → Option HandleUse
+first_outside_use table content e = find (is_outside_use table content.objects) (handle_uses content e)
 
 -- why a request aborts where a use finds its object so: by the state in which that is
 abbrev pub outside_cause : List Object → HandleUse → AbortCause
@@ -61,7 +61,7 @@ run_on_receiver meaning e (Some u) args w = meaning.call e.contract e.tx u.handl
 -- the run of a `new` or a `call` with so many units
 abbrev pub run_entry : Meaning → Content → ℕ → Entry → RunOutcome (Option Value)
 run_entry meaning content fuel e =
-    run_on_receiver meaning e e.receiver (values content e) (entry_world content fuel e)
+    run_on_receiver meaning e e.receiver (values_of content e) (entry_world content fuel e)
 
 -- What handles become.
 
@@ -69,8 +69,8 @@ run_entry meaning content fuel e =
 abbrev pub handle_in : HandleName → ℕ → Mode → NamedHandle
 handle_in name n mode = (name, record { object = n; mode = mode })
 
--- what the handle of a use becomes: an Owned one that is used as the owner has the mode of the exit, one that is used as
--- Shared is Shared, and any other stays as it is
+-- what the handle of a use becomes: an Owned one that is used as the owner has the mode of the exit; one that is used
+-- as Shared is Shared; any other stays as it is
 abbrev pub put_after_use : HandleUse → List NamedHandle
 put_after_use u =
     if is_owned u.handle.mode && is_owned u.entry.mode then handle_in u.name u.handle.object u.exit.mode ∷ []
@@ -84,7 +84,7 @@ put_given name given result = []
 
 -- the same, if the request has a name for it
 abbrev pub put_into : Entry → Option Value → List NamedHandle
-put_into e result = option_map_or (λ into. put_given (named e.who into) e.given result) e.into []
+put_into e result = option_map_or (λ into. put_given (handle_name e.who into) e.given result) e.into []
 
 -- what handles become where a `new` or a `call` is done, one after another
 abbrev pub puts_after : Content → Entry → Option Value → List NamedHandle

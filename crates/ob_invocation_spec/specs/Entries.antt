@@ -1,5 +1,5 @@
--- What a `new` or a `call` enters: a constructor or a transaction, with the handles that are used there and the values of
--- the arguments (this project's own).
+-- What a `new` or a `call` enters: a constructor or a transaction, with the handles that are used there and the values
+-- of the arguments (this project's own).
 use Rattle.std.specs.Prelude.{ℕ, not, List, ◌++◌, zip, filter_map, Option, Some, None, option_map, option_to_list}
 use Rattle.ob_base.specs.Optional.{◌>>=◌, where_true}
 use Rattle.ob_base.specs.declared.id.ContractId.{ContractId}
@@ -16,7 +16,7 @@ use Rattle.ob_heap_spec.specs.Values.{Value, int_value, bool_value, text_value, 
 use Rattle.ob_heap_spec.specs.Contents.{HandleName, Handle, Content, object_at}
 use Rattle.ob_heap_spec.specs.Dispatch.{transaction_named}
 use Rattle.ob_invocation_spec.specs.Requests.{Argument, int_argument, bool_argument, text_argument, handle_argument, other_argument, NewRequest, CallRequest}
-use Rattle.ob_invocation_spec.specs.Handles.{named, handle_at}
+use Rattle.ob_invocation_spec.specs.Handles.{handle_name, handle_at}
 
 -- The use of a handle for a receiver or an argument: its name, the handle, the contract that is declared, and the
 -- permissions at the entry and at the exit.
@@ -27,9 +27,9 @@ pub record HandleUse : Type 0 where
   pub entry : Perm
   pub exit : Perm
 
--- What is entered: for which client, the contract, the constructor or transaction by its number and without its body, the
--- use of the receiver's handle, which a `new` hasn't, the mode of the reference that is given if one is, the arguments,
--- and the name of the handle on what is given.
+-- What is entered: for which client; the contract; the constructor or transaction, by its number and without its body;
+-- the use of the receiver's handle, which a `new` hasn't; the mode of the reference that it gives, if it gives one; the
+-- arguments; the name of the handle on what it gives.
 pub record Entry : Type 0 where
   pub who : List ℕ
   pub contract : ContractId
@@ -69,7 +69,7 @@ used_as_receiver name h contract s =
 -- what a `call` enters: the transaction of its name of the contract of the object of `on`, unless that is private
 abbrev pub entry_of_call : ClassTable → Content → List ℕ → CallRequest → Option Entry
 entry_of_call table content who r =
-    handle_at content (named who r.on) >>= λ h.
+    handle_at content (handle_name who r.on) >>= λ h.
     object_at content.objects h.object >>= λ o.
     contract_at table o.contract >>= λ own.
     transaction_named own r.tx >>= λ tx.
@@ -79,7 +79,7 @@ entry_of_call table content who r =
       contract = o.contract;
       tx = tx;
       signature = s;
-      receiver = Some (used_as_receiver (named who r.on) h o.contract s);
+      receiver = Some (used_as_receiver (handle_name who r.on) h o.contract s);
       given = mode_of_result s.result;
       args = r.args;
       into = r.into;
@@ -90,12 +90,13 @@ abbrev pub value_of : Content → List ℕ → Argument → Option Value
 value_of content who (int_argument z) = Some (int_value z)
 value_of content who (bool_argument b) = Some (bool_value b)
 value_of content who (text_argument bytes) = Some (text_value bytes)
-value_of content who (handle_argument name) = option_map (λ h. reference h.object) (handle_at content (named who name))
+value_of content who (handle_argument name) =
+    option_map (λ h. reference h.object) (handle_at content (handle_name who name))
 value_of content who other_argument = None
 
 -- the values of the arguments
-abbrev pub values : Content → Entry → List Value
-values content e = filter_map (value_of content e.who) e.args
+abbrev pub values_of : Content → Entry → List Value
+values_of content e = filter_map (value_of content e.who) e.args
 
 -- the use of a handle for a parameter of this type
 abbrev pub used_for : ResolvedType → Perm → HandleName → Handle → Option HandleUse
@@ -106,12 +107,13 @@ used_for kind exit name h = None
 -- the use of the handle that an argument names, if it names one
 abbrev pub use_of_argument : Content → List ℕ → Param → Argument → Option HandleUse
 use_of_argument content who p (handle_argument name) =
-    handle_at content (named who name) >>= used_for p.of p.exit (named who name)
+    handle_at content (handle_name who name) >>= used_for p.of p.exit (handle_name who name)
 use_of_argument content who p arg = None
 
 -- the uses of handles for arguments
 abbrev pub argument_uses : Content → Entry → List HandleUse
-argument_uses content e = filter_map (λ pair. use_of_argument content e.who pair.0 pair.1) (zip e.signature.params e.args)
+argument_uses content e =
+    filter_map (λ pair. use_of_argument content e.who pair.0 pair.1) (zip e.signature.params e.args)
 
 -- the uses of handles: for the receiver, and then for the arguments in their order
 abbrev pub handle_uses : Content → Entry → List HandleUse

@@ -1,5 +1,5 @@
--- The handles of a store: how one is found, put and removed, and where its mode serves (Coblenz et al., TOPLAS 42(3), 2020,
--- "Permissions", for modes; the rest is this project's own).
+-- The handles of a store: how one is found, put and removed, and where its mode serves (Coblenz et al., TOPLAS 42(3),
+-- 2020, "Permissions", for modes; the rest is this project's own).
 use Rattle.std.specs.Prelude.{ℕ, Bool, true, false, not, ◌&&◌, nat_le, List, [], ◌∷◌, length, filter, find, fold, Option, option_map, option_to_list, bytes_eq, if◌then◌else◌}
 use Rattle.std.specs.Ordering.{is_lt}
 use Rattle.ob_base.specs.Limits.{most_handles}
@@ -15,8 +15,8 @@ abbrev pub NamedHandle : Type 0
 NamedHandle = HandleName × Handle
 
 -- the name of a client's handle
-abbrev pub named : List ℕ → List ℕ → HandleName
-named who name = record { who = who; name = name }
+abbrev pub handle_name : List ℕ → List ℕ → HandleName
+handle_name who name = record { who = who; name = name }
 
 -- whether two names of handles are the same
 abbrev pub same_name : HandleName → HandleName → Bool

@@ -11,11 +11,11 @@ use Rattle.ob_rest_spec.specs.Modes.{is_owned}
 use Rattle.ob_rest_spec.specs.Incoming.{IncomingReference, owner_of}
 use Rattle.ob_invocation_spec.specs.Requests.{Operation, new_request, call_request, disown_request, give_request, see_request, owner_request, NewRequest, CallRequest, GiveRequest, Request}
 use Rattle.ob_invocation_spec.specs.Replies.{Reply, ok_nothing, ok_shown, ok_place, aborted, Invocation, invoked, goes_wrong}
-use Rattle.ob_invocation_spec.specs.Handles.{NamedHandle, named, handle_at, put_handles, without_handle, mark_puts}
+use Rattle.ob_invocation_spec.specs.Handles.{NamedHandle, handle_name, handle_at, put_handles, without_handle, mark_puts}
 use Rattle.ob_invocation_spec.specs.Entries.{HandleUse, Entry, entry_of_new, entry_of_call}
 use Rattle.ob_invocation_spec.specs.Checks.{left_as_it_was, unless_refused, with_found}
 use Rattle.ob_invocation_spec.specs.Refusals.{handle_check, new_checks, call_checks, give_checks}
-use Rattle.ob_invocation_spec.specs.Entering.{Meaning, outside_use, outside_cause, run_entry, handle_in, puts_after}
+use Rattle.ob_invocation_spec.specs.Entering.{Meaning, first_outside_use, outside_cause, run_entry, handle_in, puts_after}
 use Rattle.ob_invocation_spec.specs.Showing.{told_state, shown_at, shown_place, place_item, reply_of_result}
 
 -- a request was done: the store holds the objects of a world and these handles, and what the world has taken and read
@@ -50,18 +50,19 @@ ended table content e reads (aborts cause s) = invoked (record {
 })
 ended table content e reads wrong = goes_wrong
 
--- a `new` or a `call` after its entry test: it aborts where a use finds its object outside the declared states, and else
--- runs
-abbrev pub entered : Meaning → ClassTable → Content → ℕ → Entry → List ReadItem → Option HandleUse → Invocation
-entered meaning table content fuel e reads None = ended table content e reads (run_entry meaning content fuel e)
-entered meaning table content fuel e reads (Some u) =
+-- a `new` or a `call` after its entry test: it aborts where a use finds its object outside the declared states, and
+-- else it runs
+abbrev pub after_entry_test : Meaning → ClassTable → Content → ℕ → Entry → List ReadItem → Option HandleUse → Invocation
+after_entry_test meaning table content fuel e reads None =
+    ended table content e reads (run_entry meaning content fuel e)
+after_entry_test meaning table content fuel e reads (Some u) =
     let cause = outside_cause content.objects u in
     left_as_it_was content (aborted cause (told_state table content.objects cause)) reads
 
 -- a `new` or a `call` that isn't refused
 abbrev pub enter_entry : Meaning → ClassTable → Content → ℕ → List ReadItem → Entry → Invocation
 enter_entry meaning table content fuel reads e =
-    entered meaning table content fuel e reads (outside_use table content e)
+    after_entry_test meaning table content fuel e reads (first_outside_use table content e)
 
 -- a `new`
 abbrev pub invoke_new : Meaning → ClassTable → Content → ℕ → List ℕ → NewRequest → Invocation
@@ -90,8 +91,8 @@ invoke_disown content name =
     (λ h reads. done ok_nothing (without_handle content.handles name)
     (if is_owned h.mode then mark_disowned h.object (still_world content) else still_world content) reads)
 
--- what the giver's handle becomes: where an owner is given it has no say, where one that shares it is Shared, and else it
--- stays as it is
+-- what the giver's handle becomes: Unowned where an Owned one is given, Shared where a Shared one is; else it stays as
+-- it is
 abbrev pub giver_after : HandleName → ℕ → Mode → List NamedHandle
 giver_after name n Owned = handle_in name n Unowned ∷ []
 giver_after name n Shared = handle_in name n Shared ∷ []
@@ -100,13 +101,13 @@ giver_after name n Unowned = []
 -- what handles become by a `give` from a handle
 abbrev pub puts_of_give : List ℕ → GiveRequest → Handle → List NamedHandle
 puts_of_give who r h =
-    giver_after (named who r.on) h.object r.mode ++ handle_in (named r.to r.into) h.object r.mode ∷ []
+    giver_after (handle_name who r.on) h.object r.mode ++ handle_in (handle_name r.to r.into) h.object r.mode ∷ []
 
 -- a `give`
 abbrev pub invoke_give : Content → List ℕ → GiveRequest → Invocation
 invoke_give content who r =
     unless_refused content (give_checks content who r)
-    (λ reads. with_found (handle_at content (named who r.on))
+    (λ reads. with_found (handle_at content (handle_name who r.on))
     (λ h. done_with ok_nothing content (puts_of_give who r h) (still_world content) reads))
 
 -- a `see`: the object is shown
@@ -132,10 +133,10 @@ invoke_owner table content name =
 abbrev pub invoke_operation : Meaning → ClassTable → Content → ℕ → List ℕ → Operation → Invocation
 invoke_operation meaning table content fuel who (new_request r) = invoke_new meaning table content fuel who r
 invoke_operation meaning table content fuel who (call_request r) = invoke_call meaning table content fuel who r
-invoke_operation meaning table content fuel who (disown_request on) = invoke_disown content (named who on)
+invoke_operation meaning table content fuel who (disown_request on) = invoke_disown content (handle_name who on)
 invoke_operation meaning table content fuel who (give_request r) = invoke_give content who r
-invoke_operation meaning table content fuel who (see_request on) = invoke_see table content (named who on)
-invoke_operation meaning table content fuel who (owner_request on) = invoke_owner table content (named who on)
+invoke_operation meaning table content fuel who (see_request on) = invoke_see table content (handle_name who on)
+invoke_operation meaning table content fuel who (owner_request on) = invoke_owner table content (handle_name who on)
 
 -- the invocation: what a request with so many units does to what a store holds
 abbrev pub invoke : Meaning → ClassTable → Content → Request → ℕ → Invocation

@@ -19,7 +19,7 @@ use Rattle.ob_heap_spec.specs.Worlds.{handle_item, handles_full_item}
 use Rattle.ob_rest_spec.specs.Modes.{is_owned, is_shared, is_unowned}
 use Rattle.ob_invocation_spec.specs.Requests.{Argument, handle_argument, NewRequest, CallRequest, GiveRequest}
 use Rattle.ob_invocation_spec.specs.Replies.{no_handle, no_contract, not_main, no_transaction, arg_count, arg_kind, permission, repeated, into_missing, into_needless, into_taken, handles_full}
-use Rattle.ob_invocation_spec.specs.Handles.{named, handle_at, handle_reads, are_handles_full, serves}
+use Rattle.ob_invocation_spec.specs.Handles.{handle_name, handle_at, handle_reads, are_handles_full, serves}
 use Rattle.ob_invocation_spec.specs.Entries.{HandleUse, Entry, entry_of_new, entry_of_call, value_of, argument_uses, handle_uses}
 use Rattle.ob_invocation_spec.specs.Checks.{Check, check}
 
@@ -36,7 +36,7 @@ handle_check content name =
 
 -- the name of the handle that an argument is, if it is one
 abbrev pub handle_named : List ℕ → Argument → Option HandleName
-handle_named who (handle_argument name) = Some (named who name)
+handle_named who (handle_argument name) = Some (handle_name who name)
 handle_named who arg = None
 
 -- each handle that the arguments name has to be there
@@ -68,14 +68,15 @@ has_other_count e = not (length e.args == length e.signature.params)
 
 -- ArgKind.
 
--- a value is of a parameter's type: an `int`, a `bool`, a text of at most 1,024 bytes, or a reference to an object whose
--- contract is the declared one or implements it
+-- a value is of a parameter's type: an `int`, a `bool`, a text of at most 1,024 bytes, or a reference to an object
+-- whose contract is the declared one or implements it
 abbrev pub is_of_type : ClassTable → List Object → ResolvedType → Value → Bool
 is_of_type table objects Int (int_value z) = is_int z
 is_of_type table objects BoolKind (bool_value b) = true
 is_of_type table objects Text (text_value bytes) = is_text bytes
 is_of_type table objects (Reference declared p) (reference n) =
-    option_map_or (λ o. serves_as table (kind.Reference declared) (kind.Reference o.contract)) (object_at objects n) false
+    option_map_or (λ o. serves_as table (kind.Reference declared) (kind.Reference o.contract))
+    (object_at objects n) false
 is_of_type table objects of value = false
 
 -- an argument is of a parameter's type
@@ -144,7 +145,7 @@ making_checks content name =
 
 -- the same of the handle on what is given, where there is one
 abbrev pub into_checks : Content → Entry → List Check
-into_checks content e = flat_map (λ into. making_checks content (named e.who into)) (option_to_list e.into)
+into_checks content e = flat_map (λ into. making_checks content (handle_name e.who into)) (option_to_list e.into)
 
 -- The checks of each request.
 
@@ -174,7 +175,7 @@ new_checks table content who r =
 -- what is asked of a `call`
 abbrev pub call_checks : ClassTable → Content → List ℕ → CallRequest → List Check
 call_checks table content who r =
-    handle_check content (named who r.on)
+    handle_check content (handle_name who r.on)
     ∷ argument_checks content who r.args
     ++ check no_transaction (is_no_transaction (entry_of_call table content who r))
     ∷ found_checks table content (entry_of_call table content who r)
@@ -186,6 +187,6 @@ gives_too_much content name mode = option_map_or (λ h. not (serves h.mode mode)
 -- what is asked of a `give`
 abbrev pub give_checks : Content → List ℕ → GiveRequest → List Check
 give_checks content who r =
-    handle_check content (named who r.on)
-    ∷ check permission (gives_too_much content (named who r.on) r.mode)
-    ∷ making_checks content (named r.to r.into)
+    handle_check content (handle_name who r.on)
+    ∷ check permission (gives_too_much content (handle_name who r.on) r.mode)
+    ∷ making_checks content (handle_name r.to r.into)

@@ -49,9 +49,9 @@ pub data ShownPlace : Type 0 where
   shown_field : ℕ → List ℕ → ShownPlace
   shown_handle : HandleName → ShownPlace
 
--- What a request is answered. It was done: there is nothing to tell; it gave a value; it gave the object of a number; an
--- object is shown; a place is shown. Or it was refused; or it was aborted, with the cause and the name of the state that
--- the cause tells, if it tells one.
+-- What a request is answered. It was done, and there is nothing to tell, or it gave a value, or the object of a number,
+-- or an object is shown, or a place. Or it was refused. Or it was aborted, by a cause; where that tells a state, the
+-- name of the state stands beside it.
 pub data Reply : Type 0 where
   ok_nothing : Reply
   ok_value : Value → Reply
@@ -67,7 +67,8 @@ is_ok (refused refusal) = false
 is_ok (aborted cause state) = false
 is_ok reply = true
 
--- what a request has come to: its reply, what the store holds after it, the units that it has taken, and what it has read
+-- what a request has come to: its reply, what the store holds after it, the units that it has taken, and what it has
+-- read
 pub record Invoked : Type 0 where
   pub reply : Reply
   pub content : Content

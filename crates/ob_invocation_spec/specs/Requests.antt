@@ -2,8 +2,8 @@
 use Rattle.std.specs.Prelude.{ℕ, ℤ, Bool, List, Option}
 use Rattle.ob_base.specs.declared.permission.Mode.{Mode}
 
--- an argument: a whole number, a truth value, a text by its bytes, the name of a handle of the client, or something else,
--- which is of no kind
+-- an argument: a whole number, a truth value, a text by its bytes, the name of a handle of the client, or something
+-- else, which is of no kind
 pub data Argument : Type 0 where
   int_argument : ℤ → Argument
   bool_argument : Bool → Argument
@@ -17,8 +17,8 @@ pub record NewRequest : Type 0 where
   pub args : List Argument
   pub into : Option (List ℕ)
 
--- a `call`: the transaction of this name runs on the object of the handle `on`; `into` is the name of the handle on what
--- it gives
+-- a `call`: the transaction of this name runs on the object of the handle `on`; `into` is the name of the handle on
+-- what it gives
 pub record CallRequest : Type 0 where
   pub on : List ℕ
   pub tx : List ℕ

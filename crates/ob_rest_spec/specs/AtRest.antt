@@ -18,8 +18,8 @@ abbrev pub fails : ClassTable → Content → ℕ → Bool
 fails table content n = nat_lt 0 (length (failing_ways table content n))
 
 -- the first object that fails, if there is one
-abbrev pub first_failing : ClassTable → Content → Option ℕ
-first_failing table content = find (fails table content) (range_with_len 0 (length content.objects))
+abbrev pub first_failing_object : ClassTable → Content → Option ℕ
+first_failing_object table content = find (fails table content) (range_with_len 0 (length content.objects))
 
 -- A store between two requests: what it holds is of the class table and at rest, with no more objects and handles than
 -- there may be.

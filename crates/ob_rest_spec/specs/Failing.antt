@@ -25,8 +25,8 @@ abbrev pub is_asset : ClassTable → Object → Bool
 is_asset table o = option_map_or (λ c. c.asset) (contract_at table o.contract) false
 
 -- whether an object has no owning place
-abbrev pub is_loose : ClassTable → Content → ℕ → Bool
-is_loose table content n = owners table content n == 0
+abbrev pub has_no_owner : ClassTable → Content → ℕ → Bool
+has_no_owner table content n = owners table content n == 0
 
 -- 1. It has more than one owning place.
 abbrev pub has_many_owners : ObjectTest
@@ -34,11 +34,11 @@ has_many_owners table content n o = nat_lt 1 (owners table content n)
 
 -- 2. It has an owning place, and is marked.
 abbrev pub is_owned_and_marked : ObjectTest
-is_owned_and_marked table content n o = not (is_loose table content n) && is_marked o
+is_owned_and_marked table content n o = not (has_no_owner table content n) && is_marked o
 
 -- 3. It is an asset without a mark, and has no owning place.
 abbrev pub is_lost_asset : ObjectTest
-is_lost_asset table content n o = is_asset table o && not (is_marked o) && is_loose table content n
+is_lost_asset table content n o = is_asset table o && not (is_marked o) && has_no_owner table content n
 
 -- 4. A Shared handle or a field declared Shared refers to it, and it isn't marked as shared.
 abbrev pub is_shared_unmarked : ObjectTest
@@ -46,17 +46,18 @@ is_shared_unmarked table content n o =
     not o.shared && list_any (λ r. is_shared r.mode) (incoming_references table content n)
 
 -- whether an object isn't in the states that a field which owns it is declared with
-abbrev pub is_outside : ClassTable → Object → FieldReference → Bool
-is_outside table o r = is_owned r.perm.mode && not (is_in_states table r.contract r.perm o)
+abbrev pub is_outside_declaration : ClassTable → Object → FieldReference → Bool
+is_outside_declaration table o r = is_owned r.perm.mode && not (is_in_states table r.contract r.perm o)
 
 -- 5. A field that owns it refers to it, and it is in none of the states that the field declares.
 abbrev pub is_outside_states : ObjectTest
-is_outside_states table content n o = list_any (is_outside table o) (fields_onto table content.objects n)
+is_outside_states table content n o = list_any (is_outside_declaration table o) (fields_onto table content.objects n)
 
 -- whether a reference is to an object of the declared contract, or of one that implements it
 abbrev pub refers_as_declared : ClassTable → List Object → FieldReference → Bool
 refers_as_declared table objects r =
-    option_map_or (λ o. serves_as table (Reference r.contract) (Reference o.contract)) (object_at objects r.object) false
+    option_map_or (λ o. serves_as table (Reference r.contract) (Reference o.contract))
+    (object_at objects r.object) false
 
 -- 6. A field of its own refers to an object whose contract neither is the declared one nor implements it.
 abbrev pub holds_other_contract : ObjectTest

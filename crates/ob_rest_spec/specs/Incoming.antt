@@ -37,7 +37,8 @@ handles_onto handles n = filter (λ h. nat_eq h.1.object n) handles
 -- the incoming references of the object of a number: available fields by object and field, then handles by their names
 abbrev pub incoming_references : ClassTable → Content → ℕ → List IncomingReference
 incoming_references table content n =
-    map incoming_by_field (fields_onto table content.objects n) ++ map incoming_by_handle (handles_onto content.handles n)
+    map incoming_by_field (fields_onto table content.objects n)
+    ++ map incoming_by_handle (handles_onto content.handles n)
 
 -- its owning places: the fields that are declared as its owner, and the Owned handles on it
 abbrev pub owning_places : ClassTable → Content → ℕ → List IncomingReference
