@@ -84,12 +84,19 @@ with_handle content name go =
     unless_refused content (handle_check content name ∷ [])
     (λ reads. with_found (handle_at content name) (λ h. go h reads))
 
--- a `disown`: the handle goes, and where it was Owned its object is marked as disowned
+-- the world of a `disown` of a handle: where it was Owned its object is marked as disowned
+abbrev pub disowned_world : Content → Handle → World
+disowned_world content h =
+    if is_owned h.mode then mark_disowned h.object (still_world content) else still_world content
+
+-- a `disown` of a handle: the handle goes
+abbrev pub disown_handle : Content → HandleName → Handle → List ReadItem → Invocation
+disown_handle content name h reads =
+    done ok_nothing (without_handle content.handles name) (disowned_world content h) reads
+
+-- a `disown`
 abbrev pub invoke_disown : Content → HandleName → Invocation
-invoke_disown content name =
-    with_handle content name
-    (λ h reads. done ok_nothing (without_handle content.handles name)
-    (if is_owned h.mode then mark_disowned h.object (still_world content) else still_world content) reads)
+invoke_disown content name = with_handle content name (disown_handle content name)
 
 -- what the giver's handle becomes: Unowned where an Owned one is given, Shared where a Shared one is; else it stays as
 -- it is
@@ -103,19 +110,24 @@ abbrev pub puts_of_give : List ℕ → GiveRequest → Handle → List NamedHand
 puts_of_give who r h =
     giver_after (handle_name who r.on) h.object r.mode ++ handle_in (handle_name r.to r.into) h.object r.mode ∷ []
 
+-- a `give` from a handle
+abbrev pub give_from : Content → List ℕ → GiveRequest → List ReadItem → Handle → Invocation
+give_from content who r reads h = done_with ok_nothing content (puts_of_give who r h) (still_world content) reads
+
 -- a `give`
 abbrev pub invoke_give : Content → List ℕ → GiveRequest → Invocation
 invoke_give content who r =
     unless_refused content (give_checks content who r)
-    (λ reads. with_found (handle_at content (handle_name who r.on))
-    (λ h. done_with ok_nothing content (puts_of_give who r h) (still_world content) reads))
+    (λ reads. with_found (handle_at content (handle_name who r.on)) (give_from content who r reads))
 
--- a `see`: the object is shown
+-- the object of a handle is shown
+abbrev pub show_object : ClassTable → Content → Handle → List ReadItem → Invocation
+show_object table content h reads =
+    with_found (shown_at table content.objects h.object) (λ shown. left_as_it_was content (ok_shown shown) reads)
+
+-- a `see`
 abbrev pub invoke_see : ClassTable → Content → HandleName → Invocation
-invoke_see table content name =
-    with_handle content name
-    (λ h reads. with_found (shown_at table content.objects h.object)
-    (λ shown. left_as_it_was content (ok_shown shown) reads))
+invoke_see table content name = with_handle content name (show_object table content)
 
 -- the owning place that was found is shown, and read
 abbrev pub show_owner : ClassTable → Content → List ReadItem → Option IncomingReference → Invocation
@@ -124,10 +136,13 @@ show_owner table content reads (Some r) =
     with_found (shown_place table content.objects r.place)
     (λ place. left_as_it_was content (ok_place place) (place_item r.place ∷ reads))
 
--- an `owner`: the owner of the object is shown
+-- the owner of the object of a handle is shown
+abbrev pub show_owner_of : ClassTable → Content → Handle → List ReadItem → Invocation
+show_owner_of table content h reads = show_owner table content reads (owner_of table content h.object)
+
+-- an `owner`
 abbrev pub invoke_owner : ClassTable → Content → HandleName → Invocation
-invoke_owner table content name =
-    with_handle content name (λ h reads. show_owner table content reads (owner_of table content h.object))
+invoke_owner table content name = with_handle content name (show_owner_of table content)
 
 -- what is asked, by its kind
 abbrev pub invoke_operation : Meaning → ClassTable → Content → ℕ → List ℕ → Operation → Invocation
