@@ -1,3 +1,4 @@
 pub mod Following
 pub mod Leaving
 pub mod Taking
+pub mod Handles
