@@ -48,7 +48,8 @@ none_in P k d inside = absurd (omega arith)
 head_of : (P : NamedHandle → Type 0) (h : NamedHandle) (handles : List NamedHandle) → All P (h ∷ handles) → P h
 head_of P h handles all = all 0 h (omega arith)
 
-tail_of : (P : NamedHandle → Type 0) (h : NamedHandle) (handles : List NamedHandle) → All P (h ∷ handles) → All P handles
+tail_of : (P : NamedHandle → Type 0) (h : NamedHandle) (handles : List NamedHandle) → All P (h ∷ handles)
+    → All P handles
 tail_of P h handles all k d inside = all (suc k) d (omega arith)
 
 -- the first is before all others
@@ -64,7 +65,8 @@ below h (g ∷ handles) is =
     let p = parts (is_lt (name_order h.0 g.0)) (below_all name_order h.0 handles) is in
     All-cons (Before h) g handles (less (name_order h.0 g.0) p.0) (below h handles p.1)
 
-below_back : (h : NamedHandle) (handles : List NamedHandle) → All (Before h) handles → T (below_all name_order h.0 handles)
+below_back : (h : NamedHandle) (handles : List NamedHandle) → All (Before h) handles
+    → T (below_all name_order h.0 handles)
 below_back h [] all = tt
 below_back h (g ∷ handles) all =
     both (is_lt (name_order h.0 g.0)) (below_all name_order h.0 handles)

@@ -1,5 +1,5 @@
-//! Laws of the invocation: what a request that isn't done leaves, which requests take units, and that handles stand in the
-//! order of their names and are found by them.
+//! Laws of the invocation: what a request that isn't done leaves, which requests take units, and that handles stand in
+//! the order of their names and are found by them.
 #![tactic(auto)]
 
 mod laws;

@@ -30,7 +30,8 @@ counting : {X Y : Type 0} (q : X → Bool) (f : X → Y) (p : Y → Bool) (xs : 
 counting q f p [] = refl
 counting q f p (x ∷ xs) =
     rw (mapping_one f x (filter q xs) (q x))
-    (counting_one f p x (map f (filter q xs)) (filter (λ y. q y && p (f y)) xs) (counting q f p xs) (q x) (p (f x)) refl)
+    (counting_one f p x (map f (filter q xs)) (filter (λ y. q y && p (f y)) xs) (counting q f p xs)
+    (q x) (p (f x)) refl)
 
 pub owners_add_up : (table : ClassTable) (content : Content) (n : ℕ)
     → owners table content n ≡ field_owners table content.objects n + handle_owners content.handles n
