@@ -21,7 +21,7 @@ names_total = then_total (on_texts (λ (a : HandleName). a.who)) (on_texts (λ (
 -- Order.
 
 -- the name of the first comes before that of the second
-abbrev Before : NamedHandle → NamedHandle → Type 0
+abbrev pub Before : NamedHandle → NamedHandle → Type 0
 Before a b = name_order a.0 b.0 ≡ Less
 
 parts : (a b : Bool) → T (a && b) → (a ≡ true) × T b
@@ -45,18 +45,18 @@ less_back Greater e = absurd cc
 none_in : (P : NamedHandle → Type 0) → All P []
 none_in P k d inside = absurd (omega arith)
 
-head_of : (P : NamedHandle → Type 0) (h : NamedHandle) (handles : List NamedHandle) → All P (h ∷ handles) → P h
+pub head_of : (P : NamedHandle → Type 0) (h : NamedHandle) (handles : List NamedHandle) → All P (h ∷ handles) → P h
 head_of P h handles all = all 0 h (omega arith)
 
-tail_of : (P : NamedHandle → Type 0) (h : NamedHandle) (handles : List NamedHandle) → All P (h ∷ handles)
+pub tail_of : (P : NamedHandle → Type 0) (h : NamedHandle) (handles : List NamedHandle) → All P (h ∷ handles)
     → All P handles
 tail_of P h handles all k d inside = all (suc k) d (omega arith)
 
 -- the first is before all others
-head_before : (h : NamedHandle) (handles : List NamedHandle) → AllPairs Before (h ∷ handles) → All (Before h) handles
+pub head_before : (h : NamedHandle) (handles : List NamedHandle) → AllPairs Before (h ∷ handles) → All (Before h) handles
 head_before h handles pairs k d inside = pairs 0 (suc k) d (omega arith) (omega arith)
 
-tail_pairs : (h : NamedHandle) (handles : List NamedHandle) → AllPairs Before (h ∷ handles) → AllPairs Before handles
+pub tail_pairs : (h : NamedHandle) (handles : List NamedHandle) → AllPairs Before (h ∷ handles) → AllPairs Before handles
 tail_pairs h handles pairs i j d later inside = pairs (suc i) (suc j) d (omega arith) (omega arith)
 
 below : (h : NamedHandle) (handles : List NamedHandle) → T (below_all name_order h.0 handles) → All (Before h) handles

@@ -2,3 +2,4 @@ pub mod Following
 pub mod Leaving
 pub mod Taking
 pub mod Handles
+pub mod Owners
