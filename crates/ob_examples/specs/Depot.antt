@@ -1,8 +1,7 @@
 -- A depot that keeps parcels and has a clock, without its transactions, of which a store at rest says nothing (this
 -- project's own).
-use Rattle.std.specs.Prelude.{ℕ, Bool, true, false, List, [], ◌∷◌, fold, filter_map, Option, Some, None, option_map}
+use Rattle.std.specs.Prelude.{ℕ, Bool, true, false, List, [], ◌∷◌, length, ◌==◌, fold, filter_map, Option, Some, None, option_map}
 use Rattle.std.specs.List.{range_with_len}
-use Rattle.std.specs.Prelude.{length}
 use Rattle.ob_base.specs.declared.permission.Mode.{Mode}
 use Rattle.ob_table.specs.Tables.{ClassTable}
 use Rattle.ob_table.specs.declared.contract.Contract.{Contract}
@@ -112,14 +111,15 @@ store objects handles = record { objects = objects; handles = handles }
 
 -- Failures.
 
--- the ways in which an object fails, with its number, if it fails in any
-abbrev pub failure_at : Content → ℕ → Option (ℕ × List FailingWay)
-failure_at content n = with_number n (failing_ways depot content n)
-  where
-    with_number : ℕ → List FailingWay → Option (ℕ × List FailingWay)
-    with_number n [] = None
-    with_number n (way ∷ ways) = Some (n, way ∷ ways)
+-- a number with the ways, if there are any
+abbrev pub with_ways : ℕ → List FailingWay → Option (ℕ × List FailingWay)
+with_ways n [] = None
+with_ways n (way ∷ ways) = Some (n, way ∷ ways)
 
 -- the objects of a store that fail, each with the ways
 abbrev pub failures : Content → List (ℕ × List FailingWay)
-failures content = filter_map (failure_at content) (range_with_len 0 (length content.objects))
+failures content = filter_map (λ n. with_ways n (failing_ways depot content n)) (range_with_len 0 (length content.objects))
+
+-- whether no object of a store fails
+abbrev pub has_no_failure : Content → Bool
+has_no_failure content = length (failures content) == 0

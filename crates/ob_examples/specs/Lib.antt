@@ -16,3 +16,6 @@ pub mod ArithmeticTerms
 pub mod LampTerms
 pub mod Shop
 pub mod BuyBodies
+pub mod Depot
+pub mod StoresAtRest
+pub mod FailingStores
