@@ -1,3 +1,4 @@
 pub mod Sets
 pub mod Permissions
 pub mod Serves
+pub mod Tables
