@@ -6,3 +6,4 @@ pub mod Types
 pub mod Interfaces
 pub mod Conversions
 pub mod SeenStates
+pub mod Dispatch

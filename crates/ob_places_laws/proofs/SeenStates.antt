@@ -28,7 +28,7 @@ use Rattle.ob_places_laws.proofs.Sets.{low_state, all_states_own, all_states_non
 use Rattle.ob_places_laws.proofs.Serves.{allows_state_within, allows_state_without}
 use Rattle.ob_places_laws.proofs.Tables.{contract_is}
 use Rattle.ob_places_laws.proofs.Interfaces.{contract_number, is_naming, naming_length, seen_low, implemented_is, implemented_other, interface_is, implements_one}
-use Rattle.ob_places_laws.proofs.Conversions.{serves_for_reference, naming_in, converted_same, converted_up, converted_down}
+use Rattle.ob_places_laws.proofs.Conversions.{serves_for_reference, naming_in, converted_same, converted_owns, converted_up, converted_down}
 
 -- The state of an object.
 
@@ -154,7 +154,7 @@ module _ (table : ClassTable) (is : IsClassTable table) (own : Contract) (o : Ob
       → serves_as table (Reference d) (Reference o.contract) ≡ true → a (seen_state table c o) ≡ true
       → (b : States) × (converted table (Reference c) (Reference d) (owned a) ≡ owned b) × (b (seen_state table d o) ≡ true)
   converted_has_state c d a sc sd h = from_owner (converted table (Reference c) (Reference d) (owned a))
-      (Rattle.ob_places_laws.proofs.Conversions.converted_owns table (Reference c) (Reference d) (owned a))
+      (converted_owns table (Reference c) (Reference d) (owned a))
       (converted_allows_state c d (owned a) sc sd h)
     where
       from_owner : (q : Permission) → owns q ≡ true → AllowsState q (seen_state table d o) → (b : States) × (q ≡ owned b) × (b (seen_state table d o) ≡ true)
