@@ -1,22 +1,22 @@
 -- Which kinds serve, and permissions said for a place of another kind.
-use Rattle.std.proofs.Common.{◌≡◌, ◌≢◌, ℕ, ◌<◌, ◌≤◌, Bool, true, false, cond, not, ◌&&◌, ◌||◌, Option, Some, None, refl, sym, ap, subst, ◌∙◌, arith, ◌⊎◌, inl, inr, ⊎_elim, eqb-true, eq-eqb, true≢false, ap₂}
+use Rattle.std.proofs.Common.{◌≡◌, Bool, true, false, Option, Some, None, refl, sym, ap, subst, ◌∙◌, ◌⊎◌, inl, inr, ⊎_elim, eqb-true, eq-eqb, true≢false}
 use Rattle.std.specs.Prelude.{nat_eq, length, if◌then◌else◌}
 use Rattle.std.specs.Option.{option_map_or}
-use Rattle.std.proofs.lemmas.Bool.{cases_Bool, both_ways, or_cases, or_left, or_right, cond-true, cond-false, false_from_ne_true}
+use Rattle.std.proofs.lemmas.Bool.{both_ways, or_cases, or_left, or_right, cond-true, cond-false, false_from_ne_true}
 use Rattle.ob_base.specs.declared.id.ContractId.{ContractId}
-use Rattle.ob_perm.specs.States.{States, states_max, IsNumbered, all_states, intersection, image, preimage}
-use Rattle.ob_perm.specs.Permissions.{Permission, owned, shared, unowned, owns, is_shared, is_unowned, on_states}
-use Rattle.ob_perm.specs.Naming.{Names, IsNaming, seen, states_for_interface, states_for_contract, for_interface, for_contract}
+use Rattle.ob_perm.specs.States.{all_states, preimage}
+use Rattle.ob_perm.specs.Permissions.{Permission, owns, is_shared, is_unowned}
+use Rattle.ob_perm.specs.Naming.{IsNaming, seen, states_for_interface, states_for_contract, for_interface, for_contract}
 use Rattle.ob_table.specs.Tables.{ClassTable, contract_at}
 use Rattle.ob_table.specs.declared.contract.Contract.{Contract}
 use Rattle.ob_table.specs.declared.seen.Kind.{Kind}
 use Rattle.ob_table.specs.declared.seen.Kind.TheVariants.{Int, Bool as BoolKind, Text, Reference}
-use Rattle.ob_table_spec.specs.Conditions.{IsClassTable, IsContract, MeetsInterface, naming}
+use Rattle.ob_table_spec.specs.Conditions.{IsClassTable, naming}
 use Rattle.ob_table_spec.specs.WellFormed.{is_implemented, serves_as, is_reference}
-use Rattle.ob_silica_places.specs.Converting.{said_up, said_down, said_for, converted}
+use Rattle.ob_silica_places.specs.Converting.{said_up, said_down, converted}
 use Rattle.ob_flow_spec.specs.Contexts.{is_asset}
 use Rattle.ob_flow_spec.specs.Joining.{same_kind, same_mode}
-use Rattle.ob_places_laws.specs.Serving.{AreAmong, Allows, AllowsState}
+use Rattle.ob_places_laws.specs.Serving.{Allows}
 use Rattle.ob_places_laws.proofs.Sets.{image_among, preimage_among, intersection_among}
 use Rattle.ob_places_laws.proofs.Permissions.{on_states_mode, same_mode_itself, same_mode_owns, same_mode_shares, same_mode_no_say}
 use Rattle.ob_places_laws.proofs.Serves.{on_states_keeps}

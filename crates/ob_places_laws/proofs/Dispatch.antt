@@ -1,12 +1,12 @@
 -- What an object runs for a transaction that its contract or its interface declares.
-use Rattle.std.proofs.Common.{◌≡◌, ◌≢◌, ℕ, zero, suc, ◌+◌, ◌<◌, ◌≤◌, Bool, true, false, cond, List, [], ◌∷◌, map, length, drop, get_or, Option, Some, None, refl, sym, ap, ◌∙◌, subst, arith, eq-eqb, eqb-true, lt-ltb, true≢false, ◌⊎◌, inl, inr, ⊎_elim}
+use Rattle.std.proofs.Common.{◌≡◌, ◌≢◌, ℕ, zero, suc, ◌<◌, Bool, true, false, List, [], ◌∷◌, map, length, drop, get_or, Some, None, refl, sym, ap, ◌∙◌, subst, arith, eq-eqb, lt-ltb, true≢false, ◌⊎◌, inl, inr, ⊎_elim}
 use Rattle.std.proofs.lemmas.Option.{get_or_from_slice_get, slice_get-get_or, slice_get_within, same_Some}
 use Rattle.std.proofs.lemmas.List.{length-map}
 use Rattle.std.proofs.lemmas.List.Sums.{passes_at_first, fails_before_first}
 use Rattle.std.proofs.lemmas.Bool.{cond-true, cond-false, cases_order, cases_lt, both_ways, ne_eqb}
 use Rattle.std.proofs.lemmas.Slice.Eq.{bytes_eq-Decides}
 use Rattle.std.specs.Bool.{◌==◌}
-use Rattle.std.specs.Prelude.{option_map, option_and_then, slice_get, slice_index_or, nat_eq, nat_lt, position, bytes_eq, IsTrue, IsSomeAnd, IfSome, MatchBool, All, Contains, if◌then◌else◌}
+use Rattle.std.specs.Prelude.{option_map, slice_get, slice_index_or, nat_eq, nat_lt, position, bytes_eq, IsTrue, IsSomeAnd, All, Contains, if◌then◌else◌}
 use Rattle.std.specs.Option.{option_map_or}
 use Rattle.std.specs.List.{position_or_len}
 use Rattle.ob_base.specs.Names.{is_name}
@@ -15,9 +15,9 @@ use Rattle.ob_base.specs.declared.id.TxId.{TxId}
 use Rattle.ob_base.specs.declared.permission.Mode.{Mode}
 use Rattle.ob_base.specs.declared.permission.Mode.TheVariants.{Owned, Shared, Unowned}
 use Rattle.ob_base.specs.declared.permission.Perm.{Perm}
-use Rattle.ob_perm.specs.States.{States, all_states, preimage}
-use Rattle.ob_perm.specs.Permissions.{Permission, owned, shared, unowned, owns, is_shared, is_unowned, IsNumberedPermission}
-use Rattle.ob_perm.specs.Masks.{states_of, held, permission_of, perm_of}
+use Rattle.ob_perm.specs.States.{all_states, preimage}
+use Rattle.ob_perm.specs.Permissions.{Permission, owned, shared, unowned, owns, IsNumberedPermission}
+use Rattle.ob_perm.specs.Masks.{states_of, held, permission_of}
 use Rattle.ob_perm.specs.Naming.{Names, IsNaming, seen, for_contract}
 use Rattle.ob_perm.proofs.StandsLemmas.{permission_of-perm_of, intersection_numbered, all_states_numbered}
 use Rattle.ob_table.specs.Tables.{ClassTable, contract_at, signature_at, signature_of}
@@ -26,7 +26,7 @@ use Rattle.ob_table.specs.declared.contract.Param.{Param}
 use Rattle.ob_table.specs.declared.contract.ResolvedType.{ResolvedType}
 use Rattle.ob_table.specs.declared.contract.Signature.{Signature}
 use Rattle.ob_table.specs.declared.seen.Kind.TheVariants.{Reference}
-use Rattle.ob_table_spec.specs.Conditions.{IsClassTable, IsContract, IsTransaction, IsConstructor, transactions_in, MeetsInterface, AnswersInterface, IsSaidAs, MayLeave, asked_of, naming, AreDistinct}
+use Rattle.ob_table_spec.specs.Conditions.{IsClassTable, IsContract, IsTransaction, IsConstructor, transactions_in, AnswersInterface, IsSaidAs, asked_of, naming, AreDistinct}
 use Rattle.ob_table_spec.specs.WellFormed.{is_implemented, serves_as, is_constructor}
 use Rattle.ob_heap_spec.specs.Dispatch.{implements_it, transaction_named, answering}
 use Rattle.ob_heap_spec.specs.Objects.{Object, seen_state}
@@ -36,10 +36,9 @@ use Rattle.ob_silica_places.specs.Converting.{converted}
 use Rattle.ob_flow_spec.specs.Joining.{same_mode}
 use Rattle.ob_places_laws.specs.Serving.{AllowsState}
 use Rattle.ob_places_laws.specs.Answering.{Answers, HasAnswer}
-use Rattle.ob_places_laws.proofs.Permissions.{same_mode_owns, same_mode_shares, same_mode_no_say}
-use Rattle.ob_places_laws.proofs.Tables.{each_at, there_is, contract_is, has_constructor, transaction_is, called_is, no_constructor, signature_from, leaves_as_came}
-use Rattle.ob_places_laws.proofs.Interfaces.{contract_number, implemented_is, implemented_other, interface_is, implementing_plain, is_naming}
-use Rattle.ob_places_laws.proofs.Conversions.{serves_itself, serves_for_reference, naming_in, converted_same, converted_down, converted_mode, converted_owns}
+use Rattle.ob_places_laws.proofs.Tables.{each_at, contract_is, has_constructor, transaction_is, called_is, no_constructor, signature_from, leaves_as_came}
+use Rattle.ob_places_laws.proofs.Interfaces.{implemented_is, implemented_other, interface_is, implementing_plain}
+use Rattle.ob_places_laws.proofs.Conversions.{serves_itself, serves_for_reference, naming_in, converted_same, converted_down, converted_mode}
 use Rattle.ob_places_laws.proofs.SeenStates.{converted_allows_state, allowed_before}
 
 -- Lists.
@@ -78,10 +77,13 @@ first_low p xs j x e h = ⊎_elim
 first_found : {A : Type 0} (p : A → Bool) (xs : List A) (j : ℕ) (x : A) → slice_get xs j ≡ Some x → p x ≡ true
     → (n : ℕ) × (y : A) × (position p xs ≡ Some n) × (slice_get xs n ≡ Some y) × (p y ≡ true)
 first_found p xs j x e h =
-    let low = first_low p xs j x e h in
-    (position_or_len p xs, get_or xs (position_or_len p xs) x,
+    let low = first_low p xs j x e h in (
+      position_or_len p xs,
+      get_or xs (position_or_len p xs) x,
       cond-true (nat_lt (position_or_len p xs) (length xs)) (Some (position_or_len p xs)) None (lt-ltb _ _ low),
-      slice_get-get_or xs (position_or_len p xs) x low, passes_at_first p xs x low)
+      slice_get-get_or xs (position_or_len p xs) x low,
+      passes_at_first p xs x low,
+    )
 
 no_name : (name : List ℕ) → name ≡ [] → IsTrue (is_name name) → ⊥
 no_name name e t = true≢false (sym (sym (ap is_name e) ∙ t))
@@ -97,6 +99,39 @@ named_once table own (c ∷ ts) s g (suc n) k first all distinct es eg same = (o
 later : {A : Type 0} (ts : List A) (k : ℕ) (s : A) → slice_get (drop 1 ts) k ≡ Some s → slice_get ts (suc k) ≡ Some s
 later [] k s e = absurd (cc)
 later (t ∷ ts) k s e = e
+
+-- a transaction stands at the number that is found by its name, which isn't the constructor's
+record IsFound (ts : List Signature) (s : Signature) (name : List ℕ) : Type 0 where
+  pub number : ℕ
+  pub found : position (λ (x : Signature). bytes_eq name x.name) ts ≡ Some number
+  pub there : slice_get ts number ≡ Some s
+  pub other : number ≢ 0
+
+found_among : (table : ClassTable) (own : Contract) (ts : List Signature) (s : Signature) (name : List ℕ) (k : ℕ)
+    → IsSomeAnd (slice_get ts 0) (IsConstructor table own) → All (IsTransaction table own) (drop 1 ts)
+    → AreDistinct (map (λ s. s.name) (drop 1 ts)) → slice_get (drop 1 ts) k ≡ Some s → s.name ≡ name → IsFound ts s name
+found_among table own ts s name k first all distinct es named =
+    let passes = (bytes_eq-Decides name s.name).1 (sym named) in
+    let found = first_found (λ (x : Signature). bytes_eq name x.name) ts (suc k) s (later ts k s es) passes in
+    let same = named ∙ (bytes_eq-Decides name found.1.name).0 found.4 in
+    let one = named_once table own ts s found.1 found.0 k first all distinct es found.3 same in
+    record { number = found.0; found = found.2; there = found.3 ∙ ap Some one.0; other = one.1 }
+
+-- A contract's transaction is found by its name.
+found_by_name : (table : ClassTable) (own : Contract) → IsContract table own → own.interface ≡ false → (s : Signature)
+    → Contains (transactions_in own) s → (name : List ℕ) → s.name ≡ name → IsFound own.transactions s name
+found_by_name table own c plain s has name named =
+    found_among table own own.transactions s name has.0 (subst (λ o. IsSomeAnd o (IsConstructor table own)) (sym made.1) made.2)
+    (subst (All (IsTransaction table own)) in_own c.transactions)
+    (subst (λ ts. AreDistinct (map (λ s. s.name) ts)) in_own c.distinct_transactions)
+    (found_at (drop 1 own.transactions) has.0 s (subst (λ ts. has.0 < length ts) in_own has.1)
+    (ap (λ ts. slice_index_or ts has.0 s) (sym in_own) ∙ has.2)) named
+  where
+    in_own : transactions_in own ≡ drop 1 own.transactions
+    in_own = ap (λ b. if b then own.transactions else drop 1 own.transactions) plain
+
+    made : (s : Signature) × (slice_get own.transactions 0 ≡ Some s) × IsConstructor table own s
+    made = has_constructor table own c plain
 
 -- Permissions of `this`.
 
@@ -146,43 +181,46 @@ module _ (table : ClassTable) (is : IsClassTable table) where
       plain_number (inr other) = other
 
   -- an object of a contract that implements the interface
-  by_name : (d e : ContractId) (tx : TxId) (asked : Signature) (own : Contract) → contract_at table e ≡ Some own → signature_of table d tx ≡ Some asked
-      → is_implemented table e d ≡ true → HasAnswer table d e own tx asked
+  by_name : (d e : ContractId) (tx : TxId) (asked : Signature) (own : Contract) → contract_at table e ≡ Some own
+      → signature_of table d tx ≡ Some asked → is_implemented table e d ≡ true → HasAnswer table d e own tx asked
   by_name d e tx asked own ee easked i =
-      let c : IsContract table own = contract_is table is e own ee in
-      let names = implemented_is table e d i in
       let interface = interface_is table is e d own ee i in
-      let there : slice_get interface.0.transactions tx.0 ≡ Some asked = sym (signature_from table d tx interface.0 interface.1) ∙ easked in
-      let met = each_at (λ a. (x : Signature) × Contains (transactions_in own) x × AnswersInterface interface.0 own a x) interface.0.transactions tx.0 asked interface.3.transactions there in
-      let plain : own.interface ≡ false = implementing_plain table is e d own ee i in
-      let in_own : transactions_in own ≡ drop 1 own.transactions = ap (λ b. if b then own.transactions else drop 1 own.transactions) plain in
-      let at_own : slice_get (drop 1 own.transactions) met.1.0 ≡ Some met.0 = found_at (drop 1 own.transactions) met.1.0 met.0 (subst (λ ts. met.1.0 < length ts) in_own met.1.1) (ap (λ ts. slice_index_or ts met.1.0 met.0) (sym in_own) ∙ met.1.2) in
-      let made = has_constructor table own c plain in
-      let first = first_found (λ (x : Signature). bytes_eq asked.name x.name) own.transactions (suc met.1.0) met.0 (later own.transactions met.1.0 met.0 at_own) ((bytes_eq-Decides asked.name met.0.name).1 (sym met.2.name)) in
-      let one = named_once table own own.transactions met.0 first.1 first.0 met.1.0 (subst (λ o. IsSomeAnd o (IsConstructor table own)) (sym made.1) made.2) (subst (All (IsTransaction table own)) in_own c.transactions) (subst (λ ts. AreDistinct (map (λ s. s.name) ts)) in_own c.distinct_transactions) at_own first.3 (met.2.name ∙ (bytes_eq-Decides asked.name first.1.name).0 first.4) in
-      record {
-        number = record { 0 = first.0 };
-        signature = met.0;
-        found = named_so names.0 (same_Some names.0 own (sym names.1 ∙ ee)) names.2 first.0 first.2;
-        there = first.3 ∙ ap Some one.0;
-        no_constructor = one.1;
-        transaction = transaction_is table own c (record { 0 = first.0 }) met.0 (inr one.1) (first.3 ∙ ap Some one.0);
-        answers = answer_so interface.0 interface.1 met.0 met.2;
-      }
+      let there = sym (signature_from table d tx interface.0 interface.1) ∙ easked in
+      let met = each_at (Met interface.0) interface.0.transactions tx.0 asked interface.3.transactions there in
+      answered interface.0 interface.1 met.0 met.2
+      (found_by_name table own (contract_is table is e own ee) (implementing_plain table is e d own ee i) met.0 met.1 asked.name met.2.name)
     where
-      named_so : (x : Contract) → x ≡ own → x.implements ≡ Some d → (n : ℕ) → position (λ s. bytes_eq asked.name s.name) own.transactions ≡ Some n → answering d tx asked e own ≡ Some (record { 0 = n })
-      named_so x same names n en =
-          cond-false (d.0 == e.0) (Some tx) _ (ne_eqb d.0 e.0 (λ z. both_ways (nat_eq e.0 d.0) (implemented_other table is e d i) (eq-eqb e.0 d.0 (sym z))))
-          ∙ cond-true (implements_it d own) (transaction_named own asked.name) None (ap (λ o. option_map_or (λ (id : ContractId). d.0 == id.0) o false) (ap (λ (y : Contract). y.implements) (sym same) ∙ names) ∙ eq-eqb d.0 d.0 refl)
-          ∙ ap (option_map (λ n. record { 0 = n })) en
+      Met : Contract → Signature → Type 0
+      Met interface a = (x : Signature) × Contains (transactions_in own) x × AnswersInterface interface own a x
 
-      answer_so : (interface : Contract) → contract_at table d ≡ Some interface → (s : Signature) → AnswersInterface interface own asked s → Answers table d e asked s
-      answer_so interface ed s h = record {
-        params = h.params;
-        result = h.result;
-        entry = said_as_is table is d e interface own asked.entry s.entry ed ee i h.entry;
-        exit = said_as_is table is d e interface own asked.exit s.exit ed ee i h.exit;
-        public = λ z. h.public;
+      not_same : nat_eq d.0 e.0 ≡ false
+      not_same = ne_eqb d.0 e.0 (λ z. both_ways (nat_eq e.0 d.0) (implemented_other table is e d i) (eq-eqb e.0 d.0 (sym z)))
+
+      implements : implements_it d own ≡ true
+      implements =
+          let names = implemented_is table e d i in
+          let same : names.0 ≡ own = same_Some names.0 own (sym names.1 ∙ ee) in
+          ap (λ o. option_map_or (λ (id : ContractId). d.0 == id.0) o false) (ap (λ (y : Contract). y.implements) (sym same) ∙ names.2)
+          ∙ eq-eqb d.0 d.0 refl
+
+      answered : (interface : Contract) → contract_at table d ≡ Some interface → (s : Signature) → AnswersInterface interface own asked s
+          → IsFound own.transactions s asked.name → HasAnswer table d e own tx asked
+      answered interface ed s h f = record {
+        number = record { 0 = f.number };
+        signature = s;
+        found = cond-false (d.0 == e.0) (Some tx) _ not_same
+            ∙ cond-true (implements_it d own) (transaction_named own asked.name) None implements
+            ∙ ap (option_map (λ n. record { 0 = n })) f.found;
+        there = f.there;
+        no_constructor = f.other;
+        transaction = transaction_is table own (contract_is table is e own ee) (record { 0 = f.number }) s (inr f.other) f.there;
+        answers = record {
+          params = h.params;
+          result = h.result;
+          entry = said_as_is table is d e interface own asked.entry s.entry ed ee i h.entry;
+          exit = said_as_is table is d e interface own asked.exit s.exit ed ee i h.exit;
+          public = λ z. h.public;
+        };
       }
 
   -- An object has an answer to each transaction that its contract or its interface declares.

@@ -1,11 +1,11 @@
 -- A contract and the interface that it implements.
-use Rattle.std.proofs.Common.{◌≡◌, ◌≢◌, ℕ, zero, suc, ◌+◌, ◌<◌, ◌≤◌, Bool, true, false, cond, not, ◌&&◌, ◌||◌, List, [], ◌∷◌, length, map, get_or, Option, Some, None, refl, sym, ap, subst, ◌∙◌, arith, ◌⊎◌, inl, inr, ⊎_elim, eqb-true, eq-eqb, true≢false, lit<}
+use Rattle.std.proofs.Common.{◌≡◌, ℕ, suc, ◌<◌, ◌≤◌, Bool, true, false, cond, List, [], ◌∷◌, length, get_or, Option, Some, None, refl, sym, ap, subst, ◌∙◌, arith, eqb-true, eq-eqb, true≢false, lit<}
 use Rattle.std.specs.Bool.{◌==◌}
-use Rattle.std.specs.Prelude.{option_map, slice_get, nat_eq, IsTrue, IsSomeAnd, IfSome, All, if◌then◌else◌}
+use Rattle.std.specs.Prelude.{option_map, slice_get, nat_eq, IsSomeAnd, IfSome}
 use Rattle.std.specs.Option.{option_map_or, option_flatten}
 use Rattle.std.proofs.lemmas.List.{length-map}
 use Rattle.std.proofs.lemmas.List.Elements.{All-map}
-use Rattle.std.proofs.lemmas.Bool.{cases_Bool, both_ways, false_from_ne_true, or_cases, cond_both}
+use Rattle.std.proofs.lemmas.Bool.{both_ways, false_from_ne_true, cond_both}
 use Rattle.ob_base.specs.declared.id.ContractId.{ContractId}
 use Rattle.ob_base.specs.declared.id.StateId.{StateId}
 use Rattle.ob_perm.specs.States.{stateless, unnamed, states_max}
@@ -13,9 +13,8 @@ use Rattle.ob_perm.specs.Naming.{Names, IsNaming, called_in_interface, seen}
 use Rattle.ob_table.specs.Tables.{ClassTable, contract_at}
 use Rattle.ob_table.specs.declared.contract.Contract.{Contract}
 use Rattle.ob_table_spec.specs.Names.{Name, same, number_of}
-use Rattle.ob_table_spec.specs.Conditions.{IsClassTable, IsContract, MeetsInterface, naming}
+use Rattle.ob_table_spec.specs.Conditions.{IsClassTable, MeetsInterface, naming}
 use Rattle.ob_table_spec.specs.WellFormed.{is_implemented}
-use Rattle.ob_heap_spec.specs.Dispatch.{implements_it}
 use Rattle.ob_places_laws.proofs.Tables.{there_is, contract_is, if_there_so, each_at}
 
 -- Numbers.
@@ -116,7 +115,7 @@ interface_is table is c i own ec e =
     let found = implemented_is table c i e in
     let names : own.implements ≡ Some i = same_one (sym ec ∙ found.1) found.2 in
     let there = there_is (contract_at table i) (λ x. (x.interface ≡ true) × MeetsInterface x own)
-        (if_there_so own.implements (λ id. IsSomeAnd (contract_at table id) (λ x. (x.interface ≡ true) × MeetsInterface x own)) i names (contract_is table is c own ec).implements) in
+    (if_there_so own.implements (λ id. IsSomeAnd (contract_at table id) (λ x. (x.interface ≡ true) × MeetsInterface x own)) i names (contract_is table is c own ec).implements) in
     (there.0, there.1, there.2.0, there.2.1)
   where
     same_one : {a b : Contract} → Some a ≡ Some b → b.implements ≡ Some i → a.implements ≡ Some i

@@ -1,10 +1,7 @@
 -- What tests and operations on permissions tell of the ways in which an object is held.
-use Rattle.std.proofs.Common.{◌≡◌, ◌≢◌, ℕ, ◌<◌, Bool, true, false, not, cond, ◌&&◌, ◌||◌, Option, Some, None, is_none, refl, sym, ap, ◌∙◌, ⊎_elim, ◌⊎◌, inl, inr, true≢false}
-use Rattle.std.specs.Prelude.{if◌then◌else◌}
-use Rattle.std.proofs.lemmas.Bool.{cases_Bool, both_ways}
+use Rattle.std.proofs.Common.{◌≡◌, ℕ, Bool, true, false, not, ◌&&◌, ◌||◌, Option, Some, None, is_none, refl, sym, ap, ◌∙◌, ◌⊎◌, inl, inr, true≢false}
 use Rattle.ob_perm.specs.declared.permission.FitFault.{FitFault}
-use Rattle.ob_perm.specs.declared.permission.FitFault.TheVariants.{NotOwning, WrongState, NotShared}
-use Rattle.ob_perm.specs.States.{States, states_max, subset, union}
+use Rattle.ob_perm.specs.States.{States}
 use Rattle.ob_perm.specs.Permissions.{Permission, owned, shared, unowned, owns, is_shared, is_unowned, fit_fault, fits, matches, kept, joined, loses_owner, on_states, permission_within, permission_without}
 use Rattle.ob_silica_places.specs.Converting.{gotten}
 use Rattle.ob_silica_places.specs.Known.{unowned_under}

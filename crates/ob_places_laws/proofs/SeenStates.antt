@@ -1,21 +1,20 @@
 -- As which state a contract or its interface sees an object's state.
-use Rattle.std.proofs.Common.{◌≡◌, ◌≢◌, ℕ, ◌<◌, ◌≤◌, Bool, true, false, cond, not, ◌&&◌, ◌||◌, List, [], length, Option, Some, None, refl, sym, ap, subst, ◌∙◌, arith, ◌⊎◌, inl, inr, ⊎_elim, eqb-true, eq-eqb, true≢false, lit<}
+use Rattle.std.proofs.Common.{◌≡◌, ℕ, ◌<◌, true, false, not, ◌||◌, List, length, Option, Some, None, refl, sym, ap, subst, ◌∙◌, arith, ◌⊎◌, inl, inr, eqb-true, eq-eqb, true≢false, lit<}
 use Rattle.std.specs.Bool.{◌==◌}
-use Rattle.std.specs.Prelude.{nat_eq, option_and_then, if◌then◌else◌}
+use Rattle.std.specs.Prelude.{nat_eq}
 use Rattle.std.specs.Option.{option_map_or}
-use Rattle.std.proofs.lemmas.Bool.{cases_Bool, both_ways, or_cases, or_left, or_right, cond-true, cond-false, cond_both, not-true, not_from_true, not_from_false, eqb-false, ne_eqb}
+use Rattle.std.proofs.lemmas.Bool.{both_ways, cond-true, cond-false, cond_both, eqb-false, ne_eqb}
 use Rattle.ob_base.specs.declared.id.ContractId.{ContractId}
 use Rattle.ob_base.specs.declared.id.StateId.{StateId}
 use Rattle.ob_base.specs.declared.permission.Mode.{Mode}
 use Rattle.ob_base.specs.declared.permission.Mode.TheVariants.{Owned, Shared, Unowned}
 use Rattle.ob_base.specs.declared.permission.Perm.{Perm}
-use Rattle.ob_perm.specs.States.{States, stateless, unnamed, states_max, all_states, intersection, image, preimage}
+use Rattle.ob_perm.specs.States.{States, stateless, unnamed, states_max, all_states, preimage}
 use Rattle.ob_perm.specs.Permissions.{Permission, owned, shared, unowned, owns, permission_within, permission_without}
 use Rattle.ob_perm.specs.Masks.{states_of, held, permission_of}
-use Rattle.ob_perm.specs.Naming.{Names, IsNaming, seen, states_for_interface, states_for_contract, for_interface, for_contract}
+use Rattle.ob_perm.specs.Naming.{Names, seen, for_interface, for_contract}
 use Rattle.ob_table.specs.Tables.{ClassTable, contract_at}
 use Rattle.ob_table.specs.declared.contract.Contract.{Contract}
-use Rattle.ob_table.specs.declared.seen.Kind.{Kind}
 use Rattle.ob_table.specs.declared.seen.Kind.TheVariants.{Reference}
 use Rattle.ob_table_spec.specs.Conditions.{IsClassTable, IsContract, naming}
 use Rattle.ob_table_spec.specs.WellFormed.{is_implemented, serves_as}
@@ -27,7 +26,7 @@ use Rattle.ob_places_laws.specs.Serving.{AllowsState}
 use Rattle.ob_places_laws.proofs.Sets.{low_state, all_states_own, all_states_none, image_from, intersection_at, intersection_from}
 use Rattle.ob_places_laws.proofs.Serves.{allows_state_within, allows_state_without}
 use Rattle.ob_places_laws.proofs.Tables.{contract_is}
-use Rattle.ob_places_laws.proofs.Interfaces.{contract_number, is_naming, naming_length, seen_low, implemented_is, implemented_other, interface_is, implements_one}
+use Rattle.ob_places_laws.proofs.Interfaces.{naming_length, seen_low, implemented_other, interface_is, implements_one}
 use Rattle.ob_places_laws.proofs.Conversions.{serves_for_reference, naming_in, converted_same, converted_owns, converted_up, converted_down}
 
 -- The state of an object.

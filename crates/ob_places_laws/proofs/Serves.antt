@@ -1,13 +1,13 @@
 -- Which permission serves where another is said.
-use Rattle.std.proofs.Common.{◌≡◌, ◌≢◌, ℕ, ◌<◌, Bool, true, false, not, ◌&&◌, ◌||◌, refl, sym, ap, subst, ◌∙◌, ⊎_elim, ◌⊎◌, inl, inr, true≢false}
-use Rattle.ob_perm.specs.States.{States, states_max, union, within, without, only}
-use Rattle.ob_perm.specs.Permissions.{Permission, owned, shared, unowned, owns, is_shared, is_unowned, fits, matches, kept, joined, on_states, permission_within, permission_without}
+use Rattle.std.proofs.Common.{◌≡◌, ◌≢◌, ℕ, ◌<◌, true, false, refl, sym, ap, subst, ◌∙◌, true≢false}
+use Rattle.ob_perm.specs.States.{States, states_max, within, without}
+use Rattle.ob_perm.specs.Permissions.{Permission, owned, shared, unowned, owns, is_shared, fits, matches, kept, joined, on_states, permission_within, permission_without}
 use Rattle.ob_silica_places.specs.Converting.{gotten}
 use Rattle.ob_silica_places.specs.Known.{unowned_under}
 use Rattle.ob_flow_spec.specs.Joining.{same_mode}
 use Rattle.ob_places_laws.specs.Serving.{AreAmong, Allows, AllowsState}
-use Rattle.ob_places_laws.proofs.Sets.{among_itself, among_onward, union_left, union_right, within_at, within_from, without_at, without_from, within_among, without_among, only_itself}
-use Rattle.ob_places_laws.proofs.Permissions.{fits_owner, fits_shared, fits_from, matches_owner, matches_shared, owner_matches, shared_matches}
+use Rattle.ob_places_laws.proofs.Sets.{among_itself, among_onward, union_left, union_right, within_at, within_from, without_at, without_from, within_among, without_among}
+use Rattle.ob_places_laws.proofs.Permissions.{fits_owner, fits_from, matches_owner, matches_shared}
 
 -- Order.
 

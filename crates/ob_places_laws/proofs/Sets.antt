@@ -1,10 +1,8 @@
 -- Sets of states, state by state.
-use Rattle.std.proofs.Common.{◌≡◌, ◌≢◌, ℕ, zero, suc, ◌<◌, ◌≤◌, ◌^◌, Bool, true, false, cond, not, ◌&&◌, ◌||◌, nat_lt, refl, sym, ap, ap₂, ◌∙◌, arith, ⊎_elim, ◌⊎◌, inl, inr, eq-eqb, eqb-true, lt-ltb, ltb-true, le-leb, leb-true}
+use Rattle.std.proofs.Common.{◌≡◌, ◌≢◌, ℕ, zero, suc, ◌<◌, true, false, not, ◌&&◌, nat_lt, refl, sym, ap, ◌∙◌, arith, ⊎_elim, ◌⊎◌, inl, inr, eq-eqb, eqb-true, lt-ltb, ltb-true}
 use Rattle.std.specs.Bool.{◌==◌}
-use Rattle.std.specs.Prelude.{if◌then◌else◌}
-use Rattle.std.proofs.Math.Path.{fun_ext}
-use Rattle.std.proofs.lemmas.Bool.{and_parts, and_from, and_right, or_cases, or_left, or_right, not-true, not_from_false, cases_Bool, cases_lt, both_ways, ne_eqb, eqb-false, false_from_ne_true}
-use Rattle.ob_perm.specs.States.{States, stateless, unnamed, states_max, IsNumbered, no_states, any_below, all_below, only, union, intersection, difference, within, without, subset, meets, all_states, interface_states, anywhere, image, preimage}
+use Rattle.std.proofs.lemmas.Bool.{and_parts, and_from, or_cases, or_left, or_right, not-true, not_from_false, both_ways, ne_eqb, eqb-false, false_from_ne_true}
+use Rattle.ob_perm.specs.States.{States, stateless, unnamed, states_max, IsNumbered, only, union, intersection, within, without, subset, meets, all_states, interface_states, image, preimage}
 use Rattle.ob_perm.specs.Masks.{states_of, mask_below, mask_of}
 use Rattle.ob_places_laws.specs.Serving.{AreAmong}
 pub use Rattle.ob_perm.proofs.SetLemmas.{all_below_at, all_below_from, any_below_at, any_below_from}

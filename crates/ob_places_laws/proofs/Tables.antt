@@ -1,18 +1,17 @@
 -- What a class table promises of what stands at a number.
-use Rattle.std.proofs.Common.{◌≡◌, ◌≢◌, ℕ, zero, suc, ◌<◌, ◌≤◌, ◌^◌, Bool, true, false, not, ◌&&◌, List, [], ◌∷◌, length, drop, map, Option, Some, None, refl, sym, ap, subst, ◌∙◌, arith, ◌⊎◌, inl, inr, ⊎_elim, eqb-true, true≢false}
-use Rattle.std.specs.Prelude.{option_map, option_and_then, slice_get, nat_eq, IsTrue, IsSomeAnd, IfSome, MatchBool, All, if◌then◌else◌}
+use Rattle.std.proofs.Common.{◌≡◌, ◌≢◌, ℕ, zero, suc, Bool, true, false, not, ◌&&◌, List, [], ◌∷◌, drop, Option, Some, None, refl, sym, ap, subst, ◌∙◌, arith, ◌⊎◌, inl, inr, ⊎_elim, eqb-true}
+use Rattle.std.specs.Prelude.{option_and_then, slice_get, nat_eq, IsSomeAnd, IfSome, MatchBool, All, if◌then◌else◌}
 use Rattle.std.specs.Option.{option_map_or}
 use Rattle.std.proofs.lemmas.Option.{slice_get_within, get_or_from_slice_get, same_Some}
-use Rattle.std.proofs.lemmas.Bool.{cases_Bool, ne_eqb, eq-eqb, not-false, both_ways}
+use Rattle.std.proofs.lemmas.Bool.{eq-eqb, both_ways}
 use Rattle.ob_base.specs.declared.id.ContractId.{ContractId}
 use Rattle.ob_base.specs.declared.id.FieldId.{FieldId}
 use Rattle.ob_base.specs.declared.id.TxId.{TxId}
 use Rattle.ob_base.specs.declared.permission.Mode.{Mode}
 use Rattle.ob_base.specs.declared.permission.Mode.TheVariants.{Owned, Shared, Unowned}
 use Rattle.ob_base.specs.declared.permission.Perm.{Perm}
-use Rattle.ob_perm.specs.States.{States}
-use Rattle.ob_perm.specs.Permissions.{Permission, owned, shared, unowned, owns}
-use Rattle.ob_perm.specs.Masks.{states_of, held, permission_of, perm_of}
+use Rattle.ob_perm.specs.Permissions.{owns}
+use Rattle.ob_perm.specs.Masks.{states_of, held, permission_of}
 use Rattle.ob_table.specs.Tables.{ClassTable, contract_at, field_at, signature_at, signature_of}
 use Rattle.ob_table.specs.declared.contract.Contract.{Contract}
 use Rattle.ob_table.specs.declared.contract.Field.{Field}
@@ -21,7 +20,7 @@ use Rattle.ob_table.specs.declared.contract.Listed.{Listed}
 use Rattle.ob_table.specs.declared.contract.Signature.{Signature}
 use Rattle.ob_table.specs.declared.contract.ResolvedType.{ResolvedType}
 use Rattle.ob_table.specs.declared.contract.ResolvedType.TheVariants.{Int, Bool as BoolKind, Text, Reference}
-use Rattle.ob_table_spec.specs.Conditions.{IsClassTable, IsContract, IsField, IsPermOn, IsType, IsExitOf, IsParam, IsListed, IsListedAs, IsSignature, IsConstructor, IsTransaction, HasConstructor, MayLeave, transactions_in}
+use Rattle.ob_table_spec.specs.Conditions.{IsClassTable, IsContract, IsField, IsPermOn, IsType, IsExitOf, IsParam, IsListed, IsSignature, IsConstructor, IsTransaction, MayLeave}
 use Rattle.ob_table_spec.specs.WellFormed.{constructor_at, is_constructor}
 use Rattle.ob_silica_places.specs.Known.{permission_of_type}
 use Rattle.ob_flow_spec.specs.Contexts.{listed_at}

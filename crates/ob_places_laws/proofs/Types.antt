@@ -1,15 +1,14 @@
 -- Permissions and types of a class table: their states have numbers.
-use Rattle.std.proofs.Common.{◌≡◌, ℕ, ◌<◌, ◌^◌, Bool, true, false, Some, refl, sym, ap, subst, ◌∙◌, ◌⊎◌, inl, inr}
-use Rattle.std.specs.Prelude.{IsSomeAnd, if◌then◌else◌, length}
-use Rattle.ob_base.specs.declared.id.ContractId.{ContractId}
+use Rattle.std.proofs.Common.{◌≡◌, ℕ, true, false, refl, sym, subst}
+use Rattle.std.specs.Prelude.{length}
 use Rattle.ob_base.specs.declared.permission.Mode.{Mode}
 use Rattle.ob_base.specs.declared.permission.Mode.TheVariants.{Owned, Shared, Unowned}
 use Rattle.ob_base.specs.declared.permission.Perm.{Perm}
-use Rattle.ob_perm.specs.States.{States, states_max, IsNumbered, all_states}
-use Rattle.ob_perm.specs.Permissions.{Permission, owned, shared, unowned, owns, IsNumberedPermission, is_on}
+use Rattle.ob_perm.specs.States.{States, IsNumbered, all_states}
+use Rattle.ob_perm.specs.Permissions.{Permission, owned, IsNumberedPermission, is_on}
 use Rattle.ob_perm.specs.Masks.{states_of, held, permission_of, perm_of}
-use Rattle.ob_perm.proofs.StandsLemmas.{states_of_numbered, perm_is, permission_of-perm_of, perm_of_canonical}
-use Rattle.ob_table.specs.Tables.{ClassTable, contract_at}
+use Rattle.ob_perm.proofs.StandsLemmas.{states_of_numbered, perm_is}
+use Rattle.ob_table.specs.Tables.{ClassTable}
 use Rattle.ob_table.specs.declared.contract.Contract.{Contract}
 use Rattle.ob_table.specs.declared.contract.ResolvedType.{ResolvedType}
 use Rattle.ob_table.specs.declared.contract.ResolvedType.TheVariants.{Int, Bool as BoolKind, Text, Reference}
