@@ -1,5 +1,5 @@
 -- Which permission serves where another is said.
-use Rattle.std.proofs.Common.{◌≡◌, ◌≢◌, ℕ, ◌<◌, true, false, refl, sym, ap, subst, ◌∙◌, true≢false}
+use Rattle.std.proofs.Common.{◌≡◌, ◌≢◌, ◌⊎◌, ⊎_elim, ℕ, ◌<◌, true, false, refl, sym, ap, subst, ◌∙◌, true≢false}
 use Rattle.ob_perm.specs.States.{States, states_max, within, without}
 use Rattle.ob_perm.specs.Permissions.{Permission, owned, shared, unowned, owns, is_shared, fits, matches, kept, joined, on_states, permission_within, permission_without}
 use Rattle.ob_silica_places.specs.Converting.{gotten}
@@ -142,6 +142,9 @@ joined_allows_right shared unowned r first = tt
 joined_allows_right unowned (owned b) r first = tt
 joined_allows_right unowned shared r first = tt
 joined_allows_right unowned unowned r first = tt
+
+pub joined_allows : (p q r : Permission) → Allows p r ⊎ Allows q r → Allows (joined p q) r
+joined_allows p q r some = ⊎_elim (joined_allows_left p q r) (joined_allows_right p q r) some
 
 -- Other states.
 
