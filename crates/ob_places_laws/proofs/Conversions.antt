@@ -1,25 +1,27 @@
 -- Which kinds serve, and permissions said for a place of another kind.
-use Rattle.std.proofs.Common.{◌≡◌, Bool, true, false, Option, Some, None, refl, sym, ap, subst, ◌∙◌, ◌⊎◌, inl, inr, ⊎_elim, eqb-true, eq-eqb, true≢false}
-use Rattle.std.specs.Prelude.{nat_eq, length, if◌then◌else◌}
+use Rattle.std.proofs.Common.{◌≡◌, Bool, true, false, Option, Some, None, refl, sym, ap, subst, ◌∙◌, ◌⊎◌, inl, inr, ⊎_elim, eqb-true, eq-eqb, true≢false, ◌<◌, length}
+use Rattle.std.specs.Prelude.{nat_eq, if◌then◌else◌}
 use Rattle.std.specs.Option.{option_map_or}
 use Rattle.std.proofs.lemmas.Bool.{both_ways, or_cases, or_left, or_right, cond-true, cond-false, false_from_ne_true}
 use Rattle.ob_base.specs.declared.id.ContractId.{ContractId}
-use Rattle.ob_perm.specs.States.{all_states, preimage}
-use Rattle.ob_perm.specs.Permissions.{Permission, owns, is_shared, is_unowned}
-use Rattle.ob_perm.specs.Naming.{IsNaming, seen, states_for_interface, states_for_contract, for_interface, for_contract}
+use Rattle.ob_perm.specs.States.{States, states_max, IsNumbered, all_states, image, preimage}
+use Rattle.ob_perm.specs.Permissions.{Permission, owned, shared, unowned, owns, is_shared, is_unowned, fits, IsNumberedPermission}
+use Rattle.ob_perm.specs.Naming.{Names, IsNaming, seen, states_for_interface, states_for_contract, for_interface, for_contract}
 use Rattle.ob_table.specs.Tables.{ClassTable, contract_at}
 use Rattle.ob_table.specs.declared.contract.Contract.{Contract}
 use Rattle.ob_table.specs.declared.seen.Kind.{Kind}
 use Rattle.ob_table.specs.declared.seen.Kind.TheVariants.{Int, Bool as BoolKind, Text, Reference}
 use Rattle.ob_table_spec.specs.Conditions.{IsClassTable, naming}
 use Rattle.ob_table_spec.specs.WellFormed.{is_implemented, serves_as, is_reference}
-use Rattle.ob_silica_places.specs.Converting.{said_up, said_down, converted}
+use Rattle.ob_silica_places.specs.Converting.{said_up, said_down, converted, gotten}
+use Rattle.ob_silica_places.specs.Known.{unowned_under}
 use Rattle.ob_flow_spec.specs.Contexts.{is_asset}
 use Rattle.ob_flow_spec.specs.Joining.{same_kind, same_mode}
+use Rattle.ob_perm.proofs.StandsLemmas.{intersection_numbered, all_states_numbered}
 use Rattle.ob_places_laws.specs.Serving.{Allows}
-use Rattle.ob_places_laws.proofs.Sets.{image_among, preimage_among, intersection_among}
+use Rattle.ob_places_laws.proofs.Sets.{image_at, image_among, preimage_among, intersection_among}
 use Rattle.ob_places_laws.proofs.Permissions.{on_states_mode, same_mode_itself, same_mode_owns, same_mode_shares, same_mode_no_say}
-use Rattle.ob_places_laws.proofs.Serves.{on_states_keeps}
+use Rattle.ob_places_laws.proofs.Serves.{on_states_keeps, gotten_allows, fits_allowed, under_keeps}
 use Rattle.ob_places_laws.proofs.Tables.{contract_is}
 use Rattle.ob_places_laws.proofs.Interfaces.{same_contract, is_naming, implements_once, implemented_other, implemented_is, interface_is, seen_low}
 
@@ -251,3 +253,77 @@ converted_down table is i c interface own p ei ec e =
     other_way : nat_eq c.0 i.0 ≡ false → nat_eq i.0 c.0 ≡ false
     other_way ne = false_from_ne_true (nat_eq i.0 c.0) (λ same.
         both_ways (nat_eq c.0 i.0) ne (eq-eqb c.0 i.0 (sym (eqb-true i.0 c.0 same))))
+
+-- What is given.
+
+-- What a place gets of a permission that counts, said for its kind, serves where its own is declared, if what is known of
+-- the giver fits there.
+pub given_serves : (table : ClassTable) → IsClassTable table → (k l : Kind) (s t p q w : Permission) → same_mode s t ≡ true
+    → Allows p q → fits (converted table k l (unowned_under s p)) w ≡ true
+    → Allows w (gotten w (converted table k l (unowned_under t q)))
+given_serves table is k l s t p q w e h f =
+    gotten_allows w (converted table k l (unowned_under t q))
+    (fits_allowed (converted table k l (unowned_under s p)) (converted table k l (unowned_under t q)) w
+    (converted_keeps table is k l (unowned_under s p) (unowned_under t q) (under_keeps s t p q e h)) f)
+
+-- and the permission on the giver fits as well
+pub given_fits : (table : ClassTable) → IsClassTable table → (k l : Kind) (s t p q w : Permission) → same_mode s t ≡ true
+    → Allows p q → fits (converted table k l (unowned_under s p)) w ≡ true
+    → fits (converted table k l (unowned_under t q)) w ≡ true
+given_fits table is k l s t p q w e h f =
+    fits_allowed (converted table k l (unowned_under s p)) (converted table k l (unowned_under t q)) w
+    (converted_keeps table is k l (unowned_under s p) (unowned_under t q) (under_keeps s t p q e h)) f
+
+-- Numbers of states.
+
+-- f says permissions with numbers by permissions with numbers
+abbrev KeepsNumbers : (Permission → Permission) → Type 0
+KeepsNumbers f = (p : Permission) → IsNumberedPermission p → IsNumberedPermission (f p)
+
+chosen_numbered : (u v w : Bool) (up down : Permission → Permission) → KeepsNumbers up → KeepsNumbers down
+    → KeepsNumbers (λ p. if u then p else if v then up p else if w then down p else p)
+chosen_numbered true v w up down hu hd p h = h
+chosen_numbered false true w up down hu hd p h = hu p h
+chosen_numbered false false true up down hu hd p h = hd p h
+chosen_numbered false false false up down hu hd p h = h
+
+image_numbered : (names : Names) (a : States) → IsNaming names → IsNumbered (image (seen names) a)
+image_numbered names a is i e =
+    let some = image_at (seen names) a i e in subst (λ n. n < states_max) (sym some.3) (seen_low names is some.0)
+
+pub for_interface_numbered : (names : Names) (p : Permission) → IsNaming names → IsNumberedPermission (for_interface names p)
+for_interface_numbered names (owned a) is = image_numbered names a is
+for_interface_numbered names shared is = tt
+for_interface_numbered names unowned is = tt
+
+pub for_contract_numbered : (names : Names) (p : Permission) → IsNaming names → IsNumberedPermission (for_contract names p)
+for_contract_numbered names (owned a) is =
+    intersection_numbered (all_states (length names)) (preimage (seen names) a)
+    (all_states_numbered (length names) is.of_contract)
+for_contract_numbered names shared is = tt
+for_contract_numbered names unowned is = tt
+
+up_numbered : (c i : Option Contract) → ((x y : Contract) → c ≡ Some x → i ≡ Some y → IsNaming (naming y x)) → KeepsNumbers (said_up c i)
+up_numbered None i low p h = h
+up_numbered (Some c) None low p h = h
+up_numbered (Some c) (Some i) low p h = for_interface_numbered (naming i c) p (low c i refl refl)
+
+down_numbered : (i c : Option Contract) → ((x y : Contract) → i ≡ Some x → c ≡ Some y → IsNaming (naming x y)) → KeepsNumbers (said_down i c)
+down_numbered None c low p h = h
+down_numbered (Some i) None low p h = h
+down_numbered (Some i) (Some c) low p h = for_contract_numbered (naming i c) p (low i c refl refl)
+
+-- Said for another kind a permission still speaks of states that have numbers.
+pub converted_numbered : (table : ClassTable) → IsClassTable table → (k l : Kind) (p : Permission) → IsNumberedPermission p
+    → IsNumberedPermission (converted table k l p)
+converted_numbered table is (Reference from) (Reference to) p h =
+    chosen_numbered (nat_eq from.0 to.0) (is_implemented table from to) (is_implemented table to from)
+    (said_up (contract_at table from) (contract_at table to)) (said_down (contract_at table from) (contract_at table to))
+    (up_numbered (contract_at table from) (contract_at table to) (λ x y ex ey. naming_in table is to from y x ey ex))
+    (down_numbered (contract_at table from) (contract_at table to) (naming_in table is from to)) p h
+converted_numbered table is (Reference from) Int p h = h
+converted_numbered table is (Reference from) BoolKind p h = h
+converted_numbered table is (Reference from) Text p h = h
+converted_numbered table is Int l p h = h
+converted_numbered table is BoolKind l p h = h
+converted_numbered table is Text l p h = h

@@ -15,11 +15,10 @@ use Rattle.ob_base.specs.declared.id.TxId.{TxId}
 use Rattle.ob_base.specs.declared.permission.Mode.{Mode}
 use Rattle.ob_base.specs.declared.permission.Mode.TheVariants.{Owned, Shared, Unowned}
 use Rattle.ob_base.specs.declared.permission.Perm.{Perm}
-use Rattle.ob_perm.specs.States.{all_states, preimage}
-use Rattle.ob_perm.specs.Permissions.{Permission, owned, shared, unowned, owns, IsNumberedPermission}
+use Rattle.ob_perm.specs.Permissions.{owns}
 use Rattle.ob_perm.specs.Masks.{states_of, held, permission_of}
-use Rattle.ob_perm.specs.Naming.{Names, IsNaming, seen, for_contract}
-use Rattle.ob_perm.proofs.StandsLemmas.{permission_of-perm_of, intersection_numbered, all_states_numbered}
+use Rattle.ob_perm.specs.Naming.{for_contract}
+use Rattle.ob_perm.proofs.StandsLemmas.{permission_of-perm_of}
 use Rattle.ob_table.specs.Tables.{ClassTable, contract_at, signature_at, signature_of}
 use Rattle.ob_table.specs.declared.contract.Contract.{Contract}
 use Rattle.ob_table.specs.declared.contract.Param.{Param}
@@ -38,7 +37,7 @@ use Rattle.ob_places_laws.specs.Serving.{AllowsState}
 use Rattle.ob_places_laws.specs.Answering.{Answers, HasAnswer}
 use Rattle.ob_places_laws.proofs.Tables.{each_at, contract_is, has_constructor, transaction_is, called_is, no_constructor, signature_from, leaves_as_came}
 use Rattle.ob_places_laws.proofs.Interfaces.{implemented_is, implemented_other, interface_is, implementing_plain}
-use Rattle.ob_places_laws.proofs.Conversions.{serves_itself, serves_for_reference, naming_in, converted_same, converted_down, converted_mode}
+use Rattle.ob_places_laws.proofs.Conversions.{for_contract_numbered, serves_itself, serves_for_reference, naming_in, converted_same, converted_down, converted_mode}
 use Rattle.ob_places_laws.proofs.SeenStates.{converted_allows_state, allowed_before}
 
 -- Lists.
@@ -134,12 +133,6 @@ found_by_name table own c plain s has name named =
     made = has_constructor table own c plain
 
 -- Permissions of `this`.
-
-for_contract_numbered : (names : Names) (p : Permission) → IsNaming names → IsNumberedPermission (for_contract names p)
-for_contract_numbered names (owned a) is =
-    intersection_numbered (all_states (length names)) (preimage (seen names) a) (all_states_numbered (length names) is.of_contract)
-for_contract_numbered names shared is = tt
-for_contract_numbered names unowned is = tt
 
 -- What a contract says of `this` is what its interface asks, said for the contract.
 pub said_as_is : (table : ClassTable) → IsClassTable table → (d e : ContractId) (interface own : Contract) (asked p : Perm)

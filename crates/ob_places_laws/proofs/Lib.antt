@@ -7,3 +7,4 @@ pub mod Interfaces
 pub mod Conversions
 pub mod SeenStates
 pub mod Dispatch
+pub mod Fields

@@ -10,7 +10,7 @@ use Rattle.ob_base.specs.declared.permission.Mode.{Mode}
 use Rattle.ob_base.specs.declared.permission.Mode.TheVariants.{Owned, Shared, Unowned}
 use Rattle.ob_base.specs.declared.permission.Perm.{Perm}
 use Rattle.ob_perm.specs.States.{States, stateless, unnamed, states_max, all_states, preimage}
-use Rattle.ob_perm.specs.Permissions.{Permission, owned, shared, unowned, owns, permission_within, permission_without}
+use Rattle.ob_perm.specs.Permissions.{Permission, owned, shared, unowned, owns, fits, permission_within, permission_without}
 use Rattle.ob_perm.specs.Masks.{states_of, held, permission_of}
 use Rattle.ob_perm.specs.Naming.{Names, seen, for_interface, for_contract}
 use Rattle.ob_table.specs.Tables.{ClassTable, contract_at}
@@ -22,9 +22,10 @@ use Rattle.ob_heap_spec.specs.Objects.{Object, state_number, seen_between, seen_
 use Rattle.ob_heap_spec.specs.Contents.{IsStateOf, object_at}
 use Rattle.ob_heap_spec.specs.GoingWrong.{is_held_within}
 use Rattle.ob_silica_places.specs.Converting.{converted}
+use Rattle.ob_silica_places.specs.Known.{unowned_under}
 use Rattle.ob_places_laws.specs.Serving.{AllowsState}
 use Rattle.ob_places_laws.proofs.Sets.{low_state, all_states_own, all_states_none, image_from, intersection_at, intersection_from}
-use Rattle.ob_places_laws.proofs.Serves.{allows_state_within, allows_state_without}
+use Rattle.ob_places_laws.proofs.Serves.{allows_state_fitting, allows_state_under, allows_state_within, allows_state_without}
 use Rattle.ob_places_laws.proofs.Tables.{contract_is}
 use Rattle.ob_places_laws.proofs.Interfaces.{naming_length, seen_low, implemented_other, interface_is, implements_one}
 use Rattle.ob_places_laws.proofs.Conversions.{serves_for_reference, naming_in, converted_same, converted_owns, converted_up, converted_down}
@@ -174,6 +175,16 @@ module _ (table : ClassTable) (is : IsClassTable table) (own : Contract) (o : Ob
       by_which : (d ≡ o.contract) ⊎ (is_implemented table o.contract d ≡ true) → AllowsState p (seen_state table d o)
       by_which (inl e) = itself d e h
       by_which (inr e) = from_contract d p e h
+
+  -- Where what counts of a permission that allows the object's state fits, said for another kind, what is wanted there
+  -- allows the state.
+  pub given_allows_state : (c d : ContractId) (t q w : Permission) → serves_as table (Reference c) (Reference o.contract) ≡ true
+      → serves_as table (Reference d) (Reference o.contract) ≡ true → AllowsState q (seen_state table c o)
+      → fits (converted table (Reference c) (Reference d) (unowned_under t q)) w ≡ true → AllowsState w (seen_state table d o)
+  given_allows_state c d t q w sc sd h f =
+      allows_state_fitting (converted table (Reference c) (Reference d) (unowned_under t q)) w (seen_state table d o) f
+      (seen_state_low table is d own o ec state)
+      (converted_allows_state c d (unowned_under t q) sc sd (allows_state_under t q (seen_state table c o) h))
 
 -- The tests of a run.
 

@@ -1,7 +1,7 @@
 -- Which permission serves where another is said.
 use Rattle.std.proofs.Common.{◌≡◌, ◌≢◌, ◌⊎◌, ⊎_elim, ℕ, ◌<◌, true, false, refl, sym, ap, subst, ◌∙◌, true≢false}
-use Rattle.ob_perm.specs.States.{States, states_max, within, without}
-use Rattle.ob_perm.specs.Permissions.{Permission, owned, shared, unowned, owns, is_shared, fits, matches, kept, joined, on_states, permission_within, permission_without}
+use Rattle.ob_perm.specs.States.{States, states_max, all_states, within, without}
+use Rattle.ob_perm.specs.Permissions.{Permission, owned, shared, unowned, owns, is_shared, fits, matches, kept, joined, on_states, permission_within, permission_without, possible}
 use Rattle.ob_silica_places.specs.Converting.{gotten}
 use Rattle.ob_silica_places.specs.Known.{unowned_under}
 use Rattle.ob_flow_spec.specs.Joining.{same_mode}
@@ -193,3 +193,44 @@ pub allows_state_without : (p : Permission) (s i : ℕ) → i ≢ s → AllowsSt
 allows_state_without (owned a) s i other e = without_from a s i e other
 allows_state_without shared s i other e = tt
 allows_state_without unowned s i other e = tt
+
+pub allows_state_under : (t p : Permission) (s : ℕ) → AllowsState p s → AllowsState (unowned_under t p) s
+allows_state_under (owned b) p s e = e
+allows_state_under shared p s e = e
+allows_state_under unowned (owned a) s e = tt
+allows_state_under unowned shared s e = tt
+allows_state_under unowned unowned s e = tt
+
+pub allows_state_kept : (p w : Permission) (s : ℕ) → AllowsState p s → AllowsState (kept p w) s
+allows_state_kept p (owned b) s e = tt
+allows_state_kept p shared s e = tt
+allows_state_kept p unowned s e = e
+
+pub allows_state_gotten : (w p : Permission) (s : ℕ) → AllowsState p s → AllowsState (gotten w p) s
+allows_state_gotten (owned b) p s e = e
+allows_state_gotten shared p s e = tt
+allows_state_gotten unowned p s e = tt
+
+pub allows_state_joined : (p q : Permission) (s : ℕ) → AllowsState p s ⊎ AllowsState q s → AllowsState (joined p q) s
+allows_state_joined (owned a) (owned b) s some = ⊎_elim (union_left a b s) (union_right a b s) some
+allows_state_joined (owned a) shared s some = tt
+allows_state_joined (owned a) unowned s some = tt
+allows_state_joined shared (owned b) s some = tt
+allows_state_joined shared shared s some = tt
+allows_state_joined shared unowned s some = tt
+allows_state_joined unowned (owned b) s some = tt
+allows_state_joined unowned shared s some = tt
+allows_state_joined unowned unowned s some = tt
+
+-- Where no owner is, nothing is said of states.
+pub allows_any_state : (p : Permission) (s : ℕ) → owns p ≡ false → AllowsState p s
+allows_any_state (owned a) s e = absurd (true≢false e)
+allows_any_state shared s e = tt
+allows_any_state unowned s e = tt
+
+-- The state is among those that are possible: the owner's, or any of the contract's.
+pub possible_at : (n : ℕ) (p : Permission) (s : ℕ) → AllowsState p s → (owns p ≡ false → all_states n s ≡ true)
+    → possible n p s ≡ true
+possible_at n (owned a) s e any = e
+possible_at n shared s e any = any refl
+possible_at n unowned s e any = any refl

@@ -5,5 +5,6 @@
 mod laws;
 
 pub use laws::{
-    conversion_laws, kinds_serve_onward, objects_answer, serving_laws, states_are_seen, tables_promise,
+    conversion_laws, kinds_serve_onward, objects_answer, serving_laws, states_are_seen,
+    tables_promise,
 };
