@@ -53,10 +53,13 @@ stateless_available n a few is h = ⊎_elim
     (available_at n a stateless is h)
 
 -- An object has a field where this is available in its state.
-pub has_field_is : (b : BodyFrame) (state : Option StateId) (f : ℕ) → has_field b.own state f ≡ available b f (state_number state)
+pub has_field_is : (b : BodyFrame) (state : Option StateId) (f : ℕ)
+    → has_field b.own state f ≡ available b f (state_number state)
 has_field_is b state f = at (slice_get b.own.fields f)
   where
-    at : (o : Option Field) → option_map_or (is_available state) o false ≡ option_map_or (λ (x : Field). states_of x.available) o no_states (state_number state)
+    at : (o : Option Field)
+        → option_map_or (is_available state) o false ≡ option_map_or (λ (x : Field). states_of x.available) o no_states
+        (state_number state)
     at None = refl
     at (Some x) = refl
 
@@ -78,13 +81,17 @@ not_there b g f s e low h any = false_from_ne_true (available b f s) (λ there.
     (possible_at (length b.own.states) (permission_at g this) s h any) there))
 
 -- Of an object in a state of its contract the same, as a run tests it.
-pub accessible_has : (table : ClassTable) (b : BodyFrame) (p : Permission) (f : ℕ) (state : Option StateId) → IsContract table b.own
-    → IsStateOf b.own state → accessible_under b p f ≡ true → AllowsState p (state_number state) → has_field b.own state f ≡ true
+pub accessible_has : (table : ClassTable) (b : BodyFrame) (p : Permission) (f : ℕ) (state : Option StateId)
+    → IsContract table b.own
+    → IsStateOf b.own state → accessible_under b p f ≡ true → AllowsState p (state_number state)
+    → has_field b.own state f ≡ true
 accessible_has table b p f state is of e h =
     has_field_is b state f
-    ∙ accessible_there b p f (state_number state) e (state_low table b.own state is of) h (λ any. state_in_all b.own state of)
+    ∙ accessible_there b p f (state_number state) e (state_low table b.own state is of) h
+    (λ any. state_in_all b.own state of)
 
-pub not_there_has : (table : ClassTable) (b : BodyFrame) (g : Context) (f : ℕ) (state : Option StateId) → IsContract table b.own
+pub not_there_has : (table : ClassTable) (b : BodyFrame) (g : Context) (f : ℕ) (state : Option StateId)
+    → IsContract table b.own
     → IsStateOf b.own state → maybe_there b g f ≡ false → AllowsState (permission_at g this) (state_number state)
     → has_field b.own state f ≡ false
 not_there_has table b g f state is of e h =
@@ -92,7 +99,8 @@ not_there_has table b g f state is of e h =
     ∙ not_there b g f (state_number state) e (state_low table b.own state is of) h (λ any. state_in_all b.own state of)
 
 -- The states of each field of a contract of a class table have numbers.
-pub field_numbered : (table : ClassTable) (c : Contract) → IsContract table c → (id : FieldId) (x : Field) → field_at c id ≡ Some x
+pub field_numbered : (table : ClassTable) (c : Contract) → IsContract table c → (id : FieldId) (x : Field)
+    → field_at c id ≡ Some x
     → IsNumbered (states_of x.available)
 field_numbered table c is id x e =
     available_numbered (length c.states) x.available is.few_states (field_is table c is id x e).available

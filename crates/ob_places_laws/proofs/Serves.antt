@@ -85,7 +85,8 @@ kept_keeps (owned b) p q first = tt
 kept_keeps shared p q first = refl
 kept_keeps unowned p q first = first
 
-pub under_keeps : (s t p q : Permission) → same_mode s t ≡ true → Allows p q → Allows (unowned_under s p) (unowned_under t q)
+pub under_keeps : (s t p q : Permission) → same_mode s t ≡ true → Allows p q
+    → Allows (unowned_under s p) (unowned_under t q)
 under_keeps (owned a) (owned b) p q e first = first
 under_keeps (owned a) shared p q e first = absurd (true≢false (sym e))
 under_keeps (owned a) unowned p q e first = absurd (true≢false (sym e))
@@ -148,7 +149,8 @@ joined_allows p q r some = ⊎_elim (joined_allows_left p q r) (joined_allows_ri
 
 -- Other states.
 
-pub on_states_keeps : (f : States → States) → ((a b : States) → AreAmong b a → AreAmong (f b) (f a)) → (p q : Permission)
+pub on_states_keeps : (f : States → States) → ((a b : States) → AreAmong b a → AreAmong (f b) (f a))
+    → (p q : Permission)
     → Allows p q → Allows (on_states f p) (on_states f q)
 on_states_keeps f more (owned a) q (b, is, among) = (f b, ap (on_states f) is, more a b among)
 on_states_keeps f more shared q is = ap (on_states f) is
@@ -179,7 +181,8 @@ allows_state_onward (owned a) q s (b, is, among) low e = among s low (subst (λ 
 allows_state_onward shared q s first low e = tt
 allows_state_onward unowned q s first low e = tt
 
-pub allows_state_fitting : (p w : Permission) (s : ℕ) → fits p w ≡ true → s < states_max → AllowsState p s → AllowsState w s
+pub allows_state_fitting : (p w : Permission) (s : ℕ) → fits p w ≡ true → s < states_max → AllowsState p s
+    → AllowsState w s
 allows_state_fitting p (owned b) s e low h = allows_state_onward (owned b) p s (fits_owner p b e) low h
 allows_state_fitting p shared s e low h = tt
 allows_state_fitting p unowned s e low h = tt

@@ -20,8 +20,8 @@ ghost use Rattle.ob_places_laws.specs.Serving.{Allows, AllowsState};
 ghost use Rattle.ob_places_laws.specs.Answering.{Answers, HasAnswer};
 
 /// A permission serves where it is said itself, and what serves where a second is said, which serves where a third is,
-/// serves there too. What matches serves. What serves where a permission is said fits where that does, and serves where the
-/// join of that with another is said.
+/// serves there too. What matches serves. What serves where a permission is said fits where that does, and serves where
+/// the join of that with another is said.
 pub fn serving_laws()
     ensures itself { (p : Permission) → Allows p p }
     ensures onward { (p q r : Permission) → Allows p q → Allows q r → Allows p r }
@@ -30,8 +30,8 @@ pub fn serving_laws()
     ensures joining { (p q r : Permission) → Allows p r ⊎ Allows q r → Allows (joined p q) r }
 {}
 
-/// Said for a place of another kind a permission holds its object in the same way; said for its own kind it is itself; and
-/// what serves where it is said serves there as well, said for that kind.
+/// Said for a place of another kind a permission holds its object in the same way; said for its own kind it is itself;
+/// and what serves where it is said serves there as well, said for that kind.
 pub fn conversion_laws()
     ensures mode { (table : ClassTable) (k l : Kind) (p : Permission) → IsTrue (same_mode (converted table k l p) p) }
     ensures itself { (table : ClassTable) (k : Kind) (p : Permission) → converted table k k p ≡ p }
@@ -45,9 +45,9 @@ pub fn kinds_serve_onward()
         → IsTrue (serves_as table l m) → IsTrue (serves_as table k m) }
 {}
 
-/// As which state ever an object's state is seen, it has the number of a state. A permission that allows it as one contract
-/// or interface of the object sees it allows it as another does, said for that one. Said for the object's own contract, it
-/// allows no more than before.
+/// Whatever sees an object's state, it sees one that has the number of a state. A permission that allows the state as
+/// one contract or interface of the object sees it allows it as another does, said for that one. Said for the object's
+/// own contract, it allows no more than before.
 pub fn states_are_seen()
     ensures number { (table : ClassTable) → IsClassTable table → (d : ContractId) (own : Contract) (o : Object)
         → contract_at table o.contract ≡ Some own → IsStateOf own o.state → seen_state table d o < states_max }
@@ -63,8 +63,8 @@ pub fn states_are_seen()
         → AllowsState p (seen_state table d o) }
 {}
 
-/// What stands at a number of a class table is a contract, a constructor or transaction is what one must be, and where it
-/// isn't entered as an owner's it is left as it was entered.
+/// What stands at a number of a class table is a contract, and what stands at one of a contract is a constructor or
+/// transaction with what it must be. A transaction that isn't entered as an owner's is left as it was entered.
 pub fn tables_promise()
     ensures contracts { (table : ClassTable) → IsClassTable table → (id : ContractId) (c : Contract)
         → contract_at table id ≡ Some c → IsContract table c }
@@ -76,12 +76,13 @@ pub fn tables_promise()
         → IsFalse (owns (permission_of s.entry)) → permission_of s.exit ≡ permission_of s.entry }
 {}
 
-/// An object has an answer to each transaction that its contract or its interface declares: one with the same parameters
-/// and result. A state in which the declared transaction may begin, as the caller sees it, is one in which the answer may;
-/// and one in which the answer may end is one in which the declared transaction may.
+/// An object has an answer to each transaction that its contract or interface declares: one with the same parameters
+/// and result. A state in which the declared transaction may begin, as the caller sees it, is one in which the answer
+/// may; and one in which the answer may end is one in which the declared transaction may.
 pub fn objects_answer()
     ensures answer { (table : ClassTable) → IsClassTable table → (d e : ContractId) (tx : TxId) (asked : Signature)
-        (own : Contract) → contract_at table e ≡ Some own → IsFalse own.interface → signature_of table d tx ≡ Some asked
+        (own : Contract) → contract_at table e ≡ Some own → IsFalse own.interface
+        → signature_of table d tx ≡ Some asked
         → IsFalse (is_constructor table d tx.0) → IsTrue (serves_as table (Reference d) (Reference e))
         → HasAnswer table d e own tx asked }
     ensures begins { (table : ClassTable) → IsClassTable table → (own : Contract) (o : Object)

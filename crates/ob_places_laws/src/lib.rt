@@ -1,5 +1,5 @@
-//! Laws of permissions, of kinds, and of contracts with their interfaces: which permission serves where another is said,
-//! what is said of it for another kind, and what an object runs for a declared transaction.
+//! Laws of permissions, of kinds, and of contracts with their interfaces: which permission serves where another is
+//! said, what is said of it for another kind, and what an object runs for a declared transaction.
 #![tactic(auto)]
 
 mod laws;
