@@ -271,8 +271,8 @@ module _ (table : ClassTable) (is : IsClassTable table) where
 
 -- What follows from an answer.
 
--- The state in which a call finds an object, as its caller sees it, lets the answer begin; and where the answer leaves it
--- in a state of its exit, this is one of the declared exit.
+-- The state in which a call finds an object, as its caller sees it, lets the answer begin; and where the answer leaves
+-- it in a state of its exit, this is one of the declared exit.
 module _ (table : ClassTable) (is : IsClassTable table) (own : Contract) (o : Object)
     (ec : contract_at table o.contract ≡ Some own) (state : IsStateOf own o.state) where
   pub answer_begins : (d : ContractId) (asked s : Signature)

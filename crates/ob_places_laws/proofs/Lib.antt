@@ -8,3 +8,5 @@ pub mod Conversions
 pub mod SeenStates
 pub mod Dispatch
 pub mod Fields
+pub mod Joins
+pub mod Locations
