@@ -71,7 +71,8 @@ same_others : (table : ClassTable) (content after : Content) (n : ℕ) (o p : Ob
     → AreMarkedFrom content.objects after.objects → IsMarkedFrom o p
     → fails_by other_contract table after n p ≡ fails_by other_contract table content n o
 same_others table content after n o p all m =
-    (λ i. list_any (λ r. not (same_declared table r content.objects after.objects r.object all i)) (references_of table n p))
+    (λ i. list_any (λ r. not (same_declared table r content.objects after.objects r.object all i))
+    (references_of table n p))
     ∙ ap (λ rs. list_any (λ r. not (refers_as_declared table content.objects r)) rs) (same_references table n o p m)
 
 -- Way 4 asks fields and handles.
@@ -84,7 +85,8 @@ any_under false b c d same = same
 -- whether one of two lists has what passes
 any_of_both : {X : Type 0} (q : X → Bool) (xs ys : List X) → list_any q (xs ++ ys) ≡ (list_any q xs || list_any q ys)
 any_of_both q [] ys = refl
-any_of_both q (x ∷ xs) ys = any_under (q x) (list_any q (xs ++ ys)) (list_any q xs) (list_any q ys) (any_of_both q xs ys)
+any_of_both q (x ∷ xs) ys =
+    any_under (q x) (list_any q (xs ++ ys)) (list_any q xs) (list_any q ys) (any_of_both q xs ys)
 
 -- whether what passes a test and is mapped passes another
 any_one : {X Y : Type 0} (f : X → Y) (q : Y → Bool) (x : X) (xs : List X) (b : Bool)

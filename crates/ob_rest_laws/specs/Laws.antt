@@ -12,7 +12,8 @@ use Rattle.ob_rest_spec.specs.Failing.{is_marked, FailingWay, fails_by}
 -- each object of a store fails in none of the six ways
 abbrev pub FailsInNoWay : ClassTable → Content → Type 0
 FailsInNoWay table content =
-    (n : ℕ) (o : Object) → object_at content.objects n ≡ Some o → (way : FailingWay) → fails_by way table content n o ≡ false
+    (n : ℕ) (o : Object) → object_at content.objects n ≡ Some o → (way : FailingWay)
+    → fails_by way table content n o ≡ false
 
 -- how many fields own the object of a number
 abbrev pub field_owners : ClassTable → List Object → ℕ → ℕ
@@ -41,9 +42,9 @@ AreMarkedFrom [] [] = ⊤
 AreMarkedFrom (o ∷ objects) (p ∷ after) = IsMarkedFrom o p × AreMarkedFrom objects after
 AreMarkedFrom objects after = ⊥
 
--- What keeps a store at rest where nothing runs: objects gain marks at most. No object gains an owner, one that gains a
--- mark has none then, and one that loses an owner has a mark. One on which there is a Shared handle had such a handle, or
--- is marked as shared.
+-- A change that keeps a store at rest: objects gain marks at most. No object gains an owner, one that gains a mark has
+-- none then, and one that loses an owner has a mark. One on which there is a Shared handle had such a handle, or is
+-- marked as shared.
 pub record ChangesQuietly (table : ClassTable) (content after : Content) : Type 0 where
   pub objects : AreMarkedFrom content.objects after.objects
   pub owned : (n : ℕ) → owners table after n ≤ owners table content n
