@@ -1,6 +1,6 @@
 //! Laws of a store at rest: no object fails in any of the six ways; each asset has one owner, unless it is marked;
-//! which object fails first is worked out; the owner of an object is the first of its owning places; which changes keep a store
-//! at rest.
+//! which object fails first is worked out; the owner of an object is the first of its owning places; which changes keep
+//! a store at rest.
 #![tactic(auto)]
 
 mod laws;
