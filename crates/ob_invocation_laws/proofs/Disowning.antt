@@ -181,7 +181,8 @@ goes_quietly : (table : ClassTable) (content : Content) (name : HandleName) (h :
 goes_quietly table content name h objects rest are there marks = record {
   objects = marks.objects;
   owned = λ n. (let left = owners_left table content objects name h n are there marks.objects in omega arith);
-  marked = λ n o p was is unmarked marked. (let left = owners_left table content objects name h n are there marks.objects in
+  marked = λ n o p was is unmarked marked. (
+      let left = owners_left table content objects name h n are there marks.objects in
       let one = marks.gained n o p was is unmarked marked in
       let few = fails_by_none table content rest n o was many_owners in
       none_left (owners table content n) _ (owners_in n (Some h)) few left one);
