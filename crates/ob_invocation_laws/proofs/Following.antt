@@ -65,7 +65,7 @@ module _ (P : Invocation → Type 0) where
   of_found (Some a) go lost rest = rest a refl
 
 -- where the check of a handle doesn't hold, there is one
-is_there : (content : Content) (name : HandleName) (checks : List Check) (found : Option Handle)
+pub is_there : (content : Content) (name : HandleName) (checks : List Check) (found : Option Handle)
     → handle_at content name ≡ found → refusal_of (handle_check content name ∷ checks) ≡ None → found ≡ None → ⊥
 is_there content name checks found same passed lost =
     let gone : handle_at content name ≡ None = same ∙ lost in

@@ -3,3 +3,4 @@ pub mod Leaving
 pub mod Taking
 pub mod Handles
 pub mod Owners
+pub mod Disowning

@@ -2,9 +2,11 @@
 use Rattle.std.specs.Prelude.{ℕ, nat_eq, ◌&&◌, ◌≡◌, Bool, true, false, List, Option, Some, None, All, AllPairs, if◌then◌else◌, ⊤}
 use Rattle.std.specs.Ordering.{eq_by_cmp}
 use Rattle.std.specs.declared.cmp.Ordering.TheVariants.{Less}
+use Rattle.ob_table.specs.Tables.{ClassTable}
 use Rattle.ob_heap_spec.specs.Objects.{Object}
 use Rattle.ob_heap_spec.specs.Contents.{HandleName, Handle, Content, IsHandle, name_order}
 use Rattle.ob_rest_spec.specs.Modes.{is_owned}
+use Rattle.ob_rest_spec.specs.AtRest.{IsAtRest}
 use Rattle.ob_invocation_spec.specs.Handles.{NamedHandle, handle_at}
 use Rattle.ob_invocation_spec.specs.Requests.{Operation, new_request, call_request}
 use Rattle.ob_invocation_spec.specs.Replies.{Reply, refused, is_ok, Invocation, invoked, goes_wrong}
@@ -52,3 +54,8 @@ found_without content gone name = if eq_by_cmp name_order gone name then None el
 abbrev pub owners_in : ℕ → Option Handle → ℕ
 owners_in n None = 0
 owners_in n (Some h) = if nat_eq h.object n && is_owned h.mode then 1 else 0
+
+-- a request doesn't go wrong, and leaves the store at rest
+abbrev pub LeavesAtRest : ClassTable → Invocation → Type 0
+LeavesAtRest table (invoked i) = IsAtRest table i.content
+LeavesAtRest table goes_wrong = ⊥

@@ -5,6 +5,6 @@
 mod laws;
 
 pub use laws::{
-    handles_are_found_by_name, handles_carry_owners, handles_stay_in_order,
+    disown_keeps_rest, handles_are_found_by_name, handles_carry_owners, handles_stay_in_order,
     only_done_requests_change_the_store, only_runs_take_units,
 };
