@@ -15,7 +15,7 @@ use Rattle.ob_flow_spec.specs.Joining.{same_kind, same_mode, joined_known, agree
 use Rattle.ob_flow_laws.specs.Joining.{JoinsBranches}
 use Rattle.ob_places_laws.specs.Serving.{Allows}
 use Rattle.ob_coherent_spec.specs.Saying.{Agrees, AgreesWith}
-use Rattle.ob_coherent_spec.specs.Remaining.{IsPlaceIn, LosesNone, Leads}
+use Rattle.ob_coherent_spec.specs.Remaining.{IsPlaceIn, LosesNone, Leads, KnowsThis}
 
 -- Kinds and permissions.
 
@@ -123,13 +123,13 @@ both_set table x y none = same_or_not (same_kind x.kind y.kind) refl
     first_kept : same_kind x.kind y.kind ≡ true → is_owned_asset table (Some x) ≡ true → owns (joined x.permission y.permission) ≡ true
     first_kept s o = ⊎_elim
         (λ m. owns_first x.permission y.permission m (and_parts _ _ o).0)
-        (λ m. absurd (both_ways _ (owned_neither (agrees_with x y) _ _ none (rw (s, m) refl)).0 o))
+        (λ m. absurd (both_ways _ (owned_neither (agrees_with x y) (is_owned_asset table (Some x)) (is_owned_asset table (Some y)) none (rw s m)).0 o))
         (cases_Bool (same_mode x.permission y.permission))
 
     second_kept : same_kind x.kind y.kind ≡ true → is_owned_asset table (Some y) ≡ true → owns (joined x.permission y.permission) ≡ true
     second_kept s o = ⊎_elim
         (λ m. owns_second x.permission y.permission m (and_parts _ _ o).0)
-        (λ m. absurd (both_ways _ (owned_neither (agrees_with x y) _ _ none (rw (s, m) refl)).1 o))
+        (λ m. absurd (both_ways _ (owned_neither (agrees_with x y) (is_owned_asset table (Some x)) (is_owned_asset table (Some y)) none (rw s m)).1 o))
         (cases_Bool (same_mode x.permission y.permission))
 
     joined_is : (b : Bool) → Option Known
@@ -148,7 +148,7 @@ both_set table x y none = same_or_not (same_kind x.kind y.kind) refl
         })
     same_or_not false s =
         let z : joined_known (Some x) (Some y) ≡ None = rw s refl in
-        let neither = owned_neither (agrees_with x y) _ _ none (rw s refl) in
+        let neither = owned_neither (agrees_with x y) (is_owned_asset table (Some x)) (is_owned_asset table (Some y)) none (rw s refl) in
         (record { known = λ c h. rw z tt; kept = λ o. absurd (both_ways _ neither.0 o) },
         record { known = λ c h. rw z tt; kept = λ o. absurd (both_ways _ neither.1 o) })
 
@@ -180,11 +180,53 @@ known_second (Some x) (Some y) c h = by_kind (same_kind x.kind y.kind) refl
 
 -- Contexts.
 
--- `this` is held so after the join, if it is set after both branches
-abbrev IsSet : Option Known → Type 0
-IsSet x = Rattle.ob_flow_spec.specs.Contexts.is_set x ≡ true
+-- `this` stays known
+this_joined : (b : BodyFrame) (g h : Context) → KnowsThis b g → KnowsThis b h → KnowsThis b (joined_context g h)
+this_joined b g h x y = (joined x.0 y.0, rw (x.1, y.1) (rw (same_kind_self b) refl))
+  where
+    same_kind_self : (b : BodyFrame) → same_kind (Reference b.here) (Reference b.here) ≡ true
+    same_kind_self b = grind arith
+
+this_held : (b : BodyFrame) (g h : Context) → KnowsThis b g → KnowsThis b h
+    → permission_at (joined_context g h) this ≡ joined (permission_at g this) (permission_at h this)
+unfolding this_joined
+this_held b g h x y = rw ((this_joined b g h x y).1, x.1, y.1) refl
+
+pub known_this_joined : (b : BodyFrame) (g h : Context) → KnowsThis b g → KnowsThis b h → KnowsThis b (joined_context g h)
+known_this_joined = this_joined
 
 place_kept : (b : BodyFrame) (under : Permission) (g h : Context) → JoinsBranches b under g h → (p : Location) → IsPlaceIn b p
     → join_loses b.table (g p) (h p) ≡ false
 place_kept b under g h j (slot k) inside = j.slots k inside
 place_kept b under g h j (field f) inside = (j.fields f inside).loses_none
+
+-- the joined context may stand for that of the first branch
+pub leads_first : (b : BodyFrame) (under : Permission) (g h : Context) → KnowsThis b g → KnowsThis b h
+    → JoinsBranches b under g h → Leads b g (joined_context g h)
+leads_first b under g h x y j = record {
+  known = λ p c. known_first (g p) (h p) c;
+  kept = λ p inside. (weakens_both b.table (g p) (h p) (place_kept b under g h j p inside)).0.kept;
+  mode = rw (this_held b g h x y) (mode_first _ _ j.itself);
+}
+
+-- and for that of the second
+pub leads_second : (b : BodyFrame) (under : Permission) (g h : Context) → KnowsThis b g → KnowsThis b h
+    → JoinsBranches b under g h → Leads b h (joined_context g h)
+leads_second b under g h x y j = record {
+  known = λ p c. known_second (g p) (h p) c;
+  kept = λ p inside. (weakens_both b.table (g p) (h p) (place_kept b under g h j p inside)).1.kept;
+  mode = rw (this_held b g h x y) (mode_second _ _ j.itself);
+}
+
+same_mode_self : (p : Permission) → same_mode p p ≡ true
+same_mode_self (owned a) = refl
+same_mode_self shared = refl
+same_mode_self unowned = refl
+
+-- a context may stand for itself
+pub leads_self : (b : BodyFrame) (g : Context) → Leads b g g
+leads_self b g = record { known = λ p c h. h; kept = λ p inside o. owns_known (g p) o; mode = same_mode_self _ }
+  where
+    owns_known : (x : Option Known) → is_owned_asset b.table x ≡ true → owns (permission_on x) ≡ true
+    owns_known None o = absurd (cc)
+    owns_known (Some x) o = (and_parts _ _ o).0
