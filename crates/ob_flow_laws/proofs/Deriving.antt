@@ -1,17 +1,17 @@
 -- What holds where a form derives, and what is left after it.
-use Rattle.std.proofs.Common.{◌≡◌, List, Option, Some, None, Ok, sym, subst}
+use Rattle.std.proofs.Common.{◌≡◌, List, [], Option, Some, None, Ok, Err, IsOk, refl, sym, subst, ◌∙◌}
 use Rattle.std.specs.Option.{option_map_or}
 use Rattle.ob_base.specs.declared.fault.Span.{Span}
 use Rattle.ob_base.specs.declared.id.StateId.{StateId}
 use Rattle.ob_perm.specs.Permissions.{unowned}
-use Rattle.ob_table.specs.Tables.{signature_at, signature_of}
+use Rattle.ob_table.specs.Tables.{ClassTable, signature_at, signature_of}
 use Rattle.ob_table.specs.declared.contract.Signature.{Signature}
-use Rattle.ob_silica.specs.Terms.{SilicaForm, unit_form, const_form, op_form, copy_form, move_form, new_form, call_form, call_this_form, change_form, test_form, if_form, assert_form, disown_form, drop_form, return_form, revert_form, bad_row_form, SilicaTerms, no_terms, and_term}
+use Rattle.ob_silica.specs.Terms.{SilicaForm, unit_form, const_form, op_form, copy_form, move_form, new_form, call_form, call_this_form, change_form, test_form, if_form, assert_form, disown_form, drop_form, return_form, revert_form, bad_row_form, SilicaTerms, no_terms, and_term, then_terms, SilicaBody}
 use Rattle.ob_silica.specs.declared.place.Operand.{Operand}
 use Rattle.ob_silica_places.specs.Known.{kind_of_constant, kind_of_operator}
 use Rattle.ob_silica_places.specs.Places.{slot, located, location_of}
-use Rattle.ob_flow_spec.specs.Premises.{Premise, checked}
-use Rattle.ob_flow_spec.specs.Contexts.{BodyFrame, Context, put, now, counted, TestedPlaces}
+use Rattle.ob_flow_spec.specs.Premises.{Premise, checked, ◌>>=◌}
+use Rattle.ob_flow_spec.specs.Contexts.{BodyFrame, Context, put, now, counted, TestedPlaces, beginning}
 use Rattle.ob_flow_spec.specs.Uses.{uses_place}
 use Rattle.ob_flow_spec.specs.Binding.{read_of}
 use Rattle.ob_flow_spec.specs.Straight.{put_value, operates_on, copies_place, after_copy, moves_place, after_move, asserts_permission, disowns_place, drops_slot}
@@ -19,11 +19,12 @@ use Rattle.ob_flow_spec.specs.Calling.{makes_object, after_new, calls_object, af
 use Rattle.ob_flow_spec.specs.Changing.{changes_state, after_change}
 use Rattle.ob_flow_spec.specs.Returning.{returns_result}
 use Rattle.ob_flow_spec.specs.Testing.{tests_state, in_tested_state, in_other_state, tested_with, first_branch_ended, this_left}
-use Rattle.ob_flow_spec.specs.Deriving.{derive, derive_all, if_reached, constructor}
+use Rattle.ob_flow_spec.specs.Deriving.{Derived, constructor, if_reached, derive, derive_all, derive_in, body_frame, Derives}
 use Rattle.ob_flow_laws.specs.Premises.{Hold}
-use Rattle.ob_flow_laws.specs.Deriving.{PassesSigned, PassesTest, PassesIf, Passes, GoesOn, PassesAll}
+use Rattle.ob_flow_laws.specs.Deriving.{PassesSigned, PassesTest, PassesIf, Passes, RestDerives, PassesAll}
 use Rattle.ob_flow_laws.specs.Calling.{CanMake, CanCall, CanCallThis}
 use Rattle.ob_flow_laws.proofs.Premises.{checked_holds, checked_then, bind_ok, ok_same}
+use Rattle.ob_flow_laws.proofs.Outcomes.{in_turn}
 use Rattle.ob_flow_laws.proofs.Uses.{can_use}
 use Rattle.ob_flow_laws.proofs.Straight.{can_operate, can_copy, can_move, is_asserted, can_disown, can_drop}
 use Rattle.ob_flow_laws.proofs.Calling.{can_make, can_call, can_call_this}
@@ -136,10 +137,10 @@ passes b ts (revert_form text) at g left e =
     (can_use b g (read_of text) r.0, r.1)
 passes b ts bad_row_form at g left e = absurd (cc)
 
-goes_on_so : (b : BodyFrame) (ts : TestedPlaces) (rest : SilicaTerms) (mid left : Option Context)
-    → if_reached mid (λ h. derive_all b ts rest h) ≡ Ok left → GoesOn b ts rest mid left
-goes_on_so b ts rest None left e = sym (ok_same None left e)
-goes_on_so b ts rest (Some h) left e = e
+rest_derives_so : (b : BodyFrame) (ts : TestedPlaces) (rest : SilicaTerms) (mid left : Option Context)
+    → if_reached mid (λ h. derive_all b ts rest h) ≡ Ok left → RestDerives b ts rest mid left
+rest_derives_so b ts rest None left e = sym (ok_same None left e)
+rest_derives_so b ts rest (Some h) left e = e
 
 -- terms that derive are passed, one after another
 pub passes_all : (b : BodyFrame) (ts : TestedPlaces) (terms : SilicaTerms) (g : Context) (left : Option Context)
@@ -147,4 +148,50 @@ pub passes_all : (b : BodyFrame) (ts : TestedPlaces) (terms : SilicaTerms) (g : 
 passes_all b ts no_terms g left e = sym (ok_same (Some g) left e)
 passes_all b ts (and_term form at rest) g left e =
     let r = bind_ok (derive b ts form at g) _ left e in
-    record { mid = r.0; derives = r.1; goes_on = goes_on_so b ts rest r.0 left r.2 }
+    record { mid = r.0; derives = r.1; rest_derives = rest_derives_so b ts rest r.0 left r.2 }
+
+-- what a form leaves, and the rest from there
+pub passes_then : (b : BodyFrame) (ts : TestedPlaces) (form : SilicaForm) (at : Span) (rest : SilicaTerms) (g : Context)
+    (left : Option Context) → derive_all b ts (and_term form at rest) g ≡ Ok left
+    → (mid : Option Context) × Passes b ts form at g mid × RestDerives b ts rest mid left
+passes_then b ts form at rest g left e =
+    let r = passes_all b ts (and_term form at rest) g left e in
+    (r.mid, passes b ts form at g r.mid r.derives, r.rest_derives)
+
+-- where this is left, the rest derives from it
+pub rest_from : (b : BodyFrame) (ts : TestedPlaces) (rest : SilicaTerms) (mid left : Option Context) (h : Context)
+    → mid ≡ Some h → RestDerives b ts rest mid left → derive_all b ts rest h ≡ Ok left
+rest_from b ts rest mid left h e r = subst (λ m. RestDerives b ts rest m left) e r
+
+-- where nothing is left, the rest leaves nothing
+pub rest_unreached : (b : BodyFrame) (ts : TestedPlaces) (rest : SilicaTerms) (mid left : Option Context) → mid ≡ None
+    → RestDerives b ts rest mid left → left ≡ None
+rest_unreached b ts rest mid left e r = subst (λ m. RestDerives b ts rest m left) e r
+
+-- a form with these premises, after which this is known, holds them, and the rest derives from there
+pub goes_on : (b : BodyFrame) (ts : TestedPlaces) (form : SilicaForm) (at : Span) (rest : SilicaTerms) (g h : Context)
+    (ps : List Premise) (left : Option Context) → derive b ts form at g ≡ checked ps (Some h)
+    → derive_all b ts (and_term form at rest) g ≡ Ok left → Hold ps × (derive_all b ts rest h ≡ Ok left)
+goes_on b ts form at rest g h ps left d e =
+    let follows : Option Context → Derived = λ mid. if_reached mid (λ j. derive_all b ts rest j) in
+    checked_then ps (Some h) follows left (subst (λ r. (r >>= follows) ≡ Ok left) d e)
+
+-- a front part of terms derives, and the rest from what it left
+pub passes_in_turn : (b : BodyFrame) (ts : TestedPlaces) (front rest : SilicaTerms) (g : Context)
+    (left : Option Context)
+    → derive_all b ts (then_terms front rest) g ≡ Ok left
+    → (mid : Option Context) × (derive_all b ts front g ≡ Ok mid) × RestDerives b ts rest mid left
+passes_in_turn b ts front rest g left e =
+    let r = bind_ok (derive_all b ts front g) (λ mid. if_reached mid (λ h. derive_all b ts rest h)) left
+    (sym (in_turn b ts front rest g) ∙ e) in
+    (r.0, r.1, rest_derives_so b ts rest r.0 left r.2)
+
+ok_left : (r : Derived) → IsOk r → (left : Option Context) × (r ≡ Ok left)
+ok_left (Ok left) ok = (left, refl)
+ok_left (Err fault) ok = absurd (cc)
+
+-- the terms of a body that derives do so from its beginning
+pub body_passes : (table : ClassTable) (body : SilicaBody) (b : BodyFrame) → body_frame table body ≡ Some b
+    → Derives table body → (left : Option Context) × (derive_all b [] body.terms (beginning b) ≡ Ok left)
+body_passes table body b e d =
+    ok_left (derive_in b body.terms) (subst (λ o. IsOk (option_map_or (λ c. derive_in c body.terms) o (Ok None))) e d)

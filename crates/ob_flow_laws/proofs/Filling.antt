@@ -1,11 +1,11 @@
 -- What holds of a place that fills a field.
-use Rattle.std.proofs.Common.{ℕ, ◌++◌}
+use Rattle.std.proofs.Common.{ℕ, List, ◌++◌}
 use Rattle.std.specs.Prelude.{not}
 use Rattle.ob_base.specs.Faults.{not_owning, under_test}
 use Rattle.ob_base.specs.declared.fault.Span.{Span}
 use Rattle.ob_perm.specs.Permissions.{Permission, owned, shared, unowned, owns, is_unowned}
 use Rattle.ob_silica_places.specs.Places.{this}
-use Rattle.ob_flow_spec.specs.Premises.{one}
+use Rattle.ob_flow_spec.specs.Premises.{Premise, one}
 use Rattle.ob_flow_spec.specs.Contexts.{BodyFrame, Context, permission_at, counted, declared_permission, TestedPlaces, is_tested}
 use Rattle.ob_flow_spec.specs.Uses.{Read, uses_place}
 use Rattle.ob_flow_spec.specs.Filling.{field_parameter, fills_as, fills_field}
@@ -17,7 +17,7 @@ use Rattle.ob_flow_laws.proofs.Uses.{can_use, can_give}
 
 -- the premises on a place of which ownership is given up
 abbrev pub gives_up : BodyFrame → TestedPlaces → Context → Read
-    → Rattle.std.specs.Prelude.List Rattle.ob_flow_spec.specs.Premises.Premise
+    → List Premise
 gives_up b ts g r =
     uses_place b g r ++ one not_owning r.span (owns (counted g r.location))
     ++ one under_test r.span (not (is_tested ts r.location))

@@ -3,8 +3,9 @@ use Rattle.std.proofs.Common.{◌≡◌, ℕ, zero, suc, ◌<◌, Bool, true, fa
 use Rattle.std.specs.Prelude.{nat_eq, slice_get, if◌then◌else◌}
 use Rattle.ob_base.specs.declared.fault.ProgramFault.{ProgramFault}
 use Rattle.ob_base.specs.declared.fault.Span.{Span}
-use Rattle.ob_flow_spec.specs.Premises.{Premise, one, each, for_all, first_failing, checked, ◌>>=◌}
+use Rattle.ob_flow_spec.specs.Premises.{Premise, one, each, for_all, first_failing, unless, checked, ◌>>=◌}
 use Rattle.ob_flow_laws.specs.Premises.{Hold}
+use Rattle.ob_flow_laws.proofs.Tests.{same_number}
 
 -- None fails where all hold, and the other way round.
 
@@ -25,7 +26,7 @@ none_fails (p ∷ ps) h = rw h.0 (none_fails ps h.1)
 
 then_holds : {A B : Type 0} (p : Premise) (ps : List Premise) (x : A) (f : A → Result B ProgramFault) (y : B)
     → ((checked ps x >>= f) ≡ Ok y → Hold ps × (f x ≡ Ok y)) → (b : Bool) → p.holds ≡ b
-    → (Rattle.ob_flow_spec.specs.Premises.unless (if b then first_failing ps else Some p.fault) x >>= f) ≡ Ok y
+    → (unless (if b then first_failing ps else Some p.fault) x >>= f) ≡ Ok y
     → Hold (p ∷ ps) × (f x ≡ Ok y)
 then_holds p ps x f y go true e h = let r = go h in ((e, r.0), r.1)
 then_holds p ps x f y go false e h = absurd (cc)
@@ -76,9 +77,6 @@ hold_one number place b h = (h, tt)
 
 -- Premises for each number.
 
-same_number : (k n : ℕ) → nat_eq k n ≡ true → k ≡ n
-same_number k n e = grind arith
-
 lower_number : (k n : ℕ) → k < suc n → nat_eq k n ≡ false → k < n
 lower_number k n lt e = grind arith
 
@@ -100,7 +98,7 @@ hold_each (suc n) says h =
 
 -- Premises for each thing of a list.
 
-found_first : {A : Type 0} (x y : A) → ◌≡◌ {A = Option A} (Some x) (Some y) → x ≡ y
+pub found_first : {A : Type 0} (x y : A) → ◌≡◌ {A = Option A} (Some x) (Some y) → x ≡ y
 found_first x y e = cc
 
 pub for_all_at : {A : Type 0} (xs : List A) (says : A → List Premise) → Hold (for_all xs says) → (k : ℕ) (x : A)

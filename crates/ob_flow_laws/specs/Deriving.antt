@@ -87,16 +87,16 @@ Passes b ts (revert_form text) at g left = CanUse b g (located text) × (left �
 Passes b ts bad_row_form at g left = ⊥
 
 -- the rest of terms derives from what the form before left, if it was passed
-abbrev pub GoesOn : BodyFrame → TestedPlaces → SilicaTerms → Option Context → Option Context → Type 0
-GoesOn b ts rest None left = left ≡ None
-GoesOn b ts rest (Some h) left = derive_all b ts rest h ≡ Ok left
+abbrev pub RestDerives : BodyFrame → TestedPlaces → SilicaTerms → Option Context → Option Context → Type 0
+RestDerives b ts rest None left = left ≡ None
+RestDerives b ts rest (Some h) left = derive_all b ts rest h ≡ Ok left
 
 -- a form derives and leaves `mid`, from which the rest of the terms derives
 pub record PassesThen (b : BodyFrame) (ts : TestedPlaces) (form : SilicaForm) (at : Span) (rest : SilicaTerms)
     (g : Context) (left : Option Context) : Type 0 where
   pub mid : Option Context
   pub derives : derive b ts form at g ≡ Ok mid
-  pub goes_on : GoesOn b ts rest mid left
+  pub rest_derives : RestDerives b ts rest mid left
 
 -- terms are passed in this context: each form derives from what the one before left
 abbrev pub PassesAll : BodyFrame → TestedPlaces → SilicaTerms → Context → Option Context → Type 0
