@@ -1,3 +1,4 @@
 pub mod Joins
 pub mod Knowing
 pub mod Remaining
+pub mod Branches
