@@ -2,3 +2,4 @@ pub mod Joins
 pub mod Knowing
 pub mod Remaining
 pub mod Branches
+pub mod Following
