@@ -1,0 +1,6 @@
+pub mod Joins
+pub mod Knowing
+pub mod Remaining
+pub mod Branches
+pub mod Following
+pub mod Programs

@@ -1,0 +1,2 @@
+//! Coherent configurations: what each configuration keeps that a run of an accepted program reaches.
+#![tactic(auto)]
