@@ -3,3 +3,7 @@ pub mod Objects
 pub mod Cells
 pub mod Places
 pub mod Numbers
+pub mod Marking
+pub mod Writing
+pub mod Whole
+pub mod NextNumber
