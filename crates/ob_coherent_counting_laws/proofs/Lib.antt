@@ -6,4 +6,5 @@ pub mod Numbers
 pub mod Marking
 pub mod Writing
 pub mod Whole
+pub mod Frames
 pub mod NextNumber
