@@ -15,11 +15,10 @@ use Rattle.ob_base.specs.declared.id.TxId.{TxId}
 use Rattle.ob_base.specs.declared.permission.Mode.{Mode}
 use Rattle.ob_base.specs.declared.permission.Mode.TheVariants.{Owned, Shared, Unowned}
 use Rattle.ob_base.specs.declared.permission.Perm.{Perm}
-use Rattle.ob_perm.specs.States.{all_states, preimage}
-use Rattle.ob_perm.specs.Permissions.{Permission, owned, shared, unowned, owns, IsNumberedPermission}
+use Rattle.ob_perm.specs.Permissions.{owns}
 use Rattle.ob_perm.specs.Masks.{states_of, held, permission_of}
-use Rattle.ob_perm.specs.Naming.{Names, IsNaming, seen, for_contract}
-use Rattle.ob_perm.proofs.StandsLemmas.{permission_of-perm_of, intersection_numbered, all_states_numbered}
+use Rattle.ob_perm.specs.Naming.{for_contract}
+use Rattle.ob_perm.proofs.StandsLemmas.{permission_of-perm_of}
 use Rattle.ob_table.specs.Tables.{ClassTable, contract_at, signature_at, signature_of}
 use Rattle.ob_table.specs.declared.contract.Contract.{Contract}
 use Rattle.ob_table.specs.declared.contract.Param.{Param}
@@ -38,28 +37,35 @@ use Rattle.ob_places_laws.specs.Serving.{AllowsState}
 use Rattle.ob_places_laws.specs.Answering.{Answers, HasAnswer}
 use Rattle.ob_places_laws.proofs.Tables.{each_at, contract_is, has_constructor, transaction_is, called_is, no_constructor, signature_from, leaves_as_came}
 use Rattle.ob_places_laws.proofs.Interfaces.{implemented_is, implemented_other, interface_is, implementing_plain}
-use Rattle.ob_places_laws.proofs.Conversions.{serves_itself, serves_for_reference, naming_in, converted_same, converted_down, converted_mode}
+use Rattle.ob_places_laws.proofs.Conversions.{for_contract_numbered, serves_itself, serves_for_reference, naming_in, converted_same, converted_down, converted_mode}
 use Rattle.ob_places_laws.proofs.SeenStates.{converted_allows_state, allowed_before}
 
 -- Lists.
 
-get_map : {A B : Type 0} (f : A → B) (xs : List A) (n : ℕ) (x : A) → slice_get xs n ≡ Some x → slice_get (map f xs) n ≡ Some (f x)
+get_map : {A B : Type 0} (f : A → B) (xs : List A) (n : ℕ) (x : A) → slice_get xs n ≡ Some x
+    → slice_get (map f xs) n ≡ Some (f x)
 get_map f [] n x e = absurd (cc)
 get_map f (y ∷ xs) zero x e = ap (option_map f) e
 get_map f (y ∷ xs) (suc n) x e = get_map f xs n x e
 
-found_at : {A : Type 0} (xs : List A) (k : ℕ) (x : A) → k < length xs → slice_index_or xs k x ≡ x → slice_get xs k ≡ Some x
+found_at : {A : Type 0} (xs : List A) (k : ℕ) (x : A) → k < length xs → slice_index_or xs k x ≡ x
+    → slice_get xs k ≡ Some x
 found_at xs k x lt e = slice_get-get_or xs k x lt ∙ ap Some e
 
 -- Of distinct names each stands once.
-once : (xs : List Signature) (i j : ℕ) (x y : Signature) → AreDistinct (map (λ s. s.name) xs) → slice_get xs i ≡ Some x → slice_get xs j ≡ Some y → x.name ≡ y.name → x ≡ y
+once : (xs : List Signature) (i j : ℕ) (x y : Signature) → AreDistinct (map (λ s. s.name) xs) → slice_get xs i ≡ Some x
+    → slice_get xs j ≡ Some y → x.name ≡ y.name → x ≡ y
 once xs i j x y distinct ei ej same = by_order (cases_order i j)
   where
-    apart : (a b : ℕ) (u v : Signature) → a < b → slice_get xs a ≡ Some u → slice_get xs b ≡ Some v → u.name ≡ v.name → ⊥
+    apart : (a b : ℕ) (u v : Signature) → a < b → slice_get xs a ≡ Some u → slice_get xs b ≡ Some v → u.name ≡ v.name
+        → ⊥
     apart a b u v lt ea eb e =
-        distinct a b u.name lt (subst (λ n. b < n) (sym (length-map xs (λ (s : Signature). s.name))) (slice_get_within xs b v eb))
-        (get_or_from_slice_get (map (λ (s : Signature). s.name) xs) a u.name u.name (get_map (λ s. s.name) xs a u ea) ∙ e
-        ∙ sym (get_or_from_slice_get (map (λ (s : Signature). s.name) xs) b v.name u.name (get_map (λ s. s.name) xs b v eb)))
+        distinct a b u.name lt (subst (λ n. b < n) (sym (length-map xs (λ (s : Signature). s.name)))
+        (slice_get_within xs b v eb))
+        (get_or_from_slice_get (map (λ (s : Signature). s.name) xs) a u.name u.name (get_map (λ s. s.name) xs a u ea)
+        ∙ e
+        ∙ sym (get_or_from_slice_get (map (λ (s : Signature). s.name) xs) b v.name u.name
+        (get_map (λ s. s.name) xs b v eb)))
 
     by_order : (i ≡ j) ⊎ ((i < j) ⊎ (j < i)) → x ≡ y
     by_order (inl e) = same_Some x y (sym ei ∙ ap (slice_get xs) e ∙ ej)
@@ -67,11 +73,13 @@ once xs i j x y distinct ei ej same = by_order (cases_order i j)
     by_order (inr (inr lt)) = absurd (apart j i y x lt ej ei (sym same))
 
 -- Where something passes, there is a first that does.
-first_low : {A : Type 0} (p : A → Bool) (xs : List A) (j : ℕ) (x : A) → slice_get xs j ≡ Some x → p x ≡ true → position_or_len p xs < length xs
+first_low : {A : Type 0} (p : A → Bool) (xs : List A) (j : ℕ) (x : A) → slice_get xs j ≡ Some x → p x ≡ true
+    → position_or_len p xs < length xs
 first_low p xs j x e h = ⊎_elim
     (λ low. low)
     (λ past. let within = slice_get_within xs j x e in
-    absurd (both_ways (p x) (sym (ap p (get_or_from_slice_get xs j x x e)) ∙ fails_before_first p xs j x (omega (arith, within, past))) h))
+    absurd (both_ways (p x) (sym (ap p (get_or_from_slice_get xs j x x e)) ∙ fails_before_first p xs j x
+    (omega (arith, within, past))) h))
     (cases_lt (position_or_len p xs) (length xs))
 
 first_found : {A : Type 0} (p : A → Bool) (xs : List A) (j : ℕ) (x : A) → slice_get xs j ≡ Some x → p x ≡ true
@@ -89,12 +97,16 @@ no_name : (name : List ℕ) → name ≡ [] → IsTrue (is_name name) → ⊥
 no_name name e t = true≢false (sym (sym (ap is_name e) ∙ t))
 
 -- A transaction of a name is found at no other number, and never at the constructor's.
-named_once : (table : ClassTable) (own : Contract) (ts : List Signature) (s g : Signature) (n k : ℕ) → IsSomeAnd (slice_get ts 0) (IsConstructor table own) → All (IsTransaction table own) (drop 1 ts)
-    → AreDistinct (map (λ s. s.name) (drop 1 ts)) → slice_get (drop 1 ts) k ≡ Some s → slice_get ts n ≡ Some g → s.name ≡ g.name → (g ≡ s) × (n ≢ 0)
+named_once : (table : ClassTable) (own : Contract) (ts : List Signature) (s g : Signature) (n k : ℕ)
+    → IsSomeAnd (slice_get ts 0) (IsConstructor table own) → All (IsTransaction table own) (drop 1 ts)
+    → AreDistinct (map (λ s. s.name) (drop 1 ts)) → slice_get (drop 1 ts) k ≡ Some s → slice_get ts n ≡ Some g
+    → s.name ≡ g.name → (g ≡ s) × (n ≢ 0)
 named_once table own [] s g n k first all distinct es eg same = absurd (cc)
 named_once table own (c ∷ ts) s g zero k first all distinct es eg same =
-    absurd (no_name s.name (same ∙ ap (λ (x : Signature). x.name) (sym (same_Some c g eg)) ∙ first.name) (each_at (IsTransaction table own) ts k s all es).name)
-named_once table own (c ∷ ts) s g (suc n) k first all distinct es eg same = (once ts n k g s distinct eg es (sym same), λ e. omega (arith, e))
+    absurd (no_name s.name (same ∙ ap (λ (x : Signature). x.name) (sym (same_Some c g eg)) ∙ first.name)
+    (each_at (IsTransaction table own) ts k s all es).name)
+named_once table own (c ∷ ts) s g (suc n) k first all distinct es eg same =
+    (once ts n k g s distinct eg es (sym same), λ e. omega (arith, e))
 
 later : {A : Type 0} (ts : List A) (k : ℕ) (s : A) → slice_get (drop 1 ts) k ≡ Some s → slice_get ts (suc k) ≡ Some s
 later [] k s e = absurd (cc)
@@ -121,7 +133,8 @@ found_among table own ts s name k first all distinct es named =
 found_by_name : (table : ClassTable) (own : Contract) → IsContract table own → own.interface ≡ false → (s : Signature)
     → Contains (transactions_in own) s → (name : List ℕ) → s.name ≡ name → IsFound own.transactions s name
 found_by_name table own c plain s has name named =
-    found_among table own own.transactions s name has.0 (subst (λ o. IsSomeAnd o (IsConstructor table own)) (sym made.1) made.2)
+    found_among table own own.transactions s name has.0
+    (subst (λ o. IsSomeAnd o (IsConstructor table own)) (sym made.1) made.2)
     (subst (All (IsTransaction table own)) in_own c.transactions)
     (subst (λ ts. AreDistinct (map (λ s. s.name) ts)) in_own c.distinct_transactions)
     (found_at (drop 1 own.transactions) has.0 s (subst (λ ts. has.0 < length ts) in_own has.1)
@@ -135,19 +148,16 @@ found_by_name table own c plain s has name named =
 
 -- Permissions of `this`.
 
-for_contract_numbered : (names : Names) (p : Permission) → IsNaming names → IsNumberedPermission (for_contract names p)
-for_contract_numbered names (owned a) is =
-    intersection_numbered (all_states (length names)) (preimage (seen names) a) (all_states_numbered (length names) is.of_contract)
-for_contract_numbered names shared is = tt
-for_contract_numbered names unowned is = tt
-
 -- What a contract says of `this` is what its interface asks, said for the contract.
-pub said_as_is : (table : ClassTable) → IsClassTable table → (d e : ContractId) (interface own : Contract) (asked p : Perm)
-    → contract_at table d ≡ Some interface → contract_at table e ≡ Some own → is_implemented table e d ≡ true → IsSaidAs interface own asked p
+pub said_as_is : (table : ClassTable) → IsClassTable table
+    → (d e : ContractId) (interface own : Contract) (asked p : Perm)
+    → contract_at table d ≡ Some interface → contract_at table e ≡ Some own → is_implemented table e d ≡ true
+    → IsSaidAs interface own asked p
     → permission_of p ≡ converted table (Reference d) (Reference e) (permission_of asked)
 said_as_is table is d e interface own asked p ed ee i said =
     ap permission_of said
-    ∙ permission_of-perm_of (for_contract (naming interface own) (permission_of asked)) (for_contract_numbered (naming interface own) (permission_of asked) (naming_in table is d e interface own ed ee))
+    ∙ permission_of-perm_of (for_contract (naming interface own) (permission_of asked))
+    (for_contract_numbered (naming interface own) (permission_of asked) (naming_in table is d e interface own ed ee))
     ∙ sym (converted_down table is d e interface own (permission_of asked) ed ee i)
 
 -- Of one contract a transaction answers itself.
@@ -162,7 +172,8 @@ answers_itself table d s = record {
 
 module _ (table : ClassTable) (is : IsClassTable table) where
   -- an object of the contract itself
-  by_itself : (d : ContractId) (tx : TxId) (asked : Signature) (own : Contract) → contract_at table d ≡ Some own → signature_of table d tx ≡ Some asked
+  by_itself : (d : ContractId) (tx : TxId) (asked : Signature) (own : Contract) → contract_at table d ≡ Some own
+      → signature_of table d tx ≡ Some asked
       → own.interface ≡ false → is_constructor table d tx.0 ≡ false → HasAnswer table d d own tx asked
   by_itself d tx asked own ed easked plain called =
       let there : signature_at own tx ≡ Some asked = sym (signature_from table d tx own ed) ∙ easked in
@@ -188,22 +199,26 @@ module _ (table : ClassTable) (is : IsClassTable table) where
       let there = sym (signature_from table d tx interface.0 interface.1) ∙ easked in
       let met = each_at (Met interface.0) interface.0.transactions tx.0 asked interface.3.transactions there in
       answered interface.0 interface.1 met.0 met.2
-      (found_by_name table own (contract_is table is e own ee) (implementing_plain table is e d own ee i) met.0 met.1 asked.name met.2.name)
+      (found_by_name table own (contract_is table is e own ee)
+      (implementing_plain table is e d own ee i) met.0 met.1 asked.name met.2.name)
     where
       Met : Contract → Signature → Type 0
       Met interface a = (x : Signature) × Contains (transactions_in own) x × AnswersInterface interface own a x
 
       not_same : nat_eq d.0 e.0 ≡ false
-      not_same = ne_eqb d.0 e.0 (λ z. both_ways (nat_eq e.0 d.0) (implemented_other table is e d i) (eq-eqb e.0 d.0 (sym z)))
+      not_same = ne_eqb d.0 e.0 (λ z. both_ways (nat_eq e.0 d.0) (implemented_other table is e d i)
+          (eq-eqb e.0 d.0 (sym z)))
 
       implements : implements_it d own ≡ true
       implements =
           let names = implemented_is table e d i in
           let same : names.0 ≡ own = same_Some names.0 own (sym names.1 ∙ ee) in
-          ap (λ o. option_map_or (λ (id : ContractId). d.0 == id.0) o false) (ap (λ (y : Contract). y.implements) (sym same) ∙ names.2)
+          ap (λ o. option_map_or (λ (id : ContractId). d.0 == id.0) o false)
+          (ap (λ (y : Contract). y.implements) (sym same) ∙ names.2)
           ∙ eq-eqb d.0 d.0 refl
 
-      answered : (interface : Contract) → contract_at table d ≡ Some interface → (s : Signature) → AnswersInterface interface own asked s
+      answered : (interface : Contract) → contract_at table d ≡ Some interface → (s : Signature)
+          → AnswersInterface interface own asked s
           → IsFound own.transactions s asked.name → HasAnswer table d e own tx asked
       answered interface ed s h f = record {
         number = record { 0 = f.number };
@@ -213,7 +228,8 @@ module _ (table : ClassTable) (is : IsClassTable table) where
             ∙ ap (option_map (λ n. record { 0 = n })) f.found;
         there = f.there;
         no_constructor = f.other;
-        transaction = transaction_is table own (contract_is table is e own ee) (record { 0 = f.number }) s (inr f.other) f.there;
+        transaction = transaction_is table own (contract_is table is e own ee) (record { 0 = f.number }) s
+            (inr f.other) f.there;
         answers = record {
           params = h.params;
           result = h.result;
@@ -224,49 +240,67 @@ module _ (table : ClassTable) (is : IsClassTable table) where
       }
 
   -- An object has an answer to each transaction that its contract or its interface declares.
-  pub has_answer : (d e : ContractId) (tx : TxId) (asked : Signature) (own : Contract) → contract_at table e ≡ Some own → own.interface ≡ false
-      → signature_of table d tx ≡ Some asked → is_constructor table d tx.0 ≡ false → serves_as table (Reference d) (Reference e) ≡ true
+  pub has_answer : (d e : ContractId) (tx : TxId) (asked : Signature) (own : Contract) → contract_at table e ≡ Some own
+      → own.interface ≡ false
+      → signature_of table d tx ≡ Some asked → is_constructor table d tx.0 ≡ false
+      → serves_as table (Reference d) (Reference e) ≡ true
       → HasAnswer table d e own tx asked
   has_answer d e tx asked own ee plain easked called serves = by_which (serves_for_reference table d e serves)
     where
       by_which : (d ≡ e) ⊎ (is_implemented table e d ≡ true) → HasAnswer table d e own tx asked
-      by_which (inl same) = subst (λ z. HasAnswer table d z own tx asked) same (by_itself d tx asked own (ap (contract_at table) same ∙ ee) easked plain called)
+      by_which (inl same) =
+          subst (λ z. HasAnswer table d z own tx asked) same
+          (by_itself d tx asked own (ap (contract_at table) same ∙ ee) easked plain called)
       by_which (inr i) = by_name d e tx asked own ee easked i
 
   -- What is found is that answer.
-  pub answer_is : (d e : ContractId) (tx : TxId) (asked : Signature) (own : Contract) (t : TxId) (s : Signature) → contract_at table e ≡ Some own → own.interface ≡ false
-      → signature_of table d tx ≡ Some asked → is_constructor table d tx.0 ≡ false → serves_as table (Reference d) (Reference e) ≡ true
-      → answering d tx asked e own ≡ Some t → signature_at own t ≡ Some s → (t.0 ≢ 0) × IsTransaction table own s × Answers table d e asked s
+  pub answer_is : (d e : ContractId) (tx : TxId) (asked : Signature) (own : Contract) (t : TxId) (s : Signature)
+      → contract_at table e ≡ Some own → own.interface ≡ false
+      → signature_of table d tx ≡ Some asked → is_constructor table d tx.0 ≡ false
+      → serves_as table (Reference d) (Reference e) ≡ true
+      → answering d tx asked e own ≡ Some t → signature_at own t ≡ Some s
+      → (t.0 ≢ 0) × IsTransaction table own s × Answers table d e asked s
   answer_is d e tx asked own t s ee plain easked called serves et es =
       let a = has_answer d e tx asked own ee plain easked called serves in
       let number : a.number ≡ t = same_Some a.number t (sym a.found ∙ et) in
-      let signature : a.signature ≡ s = same_Some a.signature s (sym a.there ∙ ap (signature_at own) number ∙ es) in
-      (subst (λ (x : TxId). x.0 ≢ 0) number a.no_constructor, subst (IsTransaction table own) signature a.transaction, subst (Answers table d e asked) signature a.answers)
+      let signature : a.signature ≡ s = same_Some a.signature s (sym a.there ∙ ap (signature_at own) number ∙ es) in (
+        subst (λ (x : TxId). x.0 ≢ 0) number a.no_constructor,
+        subst (IsTransaction table own) signature a.transaction,
+        subst (Answers table d e asked) signature a.answers,
+      )
 
 -- What follows from an answer.
 
--- The state in which a call finds an object, as who calls it sees it, lets the answer begin, and where the answer leaves
+-- The state in which a call finds an object, as its caller sees it, lets the answer begin; and where the answer leaves
 -- it in a state of its exit, this is one of the declared exit.
-module _ (table : ClassTable) (is : IsClassTable table) (own : Contract) (o : Object) (ec : contract_at table o.contract ≡ Some own) (state : IsStateOf own o.state) where
-  pub answer_begins : (d : ContractId) (asked s : Signature) → serves_as table (Reference d) (Reference o.contract) ≡ true → Answers table d o.contract asked s
-      → AllowsState (permission_of asked.entry) (seen_state table d o) → AllowsState (permission_of s.entry) (seen_state table o.contract o)
+module _ (table : ClassTable) (is : IsClassTable table) (own : Contract) (o : Object)
+    (ec : contract_at table o.contract ≡ Some own) (state : IsStateOf own o.state) where
+  pub answer_begins : (d : ContractId) (asked s : Signature)
+      → serves_as table (Reference d) (Reference o.contract) ≡ true → Answers table d o.contract asked s
+      → AllowsState (permission_of asked.entry) (seen_state table d o)
+      → AllowsState (permission_of s.entry) (seen_state table o.contract o)
   answer_begins d asked s serves a h = subst (λ p. AllowsState p (seen_state table o.contract o)) (sym a.entry)
-      (converted_allows_state table is own o ec state d o.contract (permission_of asked.entry) serves (serves_itself table (Reference o.contract)) h)
+      (converted_allows_state table is own o ec state d o.contract (permission_of asked.entry) serves
+      (serves_itself table (Reference o.contract)) h)
 
-  pub answer_ends : (d : ContractId) (asked s : Signature) → serves_as table (Reference d) (Reference o.contract) ≡ true → Answers table d o.contract asked s
-      → AllowsState (permission_of s.exit) (seen_state table o.contract o) → AllowsState (permission_of asked.exit) (seen_state table d o)
+  pub answer_ends : (d : ContractId) (asked s : Signature) → serves_as table (Reference d) (Reference o.contract) ≡ true
+      → Answers table d o.contract asked s
+      → AllowsState (permission_of s.exit) (seen_state table o.contract o)
+      → AllowsState (permission_of asked.exit) (seen_state table d o)
   answer_ends d asked s serves a h = allowed_before table is own o ec state d (permission_of asked.exit) serves
       (subst (λ p. AllowsState p (seen_state table o.contract o)) a.exit h)
 
 pub answer_entry_mode : (table : ClassTable) (d e : ContractId) (asked s : Signature) → Answers table d e asked s
     → same_mode (permission_of s.entry) (permission_of asked.entry) ≡ true
 answer_entry_mode table d e asked s a =
-    subst (λ p. same_mode p (permission_of asked.entry) ≡ true) (sym a.entry) (converted_mode table (Reference d) (Reference e) (permission_of asked.entry))
+    subst (λ p. same_mode p (permission_of asked.entry) ≡ true) (sym a.entry)
+    (converted_mode table (Reference d) (Reference e) (permission_of asked.entry))
 
 pub answer_exit_mode : (table : ClassTable) (d e : ContractId) (asked s : Signature) → Answers table d e asked s
     → same_mode (permission_of s.exit) (permission_of asked.exit) ≡ true
 answer_exit_mode table d e asked s a =
-    subst (λ p. same_mode p (permission_of asked.exit) ≡ true) (sym a.exit) (converted_mode table (Reference d) (Reference e) (permission_of asked.exit))
+    subst (λ p. same_mode p (permission_of asked.exit) ≡ true) (sym a.exit)
+    (converted_mode table (Reference d) (Reference e) (permission_of asked.exit))
 
 -- Permissions of the code that are held in the same way have the same mode.
 pub mode_same : (p q : Perm) → same_mode (permission_of p) (permission_of q) ≡ true → p.mode ≡ q.mode
@@ -284,7 +318,8 @@ mode_same p q e = at p.mode p.states q.mode q.states e
     at Unowned a Unowned b e = refl
 
 -- A transaction that isn't entered as an owner's is left as it was entered.
-pub transaction_as_came : (table : ClassTable) (c : Contract) (s : Signature) → IsTransaction table c s → owns (permission_of s.entry) ≡ false
+pub transaction_as_came : (table : ClassTable) (c : Contract) (s : Signature) → IsTransaction table c s
+    → owns (permission_of s.entry) ≡ false
     → permission_of s.exit ≡ permission_of s.entry
 transaction_as_came table c s is e = leaves_as_came s.entry s.exit is.leaves e
 
@@ -298,8 +333,10 @@ asked_again [] = refl
 asked_again (p ∷ ps) = ap (λ xs. parameter_of p ∷ xs) (asked_again ps)
 
 -- The parameters of an answer are those that were asked.
-pub same_parameters : (ps qs : List Param) → map asked_of ps ≡ map asked_of qs → map parameter_of ps ≡ map parameter_of qs
+pub same_parameters : (ps qs : List Param) → map asked_of ps ≡ map asked_of qs
+    → map parameter_of ps ≡ map parameter_of qs
 same_parameters ps qs e = sym (asked_again ps) ∙ ap (λ xs. map as_parameter xs) e ∙ asked_again qs
 
-pub answer_parameters : (table : ClassTable) (d e : ContractId) (asked s : Signature) → Answers table d e asked s → parameters s ≡ parameters asked
+pub answer_parameters : (table : ClassTable) (d e : ContractId) (asked s : Signature) → Answers table d e asked s
+    → parameters s ≡ parameters asked
 answer_parameters table d e asked s a = same_parameters s.params asked.params a.params

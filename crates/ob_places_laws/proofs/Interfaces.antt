@@ -43,12 +43,14 @@ number_below : (name : Name) (xs : List Name) → below (length xs) (number_of n
 number_below name [] = tt
 number_below name (x ∷ xs) = first_or (length xs) (number_of name xs) (same name x) (number_below name xs)
 
-numbered_below : (n : ℕ) (o : Option ℕ) → n ≤ 32 → below n o → IfSome (option_map (λ k. record { 0 = k }) o) (λ (s : StateId). s.0 < 32)
+numbered_below : (n : ℕ) (o : Option ℕ) → n ≤ 32 → below n o
+    → IfSome (option_map (λ k. record { 0 = k }) o) (λ (s : StateId). s.0 < 32)
 numbered_below n None few h = tt
 numbered_below n (Some k) few h = omega (arith, h)
 
 -- The states of a contract by name are a naming, since there are at most 32 on either side.
-pub is_naming : (interface c : Contract) → length interface.states ≤ 32 → length c.states ≤ 32 → IsNaming (naming interface c)
+pub is_naming : (interface c : Contract) → length interface.states ≤ 32 → length c.states ≤ 32
+    → IsNaming (naming interface c)
 is_naming interface c few own = record {
   of_contract = rw length-map own;
   of_interface = All-map (λ (name : Option StateId). IfSome name (λ k. k.0 < 32)) _ c.states
@@ -63,7 +65,8 @@ naming_length interface c = length-map c.states _
 abbrev named : Option (Option StateId) → ℕ
 named name = option_map_or (λ (k : StateId). k.0) (option_flatten name) unnamed
 
-named_low : (name : Option (Option StateId)) → ((x : Option StateId) → name ≡ Some x → IfSome x (λ k. k.0 < 32)) → named name < 34
+named_low : (name : Option (Option StateId)) → ((x : Option StateId) → name ≡ Some x → IfSome x (λ k. k.0 < 32))
+    → named name < 34
 named_low None low = lit< tt
 named_low (Some None) low = lit< tt
 named_low (Some (Some k)) low = omega (arith, low (Some k) refl)
@@ -85,20 +88,25 @@ implemented_is table c i e = at (contract_at table c) refl e
     names_it None e = absurd (true≢false (sym e))
     names_it (Some k) e = ap Some (sym (same_contract i k e))
 
-    at : (o : Option Contract) → contract_at table c ≡ o → option_map_or (λ found. option_map_or (λ (k : ContractId). nat_eq i.0 k.0) found.implements false) o false ≡ true
+    at : (o : Option Contract) → contract_at table c ≡ o
+        → option_map_or (λ found. option_map_or
+        (λ (k : ContractId). nat_eq i.0 k.0) found.implements false) o false ≡ true
         → (own : Contract) × (contract_at table c ≡ Some own) × (own.implements ≡ Some i)
     at None eo e = absurd (true≢false (sym e))
     at (Some own) eo e = (own, eo, names_it own.implements e)
 
-pub implemented_from : (table : ClassTable) (c i : ContractId) (own : Contract) → contract_at table c ≡ Some own → own.implements ≡ Some i
+pub implemented_from : (table : ClassTable) (c i : ContractId) (own : Contract) → contract_at table c ≡ Some own
+    → own.implements ≡ Some i
     → is_implemented table c i ≡ true
 implemented_from table c i own ec ei =
-    ap (λ o. option_map_or (λ found. option_map_or (λ (k : ContractId). nat_eq i.0 k.0) found.implements false) o false) ec
+    ap (λ o. option_map_or (λ found. option_map_or
+    (λ (k : ContractId). nat_eq i.0 k.0) found.implements false) o false) ec
     ∙ ap (λ o. option_map_or (λ (k : ContractId). nat_eq i.0 k.0) o false) ei
     ∙ eq-eqb i.0 i.0 refl
 
 -- A contract implements one interface at most.
-pub implements_one : (table : ClassTable) (c i j : ContractId) → is_implemented table c i ≡ true → is_implemented table c j ≡ true → i ≡ j
+pub implements_one : (table : ClassTable) (c i j : ContractId) → is_implemented table c i ≡ true
+    → is_implemented table c j ≡ true → i ≡ j
 implements_one table c i j first second =
     let one = implemented_is table c i first in
     let two = implemented_is table c j second in
@@ -108,21 +116,25 @@ implements_one table c i j first second =
     same_one e x y = cc
 
 -- What is implemented is an interface, and the contract has what it asks.
-pub interface_is : (table : ClassTable) → IsClassTable table → (c i : ContractId) (own : Contract) → contract_at table c ≡ Some own
+pub interface_is : (table : ClassTable) → IsClassTable table → (c i : ContractId) (own : Contract)
+    → contract_at table c ≡ Some own
     → is_implemented table c i ≡ true
-    → (interface : Contract) × (contract_at table i ≡ Some interface) × (interface.interface ≡ true) × MeetsInterface interface own
+    → (interface : Contract) × (contract_at table i ≡ Some interface) × (interface.interface ≡ true)
+    × MeetsInterface interface own
 interface_is table is c i own ec e =
     let found = implemented_is table c i e in
     let names : own.implements ≡ Some i = same_one (sym ec ∙ found.1) found.2 in
     let there = there_is (contract_at table i) (λ x. (x.interface ≡ true) × MeetsInterface x own)
-    (if_there_so own.implements (λ id. IsSomeAnd (contract_at table id) (λ x. (x.interface ≡ true) × MeetsInterface x own)) i names (contract_is table is c own ec).implements) in
+    (if_there_so own.implements (λ id. IsSomeAnd (contract_at table id)
+    (λ x. (x.interface ≡ true) × MeetsInterface x own)) i names (contract_is table is c own ec).implements) in
     (there.0, there.1, there.2.0, there.2.1)
   where
     same_one : {a b : Contract} → Some a ≡ Some b → b.implements ≡ Some i → a.implements ≡ Some i
     same_one e x = cc
 
 -- An interface implements nothing.
-pub interface_implements_none : (table : ClassTable) → IsClassTable table → (i j : ContractId) (x : Contract) → contract_at table i ≡ Some x
+pub interface_implements_none : (table : ClassTable) → IsClassTable table → (i j : ContractId) (x : Contract)
+    → contract_at table i ≡ Some x
     → x.interface ≡ true → is_implemented table i j ≡ false
 interface_implements_none table is i j x ex plain = false_from_ne_true (is_implemented table i j) (λ e.
     let found = implemented_is table i j e in
@@ -140,12 +152,15 @@ implements_once table is c i j e =
     interface_implements_none table is i j interface.0 interface.1 interface.2
 
 -- A contract that implements an interface is none.
-pub implementing_plain : (table : ClassTable) → IsClassTable table → (c i : ContractId) (own : Contract) → contract_at table c ≡ Some own
+pub implementing_plain : (table : ClassTable) → IsClassTable table → (c i : ContractId) (own : Contract)
+    → contract_at table c ≡ Some own
     → is_implemented table c i ≡ true → own.interface ≡ false
 implementing_plain table is c i own ec e = false_from_ne_true own.interface (λ x.
     both_ways (is_implemented table c i) (interface_implements_none table is c i own ec x) e)
 
 -- and is another than its interface
-pub implemented_other : (table : ClassTable) → IsClassTable table → (c i : ContractId) → is_implemented table c i ≡ true → nat_eq c.0 i.0 ≡ false
+pub implemented_other : (table : ClassTable) → IsClassTable table → (c i : ContractId) → is_implemented table c i ≡ true
+    → nat_eq c.0 i.0 ≡ false
 implemented_other table is c i e = false_from_ne_true (nat_eq c.0 i.0) (λ same.
-    both_ways (is_implemented table c i) (subst (λ x. is_implemented table x i ≡ false) (sym (same_contract c i same)) (implements_once table is c i i e)) e)
+    both_ways (is_implemented table c i)
+    (subst (λ x. is_implemented table x i ≡ false) (sym (same_contract c i same)) (implements_once table is c i i e)) e)

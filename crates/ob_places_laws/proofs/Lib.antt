@@ -7,3 +7,8 @@ pub mod Interfaces
 pub mod Conversions
 pub mod SeenStates
 pub mod Dispatch
+pub mod Fields
+pub mod Joins
+pub mod Locations
+pub mod Passing
+pub mod Beginnings

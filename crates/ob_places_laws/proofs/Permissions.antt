@@ -90,7 +90,8 @@ same_mode_onward unowned q r first second = sym (same_mode_no_say q r second) �
 
 -- What matches.
 
-pub matches_owner : (p : Permission) (b : States) → matches p (owned b) ≡ true → (a : States) × (p ≡ owned a) × AreAmong a b
+pub matches_owner : (p : Permission) (b : States) → matches p (owned b) ≡ true
+    → (a : States) × (p ≡ owned a) × AreAmong a b
 matches_owner (owned a) b e = (a, refl, among_from_subset a b e)
 matches_owner shared b e = absurd (true≢false (sym e))
 matches_owner unowned b e = absurd (true≢false (sym e))
@@ -105,7 +106,8 @@ matches_unowned (owned a) e = absurd (true≢false (sym e))
 matches_unowned shared e = absurd (true≢false (sym e))
 matches_unowned unowned e = refl
 
-pub owner_matches : (a : States) (q : Permission) → matches (owned a) q ≡ true → (b : States) × (q ≡ owned b) × AreAmong a b
+pub owner_matches : (a : States) (q : Permission) → matches (owned a) q ≡ true
+    → (b : States) × (q ≡ owned b) × AreAmong a b
 owner_matches a (owned b) e = (b, refl, among_from_subset a b e)
 owner_matches a shared e = absurd (true≢false (sym e))
 owner_matches a unowned e = absurd (true≢false (sym e))

@@ -1,7 +1,7 @@
 -- Which permission serves where another is said.
-use Rattle.std.proofs.Common.{◌≡◌, ◌≢◌, ℕ, ◌<◌, true, false, refl, sym, ap, subst, ◌∙◌, true≢false}
-use Rattle.ob_perm.specs.States.{States, states_max, within, without}
-use Rattle.ob_perm.specs.Permissions.{Permission, owned, shared, unowned, owns, is_shared, fits, matches, kept, joined, on_states, permission_within, permission_without}
+use Rattle.std.proofs.Common.{◌≡◌, ◌≢◌, ◌⊎◌, ⊎_elim, ℕ, ◌<◌, true, false, refl, sym, ap, subst, ◌∙◌, true≢false}
+use Rattle.ob_perm.specs.States.{States, states_max, all_states, within, without}
+use Rattle.ob_perm.specs.Permissions.{Permission, owned, shared, unowned, owns, is_shared, fits, matches, kept, joined, on_states, permission_within, permission_without, possible}
 use Rattle.ob_silica_places.specs.Converting.{gotten}
 use Rattle.ob_silica_places.specs.Known.{unowned_under}
 use Rattle.ob_flow_spec.specs.Joining.{same_mode}
@@ -85,7 +85,8 @@ kept_keeps (owned b) p q first = tt
 kept_keeps shared p q first = refl
 kept_keeps unowned p q first = first
 
-pub under_keeps : (s t p q : Permission) → same_mode s t ≡ true → Allows p q → Allows (unowned_under s p) (unowned_under t q)
+pub under_keeps : (s t p q : Permission) → same_mode s t ≡ true → Allows p q
+    → Allows (unowned_under s p) (unowned_under t q)
 under_keeps (owned a) (owned b) p q e first = first
 under_keeps (owned a) shared p q e first = absurd (true≢false (sym e))
 under_keeps (owned a) unowned p q e first = absurd (true≢false (sym e))
@@ -143,9 +144,13 @@ joined_allows_right unowned (owned b) r first = tt
 joined_allows_right unowned shared r first = tt
 joined_allows_right unowned unowned r first = tt
 
+pub joined_allows : (p q r : Permission) → Allows p r ⊎ Allows q r → Allows (joined p q) r
+joined_allows p q r some = ⊎_elim (joined_allows_left p q r) (joined_allows_right p q r) some
+
 -- Other states.
 
-pub on_states_keeps : (f : States → States) → ((a b : States) → AreAmong b a → AreAmong (f b) (f a)) → (p q : Permission)
+pub on_states_keeps : (f : States → States) → ((a b : States) → AreAmong b a → AreAmong (f b) (f a))
+    → (p q : Permission)
     → Allows p q → Allows (on_states f p) (on_states f q)
 on_states_keeps f more (owned a) q (b, is, among) = (f b, ap (on_states f) is, more a b among)
 on_states_keeps f more shared q is = ap (on_states f) is
@@ -176,7 +181,8 @@ allows_state_onward (owned a) q s (b, is, among) low e = among s low (subst (λ 
 allows_state_onward shared q s first low e = tt
 allows_state_onward unowned q s first low e = tt
 
-pub allows_state_fitting : (p w : Permission) (s : ℕ) → fits p w ≡ true → s < states_max → AllowsState p s → AllowsState w s
+pub allows_state_fitting : (p w : Permission) (s : ℕ) → fits p w ≡ true → s < states_max → AllowsState p s
+    → AllowsState w s
 allows_state_fitting p (owned b) s e low h = allows_state_onward (owned b) p s (fits_owner p b e) low h
 allows_state_fitting p shared s e low h = tt
 allows_state_fitting p unowned s e low h = tt
@@ -190,3 +196,44 @@ pub allows_state_without : (p : Permission) (s i : ℕ) → i ≢ s → AllowsSt
 allows_state_without (owned a) s i other e = without_from a s i e other
 allows_state_without shared s i other e = tt
 allows_state_without unowned s i other e = tt
+
+pub allows_state_under : (t p : Permission) (s : ℕ) → AllowsState p s → AllowsState (unowned_under t p) s
+allows_state_under (owned b) p s e = e
+allows_state_under shared p s e = e
+allows_state_under unowned (owned a) s e = tt
+allows_state_under unowned shared s e = tt
+allows_state_under unowned unowned s e = tt
+
+pub allows_state_kept : (p w : Permission) (s : ℕ) → AllowsState p s → AllowsState (kept p w) s
+allows_state_kept p (owned b) s e = tt
+allows_state_kept p shared s e = tt
+allows_state_kept p unowned s e = e
+
+pub allows_state_gotten : (w p : Permission) (s : ℕ) → AllowsState p s → AllowsState (gotten w p) s
+allows_state_gotten (owned b) p s e = e
+allows_state_gotten shared p s e = tt
+allows_state_gotten unowned p s e = tt
+
+pub allows_state_joined : (p q : Permission) (s : ℕ) → AllowsState p s ⊎ AllowsState q s → AllowsState (joined p q) s
+allows_state_joined (owned a) (owned b) s some = ⊎_elim (union_left a b s) (union_right a b s) some
+allows_state_joined (owned a) shared s some = tt
+allows_state_joined (owned a) unowned s some = tt
+allows_state_joined shared (owned b) s some = tt
+allows_state_joined shared shared s some = tt
+allows_state_joined shared unowned s some = tt
+allows_state_joined unowned (owned b) s some = tt
+allows_state_joined unowned shared s some = tt
+allows_state_joined unowned unowned s some = tt
+
+-- Where no owner is, nothing is said of states.
+pub allows_any_state : (p : Permission) (s : ℕ) → owns p ≡ false → AllowsState p s
+allows_any_state (owned a) s e = absurd (true≢false e)
+allows_any_state shared s e = tt
+allows_any_state unowned s e = tt
+
+-- The state is among those that are possible: the owner's, or any of the contract's.
+pub possible_at : (n : ℕ) (p : Permission) (s : ℕ) → AllowsState p s → (owns p ≡ false → all_states n s ≡ true)
+    → possible n p s ≡ true
+possible_at n (owned a) s e any = e
+possible_at n shared s e any = any refl
+possible_at n unowned s e any = any refl

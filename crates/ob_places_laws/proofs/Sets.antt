@@ -89,7 +89,8 @@ image_from f a s h e =
 pub image_at : (f : ℕ → ℕ) (a : States) (i : ℕ) → image f a i ≡ true
     → (s : ℕ) × (s < states_max) × (a s ≡ true) × (i ≡ f s)
 image_at f a i e =
-    let some : (s : ℕ) × (s < states_max) × ((a s && i == f s) ≡ true) = any_below_at states_max (λ s. a s && i == f s) e in
+    let some : (s : ℕ) × (s < states_max) × ((a s && i == f s) ≡ true) =
+    any_below_at states_max (λ s. a s && i == f s) e in
     let parts = and_parts (a some.0) (i == f some.0) some.2 in
     (some.0, some.1, parts.0, eqb-true i (f some.0) parts.1)
 
@@ -134,7 +135,8 @@ without_among a b s h i low e = let parts = without_at a s i e in without_from b
 pub all_states_at : (n i : ℕ) → all_states n i ≡ true → (i < n) ⊎ ((n ≡ 0) × (i ≡ stateless))
 all_states_at n i e = ⊎_elim
     (λ below. inl (ltb-true i n below))
-    (λ none. let parts = and_parts (n == 0) (i == stateless) none in inr (eqb-true n 0 parts.0, eqb-true i stateless parts.1))
+    (λ none. let parts = and_parts (n == 0) (i == stateless) none in
+    inr (eqb-true n 0 parts.0, eqb-true i stateless parts.1))
     (or_cases (nat_lt i n) (n == 0 && i == stateless) e)
 
 pub all_states_own : (n i : ℕ) → i < n → all_states n i ≡ true
@@ -142,7 +144,8 @@ all_states_own n i h = or_left (nat_lt i n) (n == 0 && i == stateless) (lt-ltb i
 
 pub all_states_none : (n : ℕ) → n ≡ 0 → all_states n stateless ≡ true
 all_states_none n e =
-    or_right (nat_lt stateless n) (n == 0 && stateless == stateless) (and_from (n == 0) (stateless == stateless) (eq-eqb n 0 e) refl)
+    or_right (nat_lt stateless n) (n == 0 && stateless == stateless)
+    (and_from (n == 0) (stateless == stateless) (eq-eqb n 0 e) refl)
 
 pub interface_states_at : (n i : ℕ) → interface_states n i ≡ true → (all_states n i ≡ true) ⊎ (i ≡ unnamed)
 interface_states_at n i e = ⊎_elim
@@ -169,7 +172,8 @@ numbered_part_is a i e = ltb-true i states_max (and_parts (nat_lt i states_max) 
 -- The number of a set stands for its states that have a number.
 pub mask_states : (a : States) → states_of (mask_of a) ≡ (λ (i : ℕ). nat_lt i states_max && a i)
 mask_states a =
-    ap states_of (mask_below_same states_max a (numbered_part a) (λ i low. sym (ap (λ b. b && a i) (lt-ltb i states_max low))))
+    ap states_of (mask_below_same states_max a (numbered_part a)
+    (λ i low. sym (ap (λ b. b && a i) (lt-ltb i states_max low))))
     ∙ states_of-mask_of (numbered_part a) (numbered_part_is a)
 
 pub mask_state : (a : States) (i : ℕ) → i < states_max → states_of (mask_of a) i ≡ a i

@@ -34,14 +34,16 @@ perm_numbered c p is = held_numbered p.mode (states_of p.states) (perm_states_nu
 pub perm_among : (c : Contract) (p : Perm) → IsPermOn c p → AreAmong (states_of p.states) (states_of_owner c)
 perm_among c p is = among_from_subset (states_of p.states) (states_of_owner c) is.inside
 
-pub perm_inside : (c : Contract) (p : Perm) → IsPermOn c p → (i : ℕ) → states_of p.states i ≡ true → states_of_owner c i ≡ true
+pub perm_inside : (c : Contract) (p : Perm) → IsPermOn c p → (i : ℕ) → states_of p.states i ≡ true
+    → states_of_owner c i ≡ true
 perm_inside c p is i e = perm_among c p is i (perm_states_numbered c p is i e) e
 
 -- Of a contract that is no interface, these are its own, or no state.
 pub contract_states : (c : Contract) → c.interface ≡ false → states_of_owner c ≡ all_states (length c.states)
 contract_states c plain = rw plain refl
 
-pub perm_is_on : (c : Contract) (p : Perm) → c.interface ≡ false → IsPermOn c p → is_on (length c.states) (permission_of p) ≡ true
+pub perm_is_on : (c : Contract) (p : Perm) → c.interface ≡ false → IsPermOn c p
+    → is_on (length c.states) (permission_of p) ≡ true
 perm_is_on c p plain is = of_mode p.mode
   where
     among : AreAmong (states_of p.states) (all_states (length c.states))
@@ -58,7 +60,8 @@ perm_back c p is = sym (perm_is p (permission_of p) is.canonical (perm_numbered 
 
 -- Types.
 
-pub type_numbered : (table : ClassTable) (of : ResolvedType) → IsType table of → IsNumberedPermission (permission_of_type of)
+pub type_numbered : (table : ClassTable) (of : ResolvedType) → IsType table of
+    → IsNumberedPermission (permission_of_type of)
 type_numbered table Int is = tt
 type_numbered table BoolKind is = tt
 type_numbered table Text is = tt

@@ -1,5 +1,5 @@
--- What an object runs for a transaction that its contract or its interface declares (Coblenz et al., TOPLAS 42(3), 2020,
--- "Interfaces"; the statements are this project's own).
+-- What an object runs for a transaction that its contract or its interface declares (Coblenz et al., TOPLAS 42(3),
+-- 2020, "Interfaces"; the statements are this project's own).
 use Rattle.std.specs.Prelude.{◌≡◌, ◌≢◌, false, map, Some}
 use Rattle.ob_base.specs.declared.id.ContractId.{ContractId}
 use Rattle.ob_base.specs.declared.id.TxId.{TxId}
@@ -12,8 +12,8 @@ use Rattle.ob_table_spec.specs.Conditions.{IsTransaction, asked_of}
 use Rattle.ob_heap_spec.specs.Dispatch.{answering}
 use Rattle.ob_silica_places.specs.Converting.{converted}
 
--- A transaction of the contract of number e answers one that contract or interface d declares: it has the same parameters
--- but for their names, and the same result; `this` is held as d says, said for e; and it is private only if the other is.
+-- A transaction of contract e answers one that contract or interface d declares: it has the same parameters but for
+-- their names, and the same result; `this` is held as d says, said for e; and it is private only if the other is.
 pub record Answers (table : ClassTable) (d e : ContractId) (asked s : Signature) : Type 0 where
   pub params : map asked_of s.params ≡ map asked_of asked.params
   pub result : s.result ≡ asked.result
@@ -23,7 +23,8 @@ pub record Answers (table : ClassTable) (d e : ContractId) (asked s : Signature)
 
 -- An object of this contract has an answer to a transaction that is declared: one of its own transactions, and not its
 -- constructor.
-pub record HasAnswer (table : ClassTable) (d e : ContractId) (own : Contract) (tx : TxId) (asked : Signature) : Type 0 where
+pub record HasAnswer (table : ClassTable) (d e : ContractId) (own : Contract) (tx : TxId) (asked : Signature)
+    : Type 0 where
   pub number : TxId
   pub signature : Signature
   pub found : answering d tx asked e own ≡ Some number
