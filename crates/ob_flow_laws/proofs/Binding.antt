@@ -14,7 +14,8 @@ use Rattle.ob_flow_laws.proofs.Tests.{never_both}
 use Rattle.ob_flow_laws.proofs.Premises.{both_hold}
 use Rattle.ob_flow_laws.proofs.Uses.{can_give}
 
-pub once_after : (owning : Location → Bool) (before rs : List Read) → Hold (each_place_once owning before rs) → EachOnceAfter owning before rs
+pub once_after : (owning : Location → Bool) (before rs : List Read) → Hold (each_place_once owning before rs)
+    → EachOnceAfter owning before rs
 once_after owning before [] h = tt
 once_after owning before (r ∷ rs) h =
     (never_both (is_among r.location before) (owning r.location) h.0, once_after owning (r ∷ before) rs h.1)
@@ -34,7 +35,8 @@ fields_kept (r ∷ rs) [] h = tt
 fields_kept (r ∷ rs) (p ∷ ps) h =
     (kept_or_gone (is_field r.location) (wants_owner p) (is_unowned (permission_of p.exit)) h.0, fields_kept rs ps h.1)
 
-pub can_give_all : (b : BodyFrame) (ts : TestedPlaces) (g : Context) (rs : List Read) (ps : List Parameter) → Hold (gives_all b ts g rs ps) → CanGiveAll b ts g rs ps
+pub can_give_all : (b : BodyFrame) (ts : TestedPlaces) (g : Context) (rs : List Read) (ps : List Parameter)
+    → Hold (gives_all b ts g rs ps) → CanGiveAll b ts g rs ps
 can_give_all b ts g [] ps h = tt
 can_give_all b ts g (r ∷ rs) [] h = tt
 can_give_all b ts g (r ∷ rs) (p ∷ ps) h =

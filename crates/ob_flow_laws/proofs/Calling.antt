@@ -20,7 +20,8 @@ use Rattle.ob_flow_laws.proofs.Premises.{both_hold, each_holds}
 use Rattle.ob_flow_laws.proofs.Uses.{can_use}
 use Rattle.ob_flow_laws.proofs.Binding.{each_is_once, fields_kept, can_give_all}
 
-pub can_make : (b : BodyFrame) (ts : TestedPlaces) (g : Context) (s : Signature) (args : List Operand) → Hold (makes_object b ts g s args) → CanMake b ts g s args
+pub can_make : (b : BodyFrame) (ts : TestedPlaces) (g : Context) (s : Signature) (args : List Operand)
+    → Hold (makes_object b ts g s args) → CanMake b ts g s args
 can_make b ts g s args h =
     let r = both_hold (each_once (reads_of args) (parameters s)) (gives_all b ts g (reads_of args) (parameters s)) h in
     record {
@@ -28,7 +29,9 @@ can_make b ts g s args h =
       gives = can_give_all b ts g (reads_of args) (parameters s) r.1;
     }
 
-pub can_call : (b : BodyFrame) (ts : TestedPlaces) (g : Context) (receiver : Operand) (contract : ContractId) (s : Signature) (args : List Operand) → Hold (calls_object b ts g receiver contract s args) → CanCall b ts g receiver contract s args
+pub can_call : (b : BodyFrame) (ts : TestedPlaces) (g : Context) (receiver : Operand) (contract : ContractId)
+    (s : Signature) (args : List Operand) → Hold (calls_object b ts g receiver contract s args)
+    → CanCall b ts g receiver contract s args
 can_call b ts g receiver contract s args h =
     let rs = all_reads receiver args in
     let ps = all_parameters contract s in
@@ -53,13 +56,15 @@ to_given b ts g at s args =
     to_kept b at s args ++ one under_test at (not (tests_field ts))
     ++ gives_all b ts g (reads_with_this at args) (all_parameters b.here s)
 
-pub can_call_this : (b : BodyFrame) (ts : TestedPlaces) (g : Context) (at : Span) (s : Signature) (args : List Operand) → Hold (calls_this b ts g at s args) → CanCallThis b ts g at s args
+pub can_call_this : (b : BodyFrame) (ts : TestedPlaces) (g : Context) (at : Span) (s : Signature)
+    (args : List Operand) → Hold (calls_this b ts g at s args) → CanCallThis b ts g at s args
 can_call_this b ts g at s args h =
     let rs = reads_with_this at args in
     let ps = all_parameters b.here s in
     let says = enters_field b g (given_with_this b g at s args) at s in
     let fields = both_hold (to_given b ts g at s args) (each (field_count b) says) h in
-    let gives = both_hold (to_kept b at s args ++ one under_test at (not (tests_field ts))) (gives_all b ts g rs ps) fields.0 in
+    let gives = both_hold (to_kept b at s args ++ one under_test at (not (tests_field ts))) (gives_all b ts g rs ps)
+    fields.0 in
     let tests = both_hold (to_kept b at s args) _ gives.0 in
     let keeps = both_hold (each_once rs ps) (keeps_fields (reads_of args) (parameters s)) tests.0.1 in
     record {
@@ -68,5 +73,7 @@ can_call_this b ts g at s args h =
       keeps = fields_kept (reads_of args) (parameters s) keeps.1;
       untested = isnt (tests_field ts) tests.1.0;
       gives = can_give_all b ts g rs ps gives.1;
-      enters = λ f lt. where_first (maybe_there b g f) (is_held_as (given_with_this b g at s args (field f)) (entry_of_field b s f)) (each_holds (field_count b) says fields.1 f lt).0;
+      enters = λ f lt. where_first (maybe_there b g f)
+          (is_held_as (given_with_this b g at s args (field f)) (entry_of_field b s f))
+          (each_holds (field_count b) says fields.1 f lt).0;
     }

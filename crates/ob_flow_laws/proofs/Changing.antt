@@ -18,9 +18,11 @@ use Rattle.ob_flow_laws.proofs.Tests.{isnt, where_first, second_of, never_both, 
 use Rattle.ob_flow_laws.proofs.Premises.{both_hold, each_holds, for_all_holds}
 use Rattle.ob_flow_laws.proofs.Filling.{can_fill}
 
-pub value_there : (b : BodyFrame) (g : Context) (at : Span) (s : StateId) (xs : List Given) (f : ℕ) → Hold (has_value b g at s xs f) → available b f s.0 ≡ true → is_given f xs ≡ false → HasValue b g f
+pub value_there : (b : BodyFrame) (g : Context) (at : Span) (s : StateId) (xs : List Given) (f : ℕ)
+    → Hold (has_value b g at s xs f) → available b f s.0 ≡ true → is_given f xs ≡ false → HasValue b g f
 value_there b g at s xs f h t n =
-    let r = both_of (accessible b g f) (is_set (g (field f))) (second_of (is_given f xs) _ (where_first (available b f s.0) _ h.0 t) n) in
+    let r = both_of (accessible b g f) (is_set (g (field f)))
+    (second_of (is_given f xs) _ (where_first (available b f s.0) _ h.0 t) n) in
     record { reached = r.0; set = r.1 }
 
 pub fill_once : (b : BodyFrame) (before xs : List Given) → Hold (fills_once b before xs) → FillOnce b before xs
@@ -31,24 +33,32 @@ fill_once b before (x ∷ xs) h = (λ t. fills_new b before x h.0 t, fill_once b
     first_so true c k t = k
     first_so false c k t = absurd (cc)
 
-    fills_new : (b : BodyFrame) (before : List Given) (x : Given) → not (takes_owner b x && (same_location (given_from x) this || fills_owner b (given_from x) before)) ≡ true → takes_owner b x ≡ true → FillsNew b before x
+    fills_new : (b : BodyFrame) (before : List Given) (x : Given)
+        → not (takes_owner b x && (same_location (given_from x) this || fills_owner b (given_from x) before)) ≡ true
+        → takes_owner b x ≡ true → FillsNew b before x
     fills_new b before x k t =
-        let r = neither (same_location (given_from x) this) (fills_owner b (given_from x) before) (first_so (takes_owner b x) _ k t) in
+        let r = neither (same_location (given_from x) this) (fills_owner b (given_from x) before)
+        (first_so (takes_owner b x) _ k t) in
         record { no_this = r.0; fills_none = r.1 }
 
-stays_so : (b : BodyFrame) (at : Span) (s : StateId) (xs : List Given) (f : ℕ) (x : Option Given) → given_at f xs ≡ x → Hold (tested_field b at s f x) → StaysUnderTest b s xs f
+stays_so : (b : BodyFrame) (at : Span) (s : StateId) (xs : List Given) (f : ℕ) (x : Option Given) → given_at f xs ≡ x
+    → Hold (tested_field b at s f x) → StaysUnderTest b s xs f
 stays_so b at s xs f (Some x) e h = absurd (let z = h.0 in cc)
 stays_so b at s xs f None e h = record { not_given = e; there = h.0 }
 
-pub stays : (b : BodyFrame) (ts : TestedPlaces) (at : Span) (s : StateId) (xs : List Given) (f : ℕ) → Hold (stays_under_test b ts at s xs f) → is_tested ts (field f) ≡ true → StaysUnderTest b s xs f
+pub stays : (b : BodyFrame) (ts : TestedPlaces) (at : Span) (s : StateId) (xs : List Given) (f : ℕ)
+    → Hold (stays_under_test b ts at s xs f) → is_tested ts (field f) ≡ true → StaysUnderTest b s xs f
 stays b ts at s xs f h t =
-    stays_so b at s xs f (given_at f xs) refl (subst (λ c. Hold (if c then tested_field b at s f (given_at f xs) else [])) t h)
+    stays_so b at s xs f (given_at f xs) refl
+    (subst (λ c. Hold (if c then tested_field b at s f (given_at f xs) else [])) t h)
 
-pub can_fill_all : (b : BodyFrame) (ts : TestedPlaces) (g : Context) (at : Span) (xs : List Given) → Hold (fills_all b ts g at xs) → CanFillAll b ts g xs
+pub can_fill_all : (b : BodyFrame) (ts : TestedPlaces) (g : Context) (at : Span) (xs : List Given)
+    → Hold (fills_all b ts g at xs) → CanFillAll b ts g xs
 can_fill_all b ts g at [] h = tt
 can_fill_all b ts g at (x ∷ xs) h =
-    let r = both_hold (fills_field b ts g at x.field.0 (read_of x.from)) (fills_all b ts (after_fill b g x.field.0 (given_from x)) at xs) h in
-    (can_fill b ts g at x.field.0 (read_of x.from) r.0, can_fill_all b ts (after_fill b g x.field.0 (given_from x)) at xs r.1)
+    let after = after_fill b g x.field.0 (given_from x) in
+    let r = both_hold (fills_field b ts g at x.field.0 (read_of x.from)) (fills_all b ts after at xs) h in
+    (can_fill b ts g at x.field.0 (read_of x.from) r.0, can_fill_all b ts after at xs r.1)
 
 -- what is asked up to the values of other fields
 abbrev to_values : BodyFrame → Context → Span → StateId → List Given → List Premise
@@ -72,10 +82,12 @@ record IsFilled (b : BodyFrame) (ts : TestedPlaces) (g : Context) (s : StateId) 
   pub stays : (f : ℕ) → f < field_count b → is_tested ts (field f) ≡ true → StaysUnderTest b s xs f
   pub fills : CanFillAll b ts g xs
 
-is_filled : (b : BodyFrame) (ts : TestedPlaces) (g : Context) (at : Span) (s : StateId) (xs : List Given) → Hold (to_filled b ts g at s xs) → IsFilled b ts g s xs
+is_filled : (b : BodyFrame) (ts : TestedPlaces) (g : Context) (at : Span) (s : StateId) (xs : List Given)
+    → Hold (to_filled b ts g at s xs) → IsFilled b ts g s xs
 is_filled b ts g at s xs h =
-    let fills = both_hold (to_values b g at s xs ++ fills_once b [] xs ++ each (field_count b) (stays_under_test b ts at s xs)) (fills_all b ts g at xs) h in
-    let tests = both_hold (to_values b g at s xs ++ fills_once b [] xs) (each (field_count b) (stays_under_test b ts at s xs)) fills.0 in
+    let tested = each (field_count b) (stays_under_test b ts at s xs) in
+    let fills = both_hold (to_values b g at s xs ++ fills_once b [] xs ++ tested) (fills_all b ts g at xs) h in
+    let tests = both_hold (to_values b g at s xs ++ fills_once b [] xs) tested fills.0 in
     let once = both_hold (to_values b g at s xs) (fills_once b [] xs) tests.0 in
     let values = both_hold (for_all xs (is_of_state b s)) (each (field_count b) (has_value b g at s xs)) once.0.1 in
     record {
@@ -87,13 +99,15 @@ is_filled b ts g at s xs h =
       fills = can_fill_all b ts g at xs fills.1;
     }
 
-pub can_change : (b : BodyFrame) (ts : TestedPlaces) (g : Context) (at : Span) (s : StateId) (xs : List Given) → Hold (changes_state b ts g at s xs) → CanChange b ts g s xs
+pub can_change : (b : BodyFrame) (ts : TestedPlaces) (g : Context) (at : Span) (s : StateId) (xs : List Given)
+    → Hold (changes_state b ts g at s xs) → CanChange b ts g s xs
 can_change b ts g at s xs h =
-    let h' = filled_all b g xs in
+    let filled = filled_all b g xs in
     let over = overwrites_none b (filled_all b g xs) in
     let loses = loses_none b (filled_all b g xs) at s in
     let shares = shares_as_declared b (filled_all b g xs) (refilled b g xs) in
-    let declared = both_hold (to_filled b ts g at s xs ++ for_all xs over ++ each (field_count b) loses) (for_all xs shares) h in
+    let declared = both_hold (to_filled b ts g at s xs ++ for_all xs over ++ each (field_count b) loses)
+    (for_all xs shares) h in
     let lost = both_hold (to_filled b ts g at s xs ++ for_all xs over) (each (field_count b) loses) declared.0 in
     let first = both_hold (to_filled b ts g at s xs) (for_all xs over) lost.0 in
     let k = is_filled b ts g at s xs first.0 in
@@ -104,7 +118,11 @@ can_change b ts g at s xs h =
       once = k.once;
       stays = k.stays;
       fills = k.fills;
-      overwrites_none = λ x c. never_both (maybe_there b h' x.field.0) (owns_asset b h' (field x.field.0)) (for_all_holds xs over first.1 x c).0;
-      loses_none = λ f lt away. never_both (maybe_there b h' f) (owns_asset b h' (field f)) (second_of (available b f s.0) _ (each_holds (field_count b) loses lost.1 f lt).0 away);
-      as_declared = λ x c t. second_of (accessible b h' x.field.0) (is_held_as (refilled b g xs (field x.field.0)) (declared_permission b x.field.0)) (where_first (is_shared (permission_at h' this)) _ (for_all_holds xs shares declared.1 x c).0 t);
+      overwrites_none = λ x c. never_both (maybe_there b filled x.field.0) (owns_asset b filled (field x.field.0))
+          (for_all_holds xs over first.1 x c).0;
+      loses_none = λ f lt away. never_both (maybe_there b filled f) (owns_asset b filled (field f))
+          (second_of (available b f s.0) _ (each_holds (field_count b) loses lost.1 f lt).0 away);
+      as_declared = λ x c t. second_of (accessible b filled x.field.0)
+          (is_held_as (refilled b g xs (field x.field.0)) (declared_permission b x.field.0))
+          (where_first (is_shared (permission_at filled this)) _ (for_all_holds xs shares declared.1 x c).0 t);
     }

@@ -25,12 +25,14 @@ either : (n : ℕ) (b : Bool) → (nat_eq n 0 || not b) ≡ true → (n ≡ 0) �
 either n b h = either_of n b (nat_eq n 0) refl h
 
 -- exits
-pub left_so : (b : BodyFrame) (g : Context) (at : Span) (p : Location) (w : Permission) → Hold (leaves_as b g at p w) → MeetsExit b g p w
+pub left_so : (b : BodyFrame) (g : Context) (at : Span) (p : Location) (w : Permission) → Hold (leaves_as b g at p w)
+    → MeetsExit b g p w
 left_so b g at p (owned a) h = h.0
 left_so b g at p shared h = h.0
 left_so b g at p unowned h = isnt (owns_asset b g p) h.0
 
-pub params_left : (b : BodyFrame) (g : Context) (at : Span) (n : ℕ) (ps : List Param) (k : ℕ) (p : Param) → slice_get ps k ≡ Some p → Hold (leaves_params b g at n ps) → MeetsExit b g (slot (n + k)) (permission_of p.exit)
+pub params_left : (b : BodyFrame) (g : Context) (at : Span) (n : ℕ) (ps : List Param) (k : ℕ) (p : Param)
+    → slice_get ps k ≡ Some p → Hold (leaves_params b g at n ps) → MeetsExit b g (slot (n + k)) (permission_of p.exit)
 params_left b g at n [] k p e h = absurd (cc)
 params_left b g at n (q ∷ ps) zero p e h =
     let r = both_hold (leaves_as b g at (slot n) (permission_of q.exit)) (leaves_params b g at (n + 1) ps) h in
@@ -42,27 +44,39 @@ params_left b g at n (q ∷ ps) (suc k) p e h =
     let place : n + suc k ≡ (n + 1) + k = omega arith in
     rw place (params_left b g at (n + 1) ps k p e r.1)
 
-pub this_left : (b : BodyFrame) (g : Context) (at : Span) → Hold (leaves_this b g at) → constructs b ≡ false → MeetsExit b g this (permission_of b.signature.exit)
+pub this_left : (b : BodyFrame) (g : Context) (at : Span) → Hold (leaves_this b g at) → constructs b ≡ false
+    → MeetsExit b g this (permission_of b.signature.exit)
 this_left b g at h e =
-    left_so b g at this (permission_of b.signature.exit) (subst (λ (c : Bool). Hold (if c then gives_object b g at else leaves_as b g at this (permission_of b.signature.exit))) e h)
+    left_so b g at this (permission_of b.signature.exit)
+    (subst (λ (c : Bool). Hold (if c then gives_object b g at else leaves_as b g at this
+    (permission_of b.signature.exit))) e h)
 
-pub object_left : (b : BodyFrame) (g : Context) (at : Span) → Hold (leaves_this b g at) → Hold (each (field_count b) (sets_field b g at)) → constructs b ≡ true → IsConstructed b g
+pub object_left : (b : BodyFrame) (g : Context) (at : Span) → Hold (leaves_this b g at)
+    → Hold (each (field_count b) (sets_field b g at)) → constructs b ≡ true → IsConstructed b g
 object_left b g at h s e =
-    let o : Hold (gives_object b g at) = subst (λ (c : Bool). Hold (if c then gives_object b g at else leaves_as b g at this (permission_of b.signature.exit))) e h in
+    let o : Hold (gives_object b g at) = subst
+    (λ (c : Bool). Hold (if c then gives_object b g at else leaves_as b g at this
+    (permission_of b.signature.exit))) e h in
     record {
       serves = o.0;
       in_state = either (length b.own.states) _ o.1.0;
-      set = λ f lt open'. where_first (accessible b g f) _ (where_first (constructs b) _ (each_holds (field_count b) (sets_field b g at) s f lt).0 e) open';
+      set = λ f lt open'. where_first (accessible b g f) _
+          (where_first (constructs b) _ (each_holds (field_count b) (sets_field b g at) s f lt).0 e) open';
     }
 
-pub field_left : (b : BodyFrame) (g : Context) (at : Span) (f : ℕ) → f < field_count b → Hold (each (field_count b) (leaves_field b g at)) → maybe_there b g f ≡ true → is_held_as (g (field f)) (exit_of_field b b.signature f) ≡ true
-field_left b g at f lt h t = where_first (maybe_there b g f) _ (each_holds (field_count b) (leaves_field b g at) h f lt).0 t
+pub field_left : (b : BodyFrame) (g : Context) (at : Span) (f : ℕ) → f < field_count b
+    → Hold (each (field_count b) (leaves_field b g at)) → maybe_there b g f ≡ true
+    → is_held_as (g (field f)) (exit_of_field b b.signature f) ≡ true
+field_left b g at f lt h t = where_first (maybe_there b g f) _
+    (each_holds (field_count b) (leaves_field b g at) h f lt).0 t
 
 above : (n k : ℕ) → n < k → nat_le k n ≡ false
 above n k lt = grind arith
 
-pub slot_left : (b : BodyFrame) (g : Context) (at : Span) (k : ℕ) → length b.signature.params < k → k < b.slots → Hold (each b.slots (is_let_go b g at)) → owns_asset b g (slot k) ≡ false
-slot_left b g at k up lt h = isnt _ (second_of (nat_le k (length b.signature.params)) _ (each_holds b.slots (is_let_go b g at) h k lt).0 (above (length b.signature.params) k up))
+pub slot_left : (b : BodyFrame) (g : Context) (at : Span) (k : ℕ) → length b.signature.params < k → k < b.slots
+    → Hold (each b.slots (is_let_go b g at)) → owns_asset b g (slot k) ≡ false
+slot_left b g at k up lt h = isnt _ (second_of (nat_le k (length b.signature.params)) _
+    (each_holds b.slots (is_let_go b g at) h k lt).0 (above (length b.signature.params) k up))
 
 -- what is asked first: of slots and parameters
 abbrev to_params : BodyFrame → Context → Span → List Premise
@@ -83,7 +97,8 @@ all_left b g at h =
     let itself = both_hold (to_params b g at) (leaves_this b g at) set.0 in
     let params = both_hold (each b.slots (is_let_go b g at)) (leaves_params b g at 1 b.signature.params) itself.0 in
     record {
-      params = λ k p e. let place : k + 1 ≡ 1 + k = omega arith in rw place (params_left b g at 1 b.signature.params k p e params.1);
+      params = λ k p e. let place : k + 1 ≡ 1 + k = omega arith in rw place
+          (params_left b g at 1 b.signature.params k p e params.1);
       itself = this_left b g at itself.1;
       made = object_left b g at itself.1 set.1;
       fields = λ f lt t. field_left b g at f lt fields.1 t;

@@ -1,6 +1,8 @@
 pub mod Outcomes
 pub mod Tests
 pub mod Premises
+pub mod Places
+pub mod Held
 pub mod Uses
 pub mod Binding
 pub mod Filling
@@ -11,4 +13,5 @@ pub mod Calling
 pub mod Changing
 pub mod Exits
 pub mod Returning
+pub mod Positions
 pub mod Deriving

@@ -3,8 +3,9 @@ use Rattle.std.proofs.Common.{◌≡◌, ℕ, zero, suc, ◌<◌, Bool, true, fa
 use Rattle.std.specs.Prelude.{nat_eq, slice_get, if◌then◌else◌}
 use Rattle.ob_base.specs.declared.fault.ProgramFault.{ProgramFault}
 use Rattle.ob_base.specs.declared.fault.Span.{Span}
-use Rattle.ob_flow_spec.specs.Premises.{Premise, one, each, for_all, first_failing, checked, ◌>>=◌}
+use Rattle.ob_flow_spec.specs.Premises.{Premise, one, each, for_all, first_failing, unless, checked, ◌>>=◌}
 use Rattle.ob_flow_laws.specs.Premises.{Hold}
+use Rattle.ob_flow_laws.proofs.Tests.{same_number}
 
 -- None fails where all hold, and the other way round.
 
@@ -23,12 +24,16 @@ none_fails (p ∷ ps) h = rw h.0 (none_fails ps h.1)
 
 -- Checked premises.
 
-then_holds : {A B : Type 0} (p : Premise) (ps : List Premise) (x : A) (f : A → Result B ProgramFault) (y : B) → ((checked ps x >>= f) ≡ Ok y → Hold ps × (f x ≡ Ok y)) → (b : Bool) → p.holds ≡ b → (Rattle.ob_flow_spec.specs.Premises.unless (if b then first_failing ps else Some p.fault) x >>= f) ≡ Ok y → Hold (p ∷ ps) × (f x ≡ Ok y)
+then_holds : {A B : Type 0} (p : Premise) (ps : List Premise) (x : A) (f : A → Result B ProgramFault) (y : B)
+    → ((checked ps x >>= f) ≡ Ok y → Hold ps × (f x ≡ Ok y)) → (b : Bool) → p.holds ≡ b
+    → (unless (if b then first_failing ps else Some p.fault) x >>= f) ≡ Ok y
+    → Hold (p ∷ ps) × (f x ≡ Ok y)
 then_holds p ps x f y go true e h = let r = go h in ((e, r.0), r.1)
 then_holds p ps x f y go false e h = absurd (cc)
 
 -- what follows checked premises
-pub checked_then : {A B : Type 0} (ps : List Premise) (x : A) (f : A → Result B ProgramFault) (y : B) → (checked ps x >>= f) ≡ Ok y → Hold ps × (f x ≡ Ok y)
+pub checked_then : {A B : Type 0} (ps : List Premise) (x : A) (f : A → Result B ProgramFault) (y : B)
+    → (checked ps x >>= f) ≡ Ok y → Hold ps × (f x ≡ Ok y)
 checked_then [] x f y h = (tt, h)
 checked_then (p ∷ ps) x f y h = then_holds p ps x f y (checked_then ps x f y) p.holds refl h
 
@@ -47,7 +52,8 @@ pub checked_ok : {A : Type 0} (ps : List Premise) (x : A) → Hold ps → checke
 checked_ok ps x h = rw (none_fails ps h) refl
 
 -- what comes before another step
-pub bind_ok : {A B : Type 0} (r : Result A ProgramFault) (f : A → Result B ProgramFault) (y : B) → (r >>= f) ≡ Ok y → (x : A) × (r ≡ Ok x) × (f x ≡ Ok y)
+pub bind_ok : {A B : Type 0} (r : Result A ProgramFault) (f : A → Result B ProgramFault) (y : B) → (r >>= f) ≡ Ok y
+    → (x : A) × (r ≡ Ok x) × (f x ≡ Ok y)
 bind_ok (Ok x) f y h = (x, refl, h)
 bind_ok (Err e) f y h = absurd (cc)
 
@@ -71,13 +77,11 @@ hold_one number place b h = (h, tt)
 
 -- Premises for each number.
 
-same_number : (k n : ℕ) → nat_eq k n ≡ true → k ≡ n
-same_number k n e = grind arith
-
 lower_number : (k n : ℕ) → k < suc n → nat_eq k n ≡ false → k < n
 lower_number k n lt e = grind arith
 
-one_of : (n : ℕ) (says : ℕ → List Premise) (k : ℕ) → k < suc n → (k < n → Hold (says k)) → Hold (says n) → (b : Bool) → nat_eq k n ≡ b → Hold (says k)
+one_of : (n : ℕ) (says : ℕ → List Premise) (k : ℕ) → k < suc n → (k < n → Hold (says k)) → Hold (says n) → (b : Bool)
+    → nat_eq k n ≡ b → Hold (says k)
 one_of n says k lt go h true e = subst (λ j. Hold (says j)) (sym (same_number k n e)) h
 one_of n says k lt go h false e = go (lower_number k n lt e)
 
@@ -94,16 +98,18 @@ hold_each (suc n) says h =
 
 -- Premises for each thing of a list.
 
-found_first : {A : Type 0} (x y : A) → ◌≡◌ {A = Option A} (Some x) (Some y) → x ≡ y
+pub found_first : {A : Type 0} (x y : A) → ◌≡◌ {A = Option A} (Some x) (Some y) → x ≡ y
 found_first x y e = cc
 
-pub for_all_at : {A : Type 0} (xs : List A) (says : A → List Premise) → Hold (for_all xs says) → (k : ℕ) (x : A) → slice_get xs k ≡ Some x → Hold (says x)
+pub for_all_at : {A : Type 0} (xs : List A) (says : A → List Premise) → Hold (for_all xs says) → (k : ℕ) (x : A)
+    → slice_get xs k ≡ Some x → Hold (says x)
 for_all_at [] says h k x e = absurd (cc)
 for_all_at (y ∷ ys) says h zero x e =
     subst (λ z. Hold (says z)) (found_first y x e) (both_hold (says y) (for_all ys says) h).0
 for_all_at (y ∷ ys) says h (suc k) x e = for_all_at ys says (both_hold (says y) (for_all ys says) h).1 k x e
 
-pub for_all_holds : {A : Type 0} (xs : List A) (says : A → List Premise) → Hold (for_all xs says) → (x : A) → Contains xs x → Hold (says x)
+pub for_all_holds : {A : Type 0} (xs : List A) (says : A → List Premise) → Hold (for_all xs says) → (x : A)
+    → Contains xs x → Hold (says x)
 for_all_holds [] says h x c = absurd (let l = c.1 in omega arith)
 for_all_holds (y ∷ ys) says h x (zero, l, e) = subst (λ z. Hold (says z)) e (both_hold (says y) (for_all ys says) h).0
 for_all_holds (y ∷ ys) says h x (suc k, l, e) =
@@ -120,7 +126,9 @@ contains_at [] k x e = absurd (cc)
 contains_at (y ∷ ys) zero x e = (0, omega arith, found_first y x e)
 contains_at (y ∷ ys) (suc k) x e = contains_later y ys x (contains_at ys k x e)
 
-pub hold_for_all : {A : Type 0} (xs : List A) (says : A → List Premise) → ((x : A) → Contains xs x → Hold (says x)) → Hold (for_all xs says)
+pub hold_for_all : {A : Type 0} (xs : List A) (says : A → List Premise) → ((x : A) → Contains xs x → Hold (says x))
+    → Hold (for_all xs says)
 hold_for_all [] says h = tt
 hold_for_all (y ∷ ys) says h =
-    hold_both (says y) (for_all ys says) (h y (contains_first y ys)) (hold_for_all ys says (λ x c. h x (contains_later y ys x c)))
+    hold_both (says y) (for_all ys says) (h y (contains_first y ys))
+    (hold_for_all ys says (λ x c. h x (contains_later y ys x c)))

@@ -1,10 +1,16 @@
 -- What tests in premises tell.
-use Rattle.std.proofs.Common.{◌≡◌, Bool, true, false, refl}
-use Rattle.std.specs.Prelude.{not, ◌&&◌, ◌||◌}
+use Rattle.std.proofs.Common.{◌≡◌, ℕ, Bool, true, false, refl, arith}
+use Rattle.std.specs.Prelude.{not, ◌&&◌, ◌||◌, nat_eq}
 
 pub isnt : (a : Bool) → not a ≡ true → a ≡ false
 isnt true h = absurd (cc)
 isnt false h = refl
+
+pub same_number : (j k : ℕ) → nat_eq j k ≡ true → j ≡ k
+same_number j k e = grind arith
+
+pub number_itself : (k : ℕ) → nat_eq k k ≡ true
+number_itself k = grind arith
 
 -- of `not a || b`
 pub where_first : (a b : Bool) → (not a || b) ≡ true → a ≡ true → b ≡ true

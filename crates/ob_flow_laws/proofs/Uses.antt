@@ -18,7 +18,8 @@ use Rattle.ob_flow_laws.proofs.Premises.{both_hold}
 same_field : (f h : ℕ) → field f ≡ field h → f ≡ h
 same_field f h e = cc
 
-pub can_read : (b : BodyFrame) (g : Context) (p : Location) (place : Span) → Hold (reads_place b g p place) → CanRead b g p
+pub can_read : (b : BodyFrame) (g : Context) (p : Location) (place : Span) → Hold (reads_place b g p place)
+    → CanRead b g p
 can_read b g (slot k) place h = record { set = h.0; reached = λ f e. absurd (cc) }
 can_read b g (field f) place h = record {
   set = h.1.0;
@@ -35,7 +36,8 @@ pub fits_so : (cause : Option FitFault) (place : Span) → Hold (fitting cause p
 fits_so None place h = refl
 fits_so (Some cause) place h = absurd (let e = h.0 in cc)
 
-pub can_give : (b : BodyFrame) (ts : TestedPlaces) (g : Context) (r : Read) (to : Parameter) → Hold (gives_place b ts g r to) → CanGive b ts g r.location to
+pub can_give : (b : BodyFrame) (ts : TestedPlaces) (g : Context) (r : Read) (to : Parameter)
+    → Hold (gives_place b ts g r to) → CanGive b ts g r.location to
 can_give b ts g r to h =
     let cause = fit_fault (said_for_type b g r.location to.of) (permission_of_type to.of) in
     let last = both_hold (uses_place b g r ++ fitting cause r.span) _ h in
@@ -43,5 +45,6 @@ can_give b ts g r to h =
     record {
       usable = can_use b g r first.0;
       serves = fits_so cause r.span first.1;
-      stays = never_both (is_tested ts r.location) (goes_away (permission_of_type to.of) (permission_of to.exit)) last.1.0;
+      stays = never_both (is_tested ts r.location) (goes_away (permission_of_type to.of) (permission_of to.exit))
+          last.1.0;
     }

@@ -1,5 +1,5 @@
--- What holds where a call or a `new` derives (Coblenz et al., TOPLAS 42(3), 2020, "Silica"; the facts are this project's
--- own).
+-- What holds where a call or a `new` derives (Coblenz et al., TOPLAS 42(3), 2020, "Silica"; the facts are this
+-- project's own).
 use Rattle.std.specs.Prelude.{ℕ, ◌<◌, List, IsTrue, IsFalse}
 use Rattle.ob_base.specs.declared.fault.Span.{Span}
 use Rattle.ob_base.specs.declared.id.ContractId.{ContractId}
@@ -14,21 +14,24 @@ use Rattle.ob_flow_laws.specs.Uses.{CanUse}
 use Rattle.ob_flow_laws.specs.Binding.{EachOnce, KeepsFields, CanGiveAll}
 
 -- an object can be made: no argument stands twice, once of it for an owner, and each can be given to its parameter
-pub record CanMake (b : BodyFrame) (ts : TestedPlaces) (g : Context) (s : Signature) (args : List Operand) : Type 0 where
+pub record CanMake (b : BodyFrame) (ts : TestedPlaces) (g : Context) (s : Signature)
+    (args : List Operand) : Type 0 where
   pub once : EachOnce (reads_of args) (parameters s)
   pub gives : CanGiveAll b ts g (reads_of args) (parameters s)
 
--- A transaction of another object can be called: the receiver can be used, none of it and of the arguments stands twice,
--- once of it for an owner, and each can be given.
-pub record CanCall (b : BodyFrame) (ts : TestedPlaces) (g : Context) (receiver : Operand) (contract : ContractId) (s : Signature) (args : List Operand) : Type 0 where
+-- A transaction of another object can be called: the receiver can be used, none of it and of the arguments stands
+-- twice, once of it for an owner, and each can be given.
+pub record CanCall (b : BodyFrame) (ts : TestedPlaces) (g : Context) (receiver : Operand) (contract : ContractId)
+    (s : Signature) (args : List Operand) : Type 0 where
   pub usable : CanUse b g (located receiver)
   pub once : EachOnce (all_reads receiver args) (all_parameters contract s)
   pub gives : CanGiveAll b ts g (all_reads receiver args) (all_parameters contract s)
 
--- A transaction of `this` can be called: no constructor runs; nothing stands twice, once of it for an owner, and no field
--- is lent; no field is under test; `this` and the arguments can be given; and each field that may be there is then held as
--- the call wants it.
-pub record CanCallThis (b : BodyFrame) (ts : TestedPlaces) (g : Context) (at : Span) (s : Signature) (args : List Operand) : Type 0 where
+-- A transaction of `this` can be called: no constructor runs; nothing stands twice, once of it for an owner, and no
+-- field is lent; no field is under test; `this` and the arguments can be given; and each field that may be there is
+-- then held as the call wants it.
+pub record CanCallThis (b : BodyFrame) (ts : TestedPlaces) (g : Context) (at : Span) (s : Signature)
+    (args : List Operand) : Type 0 where
   pub no_constructor : IsFalse (constructs b)
   pub once : EachOnce (reads_with_this at args) (all_parameters b.here s)
   pub keeps : KeepsFields (reads_of args) (parameters s)

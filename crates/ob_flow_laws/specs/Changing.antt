@@ -1,5 +1,5 @@
--- What holds where a change of state derives (Coblenz et al., TOPLAS 42(3), 2020, "Silica"; the facts are this project's
--- own).
+-- What holds where a change of state derives (Coblenz et al., TOPLAS 42(3), 2020, "Silica"; the facts are this
+-- project's own).
 use Rattle.std.specs.Prelude.{◌≡◌, ℕ, ◌<◌, List, [], ◌∷◌, None, Contains, IsTrue, IsFalse, ⊤}
 use Rattle.ob_base.specs.declared.id.StateId.{StateId}
 use Rattle.ob_perm.specs.Permissions.{is_shared, is_unowned}
@@ -36,9 +36,9 @@ CanFillAll b ts g [] = ⊤
 CanFillAll b ts g (x ∷ xs) =
     CanFill b ts g x.field.0 (given_from x) × CanFillAll b ts (after_fill b g x.field.0 (given_from x)) xs
 
--- The state can change: `this` lets it change; the given fields are there in it; its other fields have values; no place
--- fills two owning fields; a field under test is neither given nor lost; all can be filled; no asset is overwritten or
--- lost; and under a Shared `this` what others may see is as declared.
+-- The state can change: `this` lets it change; the given fields are there in it; its other fields have values; no
+-- place fills two owning fields; a field under test is neither given nor lost; all can be filled; no asset is
+-- overwritten or lost; and under a Shared `this` what others may see is as declared.
 pub record CanChange (b : BodyFrame) (ts : TestedPlaces) (g : Context) (s : StateId) (xs : List Given) : Type 0 where
   pub changes : IsFalse (is_unowned (permission_at g this))
   pub of_state : (x : Given) → Contains xs x → IsTrue (available b x.field.0 s.0)

@@ -1,5 +1,5 @@
--- What holds where a form derives, and what is left after it (Coblenz et al., TOPLAS 42(3), 2020, "Silica"; the facts are
--- this project's own).
+-- What holds where a form derives, and what is left after it (Coblenz et al., TOPLAS 42(3), 2020, "Silica"; the facts
+-- are this project's own).
 use Rattle.std.specs.Prelude.{◌≡◌, Option, Some, None, Ok}
 use Rattle.ob_base.specs.declared.fault.Span.{Span}
 use Rattle.ob_base.specs.declared.id.StateId.{StateId}
@@ -25,15 +25,17 @@ use Rattle.ob_flow_laws.specs.Calling.{CanMake, CanCall, CanCallThis}
 use Rattle.ob_flow_laws.specs.Changing.{CanChange}
 use Rattle.ob_flow_laws.specs.Returning.{CanReturn}
 
--- A form with this signature, if the table has one, has this condition and leaves this context; without a signature it
--- changes nothing.
-pub record PassesSigned (signature : Option Signature) (Can : Signature → Type 0) (after : Signature → Context) (g : Context) (left : Option Context) : Type 0 where
+-- A form with this signature, if the table has one, has this condition and leaves this context; without a signature
+-- it changes nothing.
+pub record PassesSigned (signature : Option Signature) (Can : Signature → Type 0) (after : Signature → Context)
+    (g : Context) (left : Option Context) : Type 0 where
   pub signed : (s : Signature) → signature ≡ Some s → Can s × (left ≡ Some (after s))
   pub unsigned : signature ≡ None → left ≡ Some g
 
--- A test is passed: the place can be tested, the first branch derives from the tested state and ends, the second derives
--- from the others, and this is left after both.
-pub record PassesTest (b : BodyFrame) (ts : TestedPlaces) (o : Operand) (state : StateId) (branch other : SilicaTerms) (g : Context) (left : Option Context) : Type 0 where
+-- A test is passed: the place can be tested, the first branch derives from the tested state and ends, the second
+-- derives from the others, and this is left after both.
+pub record PassesTest (b : BodyFrame) (ts : TestedPlaces) (o : Operand) (state : StateId)
+    (branch other : SilicaTerms) (g : Context) (left : Option Context) : Type 0 where
   pub can : CanTest b ts g o
   pub first : Option Context
   pub ended : Option Context
@@ -45,7 +47,8 @@ pub record PassesTest (b : BodyFrame) (ts : TestedPlaces) (o : Operand) (state :
   pub joins : LeavesBoth b (this_left first) ended second left
 
 -- a condition is passed: its place can be used, both branches derive, and this is left after them
-pub record PassesIf (b : BodyFrame) (ts : TestedPlaces) (a : Operand) (branch other : SilicaTerms) (g : Context) (left : Option Context) : Type 0 where
+pub record PassesIf (b : BodyFrame) (ts : TestedPlaces) (a : Operand) (branch other : SilicaTerms) (g : Context)
+    (left : Option Context) : Type 0 where
   pub can : CanUse b g (located a)
   pub first : Option Context
   pub second : Option Context
@@ -84,15 +87,16 @@ Passes b ts (revert_form text) at g left = CanUse b g (located text) × (left �
 Passes b ts bad_row_form at g left = ⊥
 
 -- the rest of terms derives from what the form before left, if it was passed
-abbrev pub GoesOn : BodyFrame → TestedPlaces → SilicaTerms → Option Context → Option Context → Type 0
-GoesOn b ts rest None left = left ≡ None
-GoesOn b ts rest (Some h) left = derive_all b ts rest h ≡ Ok left
+abbrev pub RestDerives : BodyFrame → TestedPlaces → SilicaTerms → Option Context → Option Context → Type 0
+RestDerives b ts rest None left = left ≡ None
+RestDerives b ts rest (Some h) left = derive_all b ts rest h ≡ Ok left
 
 -- a form derives and leaves `mid`, from which the rest of the terms derives
-pub record PassesThen (b : BodyFrame) (ts : TestedPlaces) (form : SilicaForm) (at : Span) (rest : SilicaTerms) (g : Context) (left : Option Context) : Type 0 where
+pub record PassesThen (b : BodyFrame) (ts : TestedPlaces) (form : SilicaForm) (at : Span) (rest : SilicaTerms)
+    (g : Context) (left : Option Context) : Type 0 where
   pub mid : Option Context
   pub derives : derive b ts form at g ≡ Ok mid
-  pub goes_on : GoesOn b ts rest mid left
+  pub rest_derives : RestDerives b ts rest mid left
 
 -- terms are passed in this context: each form derives from what the one before left
 abbrev pub PassesAll : BodyFrame → TestedPlaces → SilicaTerms → Context → Option Context → Type 0

@@ -1,11 +1,13 @@
--- What holds where two branches join (Coblenz et al., TOPLAS 42(3), 2020, "Silica"; the facts are this project's own).
+-- What holds where two branches join (Coblenz et al., TOPLAS 42(3), 2020, "Silica"; the facts are this project's
+-- own).
 use Rattle.std.specs.Prelude.{◌≡◌, ℕ, ◌<◌, Option, Some, None, IsTrue, IsFalse}
 use Rattle.ob_perm.specs.Permissions.{Permission}
 use Rattle.ob_silica_places.specs.Places.{slot, field, this}
 use Rattle.ob_flow_spec.specs.Contexts.{BodyFrame, field_count, declared_permission, Context, permission_at, is_held_as, accessible_under, accessible}
 use Rattle.ob_flow_spec.specs.Joining.{same_mode, join_loses, joined_context}
 
--- a field that is accessible in a branch, where `this` has this permission, and not after it is held there as declared
+-- a field that is accessible in a branch, where `this` has this permission, and not after it is held there as
+-- declared
 abbrev pub HandsFieldOn : BodyFrame → Permission → Context → Context → ℕ → Type 0
 HandsFieldOn b under g after f =
     IsTrue (accessible_under b under f) → IsFalse (accessible b after f)

@@ -15,8 +15,8 @@ CanGiveValue b ts g None result = ⊤
 CanGiveValue b ts g (Some o) None = CanUse b g (located o)
 CanGiveValue b ts g (Some o) (Some of) = CanGive b ts g (located o) (result_parameter of)
 
--- The body can return: the value can be given; each place under test then owns; and once the tests have ended each exit is
--- met.
+-- The body can return: the value can be given; each place under test then owns; and once the tests have ended each
+-- exit is met.
 pub record CanReturn (b : BodyFrame) (ts : TestedPlaces) (g : Context) (value : Option Operand) : Type 0 where
   pub gives : CanGiveValue b ts g value b.signature.result
   pub tests : (p : Location) → Contains ts p

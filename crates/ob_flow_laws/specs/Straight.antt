@@ -1,5 +1,5 @@
--- What holds where a form without branches and calls derives (Coblenz et al., TOPLAS 42(3), 2020, "Silica"; the facts are
--- this project's own).
+-- What holds where a form without branches and calls derives (Coblenz et al., TOPLAS 42(3), 2020, "Silica"; the facts
+-- are this project's own).
 use Rattle.std.specs.Prelude.{◌≡◌, ℕ, IsTrue, IsFalse}
 use Rattle.ob_base.specs.declared.permission.Perm.{Perm}
 use Rattle.ob_perm.specs.Permissions.{is_unowned, matches}
@@ -29,8 +29,8 @@ pub record CanMoveToSlot (b : BodyFrame) (ts : TestedPlaces) (g : Context) (k : 
   pub to_untested : IsFalse (is_tested ts (slot k))
   pub overwrites_none : IsFalse (owns_asset b g (slot k))
 
--- A reference can be moved into a field: the field is accessible and not under test, the place can fill it, and then the
--- field owned no asset.
+-- A reference can be moved into a field: the field is accessible and not under test, the place can fill it, and then
+-- the field owned no asset.
 pub record CanMoveToField (b : BodyFrame) (ts : TestedPlaces) (g : Context) (f : ℕ) (from : Operand) : Type 0 where
   pub reached : IsTrue (accessible b g f)
   pub to_untested : IsFalse (is_tested ts (field f))

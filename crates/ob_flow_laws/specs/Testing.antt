@@ -1,5 +1,5 @@
--- What holds where a test of state derives (Coblenz et al., TOPLAS 42(3), 2020, "Silica"; the facts are this project's
--- own).
+-- What holds where a test of state derives (Coblenz et al., TOPLAS 42(3), 2020, "Silica"; the facts are this
+-- project's own).
 use Rattle.std.specs.Prelude.{◌≡◌, Option, Some, None, IsTrue, IsFalse}
 use Rattle.ob_perm.specs.Permissions.{Permission, owned, shared, unowned, owns, is_unowned}
 use Rattle.ob_silica.specs.declared.place.Operand.{Operand}
@@ -13,8 +13,8 @@ pub record CanTest (b : BodyFrame) (ts : TestedPlaces) (g : Context) (o : Operan
   pub has_say : IsFalse (is_unowned (counted g (located o)))
   pub untested : IsFalse (is_tested ts (located o))
 
--- The first branch of a shared object's test ends, and this is left: the place still owned, and is Shared again. Where the
--- end isn't reached, nothing is asked.
+-- The first branch of a shared object's test ends, and this is left: the place still owned, and is Shared again.
+-- Where the end isn't reached, nothing is asked.
 abbrev pub EndsTest : Operand → Option Context → Option Context → Type 0
 EndsTest o None left = left ≡ None
 EndsTest o (Some g) left = IsTrue (owns (permission_at g (located o))) × (left ≡ Some (now g (located o) shared))

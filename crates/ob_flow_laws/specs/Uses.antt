@@ -1,5 +1,5 @@
--- What holds of a place that is read, used or given (Coblenz et al., TOPLAS 42(3), 2020, "Permissions"; the facts are this
--- project's own).
+-- What holds of a place that is read, used or given (Coblenz et al., TOPLAS 42(3), 2020, "Permissions"; the facts are
+-- this project's own).
 use Rattle.std.specs.Prelude.{◌≡◌, ℕ, IsTrue, IsFalse}
 use Rattle.ob_perm.specs.Permissions.{fits}
 use Rattle.ob_perm.specs.Masks.{permission_of}
@@ -19,8 +19,8 @@ pub record CanUse (b : BodyFrame) (g : Context) (p : Location) : Type 0 where
   pub readable : CanRead b g p
   pub spares_this : IsTrue (constructs b) → IsFalse (same_location p this)
 
--- A place can be given to a parameter: it can be used, it serves what the parameter's type wants, and if it is under test
--- it stays its owner's.
+-- A place can be given to a parameter: it can be used, it serves what the parameter's type wants, and if it is under
+-- test it stays its owner's.
 pub record CanGive (b : BodyFrame) (ts : TestedPlaces) (g : Context) (p : Location) (to : Parameter) : Type 0 where
   pub usable : CanUse b g p
   pub serves : IsTrue (fits (said_for_type b g p to.of) (permission_of_type to.of))
