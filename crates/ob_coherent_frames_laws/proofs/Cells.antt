@@ -1,16 +1,12 @@
 -- What is so of cells and of objects, of a changed list of objects.
-use Rattle.std.proofs.Common.{◌≡◌, ◌≢◌, ℕ, zero, suc, ◌+◌, ◌<◌, ◌≤◌, ◌⊎◌, inl, inr, ⊎_elim, Bool, true, false, nat_eq, ◌&&◌, List, [], ◌∷◌, length, Option, Some, None, option_map, unwrap_or, slice_get, refl, sym, ap, ◌∙◌, subst, arith}
-use Rattle.std.proofs.lemmas.Bool.{cases_Bool}
+use Rattle.std.proofs.Common.{◌≡◌, ◌≢◌, ℕ, zero, suc, ◌<◌, ⊎_elim, Bool, true, false, nat_eq, ◌&&◌, List, [], ◌∷◌, length, Option, Some, unwrap_or, slice_get, refl, sym, subst, arith}
 use Rattle.std.proofs.lemmas.Bool.Decides.{eqb_tells}
-use Rattle.std.specs.Option.{option_map_or}
 use Rattle.ob_base.specs.declared.id.ContractId.{ContractId}
-use Rattle.ob_base.specs.Limits.{most_slots}
 use Rattle.ob_perm.specs.States.{States}
-use Rattle.ob_perm.specs.Permissions.{Permission, owned, shared, unowned, owns}
-use Rattle.ob_table.specs.Tables.{ClassTable, contract_at}
+use Rattle.ob_perm.specs.Permissions.{owned, owns}
+use Rattle.ob_table.specs.Tables.{ClassTable}
 use Rattle.ob_table.specs.declared.seen.Kind.{Kind}
 use Rattle.ob_table.specs.declared.seen.Kind.TheVariants.{Int, Bool as BoolKind, Text, Reference}
-use Rattle.ob_table_spec.specs.WellFormed.{serves_as}
 use Rattle.ob_heap_spec.specs.Values.{Value, int_value, bool_value, text_value, reference}
 use Rattle.ob_heap_spec.specs.Objects.{Object, unfinished, seen_state}
 use Rattle.ob_heap_spec.specs.Contents.{object_at}
@@ -18,7 +14,7 @@ use Rattle.ob_silica_places.specs.Known.{Known}
 use Rattle.ob_silica_steps.specs.Cells.{Cell}
 use Rattle.ob_silica_steps.specs.Here.{field_value}
 use Rattle.ob_coherent_spec.specs.Counting.{nth_object, sum_below, one_if, refers_to, in_cell}
-use Rattle.ob_coherent_spec.specs.Standing.{Stands, IsOfKind, RefersToShared, RefersToIn, HasItsState, is_in}
+use Rattle.ob_coherent_spec.specs.Standing.{Stands, IsOfKind, HasItsState}
 use Rattle.ob_coherent_spec.specs.Saying.{SaysOf}
 
 -- Sums.
