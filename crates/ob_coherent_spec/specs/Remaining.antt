@@ -3,16 +3,17 @@
 use Rattle.std.specs.Prelude.{◌≡◌, ℕ, ◌<◌, ◌≤◌, Bool, true, false, List, [], ◌∷◌, Option, Some, None, Ok, All, IsSome, ⊤}
 use Rattle.ob_base.specs.declared.id.ContractId.{ContractId}
 use Rattle.ob_base.specs.declared.id.TxId.{TxId}
-use Rattle.ob_perm.specs.Permissions.{owns, shared}
+use Rattle.ob_perm.specs.Permissions.{Permission, owns, shared}
 use Rattle.ob_table.specs.Tables.{ClassTable, contract_at, signature_at}
 use Rattle.ob_table.specs.declared.contract.Contract.{Contract}
 use Rattle.ob_table.specs.declared.contract.Signature.{Signature}
 use Rattle.ob_table.specs.declared.seen.Kind.{Kind}
+use Rattle.ob_table.specs.declared.seen.Kind.TheVariants.{Reference}
 use Rattle.ob_table_spec.specs.Conditions.{IsClassTable}
 use Rattle.ob_table_spec.specs.WellFormed.{StaticFrame, frame_of, is_reference}
 use Rattle.ob_silica.specs.Terms.{SilicaForm, SilicaTerms, SilicaBody}
 use Rattle.ob_silica.specs.Slots.{slots_of_terms}
-use Rattle.ob_silica_places.specs.Known.{Known}
+use Rattle.ob_silica_places.specs.Known.{Known, known}
 use Rattle.ob_silica_places.specs.Places.{Location, slot, field, this}
 use Rattle.ob_silica_steps.specs.Cells.{Cell}
 use Rattle.ob_silica_steps.specs.Configurations.{SilicaProgram, terms_at, SlotCells, SilicaFrame, Ends, plain_end, test_end, lock_end, Rest}
@@ -132,6 +133,10 @@ StillOwns g plain_end = ⊤
 StillOwns g (test_end p) = owns (permission_at g p) ≡ true
 StillOwns g (lock_end p n) = owns (permission_at g p) ≡ true
 
+-- `this` is known, with its own kind
+abbrev pub KnowsThis : BodyFrame → Context → Type 0
+KnowsThis b g = (p : Permission) × (g this ≡ Some (known (Reference b.here) p))
+
 -- Where the end of a list is reached with this context, the lists around go on: each with a context that may stand for it,
 -- from which its terms derive, and with holdings under which they are well-formed.
 abbrev pub GoOn : BodyFrame → Option Context → Holdings → List Rest → Type 0
@@ -139,12 +144,13 @@ GoOn b None h outer = ⊤
 GoOn b (Some g) h [] = ⊥
 GoOn b (Some g) h (r ∷ outer) =
     StillOwns g r.ends × (j : Context) × (i : Holdings) × (left : Option Context)
-    × Leads b (at_end g r.ends) j × HoldToo h i × AreWellFormedFrom b i r.terms
+    × Leads b (at_end g r.ends) j × KnowsThis b j × HoldToo h i × AreWellFormedFrom b i r.terms
     × (derive_all b (tested_places outer) r.terms j ≡ Ok left) × GoOn b left (after_terms (static_of b) r.terms i) outer
 
 -- What a frame has still to run: terms that are well-formed and derive, and after them the lists around.
 pub record Remains (b : BodyFrame) (h : Holdings) (g : Context) (terms : SilicaTerms) (outer : List Rest) : Type 0 where
   pub formed : AreWellFormedFrom b h terms
+  pub itself : KnowsThis b g
   pub left : Option Context
   pub derived : derive_all b (tested_places outer) terms g ≡ Ok left
   pub after : GoOn b left (after_terms (static_of b) terms h) outer
