@@ -1,20 +1,15 @@
 -- What the places count where a loan goes back, and where a frame is left.
-use Rattle.std.proofs.Common.{◌≡◌, ◌≢◌, ℕ, zero, suc, ◌+◌, ◌<◌, ◌≤◌, Bool, true, false, nat_eq, List, [], ◌∷◌, length, Option, Some, None, option_map, refl, sym, ap, ◌∙◌, subst, arith, ◌⊎◌, ⊎_elim}
+use Rattle.std.proofs.Common.{◌≡◌, ℕ, ◌+◌, ◌<◌, List, [], ◌∷◌, length, Option, Some, None, option_map, refl, ap, arith}
 use Rattle.ob_base.specs.Limits.{most_slots}
-use Rattle.ob_perm.specs.Permissions.{Permission, unowned, owns}
-use Rattle.ob_heap_spec.specs.Worlds.{World}
-use Rattle.ob_heap_spec.specs.Values.{reference}
-use Rattle.ob_silica_places.specs.Known.{at}
+use Rattle.ob_perm.specs.Permissions.{unowned}
 use Rattle.ob_silica_places.specs.Places.{Location, slot, field}
 use Rattle.ob_silica_steps.specs.Cells.{Cell, noted}
-use Rattle.ob_silica_steps.specs.Configurations.{SlotCells, How, by_receiver, by_this, by_new, SilicaFrame, Loan, Waiting, runs, leaves, Notes, Configuration}
+use Rattle.ob_silica_steps.specs.Configurations.{SlotCells, How, by_receiver, by_this, by_new, Loan, Waiting, runs, leaves, Configuration}
 use Rattle.ob_silica_steps.specs.Here.{Here, self_of, set_permission}
 use Rattle.ob_silica_steps.specs.Returning.{leaves_progress, left_world, with_result, without_owner, returned_to}
-use Rattle.ob_coherent_spec.specs.Counting.{Counted, any, in_cell, in_slots, in_objects, in_waiting, in_control, in_handles, in_all}
-use Rattle.ob_coherent_spec.specs.Runs.{times, around, entered_at, entered_among, entries, constructing_among, constructing_at, constructions, tests_in, tests_among, open_tests, locks}
-use Rattle.ob_coherent_counting_laws.proofs.Cells.{cell_alike, cell_uncounted}
+use Rattle.ob_coherent_spec.specs.Counting.{Counted, in_cell, in_slots, in_objects, in_waiting, in_control, in_handles, in_all}
 use Rattle.ob_coherent_counting_laws.proofs.Places.{slots_at}
-use Rattle.ob_coherent_counting_laws.proofs.Writing.{IsLow, cell_at, in_here, here_permission}
+use Rattle.ob_coherent_counting_laws.proofs.Writing.{IsLow, cell_at, here_permission}
 use Rattle.ob_coherent_counting_laws.proofs.Permitting.{self_permission, noted_refers_same, permission_handles}
 
 -- what the waiting frame works on

@@ -1,21 +1,18 @@
 -- What the places count where one of them gets another permission.
-use Rattle.std.proofs.Common.{◌≡◌, ◌≢◌, ℕ, zero, suc, ◌+◌, ◌<◌, ◌≤◌, Bool, true, false, nat_eq, List, length, Option, Some, None, option_map, refl, sym, ap, ◌∙◌, subst, arith, ◌⊎◌, inl, inr, ⊎_elim, eq-eqb}
+use Rattle.std.proofs.Common.{◌≡◌, ◌≢◌, ℕ, ◌+◌, ◌<◌, ◌≤◌, true, false, length, Option, Some, None, option_map, refl, sym, ap, ◌∙◌, subst, arith, ⊎_elim}
 use Rattle.std.proofs.lemmas.Bool.Decides.{eqb_tells}
-use Rattle.ob_base.specs.Limits.{most_slots}
 use Rattle.ob_perm.specs.Permissions.{Permission, owned, shared, unowned, owns, kept}
 use Rattle.ob_table.specs.declared.seen.Kind.{Kind}
 use Rattle.ob_table.specs.declared.contract.ResolvedType.{ResolvedType}
-use Rattle.ob_heap_spec.specs.Values.{Value, reference, referred}
-use Rattle.ob_heap_spec.specs.Worlds.{World}
-use Rattle.ob_heap_spec.specs.Marks.{comes_into}
-use Rattle.ob_silica_places.specs.Known.{Known, known, permission_of_type, at}
+use Rattle.ob_heap_spec.specs.Values.{Value, reference}
+use Rattle.ob_silica_places.specs.Known.{known, permission_of_type, at}
 use Rattle.ob_silica_places.specs.Places.{Location, slot, field}
 use Rattle.ob_silica_steps.specs.Cells.{Cell, noted, object_in}
-use Rattle.ob_silica_steps.specs.Configurations.{SlotCells, Notes, HandleNote}
-use Rattle.ob_silica_steps.specs.Here.{Here, self_of, set_slot, set_field, set_permission, hand}
-use Rattle.ob_coherent_spec.specs.Counting.{Counted, any, in_cell, in_slots}
+use Rattle.ob_silica_steps.specs.Configurations.{SlotCells}
+use Rattle.ob_silica_steps.specs.Here.{Here, self_of, set_permission, hand}
+use Rattle.ob_coherent_spec.specs.Counting.{Counted, any, in_cell}
 use Rattle.ob_coherent_counting_laws.proofs.Sums.{at_same, at_other}
-use Rattle.ob_coherent_counting_laws.proofs.Cells.{cell_other, cell_counted, cell_uncounted, cell_noted, cell_noted_less, cell_less, all_noted_refers}
+use Rattle.ob_coherent_counting_laws.proofs.Cells.{cell_other, cell_counted, cell_uncounted, cell_noted, cell_noted_less, cell_less}
 use Rattle.ob_coherent_counting_laws.proofs.Frames.{self_same}
 use Rattle.ob_coherent_counting_laws.proofs.Writing.{IsLow, cell_at, in_here, here_permission, here_hand}
 

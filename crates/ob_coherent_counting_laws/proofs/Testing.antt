@@ -1,20 +1,20 @@
 -- What the places count, and how many tests are open, where a test begins or ends.
-use Rattle.std.proofs.Common.{◌≡◌, ◌≢◌, ℕ, zero, suc, ◌+◌, ◌<◌, ◌≤◌, Bool, true, false, nat_eq, List, [], ◌∷◌, length, Option, Some, None, refl, sym, ap, ◌∙◌, subst, arith, ◌⊎◌, inl, inr, ⊎_elim}
+use Rattle.std.proofs.Common.{◌≡◌, ◌≢◌, ℕ, ◌+◌, ◌<◌, ◌≤◌, Bool, true, false, nat_eq, List, ◌∷◌, length, Some, refl, sym, ap, ◌∙◌, subst, arith, ⊎_elim}
 use Rattle.std.specs.Prelude.{⊤}
 use Rattle.std.proofs.lemmas.Bool.Decides.{eqb_tells}
-use Rattle.ob_perm.specs.Permissions.{Permission, owned, shared, owns}
+use Rattle.ob_perm.specs.Permissions.{Permission, shared, owns}
 use Rattle.ob_heap_spec.specs.Values.{reference}
-use Rattle.ob_heap_spec.specs.Marks.{without_first, lock, unlock}
+use Rattle.ob_heap_spec.specs.Marks.{without_first}
 use Rattle.ob_silica.specs.Terms.{SilicaTerms}
 use Rattle.ob_silica_places.specs.Places.{Location}
 use Rattle.ob_silica_steps.specs.Cells.{Cell}
 use Rattle.ob_silica_steps.specs.Configurations.{SlotCells, Ends, plain_end, test_end, lock_end, Rest}
 use Rattle.ob_silica_steps.specs.Here.{Here, self_of, set_permission}
 use Rattle.ob_silica_steps.specs.Testing.{end_branch}
-use Rattle.ob_coherent_spec.specs.Counting.{one_if, Counted, any, in_cell}
-use Rattle.ob_coherent_spec.specs.Runs.{times, locks_at, locks_around, tests_at, tests_around, tests_in}
+use Rattle.ob_coherent_spec.specs.Counting.{one_if, any}
+use Rattle.ob_coherent_spec.specs.Runs.{times, locks_at, locks_around, tests_at, tests_in}
 use Rattle.ob_coherent_spec.specs.Waiting.{tests_of}
-use Rattle.ob_coherent_counting_laws.proofs.Numbers.{one_same, one_other, one_of, times_same, without_times, without_other}
+use Rattle.ob_coherent_counting_laws.proofs.Numbers.{one_same, without_times, without_other}
 use Rattle.ob_coherent_counting_laws.proofs.Frames.{tests_in_same}
 use Rattle.ob_coherent_counting_laws.proofs.Writing.{IsLow, cell_at, in_here}
 use Rattle.ob_coherent_counting_laws.proofs.Permitting.{self_permission, permission_other, permission_refers, permission_gone, permission_come}
