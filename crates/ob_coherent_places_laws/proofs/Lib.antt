@@ -2,3 +2,6 @@ pub mod Objects
 pub mod Reading
 pub mod Writing
 pub mod Standing
+pub mod Keeping
+pub mod Finding
+pub mod Carrying
