@@ -1,0 +1,10 @@
+pub mod Sums
+pub mod Objects
+pub mod Cells
+pub mod Places
+pub mod Numbers
+pub mod Marking
+pub mod Writing
+pub mod Whole
+pub mod Frames
+pub mod NextNumber
