@@ -1,0 +1,4 @@
+pub mod Cells
+pub mod Near
+pub mod Entered
+pub mod Whole
