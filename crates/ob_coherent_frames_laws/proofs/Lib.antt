@@ -2,3 +2,4 @@ pub mod Cells
 pub mod Near
 pub mod Entered
 pub mod Whole
+pub mod Own

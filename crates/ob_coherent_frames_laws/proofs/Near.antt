@@ -216,7 +216,7 @@ module _ (table : ClassTable) (i : ℕ) (N M : ℕ → Type 0) (c d : Configurat
       → (self_of h.frame.slots ≢ i) ⊎ EndsNoField e
       → IsOpen b (waiting_here c.notes c.world h) e → IsOpen b (waiting_here d.notes d.world h) e
   ends_near b h plain_end same below far a = tt
-  ends_near b h (test_end p) same below far a = (a.0, open_near b h p _ same below far a.1)
+  ends_near b h (test_end p) same below far a = (a.0, open_near b h p _ same below far a.1, near.shared _ a.2)
   ends_near b h (lock_end p n) same below far a = (a.0, open_near b h p n same below far a.1, near.shared n a.2)
 
   opens_near : (b : BodyFrame) (h : Waiting) (outer : List Rest) → b.table ≡ table → self_of h.frame.slots < length c.world.objects
