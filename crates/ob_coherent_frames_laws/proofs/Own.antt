@@ -64,6 +64,7 @@ own_step_keeps table entry beginning c h terms outer t k m g says i held remains
   placed = λ made. subst (λ n. HasItsState table (nth_object h.world.objects n)) (sym m.this) (m.placed made);
   shares = m.shares;
   owns_made = m.owns_made;
+  lends = k.lends;
   unreferred = λ n has.
       let same = same_constructions table entry beginning c h (runs terms outer) t k.whole (own_keeps table entry c k.whole.parts h terms outer m) n in
       let made : 0 < constructions n c = omega arith in
