@@ -3,3 +3,4 @@ pub mod Near
 pub mod Entered
 pub mod Whole
 pub mod Own
+pub mod Apart

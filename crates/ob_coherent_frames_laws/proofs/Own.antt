@@ -17,7 +17,7 @@ use Rattle.ob_coherent_spec.specs.Waiting.{SharesThis}
 use Rattle.ob_coherent_spec.specs.Coherent.{Beginning, IsRunning}
 use Rattle.ob_coherent_frames_laws.specs.Steps.{moved, KeepsWhole, IsOwnStep, IsQuietStep}
 use Rattle.ob_coherent_frames_laws.proofs.Cells.{same_has_state}
-use Rattle.ob_coherent_frames_laws.proofs.Near.{frame_with}
+use Rattle.ob_coherent_frames_laws.proofs.Near.{frame_with, lends_with}
 use Rattle.ob_coherent_frames_laws.proofs.Whole.{fewer_needs, same_constructions, whole_kept}
 
 -- what such a step leaves of the whole
@@ -64,6 +64,7 @@ own_step_keeps table entry beginning c h terms outer t k m g says i held remains
   placed = λ made. subst (λ n. HasItsState table (nth_object h.world.objects n)) (sym m.this) (m.placed made);
   shares = m.shares;
   owns_made = m.owns_made;
+  lends = lends_with table c.frame h.slots c.stack k.lends;
   unreferred = λ n has.
       let same = same_constructions table entry beginning c h (runs terms outer) t k.whole (own_keeps table entry c k.whole.parts h terms outer m) n in
       let made : 0 < constructions n c = omega arith in

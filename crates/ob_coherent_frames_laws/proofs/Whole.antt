@@ -1,7 +1,7 @@
 -- A step by which the innermost frame changes its own places keeps what is so of the whole.
 use Rattle.std.proofs.Common.{◌≡◌, ◌≢◌, ℕ, ◌+◌, ◌<◌, ◌≤◌, ◌⊎◌, inl, inr, ⊎_elim, Bool, true, false, List, [], ◌∷◌, length, Option, Some, None, slice_get, refl, sym, ap, ◌∙◌, subst, arith}
 use Rattle.std.specs.Option.{option_map_or, option_and_then}
-use Rattle.std.specs.Prelude.{IfSome}
+use Rattle.std.specs.Prelude.{IfSome, ⊤}
 use Rattle.std.proofs.lemmas.Bool.{both_ways, cases_Bool, cases_lt}
 use Rattle.std.proofs.lemmas.Bool.Decides.{eqb_tells}
 use Rattle.std.proofs.lemmas.Option.{slice_get_within, slice_get_past, get_or_from_slice_get}
@@ -34,7 +34,7 @@ use Rattle.ob_coherent_spec.specs.Waiting.{IsFrame, tests_of, AllWait}
 use Rattle.ob_coherent_spec.specs.Coherent.{Beginning, outermost, BeganSo, IsAsDeclared, Holds}
 use Rattle.ob_coherent_frames_laws.specs.Steps.{moved_to, KeepsArgument, LeavesOthers, KeepsWhole}
 use Rattle.ob_coherent_frames_laws.proofs.Cells.{each_zero, same_has_state}
-use Rattle.ob_coherent_frames_laws.proofs.Near.{IsNear, frame_with, stands_near, says_field_near, all_near}
+use Rattle.ob_coherent_frames_laws.proofs.Near.{IsNear, frame_with, stands_near, says_field_near, each_self, all_near}
 use Rattle.ob_coherent_frames_laws.proofs.Entered.{has_entry}
 
 -- Fields of objects.
@@ -122,7 +122,7 @@ either a b e = ⊎_elim (λ x. inl x) (λ x. inr (omega arith)) (cases_lt 0 a)
 
 module _ (table : ClassTable) (entry : Option ℕ) (beginning : Beginning) (c : Configuration) (h : Here) (control : Control)
     (t : IsClassTable table) (k : Holds table entry beginning c) (m : KeepsWhole table entry c k.parts h control) where
-  step_near : IsNear table (self_of c.frame.slots) (NeedsOwner table c.world.objects) (NeedsOwner table h.world.objects) c (moved_to c h control)
+  step_near : IsNear table (self_of c.frame.slots) (λ n. ⊤) (NeedsOwner table c.world.objects) (NeedsOwner table h.world.objects) c (moved_to c h control)
   step_near = record {
     count = let e = m.others.count in omega arith;
     contracts = λ n below. m.others.contracts n;
@@ -130,7 +130,7 @@ module _ (table : ClassTable) (entry : Option ℕ) (beginning : Beginning) (c : 
     fields = λ n j below ne. m.others.fields n j ne;
     notes = λ n j below ne. m.others.notes n j ne;
     shared = m.others.shared;
-    progress = λ n has. subst (λ l. 0 < times n l) (sym m.others.progress) has;
+    progress = λ n stay has. subst (λ l. 0 < times n l) (sym m.others.progress) has;
     lock_ends = m.lock_ends;
     needs = λ n below need. fewer_needs table c h m.others n need;
     stand = k.fields;
@@ -138,7 +138,7 @@ module _ (table : ClassTable) (entry : Option ℕ) (beginning : Beginning) (c : 
 
   other_field : (n : ℕ) → n ≢ self_of c.frame.slots → AllStand table h.world.objects (field_cell h.notes h.world.objects n)
   other_field n ne j x e = ⊎_elim
-      (λ below. stands_near table _ _ _ c (moved_to c h control) step_near x
+      (λ below. stands_near table _ _ _ _ c (moved_to c h control) step_near x
       (⊎_elim (λ same. inl same)
       (λ none. inr (subst (λ y. in_cell owns (self_of c.frame.slots) y ≡ 0) was
       (each_zero fields_counted (λ l. in_cell owns (self_of c.frame.slots) (field_cell c.notes c.world.objects n l))
@@ -191,7 +191,7 @@ module _ (table : ClassTable) (entry : Option ℕ) (beginning : Beginning) (c : 
       → IsAsDeclared table (NeedsOwner table h.world.objects) h.notes h.world.objects n
   other_declared n ne below a = record {
     placed = same_has_state table (nth_object c.world.objects n) (nth_object h.world.objects n) (m.others.contracts n) (m.others.states n ne) a.placed;
-    fields = λ j f e there. says_field_near table _ _ _ c (moved_to c h control) step_near (Some (declared_note f.of)) n j below ne
+    fields = λ j f e there. says_field_near table _ _ _ _ c (moved_to c h control) step_near (Some (declared_note f.of)) n j below ne
         (a.fields j f (ap (λ id. option_and_then (λ (x : Contract). slice_get x.fields j) (contract_at table id)) (sym (m.others.contracts n)) ∙ e)
         (ap (λ s. is_available s f) (sym (m.others.states n ne)) ∙ there));
   }
@@ -241,8 +241,8 @@ module _ (table : ClassTable) (entry : Option ℕ) (beginning : Beginning) (c : 
       (λ n. tests_of n h.slots (around control)) c.stack
   all_wait = subst (λ j. AllWait table (NeedsOwner table h.world.objects) (moved_to c h control) (frame_with c.frame h.slots) k.parts (j ∷ [])
       (λ n. tests_of n h.slots (around control)) c.stack) (sym m.this)
-      (all_near table _ _ _ c (moved_to c h control) step_near c.frame k.parts h.slots (self_of c.frame.slots ∷ []) _ _ c.stack m.this m.arguments
-      k.slots (inl refl) (λ n below. m.balanced n) (⊎_elim (λ same. inl same) (λ none. inr none.0) m.free) k.waiting)
+      (all_near table _ _ _ _ c (moved_to c h control) step_near c.frame k.parts h.slots (self_of c.frame.slots ∷ []) _ _ c.stack m.this m.arguments
+      k.slots (inl refl) (λ n below. m.balanced n) (⊎_elim (λ same. inl same) (λ none. inr none.0) m.free) (each_self (λ n. ⊤) (λ n. tt) c.stack) k.waiting)
 
   pub tests_in_progress : (n : ℕ) → 0 < open_tests n (moved_to c h control) → 0 < times n h.world.progress
   tests_in_progress n has = subst (λ l. 0 < times n l) (sym m.others.progress)
