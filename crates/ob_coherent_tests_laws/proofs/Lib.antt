@@ -2,3 +2,4 @@ pub mod Finding
 pub mod Unchanged
 pub mod Operands
 pub mod Conditions
+pub mod Permitted
