@@ -3,3 +3,4 @@ pub mod Unchanged
 pub mod Operands
 pub mod Conditions
 pub mod Permitted
+pub mod Ending
