@@ -25,11 +25,8 @@ use Rattle.ob_coherent_frames_laws.specs.Steps.{moved_to, LeavesOthers, KeepsWho
 use Rattle.ob_coherent_places_laws.specs.Placed.{cell_at, Found, Sits}
 use Rattle.ob_coherent_places_laws.proofs.Standing.{needs_stay}
 use Rattle.ob_coherent_places_laws.proofs.Writing.{stays_leaves}
+use Rattle.ob_coherent_tests_laws.proofs.Locking.{with_locked}
 use Rattle.ob_coherent_tests_laws.proofs.Permitted.{permitted, place_written, marks_same, counts_after, arguments_after, fields_after, object_after}
-
--- a frame works on the same places, with these locks
-abbrev pub with_locked : Here → List ℕ → Here
-with_locked h ls = record h { world = record h.world { locked = ls } }
 
 -- an owner's cell counts for its object
 pub owner_counts : (x : Cell) (m n : ℕ) → owns x.note.permission ≡ true → x.value ≡ reference m → in_cell owns n (Some x) ≡ one_if (nat_eq m n)

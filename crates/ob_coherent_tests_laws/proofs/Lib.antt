@@ -4,3 +4,6 @@ pub mod Operands
 pub mod Conditions
 pub mod Permitted
 pub mod Ending
+pub mod Locking
+pub mod Tested
+pub mod Popping
