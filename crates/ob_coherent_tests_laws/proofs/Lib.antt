@@ -7,3 +7,4 @@ pub mod Ending
 pub mod Locking
 pub mod Tested
 pub mod Popping
+pub mod Opening

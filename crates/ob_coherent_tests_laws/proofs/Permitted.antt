@@ -31,7 +31,7 @@ use Rattle.ob_coherent_places_laws.proofs.Writing.{written_after, permission_wri
 use Rattle.ob_coherent_places_laws.proofs.Reading.{place_is}
 use Rattle.ob_coherent_places_laws.proofs.Keeping.{argument_kept, opens_kept}
 use Rattle.ob_coherent_places_laws.proofs.Carrying.{carry, carry_opens, carry_kept}
-use Rattle.ob_coherent_tests_laws.proofs.Unchanged.{opens_so}
+use Rattle.ob_coherent_tests_laws.proofs.Unchanged.{having_read, reads_leave}
 
 -- the places of a running frame are as its context says
 pub sits_running : (table : ClassTable) (entry : Option ℕ) (beginning : Beginning) (c : Configuration) (k : IsRunning table entry beginning c)
@@ -45,21 +45,6 @@ sits_running table entry beginning c k = record {
   placed = k.placed;
   owns_made = k.owns_made;
 }
-
--- what a frame works on once these things have been read
-abbrev pub having_read : Configuration → List ReadItem → Here
-having_read c reads = record { slots = c.frame.slots; notes = c.notes; world = record c.world { reads = reads } }
-
--- no place changes by that
-pub reads_leave : (c : Configuration) (reads : List ReadItem) → SameCells (here c) (having_read c reads)
-reads_leave c reads = record {
-  stays = record { this = refl; count = refl; contracts = λ n. refl; states = λ n. refl; fields = λ n k ne. refl; notes = λ n k ne. refl; shared = λ n e. e; disowned = λ n e. e; handles = refl; locked = refl; progress = refl };
-  same = places;
-}
-  where
-    places : (q : Location) → cell_at (having_read c reads) q ≡ cell_at (here c) q
-    places (slot n) = refl
-    places (field n) = refl
 
 -- a place has its permission then
 abbrev pub permitted : Configuration → List ReadItem → Location → Permission → Here

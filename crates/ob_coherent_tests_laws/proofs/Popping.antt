@@ -177,7 +177,7 @@ pop_ends : (program : SilicaProgram) (entry : Option ℕ) (beginning : Beginning
     → GoesOn (body_of program.table c.frame k.whole.parts) k.holdings k.context (record { terms = rest; ends = e }) outer
     → StepsSo program.table entry beginning (goes_to c (end_branch e (here c)) (runs rest outer))
 pop_ends program entry beginning c rest plain_end outer checked k so a on =
-    running (unchanged_keeps program.table entry beginning c k no_terms (record { terms = rest; ends = plain_end } ∷ outer) so checked.table rest outer
+    running (unchanged_keeps program.table entry beginning c k no_terms (record { terms = rest; ends = plain_end } ∷ outer) so checked.table c.world.reads rest outer
     (opens_so program.table entry beginning c k no_terms (record { terms = rest; ends = plain_end } ∷ outer) so).2
     (record { locks = λ n. omega arith; tests = λ n. omega arith }) on.context
     (sits_leads program.table checked.table c.frame k.whole.parts (here c) k.context on.context (sits_running program.table entry beginning c k) on.leads)
