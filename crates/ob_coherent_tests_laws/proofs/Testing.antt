@@ -271,3 +271,207 @@ module _ (program : SilicaProgram) (entry : Option ℕ) (beginning : Beginning) 
 
   in_it : is_in_state program.table kind.0 s tested ≡ true → Stands program.table c.world.objects (noted (owned (only s.0)) u.cell)
   in_it e = noted_stands (owned (only s.0)) (λ z. absurd (cc)) e
+
+  -- A test of `this`, which is Shared.
+  module _ (itself : p ≡ this) (counts : counted k.context p ≡ shared) (sharing : u.cell.note.permission ≡ shared) (reads : List ReadItem)
+      (holding : is_in_state program.table kind.0 s tested ≡ true) (free : is_locked_out c.frame (having_read c reads) ≡ false) where
+    own : object.0 ≡ self_of c.frame.slots
+    own = reference_same (sym object.1 ∙ ap (λ (x : Cell). x.value) (same_Some u.cell k.whole.frame.this (sym u.is ∙ ap (cell_at (here c)) itself ∙ k.whole.frame.set)) ∙ k.whole.frame.refers)
+
+    held_shared : permission_in (c.frame.slots 0) ≡ shared
+    held_shared = ap permission_in (sym (ap (cell_at (here c)) itself) ∙ u.is) ∙ sharing
+
+    no_owner : owners object.0 c ≡ 0
+    no_owner = let y = k.shares held_shared in ⊎_elim
+        (λ few. subst (λ n. owners n c ≡ 0) (sym own) (omega (arith, few)))
+        (λ z. absurd (both_ways _ free (and_from c.frame.share_entered (is_locked c.world (self_of c.frame.slots)) z.0 (times_among (self_of c.frame.slots) c.world.locked z.1))))
+        y.1
+
+    abbrev ls : List ℕ
+    ls = (permitted c reads p (owned (only s.0))).world.locked
+
+    same_locks : ls ≡ c.world.locked
+    same_locks = (place_written program.table checked.table entry beginning c k.whole k.context (sits_running program.table entry beginning c k) p inside u (owned (only s.0)) (owned (only s.0)) reads).stays.locked
+
+    this_keeps : IsRunning program.table entry beginning (moved c (permitted c reads p (owned (only s.0))) branch (record { terms = rest; ends = test_end p } ∷ outer))
+    this_keeps = begins_keep program.table checked.table entry beginning c k (and_term (test_form o s branch other join) span rest) outer so p inside u s.0 reads
+        object.0 object.1 sharing (marked_so sharing) (in_it holding) not_made ls no_owner branch rest (test_end p)
+        (λ n. ap (λ i. one_if (nat_eq i n)) (sym own))
+        (λ n. (let z = ap (times n) same_locks in omega (arith, z)))
+        (inr (subst (λ i. 0 < one_if (nat_eq (self_of c.frame.slots) i)) (sym own) (let one = one_same (self_of c.frame.slots) in omega (arith, one))))
+        (λ n. (let z = ap (times n) same_locks in let same = k.whole.locked n in let once = k.whole.locked_once n in omega (arith, z, same, once)))
+        (λ n some. subst (λ i. 0 < times i c.world.progress) (one_of (self_of c.frame.slots) n some) (k.shares held_shared).0)
+        (
+          itself,
+          subst (λ i. IsTestOf b (with_locked (permitted c reads p (owned (only s.0))) ls) p i) (own ∙ sym begun_self)
+              (test_begun program.table checked.table entry beginning c k (and_term (test_form o s branch other join) span rest) outer so p inside u s.0 reads
+              object.0 object.1 sharing (marked_so sharing) (in_it holding) not_made ls),
+          marked_begun program.table checked.table entry beginning c k (and_term (test_form o s branch other join) span rest) outer so p inside u s.0 reads
+              object.0 object.1 sharing (marked_so sharing) (in_it holding) not_made ls (self_of (permitted c reads p (owned (only s.0))).slots)
+              ∙ ap (λ i. (nth_object c.world.objects i).shared) (begun_self ∙ sym own) ∙ marked_so sharing,
+        )
+        first.passes.can.untested
+        (λ held. absurd (let y : shared ≡ owned (only s.0) = sym held ∙ ap permission_in (sym (ap (cell_at (permitted c reads p (owned (only s.0)))) itself)
+        ∙ (place_written program.table checked.table entry beginning c k.whole k.context (sits_running program.table entry beginning c k) p inside u (owned (only s.0)) (owned (only s.0)) reads).itself) in cc))
+        (begins_remain (test_end p) counts (inl refl))
+      where
+        begun_self : self_of (permitted c reads p (owned (only s.0))).slots ≡ self_of c.frame.slots
+        begun_self = self_begun program.table checked.table entry beginning c k (and_term (test_form o s branch other join) span rest) outer so p inside u s.0 reads
+            object.0 object.1 sharing (marked_so sharing) (in_it holding) not_made ls
+
+  -- A test of another place, whose object is marked as shared, and neither locked nor in progress.
+  module _ (elsewhere : same_location p this ≡ false) (counts : counted k.context p ≡ shared) (sharing : u.cell.note.permission ≡ shared) (reads : List ReadItem)
+      (holding : is_in_state program.table kind.0 s tested ≡ true) (free : (is_locked c.world object.0 || is_in_progress c.world object.0) ≡ false) where
+    unlocked_so : times object.0 c.world.locked ≡ 0
+    unlocked_so = not_among_times object.0 c.world.locked (or_parts_left (is_locked c.world object.0) (is_in_progress c.world object.0) free)
+      where
+        or_parts_left : (x y : Bool) → (x || y) ≡ false → x ≡ false
+        or_parts_left true y e = absurd (cc)
+        or_parts_left false y e = refl
+
+    idle : times object.0 c.world.progress ≡ 0
+    idle = not_among_times object.0 c.world.progress (or_parts_right (is_locked c.world object.0) (is_in_progress c.world object.0) free)
+      where
+        or_parts_right : (x y : Bool) → (x || y) ≡ false → y ≡ false
+        or_parts_right true y e = absurd (cc)
+        or_parts_right false y e = e
+
+    apart : p ≢ this
+    apart i = both_ways _ elsewhere (ap (λ r. same_location r this) i)
+
+    abbrev locks_now : List ℕ
+    locks_now = object.0 ∷ (permitted c reads p (owned (only s.0))).world.locked
+
+    were_locks : (permitted c reads p (owned (only s.0))).world.locked ≡ c.world.locked
+    were_locks = (place_written program.table checked.table entry beginning c k.whole k.context (sits_running program.table entry beginning c k) p inside u (owned (only s.0)) (owned (only s.0)) reads).stays.locked
+
+    lock_more : (n : ℕ) → one_if (nat_eq object.0 n) + times n c.world.locked ≡ times n locks_now
+    lock_more n = let z = ap (times n) were_locks in omega (arith, z)
+
+    lock_once : (n : ℕ) → times n locks_now ≤ 1
+    lock_once n = let more = lock_more n in ⊎_elim
+        (λ i. let one = ap one_if i.0 in let none = subst (λ j. times j c.world.locked ≡ 0) i.1 unlocked_so in omega (arith, more, one, none))
+        (λ i. let zero_is = ap one_if i.0 in let same = k.whole.locked n in let once = k.whole.locked_once n in omega (arith, more, zero_is, same, once))
+        (eqb_tells object.0 n)
+
+    other_keeps : IsRunning program.table entry beginning
+        (moved c (with_locked (permitted c reads p (owned (only s.0))) locks_now) branch (record { terms = rest; ends = lock_end p object.0 } ∷ outer))
+    other_keeps = begins_keep program.table checked.table entry beginning c k (and_term (test_form o s branch other join) span rest) outer so p inside u s.0 reads
+        object.0 object.1 sharing (marked_so sharing) (in_it holding) not_made locks_now (ownerless (marked_so sharing) free) branch rest (lock_end p object.0)
+        (λ n. refl) lock_more
+        (inl (let more = lock_more object.0 in let one = one_same object.0 in omega (arith, more, one)))
+        lock_once
+        (λ n some. absurd (omega (arith, some)))
+        (
+          elsewhere,
+          test_begun program.table checked.table entry beginning c k (and_term (test_form o s branch other join) span rest) outer so p inside u s.0 reads
+              object.0 object.1 sharing (marked_so sharing) (in_it holding) not_made locks_now,
+          marked_begun program.table checked.table entry beginning c k (and_term (test_form o s branch other join) span rest) outer so p inside u s.0 reads
+              object.0 object.1 sharing (marked_so sharing) (in_it holding) not_made locks_now object.0 ∙ marked_so sharing,
+        )
+        first.passes.can.untested
+        this_shares
+        (begins_remain (lock_end p object.0) counts (inr (object.0, refl)))
+      where
+        this_self : self_of (with_locked (permitted c reads p (owned (only s.0))) locks_now).slots ≡ self_of c.frame.slots
+        this_self = self_begun program.table checked.table entry beginning c k (and_term (test_form o s branch other join) span rest) outer so p inside u s.0 reads
+            object.0 object.1 sharing (marked_so sharing) (in_it holding) not_made locks_now
+
+        this_progress : (permitted c reads p (owned (only s.0))).world.progress ≡ c.world.progress
+        this_progress = progress_begun program.table checked.table entry beginning c k (and_term (test_form o s branch other join) span rest) outer so p inside u s.0 reads
+            object.0 object.1 sharing (marked_so sharing) (in_it holding) not_made locks_now
+
+        gains : (n : ℕ) → owners n (moved c (with_locked (permitted c reads p (owned (only s.0))) locks_now) branch (record { terms = rest; ends = lock_end p object.0 } ∷ outer))
+            ≡ owners n c + one_if (nat_eq object.0 n)
+        gains = owners_begun program.table checked.table entry beginning c k (and_term (test_form o s branch other join) span rest) outer so p inside u s.0 reads
+            object.0 object.1 sharing (marked_so sharing) (in_it holding) not_made locks_now (ownerless (marked_so sharing) free) branch rest (lock_end p object.0)
+            (λ n. refl) lock_more
+            (inl (let more = lock_more object.0 in let one = one_same object.0 in omega (arith, more, one)))
+            lock_once
+            (λ n some. absurd (omega (arith, some)))
+
+        this_shares : SharesThis (record c.frame { slots = (permitted c reads p (owned (only s.0))).slots })
+            (moved c (with_locked (permitted c reads p (owned (only s.0))) locks_now) branch (record { terms = rest; ends = lock_end p object.0 } ∷ outer)) 0
+        this_shares held =
+            let y = k.shares (⊎_elim (λ i. ap permission_in (sym i) ∙ held) (λ i. absurd (apart i.0))
+                (this_after program.table checked.table entry beginning c k.whole k.context (sits_running program.table entry beginning c k) p inside u (owned (only s.0)) (owned (only s.0)) reads)) in
+            let another : one_if (nat_eq object.0 (self_of c.frame.slots)) ≡ 0 = ⊎_elim
+                (λ i. absurd (let busy = subst (λ j. 0 < times j c.world.progress) (sym i.1) y.0 in let none = idle in omega (arith, busy, none)))
+                (λ i. ap one_if i.0)
+                (eqb_tells object.0 (self_of c.frame.slots)) in (
+              subst (λ n. 0 < times n (permitted c reads p (owned (only s.0))).world.progress) (sym this_self)
+                  (subst (λ l. 0 < times (self_of c.frame.slots) l) (sym this_progress) y.0),
+              ⊎_elim
+                  (λ few. inl (subst (λ n. owners n (moved c (with_locked (permitted c reads p (owned (only s.0))) locks_now) branch (record { terms = rest; ends = lock_end p object.0 } ∷ outer)) ≤ 0) (sym this_self)
+                  (let d = gains (self_of c.frame.slots) in omega (arith, few, d, another))))
+                  (λ z. inr (z.0, subst (λ n. 0 < times n locks_now) (sym this_self) (let more = lock_more (self_of c.frame.slots) in let some = z.1 in omega (arith, more, some))))
+                  y.1,
+            )
+
+  -- What is told by the object's state.
+  told : (x : Bool) → is_in_one program.table u.cell.note.kind s tested ≡ x → is_in_state program.table kind.0 s tested ≡ x
+  told x e = subst (λ d. is_in_one program.table d s tested ≡ x) kind.1 e
+
+  shared_this_keep : p ≡ this → counted k.context p ≡ shared → u.cell.note.permission ≡ shared → (reads : List ReadItem) (holds : Bool)
+      → is_in_state program.table kind.0 s tested ≡ holds → is_locked_out c.frame (having_read c reads) ≡ false
+      → StepsSo program.table entry beginning (test_shared_this c (having_read c reads) test holds)
+  shared_this_keep itself counts sharing reads true e free = running (this_keeps itself counts sharing reads e free)
+  shared_this_keep itself counts sharing reads false e free = running (fails_keep counts reads)
+
+  shared_keep : same_location p this ≡ false → counted k.context p ≡ shared → u.cell.note.permission ≡ shared → (reads : List ReadItem) (holds : Bool)
+      → is_in_state program.table kind.0 s tested ≡ holds → (is_locked c.world object.0 || is_in_progress c.world object.0) ≡ false
+      → StepsSo program.table entry beginning (test_shared c (having_read c reads) test object.0 holds)
+  shared_keep elsewhere counts sharing reads true e free = running (other_keeps elsewhere counts sharing reads e free)
+  shared_keep elsewhere counts sharing reads false e free = running (fails_keep counts reads)
+
+  this_keep : (reads : List ReadItem) (holds : Bool) → is_in_state program.table kind.0 s tested ≡ holds → same_location p this ≡ true
+      → StepsSo program.table entry beginning (test_this c (having_read c reads) test u.cell object.0 holds)
+  this_keep reads holds e same = by_if (is_locked_out c.frame (having_read c reads)) (StepsSo program.table entry beginning)
+      (abort_step (by_state object.0 None) (having_read c reads).world) (test_this_as u.cell.note.permission c (having_read c reads) test u.cell holds)
+      (λ z. tt)
+      (λ free. ⊎_elim
+      (λ y. subst (λ q. StepsSo program.table entry beginning (test_this_as q c (having_read c reads) test u.cell holds)) (sym y.3) (tells_keep y.0 y.1 y.2 y.3 y.4 reads holds e))
+      (λ y. subst (λ q. StepsSo program.table entry beginning (test_this_as q c (having_read c reads) test u.cell holds)) (sym y.1)
+      (shared_this_keep (same_location_is p this same) y.0 y.1 reads holds e free))
+      way)
+
+  other_keep : (reads : List ReadItem) (holds : Bool) → is_in_state program.table kind.0 s tested ≡ holds → same_location p this ≡ false
+      → StepsSo program.table entry beginning (test_other c (having_read c reads) test u.cell object.0 tested holds)
+  other_keep reads holds e elsewhere = by_if tested.shared (StepsSo program.table entry beginning)
+      (if is_locked c.world object.0 || is_in_progress c.world object.0 then abort_step (by_state object.0 None) (having_read c reads).world
+      else test_shared c (having_read c reads) test object.0 holds)
+      (tells c (having_read c reads) test u.cell holds)
+      (λ marked. by_if (is_locked c.world object.0 || is_in_progress c.world object.0) (StepsSo program.table entry beginning)
+      (abort_step (by_state object.0 None) (having_read c reads).world) (test_shared c (having_read c reads) test object.0 holds)
+      (λ z. tt)
+      (λ free. ⊎_elim
+      (λ y. absurd (let some = owner_then (ap owns y.3) in let none = ownerless marked free in omega (arith, some, none)))
+      (λ y. shared_keep elsewhere y.0 y.1 reads holds e free) way))
+      (λ unmarked. ⊎_elim
+      (λ y. tells_keep y.0 y.1 y.2 y.3 y.4 reads holds e)
+      (λ y. absurd (both_ways _ unmarked (marked_so y.1))) way)
+
+  object_keep : (reads : List ReadItem) (holds : Bool) → is_in_state program.table kind.0 s tested ≡ holds
+      → StepsSo program.table entry beginning (test_object c (having_read c reads) test u.cell object.0 tested holds)
+  object_keep reads holds e = by_if (same_location p this) (StepsSo program.table entry beginning)
+      (test_this c (having_read c reads) test u.cell object.0 holds) (test_other c (having_read c reads) test u.cell object.0 tested holds)
+      (λ same. this_keep reads holds e same) (λ elsewhere. other_keep reads holds e elsewhere)
+
+  -- A test leads into one of its branches, or aborts.
+  pub test_keeps : StepsSo program.table entry beginning (act program (test_form o s branch other join) rest outer c)
+  test_keeps =
+      let r = reads_of c.world object.0 in
+      subst (λ x. StepsSo program.table entry beginning (if_there x (λ x. if_there (referred x.value) (λ n.
+      if_there (object_at c.world.objects n) (λ o.
+      test_object c (reads_object (here c) n) test x n o (is_in_one program.table x.note.kind s o))))))
+      (sym (reads_it program.table checked.table entry beginning c k p u.cell u.is))
+      (subst (λ x. StepsSo program.table entry beginning (if_there x (λ n.
+      if_there (object_at c.world.objects n) (λ o.
+      test_object c (reads_object (here c) n) test u.cell n o (is_in_one program.table u.cell.note.kind s o)))))
+      (sym (ap referred object.1))
+      (subst (λ x. StepsSo program.table entry beginning (if_there x (λ o.
+      test_object c (reads_object (here c) object.0) test u.cell object.0 o (is_in_one program.table u.cell.note.kind s o))))
+      (sym (object_there c.world.objects object.0 object_is_there))
+      (subst (λ w. StepsSo program.table entry beginning (test_object c (record (here c) { world = w }) test u.cell object.0 tested (is_in_one program.table u.cell.note.kind s tested)))
+      (sym r.1)
+      (object_keep r.0 (is_in_one program.table u.cell.note.kind s tested) (told (is_in_one program.table u.cell.note.kind s tested) refl)))))
