@@ -6,3 +6,4 @@ pub mod Keeping
 pub mod Finding
 pub mod Carrying
 pub mod Getting
+pub mod Handing
