@@ -15,7 +15,6 @@ use Rattle.ob_coherent_spec.specs.Remaining.{BodyParts, body_of, AreHeld, Remain
 use Rattle.ob_coherent_spec.specs.Coherent.{Beginning, IsRunning}
 use Rattle.ob_coherent_frames_laws.specs.Steps.{moved, KeepsWhole, KeepsQuietly, IsOwnStep, IsQuietStep}
 use Rattle.ob_coherent_frames_laws.proofs.Cells.{same_has_state}
-use Rattle.ob_coherent_frames_laws.proofs.Near.{lends_with}
 pub use Rattle.ob_coherent_frames_laws.proofs.Quiet.{EndsSame}
 use Rattle.ob_coherent_frames_laws.proofs.Quiet.{quiet_shares, quiet_whole}
 use Rattle.ob_coherent_frames_laws.proofs.Whole.{same_constructions, whole_kept}
@@ -64,7 +63,7 @@ own_step_keeps table entry beginning c h terms outer t k m g says i held remains
   placed = λ made. subst (λ n. HasItsState table (nth_object h.world.objects n)) (sym m.this) (m.placed made);
   shares = m.shares;
   owns_made = m.owns_made;
-  lends = lends_with table c.frame h.slots c.stack k.lends;
+  lends = k.lends;
   unreferred = λ n has.
       let same = same_constructions table entry beginning c h (runs terms outer) t k.whole (own_keeps table entry c k.whole.parts h terms outer m) n in
       let made : 0 < constructions n c = omega arith in
