@@ -185,3 +185,19 @@ module _ (table : ClassTable) (made : IsClassTable table) (f : SilicaFrame) (par
       keeps_owner (permission_at g p) u.cell.note.permission (counted g p) v (counted_allows table made f parts h g k p u) r.0
       (λ d. ap (λ y. owns (permission_on y)) u.told ∙ u.owner n (needs_stay table h after wr.stays n l) (owns_it u.cell n d r.1)))
       (counted_mode p u) other
+
+  -- ownership of a place is given up
+  pub carry_disowned : (after : Here) (p : Location) → IsPlaceIn (body_of table f parts) p
+      → (u : Found (NeedsOwner table h.world.objects) (g p) (cell_at h p))
+      → Written p (Some (noted unowned u.cell)) h after → (f.how ≡ by_new → p ≢ this)
+      → Sits table f parts after (now g p unowned)
+  carry_disowned after p inside u wr other =
+      let b = stands_stay table h after wr.stays u.cell (found_stands table made f parts h g k p u) in
+      carry after p inside u unowned unowned wr tt
+      (record {
+        kind = b.kind;
+        marked = λ e. absurd (let z : unowned ≡ shared = e in cc);
+        states = λ a e. absurd (let z : unowned ≡ owned a = e in cc);
+      })
+      (λ n l has. absurd (let d = (counted_cell owns n (noted unowned u.cell) has).0 in true≢false (sym d)))
+      (λ e. refl) other

@@ -7,3 +7,5 @@ pub mod Finding
 pub mod Carrying
 pub mod Getting
 pub mod Handing
+pub mod Holding
+pub mod Alike

@@ -1,7 +1,9 @@
 -- What stands goes on standing while objects keep their contracts, marks grow, and the states of owned objects stay.
-use Rattle.std.proofs.Common.{◌≡◌, ℕ, ◌<◌, ◌≤◌, ◌&&◌, Bool, true, List, length, Option, Some, refl, sym, ap, subst, ◌∙◌, arith, ⊎_elim, eq-eqb}
+use Rattle.std.proofs.Common.{◌≡◌, ℕ, ◌<◌, ◌≤◌, ◌&&◌, Bool, true, List, [], ◌∷◌, ◌++◌, length, length-append, Option, Some, refl, sym, ap, subst, ◌∙◌, arith, ⊎_elim, eq-eqb}
 use Rattle.std.specs.Prelude.{◌==◌, IsSomeAnd, if◌then◌else◌}
 use Rattle.std.proofs.lemmas.Bool.{cases_Bool, both_ways}
+use Rattle.std.proofs.lemmas.List.{get_or_append_left}
+use Rattle.std.proofs.lemmas.Option.{unwrap_or-slice_get}
 use Rattle.ob_base.specs.declared.id.ContractId.{ContractId}
 use Rattle.ob_perm.specs.States.{States}
 use Rattle.ob_perm.specs.Permissions.{owns}
@@ -10,7 +12,7 @@ use Rattle.ob_table.specs.declared.seen.Kind.{Kind}
 use Rattle.ob_table.specs.declared.seen.Kind.TheVariants.{Int, Bool as BoolKind, Text, Reference}
 use Rattle.ob_table_spec.specs.WellFormed.{serves_as}
 use Rattle.ob_heap_spec.specs.Values.{Value, int_value, bool_value, text_value, reference}
-use Rattle.ob_heap_spec.specs.Objects.{Object, state_number, seen_between, seen_state}
+use Rattle.ob_heap_spec.specs.Objects.{Object, unfinished, state_number, seen_between, seen_state}
 use Rattle.ob_heap_spec.specs.Contents.{IsStateOf}
 use Rattle.ob_silica_places.specs.Known.{Known}
 use Rattle.ob_silica_places.specs.Places.{Location, slot, field}
@@ -150,3 +152,22 @@ says_less b N M sub g h free s = record {
   fields = λ k a e. says_of_less N M sub (g (field k)) _ (s.fields k a e);
   mode = s.mode;
 }
+
+-- A new object.
+
+-- an object that was there
+pub made_old : (os : List Object) (o : Object) (n : ℕ) → n < length os → nth_object (os ++ o ∷ []) n ≡ nth_object os n
+made_old os o n lt = unwrap_or-slice_get (os ++ o ∷ []) n (unfinished (record { 0 = 0 }))
+    ∙ get_or_append_left os (o ∷ []) (unfinished (record { 0 = 0 })) n lt
+    ∙ sym (unwrap_or-slice_get os n (unfinished (record { 0 = 0 })))
+
+-- those that were there are kept
+pub made_keeps : (os : List Object) (o : Object) → ObjectsKeep os (os ++ o ∷ [])
+made_keeps os o = record {
+  count = let e = length-append os (o ∷ []) in omega (arith, e);
+  contracts = λ n lt. ap (λ (x : Object). x.contract) (made_old os o n lt);
+  shared = λ n lt e. ap (λ (x : Object). x.shared) (made_old os o n lt) ∙ e;
+}
+
+pub made_stands : (table : ClassTable) (os : List Object) (o : Object) (x : Cell) → Stands table os x → Stands table (os ++ o ∷ []) x
+made_stands table os o x s = stands_keeps table os (os ++ o ∷ []) (made_keeps os o) x (λ n lt has. ap (λ (y : Object). y.state) (made_old os o n lt)) s
