@@ -11,18 +11,21 @@ use Rattle.ob_coherent_spec.specs.Remaining.{BodyParts}
 use Rattle.ob_coherent_places_laws.specs.Placed.{cell_at, Sits}
 
 module _ (h : Here) (w : World) (same : w.objects ≡ h.world.objects) where
-  pub sits_alike : (table : ClassTable) (f : SilicaFrame) (parts : BodyParts) (g : Context) → Sits table f parts h g → Sits table f parts (record h { world = w }) g
-  sits_alike table f parts g k = subst (λ os. Sits table f parts (record h { world = record w { objects = os } }) g) (sym same) (record {
-    frame = k.frame;
-    slots = k.slots;
-    fields = k.fields;
-    object = k.object;
-    says = record { slots = k.says.slots; fields = k.says.fields; mode = k.says.mode };
-    placed = k.placed;
-    owns_made = k.owns_made;
-  })
+  pub sits_alike : (table : ClassTable) (f : SilicaFrame) (parts : BodyParts) (g : Context) → Sits table f parts h g
+      → Sits table f parts (record h { world = w }) g
+  sits_alike table f parts g k = subst (λ os. Sits table f parts (record h { world = record w { objects = os } }) g)
+      (sym same) (record {
+        frame = k.frame;
+        slots = k.slots;
+        fields = k.fields;
+        object = k.object;
+        says = record { slots = k.says.slots; fields = k.says.fields; mode = k.says.mode };
+        placed = k.placed;
+        owns_made = k.owns_made;
+      })
 
-  pub says_alike : (b : BodyFrame) (N : ℕ → Type 0) (g : Context) (free : Location → Bool) → Says b N g h free → Says b N g (record h { world = w }) free
+  pub says_alike : (b : BodyFrame) (N : ℕ → Type 0) (g : Context) (free : Location → Bool) → Says b N g h free
+      → Says b N g (record h { world = w }) free
   says_alike b N g free k = subst (λ os. Says b N g (record h { world = record w { objects = os } }) free) (sym same)
       (record { slots = k.slots; fields = k.fields; mode = k.mode })
 
