@@ -29,12 +29,14 @@ each_zero (suc n) f e k below = ⊎_elim
 
 -- Objects.
 
-get_there : {A : Type 0} (xs : List A) (n : ℕ) (d : A) → n < length xs → slice_get xs n ≡ Some (unwrap_or (slice_get xs n) d)
+get_there : {A : Type 0} (xs : List A) (n : ℕ) (d : A) → n < length xs
+    → slice_get xs n ≡ Some (unwrap_or (slice_get xs n) d)
 get_there [] n d below = absurd (omega arith)
 get_there (x ∷ xs) zero d below = refl
 get_there (x ∷ xs) (suc n) d below = get_there xs n d (omega arith)
 
-pub object_there : (objects : List Object) (n : ℕ) → n < length objects → object_at objects n ≡ Some (nth_object objects n)
+pub object_there : (objects : List Object) (n : ℕ) → n < length objects
+    → object_at objects n ≡ Some (nth_object objects n)
 object_there objects n below = get_there objects n (unfinished (record { 0 = 0 })) below
 
 -- an object's field is read from its contract, its state and the field's value
@@ -70,7 +72,8 @@ refers_there : (table : ClassTable) (objects : List Object) (kind : Kind) (v : V
 refers_there table objects kind v n false of has = absurd (omega arith)
 refers_there table objects (Reference id) (reference m) n true of has = ⊎_elim
     (λ t. subst (λ j. j < length objects) t.1 of.0)
-    (λ t. absurd (let z : 0 < one_if (nat_eq m n) = has in let y : one_if (nat_eq m n) ≡ 0 = rw t.0 refl in omega arith))
+    (λ t. absurd (let z : 0 < one_if (nat_eq m n) = has in let y : one_if (nat_eq m n) ≡ 0 = rw t.0 refl in
+    omega arith))
     (eqb_tells m n)
 refers_there table objects Int (reference m) n true of has = absurd of
 refers_there table objects BoolKind (reference m) n true of has = absurd of
@@ -87,7 +90,8 @@ owned_there table objects x n stands has = refers_there table objects x.note.kin
 -- an object to which a value of a kind refers is there
 pub reference_there : (table : ClassTable) (objects : List Object) (kind : Kind) (v : Value) (n : ℕ)
     → IsOfKind table objects kind v → v ≡ reference n → n < length objects
-reference_there table objects kind v n of e = refers_there table objects kind v n true of (rw (e, same_number n) (omega arith))
+reference_there table objects kind v n of e =
+    refers_there table objects kind v n true of (rw (e, same_number n) (omega arith))
 
 -- what holds of fewer objects that must have an owner is said of a place too
 pub says_less : (N M : ℕ → Type 0) (y : Option Known) (x : Option Cell) → ((n : ℕ) → 0 < in_cell owns n x → M n → N n)

@@ -27,7 +27,8 @@ use Rattle.ob_coherent_frames_laws.proofs.Near.{IsNear, field_near, stands_near,
 -- Fields of objects.
 
 -- each contract of a class table has few fields
-pub few_fields : (table : ClassTable) → IsClassTable table → (k : ℕ) (own : Contract) → slice_get table.contracts k ≡ Some own
+pub few_fields : (table : ClassTable) → IsClassTable table → (k : ℕ) (own : Contract)
+    → slice_get table.contracts k ≡ Some own
     → length own.fields ≤ most_fields
 few_fields table t k own e = few.few_fields
   where
@@ -40,7 +41,8 @@ some_field p None e = cc
 some_field p (Some f) e = (f, refl)
 
 -- a field that has a value is one of its contract's
-pub field_low : (table : ClassTable) → IsClassTable table → (objects : List Object) (n : ℕ) (notes : Notes) → IsObjectInRun table notes n (nth_object objects n)
+pub field_low : (table : ClassTable) → IsClassTable table → (objects : List Object) (n : ℕ) (notes : Notes)
+    → IsObjectInRun table notes n (nth_object objects n)
     → (k : ℕ) (x : Cell) → field_cell notes objects n k ≡ Some x → k < fields_counted
 unfolding fields_counted
 field_low table t objects n notes o k x e = ⊎_elim
@@ -81,7 +83,8 @@ module _ (table : ClassTable) (i : ℕ) (stays : ℕ → Type 0) (N M : ℕ → 
       was = sym (field_near table i stays N M c d near n j below ne) ∙ e
 
   -- another object is one in a run
-  pub object_near : (n : ℕ) → n < length c.world.objects → n ≢ i → IsObjectInRun table c.notes n (nth_object c.world.objects n)
+  pub object_near : (n : ℕ) → n < length c.world.objects → n ≢ i
+      → IsObjectInRun table c.notes n (nth_object c.world.objects n)
       → IsObjectInRun table d.notes n (nth_object d.world.objects n)
   object_near n below ne o = record {
     own = o.own;
