@@ -116,7 +116,8 @@ same_gift by_new f slots parts = refl
 
 module _ (table : ClassTable) (i : ℕ) (stays : ℕ → Type 0) (N M : ℕ → Type 0) (c d : Configuration)
     (near : IsNear table i stays N M c d) where
-  kind_near : (kind : Kind) (v : Value) → IsOfKind table c.world.objects kind v → IsOfKind table d.world.objects kind v
+  pub kind_near : (kind : Kind) (v : Value) → IsOfKind table c.world.objects kind v
+      → IsOfKind table d.world.objects kind v
   kind_near Int (int_value z) e = e
   kind_near BoolKind (bool_value b) e = e
   kind_near Text (text_value s) e = e
@@ -133,7 +134,7 @@ module _ (table : ClassTable) (i : ℕ) (stays : ℕ → Type 0) (N M : ℕ → 
   marked_near (bool_value z) e = absurd e
   marked_near (text_value z) e = absurd e
 
-  state_near : (n : ℕ) → n < length c.world.objects
+  pub state_near : (n : ℕ) → n < length c.world.objects
       → (n ≡ i → (nth_object d.world.objects i).state ≡ (nth_object c.world.objects i).state)
       → (nth_object d.world.objects n).state ≡ (nth_object c.world.objects n).state
   state_near n below same = ⊎_elim
@@ -168,7 +169,7 @@ module _ (table : ClassTable) (i : ℕ) (stays : ℕ → Type 0) (N M : ℕ → 
         (s.states a e);
   }
 
-  all_stand_near : (slots : SlotCells) (bound : ℕ) → bound ≤ most_slots → ((k : ℕ) → bound ≤ k → slots k ≡ None)
+  pub all_stand_near : (slots : SlotCells) (bound : ℕ) → bound ≤ most_slots → ((k : ℕ) → bound ≤ k → slots k ≡ None)
       → ((nth_object d.world.objects i).state ≡ (nth_object c.world.objects i).state) ⊎ (in_slots owns i slots ≡ 0)
       → AllStand table c.world.objects slots → AllStand table d.world.objects slots
   all_stand_near slots bound few unset free a k x e = stands_near x
@@ -197,7 +198,7 @@ module _ (table : ClassTable) (i : ℕ) (stays : ℕ → Type 0) (N M : ℕ → 
   says_field_near y n k below ne s = subst (SaysOf M y) (sym (field_near n k below ne))
       (says_less N M y _ (needs_in (field_cell c.notes c.world.objects n k) (near.stand n k)) s)
 
-  says_near : (b : BodyFrame) (g : Context) (h : Waiting) (free : Location → Bool)
+  pub says_near : (b : BodyFrame) (g : Context) (h : Waiting) (free : Location → Bool)
       → self_of h.frame.slots < length c.world.objects
       → ((f : ℕ) → free (field f) ≡ true → self_of h.frame.slots ≢ i) → AllStand table c.world.objects h.frame.slots
       → Says b N g (waiting_here c.notes c.world h) free → Says b M g (waiting_here d.notes d.world h) free
@@ -208,7 +209,7 @@ module _ (table : ClassTable) (i : ℕ) (stays : ℕ → Type 0) (N M : ℕ → 
     mode = y.mode;
   }
 
-  read_near : (h : Waiting) (p : Location) → self_of h.frame.slots < length c.world.objects
+  pub read_near : (h : Waiting) (p : Location) → self_of h.frame.slots < length c.world.objects
       → (is_field p ≡ true → self_of h.frame.slots ≢ i)
       → read table (waiting_here d.notes d.world h) p ≡ read table (waiting_here c.notes c.world h) p
   read_near h (slot k) below far = refl
@@ -248,7 +249,7 @@ module _ (table : ClassTable) (i : ℕ) (stays : ℕ → Type 0) (N M : ℕ → 
   ends_near b h (test_end p) same below far a = (a.0, open_near b h p _ same below far a.1, near.shared _ a.2)
   ends_near b h (lock_end p n) same below far a = (a.0, open_near b h p n same below far a.1, near.shared n a.2)
 
-  opens_near : (b : BodyFrame) (h : Waiting) (outer : List Rest) → b.table ≡ table
+  pub opens_near : (b : BodyFrame) (h : Waiting) (outer : List Rest) → b.table ≡ table
       → self_of h.frame.slots < length c.world.objects
       → (self_of h.frame.slots ≢ i) ⊎ TestNoField outer
       → AreOpen b (waiting_here c.notes c.world h) outer → AreOpen b (waiting_here d.notes d.world h) outer
@@ -319,7 +320,7 @@ module _ (table : ClassTable) (i : ℕ) (stays : ℕ → Type 0) (N M : ℕ → 
 
   -- Frames.
 
-  shares_near : (f : SilicaFrame) (above more : ℕ) → self_of f.slots < length c.world.objects
+  pub shares_near : (f : SilicaFrame) (above more : ℕ) → self_of f.slots < length c.world.objects
       → owners (self_of f.slots) d + above ≤ owners (self_of f.slots) c + more → stays (self_of f.slots)
       → SharesThis f c above → SharesThis f d more
   shares_near f above more below balanced still_on a e = let y = a e in (
@@ -356,13 +357,13 @@ module _ (table : ClassTable) (i : ℕ) (stays : ℕ → Type 0) (N M : ℕ → 
   far_loans how n m above ls apart inside none = ⊎_elim
       (λ e. inr (none e)) (λ ne. inl (λ l e. others how n m i above apart inside ne)) (on_this how)
 
-  apart_near : (how : How) (n m k : ℕ) (above wide : List ℕ) → k ≡ m → (IsNotAmong n above → IsNotAmong n wide)
+  pub apart_near : (how : How) (n m k : ℕ) (above wide : List ℕ) → k ≡ m → (IsNotAmong n above → IsNotAmong n wide)
       → IsApart how n above m → IsApart how n wide k
   apart_near by_this n m k above wide same apart a = a ∙ sym same
   apart_near by_receiver n m k above wide same apart a = apart a
   apart_near by_new n m k above wide same apart a = apart a
 
-  waits_near : (callee : SilicaFrame) (called : BodyParts) (slots : SlotCells) (above wide : List ℕ)
+  pub waits_near : (callee : SilicaFrame) (called : BodyParts) (slots : SlotCells) (above wide : List ℕ)
       (tests more : ℕ → ℕ)
       (h : Waiting)
       → self_of slots ≡ self_of callee.slots → KeepsArguments called d callee.slots slots

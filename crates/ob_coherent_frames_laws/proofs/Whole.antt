@@ -1,8 +1,7 @@
 -- A step by which the innermost frame changes its own places keeps what is so of the whole.
-use Rattle.std.proofs.Common.{◌≡◌, ◌≢◌, ℕ, ◌+◌, ◌<◌, ◌≤◌, ◌⊎◌, inl, inr, ⊎_elim, true, List, [], ◌∷◌, length, Option, Some, None, slice_get, refl, sym, ap, ◌∙◌, subst, arith}
+use Rattle.std.proofs.Common.{◌≡◌, ℕ, ◌+◌, ◌<◌, ◌≤◌, ◌⊎◌, inl, inr, ⊎_elim, true, List, [], ◌∷◌, length, Option, Some, None, slice_get, refl, sym, ap, ◌∙◌, subst, arith}
 use Rattle.std.specs.Prelude.{⊤}
 use Rattle.std.proofs.lemmas.Bool.{both_ways, cases_Bool, cases_lt}
-use Rattle.std.proofs.lemmas.Bool.Decides.{eqb_tells}
 use Rattle.std.proofs.lemmas.Option.{slice_get_within}
 use Rattle.std.proofs.lemmas.List.{length-map}
 use Rattle.ob_table.specs.Tables.{ClassTable}
@@ -13,17 +12,17 @@ use Rattle.ob_heap_spec.specs.Values.{Value, reference}
 use Rattle.ob_heap_spec.specs.Objects.{Object}
 use Rattle.ob_silica_places.specs.Parameters.{Parameter, parameter_of, all_parameters}
 use Rattle.ob_silica_steps.specs.Cells.{Cell, value_in}
-use Rattle.ob_silica_steps.specs.Configurations.{SlotCells, How, by_receiver, by_this, by_new, SilicaFrame, Waiting, Control, HandleNote, Configuration}
+use Rattle.ob_silica_steps.specs.Configurations.{SlotCells, How, by_receiver, by_this, by_new, SilicaFrame, Waiting, Control, Configuration}
 use Rattle.ob_silica_steps.specs.Here.{Here, self_of}
 use Rattle.ob_flow_spec.specs.Contexts.{is_asset}
-use Rattle.ob_coherent_spec.specs.Counting.{nth_object, field_cell, owners}
+use Rattle.ob_coherent_spec.specs.Counting.{nth_object, owners}
 use Rattle.ob_coherent_spec.specs.Runs.{times, around, entered_at, entered_among, entries, constructing_at, constructing_among, constructions, tests_in, tests_among, open_tests}
-use Rattle.ob_coherent_spec.specs.Standing.{AllStand, IsObjectInRun, NeedsOwner, HandlesStand}
+use Rattle.ob_coherent_spec.specs.Standing.{NeedsOwner}
 use Rattle.ob_coherent_spec.specs.Remaining.{BodyParts}
 use Rattle.ob_coherent_spec.specs.Waiting.{IsFrame, tests_of, AllWait}
-use Rattle.ob_coherent_spec.specs.Coherent.{Beginning, outermost, BeganSo, IsAsDeclared, Holds}
+use Rattle.ob_coherent_spec.specs.Coherent.{Beginning, outermost, BeganSo, Holds}
 use Rattle.ob_coherent_frames_laws.specs.Steps.{moved_to, KeepsArgument, LeavesOthers, KeepsWhole}
-use Rattle.ob_coherent_frames_laws.proofs.Others.{no_field, fields_near, object_near, declared_near}
+use Rattle.ob_coherent_frames_laws.proofs.Objects.{ObjectHolds, ObjectsHold, objects_hold}
 use Rattle.ob_coherent_frames_laws.proofs.Near.{IsNear, frame_with, each_self, all_near}
 use Rattle.ob_coherent_frames_laws.proofs.Entered.{has_entry}
 
@@ -40,11 +39,6 @@ pub constructing_same : (n : ℕ) (how : How) (s t : SlotCells) → self_of t �
 constructing_same n by_receiver s t e = refl
 constructing_same n by_this s t e = refl
 constructing_same n by_new s t e = rw e refl
-
-pub handles_near : (before after : List Object) (hs : List HandleNote) → length after ≡ length before
-    → HandlesStand before hs → HandlesStand after hs
-handles_near before after [] e a = tt
-handles_near before after (h ∷ hs) e a = (let below = a.0 in omega arith, handles_near before after hs e a.1)
 
 kept_value : (left : ℕ → ℕ) (v : Value) (x y : Option Cell) → ((z : Cell) → x ≡ Some z → KeepsArgument left z y)
     → value_in x ≡ Some v
@@ -105,27 +99,6 @@ module _ (table : ClassTable) (entry : Option ℕ) (beginning : Beginning) (c : 
     stand = k.fields;
   }
 
-  other_field : (n : ℕ) → n ≢ self_of c.frame.slots
-      → AllStand table h.world.objects (field_cell h.notes h.world.objects n)
-  other_field n ne = ⊎_elim
-      (λ below. fields_near table _ _ _ _ c (moved_to c h control) step_near t n below ne (k.objects n below)
-      (⊎_elim (λ same. inl same) (λ none. inr (none.1 n ne)) m.free))
-      (λ past. no_field table h.world.objects n h.notes (let same = m.others.count in omega arith))
-      (cases_lt n (length c.world.objects))
-
-  pub all_fields : (n : ℕ) → AllStand table h.world.objects (field_cell h.notes h.world.objects n)
-  all_fields n = ⊎_elim
-      (λ e. subst (λ j. AllStand table h.world.objects (field_cell h.notes h.world.objects j)) (sym e.1) m.fields)
-      (λ e. other_field n e.1)
-      (eqb_tells n (self_of c.frame.slots))
-
-  pub all_objects : (n : ℕ) → n < length h.world.objects → IsObjectInRun table h.notes n (nth_object h.world.objects n)
-  all_objects n below = ⊎_elim
-      (λ e. subst (λ j. IsObjectInRun table h.notes j (nth_object h.world.objects j)) (sym e.1) m.object)
-      (λ e. let same = m.others.count in let there : n < length c.world.objects = omega arith in
-      object_near table _ _ _ _ c (moved_to c h control) step_near n there e.1 (k.objects n there))
-      (eqb_tells n (self_of c.frame.slots))
-
   pub same_entries : (n : ℕ) → entries n (moved_to c h control) ≡ entries n c
   same_entries n = ap (λ x. x + entered_among n c.stack) (entered_same n c.frame.how c.frame.slots h.slots m.this)
 
@@ -133,18 +106,23 @@ module _ (table : ClassTable) (entry : Option ℕ) (beginning : Beginning) (c : 
   same_constructions n = ap (λ x. x + constructing_among n c.stack)
       (constructing_same n c.frame.how c.frame.slots h.slots m.this)
 
-  pub all_declared : (n : ℕ) → n < length h.world.objects → entries n (moved_to c h control) ≡ 0
-      → constructions n (moved_to c h control) ≡ 0
-      → IsAsDeclared table (NeedsOwner table h.world.objects) h.notes h.world.objects n
-  all_declared n below none new = ⊎_elim
-      (λ e. absurd (let z : 0 < entries n c + constructions n c =
-      subst (λ j. 0 < entries j c + constructions j c) (sym e.1)
-      (has_entry table _ c c.frame k.parts _ _ c.stack k.waiting) in
-      let x = same_entries n in let y = same_constructions n in omega arith))
-      (λ e. let same = m.others.count in let there : n < length c.world.objects = omega arith in
-      declared_near table _ _ _ _ c (moved_to c h control) step_near n there e.1 (k.declared n there
-      (sym (same_entries n) ∙ none) (sym (same_constructions n) ∙ new)))
-      (eqb_tells n (self_of c.frame.slots))
+  pub all_objects : ObjectsHold table (moved_to c h control)
+  all_objects = objects_hold table entry beginning (self_of c.frame.slots) _ c (moved_to c h control) step_near t k
+      m.others.handles
+      (λ n ne. ⊎_elim (λ same. inl same) (λ none. inr (none.1 n ne)) m.free)
+      (λ n changed below. ⊎_elim (λ e. subst (ObjectHolds table (moved_to c h control)) (sym e) own_object)
+      (λ past. absurd (let same = m.others.count in omega arith)) changed)
+      (λ n there ne none new. (sym (same_entries n) ∙ none, sym (same_constructions n) ∙ new))
+    where
+      own_object : ObjectHolds table (moved_to c h control) (self_of c.frame.slots)
+      own_object = record {
+        stand = m.fields;
+        object = m.object;
+        declared = λ none new. absurd (
+            let has = has_entry table _ c c.frame k.parts _ _ c.stack k.waiting in
+            let x = same_entries (self_of c.frame.slots) in let y = same_constructions (self_of c.frame.slots) in
+            let z : 0 < entries (self_of c.frame.slots) c + constructions (self_of c.frame.slots) c = has in omega arith);
+      }
 
   pub frame_kept : (y : Option Cell) → h.slots 0 ≡ y
       → KeepsArgument (λ n. owners n (moved_to c h control)) k.frame.this y
@@ -208,11 +186,10 @@ module _ (table : ClassTable) (entry : Option ℕ) (beginning : Beginning) (c : 
     tested = tests_in_progress;
     assets = m.assets;
     slots = m.slots;
-    fields = all_fields;
-    handles = subst (HandlesStand h.world.objects) (sym m.others.handles)
-        (handles_near c.world.objects h.world.objects c.notes.handles m.others.count k.handles);
-    objects = all_objects;
-    declared = all_declared;
+    fields = all_objects.fields;
+    handles = all_objects.handles;
+    objects = all_objects.objects;
+    declared = all_objects.declared;
     progress = λ n. same_entries n ∙ k.progress n ∙ ap (times n) (sym m.others.progress);
     entered_once = λ n. let same = same_entries n in let once = k.entered_once n in omega arith;
     locked = m.locked;
