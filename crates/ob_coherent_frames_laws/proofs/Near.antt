@@ -30,7 +30,9 @@ use Rattle.ob_coherent_spec.specs.Remaining.{BodyParts, body_of}
 use Rattle.ob_coherent_spec.specs.OpenTests.{IsTestOf, IsOpen, AreOpen, EndsNoField, TestNoField}
 use Rattle.ob_coherent_spec.specs.Waiting.{IsFrame, tests_of, SharesThis, is_lent, is_result, is_on_this, is_settled, waiting_here, IsLoan, AreLoans, LendNoField, IsNotAmong, IsApart, gives_back_by, AwaitsResult, Waits, AllWait}
 use Rattle.ob_coherent_frames_laws.specs.Steps.{KeepsArgument}
-use Rattle.ob_coherent_frames_laws.proofs.Cells.{each_zero, object_there, same_field_value, same_seen, same_has_state, owns_counted, owned_there, reference_there, says_less}
+use Rattle.ob_coherent_counting_laws.proofs.Sums.{terms_zero}
+use Rattle.ob_coherent_counting_laws.proofs.Objects.{object_there}
+use Rattle.ob_coherent_frames_laws.proofs.Cells.{same_field_value, same_seen, same_has_state, owns_counted, owned_there, reference_there, says_less}
 
 -- Two configurations that differ in one object that there was, in new ones, and in what the frames above have. Fewer
 -- objects that there were must have an owner; marks stay, and transactions in progress of the objects of which this is
@@ -175,7 +177,7 @@ module _ (table : ClassTable) (i : ℕ) (stays : ℕ → Type 0) (N M : ℕ → 
   all_stand_near slots bound few unset free a k x e = stands_near x
       (⊎_elim (λ same. inl same)
       (λ none. inr (subst (λ y. in_cell owns i y ≡ 0) e
-      (each_zero most_slots (λ j. in_cell owns i (slots j)) none k inside)))
+      (terms_zero most_slots (λ j. in_cell owns i (slots j)) none k inside)))
       free)
       (a k x e)
     where
