@@ -28,7 +28,7 @@ pub same_seen : (table : ClassTable) (id : ContractId) (o p : Object) → p.cont
     → seen_state table id p ≡ seen_state table id o
 same_seen table id o p contract state = rw (contract, state) refl
 
--- whether its state is one of its contract too
+-- an object with the same contract and state is in one of its states too
 pub same_has_state : (table : ClassTable) (o p : Object) → p.contract ≡ o.contract → p.state ≡ o.state
     → HasItsState table o → HasItsState table p
 same_has_state table o p contract state h = rw (contract, state) h
