@@ -52,7 +52,7 @@ use Rattle.ob_coherent_counting_laws.proofs.Low.{place_low}
 use Rattle.ob_coherent_counting_laws.proofs.Numbers.{one_same, one_of, times_among, not_among_times}
 use Rattle.ob_coherent_counting_laws.proofs.Whole.{place_whole}
 use Rattle.ob_coherent_frames_laws.specs.Steps.{moved}
-use Rattle.ob_coherent_frames_laws.proofs.Cells.{object_there}
+use Rattle.ob_coherent_counting_laws.proofs.Objects.{object_there}
 use Rattle.ob_coherent_frames_laws.proofs.Own.{EndsSame, quiet_step_keeps}
 use Rattle.ob_coherent_places_laws.specs.Placed.{cell_at, Found, Sits}
 use Rattle.ob_coherent_places_laws.proofs.Standing.{reference_is, refers_is}
