@@ -1,6 +1,5 @@
 -- The step of a condition.
-use Rattle.std.proofs.Common.{◌≡◌, ℕ, ◌≤◌, true, false, List, ◌∷◌, Option, Some, None, refl, sym, ap, ◌∙◌, subst, arith}
-use Rattle.std.specs.Prelude.{max}
+use Rattle.std.proofs.Common.{◌≡◌, ℕ, true, false, List, ◌∷◌, Option, refl, sym, ◌∙◌, subst}
 use Rattle.ob_base.specs.declared.fault.Span.{Span}
 use Rattle.ob_table.specs.Tables.{ClassTable}
 use Rattle.ob_table.specs.declared.seen.Kind.{Kind}
@@ -11,14 +10,13 @@ use Rattle.ob_heap_spec.specs.Objects.{Object}
 use Rattle.ob_silica.specs.Terms.{if_form, SilicaTerms, and_term}
 use Rattle.ob_silica.specs.declared.place.Operand.{Operand}
 use Rattle.ob_silica_places.specs.Places.{located}
-use Rattle.ob_silica_steps.specs.Cells.{Cell}
 use Rattle.ob_silica_steps.specs.Configurations.{SilicaProgram, Rest, plain_end, runs, Configuration, NextStep}
 use Rattle.ob_silica_steps.specs.Here.{here, if_there, goes_to}
 use Rattle.ob_silica_steps.specs.Straight.{with_truth}
 use Rattle.ob_silica_steps.specs.Steps.{act}
 use Rattle.ob_coherent_spec.specs.Standing.{IsOfKind}
-use Rattle.ob_coherent_spec.specs.Remaining.{IsCheckedProgram, body_of, static_of}
-use Rattle.ob_coherent_spec.specs.Coherent.{Beginning, IsRunning, IsCoherent, running, StepsSo}
+use Rattle.ob_coherent_spec.specs.Remaining.{IsCheckedProgram, body_of}
+use Rattle.ob_coherent_spec.specs.Coherent.{Beginning, IsRunning, running, StepsSo}
 use Rattle.ob_places_laws.proofs.Tables.{there_is}
 use Rattle.ob_coherent_remaining_laws.proofs.Remaining.{first_formed, first_passes}
 use Rattle.ob_coherent_remaining_laws.proofs.Branches.{if_first, if_second}

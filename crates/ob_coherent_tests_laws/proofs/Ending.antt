@@ -1,18 +1,18 @@
 -- A test of a shared object ends: its place is Shared again, and a lock goes.
-use Rattle.std.proofs.Common.{◌≡◌, ◌≢◌, ℕ, zero, suc, ◌+◌, ◌<◌, ◌≤◌, ◌⊎◌, inl, inr, ⊎_elim, Bool, true, false, nat_eq, List, [], ◌∷◌, length, Option, Some, None, refl, sym, ap, ◌∙◌, subst, arith}
+use Rattle.std.proofs.Common.{◌≡◌, ℕ, ◌+◌, ◌≤◌, inl, inr, ⊎_elim, true, nat_eq, List, ◌∷◌, Option, Some, refl, sym, ap, ◌∙◌, subst, arith}
 use Rattle.std.proofs.lemmas.Bool.{both_ways}
 use Rattle.std.proofs.lemmas.Bool.Decides.{eqb_tells}
-use Rattle.ob_perm.specs.Permissions.{Permission, shared, owns}
+use Rattle.ob_perm.specs.Permissions.{shared, owns}
 use Rattle.ob_table.specs.Tables.{ClassTable}
 use Rattle.ob_table_spec.specs.Conditions.{IsClassTable}
-use Rattle.ob_heap_spec.specs.Values.{Value, reference}
-use Rattle.ob_silica_places.specs.Places.{Location, slot, field, this}
+use Rattle.ob_heap_spec.specs.Values.{reference}
+use Rattle.ob_silica_places.specs.Places.{Location}
 use Rattle.ob_silica_steps.specs.Cells.{Cell, noted}
 use Rattle.ob_silica_steps.specs.Configurations.{SlotCells, Ends, plain_end, test_end, lock_end, Rest, Control, Configuration}
 use Rattle.ob_silica_steps.specs.Here.{Here, here, self_of}
 use Rattle.ob_flow_spec.specs.Contexts.{Context, now}
 use Rattle.ob_coherent_spec.specs.Counting.{nth_object, one_if, Counted, any, in_cell, in_control, in_all, owners}
-use Rattle.ob_coherent_spec.specs.Runs.{times, around, locks_at, locks_around, locks_among, locks_entry, locks, tests_at, tests_around, tests_in, tests_among, open_tests}
+use Rattle.ob_coherent_spec.specs.Runs.{times, around, locks_at, locks_around, tests_at, tests_in}
 use Rattle.ob_coherent_spec.specs.Standing.{NeedsOwner}
 use Rattle.ob_coherent_spec.specs.Remaining.{body_of, IsPlaceIn}
 use Rattle.ob_coherent_spec.specs.Waiting.{tests_of}
@@ -21,7 +21,7 @@ use Rattle.ob_coherent_counting_laws.proofs.Cells.{shared_none}
 use Rattle.ob_coherent_counting_laws.proofs.Numbers.{one_same, one_other}
 use Rattle.ob_coherent_counting_laws.proofs.Frames.{tests_in_same}
 use Rattle.ob_coherent_counting_laws.proofs.Testing.{tested_at, tests_of_more, tests_of_same}
-use Rattle.ob_coherent_frames_laws.specs.Steps.{moved_to, LeavesOthers, KeepsWhole}
+use Rattle.ob_coherent_frames_laws.specs.Steps.{moved_to, KeepsWhole}
 use Rattle.ob_coherent_places_laws.specs.Placed.{cell_at, Found, Sits}
 use Rattle.ob_coherent_places_laws.proofs.Standing.{needs_stay}
 use Rattle.ob_coherent_places_laws.proofs.Writing.{stays_leaves}

@@ -1,29 +1,29 @@
 -- A test of a shared object begins: its place owns the object in the tested state.
-use Rattle.std.proofs.Common.{◌≡◌, ◌≢◌, ℕ, ◌+◌, ◌<◌, ◌≤◌, ◌⊎◌, inl, inr, ⊎_elim, true, false, nat_eq, List, [], ◌∷◌, Option, Some, None, refl, sym, ap, ◌∙◌, subst, arith}
+use Rattle.std.proofs.Common.{◌≡◌, ◌≢◌, ℕ, ◌+◌, ◌<◌, ◌≤◌, ◌⊎◌, inl, inr, ⊎_elim, true, nat_eq, List, ◌∷◌, Option, Some, refl, sym, ap, ◌∙◌, subst, arith}
 use Rattle.std.proofs.lemmas.Bool.{both_ways, cases_lt}
 use Rattle.std.proofs.lemmas.Bool.Decides.{eqb_tells}
 use Rattle.ob_perm.specs.States.{only}
-use Rattle.ob_perm.specs.Permissions.{Permission, owned, shared, owns}
+use Rattle.ob_perm.specs.Permissions.{owned, shared, owns}
 use Rattle.ob_table.specs.Tables.{ClassTable}
 use Rattle.ob_table_spec.specs.Conditions.{IsClassTable}
-use Rattle.ob_heap_spec.specs.Values.{Value, reference}
+use Rattle.ob_heap_spec.specs.Values.{reference}
 use Rattle.ob_heap_spec.specs.Worlds.{ReadItem}
 use Rattle.ob_silica.specs.Terms.{SilicaTerms}
-use Rattle.ob_silica_places.specs.Places.{Location, slot, field, this}
-use Rattle.ob_silica_steps.specs.Cells.{Cell, noted, permission_in}
-use Rattle.ob_silica_steps.specs.Configurations.{by_new, Ends, plain_end, test_end, lock_end, Rest, Control, runs, Configuration}
+use Rattle.ob_silica_places.specs.Places.{Location, this}
+use Rattle.ob_silica_steps.specs.Cells.{noted}
+use Rattle.ob_silica_steps.specs.Configurations.{by_new, Ends, Rest, Control, runs, Configuration}
 use Rattle.ob_silica_steps.specs.Here.{Here, here, self_of}
-use Rattle.ob_flow_spec.specs.Contexts.{Context, now}
+use Rattle.ob_flow_spec.specs.Contexts.{now}
 use Rattle.ob_coherent_spec.specs.Counting.{nth_object, one_if, any, in_cell, in_control, in_all, owners}
-use Rattle.ob_coherent_spec.specs.Runs.{times, around, locks_at, locks_around, locks, tests_at, tests_in, open_tests}
+use Rattle.ob_coherent_spec.specs.Runs.{times, around, locks_at, locks_around, locks, tests_at, tests_in}
 use Rattle.ob_coherent_spec.specs.Standing.{Stands, HasItsState, NeedsOwner}
 use Rattle.ob_coherent_spec.specs.Saying.{every}
 use Rattle.ob_coherent_spec.specs.Remaining.{body_of, IsPlaceIn, Remains}
-use Rattle.ob_coherent_spec.specs.OpenTests.{IsTestOf, IsOpen, IsNew, AreOpen}
+use Rattle.ob_coherent_spec.specs.OpenTests.{IsTestOf, IsOpen, IsNew}
 use Rattle.ob_coherent_spec.specs.Waiting.{tests_of, SharesThis}
 use Rattle.ob_coherent_spec.specs.Coherent.{Beginning, IsRunning}
 use Rattle.ob_coherent_counting_laws.proofs.Cells.{shared_none}
-use Rattle.ob_coherent_counting_laws.proofs.Numbers.{one_same, one_other}
+use Rattle.ob_coherent_counting_laws.proofs.Numbers.{one_other}
 use Rattle.ob_coherent_counting_laws.proofs.Frames.{tests_in_same}
 use Rattle.ob_coherent_counting_laws.proofs.Testing.{tested_at, tested_same, tests_of_more, tests_of_same}
 use Rattle.ob_coherent_frames_laws.specs.Steps.{moved, IsOwnStep}
@@ -34,8 +34,9 @@ use Rattle.ob_coherent_places_laws.proofs.Standing.{needs_stay}
 use Rattle.ob_coherent_places_laws.proofs.Writing.{stays_leaves}
 use Rattle.ob_coherent_tests_laws.proofs.Unchanged.{opens_so}
 use Rattle.ob_coherent_tests_laws.proofs.Locking.{with_locked, read_locked, opens_locked, says_locked}
-use Rattle.ob_coherent_tests_laws.proofs.Permitted.{sits_running, permitted, place_written, marks_same, place_alike, counts_after, arguments_after, held_after, fields_after, object_after, opens_after}
-use Rattle.ob_coherent_tests_laws.proofs.Ending.{owner_counts, locks_tested, tests_tested}
+use Rattle.ob_coherent_places_laws.proofs.Handing.{sits_holding}
+use Rattle.ob_coherent_tests_laws.proofs.Permitted.{permitted, place_written, marks_same, place_alike, counts_after, arguments_after, held_after, fields_after, object_after, opens_after}
+use Rattle.ob_coherent_tests_laws.proofs.Ending.{owner_counts}
 
 module _ (table : ClassTable) (t : IsClassTable table) (entry : Option ℕ) (beginning : Beginning) (c : Configuration)
     (k : IsRunning table entry beginning c) (terms : SilicaTerms) (outer : List Rest) (so : c.control ≡ runs terms outer)
@@ -44,7 +45,7 @@ module _ (table : ClassTable) (t : IsClassTable table) (entry : Option ℕ) (beg
     (m : ℕ) (refers : u.cell.value ≡ reference m) (sharing : u.cell.note.permission ≡ shared) (marked : (nth_object c.world.objects m).shared ≡ true)
     (stands : Stands table c.world.objects (noted (owned (only state)) u.cell)) (spares : c.frame.how ≡ by_new → p ≢ this) (ls : List ℕ) where
   abbrev before : Sits table c.frame k.whole.parts (here c) k.context
-  before = sits_running table entry beginning c k
+  before = sits_holding table entry beginning c k
 
   abbrev unlocked : Here
   unlocked = permitted c reads p (owned (only state))
@@ -86,14 +87,14 @@ module _ (table : ClassTable) (t : IsClassTable table) (entry : Option ℕ) (beg
     pub owners_begun : (n : ℕ) → owners n after ≡ owners n c + one_if (nat_eq m n)
     owners_begun n =
         let d = counts_after table t entry beginning c k.whole k.context before p inside u (owned (only state)) (owned (only state)) reads owns n now_here refl refl refl
-            (runs more (record { terms = rest; ends = e } ∷ outer)) (sym (ap (in_control owns n) so)) in
+        (runs more (record { terms = rest; ends = e } ∷ outer)) (sym (ap (in_control owns n) so)) in
         let one = owner_counts (noted (owned (only state)) u.cell) m n refl refers in
         let none = shared_none n u.cell sharing in omega (arith, d, one, none)
 
     references_begun : (n : ℕ) → in_all any n after ≡ in_all any n c
     references_begun n =
         let d = counts_after table t entry beginning c k.whole k.context before p inside u (owned (only state)) (owned (only state)) reads any n now_here refl refl refl
-            (runs more (record { terms = rest; ends = e } ∷ outer)) (sym (ap (in_control any n) so)) in
+        (runs more (record { terms = rest; ends = e } ∷ outer)) (sym (ap (in_control any n) so)) in
         let same : in_cell any n (Some (noted (owned (only state)) u.cell)) ≡ in_cell any n (Some u.cell) = refl in omega (arith, d, same)
 
     tests_begun : (n : ℕ) → tests_in n now_here.slots (record { terms = rest; ends = e } ∷ outer)
@@ -123,9 +124,13 @@ module _ (table : ClassTable) (t : IsClassTable table) (entry : Option ℕ) (beg
           fields = fields_after table t entry beginning c k.whole k.context before p inside u (owned (only state)) (owned (only state)) reads begun;
           object = object_after table t entry beginning c k.whole k.context before p inside u (owned (only state)) (owned (only state)) reads begun;
           placed = λ made. subst (λ n. HasItsState table (nth_object now_here.world.objects n)) self_begun (begun.placed made);
-          opens = (opening, new, opens_locked (body_of table c.frame k.whole.parts) unlocked ls outer
-              (opens_after table t entry beginning c k.whole k.context before p inside u (owned (only state)) (owned (only state)) reads begun outer
-              (opens_so table entry beginning c k terms outer so)));
+          opens = (
+            opening,
+            new,
+            opens_locked (body_of table c.frame k.whole.parts) unlocked ls outer
+                (opens_after table t entry beginning c k.whole k.context before p inside u (owned (only state)) (owned (only state)) reads begun outer
+                (opens_so table entry beginning c k terms outer so)),
+          );
           shares = shares;
           owns_made = begun.owns_made;
           one_owner = λ n. ⊎_elim

@@ -1,5 +1,5 @@
 -- A step by which one place of a running frame gets another permission.
-use Rattle.std.proofs.Common.{◌≡◌, ◌≢◌, ℕ, ◌+◌, ◌<◌, ◌≤◌, ◌⊎◌, inl, inr, ⊎_elim, Bool, true, false, List, [], ◌∷◌, length, Option, Some, None, refl, sym, ap, ◌∙◌, subst, arith}
+use Rattle.std.proofs.Common.{◌≡◌, ◌≢◌, ℕ, ◌+◌, ◌<◌, ◌≤◌, ◌⊎◌, inl, inr, ⊎_elim, true, List, length, Option, Some, refl, sym, ap, ◌∙◌, subst, arith}
 use Rattle.std.proofs.lemmas.Bool.{both_ways}
 use Rattle.std.proofs.lemmas.Option.{same_Some}
 use Rattle.ob_perm.specs.Permissions.{Permission, shared, owns}
@@ -8,9 +8,9 @@ use Rattle.ob_table_spec.specs.Conditions.{IsClassTable}
 use Rattle.ob_heap_spec.specs.Values.{reference}
 use Rattle.ob_heap_spec.specs.Worlds.{ReadItem}
 use Rattle.ob_silica.specs.Terms.{SilicaTerms}
-use Rattle.ob_silica_places.specs.Places.{Location, slot, field, this, same_location}
+use Rattle.ob_silica_places.specs.Places.{Location, slot, this}
 use Rattle.ob_silica_steps.specs.Cells.{Cell, noted, permission_in}
-use Rattle.ob_silica_steps.specs.Configurations.{by_new, Rest, Control, runs, Configuration}
+use Rattle.ob_silica_steps.specs.Configurations.{by_new, Rest, Control, runs, Notes, Configuration}
 use Rattle.ob_silica_steps.specs.Here.{Here, here, self_of, set_permission}
 use Rattle.ob_silica_formed.specs.Holdings.{Holdings}
 use Rattle.ob_flow_spec.specs.Contexts.{Context, now}
@@ -21,30 +21,21 @@ use Rattle.ob_coherent_spec.specs.Standing.{Stands, AllStand, IsObjectInRun, Nee
 use Rattle.ob_coherent_spec.specs.Remaining.{body_of, IsPlaceIn, AreHeld}
 use Rattle.ob_coherent_spec.specs.OpenTests.{AreOpen}
 use Rattle.ob_coherent_spec.specs.Saying.{every}
-use Rattle.ob_coherent_spec.specs.Coherent.{Beginning, Holds, IsRunning}
+use Rattle.ob_coherent_spec.specs.Coherent.{Beginning, Holds}
 use Rattle.ob_coherent_counting_laws.proofs.Low.{place_low}
+use Rattle.ob_coherent_counting_laws.proofs.Writing.{in_here}
+use Rattle.ob_coherent_counting_laws.proofs.Cells.{cell_noted}
 use Rattle.ob_coherent_counting_laws.proofs.Permitting.{permission_counts}
 use Rattle.ob_coherent_counting_laws.proofs.Whole.{all_but_here}
 use Rattle.ob_coherent_frames_laws.specs.Steps.{moved_to, moved, KeepsArgument, IsQuietStep}
-use Rattle.ob_coherent_places_laws.specs.Placed.{cell_at, Stays, Written, SameMarks, SameCells, Found, Sits}
+use Rattle.ob_coherent_places_laws.specs.Placed.{cell_at, Written, SameMarks, IsAlike, Found, Sits}
 use Rattle.ob_coherent_places_laws.proofs.Writing.{written_after, permission_written, permission_marks, stays_leaves}
 use Rattle.ob_coherent_places_laws.proofs.Reading.{place_is}
 use Rattle.ob_coherent_places_laws.proofs.Keeping.{argument_kept, opens_kept}
+use Rattle.ob_coherent_places_laws.proofs.Holding.{held_noted}
+use Rattle.ob_coherent_places_laws.proofs.Standing.{stands_stay, needs_stay}
 use Rattle.ob_coherent_places_laws.proofs.Carrying.{carry, carry_opens, carry_kept}
 use Rattle.ob_coherent_tests_laws.proofs.Unchanged.{having_read, reads_leave}
-
--- the places of a running frame are as its context says
-pub sits_running : (table : ClassTable) (entry : Option ℕ) (beginning : Beginning) (c : Configuration) (k : IsRunning table entry beginning c)
-    → Sits table c.frame k.whole.parts (here c) k.context
-sits_running table entry beginning c k = record {
-  frame = k.whole.frame;
-  slots = k.whole.slots;
-  fields = k.whole.fields (self_of c.frame.slots);
-  object = k.whole.objects (self_of c.frame.slots) k.whole.frame.there;
-  says = k.says;
-  placed = k.placed;
-  owns_made = k.owns_made;
-}
 
 -- a place has its permission then
 abbrev pub permitted : Configuration → List ReadItem → Location → Permission → Here
@@ -69,8 +60,8 @@ module _ (table : ClassTable) (t : IsClassTable table) (entry : Option ℕ) (beg
   place_alike allows stands owner mode spares =
       let same = place_written.stays in
       carry table t c.frame whole.parts (here c) g sits (permitted c reads p q) p inside u q w place_written allows
-      (Rattle.ob_coherent_places_laws.proofs.Standing.stands_stay table (here c) (permitted c reads p q) same (noted q u.cell) stands)
-      (λ n needs has. owner n (Rattle.ob_coherent_places_laws.proofs.Standing.needs_stay table (here c) (permitted c reads p q) same n needs) has)
+      (stands_stay table (here c) (permitted c reads p q) same (noted q u.cell) stands)
+      (λ n needs has. owner n (needs_stay table (here c) (permitted c reads p q) same n needs) has)
       mode spares
 
   -- what the places count then
@@ -78,17 +69,17 @@ module _ (table : ClassTable) (t : IsClassTable table) (entry : Option ℕ) (beg
       → h.world.objects ≡ (permitted c reads p q).world.objects → (control : Control) → in_control counts n control ≡ in_control counts n c.control
       → in_all counts n (moved_to c h control) + in_cell counts n (Some u.cell) ≡ in_all counts n c + in_cell counts n (Some (noted q u.cell))
   counts_after counts n h e1 e2 e3 control alike =
-      let rest = all_but_here counts n c (moved_to c h control) refl (ap (λ (x : Rattle.ob_silica_steps.specs.Configurations.Notes). x.handles) e2 ∙ place_written.stays.handles) in
+      let rest = all_but_here counts n c (moved_to c h control) refl (ap (λ (x : Notes). x.handles) e2 ∙ place_written.stays.handles) in
       let change = permission_counts p q (having_read c reads) (place_low table t c.world.objects c.frame whole.parts whole.frame p inside) whole.frame.there u.cell ((reads_leave c reads).same p ∙ u.is) counts n in
-      let same : Rattle.ob_coherent_counting_laws.proofs.Writing.in_here counts n (here (moved_to c h control)) ≡ Rattle.ob_coherent_counting_laws.proofs.Writing.in_here counts n (permitted c reads p q)
-          = rw (e1, e2, e3) refl in
+      let same : in_here counts n (here (moved_to c h control)) ≡ in_here counts n (permitted c reads p q)
+      = rw (e1, e2, e3) refl in
       omega (arith, rest, change, same, alike)
 
   -- a parameter keeps its value, and is Shared where it was, or where no place owns its object any more
   pub arguments_after : (left : ℕ → ℕ) → (q ≡ shared → (u.cell.note.permission ≡ shared) ⊎ ((n : ℕ) → u.cell.value ≡ reference n → left n ≡ 0))
       → (j : ℕ) (x : Cell) → j ≤ length whole.parts.signature.params → c.frame.slots j ≡ Some x → KeepsArgument left x ((permitted c reads p q).slots j)
   arguments_after left gone j x le e = argument_kept left x ((permitted c reads p q).slots j)
-      (subst (λ y. Rattle.ob_coherent_places_laws.specs.Placed.IsAlike y ((permitted c reads p q).slots j)) e
+      (subst (λ y. IsAlike y ((permitted c reads p q).slots j)) e
       (carry_kept table t c.frame whole.parts (here c) g sits (permitted c reads p q) p q u (length whole.parts.signature.params) place_written j le))
       (λ z set held. ⊎_elim
       (λ i. let was : u.cell ≡ x = same_Some u.cell x (sym u.is ∙ ap (cell_at (here c)) (sym i) ∙ e) in
@@ -109,12 +100,7 @@ module _ (table : ClassTable) (t : IsClassTable table) (entry : Option ℕ) (beg
 
   -- slots hold what they did
   pub held_after : (i : Holdings) → AreHeld i c.frame.slots every → AreHeld i (permitted c reads p q).slots every
-  held_after i held j x e set = ⊎_elim
-      (λ same. let new : noted q u.cell ≡ x = same_Some (noted q u.cell) x (sym place_written.itself ∙ ap (cell_at (permitted c reads p q)) (sym same) ∙ set) in
-      let was = held j u.cell refl (ap (cell_at (here c)) same ∙ u.is) in
-      record { kind = λ d y. ap (λ (z : Cell). z.note.kind) (sym new) ∙ was.kind d y; refers = λ y. was.refers (ap (λ (z : Cell). Rattle.ob_table_spec.specs.WellFormed.is_reference z.note.kind) new ∙ y) })
-      (λ ne. held j x refl (sym (place_written.others (slot j) ne) ∙ set))
-      (place_is (slot j) p)
+  held_after i held = held_noted i (here c) (permitted c reads p q) p u.cell q place_written u.is held
 
   module _ (s : Sits table c.frame whole.parts (permitted c reads p q) (now g p w)) where
     pub fields_after : AllStand table (permitted c reads p q).world.objects (field_cell (permitted c reads p q).notes (permitted c reads p q).world.objects (self_of c.frame.slots))
@@ -155,9 +141,9 @@ module _ (table : ClassTable) (t : IsClassTable table) (entry : Option ℕ) (beg
         same_owners : (n : ℕ) → owners n (moved c (permitted c reads p q) more lists) ≡ owners n c
         same_owners n =
             let e = counts_after owns n (permitted c reads p q) refl refl refl (runs more lists) (sym (ap (in_control owns n) so)) in
-            let d = Rattle.ob_coherent_counting_laws.proofs.Cells.cell_noted owns n q u.cell alike in omega (arith, e, d)
+            let d = cell_noted owns n q u.cell alike in omega (arith, e, d)
 
         same_references : (n : ℕ) → in_all any n (moved c (permitted c reads p q) more lists) ≡ in_all any n c
         same_references n =
             let e = counts_after any n (permitted c reads p q) refl refl refl (runs more lists) (sym (ap (in_control any n) so)) in
-            let d = Rattle.ob_coherent_counting_laws.proofs.Cells.cell_noted any n q u.cell refl in omega (arith, e, d)
+            let d = cell_noted any n q u.cell refl in omega (arith, e, d)

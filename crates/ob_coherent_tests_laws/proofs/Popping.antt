@@ -1,42 +1,41 @@
 -- The end of a list of terms: the one around it goes on, and a test ends.
-use Rattle.std.proofs.Common.{◌≡◌, ◌≢◌, ℕ, ◌+◌, ◌<◌, ◌≤◌, ◌⊎◌, inl, inr, ⊎_elim, true, false, nat_eq, List, [], ◌∷◌, Option, Some, None, refl, sym, ap, ◌∙◌, subst, arith}
+use Rattle.std.proofs.Common.{◌≡◌, ◌≢◌, ℕ, ◌+◌, ◌<◌, ◌≤◌, inl, inr, ⊎_elim, true, false, nat_eq, List, [], ◌∷◌, Option, refl, sym, ap, ◌∙◌, subst, arith}
 use Rattle.std.proofs.lemmas.Bool.{both_ways}
 use Rattle.std.proofs.lemmas.Bool.Decides.{eqb_tells}
-use Rattle.ob_perm.specs.Permissions.{Permission, shared, owns}
+use Rattle.ob_perm.specs.Permissions.{shared, owns}
 use Rattle.ob_table.specs.Tables.{ClassTable}
 use Rattle.ob_table_spec.specs.Conditions.{IsClassTable}
-use Rattle.ob_heap_spec.specs.Values.{Value, reference}
+use Rattle.ob_heap_spec.specs.Values.{reference}
 use Rattle.ob_heap_spec.specs.Marks.{without_first}
 use Rattle.ob_silica.specs.Terms.{SilicaTerms, no_terms}
-use Rattle.ob_silica_places.specs.Places.{Location, slot, field, this, same_location}
-use Rattle.ob_silica_steps.specs.Cells.{Cell, noted, permission_in}
+use Rattle.ob_silica_places.specs.Places.{Location, this, same_location}
+use Rattle.ob_silica_steps.specs.Cells.{noted, permission_in}
 use Rattle.ob_silica_steps.specs.Configurations.{SilicaProgram, by_new, Ends, plain_end, test_end, lock_end, Rest, Control, runs, Configuration}
 use Rattle.ob_silica_steps.specs.Here.{Here, here, self_of, goes_to}
 use Rattle.ob_silica_steps.specs.Testing.{end_branch}
 use Rattle.ob_silica_steps.specs.Steps.{pop_step}
-use Rattle.ob_silica_formed.specs.Holdings.{Holdings}
 use Rattle.ob_flow_spec.specs.Contexts.{Context, now, permission_at}
-use Rattle.ob_coherent_spec.specs.Counting.{nth_object, one_if, any, in_cell, in_control, owners}
-use Rattle.ob_coherent_spec.specs.Runs.{times, around, locks_at, locks_around, tests_at, tests_around, tests_in, open_tests}
-use Rattle.ob_coherent_spec.specs.Standing.{Stands, RefersToShared, HasItsState, NeedsOwner}
+use Rattle.ob_coherent_spec.specs.Counting.{nth_object, one_if, Counted, in_control, owners}
+use Rattle.ob_coherent_spec.specs.Runs.{times, around, locks_at, locks_around, tests_in, open_tests}
+use Rattle.ob_coherent_spec.specs.Standing.{RefersToShared, HasItsState, NeedsOwner}
 use Rattle.ob_coherent_spec.specs.Saying.{every}
-use Rattle.ob_coherent_spec.specs.Remaining.{IsCheckedProgram, body_of, IsPlaceIn, at_end, StillOwns, Remains}
-use Rattle.ob_coherent_spec.specs.OpenTests.{IsTestOf, IsOpen, AreOpen}
+use Rattle.ob_coherent_spec.specs.Remaining.{IsCheckedProgram, body_of, Leads, at_end}
+use Rattle.ob_coherent_spec.specs.OpenTests.{IsTestOf, IsOpen}
 use Rattle.ob_coherent_spec.specs.Waiting.{SharesThis}
 use Rattle.ob_coherent_spec.specs.Coherent.{Beginning, IsRunning, running, StepsSo}
 use Rattle.ob_coherent_counting_laws.proofs.Cells.{shared_none}
-use Rattle.ob_coherent_counting_laws.proofs.Numbers.{one_same, one_other, without_times}
+use Rattle.ob_coherent_counting_laws.proofs.Numbers.{one_same}
 use Rattle.ob_coherent_counting_laws.proofs.Testing.{tested_at, without_count}
-use Rattle.ob_coherent_frames_laws.specs.Steps.{moved, moved_to, KeepsWhole, IsOwnStep}
+use Rattle.ob_coherent_frames_laws.specs.Steps.{moved, KeepsWhole, IsOwnStep}
 use Rattle.ob_coherent_frames_laws.proofs.Own.{own_step_keeps}
 use Rattle.ob_coherent_places_laws.specs.Placed.{cell_at, Found, Sits}
-use Rattle.ob_coherent_places_laws.proofs.Reading.{place_is}
 use Rattle.ob_coherent_places_laws.proofs.Finding.{found_stands}
 use Rattle.ob_coherent_remaining_laws.proofs.Remaining.{GoesOn, list_ends, ends_inside}
 use Rattle.ob_coherent_remaining_laws.proofs.Following.{held_too}
 use Rattle.ob_coherent_tests_laws.proofs.Unchanged.{remains_so, opens_so, unchanged_keeps}
 use Rattle.ob_coherent_tests_laws.proofs.Locking.{with_locked, opens_locked, says_locked, sits_leads}
-use Rattle.ob_coherent_tests_laws.proofs.Permitted.{sits_running, permitted, place_written, place_alike, this_after, held_after, opens_after}
+use Rattle.ob_coherent_places_laws.proofs.Handing.{sits_holding}
+use Rattle.ob_coherent_tests_laws.proofs.Permitted.{permitted, place_written, place_alike, this_after, held_after, opens_after}
 use Rattle.ob_coherent_tests_laws.proofs.Tested.{tested_found, tested_refers, tested_owner, test_not_made}
 use Rattle.ob_coherent_tests_laws.proofs.Ending.{locks_tested, test_ends, none_left, owners_ended, references_ended}
 
@@ -44,7 +43,7 @@ module _ (table : ClassTable) (t : IsClassTable table) (entry : Option ℕ) (beg
     (k : IsRunning table entry beginning c) (rest : SilicaTerms) (e : Ends) (outer : List Rest)
     (so : c.control ≡ runs no_terms (record { terms = rest; ends = e } ∷ outer)) where
   abbrev before : Sits table c.frame k.whole.parts (here c) k.context
-  before = sits_running table entry beginning c k
+  before = sits_holding table entry beginning c k
 
   -- A test ends: its place is Shared again.
   module _ (p : Location) (m : ℕ) (a : IsTestOf (body_of table c.frame k.whole.parts) (here c) p m) (owner : owns (permission_at k.context p) ≡ true)
@@ -72,7 +71,7 @@ module _ (table : ClassTable) (t : IsClassTable table) (entry : Option ℕ) (beg
         (λ n needs has. absurd (let none = shared_none n (noted shared u.cell) refl in omega (arith, none, has)))
         (λ z. refl) spares
 
-    alike : (counts : Rattle.ob_coherent_spec.specs.Counting.Counted) (n : ℕ) → in_control counts n (runs rest outer) ≡ in_control counts n c.control
+    alike : (counts : Counted) (n : ℕ) → in_control counts n (runs rest outer) ≡ in_control counts n c.control
     alike counts n = sym (ap (in_control counts n) so)
 
     whole_after : KeepsWhole table entry c k.whole.parts now_here (runs rest outer)
@@ -128,7 +127,7 @@ module _ (table : ClassTable) (t : IsClassTable table) (entry : Option ℕ) (beg
     ends_keep on at shares = own_step_keeps table entry beginning c now_here rest outer t k (ends_own shares) on.context
         (says_locked (body_of table c.frame k.whole.parts) (NeedsOwner table now_here.world.objects) on.context (permitted c c.world.reads p shared) ls every
         (sits_leads table t c.frame k.whole.parts (permitted c c.world.reads p shared) (now k.context p shared) on.context again
-        (subst (λ (g : Context). Rattle.ob_coherent_spec.specs.Remaining.Leads (body_of table c.frame k.whole.parts) g on.context) at on.leads)))
+        (subst (λ (g : Context). Leads (body_of table c.frame k.whole.parts) g on.context) at on.leads)))
         on.holdings
         (held_too k.holdings on.holdings now_here.slots every on.holds
         (held_after table t entry beginning c k.whole k.context before p a.inside u shared shared c.world.reads k.holdings k.held))
@@ -157,8 +156,11 @@ module _ (table : ClassTable) (t : IsClassTable table) (entry : Option ℕ) (beg
               (λ few. inl (subst (λ n. owners n (moved c now_here rest outer) ≤ 0) (sym same_self) (let d = fewer (self_of c.frame.slots) in omega (arith, few, d))))
               (λ z. ⊎_elim
               (λ i. inl (subst (λ n. owners n (moved c now_here rest outer) ≤ 0) (i.1 ∙ sym same_self) (let none = left_none in omega (arith, none))))
-              (λ i. inr (z.0, subst (λ n. 0 < times n ls) (sym same_self)
-              (let one = ap one_if i.0 in let x = ends (self_of c.frame.slots) in let v = locks_tested (self_of c.frame.slots) c.frame.slots e in let w = unlocks (self_of c.frame.slots) in let busy = z.1 in omega (arith, one, x, v, w, busy))))
+              (λ i. inr (
+                z.0,
+                subst (λ n. 0 < times n ls) (sym same_self)
+                    (let one = ap one_if i.0 in let x = ends (self_of c.frame.slots) in let v = locks_tested (self_of c.frame.slots) c.frame.slots e in let w = unlocks (self_of c.frame.slots) in let busy = z.1 in omega (arith, one, x, v, w, busy)),
+              ))
               (eqb_tells m (self_of c.frame.slots)))
               y.1,
         )
@@ -180,22 +182,22 @@ pop_ends program entry beginning c rest plain_end outer checked k so a on =
     running (unchanged_keeps program.table entry beginning c k no_terms (record { terms = rest; ends = plain_end } ∷ outer) so checked.table c.world.reads rest outer
     (opens_so program.table entry beginning c k no_terms (record { terms = rest; ends = plain_end } ∷ outer) so).2
     (record { locks = λ n. omega arith; tests = λ n. omega arith }) on.context
-    (sits_leads program.table checked.table c.frame k.whole.parts (here c) k.context on.context (sits_running program.table entry beginning c k) on.leads)
+    (sits_leads program.table checked.table c.frame k.whole.parts (here c) k.context on.context (sits_holding program.table entry beginning c k) on.leads)
     on.holdings (held_too k.holdings on.holdings c.frame.slots every on.holds k.held) on.remains)
 pop_ends program entry beginning c rest (test_end p) outer checked k so (is, a, marked) on =
-    let w = (place_written program.table checked.table entry beginning c k.whole k.context (sits_running program.table entry beginning c k) p a.inside
-        (tested_found program.table checked.table c.frame k.whole.parts (here c) k.context (sits_running program.table entry beginning c k) p (self_of c.frame.slots) a on.owns) shared shared c.world.reads).stays.locked in
+    let w = (place_written program.table checked.table entry beginning c k.whole k.context (sits_holding program.table entry beginning c k) p a.inside
+    (tested_found program.table checked.table c.frame k.whole.parts (here c) k.context (sits_holding program.table entry beginning c k) p (self_of c.frame.slots) a on.owns) shared shared c.world.reads).stays.locked in
     let ls : List ℕ = (permitted c c.world.reads p shared).world.locked in
     let same : (n : ℕ) → 0 + times n ls ≡ times n c.world.locked = λ n. (let z = ap (times n) w in omega (arith, z)) in
     let some : 0 < open_tests (self_of c.frame.slots) c =
-        (let one = one_same (self_of c.frame.slots) in let b = ap (λ (x : Control). tests_in (self_of c.frame.slots) c.frame.slots (around x)) so in omega (arith, one, b)) in
+    (let one = one_same (self_of c.frame.slots) in let b = ap (λ (x : Control). tests_in (self_of c.frame.slots) c.frame.slots (around x)) so in omega (arith, one, b)) in
     running (ends_keep program.table checked.table entry beginning c k rest (test_end p) outer so p (self_of c.frame.slots) a on.owns marked (λ n. refl)
     ls same (λ made. absurd (test_not_made program.table entry beginning c k.whole some made)) on refl
     (shares_this program.table checked.table entry beginning c k rest (test_end p) outer so p (self_of c.frame.slots) a on.owns marked (λ n. refl)
     ls same (λ made. absurd (test_not_made program.table entry beginning c k.whole some made)) refl some))
 pop_ends program entry beginning c rest (lock_end p m) outer checked k so (other, a, marked) on =
-    let w = (place_written program.table checked.table entry beginning c k.whole k.context (sits_running program.table entry beginning c k) p a.inside
-        (tested_found program.table checked.table c.frame k.whole.parts (here c) k.context (sits_running program.table entry beginning c k) p m a on.owns) shared shared c.world.reads).stays.locked in
+    let w = (place_written program.table checked.table entry beginning c k.whole k.context (sits_holding program.table entry beginning c k) p a.inside
+    (tested_found program.table checked.table c.frame k.whole.parts (here c) k.context (sits_holding program.table entry beginning c k) p m a on.owns) shared shared c.world.reads).stays.locked in
     let locked = k.whole.locked m in
     let lists = ap (λ (x : Control). locks_around m (around x)) so in
     let one = one_same m in

@@ -1,20 +1,20 @@
 -- The place of an open test.
-use Rattle.std.proofs.Common.{◌≡◌, ◌≢◌, ℕ, ◌+◌, ◌<◌, ◌≤◌, true, false, List, [], ◌∷◌, Option, Some, None, refl, sym, ap, ◌∙◌, subst, arith, inl, inr, true≢false}
+use Rattle.std.proofs.Common.{◌≡◌, ◌≢◌, ℕ, ◌<◌, true, List, [], ◌∷◌, Option, Some, None, refl, sym, ap, ◌∙◌, arith, inl, true≢false}
 use Rattle.std.proofs.lemmas.Option.{same_Some}
 use Rattle.ob_perm.specs.Permissions.{Permission, owned, shared, unowned, owns}
 use Rattle.ob_table.specs.Tables.{ClassTable}
+use Rattle.ob_table.specs.declared.contract.Contract.{Contract}
 use Rattle.ob_table_spec.specs.Conditions.{IsClassTable}
 use Rattle.ob_heap_spec.specs.Values.{reference}
-use Rattle.ob_heap_spec.specs.Objects.{has_field, state_number}
+use Rattle.ob_heap_spec.specs.Objects.{has_field}
 use Rattle.ob_silica_places.specs.Known.{Known}
-use Rattle.ob_silica_places.specs.Places.{Location, slot, field, this}
+use Rattle.ob_silica_places.specs.Places.{Location, slot, field}
 use Rattle.ob_silica_steps.specs.Cells.{Cell}
-use Rattle.ob_silica_steps.specs.Configurations.{SilicaFrame, by_receiver, by_this, by_new, Waiting, Configuration}
-use Rattle.ob_silica_steps.specs.Here.{Here, here, self_of, read}
-use Rattle.ob_flow_spec.specs.Contexts.{Context, is_set, available, permission_on, permission_at}
+use Rattle.ob_silica_steps.specs.Configurations.{SilicaFrame, by_this, by_new, Waiting, Configuration}
+use Rattle.ob_silica_steps.specs.Here.{Here, self_of}
+use Rattle.ob_flow_spec.specs.Contexts.{Context, is_set, permission_on, permission_at}
 use Rattle.ob_places_laws.specs.Serving.{Allows}
-use Rattle.ob_coherent_spec.specs.Counting.{nth_object}
-use Rattle.ob_coherent_spec.specs.Runs.{entered_at, entered_among, entries, open_tests, times}
+use Rattle.ob_coherent_spec.specs.Runs.{entered_at, entered_among, open_tests}
 use Rattle.ob_coherent_spec.specs.Standing.{NeedsOwner}
 use Rattle.ob_coherent_spec.specs.Saying.{SaysOf, own_object}
 use Rattle.ob_coherent_spec.specs.Remaining.{BodyParts, body_of}
@@ -46,7 +46,7 @@ module _ (table : ClassTable) (t : IsClassTable table) (f : SilicaFrame) (parts 
   said (slot n) e = s.says.slots n refl
   said (field n) e = s.says.fields n
       (available_is (body_of table f parts) n (own_object h).state
-      ∙ ap (λ (o : _). has_field o (own_object h).state n) (sym (own_is table t f parts h g s))
+      ∙ ap (λ (o : Contract). has_field o (own_object h).state n) (sym (own_is table t f parts h g s))
       ∙ (kind_in_run table h.notes h.world.objects (self_of h.slots) s.object n a.cell e).0) refl
 
   -- a place under test that still owns has a cell that owns the tested object

@@ -1,7 +1,7 @@
 -- The step of a test of a state.
-use Rattle.std.proofs.Common.{◌≡◌, ◌≢◌, ℕ, ◌+◌, ◌<◌, ◌≤◌, ◌⊎◌, inl, inr, ⊎_elim, Bool, true, false, nat_eq, ◌||◌, List, [], ◌∷◌, length, Option, Some, None, refl, sym, ap, ◌∙◌, subst, arith, true≢false, eq-zero-or-pos}
+use Rattle.std.proofs.Common.{◌≡◌, ◌≢◌, ℕ, ◌+◌, ◌<◌, ◌≤◌, ◌⊎◌, inl, inr, ⊎_elim, Bool, true, false, nat_eq, ◌||◌, List, ◌∷◌, length, Option, None, refl, sym, ap, ◌∙◌, subst, arith, eq-zero-or-pos}
 use Rattle.std.specs.Prelude.{max, if◌then◌else◌}
-use Rattle.std.proofs.lemmas.Bool.{both_ways, cases_Bool, or_left, or_right, and_from}
+use Rattle.std.proofs.lemmas.Bool.{both_ways, or_left, or_right, and_from}
 use Rattle.std.proofs.lemmas.Bool.Decides.{eqb_tells}
 use Rattle.std.proofs.lemmas.Option.{same_Some}
 use Rattle.ob_base.specs.declared.fault.Span.{Span}
@@ -9,44 +9,40 @@ use Rattle.ob_base.specs.declared.id.ContractId.{ContractId}
 use Rattle.ob_base.specs.declared.id.StateId.{StateId}
 use Rattle.ob_perm.specs.States.{States, only, within, without}
 use Rattle.ob_perm.specs.Permissions.{Permission, owned, shared, unowned, owns, is_unowned, permission_within, permission_without}
-use Rattle.ob_table.specs.Tables.{ClassTable}
 use Rattle.ob_table.specs.declared.seen.Kind.{Kind}
 use Rattle.ob_table.specs.declared.seen.Kind.TheVariants.{Int, Bool as BoolKind, Text, Reference}
-use Rattle.ob_table_spec.specs.Conditions.{IsClassTable}
 use Rattle.ob_table_spec.specs.WellFormed.{is_reference}
-use Rattle.ob_heap_spec.specs.Values.{Value, reference, referred}
+use Rattle.ob_heap_spec.specs.Values.{reference, referred}
 use Rattle.ob_heap_spec.specs.Objects.{Object, seen_state, is_in_state}
 use Rattle.ob_heap_spec.specs.Contents.{object_at}
 use Rattle.ob_heap_spec.specs.Worlds.{World, ReadItem, read_object, is_made, object_item, by_state}
 use Rattle.ob_heap_spec.specs.Marks.{is_locked, is_in_progress}
 use Rattle.ob_silica.specs.Terms.{test_form, SilicaTerms, and_term}
 use Rattle.ob_silica.specs.declared.place.Operand.{Operand}
-use Rattle.ob_silica.specs.Slots.{slots_of_operand, slots_of_form, slots_of_terms}
-use Rattle.ob_silica_places.specs.Known.{Known, unowned_under}
+use Rattle.ob_silica.specs.Slots.{slots_of_operand, slots_of_terms}
 use Rattle.ob_silica_places.specs.Places.{Location, slot, field, this, same_location, located}
 use Rattle.ob_silica_steps.specs.Cells.{Cell, noted, permission_in}
 use Rattle.ob_silica_steps.specs.Configurations.{SilicaProgram, by_new, Ends, plain_end, test_end, lock_end, Rest, Control, runs, Configuration, NextStep, abort_step}
-use Rattle.ob_silica_steps.specs.Here.{Here, here, self_of, if_there, read}
+use Rattle.ob_silica_steps.specs.Here.{here, self_of, if_there}
 use Rattle.ob_silica_steps.specs.Changing.{is_locked_out}
 use Rattle.ob_silica_steps.specs.Testing.{StateTest, tells, test_shared_this, test_this_as, test_this, test_shared, test_other, test_object, is_in as is_in_one, reads_object}
 use Rattle.ob_silica_steps.specs.Steps.{act}
-use Rattle.ob_flow_spec.specs.Contexts.{BodyFrame, Context, now, counted, permission_on, permission_at, constructs}
+use Rattle.ob_flow_spec.specs.Contexts.{BodyFrame, Context, now, counted, permission_on, permission_at}
 use Rattle.ob_flow_spec.specs.Joining.{same_mode}
 use Rattle.ob_flow_spec.specs.Testing.{in_tested_state, in_other_state}
 use Rattle.ob_places_laws.specs.Serving.{AreAmong, Allows, AllowsState}
 use Rattle.ob_places_laws.proofs.Tables.{there_is}
 use Rattle.ob_places_laws.proofs.Locations.{same_location_is}
 use Rattle.ob_places_laws.proofs.Permissions.{some_way, under_is}
-use Rattle.ob_places_laws.proofs.Sets.{within_among, without_among, only_itself}
+use Rattle.ob_places_laws.proofs.Sets.{within_among, without_among}
 use Rattle.ob_places_laws.proofs.SeenStates.{tested_in, tested_out}
 use Rattle.ob_coherent_spec.specs.Counting.{nth_object, one_if, in_cell, owners}
-use Rattle.ob_coherent_spec.specs.Runs.{times, around, tested_places}
+use Rattle.ob_coherent_spec.specs.Runs.{times, around}
 use Rattle.ob_coherent_spec.specs.Standing.{Stands, IsOfKind, RefersToShared, is_in, RefersToIn, NeedsOwner}
-use Rattle.ob_coherent_spec.specs.Saying.{every}
 use Rattle.ob_coherent_spec.specs.Remaining.{IsCheckedProgram, body_of, static_of, IsWellFormedForm, IsPlaceIn, Remains}
-use Rattle.ob_coherent_spec.specs.OpenTests.{IsTestOf, IsOpen, IsNew}
+use Rattle.ob_coherent_spec.specs.OpenTests.{IsTestOf}
 use Rattle.ob_coherent_spec.specs.Waiting.{SharesThis}
-use Rattle.ob_coherent_spec.specs.Coherent.{Beginning, IsRunning, IsCoherent, running, StepsSo}
+use Rattle.ob_coherent_spec.specs.Coherent.{Beginning, IsRunning, running, StepsSo}
 use Rattle.ob_coherent_counting_laws.proofs.Cells.{cell_counted}
 use Rattle.ob_coherent_counting_laws.proofs.Low.{place_low}
 use Rattle.ob_coherent_counting_laws.proofs.Numbers.{one_same, one_of, times_among, not_among_times}
@@ -54,7 +50,7 @@ use Rattle.ob_coherent_counting_laws.proofs.Whole.{place_whole}
 use Rattle.ob_coherent_frames_laws.specs.Steps.{moved}
 use Rattle.ob_coherent_counting_laws.proofs.Objects.{object_there}
 use Rattle.ob_coherent_frames_laws.proofs.Own.{EndsSame, quiet_step_keeps}
-use Rattle.ob_coherent_places_laws.specs.Placed.{cell_at, Found, Sits}
+use Rattle.ob_coherent_places_laws.specs.Placed.{cell_at, Found}
 use Rattle.ob_coherent_places_laws.proofs.Standing.{reference_is, refers_is}
 use Rattle.ob_coherent_places_laws.proofs.Carrying.{spares}
 use Rattle.ob_coherent_remaining_laws.proofs.Remaining.{IsFirst, first_formed, first_slots, first_passes}
@@ -63,7 +59,8 @@ use Rattle.ob_coherent_tests_laws.proofs.Finding.{found_at, reads_it, stands_at}
 use Rattle.ob_coherent_tests_laws.proofs.Operands.{place_inside, kind_found}
 use Rattle.ob_coherent_tests_laws.proofs.Unchanged.{having_read, remains_so, opens_so, into_plain}
 use Rattle.ob_coherent_tests_laws.proofs.Locking.{with_locked}
-use Rattle.ob_coherent_tests_laws.proofs.Permitted.{sits_running, permitted, place_written, place_alike, this_after, held_after, permitted_quiet}
+use Rattle.ob_coherent_places_laws.proofs.Handing.{sits_holding}
+use Rattle.ob_coherent_tests_laws.proofs.Permitted.{permitted, place_written, place_alike, this_after, held_after, permitted_quiet}
 use Rattle.ob_coherent_tests_laws.proofs.Opening.{begins_keep, test_begun, self_begun, progress_begun, marked_begun, owners_begun}
 
 -- Permissions.
@@ -204,7 +201,7 @@ module _ (program : SilicaProgram) (entry : Option ℕ) (beginning : Beginning) 
   ownerless marked free = ⊎_elim (λ e. e) (λ e. absurd (both_ways _ free (owner_busy marked e))) (eq-zero-or-pos (owners object.0 c))
 
   not_made : c.frame.how ≡ by_new → p ≢ this
-  not_made = spares program.table checked.table c.frame k.whole.parts (here c) k.context (sits_running program.table entry beginning c k) p first.passes.can.usable.spares_this
+  not_made = spares program.table checked.table c.frame k.whole.parts (here c) k.context (sits_holding program.table entry beginning c k) p first.passes.can.usable.spares_this
 
   -- How the place counts, and what its cell has.
   way : ((a : States) × (w : States) × (counted k.context p ≡ owned a) × (u.cell.note.permission ≡ owned w) × AreAmong w a)
@@ -226,15 +223,15 @@ module _ (program : SilicaProgram) (entry : Option ℕ) (beginning : Beginning) 
       → Remains b k.holdings (now k.context p w) more (record { terms = rest; ends = plain_end } ∷ outer)
       → IsRunning program.table entry beginning (moved c (permitted c reads p q) more (record { terms = rest; ends = plain_end } ∷ outer))
   told_keeps q w reads more allows owner alike sharing mode may remains =
-      let after = place_alike program.table checked.table entry beginning c k.whole k.context (sits_running program.table entry beginning c k) p inside u q w reads
-          allows (noted_stands q sharing may) (λ n needs has. owner) (λ z. mode) not_made in
+      let after = place_alike program.table checked.table entry beginning c k.whole k.context (sits_holding program.table entry beginning c k) p inside u q w reads
+      allows (noted_stands q sharing may) (λ n needs has. owner) (λ z. mode) not_made in
       quiet_step_keeps program.table entry beginning c (permitted c reads p q) more (record { terms = rest; ends = plain_end } ∷ outer) checked.table k
       (subst (λ (x : Control). EndsSame (around x) (record { terms = rest; ends = plain_end } ∷ outer)) (sym so) (record { locks = λ n. omega arith; tests = λ n. omega arith }))
-      (permitted_quiet program.table checked.table entry beginning c k.whole k.context (sits_running program.table entry beginning c k) p inside u q w reads after
+      (permitted_quiet program.table checked.table entry beginning c k.whole k.context (sits_holding program.table entry beginning c k) p inside u q w reads after
       (and_term (test_form o s branch other join) span rest) more outer (record { terms = rest; ends = plain_end } ∷ outer) so
       (tt, tt, opens_so program.table entry beginning c k (and_term (test_form o s branch other join) span rest) outer so) alike sharing)
       (now k.context p w) after.says k.holdings
-      (held_after program.table checked.table entry beginning c k.whole k.context (sits_running program.table entry beginning c k) p inside u q w reads k.holdings k.held)
+      (held_after program.table checked.table entry beginning c k.whole k.context (sits_holding program.table entry beginning c k) p inside u q w reads k.holdings k.held)
       remains
 
   tells_keep : (a w : States) → counted k.context p ≡ owned a → u.cell.note.permission ≡ owned w → AreAmong w a → (reads : List ReadItem) (holds : Bool)
@@ -291,7 +288,7 @@ module _ (program : SilicaProgram) (entry : Option ℕ) (beginning : Beginning) 
     ls = (permitted c reads p (owned (only s.0))).world.locked
 
     same_locks : ls ≡ c.world.locked
-    same_locks = (place_written program.table checked.table entry beginning c k.whole k.context (sits_running program.table entry beginning c k) p inside u (owned (only s.0)) (owned (only s.0)) reads).stays.locked
+    same_locks = (place_written program.table checked.table entry beginning c k.whole k.context (sits_holding program.table entry beginning c k) p inside u (owned (only s.0)) (owned (only s.0)) reads).stays.locked
 
     this_keeps : IsRunning program.table entry beginning (moved c (permitted c reads p (owned (only s.0))) branch (record { terms = rest; ends = test_end p } ∷ outer))
     this_keeps = begins_keep program.table checked.table entry beginning c k (and_term (test_form o s branch other join) span rest) outer so p inside u s.0 reads
@@ -300,8 +297,7 @@ module _ (program : SilicaProgram) (entry : Option ℕ) (beginning : Beginning) 
         (λ n. (let z = ap (times n) same_locks in omega (arith, z)))
         (inr (subst (λ i. 0 < one_if (nat_eq (self_of c.frame.slots) i)) (sym own) (let one = one_same (self_of c.frame.slots) in omega (arith, one))))
         (λ n. (let z = ap (times n) same_locks in let same = k.whole.locked n in let once = k.whole.locked_once n in omega (arith, z, same, once)))
-        (λ n some. subst (λ i. 0 < times i c.world.progress) (one_of (self_of c.frame.slots) n some) (k.shares held_shared).0)
-        (
+        (λ n some. subst (λ i. 0 < times i c.world.progress) (one_of (self_of c.frame.slots) n some) (k.shares held_shared).0) (
           itself,
           subst (λ i. IsTestOf b (with_locked (permitted c reads p (owned (only s.0))) ls) p i) (own ∙ sym begun_self)
               (test_begun program.table checked.table entry beginning c k (and_term (test_form o s branch other join) span rest) outer so p inside u s.0 reads
@@ -312,7 +308,7 @@ module _ (program : SilicaProgram) (entry : Option ℕ) (beginning : Beginning) 
         )
         first.passes.can.untested
         (λ held. absurd (let y : shared ≡ owned (only s.0) = sym held ∙ ap permission_in (sym (ap (cell_at (permitted c reads p (owned (only s.0)))) itself)
-        ∙ (place_written program.table checked.table entry beginning c k.whole k.context (sits_running program.table entry beginning c k) p inside u (owned (only s.0)) (owned (only s.0)) reads).itself) in cc))
+        ∙ (place_written program.table checked.table entry beginning c k.whole k.context (sits_holding program.table entry beginning c k) p inside u (owned (only s.0)) (owned (only s.0)) reads).itself) in cc))
         (begins_remain (test_end p) counts (inl refl))
       where
         begun_self : self_of (permitted c reads p (owned (only s.0))).slots ≡ self_of c.frame.slots
@@ -343,7 +339,7 @@ module _ (program : SilicaProgram) (entry : Option ℕ) (beginning : Beginning) 
     locks_now = object.0 ∷ (permitted c reads p (owned (only s.0))).world.locked
 
     were_locks : (permitted c reads p (owned (only s.0))).world.locked ≡ c.world.locked
-    were_locks = (place_written program.table checked.table entry beginning c k.whole k.context (sits_running program.table entry beginning c k) p inside u (owned (only s.0)) (owned (only s.0)) reads).stays.locked
+    were_locks = (place_written program.table checked.table entry beginning c k.whole k.context (sits_holding program.table entry beginning c k) p inside u (owned (only s.0)) (owned (only s.0)) reads).stays.locked
 
     lock_more : (n : ℕ) → one_if (nat_eq object.0 n) + times n c.world.locked ≡ times n locks_now
     lock_more n = let z = ap (times n) were_locks in omega (arith, z)
@@ -361,8 +357,7 @@ module _ (program : SilicaProgram) (entry : Option ℕ) (beginning : Beginning) 
         (λ n. refl) lock_more
         (inl (let more = lock_more object.0 in let one = one_same object.0 in omega (arith, more, one)))
         lock_once
-        (λ n some. absurd (omega (arith, some)))
-        (
+        (λ n some. absurd (omega (arith, some))) (
           elsewhere,
           test_begun program.table checked.table entry beginning c k (and_term (test_form o s branch other join) span rest) outer so p inside u s.0 reads
               object.0 object.1 sharing (marked_so sharing) (in_it holding) not_made locks_now,
@@ -394,11 +389,11 @@ module _ (program : SilicaProgram) (entry : Option ℕ) (beginning : Beginning) 
             (moved c (with_locked (permitted c reads p (owned (only s.0))) locks_now) branch (record { terms = rest; ends = lock_end p object.0 } ∷ outer)) 0
         this_shares held =
             let y = k.shares (⊎_elim (λ i. ap permission_in (sym i) ∙ held) (λ i. absurd (apart i.0))
-                (this_after program.table checked.table entry beginning c k.whole k.context (sits_running program.table entry beginning c k) p inside u (owned (only s.0)) (owned (only s.0)) reads)) in
+            (this_after program.table checked.table entry beginning c k.whole k.context (sits_holding program.table entry beginning c k) p inside u (owned (only s.0)) (owned (only s.0)) reads)) in
             let another : one_if (nat_eq object.0 (self_of c.frame.slots)) ≡ 0 = ⊎_elim
-                (λ i. absurd (let busy = subst (λ j. 0 < times j c.world.progress) (sym i.1) y.0 in let none = idle in omega (arith, busy, none)))
-                (λ i. ap one_if i.0)
-                (eqb_tells object.0 (self_of c.frame.slots)) in (
+            (λ i. absurd (let busy = subst (λ j. 0 < times j c.world.progress) (sym i.1) y.0 in let none = idle in omega (arith, busy, none)))
+            (λ i. ap one_if i.0)
+            (eqb_tells object.0 (self_of c.frame.slots)) in (
               subst (λ n. 0 < times n (permitted c reads p (owned (only s.0))).world.progress) (sym this_self)
                   (subst (λ l. 0 < times (self_of c.frame.slots) l) (sym this_progress) y.0),
               ⊎_elim

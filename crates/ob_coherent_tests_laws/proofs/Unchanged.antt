@@ -1,5 +1,5 @@
 -- A step that leaves all places of a frame as they are.
-use Rattle.std.proofs.Common.{◌≡◌, ℕ, ◌+◌, ◌<◌, ◌≤◌, List, [], ◌∷◌, Option, refl, sym, ap, ◌∙◌, subst, arith, inl}
+use Rattle.std.proofs.Common.{◌≡◌, ℕ, List, [], ◌∷◌, Option, refl, sym, ◌∙◌, subst, arith, inl}
 use Rattle.ob_table.specs.Tables.{ClassTable}
 use Rattle.ob_table_spec.specs.Conditions.{IsClassTable}
 use Rattle.ob_silica.specs.Terms.{SilicaTerms}
@@ -10,11 +10,11 @@ use Rattle.ob_silica_steps.specs.Here.{Here, here, self_of, read}
 use Rattle.ob_perm.specs.Permissions.{owns}
 use Rattle.ob_silica_formed.specs.Holdings.{Holdings}
 use Rattle.ob_flow_spec.specs.Contexts.{BodyFrame, Context}
-use Rattle.ob_coherent_spec.specs.Counting.{Counted, any, in_all, owners, references}
+use Rattle.ob_coherent_spec.specs.Counting.{Counted, any, in_all, owners}
 use Rattle.ob_coherent_spec.specs.Runs.{around}
 use Rattle.ob_coherent_spec.specs.Standing.{NeedsOwner}
 use Rattle.ob_coherent_spec.specs.Saying.{Says, every}
-use Rattle.ob_coherent_spec.specs.Remaining.{BodyParts, body_of, AreHeld, Remains}
+use Rattle.ob_coherent_spec.specs.Remaining.{body_of, AreHeld, Remains}
 use Rattle.ob_coherent_spec.specs.OpenTests.{IsTestOf, IsOpen, AreOpen}
 use Rattle.ob_coherent_spec.specs.Coherent.{Beginning, IsRunning}
 use Rattle.ob_coherent_counting_laws.proofs.Whole.{all_but_running}
