@@ -18,7 +18,8 @@ use Rattle.ob_coherent_places_laws.proofs.Handing.{sits_holding}
 module _ (table : ClassTable) (t : IsClassTable table) (entry : Option ℕ) (beginning : Beginning) (c : Configuration)
     (k : IsRunning table entry beginning c) where
   -- `this` is an object in run
-  pub own_in_run : IsObjectInRun table c.notes (self_of c.frame.slots) (nth_object c.world.objects (self_of c.frame.slots))
+  pub own_in_run : IsObjectInRun table c.notes (self_of c.frame.slots)
+      (nth_object c.world.objects (self_of c.frame.slots))
   own_in_run = k.whole.objects (self_of c.frame.slots) k.whole.frame.there
 
   -- what a place that can be read has
@@ -28,7 +29,8 @@ module _ (table : ClassTable) (t : IsClassTable table) (entry : Option ℕ) (beg
 
   -- a frame reads what stands at a place
   pub reads_it : (p : Location) (x : Cell) → cell_at (here c) p ≡ Some x → read table (here c) p ≡ Some x
-  reads_it p x e = sits_read table t c.frame k.whole.parts (here c) k.context (sits_holding table entry beginning c k) p ∙ e
+  reads_it p x e = sits_read table t c.frame k.whole.parts (here c) k.context (sits_holding table entry beginning c k) p
+      ∙ e
 
   -- what is noted of it is so
   pub stands_at : (p : Location) (x : Cell) → cell_at (here c) p ≡ Some x → Stands table c.world.objects x

@@ -26,7 +26,8 @@ use Rattle.ob_coherent_places_laws.proofs.Reading.{kind_in_run}
 use Rattle.ob_coherent_tests_laws.proofs.Finding.{own_in_run}
 
 -- a place that a body names is one of its places
-pub place_inside : (b : BodyFrame) (p : Place) → slots_of_place p ≤ b.slots → IsPlace (static_of b) p → IsPlaceIn b (location_of p)
+pub place_inside : (b : BodyFrame) (p : Place) → slots_of_place p ≤ b.slots → IsPlace (static_of b) p
+    → IsPlaceIn b (location_of p)
 place_inside b This few there = omega (arith, few)
 place_inside b (Slot k) few there = omega (arith, few)
 place_inside b (FieldPlace f) few there = by_field (slice_get b.own.fields f.0) refl there
@@ -41,11 +42,16 @@ module _ (table : ClassTable) (t : IsClassTable table) (entry : Option ℕ) (beg
   pub kind_found : (p : Place) (x : Cell) (kind : Kind) → cell_at (here c) (location_of p) ≡ Some x
       → kind_of_place (static_of (body_of table c.frame k.whole.parts)) k.holdings p ≡ Some kind → x.note.kind ≡ kind
   kind_found This x kind e is =
-      ap (λ (y : Cell). y.note.kind) (same_Some x k.whole.frame.this (sym e ∙ k.whole.frame.set)) ∙ k.whole.frame.kind ∙ same_Some (Reference c.frame.contract) kind is
+      ap (λ (y : Cell). y.note.kind) (same_Some x k.whole.frame.this (sym e ∙ k.whole.frame.set)) ∙ k.whole.frame.kind
+      ∙ same_Some (Reference c.frame.contract) kind is
   kind_found (Slot n) x kind e is = (k.held n x refl e).kind kind is
   kind_found (FieldPlace f) x kind e is =
-      let r = kind_in_run table c.notes c.world.objects (self_of c.frame.slots) (own_in_run table t entry beginning c k) f.0 x e in
+      let r = kind_in_run table c.notes c.world.objects (self_of c.frame.slots)
+      (own_in_run table t entry beginning c k) f.0 x e in
       let own : (own_in_run table t entry beginning c k).own ≡ k.whole.parts.own
-      = same_Some (own_in_run table t entry beginning c k).own k.whole.parts.own (sym (own_in_run table t entry beginning c k).contract ∙ ap (contract_at table) k.whole.frame.contract ∙ k.whole.frame.own) in
+      = same_Some (own_in_run table t entry beginning c k).own k.whole.parts.own
+      (sym (own_in_run table t entry beginning c k).contract ∙ ap (contract_at table) k.whole.frame.contract
+      ∙ k.whole.frame.own) in
       r.4 ∙ same_Some (kind_of_resolved r.1.of) kind
-      (sym (ap (option_map (λ (x : Field). kind_of_resolved x.of)) (ap (λ (o : Contract). slice_get o.fields f.0) (sym own) ∙ r.2)) ∙ is)
+      (sym (ap (option_map (λ (x : Field). kind_of_resolved x.of))
+      (ap (λ (o : Contract). slice_get o.fields f.0) (sym own) ∙ r.2)) ∙ is)

@@ -37,7 +37,8 @@ allowed_owner (owned a) q e (b, is, sub) = ap owns is
 allowed_owner shared q e al = absurd (true≢false (sym e))
 allowed_owner unowned q e al = absurd (true≢false (sym e))
 
-module _ (table : ClassTable) (t : IsClassTable table) (f : SilicaFrame) (parts : BodyParts) (h : Here) (g : Context) (s : Sits table f parts h g)
+module _ (table : ClassTable) (t : IsClassTable table) (f : SilicaFrame) (parts : BodyParts) (h : Here) (g : Context)
+    (s : Sits table f parts h g)
     (p : Location) (m : ℕ) (a : IsTestOf (body_of table f parts) h p m) where
   there : cell_at h p ≡ Some a.cell
   there = sym (read_is table h s.frame.there s.object p) ∙ a.found
@@ -51,23 +52,29 @@ module _ (table : ClassTable) (t : IsClassTable table) (f : SilicaFrame) (parts 
 
   -- a place under test that still owns has a cell that owns the tested object
   pub tested_found : owns (permission_at g p) ≡ true → Found (NeedsOwner table h.world.objects) (g p) (cell_at h p)
-  tested_found owner = found (NeedsOwner table h.world.objects) (g p) (cell_at h p) (owner_set (g p) owner) (said p there)
+  tested_found owner = found (NeedsOwner table h.world.objects) (g p) (cell_at h p) (owner_set (g p) owner)
+      (said p there)
 
   pub tested_refers : (u : Found (NeedsOwner table h.world.objects) (g p) (cell_at h p)) → u.cell.value ≡ reference m
   tested_refers u = ap (λ (x : Cell). x.value) (same_Some u.cell a.cell (sym u.is ∙ there)) ∙ a.object
 
-  pub tested_owner : (u : Found (NeedsOwner table h.world.objects) (g p) (cell_at h p)) → owns (permission_at g p) ≡ true → owns u.cell.note.permission ≡ true
-  tested_owner u owner = allowed_owner u.note.permission u.cell.note.permission (ap (λ y. owns (permission_on y)) (sym u.told) ∙ owner) u.permission
+  pub tested_owner : (u : Found (NeedsOwner table h.world.objects) (g p) (cell_at h p))
+      → owns (permission_at g p) ≡ true → owns u.cell.note.permission ≡ true
+  tested_owner u owner = allowed_owner u.note.permission u.cell.note.permission
+      (ap (λ y. owns (permission_on y)) (sym u.told) ∙ owner) u.permission
 
 none_entered : (n : ℕ) (hs : List Waiting) → EachSelf (λ i. i ≢ n) hs → entered_among n hs ≡ 0
 none_entered n [] each = refl
-none_entered n (h ∷ hs) each = let a = entered_other n h.frame.how h.frame.slots each.0 in let b = none_entered n hs each.1 in omega (arith, a, b)
+none_entered n (h ∷ hs) each = let a = entered_other n h.frame.how h.frame.slots each.0 in
+    let b = none_entered n hs each.1 in omega (arith, a, b)
 
 -- no test is open of the object of a constructor that runs
-pub test_not_made : (table : ClassTable) (entry : Option ℕ) (beginning : Beginning) (c : Configuration) → Holds table entry beginning c
+pub test_not_made : (table : ClassTable) (entry : Option ℕ) (beginning : Beginning) (c : Configuration)
+    → Holds table entry beginning c
     → 0 < open_tests (self_of c.frame.slots) c → c.frame.how ≢ by_new
 test_not_made table entry beginning c k some made =
-    let far = apart_from_above table _ c c.frame k.parts _ _ c.stack (self_of c.frame.slots) (inl refl) (λ e. absurd (let z : by_new ≡ by_this = sym made ∙ e in cc)) k.waiting in
+    let far = apart_from_above table _ c c.frame k.parts _ _ c.stack (self_of c.frame.slots) (inl refl)
+    (λ e. absurd (let z : by_new ≡ by_this = sym made ∙ e in cc)) k.waiting in
     let none = none_entered (self_of c.frame.slots) c.stack far in
     let busy = k.tested (self_of c.frame.slots) some in
     let same = k.progress (self_of c.frame.slots) in
