@@ -1,0 +1,17 @@
+pub mod Sums
+pub mod Objects
+pub mod Cells
+pub mod Places
+pub mod Numbers
+pub mod Marking
+pub mod Writing
+pub mod Whole
+pub mod Frames
+pub mod NextNumber
+pub mod Low
+pub mod Permitting
+pub mod Testing
+pub mod Lending
+pub mod Entering
+pub mod Changing
+pub mod Passing

@@ -1,0 +1,13 @@
+pub mod Objects
+pub mod Reading
+pub mod Writing
+pub mod Standing
+pub mod Keeping
+pub mod Finding
+pub mod Carrying
+pub mod Getting
+pub mod Handing
+pub mod Holding
+pub mod Alike
+pub mod Changed
+pub mod Filling
