@@ -4,3 +4,4 @@ pub mod Writing
 pub mod Standing
 pub mod Keeping
 pub mod Finding
+pub mod Carrying
