@@ -3,5 +3,7 @@ pub mod Near
 pub mod Entered
 pub mod Others
 pub mod Whole
+pub mod After
+pub mod Quiet
 pub mod Own
 pub mod Apart

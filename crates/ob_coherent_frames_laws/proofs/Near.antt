@@ -28,7 +28,7 @@ use Rattle.ob_coherent_spec.specs.Standing.{Stands, IsOfKind, RefersToShared, Re
 use Rattle.ob_coherent_spec.specs.Saying.{SaysOf, Says}
 use Rattle.ob_coherent_spec.specs.Remaining.{BodyParts, body_of}
 use Rattle.ob_coherent_spec.specs.OpenTests.{IsTestOf, IsOpen, AreOpen, EndsNoField, TestNoField}
-use Rattle.ob_coherent_spec.specs.Waiting.{IsFrame, tests_of, SharesThis, is_lent, is_result, is_on_this, is_settled, waiting_here, IsLoan, AreLoans, LendNoField, IsNotAmong, IsApart, gives_back_by, AwaitsResult, AllLend, Waits, AllWait}
+use Rattle.ob_coherent_spec.specs.Waiting.{IsFrame, tests_of, SharesThis, is_lent, is_result, is_on_this, is_settled, waiting_here, IsLoan, AreLoans, LendNoField, IsNotAmong, IsApart, gives_back_by, AwaitsResult, Waits, AllWait}
 use Rattle.ob_coherent_frames_laws.specs.Steps.{KeepsArgument}
 use Rattle.ob_coherent_frames_laws.proofs.Cells.{each_zero, object_there, same_field_value, same_seen, same_has_state, owns_counted, owned_there, reference_there, says_less}
 
@@ -109,12 +109,6 @@ same_gift : (how : How) (f : SilicaFrame) (slots : SlotCells) (parts : BodyParts
 same_gift by_receiver f slots parts = refl
 same_gift by_this f slots parts = refl
 same_gift by_new f slots parts = refl
-
--- what a frame has lent doesn't depend on the callee's slots
-pub lends_with : (table : ClassTable) (f : SilicaFrame) (slots : SlotCells) (hs : List Waiting) → AllLend table f hs
-    → AllLend table (frame_with f slots) hs
-lends_with table f slots [] a = tt
-lends_with table f slots (h ∷ hs) a = (record { owners = a.0.owners; made = a.0.made }, a.1)
 
 module _ (table : ClassTable) (i : ℕ) (stays : ℕ → Type 0) (N M : ℕ → Type 0) (c d : Configuration)
     (near : IsNear table i stays N M c d) where

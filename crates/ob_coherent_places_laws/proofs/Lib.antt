@@ -5,3 +5,5 @@ pub mod Standing
 pub mod Keeping
 pub mod Finding
 pub mod Carrying
+pub mod Getting
+pub mod Handing
