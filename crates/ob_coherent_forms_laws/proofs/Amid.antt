@@ -107,7 +107,7 @@ module _ (table : ClassTable) (t : IsClassTable table) (entry : Option ℕ) (beg
         this_shared : permission_in (h.slots 0) ≡ shared → (permission_in (c.frame.slots 0) ≡ shared)
             ⊎ ((0 < times (self_of c.frame.slots) c.world.progress) × (owners (self_of c.frame.slots) (moved c h rest outer) ≡ 0))
         this_shared e = ⊎_elim
-            (λ made. absurd (both_ways _ (sym (ap owns e)) (sym (a.sits.owns_made made))))
+            (λ made. absurd (both_ways _ (ap owns e) (a.sits.owns_made made)))
             (λ not. ⊎_elim
             (λ was. inl (ap permission_in k.whole.frame.set ∙ was))
             (λ gone. inr (innermost_in_progress table entry beginning c k.whole not, gone (self_of c.frame.slots) k.whole.frame.refers))
