@@ -7,3 +7,6 @@ pub mod Finding
 pub mod Carrying
 pub mod Getting
 pub mod Handing
+pub mod Holding
+pub mod Alike
+pub mod Changed
