@@ -2,3 +2,4 @@ pub mod Amid
 pub mod Slots
 pub mod Operations
 pub mod Straight
+pub mod Referring

@@ -261,7 +261,7 @@ module _ (program : SilicaProgram) (checked : IsCheckedProgram program) (entry :
 
     pub assert_keeps : (o : Operand) (perm : Perm) → c.control ≡ runs (and_term (assert_form o perm) span rest) outer
         → StepsSo program.table entry beginning (act program (assert_form o perm) rest outer c)
-    assert_keeps o perm so = running (unchanged_keeps program.table entry beginning c k (and_term (assert_form o perm) span rest) outer so checked.table rest outer
+    assert_keeps o perm so = running (unchanged_keeps program.table entry beginning c k (and_term (assert_form o perm) span rest) outer so checked.table c.world.reads rest outer
         (opens_so program.table entry beginning c k (and_term (assert_form o perm) span rest) outer so)
         (record { locks = λ n. refl; tests = λ n. refl }) k.context k.says k.holdings k.held
         (after (assert_form o perm) span rest outer so k.context (first (assert_form o perm) span rest outer so).passes.1))
