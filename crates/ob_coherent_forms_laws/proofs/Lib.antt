@@ -3,3 +3,4 @@ pub mod Slots
 pub mod Operations
 pub mod Straight
 pub mod Referring
+pub mod Moving
