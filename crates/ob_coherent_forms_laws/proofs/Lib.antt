@@ -4,3 +4,4 @@ pub mod Operations
 pub mod Straight
 pub mod Referring
 pub mod Moving
+pub mod Fields
