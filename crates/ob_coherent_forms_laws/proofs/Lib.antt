@@ -5,3 +5,4 @@ pub mod Straight
 pub mod Referring
 pub mod Moving
 pub mod Fields
+pub mod Filling
