@@ -6,3 +6,4 @@ pub mod Referring
 pub mod Moving
 pub mod Fields
 pub mod Filling
+pub mod Forms
