@@ -53,10 +53,10 @@ use Rattle.ob_coherent_places_laws.proofs.Reading.{self_is, field_of_is, kind_in
 use Rattle.ob_coherent_places_laws.proofs.Writing.{field_written, field_marks}
 use Rattle.ob_coherent_places_laws.proofs.Keeping.{own_state}
 use Rattle.ob_coherent_places_laws.proofs.Standing.{stands_stay, needs_stay, says_of_less}
-use Rattle.ob_coherent_places_laws.proofs.Finding.{own_is, field_now, available_now}
+use Rattle.ob_coherent_places_laws.proofs.Finding.{sits_read, own_is, field_now, available_now}
 use Rattle.ob_coherent_places_laws.proofs.Getting.{kind_up}
 use Rattle.ob_coherent_tests_laws.proofs.Operands.{place_inside}
-use Rattle.ob_coherent_tests_laws.proofs.Finding.{stands_at, read_there}
+use Rattle.ob_coherent_tests_laws.proofs.Finding.{stands_at}
 use Rattle.ob_coherent_tests_laws.proofs.Unchanged.{opens_so}
 use Rattle.ob_coherent_forms_laws.proofs.Amid.{Amid, Counts, sits, amid_first, amid_written, form_done}
 use Rattle.ob_coherent_forms_laws.proofs.Operations.{plain_serves}
@@ -150,7 +150,7 @@ module _ (program : SilicaProgram) (checked : IsCheckedProgram program) (entry :
     untested_field : is_tested (tested_places outer) (field n) ≡ false
     untested_field = ⊎_elim
         (λ e. let r = tested_refers (body_of program.table c.frame k.whole.parts) (here c) outer (field n) (opens_so program.table entry beginning c k terms outer so) e in
-        absurd (was_plain r.cell (read_there program.table checked.table entry beginning c k (field n) r.cell r.found) r.number r.object))
+        absurd (was_plain r.cell (sym (sits_read program.table checked.table c.frame k.whole.parts (here c) k.context (sits program.table checked.table entry beginning c k) (field n)) ∙ r.found) r.number r.object))
         (λ e. e)
         (cases_Bool (is_tested (tested_places outer) (field n)))
 
