@@ -1,6 +1,6 @@
 -- What is so of a frame amid a straight form, and how a coherent configuration follows where the form is at its end.
-use Rattle.std.proofs.Common.{◌≡◌, ◌≢◌, ℕ, ◌+◌, ◌<◌, ◌≤◌, ◌⊎◌, inl, inr, ⊎_elim, true, false, List, length, Option, Some, None, refl, sym, ap, ◌∙◌, subst, arith}
-use Rattle.std.proofs.lemmas.Bool.{cases_Bool, both_ways}
+use Rattle.std.proofs.Common.{◌≡◌, ℕ, ◌+◌, ◌<◌, ◌≤◌, ◌⊎◌, inl, inr, ⊎_elim, true, false, List, length, Option, Some, refl, sym, ap, ◌∙◌, subst, arith}
+use Rattle.std.proofs.lemmas.Bool.{both_ways}
 use Rattle.ob_perm.specs.Permissions.{shared, owns}
 use Rattle.ob_table.specs.Tables.{ClassTable}
 use Rattle.ob_table_spec.specs.Conditions.{IsClassTable}
@@ -8,12 +8,12 @@ use Rattle.ob_heap_spec.specs.Values.{reference}
 use Rattle.ob_silica.specs.Terms.{SilicaTerms}
 use Rattle.ob_silica_formed.specs.Holdings.{Holdings}
 use Rattle.ob_silica_places.specs.Known.{Known}
-use Rattle.ob_silica_places.specs.Places.{Location, slot, field, this}
+use Rattle.ob_silica_places.specs.Places.{Location, slot, this}
 use Rattle.ob_silica_steps.specs.Cells.{Cell, permission_in}
 use Rattle.ob_silica_steps.specs.Configurations.{by_new, Rest, Control, runs, Configuration}
 use Rattle.ob_silica_steps.specs.Here.{Here, here, self_of}
 use Rattle.ob_flow_spec.specs.Contexts.{Context, put, is_tested}
-use Rattle.ob_coherent_spec.specs.Counting.{nth_object, field_cell, Counted, any, in_all, owners, references}
+use Rattle.ob_coherent_spec.specs.Counting.{nth_object, field_cell, Counted, any, in_all, owners}
 use Rattle.ob_coherent_spec.specs.Runs.{times, around, constructions, tested_places}
 use Rattle.ob_coherent_spec.specs.Standing.{Stands, AllStand, IsObjectInRun, NeedsOwner}
 use Rattle.ob_coherent_spec.specs.Saying.{SaysOf, own_object}
@@ -22,7 +22,7 @@ use Rattle.ob_coherent_spec.specs.Coherent.{Beginning, IsRunning, IsCoherent, ru
 use Rattle.ob_coherent_spec.specs.Saying.{every}
 use Rattle.ob_coherent_counting_laws.proofs.Whole.{all_but_running}
 use Rattle.ob_coherent_counting_laws.proofs.Writing.{in_here}
-use Rattle.ob_coherent_frames_laws.specs.Steps.{moved, KeepsArgument, IsQuietStep}
+use Rattle.ob_coherent_frames_laws.specs.Steps.{moved, IsQuietStep}
 use Rattle.ob_coherent_frames_laws.proofs.Entered.{innermost_in_progress}
 use Rattle.ob_coherent_frames_laws.proofs.Own.{EndsSame, quiet_step_keeps}
 use Rattle.ob_coherent_places_laws.specs.Placed.{cell_at, Stays, Written, Sits, IsAlike, SlotsKept, HasRoom, TellsThis}

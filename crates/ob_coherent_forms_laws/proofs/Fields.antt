@@ -1,44 +1,35 @@
 -- A field of `this` gets a copy of a value, or a reference that is moved.
-use Rattle.std.proofs.Common.{◌≡◌, ◌≢◌, ℕ, zero, suc, ◌+◌, ◌<◌, ◌≤◌, nat_eq, ◌&&◌, true, false, Bool, List, length, Option, Some, None, Ok, refl, sym, ap, ◌∙◌, subst, arith, true≢false, ◌⊎◌, inl, inr, ⊎_elim}
-use Rattle.std.specs.Prelude.{max, slice_get, option_map, option_and_then, IfSome, if◌then◌else◌}
+use Rattle.std.proofs.Common.{◌≡◌, ◌≢◌, ℕ, ◌+◌, true, false, Bool, List, Option, Some, None, refl, sym, ap, ◌∙◌, subst, arith, true≢false, inl, ⊎_elim}
+use Rattle.std.specs.Prelude.{slice_get, option_map, option_and_then, if◌then◌else◌}
 use Rattle.std.specs.Option.{option_map_or}
-use Rattle.std.proofs.lemmas.Bool.{both_ways, and_left, cases_Bool}
-use Rattle.std.proofs.lemmas.Bool.Decides.{eqb_tells}
+use Rattle.std.proofs.lemmas.Bool.{both_ways, cases_Bool}
 use Rattle.std.proofs.lemmas.Option.{same_Some, slice_get_within}
 use Rattle.ob_base.specs.declared.fault.Span.{Span}
-use Rattle.ob_base.specs.declared.id.ContractId.{ContractId}
 use Rattle.ob_base.specs.declared.id.FieldId.{FieldId}
-use Rattle.ob_perm.specs.Permissions.{Permission, owned, shared, unowned, owns, kept, fits}
+use Rattle.ob_perm.specs.Permissions.{unowned, owns}
 use Rattle.ob_table.specs.Tables.{ClassTable, contract_at, field_at}
 use Rattle.ob_table.specs.declared.contract.Contract.{Contract}
 use Rattle.ob_table.specs.declared.contract.Field.{Field}
-use Rattle.ob_table.specs.declared.contract.ResolvedType.{ResolvedType}
 use Rattle.ob_table.specs.declared.contract.ResolvedType.TheVariants.{Int as IntType}
 use Rattle.ob_table.specs.declared.seen.Kind.{Kind}
 use Rattle.ob_table.specs.declared.seen.Kind.TheVariants.{Int, Bool as BoolKind, Text, Reference}
 use Rattle.ob_table_spec.specs.WellFormed.{is_reference, serves_as, kind_of_resolved}
 use Rattle.ob_heap_spec.specs.Values.{Value, reference}
-use Rattle.ob_heap_spec.specs.Objects.{Object, is_available, state_number}
-use Rattle.ob_heap_spec.specs.Worlds.{World}
-use Rattle.ob_silica.specs.Slots.{slots_of_form, slots_of_operand}
-use Rattle.ob_silica.specs.Terms.{SilicaTerms, copy_form, move_form, and_term}
+use Rattle.ob_heap_spec.specs.Objects.{Object, is_available}
+use Rattle.ob_silica.specs.Terms.{SilicaTerms, copy_form, and_term}
 use Rattle.ob_silica.specs.declared.place.Operand.{Operand}
-use Rattle.ob_silica.specs.declared.place.Place.TheVariants.{This, Slot, Field as FieldPlace}
-use Rattle.ob_silica_places.specs.Converting.{converted, gotten}
-use Rattle.ob_silica_places.specs.Known.{Known, known, at, permission_of_type}
-use Rattle.ob_silica_places.specs.Places.{Location, slot, field, this, same_location, located}
-use Rattle.ob_silica_steps.specs.Cells.{Cell, cell, plain_cell, noted}
-use Rattle.ob_silica_steps.specs.Configurations.{SilicaProgram, by_new, Rest, runs, Configuration}
-use Rattle.ob_silica_steps.specs.Getting.{got_from}
-use Rattle.ob_silica_steps.specs.Here.{Here, here, self, self_of, field_of, read, set_field, hand, counted as counts_as}
+use Rattle.ob_silica.specs.declared.place.Place.TheVariants.{Field as FieldPlace}
+use Rattle.ob_silica_places.specs.Known.{Known, known}
+use Rattle.ob_silica_places.specs.Places.{slot, field}
+use Rattle.ob_silica_steps.specs.Cells.{Cell, plain_cell}
+use Rattle.ob_silica_steps.specs.Configurations.{SilicaProgram, Rest, runs, Configuration}
+use Rattle.ob_silica_steps.specs.Here.{Here, here, self_of, field_of, set_field}
 use Rattle.ob_silica_steps.specs.Straight.{available_field}
 use Rattle.ob_silica_steps.specs.Steps.{act}
-use Rattle.ob_silica_formed.specs.Holdings.{Holdings}
 use Rattle.ob_silica_formed.specs.Points.{HasKind}
-use Rattle.ob_flow_spec.specs.Contexts.{BodyFrame, Context, put, type_of_field, declared_permission, permission_at, counted, accessible, is_owned_asset, is_tested}
-use Rattle.ob_flow_spec.specs.Filling.{after_fill, got}
+use Rattle.ob_flow_spec.specs.Contexts.{BodyFrame, Context, put, type_of_field, is_tested}
 use Rattle.ob_places_laws.proofs.Tables.{there_is, if_there_so}
-use Rattle.ob_coherent_spec.specs.Counting.{nth_object, Counted, any, in_cell, owners}
+use Rattle.ob_coherent_spec.specs.Counting.{Counted, any, in_cell}
 use Rattle.ob_coherent_spec.specs.Runs.{tested_places}
 use Rattle.ob_coherent_spec.specs.Standing.{Stands, IsOfKind, NeedsOwner}
 use Rattle.ob_coherent_spec.specs.Saying.{SaysOf, own_object}
@@ -48,20 +39,18 @@ use Rattle.ob_coherent_counting_laws.proofs.Cells.{cell_other}
 use Rattle.ob_coherent_counting_laws.proofs.Low.{place_low}
 use Rattle.ob_coherent_counting_laws.proofs.Writing.{IsLow, in_here, here_field}
 use Rattle.ob_coherent_frames_laws.specs.Steps.{moved}
-use Rattle.ob_coherent_places_laws.specs.Placed.{Found, Sits, Written, HasRoom, cell_at}
-use Rattle.ob_coherent_places_laws.proofs.Reading.{self_is, field_of_is, kind_in_run, read_is}
+use Rattle.ob_coherent_places_laws.specs.Placed.{Sits, HasRoom, cell_at}
+use Rattle.ob_coherent_places_laws.proofs.Reading.{self_is, field_of_is, kind_in_run}
 use Rattle.ob_coherent_places_laws.proofs.Writing.{field_written, field_marks}
 use Rattle.ob_coherent_places_laws.proofs.Keeping.{own_state}
-use Rattle.ob_coherent_places_laws.proofs.Standing.{stands_stay, needs_stay, says_of_less}
-use Rattle.ob_coherent_places_laws.proofs.Finding.{sits_read, own_is, field_now, available_now}
+use Rattle.ob_coherent_places_laws.proofs.Standing.{stands_stay}
+use Rattle.ob_coherent_places_laws.proofs.Finding.{sits_read, own_is, field_now}
 use Rattle.ob_coherent_places_laws.proofs.Getting.{kind_up}
-use Rattle.ob_coherent_tests_laws.proofs.Operands.{place_inside}
 use Rattle.ob_coherent_tests_laws.proofs.Finding.{stands_at}
 use Rattle.ob_coherent_tests_laws.proofs.Unchanged.{opens_so}
-use Rattle.ob_coherent_forms_laws.proofs.Amid.{Amid, Counts, sits, amid_first, amid_written, form_done}
-use Rattle.ob_coherent_forms_laws.proofs.Operations.{plain_serves}
-use Rattle.ob_coherent_forms_laws.proofs.Slots.{plain_value, plain_none, tested_refers, Refers}
-use Rattle.ob_coherent_forms_laws.proofs.Straight.{plain_stands, plain_says, first, formed, few, after, operand_found, operand_read, operand_stands, operand_kind}
+use Rattle.ob_coherent_forms_laws.proofs.Amid.{Amid, sits, amid_first, amid_written, form_done}
+use Rattle.ob_coherent_forms_laws.proofs.Slots.{plain_value, plain_none, tested_refers}
+use Rattle.ob_coherent_forms_laws.proofs.Straight.{plain_stands, plain_says, first, formed, after, operand_found, operand_read, operand_stands, operand_kind}
 
 -- what serves as a kind of no reference isn't wanted as one
 serves_plain : (table : ClassTable) (wanted has : Kind) → is_reference has ≡ false → serves_as table wanted has ≡ true → is_reference wanted ≡ false
@@ -198,8 +187,8 @@ module _ (program : SilicaProgram) (checked : IsCheckedProgram program) (entry :
       let u = operand_found program checked entry beginning c k from ps.0.usable.readable in
       let f = field_now program.table checked.table c.frame k.whole.parts (here c) k.context (sits program.table checked.table entry beginning c k) id.0 (ps.0.reached id.0 refl) in
       let has = if_there_so (option_map (λ (x : Field). kind_of_resolved x.of) (field_at k.whole.parts.own id))
-          (λ kind. HasKind (static_of (body_of program.table c.frame k.whole.parts)) k.holdings kind from) (kind_of_resolved f.0.of)
-          (ap (option_map (λ (x : Field). kind_of_resolved x.of)) f.1) w.kinds.1 in
+      (λ kind. HasKind (static_of (body_of program.table c.frame k.whole.parts)) k.holdings kind from) (kind_of_resolved f.0.of)
+      (ap (option_map (λ (x : Field). kind_of_resolved x.of)) f.1) w.kinds.1 in
       let r = there_is _ _ has in
       let no = there_is _ _ w.kinds.0 in
       let is = operand_kind program checked entry beginning c k from ps.0.usable.readable r.0 r.1 in

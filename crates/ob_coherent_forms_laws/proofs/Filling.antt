@@ -1,17 +1,15 @@
 -- A field of `this` is filled with a reference that is moved.
-use Rattle.std.proofs.Common.{◌≡◌, ◌≢◌, ℕ, zero, suc, ◌+◌, ◌<◌, ◌≤◌, nat_eq, ◌&&◌, true, false, Bool, List, length, Option, Some, None, Ok, refl, sym, ap, ◌∙◌, subst, arith, true≢false, ◌⊎◌, inl, inr, ⊎_elim}
+use Rattle.std.proofs.Common.{◌≡◌, ◌≢◌, ℕ, ◌+◌, ◌<◌, ◌≤◌, true, false, List, Option, Some, None, refl, sym, ap, ◌∙◌, subst, arith, true≢false, ◌⊎◌, inl, inr, ⊎_elim}
 use Rattle.std.specs.Prelude.{max, slice_get, option_map}
 use Rattle.std.proofs.lemmas.Bool.{both_ways, and_left, and_from, cases_Bool}
-use Rattle.std.proofs.lemmas.Option.{same_Some}
 use Rattle.ob_base.specs.declared.fault.Span.{Span}
 use Rattle.ob_base.specs.declared.id.ContractId.{ContractId}
 use Rattle.ob_base.specs.declared.id.FieldId.{FieldId}
 use Rattle.ob_perm.specs.States.{states_max}
 use Rattle.ob_perm.specs.Permissions.{Permission, owned, shared, unowned, owns, is_shared, kept, fits}
-use Rattle.ob_table.specs.Tables.{ClassTable, field_at}
+use Rattle.ob_table.specs.Tables.{field_at}
 use Rattle.ob_table.specs.declared.contract.Field.{Field}
 use Rattle.ob_table.specs.declared.contract.ResolvedType.{ResolvedType}
-use Rattle.ob_table.specs.declared.seen.Kind.{Kind}
 use Rattle.ob_table_spec.specs.WellFormed.{serves_as, kind_of_resolved}
 use Rattle.ob_heap_spec.specs.Values.{reference}
 use Rattle.ob_heap_spec.specs.Objects.{is_available, state_number}
@@ -26,7 +24,7 @@ use Rattle.ob_silica_places.specs.Places.{Location, field, this, located}
 use Rattle.ob_silica_steps.specs.Cells.{Cell, noted}
 use Rattle.ob_silica_steps.specs.Configurations.{SilicaProgram, by_new, Rest, runs, Configuration}
 use Rattle.ob_silica_steps.specs.Getting.{got_from}
-use Rattle.ob_silica_steps.specs.Here.{Here, here, self_of, set_field, hand, counted as counts_as}
+use Rattle.ob_silica_steps.specs.Here.{Here, here, set_field, hand, counted as counts_as}
 use Rattle.ob_silica_steps.specs.Steps.{act}
 use Rattle.ob_silica_formed.specs.Points.{HasKind}
 use Rattle.ob_flow_spec.specs.Contexts.{BodyFrame, Context, TestedPlaces, put, type_of_field, permission_at, counted, available, is_owned_asset, is_tested}
@@ -61,12 +59,12 @@ use Rattle.ob_coherent_places_laws.proofs.Handing.{said_fits, filled_says, gives
 use Rattle.ob_coherent_places_laws.proofs.Holding.{held_noted}
 use Rattle.ob_coherent_tests_laws.proofs.Operands.{place_inside}
 use Rattle.ob_coherent_tests_laws.proofs.Finding.{stands_at}
-use Rattle.ob_coherent_forms_laws.proofs.Amid.{Amid, Counts, sits, counted_all, form_done}
+use Rattle.ob_coherent_forms_laws.proofs.Amid.{Amid, sits, counted_all, form_done}
 use Rattle.ob_coherent_forms_laws.proofs.Slots.{no_asset}
 use Rattle.ob_coherent_forms_laws.proofs.Referring.{made_unreferred}
 use Rattle.ob_coherent_forms_laws.proofs.Straight.{first, formed, few, after, operand_found, operand_read, operand_kind}
 use Rattle.ob_coherent_forms_laws.proofs.Moving.{kept_shares, used_other, low_place, is_counted, allowed, is_owner, amid_noted}
-use Rattle.ob_coherent_forms_laws.proofs.Fields.{declared_type, field_found, inside_field, low_field, amid_field}
+use Rattle.ob_coherent_forms_laws.proofs.Fields.{declared_type, field_found, low_field, amid_field}
 
 -- What fills a field.
 
@@ -194,7 +192,7 @@ module _ (program : SilicaProgram) (checked : IsCheckedProgram program) (entry :
       let a = counts_filled m in let b = counts_handed m in let z = handed_none e m in let z0 = z.0 in let z1 = z.1 in
       let one = k.whole.one_owner m in
       let all = counted_all program.table checked.table entry beginning c k terms outer so owns m filled rest
-          (stays_onward (here c) handed filled handed_written.stays then_written.stays) in
+      (stays_onward (here c) handed filled handed_written.stays then_written.stays) in
       let had = cell_counted owns m u.cell owner is in
       omega (arith, a, b, z0, z1, one, all, had)
 
@@ -314,12 +312,12 @@ module _ (program : SilicaProgram) (checked : IsCheckedProgram program) (entry :
       let f = field_now program.table checked.table c.frame k.whole.parts (here c) k.context (sits program.table checked.table entry beginning c k) id.0 ps.0.reached in
       let same = declared_type b id.0 f.0 f.1 in
       let has = if_there_so (option_map (λ (x : Field). kind_of_resolved x.of) (field_at k.whole.parts.own id))
-          (λ kind. HasKind (static_of b) k.holdings kind from) (kind_of_resolved f.0.of)
-          (ap (option_map (λ (x : Field). kind_of_resolved x.of)) f.1) w.kinds.1 in
+      (λ kind. HasKind (static_of b) k.holdings kind from) (kind_of_resolved f.0.of)
+      (ap (option_map (λ (x : Field). kind_of_resolved x.of)) f.1) w.kinds.1 in
       let r = there_is _ _ has in
       let is = operand_kind program checked entry beginning c k from used.readable r.0 r.1 in
       let serves : serves_as program.table (kind_of_resolved (type_of_field b id.0)) u.cell.note.kind ≡ true =
-          ap (λ o. serves_as program.table (kind_of_resolved o) u.cell.note.kind) same ∙ ap (serves_as program.table (kind_of_resolved f.0.of)) is ∙ r.2 in
+      ap (λ o. serves_as program.table (kind_of_resolved o) u.cell.note.kind) same ∙ ap (serves_as program.table (kind_of_resolved f.0.of)) is ∙ r.2 in
       rw (operand_read program checked entry beginning c k from used.readable, field_found program checked entry beginning c k id.0 f.0 f.1 f.2)
       (subst (λ o. IsCoherent program.table entry beginning
       (moved c (set_field id.0 (got_from program.table o (here c) (located from) u.cell) (hand o (located from) u.cell (here c))) rest outer)) same

@@ -1,7 +1,7 @@
 -- A reference is moved to a slot of the frame's own; ownership is given up.
-use Rattle.std.proofs.Common.{◌≡◌, ◌≢◌, ℕ, zero, suc, ◌+◌, ◌<◌, ◌≤◌, nat_eq, ◌&&◌, true, false, Bool, List, length, Option, Some, None, Ok, refl, sym, ap, ◌∙◌, subst, arith, true≢false, ◌⊎◌, inl, inr, ⊎_elim}
-use Rattle.std.specs.Prelude.{max, if◌then◌else◌}
-use Rattle.std.proofs.lemmas.Bool.{both_ways, and_left, cases_Bool}
+use Rattle.std.proofs.Common.{◌≡◌, ◌≢◌, ℕ, ◌+◌, ◌<◌, ◌≤◌, true, false, List, length, Option, Some, None, refl, sym, ap, ◌∙◌, subst, arith, true≢false, ◌⊎◌, inl, ⊎_elim}
+use Rattle.std.specs.Prelude.{max}
+use Rattle.std.proofs.lemmas.Bool.{both_ways, and_left}
 use Rattle.std.proofs.lemmas.Bool.Decides.{eqb_tells}
 use Rattle.std.proofs.lemmas.Option.{same_Some}
 use Rattle.ob_base.specs.declared.fault.Span.{Span}
@@ -15,29 +15,28 @@ use Rattle.ob_heap_spec.specs.Values.{Value, reference, int_value, bool_value, t
 use Rattle.ob_heap_spec.specs.Objects.{Object}
 use Rattle.ob_heap_spec.specs.Worlds.{World}
 use Rattle.ob_heap_spec.specs.Marks.{mark_disowned}
-use Rattle.ob_silica.specs.Slots.{slots_of_form, slots_of_operand}
+use Rattle.ob_silica.specs.Slots.{slots_of_operand}
 use Rattle.ob_silica.specs.Terms.{SilicaTerms, move_form, disown_form, and_term}
 use Rattle.ob_silica.specs.declared.place.Operand.{Operand}
-use Rattle.ob_silica.specs.declared.place.Place.TheVariants.{This, Slot, Field as FieldPlace}
+use Rattle.ob_silica.specs.declared.place.Place.TheVariants.{Slot}
 use Rattle.ob_silica_places.specs.Converting.{converted}
-use Rattle.ob_silica_places.specs.Known.{Known, known, at}
-use Rattle.ob_silica_places.specs.Places.{Location, slot, field, this, same_location, located}
+use Rattle.ob_silica_places.specs.Known.{Known, known}
+use Rattle.ob_silica_places.specs.Places.{Location, slot, field, this, located}
 use Rattle.ob_silica_steps.specs.Cells.{Cell, cell, noted}
 use Rattle.ob_silica_steps.specs.Configurations.{SilicaProgram, by_new, Rest, runs, Configuration}
-use Rattle.ob_silica_steps.specs.Here.{Here, here, self_of, read, set_slot, set_permission, counted as counts_as}
+use Rattle.ob_silica_steps.specs.Here.{Here, here, self_of, set_slot, set_permission, counted as counts_as}
 use Rattle.ob_silica_steps.specs.Steps.{act}
-use Rattle.ob_silica_formed.specs.Holdings.{Holdings, held, with_slot}
-use Rattle.ob_flow_spec.specs.Contexts.{BodyFrame, Context, put, now, with_permission, permission_on, permission_at, counted, is_asset, is_owned_asset, is_tested, constructs}
+use Rattle.ob_silica_formed.specs.Holdings.{held, with_slot}
+use Rattle.ob_flow_spec.specs.Contexts.{Context, put, now, with_permission, permission_at, counted, is_asset, is_owned_asset, is_tested}
 use Rattle.ob_flow_spec.specs.Uses.{kind_known}
 use Rattle.ob_flow_laws.specs.Uses.{CanUse}
 use Rattle.ob_places_laws.specs.Serving.{Allows}
 use Rattle.ob_places_laws.proofs.Tables.{there_is}
 use Rattle.ob_places_laws.proofs.Serves.{allows_owner}
-use Rattle.ob_coherent_spec.specs.Counting.{nth_object, Counted, any, in_cell, in_all, owners}
+use Rattle.ob_coherent_spec.specs.Counting.{nth_object, Counted, any, in_cell, owners}
 use Rattle.ob_coherent_spec.specs.Runs.{tested_places}
 use Rattle.ob_coherent_spec.specs.Standing.{Stands, IsOfKind, NeedsOwner}
-use Rattle.ob_coherent_spec.specs.Saying.{SaysOf}
-use Rattle.ob_coherent_spec.specs.Remaining.{IsCheckedProgram, body_of, static_of, IsPlaceIn, Remains}
+use Rattle.ob_coherent_spec.specs.Remaining.{IsCheckedProgram, body_of, IsPlaceIn, Remains}
 use Rattle.ob_coherent_spec.specs.Coherent.{Beginning, IsRunning, IsCoherent, StepsSo}
 use Rattle.ob_coherent_counting_laws.proofs.Cells.{cell_other, cell_counted}
 use Rattle.ob_coherent_counting_laws.proofs.Low.{place_low}
@@ -59,7 +58,7 @@ use Rattle.ob_coherent_places_laws.proofs.Handing.{moved_says, hands_on, carry_a
 use Rattle.ob_coherent_places_laws.proofs.Holding.{held_of_kind, held_noted, held_set}
 use Rattle.ob_coherent_tests_laws.proofs.Operands.{place_inside}
 use Rattle.ob_coherent_tests_laws.proofs.Finding.{stands_at}
-use Rattle.ob_coherent_forms_laws.proofs.Amid.{Amid, Counts, sits, counted_all, form_done}
+use Rattle.ob_coherent_forms_laws.proofs.Amid.{Amid, sits, counted_all, form_done}
 use Rattle.ob_coherent_forms_laws.proofs.Slots.{no_asset, amid_slot, counts_slot}
 use Rattle.ob_coherent_forms_laws.proofs.Referring.{made_unreferred}
 use Rattle.ob_coherent_forms_laws.proofs.Straight.{first, formed, few, after, operand_found, operand_read, operand_stands, operand_kind}
@@ -233,8 +232,8 @@ module _ (program : SilicaProgram) (checked : IsCheckedProgram program) (entry :
         counts_up counts m =
             let a = here_kept counts m (here c) (mark_disowned n c.world) (mark_disowned_keeps n c.world) in
             let b = permission_counts p unowned marked_here low_place
-                (subst (λ j. self_of c.frame.slots < j) (sym (mark_disowned_keeps n c.world).count) k.whole.frame.there) u.cell
-                ((marks_same_cells (here c) (mark_disowned n c.world) (mark_disowned_marks n c.world)).same p ∙ u.is) counts m in
+            (subst (λ j. self_of c.frame.slots < j) (sym (mark_disowned_keeps n c.world).count) k.whole.frame.there) u.cell
+            ((marks_same_cells (here c) (mark_disowned n c.world) (mark_disowned_marks n c.world)).same p ∙ u.is) counts m in
             omega (arith, a, b)
 
         none_up : (m : ℕ) → in_cell owns m (Some (noted unowned u.cell)) ≡ 0
@@ -310,8 +309,8 @@ module _ (program : SilicaProgram) (checked : IsCheckedProgram program) (entry :
         let u = operand_found program checked entry beginning c k o ps.0.usable.readable in
         let r = there_is _ _ w.kinds in
         let is = kind_refers program.table c.world.objects u.cell.note.kind u.cell.value
-            (ap is_reference (operand_kind program checked entry beginning c k o ps.0.usable.readable r.0 r.1) ∙ r.2)
-            (operand_stands program checked entry beginning c k o ps.0.usable.readable).kind in
+        (ap is_reference (operand_kind program checked entry beginning c k o ps.0.usable.readable r.0 r.1) ∙ r.2)
+        (operand_stands program checked entry beginning c k o ps.0.usable.readable).kind in
         rw (operand_read program checked entry beginning c k o ps.0.usable.readable, is.1)
         (disown_done (located o) (place_inside (body_of program.table c.frame k.whole.parts) o.place f w.numbers) (used_other (located o) ps.0.usable) u
         (and_term form span rest) outer so is.0 is.1 rest ps.0.owner (after program checked entry beginning c k form span rest outer so _ ps.1))

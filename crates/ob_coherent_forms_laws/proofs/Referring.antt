@@ -1,6 +1,5 @@
 -- An object under construction is referred to by the slot of `this` of its own frame alone.
-use Rattle.std.proofs.Common.{◌≡◌, ◌≢◌, ℕ, zero, suc, ◌+◌, ◌<◌, ◌≤◌, ◌⊎◌, inl, inr, ⊎_elim, lit<, true, List, [], ◌∷◌, length, Option, Some, refl, sym, ap, ◌∙◌, subst, arith}
-use Rattle.std.proofs.lemmas.Bool.Decides.{eqb_tells}
+use Rattle.std.proofs.Common.{◌≡◌, ◌≢◌, ℕ, zero, suc, ◌<◌, ◌≤◌, ◌⊎◌, inl, inr, ⊎_elim, List, [], ◌∷◌, Option, Some, refl, sym, ap, ◌∙◌, subst, arith}
 use Rattle.ob_base.specs.Limits.{most_slots}
 use Rattle.ob_heap_spec.specs.Values.{reference}
 use Rattle.ob_heap_spec.specs.Objects.{Object}
@@ -10,7 +9,7 @@ use Rattle.ob_silica_steps.specs.Configurations.{SilicaFrame, by_new, Waiting, C
 use Rattle.ob_silica_steps.specs.Here.{here, self_of}
 use Rattle.ob_table.specs.Tables.{ClassTable}
 use Rattle.ob_table_spec.specs.Conditions.{IsClassTable}
-use Rattle.ob_coherent_spec.specs.Counting.{any, in_cell, in_slots, in_waiting, in_all}
+use Rattle.ob_coherent_spec.specs.Counting.{any, in_cell, in_waiting, in_all}
 use Rattle.ob_coherent_spec.specs.Runs.{constructing_at, constructing_among, constructions}
 use Rattle.ob_coherent_spec.specs.Remaining.{BodyParts, body_of, IsPlaceIn}
 use Rattle.ob_coherent_spec.specs.Waiting.{IsFrame, AllWait}

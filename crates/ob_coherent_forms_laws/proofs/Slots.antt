@@ -1,21 +1,20 @@
 -- A frame sets a slot of its own, or unsets it.
-use Rattle.std.proofs.Common.{◌≡◌, ◌≢◌, ℕ, zero, suc, ◌⊎◌, ◌+◌, ◌<◌, ◌≤◌, nat_eq, ◌||◌, inl, inr, ⊎_elim, true, false, List, [], ◌∷◌, length, Option, Some, None, refl, sym, ap, ◌∙◌, subst, arith, true≢false}
+use Rattle.std.proofs.Common.{◌≡◌, ◌≢◌, ℕ, zero, suc, ◌⊎◌, ◌+◌, ◌<◌, ◌≤◌, inl, inr, ⊎_elim, true, false, List, [], ◌∷◌, length, Option, Some, None, refl, sym, ap, ◌∙◌, subst, arith, true≢false}
 use Rattle.std.proofs.lemmas.Bool.{cases_Bool, both_ways, or_cases, and_from}
 use Rattle.std.proofs.lemmas.Bool.Decides.{eqb_tells}
 use Rattle.std.proofs.lemmas.Option.{same_Some}
-use Rattle.ob_base.specs.Limits.{most_slots}
 use Rattle.ob_perm.specs.Permissions.{owns}
 use Rattle.ob_table.specs.Tables.{ClassTable}
 use Rattle.ob_table.specs.declared.seen.Kind.{Kind}
 use Rattle.ob_table.specs.declared.seen.Kind.TheVariants.{Int, Bool as BoolKind, Text, Reference}
 use Rattle.ob_table_spec.specs.Conditions.{IsClassTable}
 use Rattle.ob_table_spec.specs.WellFormed.{is_reference}
-use Rattle.ob_heap_spec.specs.Values.{Value, reference}
+use Rattle.ob_heap_spec.specs.Values.{reference}
 use Rattle.ob_heap_spec.specs.Objects.{Object}
 use Rattle.ob_silica.specs.Terms.{SilicaTerms}
 use Rattle.ob_silica_formed.specs.Holdings.{Holdings, held, with_slot}
 use Rattle.ob_silica_places.specs.Known.{Known, at}
-use Rattle.ob_silica_places.specs.Places.{Location, slot, field, this, same_location}
+use Rattle.ob_silica_places.specs.Places.{Location, slot, same_location}
 use Rattle.ob_silica_steps.specs.Cells.{Cell}
 use Rattle.ob_silica_steps.specs.Configurations.{SlotCells, Ends, plain_end, test_end, lock_end, Rest, runs, Configuration}
 use Rattle.ob_silica_steps.specs.Here.{Here, here, self_of, read, set_slot}
@@ -24,19 +23,17 @@ use Rattle.ob_coherent_spec.specs.Counting.{Counted, any, in_cell}
 use Rattle.ob_coherent_spec.specs.Runs.{tested_places, tested_before}
 use Rattle.ob_coherent_spec.specs.Standing.{Stands, AllStand, IsOfKind, NeedsOwner}
 use Rattle.ob_coherent_spec.specs.Saying.{Agrees, SaysOf, every}
-use Rattle.ob_coherent_spec.specs.Remaining.{BodyParts, body_of, AreHeld, HoldsSo, Remains}
+use Rattle.ob_coherent_spec.specs.Remaining.{body_of, AreHeld, HoldsSo, Remains}
 use Rattle.ob_coherent_spec.specs.OpenTests.{IsTestOf, IsOpen, AreOpen}
 use Rattle.ob_coherent_spec.specs.Coherent.{Beginning, IsRunning, IsCoherent}
-use Rattle.ob_coherent_counting_laws.proofs.Cells.{cell_other, one_if_true}
+use Rattle.ob_coherent_counting_laws.proofs.Cells.{cell_other}
 use Rattle.ob_coherent_counting_laws.proofs.Writing.{in_here, here_slot}
 use Rattle.ob_coherent_frames_laws.specs.Steps.{moved}
-use Rattle.ob_coherent_places_laws.specs.Placed.{cell_at}
 use Rattle.ob_coherent_places_laws.proofs.Objects.{at_that, at_other}
 use Rattle.ob_coherent_places_laws.proofs.Reading.{same_places}
 use Rattle.ob_coherent_places_laws.proofs.Writing.{slot_written}
 use Rattle.ob_coherent_remaining_laws.proofs.Following.{owner_is_asset}
-use Rattle.ob_coherent_tests_laws.proofs.Unchanged.{opens_so}
-use Rattle.ob_coherent_forms_laws.proofs.Amid.{Amid, Counts, amid_first, amid_written, form_done}
+use Rattle.ob_coherent_forms_laws.proofs.Amid.{Amid, amid_first, amid_written, form_done}
 
 -- Values that are no references.
 

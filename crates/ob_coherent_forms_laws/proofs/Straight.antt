@@ -1,52 +1,48 @@
 -- Forms that set a slot of the frame's own to a value that is no reference, and forms that change no place.
-use Rattle.std.proofs.Common.{◌≡◌, ◌≢◌, ℕ, zero, suc, ◌+◌, ◌<◌, ◌≤◌, true, false, List, length, Option, Some, None, Ok, refl, sym, ap, ◌∙◌, subst, arith, true≢false, ◌⊎◌, inl, inr, ⊎_elim}
-use Rattle.std.specs.Prelude.{IsSomeAnd, IsTrue, max}
-use Rattle.std.proofs.lemmas.Bool.{both_ways, and_left}
+use Rattle.std.proofs.Common.{◌≡◌, ◌≢◌, ℕ, zero, suc, ◌+◌, ◌<◌, ◌≤◌, false, List, length, Option, Some, None, Ok, refl, sym, ap, ◌∙◌, subst, arith, inl}
+use Rattle.std.specs.Prelude.{max}
+use Rattle.std.proofs.lemmas.Bool.{both_ways}
 use Rattle.std.proofs.lemmas.Option.{same_Some}
 use Rattle.ob_base.specs.declared.fault.Span.{Span}
 use Rattle.ob_perm.specs.Permissions.{owns, unowned}
 use Rattle.ob_table.specs.Tables.{ClassTable}
-use Rattle.ob_table.specs.declared.operator.BinaryOperator.{BinaryOperator}
 use Rattle.ob_table.specs.declared.operator.BinaryOperator.TheVariants.{Add, Sub, Mul, Div, Rem, Equal, NotEqual, Less, LessEqual, Greater, GreaterEqual}
 use Rattle.ob_table.specs.declared.seen.Kind.{Kind}
-use Rattle.ob_table.specs.declared.seen.Kind.TheVariants.{Int, Bool as BoolKind, Text, Reference}
-use Rattle.ob_table_spec.specs.WellFormed.{kind_of_unary, kind_of_binary, is_reference}
+use Rattle.ob_table.specs.declared.seen.Kind.TheVariants.{Int, Text}
+use Rattle.ob_table_spec.specs.WellFormed.{kind_of_unary, is_reference}
 use Rattle.ob_heap_spec.specs.Values.{Value, int_value, bool_value, text_value, reference}
 use Rattle.ob_heap_spec.specs.Objects.{Object}
 use Rattle.ob_heap_spec.specs.Operations.{Operated, operated, overflows, other_kinds}
-use Rattle.ob_heap_spec.specs.Worlds.{World, by_revert, with_unit_taken}
-use Rattle.ob_silica.specs.Slots.{slots_of_form, slots_of_operand}
+use Rattle.ob_heap_spec.specs.Worlds.{by_revert, with_unit_taken}
+use Rattle.ob_silica.specs.Slots.{slots_of_form}
 use Rattle.ob_silica.specs.Terms.{SilicaForm, SilicaTerms, unit_form, const_form, op_form, copy_form, assert_form, drop_form, revert_form, bad_row_form, and_term}
 use Rattle.ob_silica.specs.declared.place.Constant.{Constant}
 use Rattle.ob_silica.specs.declared.place.Constant.TheVariants as constant
 use Rattle.ob_silica.specs.declared.place.Operand.{Operand}
-use Rattle.ob_silica.specs.declared.place.Place.{Place}
-use Rattle.ob_silica.specs.declared.place.Place.TheVariants.{This, Slot, Field as FieldPlace}
+use Rattle.ob_silica.specs.declared.place.Place.TheVariants.{Slot}
 use Rattle.ob_silica.specs.declared.term.SilicaOperator.{SilicaOperator}
 use Rattle.ob_silica.specs.declared.term.SilicaOperator.TheVariants.{Unary, Binary}
 use Rattle.ob_base.specs.declared.permission.Perm.{Perm}
-use Rattle.ob_silica_places.specs.Known.{Known, known, kind_of_constant, kind_of_operator}
-use Rattle.ob_silica_places.specs.Places.{Location, slot, field, located}
+use Rattle.ob_silica_places.specs.Known.{known, kind_of_constant, kind_of_operator}
+use Rattle.ob_silica_places.specs.Places.{slot, field, located}
 use Rattle.ob_silica_steps.specs.Cells.{Cell, plain_cell, constant_cell, value_of_constant}
 use Rattle.ob_silica_steps.specs.Configurations.{SilicaProgram, Rest, runs, Configuration, NextStep, abort_step}
-use Rattle.ob_silica_steps.specs.Here.{here, self_of, goes_to, if_there, with_fuel_left, read, set_slot}
+use Rattle.ob_silica_steps.specs.Here.{here, self_of, goes_to, with_fuel_left, read, set_slot}
 use Rattle.ob_silica_steps.specs.Straight.{operate, with_operated, with_text}
 use Rattle.ob_silica_steps.specs.Steps.{act}
-use Rattle.ob_silica_formed.specs.Holdings.{Holdings, held, with_slot, kind_of_operand, after_form, EachWithin}
+use Rattle.ob_silica_formed.specs.Holdings.{held, with_slot, kind_of_operand, after_form}
 use Rattle.ob_silica_formed.specs.Points.{IsConstant, HasKind, HaveOperands}
-use Rattle.ob_flow_spec.specs.Contexts.{BodyFrame, Context, put}
-use Rattle.ob_flow_spec.specs.Deriving.{Derived, derive}
+use Rattle.ob_flow_spec.specs.Contexts.{Context, put}
+use Rattle.ob_flow_spec.specs.Deriving.{derive}
 use Rattle.ob_flow_spec.specs.Uses.{kind_known}
 use Rattle.ob_places_laws.proofs.Tables.{there_is}
 use Rattle.ob_flow_laws.specs.Uses.{CanRead}
-use Rattle.ob_coherent_spec.specs.Counting.{in_cell}
 use Rattle.ob_coherent_spec.specs.Runs.{tested_places}
 use Rattle.ob_coherent_spec.specs.Standing.{Stands, IsOfKind, NeedsOwner}
-use Rattle.ob_coherent_spec.specs.Saying.{SaysOf, every}
-use Rattle.ob_coherent_spec.specs.Remaining.{IsCheckedProgram, HoldsSo, body_of, static_of, IsWellFormedForm, KnowsThis, Remains}
+use Rattle.ob_coherent_spec.specs.Saying.{SaysOf}
+use Rattle.ob_coherent_spec.specs.Remaining.{IsCheckedProgram, HoldsSo, body_of, static_of, IsWellFormedForm, Remains}
 use Rattle.ob_coherent_spec.specs.Coherent.{Beginning, IsRunning, IsCoherent, running, StepsSo}
 use Rattle.ob_coherent_frames_laws.specs.Steps.{moved}
-use Rattle.ob_coherent_frames_laws.proofs.Own.{EndsSame}
 use Rattle.ob_coherent_places_laws.specs.Placed.{Found, Stays, cell_at}
 use Rattle.ob_coherent_places_laws.proofs.Keeping.{OpensKept}
 use Rattle.ob_coherent_remaining_laws.proofs.Remaining.{IsFirst, first_formed, first_slots, first_passes, rest_remains}
@@ -54,7 +50,7 @@ use Rattle.ob_coherent_remaining_laws.proofs.Knowing.{KnowsIf, form_knows}
 use Rattle.ob_coherent_tests_laws.proofs.Finding.{found_at, reads_it, stands_at}
 use Rattle.ob_coherent_tests_laws.proofs.Operands.{kind_found}
 use Rattle.ob_coherent_tests_laws.proofs.Unchanged.{remains_so, opens_so, unchanged_keeps}
-use Rattle.ob_coherent_forms_laws.proofs.Amid.{Amid, Counts, form_done}
+use Rattle.ob_coherent_forms_laws.proofs.Amid.{form_done}
 use Rattle.ob_coherent_forms_laws.proofs.Slots.{plain_untested, plain_none, plain_value, no_asset, held_written, held_plain, holds_kind, own_slot}
 use Rattle.ob_coherent_forms_laws.proofs.Operations.{Gives, plain_serves, unary_plain, binary_plain, unary_given, equal_given, not_equal_given, binary_given}
 
