@@ -69,6 +69,14 @@ declared_type b n d e = ap (λ x. option_map_or (λ (f : Field). f.of) x IntType
 module _ (program : SilicaProgram) (checked : IsCheckedProgram program) (entry : Option ℕ) (beginning : Beginning) (c : Configuration)
     (k : IsRunning program.table entry beginning c) (n : ℕ) (d : Field) (declared : slice_get k.whole.parts.own.fields n ≡ Some d)
     (there : is_available (own_object (here c)).state d ≡ true) where
+  -- the frame sits so
+  abbrev seated : Sits program.table c.frame k.whole.parts (here c) k.context
+  seated = sits program.table checked.table entry beginning c k
+
+  -- the body that the frame runs
+  abbrev body : BodyFrame
+  body = body_of program.table c.frame k.whole.parts
+
   -- the field is there
   pub field_found : available_field program.table (here c) n ≡ Some d
   field_found =
@@ -78,7 +86,7 @@ module _ (program : SilicaProgram) (checked : IsCheckedProgram program) (entry :
       (field_of_is program.table (own_object (here c)) k.whole.parts.own n (ap (contract_at program.table) k.whole.frame.contract ∙ k.whole.frame.own) ∙ declared)
       ∙ ap (λ (b : Bool). if b then Some d else None) there
 
-  pub inside_field : IsPlaceIn (body_of program.table c.frame k.whole.parts) (field n)
+  pub inside_field : IsPlaceIn body (field n)
   inside_field = slice_get_within k.whole.parts.own.fields n d declared
 
   pub low_field : IsLow (field n)
@@ -87,9 +95,9 @@ module _ (program : SilicaProgram) (checked : IsCheckedProgram program) (entry :
   -- what stands there has the declared kind
   pub field_kind : (x : Cell) → cell_at (here c) (field n) ≡ Some x → x.note.kind ≡ kind_of_resolved d.of
   field_kind x e =
-      let r = kind_in_run program.table c.notes c.world.objects (self_of c.frame.slots) (sits program.table checked.table entry beginning c k).object n x e in
+      let r = kind_in_run program.table c.notes c.world.objects (self_of c.frame.slots) seated.object n x e in
       r.4 ∙ ap (λ (f : Field). kind_of_resolved f.of) (same_Some r.1 d (sym r.2
-      ∙ ap (λ (o : Contract). slice_get o.fields n) (own_is program.table checked.table c.frame k.whole.parts (here c) k.context (sits program.table checked.table entry beginning c k)) ∙ declared))
+      ∙ ap (λ (o : Contract). slice_get o.fields n) (own_is program.table checked.table c.frame k.whole.parts (here c) k.context seated) ∙ declared))
 
   -- there is room for a value of that kind
   pub field_room : (h : Here) (g : Context) (s : Sits program.table c.frame k.whole.parts h g) → (own_object h).state ≡ (own_object (here c)).state
@@ -138,22 +146,22 @@ module _ (program : SilicaProgram) (checked : IsCheckedProgram program) (entry :
 
     untested_field : is_tested (tested_places outer) (field n) ≡ false
     untested_field = ⊎_elim
-        (λ e. let r = tested_refers (body_of program.table c.frame k.whole.parts) (here c) outer (field n) (opens_so program.table entry beginning c k terms outer so) e in
-        absurd (was_plain r.cell (sym (sits_read program.table checked.table c.frame k.whole.parts (here c) k.context (sits program.table checked.table entry beginning c k) (field n)) ∙ r.found) r.number r.object))
+        (λ e. let r = tested_refers body (here c) outer (field n) (opens_so program.table entry beginning c k terms outer so) e in
+        absurd (was_plain r.cell (sym (sits_read program.table checked.table c.frame k.whole.parts (here c) k.context seated (field n)) ∙ r.found) r.number r.object))
         (λ e. e)
         (cases_Bool (is_tested (tested_places outer) (field n)))
 
-    pub copy_done : (rest : SilicaTerms) → Remains (body_of program.table c.frame k.whole.parts) k.holdings
-        (put k.context (field n) (Some (known (kind_of_resolved (type_of_field (body_of program.table c.frame k.whole.parts) n)) unowned))) rest outer
+    pub copy_done : (rest : SilicaTerms) → Remains body k.holdings
+        (put k.context (field n) (Some (known (kind_of_resolved (type_of_field body n)) unowned))) rest outer
         → IsCoherent program.table entry beginning (moved c copied rest outer)
     copy_done rest remains = form_done program.table checked.table entry beginning c k terms outer so copied
-        (put k.context (field n) (Some (known (kind_of_resolved (type_of_field (body_of program.table c.frame k.whole.parts) n)) unowned))) rest k.holdings
+        (put k.context (field n) (Some (known (kind_of_resolved (type_of_field body n)) unowned))) rest k.holdings
         (amid_field outer (here c) k.context (plain_cell v (kind_of_resolved d.of))
-        (known (kind_of_resolved (type_of_field (body_of program.table c.frame k.whole.parts) n)) unowned)
+        (known (kind_of_resolved (type_of_field body n)) unowned)
         (amid_first program.table checked.table entry beginning c k terms outer so) refl
         (stands_stay program.table (here c) copied (field_written n (plain_cell v (kind_of_resolved d.of)) (here c) k.whole.frame.there).stays (plain_cell v (kind_of_resolved d.of)) copy_stands)
-        (plain_says (NeedsOwner program.table copied.world.objects) v (kind_of_resolved d.of) (kind_of_resolved (type_of_field (body_of program.table c.frame k.whole.parts) n))
-        (ap kind_of_resolved (sym (declared_type (body_of program.table c.frame k.whole.parts) n d declared))))
+        (plain_says (NeedsOwner program.table copied.world.objects) v (kind_of_resolved d.of) (kind_of_resolved (type_of_field body n))
+        (ap kind_of_resolved (sym (declared_type body n d declared))))
         untested_field)
         (record {
           fewer = λ m. let e = counts_field owns m in let a = none_now owns m in omega (arith, e, a);

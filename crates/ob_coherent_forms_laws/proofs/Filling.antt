@@ -46,7 +46,7 @@ use Rattle.ob_coherent_counting_laws.proofs.Permitting.{hand_counts, hand_refers
 use Rattle.ob_coherent_counting_laws.proofs.Writing.{in_here, here_field}
 use Rattle.ob_coherent_frames_laws.specs.Steps.{moved}
 use Rattle.ob_coherent_frames_laws.proofs.Cells.{reference_there}
-use Rattle.ob_coherent_places_laws.specs.Placed.{Found, Written, cell_at}
+use Rattle.ob_coherent_places_laws.specs.Placed.{Found, Sits, Written, cell_at}
 use Rattle.ob_coherent_places_laws.proofs.Objects.{comes_sets}
 use Rattle.ob_coherent_places_laws.proofs.Reading.{available_is, has_field_from}
 use Rattle.ob_coherent_places_laws.proofs.Writing.{stays_onward, field_written, field_marks, hand_written, hand_world, hand_shares, hand_disowns_none}
@@ -62,7 +62,7 @@ use Rattle.ob_coherent_tests_laws.proofs.Finding.{stands_at}
 use Rattle.ob_coherent_forms_laws.proofs.Amid.{Amid, sits, counted_all, form_done}
 use Rattle.ob_coherent_forms_laws.proofs.Slots.{no_asset}
 use Rattle.ob_coherent_forms_laws.proofs.Referring.{made_unreferred}
-use Rattle.ob_coherent_forms_laws.proofs.Straight.{first, formed, few, after, operand_found, operand_read, operand_kind}
+use Rattle.ob_coherent_forms_laws.proofs.Straight.{bound_second, first, formed, few, after, operand_found, operand_read, operand_kind}
 use Rattle.ob_coherent_forms_laws.proofs.Moving.{kept_shares, used_other, low_place, is_counted, allowed, is_owner, amid_noted}
 use Rattle.ob_coherent_forms_laws.proofs.Fields.{declared_type, field_found, low_field, amid_field}
 
@@ -84,9 +84,6 @@ pub fill_shared : (b : BodyFrame) (ts : TestedPlaces) (g : Context) (n : ℕ) (p
 fill_shared b ts g n p (owned a) can e = absurd (cc)
 fill_shared b ts g n p shared can e = can.serves
 fill_shared b ts g n p unowned can e = can.serves
-
-bound_second : (m j k : ℕ) → max m j ≤ k → j ≤ k
-bound_second m j k h = omega (arith, h)
 
 shared_or_not : (w : Permission) → (w ≡ shared) ⊎ (w ≢ shared)
 shared_or_not (owned a) = inr (λ e. let z : owned a ≡ shared = e in cc)
@@ -110,9 +107,17 @@ module _ (program : SilicaProgram) (checked : IsCheckedProgram program) (entry :
     (terms : SilicaTerms) (outer : List Rest) (so : c.control ≡ runs terms outer)
     (fills : CanFillAs (body_of program.table c.frame k.whole.parts) (tested_places outer) k.context n p
     (permission_of_type (type_of_field (body_of program.table c.frame k.whole.parts) n))) where
+  -- the frame sits so
+  abbrev seated : Sits program.table c.frame k.whole.parts (here c) k.context
+  seated = sits program.table checked.table entry beginning c k
+
+  -- the body that the frame runs
+  abbrev body : BodyFrame
+  body = body_of program.table c.frame k.whole.parts
+
   -- the type of the field
   abbrev declared_as : ResolvedType
-  declared_as = type_of_field (body_of program.table c.frame k.whole.parts) n
+  declared_as = type_of_field body n
 
   abbrev wanted : Permission
   wanted = permission_of_type declared_as
@@ -136,7 +141,7 @@ module _ (program : SilicaProgram) (checked : IsCheckedProgram program) (entry :
 
   abbrev got_known : Known
   got_known = known (kind_of_resolved declared_as)
-      (gotten wanted (said_for_type (body_of program.table c.frame k.whole.parts) k.context p declared_as))
+      (gotten wanted (said_for_type body k.context p declared_as))
 
   abbrev filled : Here
   filled = set_field n got_cell handed
@@ -152,7 +157,7 @@ module _ (program : SilicaProgram) (checked : IsCheckedProgram program) (entry :
 
   amid_handed : Amid program.table c k.whole.parts outer handed known_handed
   amid_handed = amid_noted program checked entry beginning c k p inside other u terms outer so handed remaining (kept (permission_at k.context p) wanted) handed_written
-      (carry_hand program.table checked.table c.frame k.whole.parts (here c) k.context (sits program.table checked.table entry beginning c k) declared_as p inside u refers other)
+      (carry_hand program.table checked.table c.frame k.whole.parts (here c) k.context seated declared_as p inside u refers other)
 
   then_written : Written (field n) (Some got_cell) handed filled
   then_written = field_written n got_cell handed amid_handed.sits.frame.there
@@ -160,7 +165,7 @@ module _ (program : SilicaProgram) (checked : IsCheckedProgram program) (entry :
   -- Owners.
 
   gives_owner : owns wanted ≡ true → owns (counted k.context p) ≡ true
-  gives_owner e = fill_owner (body_of program.table c.frame k.whole.parts) (tested_places outer) k.context n p wanted fills e
+  gives_owner e = fill_owner body (tested_places outer) k.context n p wanted fills e
 
   had_owner : owns wanted ≡ true → owns u.cell.note.permission ≡ true
   had_owner e = is_owner program checked entry beginning c k p inside other u (gives_owner e)
@@ -205,8 +210,8 @@ module _ (program : SilicaProgram) (checked : IsCheckedProgram program) (entry :
       (λ s. inl (counts_shared (counts_as (here c) p u.cell) u.cell.note.permission (is_counted program checked entry beginning c k p inside other u)
       (shared_is (counts_as (here c) p u.cell) (sym (converted_shares program.table u.cell.note.kind (kind_of_resolved declared_as) (counts_as (here c) p u.cell)) ∙ ap is_shared s))))
       (fits_shared said (subst (λ w. fits said w ≡ true) e
-      (said_fits program.table checked.table c.frame k.whole.parts (here c) k.context (sits program.table checked.table entry beginning c k) p u declared_as wanted
-      (fill_shared (body_of program.table c.frame k.whole.parts) (tested_places outer) k.context n p wanted fills e))))
+      (said_fits program.table checked.table c.frame k.whole.parts (here c) k.context seated p u declared_as wanted
+      (fill_shared body (tested_places outer) k.context n p wanted fills e))))
 
   -- Marks.
 
@@ -249,15 +254,15 @@ module _ (program : SilicaProgram) (checked : IsCheckedProgram program) (entry :
   got_says = says_of_less (NeedsOwner program.table c.world.objects) (NeedsOwner program.table filled.world.objects)
       (λ m needs. needs_stay program.table (here c) handed handed_written.stays m (needs_stay program.table handed filled then_written.stays m needs))
       (Some got_known) (Some got_cell)
-      (filled_says program.table checked.table c.frame k.whole.parts (here c) k.context (sits program.table checked.table entry beginning c k) p u n)
+      (filled_says program.table checked.table c.frame k.whole.parts (here c) k.context seated p u n)
 
   amid_filled : is_tested (tested_places outer) (field n) ≡ false
       → Amid program.table c k.whole.parts outer filled (put known_handed (field n) (Some got_known))
   amid_filled untested = amid_field program checked entry beginning c k n d declared there outer handed known_handed got_cell got_known amid_handed
-      (ap kind_of_resolved (declared_type (body_of program.table c.frame k.whole.parts) n d declared)) got_stood got_says untested
+      (ap kind_of_resolved (declared_type body n d declared)) got_stood got_says untested
 
-  still_there : available (body_of program.table c.frame k.whole.parts) n (state_number (own_object handed).state) ≡ true
-  still_there = available_is (body_of program.table c.frame k.whole.parts) n (own_object handed).state
+  still_there : available body n (state_number (own_object handed).state) ≡ true
+  still_there = available_is body n (own_object handed).state
       ∙ has_field_from k.whole.parts.own (own_object handed).state n d declared (ap (λ s. is_available s d) (own_state (here c) handed handed_written.stays) ∙ there)
 
   -- what the field had owned no object that must have an owner
@@ -268,7 +273,7 @@ module _ (program : SilicaProgram) (checked : IsCheckedProgram program) (entry :
       (needs_stay program.table handed filled then_written.stays m needs)
 
   pub fill_done : (rest : SilicaTerms) → is_tested (tested_places outer) (field n) ≡ false → is_owned_asset program.table (known_handed (field n)) ≡ false
-      → Remains (body_of program.table c.frame k.whole.parts) k.holdings (put known_handed (field n) (Some got_known)) rest outer
+      → Remains body k.holdings (put known_handed (field n) (Some got_known)) rest outer
       → IsCoherent program.table entry beginning (moved c filled rest outer)
   fill_done rest untested none remains =
       form_done program.table checked.table entry beginning c k terms outer so filled (put known_handed (field n) (Some got_known)) rest k.holdings (amid_filled untested)

@@ -27,7 +27,7 @@ use Rattle.ob_silica_steps.specs.Configurations.{SilicaProgram, by_new, Rest, ru
 use Rattle.ob_silica_steps.specs.Here.{Here, here, self_of, set_slot, set_permission, counted as counts_as}
 use Rattle.ob_silica_steps.specs.Steps.{act}
 use Rattle.ob_silica_formed.specs.Holdings.{held, with_slot}
-use Rattle.ob_flow_spec.specs.Contexts.{Context, put, now, with_permission, permission_at, counted, is_asset, is_owned_asset, is_tested}
+use Rattle.ob_flow_spec.specs.Contexts.{BodyFrame, Context, put, now, with_permission, permission_at, counted, is_asset, is_owned_asset, is_tested}
 use Rattle.ob_flow_spec.specs.Uses.{kind_known}
 use Rattle.ob_flow_laws.specs.Uses.{CanUse}
 use Rattle.ob_places_laws.specs.Serving.{Allows}
@@ -61,13 +61,7 @@ use Rattle.ob_coherent_tests_laws.proofs.Finding.{stands_at}
 use Rattle.ob_coherent_forms_laws.proofs.Amid.{Amid, sits, counted_all, form_done}
 use Rattle.ob_coherent_forms_laws.proofs.Slots.{no_asset, amid_slot, counts_slot}
 use Rattle.ob_coherent_forms_laws.proofs.Referring.{made_unreferred}
-use Rattle.ob_coherent_forms_laws.proofs.Straight.{first, formed, few, after, operand_found, operand_read, operand_stands, operand_kind}
-
-bound_first : (m j n k : ℕ) → max m j ≤ k → n < m → n < k
-bound_first m j n k h l = omega (arith, h, l)
-
-bound_second : (m j k : ℕ) → max m j ≤ k → j ≤ k
-bound_second m j k h = omega (arith, h)
+use Rattle.ob_coherent_forms_laws.proofs.Straight.{bound_first, bound_second, first, formed, few, after, operand_found, operand_read, operand_stands, operand_kind}
 
 -- what is left of a place once what counts of it was given owns no asset
 not_owned : (table : ClassTable) (w : Permission) (y : Option Known) → owns w ≡ false → is_owned_asset table (with_permission w y) ≡ false
@@ -107,11 +101,19 @@ kept_shares left x (Some z) y a e is = a.2 (ap (λ (w : Cell). w.note.permission
 
 module _ (program : SilicaProgram) (checked : IsCheckedProgram program) (entry : Option ℕ) (beginning : Beginning) (c : Configuration)
     (k : IsRunning program.table entry beginning c) where
-  -- a place that can be used isn't `this` of a constructor
-  pub used_other : (p : Location) → CanUse (body_of program.table c.frame k.whole.parts) k.context p → c.frame.how ≡ by_new → p ≢ this
-  used_other p can = spares program.table checked.table c.frame k.whole.parts (here c) k.context (sits program.table checked.table entry beginning c k) p can.spares_this
+  -- the frame sits so
+  abbrev seated : Sits program.table c.frame k.whole.parts (here c) k.context
+  seated = sits program.table checked.table entry beginning c k
 
-  module _ (p : Location) (inside : IsPlaceIn (body_of program.table c.frame k.whole.parts) p) (other : c.frame.how ≡ by_new → p ≢ this)
+  -- the body that the frame runs
+  abbrev body : BodyFrame
+  body = body_of program.table c.frame k.whole.parts
+
+  -- a place that can be used isn't `this` of a constructor
+  pub used_other : (p : Location) → CanUse body k.context p → c.frame.how ≡ by_new → p ≢ this
+  used_other p can = spares program.table checked.table c.frame k.whole.parts (here c) k.context seated p can.spares_this
+
+  module _ (p : Location) (inside : IsPlaceIn body p) (other : c.frame.how ≡ by_new → p ≢ this)
       (u : Found (NeedsOwner program.table c.world.objects) (k.context p) (cell_at (here c) p)) where
     pub low_place : IsLow p
     low_place = place_low program.table checked.table c.world.objects c.frame k.whole.parts k.whole.frame p inside
@@ -120,7 +122,7 @@ module _ (program : SilicaProgram) (checked : IsCheckedProgram program) (entry :
     is_counted = counts_is (here c) p u.cell
 
     pub allowed : Allows (counted k.context p) (counts_as (here c) p u.cell)
-    allowed = counted_allows program.table checked.table c.frame k.whole.parts (here c) k.context (sits program.table checked.table entry beginning c k) p u
+    allowed = counted_allows program.table checked.table c.frame k.whole.parts (here c) k.context seated p u
 
     -- where the place counts as an owner by the rules, it owns
     pub is_owner : owns (counted k.context p) ≡ true → owns u.cell.note.permission ≡ true
@@ -135,9 +137,9 @@ module _ (program : SilicaProgram) (checked : IsCheckedProgram program) (entry :
       amid_noted h q w wr s = record {
         stays = wr.stays;
         sits = s;
-        opens = carry_opens program.table checked.table c.frame k.whole.parts (here c) k.context (sits program.table checked.table entry beginning c k) h p q
+        opens = carry_opens program.table checked.table c.frame k.whole.parts (here c) k.context seated h p q
             (now k.context p w) u outer wr s;
-        arguments = carry_kept program.table checked.table c.frame k.whole.parts (here c) k.context (sits program.table checked.table entry beginning c k) h p q u
+        arguments = carry_kept program.table checked.table c.frame k.whole.parts (here c) k.context seated h p q u
             (length k.whole.parts.signature.params) wr;
       }
 
@@ -160,7 +162,7 @@ module _ (program : SilicaProgram) (checked : IsCheckedProgram program) (entry :
 
         amid_left : Amid program.table c k.whole.parts outer left_over known_left
         amid_left = amid_noted left_over (kept u.cell.note.permission (counts_as (here c) p u.cell)) (kept (permission_at k.context p) (counted k.context p)) left_written
-            (carry_counted program.table checked.table c.frame k.whole.parts (here c) k.context (sits program.table checked.table entry beginning c k) p inside u other)
+            (carry_counted program.table checked.table c.frame k.whole.parts (here c) k.context seated p inside u other)
 
         got_amid : serves_as program.table (Reference id) u.cell.note.kind ≡ true → is_tested (tested_places outer) (slot n) ≡ false
             → Amid program.table c k.whole.parts outer (set_slot n (Some got_cell) left_over) (put known_left (slot n) (Some got_known))
@@ -172,7 +174,7 @@ module _ (program : SilicaProgram) (checked : IsCheckedProgram program) (entry :
             (stands_at program.table checked.table entry beginning c k p u.cell u.is))))
             (says_of_less (NeedsOwner program.table c.world.objects) (NeedsOwner program.table left_over.world.objects)
             (needs_stay program.table (here c) left_over left_written.stays) (Some got_known) (Some got_cell)
-            (moved_says program.table checked.table c.frame k.whole.parts (here c) k.context (sits program.table checked.table entry beginning c k) p u (Reference id)))
+            (moved_says program.table checked.table c.frame k.whole.parts (here c) k.context seated p u (Reference id)))
 
         counts_on : (m : ℕ) → in_here owns m (set_slot n (Some got_cell) left_over) + in_cell owns m (left_over.slots n) ≡ in_here owns m (here c)
         counts_on m =
@@ -192,7 +194,7 @@ module _ (program : SilicaProgram) (checked : IsCheckedProgram program) (entry :
 
         pub move_done : (rest : SilicaTerms) → serves_as program.table (Reference id) u.cell.note.kind ≡ true → is_tested (tested_places outer) (slot n) ≡ false
             → is_owned_asset program.table (k.context (slot n)) ≡ false
-            → Remains (body_of program.table c.frame k.whole.parts) (with_slot n (held (Some (Reference id))) k.holdings) (put known_left (slot n) (Some got_known)) rest outer
+            → Remains body (with_slot n (held (Some (Reference id))) k.holdings) (put known_left (slot n) (Some got_known)) rest outer
             → IsCoherent program.table entry beginning (moved c (set_slot n (Some got_cell) left_over) rest outer)
         move_done rest serves untested none remains =
             form_done program.table checked.table entry beginning c k terms outer so (set_slot n (Some got_cell) left_over) (put known_left (slot n) (Some got_known)) rest
@@ -252,12 +254,12 @@ module _ (program : SilicaProgram) (checked : IsCheckedProgram program) (entry :
         reference_same m e = cc
 
         pub disown_done : (rest : SilicaTerms) → owns (counted k.context p) ≡ true
-            → Remains (body_of program.table c.frame k.whole.parts) k.holdings (now k.context p unowned) rest outer
+            → Remains body k.holdings (now k.context p unowned) rest outer
             → IsCoherent program.table entry beginning (moved c given_up rest outer)
         disown_done rest owner remains =
             form_done program.table checked.table entry beginning c k terms outer so given_up (now k.context p unowned) rest k.holdings
             (amid_noted given_up unowned unowned up_written
-            (carry_disowned program.table checked.table c.frame k.whole.parts (here c) k.context (sits program.table checked.table entry beginning c k) given_up p inside u up_written other))
+            (carry_disowned program.table checked.table c.frame k.whole.parts (here c) k.context seated given_up p inside u up_written other))
             (record {
               fewer = λ m. let e = counts_up owns m in let z = none_up m in omega (arith, e, z);
               keeps_owner = λ m needs. let e = counts_up owns m in
@@ -293,7 +295,7 @@ module _ (program : SilicaProgram) (checked : IsCheckedProgram program) (entry :
         let r = there_is _ _ w.kinds.1 in
         rw (operand_read program checked entry beginning c k from ps.0.usable.readable)
         (move_done (located from)
-        (place_inside (body_of program.table c.frame k.whole.parts) from.place (bound_second (n + 1) (slots_of_operand from) k.whole.parts.slots f) w.numbers.1)
+        (place_inside body from.place (bound_second (n + 1) (slots_of_operand from) k.whole.parts.slots f) w.numbers.1)
         (used_other (located from) ps.0.usable) u (and_term form span rest) outer so n w.params (bound_first (n + 1) (slots_of_operand from) n k.whole.parts.slots f (omega arith)) id rest
         (subst (λ z. serves_as program.table (Reference id) z ≡ true) (sym (operand_kind program checked entry beginning c k from ps.0.usable.readable r.0 r.1)) r.2)
         ps.0.to_untested ps.0.overwrites_none
@@ -312,5 +314,5 @@ module _ (program : SilicaProgram) (checked : IsCheckedProgram program) (entry :
         (ap is_reference (operand_kind program checked entry beginning c k o ps.0.usable.readable r.0 r.1) ∙ r.2)
         (operand_stands program checked entry beginning c k o ps.0.usable.readable).kind in
         rw (operand_read program checked entry beginning c k o ps.0.usable.readable, is.1)
-        (disown_done (located o) (place_inside (body_of program.table c.frame k.whole.parts) o.place f w.numbers) (used_other (located o) ps.0.usable) u
+        (disown_done (located o) (place_inside body o.place f w.numbers) (used_other (located o) ps.0.usable) u
         (and_term form span rest) outer so is.0 is.1 rest ps.0.owner (after program checked entry beginning c k form span rest outer so _ ps.1))

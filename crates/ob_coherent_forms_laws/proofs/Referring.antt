@@ -21,10 +21,7 @@ use Rattle.ob_coherent_counting_laws.proofs.Places.{in_slot, in_two_slots, in_fi
 use Rattle.ob_coherent_counting_laws.proofs.Whole.{place_and_waiting}
 use Rattle.ob_coherent_counting_laws.proofs.Writing.{IsLow}
 use Rattle.ob_coherent_places_laws.specs.Placed.{cell_at}
-
-some_or_none : (m : ℕ) → (0 < m) ⊎ (m ≡ 0)
-some_or_none zero = inr refl
-some_or_none (suc m) = inl (omega arith)
+use Rattle.ob_coherent_forms_laws.proofs.Slots.{some_or_none}
 
 -- the slot of `this` refers to the frame's object
 this_counts : (table : ClassTable) (objects : List Object) (f : SilicaFrame) (parts : BodyParts) → IsFrame table objects f parts

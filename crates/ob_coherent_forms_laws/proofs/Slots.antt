@@ -85,7 +85,8 @@ plain_untested b h outer n a plain = ⊎_elim
 
 -- What isn't lost.
 
-some_or_none : (m : ℕ) → (0 < m) ⊎ (m ≡ 0)
+-- a number is more than 0, or it is 0
+pub some_or_none : (m : ℕ) → (0 < m) ⊎ (m ≡ 0)
 some_or_none zero = inr refl
 some_or_none (suc m) = inl (omega arith)
 

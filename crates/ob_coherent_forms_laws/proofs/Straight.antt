@@ -32,7 +32,7 @@ use Rattle.ob_silica_steps.specs.Straight.{operate, with_operated, with_text}
 use Rattle.ob_silica_steps.specs.Steps.{act}
 use Rattle.ob_silica_formed.specs.Holdings.{held, with_slot, kind_of_operand, after_form}
 use Rattle.ob_silica_formed.specs.Points.{IsConstant, HasKind, HaveOperands}
-use Rattle.ob_flow_spec.specs.Contexts.{Context, put}
+use Rattle.ob_flow_spec.specs.Contexts.{BodyFrame, Context, put}
 use Rattle.ob_flow_spec.specs.Deriving.{derive}
 use Rattle.ob_flow_spec.specs.Uses.{kind_known}
 use Rattle.ob_places_laws.proofs.Tables.{there_is}
@@ -78,46 +78,53 @@ operator_plain : (operator : SilicaOperator) → is_reference (kind_of_operator 
 operator_plain (Unary operator) = unary_plain operator
 operator_plain (Binary operator) = binary_plain operator
 
-bound_first : (m j n k : ℕ) → max m j ≤ k → n < m → n < k
+pub bound_first : (m j n k : ℕ) → max m j ≤ k → n < m → n < k
 bound_first m j n k h l = omega (arith, h, l)
+
+pub bound_second : (m j k : ℕ) → max m j ≤ k → j ≤ k
+bound_second m j k h = omega (arith, h)
 
 module _ (program : SilicaProgram) (checked : IsCheckedProgram program) (entry : Option ℕ) (beginning : Beginning) (c : Configuration)
     (k : IsRunning program.table entry beginning c) where
+  -- the body that the frame runs
+  abbrev body : BodyFrame
+  body = body_of program.table c.frame k.whole.parts
+
   -- What a form leaves that a frame is about to run.
 
   module _ (form : SilicaForm) (span : Span) (rest : SilicaTerms) (outer : List Rest) (so : c.control ≡ runs (and_term form span rest) outer) where
-    pub left_so : Remains (body_of program.table c.frame k.whole.parts) k.holdings k.context (and_term form span rest) outer
+    pub left_so : Remains body k.holdings k.context (and_term form span rest) outer
     left_so = remains_so program.table entry beginning c k (and_term form span rest) outer so
 
     -- it is well-formed
-    pub formed : IsWellFormedForm (static_of (body_of program.table c.frame k.whole.parts)) k.holdings form
-    formed = first_formed (body_of program.table c.frame k.whole.parts) k.holdings k.context form span rest outer left_so
+    pub formed : IsWellFormedForm (static_of body) k.holdings form
+    formed = first_formed body k.holdings k.context form span rest outer left_so
 
     pub few : slots_of_form form ≤ k.whole.parts.slots
-    few = first_slots (body_of program.table c.frame k.whole.parts) k.holdings k.context form span rest outer left_so
+    few = first_slots body k.holdings k.context form span rest outer left_so
 
     -- it derives
-    abbrev pub first : IsFirst (body_of program.table c.frame k.whole.parts) k.context form span outer
-    first = first_passes (body_of program.table c.frame k.whole.parts) k.holdings k.context form span rest outer left_so
+    abbrev pub first : IsFirst body k.context form span outer
+    first = first_passes body k.holdings k.context form span rest outer left_so
 
     -- and then the rest is left
     pub after : (j : Context) → first.mid ≡ Some j
-        → Remains (body_of program.table c.frame k.whole.parts) (after_form (static_of (body_of program.table c.frame k.whole.parts)) form k.holdings) j rest outer
-    after j e = rest_remains (body_of program.table c.frame k.whole.parts) k.holdings k.context j form span rest outer left_so
-        (subst (λ m. derive (body_of program.table c.frame k.whole.parts) (tested_places outer) form span k.context ≡ Ok m) e first.derives)
-        (subst (KnowsIf (body_of program.table c.frame k.whole.parts)) e
-        (form_knows (body_of program.table c.frame k.whole.parts) (tested_places outer) k.holdings form span k.context first.mid formed left_so.formed.forms.1 first.passes k.remains.itself))
+        → Remains body (after_form (static_of body) form k.holdings) j rest outer
+    after j e = rest_remains body k.holdings k.context j form span rest outer left_so
+        (subst (λ m. derive body (tested_places outer) form span k.context ≡ Ok m) e first.derives)
+        (subst (KnowsIf body) e
+        (form_knows body (tested_places outer) k.holdings form span k.context first.mid formed left_so.formed.forms.1 first.passes k.remains.itself))
 
     -- A slot that holds no reference gets a value that is none.
     pub plain_slot : (n : ℕ) (v : Value) (kind l : Kind) → kind ≡ l → length k.whole.parts.signature.params < n → n < k.whole.parts.slots
         → (k.holdings n).refers ≡ false → IsOfKind program.table c.world.objects kind v → is_reference kind ≡ false
         → (x : Option Kind) → HoldsSo (held x) (plain_cell v kind)
-        → Remains (body_of program.table c.frame k.whole.parts) (with_slot n (held x) k.holdings) (put k.context (slot n) (Some (known l unowned))) rest outer
+        → Remains body (with_slot n (held x) k.holdings) (put k.context (slot n) (Some (known l unowned))) rest outer
         → IsCoherent program.table entry beginning (moved c (set_slot n (Some (plain_cell v kind)) (here c)) rest outer)
     plain_slot n v kind l same low inside none is plain x holds remains =
         own_slot program.table checked.table entry beginning c k n low inside (and_term form span rest) outer so (Some (plain_cell v kind)) (Some (known l unowned))
         (with_slot n (held x) k.holdings) rest
-        (plain_untested (body_of program.table c.frame k.whole.parts) (here c) outer n (opens_so program.table entry beginning c k (and_term form span rest) outer so) was_plain)
+        (plain_untested body (here c) outer n (opens_so program.table entry beginning c k (and_term form span rest) outer so) was_plain)
         (λ z e. subst (Stands program.table c.world.objects) (same_Some (plain_cell v kind) z e) stands)
         (λ z e. subst (λ (w : Cell). (m : ℕ) → w.value ≢ reference m) (same_Some (plain_cell v kind) z e) (plain_value program.table c.world.objects (plain_cell v kind) stands plain))
         (plain_says (NeedsOwner program.table c.world.objects) v kind l same)
@@ -133,25 +140,25 @@ module _ (program : SilicaProgram) (checked : IsCheckedProgram program) (entry :
 
   -- The value at an operand.
 
-  pub operand_found : (o : Operand) → CanRead (body_of program.table c.frame k.whole.parts) k.context (located o)
+  pub operand_found : (o : Operand) → CanRead body k.context (located o)
       → Found (NeedsOwner program.table c.world.objects) (k.context (located o)) (cell_at (here c) (located o))
   operand_found o can = found_at program.table checked.table entry beginning c k (located o) can
 
-  pub operand_read : (o : Operand) (can : CanRead (body_of program.table c.frame k.whole.parts) k.context (located o))
+  pub operand_read : (o : Operand) (can : CanRead body k.context (located o))
       → read program.table (here c) (located o) ≡ Some (operand_found o can).cell
   operand_read o can = reads_it program.table checked.table entry beginning c k (located o) (operand_found o can).cell (operand_found o can).is
 
-  pub operand_stands : (o : Operand) (can : CanRead (body_of program.table c.frame k.whole.parts) k.context (located o))
+  pub operand_stands : (o : Operand) (can : CanRead body k.context (located o))
       → Stands program.table c.world.objects (operand_found o can).cell
   operand_stands o can = stands_at program.table checked.table entry beginning c k (located o) (operand_found o can).cell (operand_found o can).is
 
-  pub operand_kind : (o : Operand) (can : CanRead (body_of program.table c.frame k.whole.parts) k.context (located o)) (kind : Kind)
-      → kind_of_operand (static_of (body_of program.table c.frame k.whole.parts)) k.holdings o ≡ Some kind → (operand_found o can).cell.note.kind ≡ kind
+  pub operand_kind : (o : Operand) (can : CanRead body k.context (located o)) (kind : Kind)
+      → kind_of_operand (static_of body) k.holdings o ≡ Some kind → (operand_found o can).cell.note.kind ≡ kind
   operand_kind o can kind e = kind_found program.table checked.table entry beginning c k o.place (operand_found o can).cell kind (operand_found o can).is e
 
   -- a value of a kind that is wanted, and that is no reference's
-  pub operand_of_kind : (o : Operand) (can : CanRead (body_of program.table c.frame k.whole.parts) k.context (located o)) (wanted : Kind)
-      → is_reference wanted ≡ false → HasKind (static_of (body_of program.table c.frame k.whole.parts)) k.holdings wanted o
+  pub operand_of_kind : (o : Operand) (can : CanRead body k.context (located o)) (wanted : Kind)
+      → is_reference wanted ≡ false → HasKind (static_of body) k.holdings wanted o
       → IsOfKind program.table c.world.objects wanted (operand_found o can).cell.value
   operand_of_kind o can wanted plain has =
       let r = there_is _ _ has in
@@ -159,9 +166,9 @@ module _ (program : SilicaProgram) (checked : IsCheckedProgram program) (entry :
       (operand_kind o can r.0 r.1 ∙ plain_serves program.table wanted r.0 plain r.2) (operand_stands o can).kind
 
   -- what an operator gives of its operands
-  operands_given : (operator : SilicaOperator) (a b : Operand) (x : CanRead (body_of program.table c.frame k.whole.parts) k.context (located a))
-      (y : CanRead (body_of program.table c.frame k.whole.parts) k.context (located b))
-      → HaveOperands (static_of (body_of program.table c.frame k.whole.parts)) k.holdings operator a b
+  operands_given : (operator : SilicaOperator) (a b : Operand) (x : CanRead body k.context (located a))
+      (y : CanRead body k.context (located b))
+      → HaveOperands (static_of body) k.holdings operator a b
       → Gives program.table c.world.objects (kind_of_operator operator) (operate operator (operand_found a x).cell.value (operand_found b y).cell.value)
   operands_given (Unary operator) a b x y has = unary_given program.table c.world.objects operator (operand_found a x).cell.value
       (operand_of_kind a x (kind_of_unary operator) (unary_plain operator) has.0)
@@ -237,7 +244,7 @@ module _ (program : SilicaProgram) (checked : IsCheckedProgram program) (entry :
         rw (operand_read from p.0.usable.readable)
         (plain_slot form span rest outer so n u.cell.value u.cell.note.kind (kind_known (k.context (located from))) (u.kind ∙ sym (ap kind_known u.told))
         w.params (bound_first (n + 1) _ n k.whole.parts.slots f (omega arith)) w.references (operand_stands from p.0.usable.readable).kind (ap is_reference is ∙ r.2)
-        (kind_of_operand (static_of (body_of program.table c.frame k.whole.parts)) k.holdings from)
+        (kind_of_operand (static_of body) k.holdings from)
         (subst (λ z. HoldsSo (held z) (plain_cell u.cell.value u.cell.note.kind)) (sym r.1) (holds_kind r.0 (plain_cell u.cell.value u.cell.note.kind) is))
         (after form span rest outer so (put k.context (slot n) (Some (known (kind_known (k.context (located from))) unowned))) p.1))
 
