@@ -53,7 +53,8 @@ use Rattle.ob_coherent_forms_laws.proofs.Slots.{plain_value, plain_none, tested_
 use Rattle.ob_coherent_forms_laws.proofs.Straight.{plain_stands, plain_says, first, formed, after, operand_found, operand_read, operand_stands, operand_kind}
 
 -- what serves as a kind of no reference isn't wanted as one
-serves_plain : (table : ClassTable) (wanted has : Kind) → is_reference has ≡ false → serves_as table wanted has ≡ true → is_reference wanted ≡ false
+serves_plain : (table : ClassTable) (wanted has : Kind) → is_reference has ≡ false → serves_as table wanted has ≡ true
+    → is_reference wanted ≡ false
 serves_plain table (Reference i) (Reference c) e s = e
 serves_plain table (Reference i) Int e s = absurd (true≢false (sym s))
 serves_plain table (Reference i) BoolKind e s = absurd (true≢false (sym s))
@@ -66,8 +67,10 @@ serves_plain table Text has e s = refl
 pub declared_type : (b : BodyFrame) (n : ℕ) (d : Field) → slice_get b.own.fields n ≡ Some d → type_of_field b n ≡ d.of
 declared_type b n d e = ap (λ x. option_map_or (λ (f : Field). f.of) x IntType) e
 
-module _ (program : SilicaProgram) (checked : IsCheckedProgram program) (entry : Option ℕ) (beginning : Beginning) (c : Configuration)
-    (k : IsRunning program.table entry beginning c) (n : ℕ) (d : Field) (declared : slice_get k.whole.parts.own.fields n ≡ Some d)
+module _ (program : SilicaProgram) (checked : IsCheckedProgram program) (entry : Option ℕ) (beginning : Beginning)
+    (c : Configuration)
+    (k : IsRunning program.table entry beginning c) (n : ℕ) (d : Field)
+    (declared : slice_get k.whole.parts.own.fields n ≡ Some d)
     (there : is_available (own_object (here c)).state d ≡ true) where
   -- the frame sits so
   abbrev seated : Sits program.table c.frame k.whole.parts (here c) k.context
@@ -80,32 +83,38 @@ module _ (program : SilicaProgram) (checked : IsCheckedProgram program) (entry :
   -- the field is there
   pub field_found : available_field program.table (here c) n ≡ Some d
   field_found =
-      ap (λ x. option_and_then (λ (o : Object). option_and_then (λ f. if is_available o.state f then Some f else None) (field_of program.table o n)) x)
+      ap (λ x. option_and_then (λ (o : Object). option_and_then (λ f. if is_available o.state f then Some f else None)
+      (field_of program.table o n)) x)
       (self_is (here c) k.whole.frame.there)
       ∙ ap (λ x. option_and_then (λ f. if is_available (own_object (here c)).state f then Some f else None) x)
-      (field_of_is program.table (own_object (here c)) k.whole.parts.own n (ap (contract_at program.table) k.whole.frame.contract ∙ k.whole.frame.own) ∙ declared)
+      (field_of_is program.table (own_object (here c)) k.whole.parts.own n
+      (ap (contract_at program.table) k.whole.frame.contract ∙ k.whole.frame.own) ∙ declared)
       ∙ ap (λ (b : Bool). if b then Some d else None) there
 
   pub inside_field : IsPlaceIn body (field n)
   inside_field = slice_get_within k.whole.parts.own.fields n d declared
 
   pub low_field : IsLow (field n)
-  low_field = place_low program.table checked.table c.world.objects c.frame k.whole.parts k.whole.frame (field n) inside_field
+  low_field = place_low program.table checked.table c.world.objects c.frame k.whole.parts k.whole.frame
+      (field n) inside_field
 
   -- what stands there has the declared kind
   pub field_kind : (x : Cell) → cell_at (here c) (field n) ≡ Some x → x.note.kind ≡ kind_of_resolved d.of
   field_kind x e =
       let r = kind_in_run program.table c.notes c.world.objects (self_of c.frame.slots) seated.object n x e in
       r.4 ∙ ap (λ (f : Field). kind_of_resolved f.of) (same_Some r.1 d (sym r.2
-      ∙ ap (λ (o : Contract). slice_get o.fields n) (own_is program.table checked.table c.frame k.whole.parts (here c) k.context seated) ∙ declared))
+      ∙ ap (λ (o : Contract). slice_get o.fields n)
+      (own_is program.table checked.table c.frame k.whole.parts (here c) k.context seated) ∙ declared))
 
   -- there is room for a value of that kind
-  pub field_room : (h : Here) (g : Context) (s : Sits program.table c.frame k.whole.parts h g) → (own_object h).state ≡ (own_object (here c)).state
+  pub field_room : (h : Here) (g : Context) (s : Sits program.table c.frame k.whole.parts h g)
+      → (own_object h).state ≡ (own_object (here c)).state
       → (x : Cell) → x.note.kind ≡ kind_of_resolved d.of → HasRoom s.object.own (own_object h).state (field n) (Some x)
   field_room h g s same x e m z is f =
       let i : n ≡ m = number is in (
         d,
-        ap (λ (o : Contract). slice_get o.fields m) (own_is program.table checked.table c.frame k.whole.parts h g s) ∙ ap (slice_get k.whole.parts.own.fields) (sym i) ∙ declared,
+        ap (λ (o : Contract). slice_get o.fields m) (own_is program.table checked.table c.frame k.whole.parts h g s)
+            ∙ ap (slice_get k.whole.parts.own.fields) (sym i) ∙ declared,
         ap (λ t. is_available t d) same ∙ there,
         ap (λ (y : Cell). y.note.kind) (sym (same_Some x z f)) ∙ e,
       )
@@ -116,12 +125,15 @@ module _ (program : SilicaProgram) (checked : IsCheckedProgram program) (entry :
   no_slot : (m : ℕ) → field n ≡ slot m → ⊥
   no_slot m e = cc
 
-  pub amid_field : (outer : List Rest) (h : Here) (g : Context) (x : Cell) (y : Known) (a : Amid program.table c k.whole.parts outer h g)
+  pub amid_field : (outer : List Rest) (h : Here) (g : Context) (x : Cell) (y : Known)
+      (a : Amid program.table c k.whole.parts outer h g)
       → x.note.kind ≡ kind_of_resolved d.of → Stands program.table (set_field n x h).world.objects x
       → SaysOf (NeedsOwner program.table (set_field n x h).world.objects) (Some y) (Some x)
       → is_tested (tested_places outer) (field n) ≡ false
       → Amid program.table c k.whole.parts outer (set_field n x h) (put g (field n) (Some y))
-  amid_field outer h g x y a kind st says untested = amid_written program.table checked.table entry beginning c k outer h (set_field n x h) g (field n) (Some x) (Some y) a
+  amid_field outer h g x y a kind st says untested =
+      amid_written program.table checked.table entry beginning c k outer h (set_field n x h) g (field n) (Some x)
+      (Some y) a
       (field_written n x h a.sits.frame.there) inside_field
       (λ m e le. absurd (no_slot m e))
       (field_room h g a.sits (own_state (here c) h a.stays) x kind)
@@ -133,7 +145,8 @@ module _ (program : SilicaProgram) (checked : IsCheckedProgram program) (entry :
 
   -- A value that is no reference is copied to the field.
   module _ (terms : SilicaTerms) (outer : List Rest) (so : c.control ≡ runs terms outer) (v : Value)
-      (is : IsOfKind program.table c.world.objects (kind_of_resolved d.of) v) (plain : is_reference (kind_of_resolved d.of) ≡ false) where
+      (is : IsOfKind program.table c.world.objects (kind_of_resolved d.of) v)
+      (plain : is_reference (kind_of_resolved d.of) ≡ false) where
     abbrev pub copied : Here
     copied = set_field n (plain_cell v (kind_of_resolved d.of)) (here c)
 
@@ -141,13 +154,17 @@ module _ (program : SilicaProgram) (checked : IsCheckedProgram program) (entry :
     copy_stands = plain_stands program.table c.world.objects v (kind_of_resolved d.of) is
 
     was_plain : (x : Cell) → cell_at (here c) (field n) ≡ Some x → (m : ℕ) → x.value ≢ reference m
-    was_plain x e = plain_value program.table c.world.objects x (stands_at program.table checked.table entry beginning c k (field n) x e)
+    was_plain x e = plain_value program.table c.world.objects x
+        (stands_at program.table checked.table entry beginning c k (field n) x e)
         (ap is_reference (field_kind x e) ∙ plain)
 
     untested_field : is_tested (tested_places outer) (field n) ≡ false
     untested_field = ⊎_elim
-        (λ e. let r = tested_refers body (here c) outer (field n) (opens_so program.table entry beginning c k terms outer so) e in
-        absurd (was_plain r.cell (sym (sits_read program.table checked.table c.frame k.whole.parts (here c) k.context seated (field n)) ∙ r.found) r.number r.object))
+        (λ e. let r = tested_refers body (here c) outer (field n)
+        (opens_so program.table entry beginning c k terms outer so) e in
+        absurd (was_plain r.cell
+        (sym (sits_read program.table checked.table c.frame k.whole.parts (here c) k.context seated (field n))
+        ∙ r.found) r.number r.object))
         (λ e. e)
         (cases_Bool (is_tested (tested_places outer) (field n)))
 
@@ -159,23 +176,32 @@ module _ (program : SilicaProgram) (checked : IsCheckedProgram program) (entry :
         (amid_field outer (here c) k.context (plain_cell v (kind_of_resolved d.of))
         (known (kind_of_resolved (type_of_field body n)) unowned)
         (amid_first program.table checked.table entry beginning c k terms outer so) refl
-        (stands_stay program.table (here c) copied (field_written n (plain_cell v (kind_of_resolved d.of)) (here c) k.whole.frame.there).stays (plain_cell v (kind_of_resolved d.of)) copy_stands)
-        (plain_says (NeedsOwner program.table copied.world.objects) v (kind_of_resolved d.of) (kind_of_resolved (type_of_field body n))
+        (stands_stay program.table (here c) copied
+        (field_written n (plain_cell v (kind_of_resolved d.of)) (here c) k.whole.frame.there).stays
+        (plain_cell v (kind_of_resolved d.of)) copy_stands)
+        (plain_says (NeedsOwner program.table copied.world.objects) v (kind_of_resolved d.of)
+        (kind_of_resolved (type_of_field body n))
         (ap kind_of_resolved (sym (declared_type body n d declared))))
         untested_field)
         (record {
           fewer = λ m. let e = counts_field owns m in let a = none_now owns m in omega (arith, e, a);
           keeps_owner = λ m needs. let e = counts_field owns m in let a = none_before owns m in omega (arith, e, a);
-          newly_shared = λ m e f. absurd (both_ways _ e (sym ((field_marks n (plain_cell v (kind_of_resolved d.of)) (here c)).shared m) ∙ f));
-          newly_disowned = λ m e f. absurd (both_ways _ e (sym ((field_marks n (plain_cell v (kind_of_resolved d.of)) (here c)).disowned m) ∙ f));
+          newly_shared =
+              λ m e f. absurd
+              (both_ways _ e (sym ((field_marks n (plain_cell v (kind_of_resolved d.of)) (here c)).shared m) ∙ f));
+          newly_disowned =
+              λ m e f. absurd
+              (both_ways _ e (sym ((field_marks n (plain_cell v (kind_of_resolved d.of)) (here c)).disowned m) ∙ f));
           shares = λ j x y le e f s. inl (ap (λ (w : Cell). w.note.permission) (same_Some x y (sym e ∙ f)) ∙ s);
           unreferred = λ m has. let e = counts_field any m in let a = none_now any m in omega (arith, e, a);
         })
         k.held remains
       where
         counts_field : (counts : Counted) (m : ℕ)
-            → in_here counts m copied + in_cell counts m (cell_at (here c) (field n)) ≡ in_here counts m (here c) + in_cell counts m (Some (plain_cell v (kind_of_resolved d.of)))
-        counts_field counts m = here_field counts m n (plain_cell v (kind_of_resolved d.of)) (here c) low_field k.whole.frame.there
+            → in_here counts m copied + in_cell counts m (cell_at (here c) (field n))
+            ≡ in_here counts m (here c) + in_cell counts m (Some (plain_cell v (kind_of_resolved d.of)))
+        counts_field counts m = here_field counts m n (plain_cell v (kind_of_resolved d.of))
+            (here c) low_field k.whole.frame.there
 
         none_now : (counts : Counted) (m : ℕ) → in_cell counts m (Some (plain_cell v (kind_of_resolved d.of))) ≡ 0
         none_now counts m = cell_other counts m (plain_cell v (kind_of_resolved d.of))
@@ -184,27 +210,37 @@ module _ (program : SilicaProgram) (checked : IsCheckedProgram program) (entry :
         none_before : (counts : Counted) (m : ℕ) → in_cell counts m (cell_at (here c) (field n)) ≡ 0
         none_before counts m = plain_none counts m (cell_at (here c) (field n)) was_plain
 
-module _ (program : SilicaProgram) (checked : IsCheckedProgram program) (entry : Option ℕ) (beginning : Beginning) (c : Configuration)
+module _ (program : SilicaProgram) (checked : IsCheckedProgram program) (entry : Option ℕ) (beginning : Beginning)
+    (c : Configuration)
     (k : IsRunning program.table entry beginning c) (span : Span) (rest : SilicaTerms) (outer : List Rest) where
-  pub copy_field_keeps : (id : FieldId) (from : Operand) → c.control ≡ runs (and_term (copy_form (FieldPlace id) from) span rest) outer
+  pub copy_field_keeps : (id : FieldId) (from : Operand)
+      → c.control ≡ runs (and_term (copy_form (FieldPlace id) from) span rest) outer
       → StepsSo program.table entry beginning (act program (copy_form (FieldPlace id) from) rest outer c)
   copy_field_keeps id from so =
       let form = copy_form (FieldPlace id) from in
       let w = formed program checked entry beginning c k form span rest outer so in
       let ps = (first program checked entry beginning c k form span rest outer so).passes in
       let u = operand_found program checked entry beginning c k from ps.0.usable.readable in
-      let f = field_now program.table checked.table c.frame k.whole.parts (here c) k.context (sits program.table checked.table entry beginning c k) id.0 (ps.0.reached id.0 refl) in
+      let f = field_now program.table checked.table c.frame k.whole.parts (here c) k.context
+      (sits program.table checked.table entry beginning c k) id.0 (ps.0.reached id.0 refl) in
       let has = if_there_so (option_map (λ (x : Field). kind_of_resolved x.of) (field_at k.whole.parts.own id))
-      (λ kind. HasKind (static_of (body_of program.table c.frame k.whole.parts)) k.holdings kind from) (kind_of_resolved f.0.of)
+      (λ kind. HasKind (static_of (body_of program.table c.frame k.whole.parts)) k.holdings kind from)
+      (kind_of_resolved f.0.of)
       (ap (option_map (λ (x : Field). kind_of_resolved x.of)) f.1) w.kinds.1 in
       let r = there_is _ _ has in
       let no = there_is _ _ w.kinds.0 in
       let is = operand_kind program checked entry beginning c k from ps.0.usable.readable r.0 r.1 in
       let same = operand_kind program checked entry beginning c k from ps.0.usable.readable no.0 no.1 in
-      let serves : serves_as program.table (kind_of_resolved f.0.of) u.cell.note.kind ≡ true = ap (serves_as program.table (kind_of_resolved f.0.of)) is ∙ r.2 in
-      rw (operand_read program checked entry beginning c k from ps.0.usable.readable, field_found program checked entry beginning c k id.0 f.0 f.1 f.2)
+      let serves : serves_as program.table (kind_of_resolved f.0.of) u.cell.note.kind ≡ true =
+      ap (serves_as program.table (kind_of_resolved f.0.of)) is ∙ r.2 in
+      rw (
+        operand_read program checked entry beginning c k from ps.0.usable.readable,
+        field_found program checked entry
+            beginning c k id.0 f.0 f.1 f.2,
+      )
       (copy_done program checked entry beginning c k id.0 f.0 f.1 f.2 (and_term form span rest) outer so u.cell.value
-      (kind_up program.table checked.table c.world.objects u.cell.note.kind (kind_of_resolved f.0.of) u.cell.value serves
+      (kind_up program.table checked.table c.world.objects u.cell.note.kind
+      (kind_of_resolved f.0.of) u.cell.value serves
       (operand_stands program checked entry beginning c k from ps.0.usable.readable).kind)
       (serves_plain program.table (kind_of_resolved f.0.of) u.cell.note.kind (ap is_reference same ∙ no.2) serves)
       rest (after program checked entry beginning c k form span rest outer so _ ps.1))

@@ -64,7 +64,8 @@ use Rattle.ob_coherent_forms_laws.proofs.Referring.{made_unreferred}
 use Rattle.ob_coherent_forms_laws.proofs.Straight.{bound_first, bound_second, first, formed, few, after, operand_found, operand_read, operand_stands, operand_kind}
 
 -- what is left of a place once what counts of it was given owns no asset
-not_owned : (table : ClassTable) (w : Permission) (y : Option Known) → owns w ≡ false → is_owned_asset table (with_permission w y) ≡ false
+not_owned : (table : ClassTable) (w : Permission) (y : Option Known) → owns w ≡ false
+    → is_owned_asset table (with_permission w y) ≡ false
 not_owned table w None e = refl
 not_owned table w (Some y) e = and_left (owns w) (is_asset table y.kind) e
 
@@ -77,13 +78,17 @@ left_none : (table : ClassTable) (g : Context) (p : Location) (n : ℕ) → is_o
     → is_owned_asset table (now g p (kept (permission_at g p) (counted g p)) (slot n)) ≡ false
 left_none table g (field f) n e = e
 left_none table g (slot m) n e = ⊎_elim
-    (λ i. ap (is_owned_asset table) (put_that g (slot m) (with_permission (kept (permission_at g (slot m)) (permission_at g (slot m))) (g (slot m))) (slot n) i)
-    ∙ not_owned table (kept (permission_at g (slot m)) (permission_at g (slot m))) (g (slot m)) (kept_itself (permission_at g (slot m))))
-    (λ i. ap (is_owned_asset table) (put_other g (slot m) (with_permission (kept (permission_at g (slot m)) (permission_at g (slot m))) (g (slot m))) (slot n) i) ∙ e)
+    (λ i. ap (is_owned_asset table) (put_that g (slot m)
+    (with_permission (kept (permission_at g (slot m)) (permission_at g (slot m))) (g (slot m))) (slot n) i)
+    ∙ not_owned table (kept (permission_at g (slot m)) (permission_at g (slot m))) (g (slot m))
+    (kept_itself (permission_at g (slot m))))
+    (λ i. ap (is_owned_asset table) (put_other g (slot m)
+    (with_permission (kept (permission_at g (slot m)) (permission_at g (slot m))) (g (slot m))) (slot n) i) ∙ e)
     (place_is (slot n) (slot m))
 
 -- a value of a reference's kind refers to an object
-pub kind_refers : (table : ClassTable) (objects : List Object) (kind : Kind) (v : Value) → is_reference kind ≡ true → IsOfKind table objects kind v
+pub kind_refers : (table : ClassTable) (objects : List Object) (kind : Kind) (v : Value) → is_reference kind ≡ true
+    → IsOfKind table objects kind v
     → (n : ℕ) × (v ≡ reference n)
 kind_refers table objects (Reference id) (reference n) e is = (n, refl)
 kind_refers table objects (Reference id) (int_value z) e is = absurd is
@@ -94,12 +99,14 @@ kind_refers table objects BoolKind v e is = absurd (true≢false (sym e))
 kind_refers table objects Text v e is = absurd (true≢false (sym e))
 
 -- what is said of an argument that is kept
-pub kept_shares : (left : ℕ → ℕ) (x : Cell) (o : Option Cell) (y : Cell) → KeepsArgument left x o → o ≡ Some y → y.note.permission ≡ shared
+pub kept_shares : (left : ℕ → ℕ) (x : Cell) (o : Option Cell) (y : Cell) → KeepsArgument left x o → o ≡ Some y
+    → y.note.permission ≡ shared
     → (x.note.permission ≡ shared) ⊎ ((n : ℕ) → x.value ≡ reference n → left n ≡ 0)
 kept_shares left x None y a e is = absurd a
 kept_shares left x (Some z) y a e is = a.2 (ap (λ (w : Cell). w.note.permission) (same_Some z y e) ∙ is)
 
-module _ (program : SilicaProgram) (checked : IsCheckedProgram program) (entry : Option ℕ) (beginning : Beginning) (c : Configuration)
+module _ (program : SilicaProgram) (checked : IsCheckedProgram program) (entry : Option ℕ) (beginning : Beginning)
+    (c : Configuration)
     (k : IsRunning program.table entry beginning c) where
   -- the frame sits so
   abbrev seated : Sits program.table c.frame k.whole.parts (here c) k.context
@@ -111,7 +118,8 @@ module _ (program : SilicaProgram) (checked : IsCheckedProgram program) (entry :
 
   -- a place that can be used isn't `this` of a constructor
   pub used_other : (p : Location) → CanUse body k.context p → c.frame.how ≡ by_new → p ≢ this
-  used_other p can = spares program.table checked.table c.frame k.whole.parts (here c) k.context seated p can.spares_this
+  used_other p can = spares program.table checked.table c.frame k.whole.parts
+      (here c) k.context seated p can.spares_this
 
   module _ (p : Location) (inside : IsPlaceIn body p) (other : c.frame.how ≡ by_new → p ≢ this)
       (u : Found (NeedsOwner program.table c.world.objects) (k.context p) (cell_at (here c) p)) where
@@ -132,7 +140,8 @@ module _ (program : SilicaProgram) (checked : IsCheckedProgram program) (entry :
 
     module _ (terms : SilicaTerms) (outer : List Rest) (so : c.control ≡ runs terms outer) where
       -- the place has another permission
-      pub amid_noted : (h : Here) (q w : Permission) → Written p (Some (noted q u.cell)) (here c) h → Sits program.table c.frame k.whole.parts h (now k.context p w)
+      pub amid_noted : (h : Here) (q w : Permission) → Written p (Some (noted q u.cell)) (here c) h
+          → Sits program.table c.frame k.whole.parts h (now k.context p w)
           → Amid program.table c k.whole.parts outer h (now k.context p w)
       amid_noted h q w wr s = record {
         stays = wr.stays;
@@ -143,7 +152,8 @@ module _ (program : SilicaProgram) (checked : IsCheckedProgram program) (entry :
             (length k.whole.parts.signature.params) wr;
       }
 
-      module _ (n : ℕ) (low : length k.whole.parts.signature.params < n) (inside_slot : n < k.whole.parts.slots) (id : ContractId) where
+      module _ (n : ℕ) (low : length k.whole.parts.signature.params < n) (inside_slot : n < k.whole.parts.slots)
+          (id : ContractId) where
         -- what counts of the place is given to the slot
         abbrev pub left_over : Here
         left_over = set_permission p (kept u.cell.note.permission (counts_as (here c) p u.cell)) (here c)
@@ -152,21 +162,29 @@ module _ (program : SilicaProgram) (checked : IsCheckedProgram program) (entry :
         known_left = now k.context p (kept (permission_at k.context p) (counted k.context p))
 
         abbrev pub got_cell : Cell
-        got_cell = cell u.cell.value (Reference id) (converted program.table u.cell.note.kind (Reference id) (counts_as (here c) p u.cell))
+        got_cell = cell u.cell.value (Reference id)
+            (converted program.table u.cell.note.kind (Reference id) (counts_as (here c) p u.cell))
 
         abbrev pub got_known : Known
-        got_known = known (Reference id) (converted program.table (kind_known (k.context p)) (Reference id) (counted k.context p))
+        got_known = known (Reference id) (converted program.table (kind_known (k.context p)) (Reference id)
+            (counted k.context p))
 
-        left_written : Written p (Some (noted (kept u.cell.note.permission (counts_as (here c) p u.cell)) u.cell)) (here c) left_over
-        left_written = permission_written p (kept u.cell.note.permission (counts_as (here c) p u.cell)) u.cell (here c) u.is
+        left_written : Written p (Some (noted (kept u.cell.note.permission (counts_as (here c) p u.cell)) u.cell))
+            (here c) left_over
+        left_written = permission_written p (kept u.cell.note.permission (counts_as (here c) p u.cell)) u.cell
+            (here c) u.is
 
         amid_left : Amid program.table c k.whole.parts outer left_over known_left
-        amid_left = amid_noted left_over (kept u.cell.note.permission (counts_as (here c) p u.cell)) (kept (permission_at k.context p) (counted k.context p)) left_written
+        amid_left = amid_noted left_over (kept u.cell.note.permission (counts_as (here c) p u.cell))
+            (kept (permission_at k.context p) (counted k.context p)) left_written
             (carry_counted program.table checked.table c.frame k.whole.parts (here c) k.context seated p inside u other)
 
-        got_amid : serves_as program.table (Reference id) u.cell.note.kind ≡ true → is_tested (tested_places outer) (slot n) ≡ false
-            → Amid program.table c k.whole.parts outer (set_slot n (Some got_cell) left_over) (put known_left (slot n) (Some got_known))
-        got_amid serves untested = amid_slot program.table checked.table entry beginning c k n low inside_slot outer left_over known_left (Some got_cell) (Some got_known) amid_left untested
+        got_amid : serves_as program.table (Reference id) u.cell.note.kind ≡ true
+            → is_tested (tested_places outer) (slot n) ≡ false
+            → Amid program.table c k.whole.parts outer (set_slot n (Some got_cell) left_over)
+            (put known_left (slot n) (Some got_known))
+        got_amid serves untested = amid_slot program.table checked.table entry beginning c k n low inside_slot outer
+            left_over known_left (Some got_cell) (Some got_known) amid_left untested
             (λ z e. subst (Stands program.table left_over.world.objects) (same_Some got_cell z e)
             (stands_stay program.table (here c) left_over left_written.stays got_cell
             (got_stands program.table checked.table c.world.objects u.cell (counts_as (here c) p u.cell) (Reference id)
@@ -176,47 +194,66 @@ module _ (program : SilicaProgram) (checked : IsCheckedProgram program) (entry :
             (needs_stay program.table (here c) left_over left_written.stays) (Some got_known) (Some got_cell)
             (moved_says program.table checked.table c.frame k.whole.parts (here c) k.context seated p u (Reference id)))
 
-        counts_on : (m : ℕ) → in_here owns m (set_slot n (Some got_cell) left_over) + in_cell owns m (left_over.slots n) ≡ in_here owns m (here c)
+        counts_on : (m : ℕ) → in_here owns m (set_slot n (Some got_cell) left_over)
+            + in_cell owns m (left_over.slots n) ≡ in_here owns m (here c)
         counts_on m =
-            let a = counts_slot program.table checked.table entry beginning c k n low inside_slot owns m (Some got_cell) left_over in
-            let b = permission_counts p (kept u.cell.note.permission (counts_as (here c) p u.cell)) (here c) low_place k.whole.frame.there u.cell u.is owns m in
+            let a = counts_slot program.table checked.table entry beginning c k n low inside_slot owns m
+            (Some got_cell) left_over in
+            let b = permission_counts p (kept u.cell.note.permission (counts_as (here c) p u.cell))
+            (here c) low_place k.whole.frame.there u.cell u.is owns m in
             let d = hands_on program.table m u.cell (counts_as (here c) p u.cell) (Reference id) is_counted in
             omega (arith, a, b, d)
 
-        slot_kept : (rest : SilicaTerms) (j : ℕ) (x y : Cell) → j ≤ length k.whole.parts.signature.params → c.frame.slots j ≡ Some x
+        slot_kept : (rest : SilicaTerms) (j : ℕ) (x y : Cell) → j ≤ length k.whole.parts.signature.params
+            → c.frame.slots j ≡ Some x
             → (set_slot n (Some got_cell) left_over).slots j ≡ Some y → y.note.permission ≡ shared
-            → (x.note.permission ≡ shared) ⊎ ((m : ℕ) → x.value ≡ reference m → owners m (moved c (set_slot n (Some got_cell) left_over) rest outer) ≡ 0)
-        slot_kept rest j x y le e d is = kept_shares (λ m. owners m (moved c (set_slot n (Some got_cell) left_over) rest outer)) x (left_over.slots j) y
-            (carry_arguments (λ m. owners m (moved c (set_slot n (Some got_cell) left_over) rest outer)) (here c) left_over p u.cell
+            → (x.note.permission ≡ shared) ⊎ ((m : ℕ) → x.value ≡ reference m
+            → owners m (moved c (set_slot n (Some got_cell) left_over) rest outer) ≡ 0)
+        slot_kept rest j x y le e d is = kept_shares
+            (λ m. owners m (moved c (set_slot n (Some got_cell) left_over) rest outer)) x (left_over.slots j) y
+            (carry_arguments (λ m. owners m (moved c (set_slot n (Some got_cell) left_over) rest outer))
+            (here c) left_over p u.cell
             (kept u.cell.note.permission (counts_as (here c) p u.cell)) left_written u.is
             (λ s. inl (whole_is_shared u.cell.note.permission (counts_as (here c) p u.cell) is_counted s)) j x e)
             (sym (at_other left_over.slots n (Some got_cell) j (λ z. omega (arith, le, low, z))) ∙ d) is
 
-        pub move_done : (rest : SilicaTerms) → serves_as program.table (Reference id) u.cell.note.kind ≡ true → is_tested (tested_places outer) (slot n) ≡ false
+        pub move_done : (rest : SilicaTerms) → serves_as program.table (Reference id) u.cell.note.kind ≡ true
+            → is_tested (tested_places outer) (slot n) ≡ false
             → is_owned_asset program.table (k.context (slot n)) ≡ false
-            → Remains body (with_slot n (held (Some (Reference id))) k.holdings) (put known_left (slot n) (Some got_known)) rest outer
+            → Remains body (with_slot n (held (Some (Reference id))) k.holdings)
+            (put known_left (slot n) (Some got_known)) rest outer
             → IsCoherent program.table entry beginning (moved c (set_slot n (Some got_cell) left_over) rest outer)
         move_done rest serves untested none remains =
-            form_done program.table checked.table entry beginning c k terms outer so (set_slot n (Some got_cell) left_over) (put known_left (slot n) (Some got_known)) rest
+            form_done program.table checked.table entry beginning c k terms outer so
+            (set_slot n (Some got_cell) left_over) (put known_left (slot n) (Some got_known)) rest
             (with_slot n (held (Some (Reference id))) k.holdings) (got_amid serves untested)
             (record {
               fewer = λ m. let e = counts_on m in omega (arith, e);
               keeps_owner = λ m needs. let e = counts_on m in
-                  let z = no_asset program.table checked.table left_over.world.objects (known_left (slot n)) (left_over.slots n) (λ y d. amid_left.sits.slots n y d)
-                  (amid_left.sits.says.slots n refl) (left_none program.table k.context p n none) m needs in omega (arith, e, z);
+                  let z = no_asset program.table checked.table left_over.world.objects (known_left (slot n))
+                  (left_over.slots n) (λ y d. amid_left.sits.slots n y d)
+                  (amid_left.sits.says.slots n refl) (left_none program.table k.context p n none) m needs in
+                  omega (arith, e, z);
               newly_shared = λ m e d. absurd (both_ways _ e
-                  (sym ((permission_marks p (kept u.cell.note.permission (counts_as (here c) p u.cell)) (here c)).shared m) ∙ d));
+                  (sym ((permission_marks p (kept u.cell.note.permission (counts_as (here c) p u.cell))
+                  (here c)).shared m) ∙ d));
               newly_disowned = λ m e d. absurd (both_ways _ e
-                  (sym ((permission_marks p (kept u.cell.note.permission (counts_as (here c) p u.cell)) (here c)).disowned m) ∙ d));
+                  (sym ((permission_marks p (kept u.cell.note.permission (counts_as (here c) p u.cell))
+                  (here c)).disowned m) ∙ d));
               shares = slot_kept rest;
               unreferred = λ m has.
-                  let a = counts_slot program.table checked.table entry beginning c k n low inside_slot any m (Some got_cell) left_over in
-                  let b = permission_refers p (kept u.cell.note.permission (counts_as (here c) p u.cell)) (here c) low_place k.whole.frame.there u.cell u.is m in
-                  let d = cell_other any m got_cell (made_unreferred program.table checked.table entry beginning c k p inside other u.cell u.is m has) in
+                  let a = counts_slot program.table checked.table entry beginning c k n low inside_slot any m
+                  (Some got_cell) left_over in
+                  let b = permission_refers p (kept u.cell.note.permission (counts_as (here c) p u.cell))
+                  (here c) low_place k.whole.frame.there u.cell u.is m in
+                  let d = cell_other any m got_cell
+                  (made_unreferred program.table checked.table entry beginning c k p inside other u.cell u.is m has) in
                   omega (arith, a, b, d);
             })
-            (held_set k.holdings left_over.slots n got_cell (held (Some (Reference id))) (held_of_kind (Reference id) got_cell refl)
-            (held_noted k.holdings (here c) left_over p u.cell (kept u.cell.note.permission (counts_as (here c) p u.cell)) left_written u.is k.held))
+            (held_set k.holdings left_over.slots n got_cell (held (Some (Reference id)))
+            (held_of_kind (Reference id) got_cell refl)
+            (held_noted k.holdings (here c) left_over p u.cell
+            (kept u.cell.note.permission (counts_as (here c) p u.cell)) left_written u.is k.held))
             remains
 
       -- Ownership of a place is given up.
@@ -230,25 +267,33 @@ module _ (program : SilicaProgram) (checked : IsCheckedProgram program) (entry :
         up_written : Written p (Some (noted unowned u.cell)) (here c) given_up
         up_written = disown_written n p u.cell (here c) u.is
 
-        counts_up : (counts : Counted) (m : ℕ) → in_here counts m given_up + in_cell counts m (Some u.cell) ≡ in_here counts m (here c) + in_cell counts m (Some (noted unowned u.cell))
+        counts_up : (counts : Counted) (m : ℕ) → in_here counts m given_up + in_cell counts m (Some u.cell)
+            ≡ in_here counts m (here c) + in_cell counts m (Some (noted unowned u.cell))
         counts_up counts m =
             let a = here_kept counts m (here c) (mark_disowned n c.world) (mark_disowned_keeps n c.world) in
             let b = permission_counts p unowned marked_here low_place
-            (subst (λ j. self_of c.frame.slots < j) (sym (mark_disowned_keeps n c.world).count) k.whole.frame.there) u.cell
-            ((marks_same_cells (here c) (mark_disowned n c.world) (mark_disowned_marks n c.world)).same p ∙ u.is) counts m in
+            (subst (λ j. self_of c.frame.slots < j) (sym (mark_disowned_keeps n c.world).count) k.whole.frame.there)
+            u.cell
+            ((marks_same_cells (here c) (mark_disowned n c.world) (mark_disowned_marks n c.world)).same p ∙ u.is)
+            counts m in
             omega (arith, a, b)
 
         none_up : (m : ℕ) → in_cell owns m (Some (noted unowned u.cell)) ≡ 0
         none_up m = refl
 
         object_there : n < length c.world.objects
-        object_there = reference_there program.table c.world.objects u.cell.note.kind u.cell.value n (stands_at program.table checked.table entry beginning c k p u.cell u.is).kind refers
+        object_there = reference_there program.table c.world.objects u.cell.note.kind u.cell.value n
+            (stands_at program.table checked.table entry beginning c k p u.cell u.is).kind refers
 
         is_marked : (nth_object given_up.world.objects n).disowned ≡ true
-        is_marked = ap (λ (w : World). (nth_object w.objects n).disowned) (permission_world p unowned marked_here) ∙ mark_disowned_sets n c.world object_there
+        is_marked = ap (λ (w : World). (nth_object w.objects n).disowned) (permission_world p unowned marked_here)
+            ∙ mark_disowned_sets n c.world object_there
 
-        other_kept : (m : ℕ) → m ≢ n → (nth_object given_up.world.objects m).disowned ≡ (nth_object c.world.objects m).disowned
-        other_kept m ne = ap (λ (w : World). (nth_object w.objects m).disowned) (permission_world p unowned marked_here) ∙ ap (λ (o : Object). o.disowned) (mark_disowned_other n c.world m ne)
+        other_kept : (m : ℕ) → m ≢ n → (nth_object given_up.world.objects m).disowned
+            ≡ (nth_object c.world.objects m).disowned
+        other_kept m ne = ap (λ (w : World). (nth_object w.objects m).disowned)
+            (permission_world p unowned marked_here)
+            ∙ ap (λ (o : Object). o.disowned) (mark_disowned_other n c.world m ne)
 
         reference_same : (m : ℕ) → reference n ≡ reference m → n ≡ m
         reference_same m e = cc
@@ -257,25 +302,31 @@ module _ (program : SilicaProgram) (checked : IsCheckedProgram program) (entry :
             → Remains body k.holdings (now k.context p unowned) rest outer
             → IsCoherent program.table entry beginning (moved c given_up rest outer)
         disown_done rest owner remains =
-            form_done program.table checked.table entry beginning c k terms outer so given_up (now k.context p unowned) rest k.holdings
+            form_done program.table checked.table entry beginning c k terms outer so given_up
+            (now k.context p unowned) rest k.holdings
             (amid_noted given_up unowned unowned up_written
-            (carry_disowned program.table checked.table c.frame k.whole.parts (here c) k.context seated given_up p inside u up_written other))
+            (carry_disowned program.table checked.table c.frame k.whole.parts
+            (here c) k.context seated given_up p inside u up_written other))
             (record {
               fewer = λ m. let e = counts_up owns m in let z = none_up m in omega (arith, e, z);
               keeps_owner = λ m needs. let e = counts_up owns m in
                   let z = cell_other owns m u.cell (λ is. both_ways _ needs.kept
-                  (subst (λ j. (nth_object given_up.world.objects j).disowned ≡ true) (reference_same m (sym refers ∙ is)) is_marked)) in omega (arith, e, z);
+                  (subst (λ j. (nth_object given_up.world.objects j).disowned ≡ true)
+                  (reference_same m (sym refers ∙ is)) is_marked)) in omega (arith, e, z);
               newly_shared = λ m e d. absurd (both_ways _ e (sym (disown_shares_none n p (here c) m) ∙ d));
               newly_disowned = λ m e d. ⊎_elim
                   (λ i. let a = counts_up owns m in let z = none_up m in
                   let one = k.whole.one_owner m in
-                  let all = counted_all program.table checked.table entry beginning c k terms outer so owns m given_up rest up_written.stays in
+                  let all = counted_all program.table checked.table entry beginning c k terms outer so owns m given_up
+                  rest up_written.stays in
                   let had = cell_counted owns m u.cell (is_owner owner) (refers ∙ ap reference (sym i.1)) in
                   omega (arith, a, z, one, all, had))
                   (λ i. absurd (both_ways _ e (sym (other_kept m i.1) ∙ d)))
                   (eqb_tells m n);
-              shares = λ j x y le e d is. kept_shares (λ m. owners m (moved c given_up rest outer)) x (given_up.slots j) y
-                  (carry_arguments (λ m. owners m (moved c given_up rest outer)) (here c) given_up p u.cell unowned up_written u.is
+              shares = λ j x y le e d is. kept_shares (λ m. owners m (moved c given_up rest outer)) x
+                  (given_up.slots j) y
+                  (carry_arguments (λ m. owners m (moved c given_up rest outer))
+                  (here c) given_up p u.cell unowned up_written u.is
                   (λ s. absurd (let t : unowned ≡ shared = s in cc)) j x e) d is;
               unreferred = λ m has. let e = counts_up any m in omega (arith, e);
             })
@@ -283,9 +334,11 @@ module _ (program : SilicaProgram) (checked : IsCheckedProgram program) (entry :
 
   -- The forms.
   module _ (span : Span) (rest : SilicaTerms) (outer : List Rest) where
-    pub move_slot_keeps : (n : ℕ) (from : Operand) (contract : Option ContractId) → c.control ≡ runs (and_term (move_form (Slot n) from contract) span rest) outer
+    pub move_slot_keeps : (n : ℕ) (from : Operand) (contract : Option ContractId)
+        → c.control ≡ runs (and_term (move_form (Slot n) from contract) span rest) outer
         → StepsSo program.table entry beginning (act program (move_form (Slot n) from contract) rest outer c)
-    move_slot_keeps n from None so = absurd (formed program checked entry beginning c k (move_form (Slot n) from None) span rest outer so).kinds.1
+    move_slot_keeps n from None so = absurd (formed program checked entry beginning c k
+        (move_form (Slot n) from None) span rest outer so).kinds.1
     move_slot_keeps n from (Some id) so =
         let form = move_form (Slot n) from (Some id) in
         let w = formed program checked entry beginning c k form span rest outer so in
@@ -296,8 +349,10 @@ module _ (program : SilicaProgram) (checked : IsCheckedProgram program) (entry :
         rw (operand_read program checked entry beginning c k from ps.0.usable.readable)
         (move_done (located from)
         (place_inside body from.place (bound_second (n + 1) (slots_of_operand from) k.whole.parts.slots f) w.numbers.1)
-        (used_other (located from) ps.0.usable) u (and_term form span rest) outer so n w.params (bound_first (n + 1) (slots_of_operand from) n k.whole.parts.slots f (omega arith)) id rest
-        (subst (λ z. serves_as program.table (Reference id) z ≡ true) (sym (operand_kind program checked entry beginning c k from ps.0.usable.readable r.0 r.1)) r.2)
+        (used_other (located from) ps.0.usable) u (and_term form span rest) outer so n w.params
+        (bound_first (n + 1) (slots_of_operand from) n k.whole.parts.slots f (omega arith)) id rest
+        (subst (λ z. serves_as program.table (Reference id) z ≡ true)
+        (sym (operand_kind program checked entry beginning c k from ps.0.usable.readable r.0 r.1)) r.2)
         ps.0.to_untested ps.0.overwrites_none
         (after program checked entry beginning c k form span rest outer so _ ps.1))
 
@@ -315,4 +370,5 @@ module _ (program : SilicaProgram) (checked : IsCheckedProgram program) (entry :
         (operand_stands program checked entry beginning c k o ps.0.usable.readable).kind in
         rw (operand_read program checked entry beginning c k o ps.0.usable.readable, is.1)
         (disown_done (located o) (place_inside body o.place f w.numbers) (used_other (located o) ps.0.usable) u
-        (and_term form span rest) outer so is.0 is.1 rest ps.0.owner (after program checked entry beginning c k form span rest outer so _ ps.1))
+        (and_term form span rest) outer so is.0 is.1 rest ps.0.owner
+        (after program checked entry beginning c k form span rest outer so _ ps.1))
