@@ -1,11 +1,10 @@
 -- A field of `this` is filled with a reference that is moved.
-use Rattle.std.proofs.Common.{◌≡◌, ◌≢◌, ℕ, ◌+◌, ◌<◌, ◌≤◌, true, false, List, Option, Some, None, refl, sym, ap, ◌∙◌, subst, arith, true≢false, ◌⊎◌, inl, inr, ⊎_elim}
-use Rattle.std.specs.Prelude.{max, slice_get, option_map}
+use Rattle.std.proofs.Common.{◌≡◌, ◌≢◌, ℕ, ◌+◌, true, false, List, Option, Some, None, refl, sym, ap, ◌∙◌, subst, arith, true≢false, ◌⊎◌, inl, inr, ⊎_elim}
+use Rattle.std.specs.Prelude.{slice_get, option_map}
 use Rattle.std.proofs.lemmas.Bool.{both_ways, and_left, and_from, cases_Bool}
 use Rattle.ob_base.specs.declared.fault.Span.{Span}
 use Rattle.ob_base.specs.declared.id.ContractId.{ContractId}
 use Rattle.ob_base.specs.declared.id.FieldId.{FieldId}
-use Rattle.ob_perm.specs.States.{states_max}
 use Rattle.ob_perm.specs.Permissions.{Permission, owned, shared, unowned, owns, is_shared, kept, fits}
 use Rattle.ob_table.specs.Tables.{field_at}
 use Rattle.ob_table.specs.declared.contract.Field.{Field}
@@ -55,7 +54,8 @@ use Rattle.ob_coherent_places_laws.proofs.Keeping.{own_state}
 use Rattle.ob_coherent_places_laws.proofs.Finding.{field_now}
 use Rattle.ob_coherent_places_laws.proofs.Carrying.{kept_is_shared, carry_hand}
 use Rattle.ob_coherent_places_laws.proofs.Getting.{AreLow, objects_low, gotten_stands, given_refers}
-use Rattle.ob_coherent_places_laws.proofs.Handing.{said_fits, filled_says, gives_on, gives_shared, carry_arguments}
+use Rattle.ob_coherent_places_laws.proofs.Handing.{said_fits, filled_says, gives_shared, carry_arguments}
+use Rattle.ob_coherent_places_laws.proofs.Filling.{low_stays, given_fewer, given_same}
 use Rattle.ob_coherent_places_laws.proofs.Holding.{held_noted}
 use Rattle.ob_coherent_tests_laws.proofs.Operands.{place_inside}
 use Rattle.ob_coherent_tests_laws.proofs.Finding.{stands_at}
@@ -87,11 +87,6 @@ pub fill_shared : (b : BodyFrame) (ts : TestedPlaces) (g : Context) (n : ℕ) (p
 fill_shared b ts g n p (owned a) can e = absurd (cc)
 fill_shared b ts g n p shared can e = can.serves
 fill_shared b ts g n p unowned can e = can.serves
-
-shared_or_not : (w : Permission) → (w ≡ shared) ⊎ (w ≢ shared)
-shared_or_not (owned a) = inr (λ e. let z : owned a ≡ shared = e in cc)
-shared_or_not shared = inl refl
-shared_or_not unowned = inr (λ e. let z : unowned ≡ shared = e in cc)
 
 counts_shared : (v q : Permission) → (v ≡ q) ⊎ (v ≡ unowned) → v ≡ shared → q ≡ shared
 counts_shared v q (inl e) is = sym e ∙ is
@@ -188,10 +183,6 @@ module _ (program : SilicaProgram) (checked : IsCheckedProgram program) (entry :
       (λ e. gotten_owns wanted said ∙ and_left (owns wanted) (owns said) e ∙ sym e)
       (cases_Bool (owns wanted))
 
-  handed_on : wanted ≢ shared → (m : ℕ) → in_cell owns m (Some (noted remaining u.cell))
-      + in_cell owns m (Some got_cell) ≡ in_cell owns m (Some u.cell)
-  handed_on ne m = gives_on m u.cell got_cell wanted refl ne had_owner got_owns
-
   handed_none : wanted ≡ shared → (m : ℕ) → (in_cell owns m (Some (noted remaining u.cell)) ≡ 0)
       × (in_cell owns m (Some got_cell) ≡ 0)
   handed_none e m = gives_shared m u.cell got_cell wanted e got_owns
@@ -266,9 +257,8 @@ module _ (program : SilicaProgram) (checked : IsCheckedProgram program) (entry :
   -- The field afterwards.
 
   low_handed : AreLow handed.world.objects
-  low_handed m lt = subst (λ s. state_number s < states_max) (sym (handed_written.stays.states m))
-      (objects_low program.table checked.table c.notes c.world.objects k.whole.objects m
-      (let e = handed_written.stays.count in omega (arith, e, lt)))
+  low_handed = low_stays (here c) handed handed_written.stays
+      (objects_low program.table checked.table c.notes c.world.objects k.whole.objects)
 
   got_stood : Stands program.table filled.world.objects got_cell
   got_stood = stands_stay program.table handed filled then_written.stays got_cell
@@ -312,15 +302,11 @@ module _ (program : SilicaProgram) (checked : IsCheckedProgram program) (entry :
       form_done program.table checked.table entry beginning c k terms outer so filled
       (put known_handed (field n) (Some got_known)) rest k.holdings (amid_filled untested)
       (record {
-        fewer = λ m. let a = counts_filled m in let b = counts_handed m in ⊎_elim
-            (λ e. let z = handed_none e m in let z0 = z.0 in let z1 = z.1 in omega (arith, a, b, z0, z1))
-            (λ e. let z = handed_on e m in omega (arith, a, b, z))
-            (shared_or_not wanted);
-        keeps_owner = λ m needs. let a = counts_filled m in let b = counts_handed m in
-            let l = lost_none none m needs in ⊎_elim
-            (λ e. let z = cell_other owns m u.cell (not_given m e needs) in omega (arith, a, b, z, l))
-            (λ e. let z = handed_on e m in omega (arith, a, b, z, l))
-            (shared_or_not wanted);
+        fewer = λ m. let a = counts_filled m in let b = counts_handed m in
+            let z = given_fewer m u.cell got_cell wanted refl had_owner got_owns in omega (arith, a, b, z);
+        keeps_owner = λ m needs. let a = counts_filled m in let b = counts_handed m in let l = lost_none none m needs in
+            let z = given_same m u.cell got_cell wanted refl had_owner got_owns (λ e. not_given m e needs) in
+            omega (arith, a, b, z, l);
         newly_shared = newly rest;
         newly_disowned = λ m e f. absurd (both_ways _ e (sym (hand_disowns_none declared_as p u.cell (here c) m)
             ∙ sym ((field_marks n got_cell handed).disowned m) ∙ f));
