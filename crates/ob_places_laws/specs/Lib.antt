@@ -1,1 +1,3 @@
 pub mod Serving
+pub mod Answering
+pub mod Agreeing
