@@ -1,0 +1,5 @@
+pub mod Sums
+pub mod Objects
+pub mod Cells
+pub mod Places
+pub mod Numbers

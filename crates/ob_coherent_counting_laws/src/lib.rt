@@ -1,0 +1,2 @@
+//! Laws of counting: sums over places, how many places own an object or refer to it, and objects by number.
+#![tactic(auto)]
