@@ -5,7 +5,7 @@ use Rattle.ob_table.specs.Tables.{ClassTable}
 use Rattle.ob_heap_spec.specs.Values.{reference}
 use Rattle.ob_silica.specs.Terms.{SilicaTerms}
 use Rattle.ob_silica_steps.specs.Cells.{Cell, permission_in}
-use Rattle.ob_silica_steps.specs.Configurations.{SlotCells, by_new, Rest, runs, Configuration}
+use Rattle.ob_silica_steps.specs.Configurations.{by_new, Rest, runs, Configuration}
 use Rattle.ob_silica_steps.specs.Here.{Here, self_of}
 use Rattle.ob_coherent_spec.specs.Counting.{nth_object, field_cell, in_fields, in_waiting, owners, references}
 use Rattle.ob_coherent_spec.specs.Runs.{times, around, constructions, tests_in, locks, open_tests}

@@ -1,15 +1,17 @@
 -- Coherent configurations (Coblenz et al., TOPLAS 42(3), 2020, "Silica", where a configuration is consistent; locks, calls on
 -- `this`, marks and the steps of a return are this project's own).
-use Rattle.std.specs.Prelude.{◌≡◌, ◌≢◌, ℕ, ◌+◌, ◌<◌, ◌≤◌, ◌⊎◌, Bool, true, false, List, [], ◌∷◌, length, Option, Some, None, slice_get, ⊤}
+use Rattle.std.specs.Prelude.{◌≡◌, ◌≢◌, ℕ, suc, ◌+◌, ◌<◌, ◌≤◌, ◌⊎◌, Bool, true, false, List, [], ◌∷◌, length, Option, Some, None, slice_get, ⊤}
 use Rattle.ob_base.specs.declared.id.ContractId.{ContractId}
 use Rattle.ob_base.specs.declared.id.TxId.{TxId}
 use Rattle.ob_perm.specs.States.{States}
 use Rattle.ob_perm.specs.Permissions.{Permission, owned, shared, unowned, owns}
 use Rattle.ob_perm.specs.Masks.{permission_of}
-use Rattle.ob_table.specs.Tables.{ClassTable}
+use Rattle.ob_table.specs.Tables.{ClassTable, contract_at, signature_at}
+use Rattle.ob_table.specs.declared.contract.Contract.{Contract}
 use Rattle.ob_table.specs.declared.contract.Field.{Field}
 use Rattle.ob_table.specs.declared.contract.Param.{Param}
 use Rattle.ob_table.specs.declared.contract.ResolvedType.{ResolvedType}
+use Rattle.ob_table.specs.declared.contract.Signature.{Signature}
 use Rattle.ob_table.specs.declared.seen.Kind.{Kind}
 use Rattle.ob_table_spec.specs.WellFormed.{kind_of_resolved}
 use Rattle.ob_heap_spec.specs.Values.{Value}
@@ -50,11 +52,14 @@ abbrev pub outermost : SilicaFrame → List Waiting → SilicaFrame
 outermost f [] = f
 outermost f (h ∷ hs) = outermost h.frame hs
 
--- a frame runs the body with which the run began, and its parameters have the values with which it began
-pub record BeganSo (beginning : Beginning) (f : SilicaFrame) : Type 0 where
+-- A frame runs the body with which the run began, and its parameters have the values with which it began: no slot past them
+-- has one.
+pub record BeganSo (table : ClassTable) (beginning : Beginning) (f : SilicaFrame) : Type 0 where
   pub contract : f.contract ≡ beginning.contract
   pub tx : f.tx ≡ beginning.tx
   pub how : f.how ≡ beginning.how
+  pub within : (own : Contract) (s : Signature) → contract_at table f.contract ≡ Some own → signature_at own f.tx ≡ Some s
+      → beginning.from + length beginning.values ≤ suc (length s.params)
   pub values : (k : ℕ) (v : Value) → slice_get beginning.values k ≡ Some v
       → value_in (f.slots (beginning.from + k)) ≡ Some v
 
@@ -95,7 +100,7 @@ pub record Holds (table : ClassTable) (entry : Option ℕ) (beginning : Beginnin
   pub frame : IsFrame table c.world.objects c.frame parts
   pub waiting : AllWait table (NeedsOwner table c.world.objects) c c.frame parts (self_of c.frame.slots ∷ [])
       (λ n. tests_of n c.frame.slots (around c.control)) c.stack
-  pub began : BeganSo beginning (outermost c.frame c.stack)
+  pub began : BeganSo table beginning (outermost c.frame c.stack)
 
 -- A configuration whose innermost frame runs terms.
 pub record IsRunning (table : ClassTable) (entry : Option ℕ) (beginning : Beginning) (c : Configuration) : Type 0 where
