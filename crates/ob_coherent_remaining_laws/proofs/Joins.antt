@@ -1,8 +1,7 @@
 -- What a join leaves may stand for what each of its branches leaves.
-use Rattle.std.proofs.Common.{◌≡◌, ◌⊎◌, inl, inr, ⊎_elim, ℕ, ◌<◌, Bool, true, false, Option, Some, None, refl, sym, ap, ◌∙◌, subst, true≢false, arith}
+use Rattle.std.proofs.Common.{◌≡◌, ⊎_elim, Bool, true, false, Option, Some, None, refl, sym, ap, ◌∙◌, arith}
 use Rattle.std.specs.Prelude.{not, ◌&&◌, ◌||◌, if◌then◌else◌}
 use Rattle.std.proofs.lemmas.Bool.{both_ways, cases_Bool, or_left, or_right, and_parts, or_parts}
-use Rattle.ob_perm.specs.States.{States}
 use Rattle.ob_perm.specs.Permissions.{Permission, owned, shared, unowned, owns, joined}
 use Rattle.ob_table.specs.Tables.{ClassTable}
 use Rattle.ob_table.specs.declared.seen.Kind.{Kind}
@@ -138,19 +137,22 @@ both_set table x y none = same_or_not (same_kind x.kind y.kind) refl
     same_or_not : (b : Bool) → same_kind x.kind y.kind ≡ b
         → Weakens table (Some x) (joined_known (Some x) (Some y)) × Weakens table (Some y) (joined_known (Some x) (Some y))
     same_or_not true s =
-        let z : joined_known (Some x) (Some y) ≡ Some (known x.kind (joined x.permission y.permission)) = rw s refl in
-        (record {
-          known = λ c h. rw z (agrees_as x.kind x.kind x.permission _ refl (allows_first x.permission y.permission) c h);
-          kept = λ o. rw z (first_kept s o);
-        }, record {
-          known = λ c h. rw z (agrees_as y.kind x.kind y.permission _ (sym (kind_same x.kind y.kind s)) (allows_second x.permission y.permission) c h);
-          kept = λ o. rw z (second_kept s o);
-        })
+        let z : joined_known (Some x) (Some y) ≡ Some (known x.kind (joined x.permission y.permission)) = rw s refl in (
+          record {
+            known = λ c h. rw z (agrees_as x.kind x.kind x.permission _ refl (allows_first x.permission y.permission) c h);
+            kept = λ o. rw z (first_kept s o);
+          },
+          record {
+            known = λ c h. rw z (agrees_as y.kind x.kind y.permission _ (sym (kind_same x.kind y.kind s)) (allows_second x.permission y.permission) c h);
+            kept = λ o. rw z (second_kept s o);
+          },
+        )
     same_or_not false s =
         let z : joined_known (Some x) (Some y) ≡ None = rw s refl in
-        let neither = owned_neither (agrees_with x y) (is_owned_asset table (Some x)) (is_owned_asset table (Some y)) none (rw s refl) in
-        (record { known = λ c h. rw z tt; kept = λ o. absurd (both_ways _ neither.0 o) },
-        record { known = λ c h. rw z tt; kept = λ o. absurd (both_ways _ neither.1 o) })
+        let neither = owned_neither (agrees_with x y) (is_owned_asset table (Some x)) (is_owned_asset table (Some y)) none (rw s refl) in (
+          record { known = λ c h. rw z tt; kept = λ o. absurd (both_ways _ neither.0 o) },
+          record { known = λ c h. rw z tt; kept = λ o. absurd (both_ways _ neither.1 o) },
+        )
 
 weakens_both : (table : ClassTable) (x y : Option Known) → join_loses table x y ≡ false
     → Weakens table x (joined_known x y) × Weakens table y (joined_known x y)

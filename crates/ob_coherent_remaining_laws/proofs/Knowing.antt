@@ -1,35 +1,34 @@
 -- A context that knows `this` knows it after each form.
-use Rattle.std.proofs.Common.{◌≡◌, ◌≢◌, ℕ, zero, suc, ◌+◌, ◌<◌, Bool, true, false, List, [], ◌∷◌, Option, Some, None, Result, Ok, Err, refl, sym, ap, ◌∙◌, subst, arith}
+use Rattle.std.proofs.Common.{◌≡◌, ℕ, zero, suc, ◌<◌, Bool, true, false, List, [], ◌∷◌, Option, Some, None, Ok, refl, sym, subst, arith}
 use Rattle.std.specs.Prelude.{nat_eq, IfSome, if◌then◌else◌}
 use Rattle.ob_base.specs.declared.fault.Span.{Span}
-use Rattle.ob_base.specs.declared.id.ContractId.{ContractId}
 use Rattle.ob_base.specs.declared.id.StateId.{StateId}
 use Rattle.ob_perm.specs.Permissions.{Permission, owned, shared, unowned, kept}
 use Rattle.ob_table.specs.declared.contract.ResolvedType.{ResolvedType}
+use Rattle.ob_table.specs.declared.contract.ResolvedType.TheVariants.{Reference as TypedReference}
 use Rattle.ob_table.specs.declared.contract.Signature.{Signature}
-use Rattle.ob_table.specs.declared.seen.Kind.TheVariants.{Reference}
 use Rattle.ob_table_spec.specs.WellFormed.{StaticFrame}
 use Rattle.ob_silica.specs.Terms.{SilicaForm, unit_form, const_form, op_form, copy_form, move_form, new_form, call_form, call_this_form, change_form, test_form, if_form, assert_form, disown_form, drop_form, return_form, revert_form, bad_row_form, SilicaTerms, no_terms, and_term}
 use Rattle.ob_silica.specs.declared.place.Given.{Given}
 use Rattle.ob_silica.specs.declared.place.Operand.{Operand}
-use Rattle.ob_silica.specs.declared.place.Place.{Place}
 use Rattle.ob_silica.specs.declared.place.Place.TheVariants.{This, Slot, Field}
-use Rattle.ob_silica_places.specs.Known.{Known, known, permission_of_type}
-use Rattle.ob_silica_places.specs.Parameters.{Parameter}
-use Rattle.ob_silica_places.specs.Places.{Location, slot, field, this, located, location_of}
+use Rattle.ob_silica_places.specs.Known.{Known, permission_of_type}
+use Rattle.ob_silica_places.specs.Parameters.{Parameter, parameters, all_parameters}
+use Rattle.ob_silica_places.specs.Places.{Location, slot, field, this, located}
 use Rattle.ob_silica_formed.specs.Holdings.{Holdings, slot_written, after_form, EachWithin, Each}
 use Rattle.ob_silica_formed.specs.Points.{LeavesParams}
-use Rattle.ob_flow_spec.specs.Binding.{given_all, got_back, got_back_all, with_result, wants_owner}
+use Rattle.ob_flow_spec.specs.Binding.{reads_of, given_all, got_back, got_back_all, passed, with_result, wants_owner}
+use Rattle.ob_flow_spec.specs.Calling.{all_reads, reads_with_this, fields_left}
 use Rattle.ob_flow_spec.specs.Changing.{given_from, filled_all, got_all, in_state, refilled}
-use Rattle.ob_flow_spec.specs.Contexts.{BodyFrame, Context, TestedPlaces, put, now, counted, permission_at, declared_permission}
-use Rattle.ob_flow_spec.specs.Deriving.{Derived, derive, derive_all, if_reached}
+use Rattle.ob_flow_spec.specs.Contexts.{BodyFrame, Context, TestedPlaces, put, now, counted, permission_at, declared_permission, known_as}
+use Rattle.ob_flow_spec.specs.Deriving.{derive_all}
 use Rattle.ob_flow_spec.specs.Filling.{after_fill, got}
 use Rattle.ob_flow_spec.specs.Joining.{joined_context}
 use Rattle.ob_flow_spec.specs.Testing.{in_tested_state, in_other_state, tested_with, this_left}
 use Rattle.ob_flow_spec.specs.Uses.{Read, given_to}
-use Rattle.ob_flow_laws.specs.Deriving.{Passes, PassesSigned, PassesTest, PassesIf, PassesThen, GoesOn}
+use Rattle.ob_flow_laws.specs.Deriving.{Passes, PassesSigned, RestDerives}
 use Rattle.ob_flow_laws.specs.Joining.{LeavesBoth}
-use Rattle.ob_flow_laws.specs.Testing.{EndsFirstBranch, EndsTest}
+use Rattle.ob_flow_laws.specs.Testing.{EndsFirstBranch}
 use Rattle.ob_flow_laws.proofs.Deriving.{passes, passes_all}
 use Rattle.ob_coherent_spec.specs.Remaining.{static_of, IsWellFormedForm, KnowsThis}
 use Rattle.ob_coherent_remaining_laws.proofs.Joins.{known_this_joined}
@@ -70,6 +69,9 @@ knows_all_back b g [] ps y = y
 knows_all_back b g (r ∷ rs) [] y = y
 knows_all_back b g (r ∷ rs) (p ∷ ps) y = knows_all_back b (got_back b g r.location p) rs ps (knows_back b g r.location p y)
 
+knows_passed : (b : BodyFrame) (g : Context) (rs : List Read) (ps : List Parameter) → KnowsThis b g → KnowsThis b (passed b g rs ps)
+knows_passed b g rs ps y = knows_all_back b (given_all g rs ps) rs ps (knows_given b g rs ps y)
+
 knows_result : (b : BodyFrame) (g : Context) (k : Option ℕ) (of : Option ResolvedType) → IfSome k (λ n. 0 < n) → KnowsThis b g → KnowsThis b (with_result g k of)
 knows_result b g None of lt y = y
 knows_result b g (Some k) None lt y = y
@@ -94,12 +96,12 @@ knows_in_state b s g y = by_owns (Rattle.ob_perm.specs.Permissions.owns (permiss
 
 -- Tests.
 
-knows_tested : (b : BodyFrame) (w : Permission) (s : StateId) (p : Location) (g : Context) → KnowsThis b g → KnowsThis b (in_tested_state w s p g)
+pub knows_tested : (b : BodyFrame) (w : Permission) (s : StateId) (p : Location) (g : Context) → KnowsThis b g → KnowsThis b (in_tested_state w s p g)
 knows_tested b (owned a) s p g y = knows_now b g p _ y
 knows_tested b shared s p g y = knows_now b g p _ y
 knows_tested b unowned s p g y = y
 
-knows_other : (b : BodyFrame) (w : Permission) (s : StateId) (p : Location) (g : Context) → KnowsThis b g → KnowsThis b (in_other_state w s p g)
+pub knows_other : (b : BodyFrame) (w : Permission) (s : StateId) (p : Location) (g : Context) → KnowsThis b g → KnowsThis b (in_other_state w s p g)
 knows_other b (owned a) s p g y = knows_now b g p _ y
 knows_other b shared s p g y = y
 knows_other b unowned s p g y = y
@@ -141,7 +143,7 @@ signed_known b None Can after g left p each y = as_known b left (Some g) (p.unsi
 signed_known b (Some s) Can after g left p each y = as_known b left (Some (after s)) (p.signed s refl).1 (each s)
 
 then_know : (b : BodyFrame) (ts : TestedPlaces) (rest : SilicaTerms) (mid left : Option Context)
-    → ((j : Context) → derive_all b ts rest j ≡ Ok left → KnowsThis b j → KnowsIf b left) → KnowsIf b mid → GoesOn b ts rest mid left → KnowsIf b left
+    → ((j : Context) → derive_all b ts rest j ≡ Ok left → KnowsThis b j → KnowsIf b left) → KnowsIf b mid → RestDerives b ts rest mid left → KnowsIf b left
 then_know b ts rest None left go y e = as_known b left None e tt
 then_know b ts rest (Some j) left go y e = go j e y
 
@@ -155,12 +157,12 @@ mutual
   form_knows b ts h (copy_form (Slot k) from) at g left w each p y = as_known b left _ p.1 (knows_slot b g k _ (own_slot (static_of b) h (copy_form (Slot k) from) k refl w.params) y)
   form_knows b ts h (copy_form (Field k) from) at g left w each p y = as_known b left _ p.1 y
   form_knows b ts h (move_form This from c) at g left w each p y = absurd (let q : (static_of b).params < 0 = w.params in omega (arith, q))
-  form_knows b ts h (move_form (Slot k) from c) at g left w each p y = as_known b left _ p.1 (knows_slot b _ k _ (own_slot (static_of b) h (move_form (Slot k) from c) k refl w.params) (knows_now b g (located from) _ y))
-  form_knows b ts h (move_form (Field k) from c) at g left w each p y = as_known b left _ p.1 (knows_field b _ k.0 _ (knows_now b g (located from) _ y))
-  form_knows b ts h (new_form k c args) at g left w each p y = signed_known b _ _ _ g left p (λ s. knows_slot b _ k _ (own_slot (static_of b) h (new_form k c args) k refl w.params) (knows_all_back b _ _ _ (knows_given b g _ _ y))) y
-  form_knows b ts h (call_form k r c tx args) at g left w each p y = signed_known b _ _ _ g left p (λ s. knows_result b _ k _ (own_result (static_of b) h (call_form k r c tx args) k refl w.params) (knows_all_back b _ _ _ (knows_given b g _ _ y))) y
-  form_knows b ts h (call_this_form k tx args) at g left w each p y = signed_known b _ _ _ g left p (λ s. knows_result b _ k _ (own_result (static_of b) h (call_this_form k tx args) k refl w.params) (knows_all_back b _ _ _ (knows_given b g _ _ y))) y
-  form_knows b ts h (change_form s given) at g left w each p y = as_known b left _ p.1 (knows_in_state b s _ (knows_got b g given _ (knows_filled b g given y)))
+  form_knows b ts h (move_form (Slot k) from c) at g left w each p y = as_known b left _ p.1 (knows_slot b (now g (located from) (kept (permission_at g (located from)) (counted g (located from)))) k _ (own_slot (static_of b) h (move_form (Slot k) from c) k refl w.params) (knows_now b g (located from) (kept (permission_at g (located from)) (counted g (located from))) y))
+  form_knows b ts h (move_form (Field k) from c) at g left w each p y = as_known b left _ p.1 (knows_field b (now g (located from) (kept (permission_at g (located from)) (declared_permission b k.0))) k.0 (got b g k.0 (located from)) (knows_now b g (located from) (kept (permission_at g (located from)) (declared_permission b k.0)) y))
+  form_knows b ts h (new_form k c args) at g left w each p y = signed_known b _ _ _ g left p (λ s. knows_slot b (passed b g (reads_of args) (parameters s)) k (Some (known_as (TypedReference c s.exit))) (own_slot (static_of b) h (new_form k c args) k refl w.params) (knows_passed b g (reads_of args) (parameters s) y)) y
+  form_knows b ts h (call_form k r c tx args) at g left w each p y = signed_known b _ _ _ g left p (λ s. knows_result b (passed b g (all_reads r args) (all_parameters c s)) k s.result (own_result (static_of b) h (call_form k r c tx args) k refl w.params) (knows_passed b g (all_reads r args) (all_parameters c s) y)) y
+  form_knows b ts h (call_this_form k tx args) at g left w each p y = signed_known b _ _ _ g left p (λ s. knows_result b (fields_left b s (passed b g (reads_with_this at args) (all_parameters b.here s))) k s.result (own_result (static_of b) h (call_this_form k tx args) k refl w.params) (knows_passed b g (reads_with_this at args) (all_parameters b.here s) y)) y
+  form_knows b ts h (change_form s given) at g left w each p y = as_known b left _ p.1 (knows_in_state b s (refilled b g given) (knows_got b g given (filled_all b g given) (knows_filled b g given y)))
   form_knows b ts h (test_form o s branch other join) at g left w each p y =
       let first = terms_know b (tested_with (counted g (located o)) (located o) ts) h branch _ p.first each.0 p.branch_derives (knows_tested b (counted g (located o)) s (located o) g y) in
       let second = terms_know b ts h other _ p.second each.1 p.other_derives (knows_other b (counted g (located o)) s (located o) g y) in
@@ -179,4 +181,4 @@ mutual
   terms_know b ts h no_terms g left each d y = as_known b left (Some g) (passes_all b ts no_terms g left d) y
   terms_know b ts h (and_term form at rest) g left each d y =
       let p = passes_all b ts (and_term form at rest) g left d in
-      then_know b ts rest p.mid left (λ j e k. terms_know b ts (after_form (static_of b) form h) rest j left each.2 e k) (form_knows b ts h form at g p.mid each.0 each.1 (passes b ts form at g p.mid p.derives) y) p.goes_on
+      then_know b ts rest p.mid left (λ j e k. terms_know b ts (after_form (static_of b) form h) rest j left each.2 e k) (form_knows b ts h form at g p.mid each.0 each.1 (passes b ts form at g p.mid p.derives) y) p.rest_derives

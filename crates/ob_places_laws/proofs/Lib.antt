@@ -10,3 +10,5 @@ pub mod Dispatch
 pub mod Fields
 pub mod Joins
 pub mod Locations
+pub mod Passing
+pub mod Beginnings

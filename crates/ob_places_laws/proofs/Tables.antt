@@ -34,6 +34,9 @@ there_is (Some x) P h = (x, refl, h)
 pub there_so : {A : Type 0} (o : Option A) (P : A → Type 0) (x : A) → o ≡ Some x → IsSomeAnd o P → P x
 there_so o P x e h = subst (λ z. IsSomeAnd z P) e h
 
+pub there_from : {A : Type 0} (o : Option A) (P : A → Type 0) (x : A) → o ≡ Some x → P x → IsSomeAnd o P
+there_from o P x e h = subst (λ z. IsSomeAnd z P) (sym e) h
+
 pub if_there_so : {A : Type 0} (o : Option A) (P : A → Type 0) (x : A) → o ≡ Some x → IfSome o P → P x
 if_there_so o P x e h = subst (λ z. IfSome z P) e h
 
@@ -231,7 +234,7 @@ leaves_as_came entry exit may e = at entry.mode exit.mode refl refl
         ap (λ k. held k (states_of exit.states)) (may (λ o. let z : Unowned ≡ Owned = sym em ∙ o in cc) ∙ em)
         ∙ sym (ap (λ k. held k (states_of entry.states)) em)
 
-exit_came : (table : ClassTable) (of : ResolvedType) (exit : Perm) → IsExitOf table of exit
+pub exit_came : (table : ClassTable) (of : ResolvedType) (exit : Perm) → IsExitOf table of exit
     → owns (permission_of_type of) ≡ false
     → permission_of exit ≡ permission_of_type of
 exit_came table Int exit is e = ap permission_of is
