@@ -3,3 +3,8 @@ pub mod Objects
 pub mod Cells
 pub mod Places
 pub mod Numbers
+pub mod Marking
+pub mod Writing
+pub mod Whole
+pub mod Frames
+pub mod NextNumber

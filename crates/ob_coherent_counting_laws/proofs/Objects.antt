@@ -116,6 +116,15 @@ module _ (f : Object → Object) (n : ℕ) (w : World) where
       (λ p. ap (λ v. part (nth_object v.objects n)) (edit_past p)) (cases_lt n (length w.objects))))
       (λ e. ap part (edit_other m e.1)) (eqb_tells m n)
 
+  -- each object stays, or it is the one that is there and changes
+  pub edit_either : (m : ℕ) → (nth_object (edit_object f n w).objects m ≡ nth_object w.objects m)
+      ⊎ ((m ≡ n) × (n < length w.objects) × (nth_object (edit_object f n w).objects m ≡ f (nth_object w.objects m)))
+  edit_either m = ⊎_elim
+      (λ e. ⊎_elim
+      (λ p. inr (e.1, p, subst (λ i. nth_object (edit_object f n w).objects i ≡ f (nth_object w.objects i)) (sym e.1) (edit_same p)))
+      (λ p. inl (ap (λ v. nth_object v.objects m) (edit_past p))) (cases_lt n (length w.objects)))
+      (λ e. inl (edit_other m e.1)) (eqb_tells m n)
+
   pub edit_locked : (edit_object f n w).locked ≡ w.locked
   edit_locked = ⊎_elim (λ p. ap (λ v. v.locked) (edit_there p)) (λ p. ap (λ v. v.locked) (edit_past p)) (cases_lt n (length w.objects))
 
