@@ -1,15 +1,17 @@
 -- Coherent configurations (Coblenz et al., TOPLAS 42(3), 2020, "Silica", where a configuration is consistent; locks, calls on
 -- `this`, marks and the steps of a return are this project's own).
-use Rattle.std.specs.Prelude.{◌≡◌, ◌≢◌, ℕ, ◌+◌, ◌<◌, ◌≤◌, ◌⊎◌, Bool, true, false, List, [], ◌∷◌, length, Option, Some, None, slice_get, ⊤}
+use Rattle.std.specs.Prelude.{◌≡◌, ◌≢◌, ℕ, suc, ◌+◌, ◌<◌, ◌≤◌, ◌⊎◌, Bool, true, false, List, [], ◌∷◌, length, Option, Some, None, slice_get, ⊤}
 use Rattle.ob_base.specs.declared.id.ContractId.{ContractId}
 use Rattle.ob_base.specs.declared.id.TxId.{TxId}
 use Rattle.ob_perm.specs.States.{States}
 use Rattle.ob_perm.specs.Permissions.{Permission, owned, shared, unowned, owns}
 use Rattle.ob_perm.specs.Masks.{permission_of}
-use Rattle.ob_table.specs.Tables.{ClassTable}
+use Rattle.ob_table.specs.Tables.{ClassTable, contract_at, signature_at}
+use Rattle.ob_table.specs.declared.contract.Contract.{Contract}
 use Rattle.ob_table.specs.declared.contract.Field.{Field}
 use Rattle.ob_table.specs.declared.contract.Param.{Param}
 use Rattle.ob_table.specs.declared.contract.ResolvedType.{ResolvedType}
+use Rattle.ob_table.specs.declared.contract.Signature.{Signature}
 use Rattle.ob_table.specs.declared.seen.Kind.{Kind}
 use Rattle.ob_table_spec.specs.WellFormed.{kind_of_resolved}
 use Rattle.ob_heap_spec.specs.Values.{Value}
@@ -35,7 +37,7 @@ use Rattle.ob_coherent_spec.specs.Standing.{AllStand, Stands, is_in, HasItsState
 use Rattle.ob_coherent_spec.specs.Saying.{SaysOf, Says, own_cell, every}
 use Rattle.ob_coherent_spec.specs.Remaining.{BodyParts, body_of, AreHeld, Remains}
 use Rattle.ob_coherent_spec.specs.OpenTests.{AreOpen}
-use Rattle.ob_coherent_spec.specs.Waiting.{IsFrame, OwnsMade, tests_of, SharesThis, has_lent, gives_back_as, AllWait}
+use Rattle.ob_coherent_spec.specs.Waiting.{IsFrame, OwnsMade, tests_of, SharesThis, has_lent, gives_back_as, AllLend, AllWait}
 
 -- How a run began: the body that it entered from outside, and the values that stand in its slots from one number on.
 pub record Beginning : Type 0 where
@@ -50,11 +52,14 @@ abbrev pub outermost : SilicaFrame → List Waiting → SilicaFrame
 outermost f [] = f
 outermost f (h ∷ hs) = outermost h.frame hs
 
--- a frame runs the body with which the run began, and its parameters have the values with which it began
-pub record BeganSo (beginning : Beginning) (f : SilicaFrame) : Type 0 where
+-- A frame runs the body with which the run began, and its parameters have the values with which it began: no slot past them
+-- has one.
+pub record BeganSo (table : ClassTable) (beginning : Beginning) (f : SilicaFrame) : Type 0 where
   pub contract : f.contract ≡ beginning.contract
   pub tx : f.tx ≡ beginning.tx
   pub how : f.how ≡ beginning.how
+  pub within : (own : Contract) (s : Signature) → contract_at table f.contract ≡ Some own → signature_at own f.tx ≡ Some s
+      → beginning.from + length beginning.values ≤ suc (length s.params)
   pub values : (k : ℕ) (v : Value) → slice_get beginning.values k ≡ Some v
       → value_in (f.slots (beginning.from + k)) ≡ Some v
 
@@ -95,7 +100,7 @@ pub record Holds (table : ClassTable) (entry : Option ℕ) (beginning : Beginnin
   pub frame : IsFrame table c.world.objects c.frame parts
   pub waiting : AllWait table (NeedsOwner table c.world.objects) c c.frame parts (self_of c.frame.slots ∷ [])
       (λ n. tests_of n c.frame.slots (around c.control)) c.stack
-  pub began : BeganSo beginning (outermost c.frame c.stack)
+  pub began : BeganSo table beginning (outermost c.frame c.stack)
 
 -- A configuration whose innermost frame runs terms.
 pub record IsRunning (table : ClassTable) (entry : Option ℕ) (beginning : Beginning) (c : Configuration) : Type 0 where
@@ -114,6 +119,7 @@ pub record IsRunning (table : ClassTable) (entry : Option ℕ) (beginning : Begi
   pub owns_made : OwnsMade c.frame
   -- an object under construction is referred to by its own frame alone
   pub unreferred : (n : ℕ) → 0 < constructions n c → references n c ≤ 1
+  pub lends : AllLend table c.frame c.stack
 
 -- What the innermost frame has given back: as its body declares.
 abbrev pub IsGivenBack : (ℕ → Type 0) → Option Cell → Option ResolvedType → Type 0
@@ -148,6 +154,7 @@ pub record IsLeaving (table : ClassTable) (entry : Option ℕ) (beginning : Begi
   pub placed : HasItsState table (nth_object c.world.objects (self_of c.frame.slots))
   pub shares : c.frame.how ≢ by_new → SharesThis c.frame c 0
   pub unreferred : (n : ℕ) → 0 < constructing_among n c.stack → references n c ≤ 1
+  pub lends : AllLend table c.frame c.stack
 
 -- What a callee leaves in the slot of a loan meets the exit: an owner's and a Shared one are held so, and where there is no
 -- say no object is owned that must have an owner.
@@ -181,6 +188,7 @@ pub record IsReturning (table : ClassTable) (entry : Option ℕ) (beginning : Be
       (own_cell (here c) k)
   pub shares : c.frame.how ≢ by_new → SharesThis c.frame c 0
   pub unreferred : (n : ℕ) → 0 < constructing_among n c.stack → references n c ≤ 1
+  pub lends : AllLend table below.frame others
 
 -- A coherent configuration: one that runs, that leaves, or that returns.
 pub data IsCoherent (table : ClassTable) (entry : Option ℕ) (beginning : Beginning) (c : Configuration) : Type 0 where

@@ -1,2 +1,17 @@
 pub mod Outcomes
+pub mod Tests
+pub mod Premises
+pub mod Places
+pub mod Held
+pub mod Uses
+pub mod Binding
+pub mod Filling
+pub mod Straight
+pub mod Testing
+pub mod Joining
+pub mod Calling
+pub mod Changing
 pub mod Exits
+pub mod Returning
+pub mod Positions
+pub mod Deriving

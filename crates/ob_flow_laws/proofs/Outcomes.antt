@@ -28,15 +28,19 @@ one_outcome table body = record {
 }
 
 -- one part after another
-reached_then : (left : Option Context) (f h : Context → Derived) → (if_reached left (λ g. f g >>= (λ l. if_reached l h))) ≡ (if_reached left f >>= (λ l. if_reached l h))
+reached_then : (left : Option Context) (f h : Context → Derived)
+    → (if_reached left (λ g. f g >>= (λ l. if_reached l h))) ≡ (if_reached left f >>= (λ l. if_reached l h))
 reached_then None f h = refl
 reached_then (Some g) f h = refl
 
-bind_then : (r : Derived) (f h : Context → Derived) → (r >>= (λ left. if_reached left (λ g. f g >>= (λ l. if_reached l h)))) ≡ ((r >>= (λ left. if_reached left f)) >>= (λ l. if_reached l h))
+bind_then : (r : Derived) (f h : Context → Derived)
+    → (r >>= (λ left. if_reached left (λ g. f g >>= (λ l. if_reached l h)))) ≡ ((r >>= (λ left. if_reached left f)) >>= (λ l. if_reached l h))
 bind_then (Ok left) f h = reached_then left f h
 bind_then (Err e) f h = refl
 
-pub in_turn : (b : BodyFrame) (ts : TestedPlaces) (front rest : SilicaTerms) (g : Context) → derive_all b ts (then_terms front rest) g ≡ (derive_all b ts front g >>= (λ left. if_reached left (λ h. derive_all b ts rest h)))
+pub in_turn : (b : BodyFrame) (ts : TestedPlaces) (front rest : SilicaTerms) (g : Context)
+    → derive_all b ts (then_terms front rest) g ≡ (derive_all b ts front g >>= (λ left. if_reached left (λ h. derive_all b ts rest h)))
 in_turn b ts no_terms rest g = refl
 in_turn b ts (and_term form at more) rest g =
-    simp (in_turn b ts more rest) (bind_then (derive b ts form at g) (λ h. derive_all b ts more h) (λ h. derive_all b ts rest h))
+    simp (in_turn b ts more rest) (bind_then (derive b ts form at g) (λ h. derive_all b ts more h)
+    (λ h. derive_all b ts rest h))

@@ -1,1 +1,12 @@
 pub mod Laws
+pub mod Premises
+pub mod Uses
+pub mod Binding
+pub mod Filling
+pub mod Straight
+pub mod Testing
+pub mod Joining
+pub mod Calling
+pub mod Changing
+pub mod Returning
+pub mod Deriving

@@ -1,1 +1,4 @@
 pub mod Serving
+pub mod Answering
+pub mod Agreeing
+pub mod Passing

@@ -1,4 +1,4 @@
-use Rattle.ob_flow_laws.proofs.Exits.{at_exits}
+use Rattle.ob_flow_laws.proofs.Returning.{at_exits}
 use Rattle.ob_flow_laws.proofs.rules.returns_meet_exits.Goals as goal
 
 pub returns : goal.returns

@@ -1,0 +1,5 @@
+pub mod Joins
+pub mod Knowing
+pub mod Remaining
+pub mod Branches
+pub mod Following

@@ -1,0 +1,14 @@
+pub mod Sets
+pub mod Permissions
+pub mod Serves
+pub mod Tables
+pub mod Types
+pub mod Interfaces
+pub mod Conversions
+pub mod SeenStates
+pub mod Dispatch
+pub mod Fields
+pub mod Joins
+pub mod Locations
+pub mod Passing
+pub mod Beginnings
