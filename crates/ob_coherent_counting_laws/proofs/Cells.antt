@@ -1,11 +1,9 @@
 -- What one cell counts.
-use Rattle.std.proofs.Common.{◌≡◌, ◌≢◌, ℕ, zero, suc, ◌+◌, ◌<◌, ◌≤◌, ◌⊎◌, inl, inr, ⊎_elim, Bool, true, false, nat_eq, ◌&&◌, Option, Some, None, option_map, refl, sym, ap, ◌∙◌, subst, arith, eq-eqb, ne_eqb, eqb-true, true≢false}
+use Rattle.std.proofs.Common.{◌≡◌, ◌≢◌, ℕ, ◌<◌, ◌≤◌, ⊎_elim, Bool, true, false, Option, Some, None, option_map, refl, sym, ap, ◌∙◌, arith, eq-eqb, eqb-true, true≢false}
 use Rattle.std.proofs.lemmas.Bool.{cases_Bool, and_parts, and_from, and_left, and_right}
-use Rattle.ob_perm.specs.Permissions.{Permission, owned, shared, unowned, owns}
-use Rattle.ob_table.specs.declared.seen.Kind.{Kind}
+use Rattle.ob_perm.specs.Permissions.{Permission, shared, unowned, owns}
 use Rattle.ob_heap_spec.specs.Values.{Value, int_value, bool_value, text_value, reference, referred}
-use Rattle.ob_silica_places.specs.Known.{Known, known}
-use Rattle.ob_silica_steps.specs.Cells.{Cell, noted, plain_cell, permission_in}
+use Rattle.ob_silica_steps.specs.Cells.{Cell, noted, permission_in}
 use Rattle.ob_coherent_spec.specs.Counting.{one_if, Counted, any, refers_to, is_counted, in_cell}
 
 -- One where a test holds.

@@ -1,15 +1,15 @@
 -- How often an object is entered, constructed, locked or tested, where frames stay alike.
-use Rattle.std.proofs.Common.{◌≡◌, ◌≢◌, ℕ, zero, suc, ◌+◌, ◌<◌, ◌≤◌, Bool, true, false, nat_eq, List, [], ◌∷◌, Option, Some, None, slice_get, refl, sym, ap, ◌∙◌, subst, arith, ◌⊎◌, inl, inr, ⊎_elim}
+use Rattle.std.proofs.Common.{◌≡◌, ◌≢◌, ℕ, zero, suc, ◌+◌, ◌<◌, ◌≤◌, nat_eq, List, [], ◌∷◌, Option, Some, slice_get, refl, ap, ◌∙◌, subst, arith, ⊎_elim}
 use Rattle.std.proofs.lemmas.Option.{none-some, same_Some}
 use Rattle.std.proofs.lemmas.Bool.Decides.{eqb_tells}
-use Rattle.ob_silica_steps.specs.Configurations.{SlotCells, How, by_receiver, by_this, by_new, SilicaFrame, Ends, plain_end, test_end, lock_end, Rest, Waiting, Control, runs, leaves, Configuration}
+use Rattle.ob_silica_steps.specs.Configurations.{SlotCells, How, by_receiver, by_this, by_new, Ends, plain_end, test_end, lock_end, Rest, Waiting, Configuration}
 use Rattle.ob_silica_steps.specs.Cells.{Cell, object_in}
-use Rattle.ob_heap_spec.specs.Values.{Value, int_value, bool_value, text_value, reference, referred}
+use Rattle.ob_heap_spec.specs.Values.{reference}
 use Rattle.ob_silica_steps.specs.Here.{self_of}
 use Rattle.ob_silica_places.specs.Known.{at}
 use Rattle.ob_coherent_spec.specs.Counting.{one_if}
-use Rattle.ob_coherent_spec.specs.Runs.{times, around, entered_at, entered_among, entries, constructing_at, constructing_among, constructions, locks_at, locks_around, locks_among, locks_entry, locks, tests_at, tests_around, tests_in, tests_among, open_tests}
-use Rattle.ob_coherent_counting_laws.proofs.Sums.{at_same, at_other}
+use Rattle.ob_coherent_spec.specs.Runs.{around, entered_at, entered_among, entries, constructing_at, constructing_among, constructions, locks_around, locks_among, locks, tests_at, tests_around, tests_in, tests_among, open_tests}
+use Rattle.ob_coherent_counting_laws.proofs.Sums.{at_other}
 use Rattle.ob_coherent_counting_laws.proofs.Numbers.{one_same, one_other, one_of}
 
 -- The object of a frame.

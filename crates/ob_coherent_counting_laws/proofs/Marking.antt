@@ -1,7 +1,7 @@
 -- Objects after one is read, or marked.
-use Rattle.std.proofs.Common.{◌≡◌, ◌≢◌, ℕ, ◌<◌, ◌≤◌, ◌⊎◌, inl, inr, ⊎_elim, Bool, true, false, List, length, Option, Some, None, refl, sym, ap, ◌∙◌, subst, arith, true≢false, if◌then◌else◌}
+use Rattle.std.proofs.Common.{◌≡◌, ◌≢◌, ℕ, ◌<◌, ◌⊎◌, inl, inr, ⊎_elim, true, false, length, refl, sym, ap, ◌∙◌, subst, arith, true≢false}
 use Rattle.std.specs.Option.{option_map_or}
-use Rattle.std.proofs.lemmas.Bool.{cases_Bool, cases_lt}
+use Rattle.std.proofs.lemmas.Bool.{cases_Bool}
 use Rattle.std.proofs.lemmas.Bool.Decides.{eqb_tells}
 use Rattle.ob_base.specs.declared.id.ContractId.{ContractId}
 use Rattle.ob_base.specs.declared.permission.Perm.{Perm}
@@ -11,8 +11,7 @@ use Rattle.ob_table.specs.declared.contract.ResolvedType.{ResolvedType}
 use Rattle.ob_table.specs.declared.contract.ResolvedType.TheVariants.{Int, Bool as BoolKind, Text, Reference}
 use Rattle.ob_heap_spec.specs.Values.{Value, int_value, bool_value, text_value, reference}
 use Rattle.ob_heap_spec.specs.Objects.{Object}
-use Rattle.ob_heap_spec.specs.Contents.{object_at}
-use Rattle.ob_heap_spec.specs.Worlds.{World, is_made, with_read, object_item, read_object, edit_object}
+use Rattle.ob_heap_spec.specs.Worlds.{World, is_made, read_object, edit_object}
 use Rattle.ob_heap_spec.specs.Marks.{has_mark, mark_shared, mark_disowned, comes_into}
 use Rattle.ob_silica_places.specs.Known.{permission_of_type}
 use Rattle.ob_coherent_spec.specs.Counting.{nth_object}

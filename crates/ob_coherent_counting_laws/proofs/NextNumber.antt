@@ -1,22 +1,21 @@
 -- No place refers to an object that isn't there.
-use Rattle.std.proofs.Common.{◌≡◌, ◌≢◌, ℕ, zero, suc, ◌+◌, ◌<◌, ◌≤◌, Bool, true, false, List, [], ◌∷◌, length, Option, Some, None, refl, sym, ap, ◌∙◌, subst, arith, ◌⊎◌, inl, inr, ⊎_elim}
-use Rattle.std.proofs.lemmas.Bool.{cases_lt}
+use Rattle.std.proofs.Common.{◌≡◌, ℕ, zero, suc, ◌+◌, ◌<◌, ◌≤◌, List, [], ◌∷◌, length, Option, Some, refl, subst, arith}
 use Rattle.ob_perm.specs.Permissions.{owns}
 use Rattle.ob_table.specs.Tables.{ClassTable}
 use Rattle.ob_table.specs.declared.seen.Kind.{Kind}
 use Rattle.ob_table.specs.declared.seen.Kind.TheVariants.{Int, Bool as BoolKind, Text, Reference}
-use Rattle.ob_heap_spec.specs.Values.{Value, reference}
+use Rattle.ob_heap_spec.specs.Values.{reference}
 use Rattle.ob_heap_spec.specs.Objects.{Object}
 use Rattle.ob_silica_steps.specs.Cells.{Cell}
-use Rattle.ob_silica_steps.specs.Configurations.{SlotCells, SilicaFrame, Waiting, Control, runs, leaves, HandleNote, Notes, Configuration}
+use Rattle.ob_silica_steps.specs.Configurations.{SlotCells, SilicaFrame, Waiting, HandleNote, Notes, Configuration}
 use Rattle.ob_silica_steps.specs.Here.{self_of}
-use Rattle.ob_coherent_spec.specs.Counting.{nth_object, field_cell, one_if, Counted, any, in_cell, in_slots, in_objects, in_handles, in_waiting, in_control, in_all, owners, references}
+use Rattle.ob_coherent_spec.specs.Counting.{field_cell, any, in_cell, in_slots, in_objects, in_handles, in_waiting, in_control, owners, references}
 use Rattle.ob_coherent_spec.specs.Runs.{around}
 use Rattle.ob_coherent_spec.specs.Standing.{IsOfKind, Stands, AllStand, HandlesStand, NeedsOwner}
 use Rattle.ob_coherent_spec.specs.Remaining.{BodyParts}
 use Rattle.ob_coherent_spec.specs.Waiting.{AllWait, tests_of}
 use Rattle.ob_coherent_spec.specs.Coherent.{Beginning, Holds}
-use Rattle.ob_coherent_counting_laws.proofs.Cells.{counted_place, counts_refers}
+use Rattle.ob_coherent_counting_laws.proofs.Cells.{counted_place}
 use Rattle.ob_coherent_counting_laws.proofs.Places.{no_slots, no_objects, all_refer}
 use Rattle.ob_coherent_counting_laws.proofs.Numbers.{one_other}
 

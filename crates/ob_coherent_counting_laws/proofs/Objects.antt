@@ -1,12 +1,11 @@
 -- Objects by number, and the cells of their fields.
-use Rattle.std.proofs.Common.{◌≡◌, ◌≢◌, ℕ, zero, suc, ◌+◌, ◌<◌, ◌≤◌, ◌⊎◌, inl, inr, ⊎_elim, Bool, true, false, nat_eq, List, [], ◌∷◌, ◌++◌, length, Option, Some, None, option_map, unwrap_or, slice_get, slice_set, length-set, refl, sym, ap, ◌∙◌, subst, arith, eq-eqb, ne_eqb, if◌then◌else◌}
+use Rattle.std.proofs.Common.{◌≡◌, ◌≢◌, ℕ, zero, suc, ◌+◌, ◌<◌, ◌≤◌, ◌⊎◌, inl, inr, ⊎_elim, List, [], ◌∷◌, ◌++◌, length, Option, Some, None, option_map, unwrap_or, slice_get, slice_set, length-set, refl, sym, ap, ◌∙◌, subst, arith, eq-eqb, ne_eqb}
 use Rattle.std.proofs.lemmas.Option.{slice_get_within, slice_get_past, same_Some, none-some}
 use Rattle.std.proofs.lemmas.Bool.{cases_lt}
 use Rattle.std.proofs.lemmas.Bool.Decides.{eqb_tells}
 use Rattle.std.specs.Option.{option_map_or}
-use Rattle.ob_base.specs.declared.id.ContractId.{ContractId}
 use Rattle.ob_perm.specs.Permissions.{Permission}
-use Rattle.ob_heap_spec.specs.Values.{Value, put}
+use Rattle.ob_heap_spec.specs.Values.{Value}
 use Rattle.ob_heap_spec.specs.Objects.{Object, unfinished, with_field}
 use Rattle.ob_heap_spec.specs.Contents.{object_at}
 use Rattle.ob_heap_spec.specs.Worlds.{World, set_object, edit_object, make_object}

@@ -1,18 +1,17 @@
 -- What the places of a run count together, and where one of them changes.
-use Rattle.std.proofs.Common.{◌≡◌, ◌≢◌, ℕ, zero, suc, ◌+◌, ◌<◌, ◌≤◌, ◌⊎◌, inl, inr, ⊎_elim, Bool, true, false, nat_eq, ◌&&◌, List, [], ◌∷◌, ◌++◌, length, Option, Some, None, option_map, refl, sym, ap, ◌∙◌, subst, arith, eq-eqb, ne_eqb, eqb-true, true≢false, add-one}
-use Rattle.std.proofs.lemmas.Bool.{cases_Bool, cases_lt, and_parts}
+use Rattle.std.proofs.Common.{◌≡◌, ◌≢◌, ℕ, ◌+◌, ◌<◌, ◌≤◌, ⊎_elim, nat_eq, ◌&&◌, List, [], ◌∷◌, length, Option, Some, None, option_map, refl, sym, ap, ◌∙◌, subst, arith, add-one}
+use Rattle.std.proofs.lemmas.Bool.{cases_lt, and_parts}
 use Rattle.ob_base.specs.Limits.{most_slots, most_fields}
-use Rattle.ob_perm.specs.Permissions.{Permission, owns}
-use Rattle.ob_heap_spec.specs.Values.{Value, reference}
+use Rattle.ob_perm.specs.Permissions.{Permission}
 use Rattle.ob_heap_spec.specs.Objects.{Object, with_field}
 use Rattle.ob_heap_spec.specs.Worlds.{World, edit_object, make_object}
-use Rattle.ob_silica_places.specs.Known.{Known, known, at}
+use Rattle.ob_silica_places.specs.Known.{known, at}
 use Rattle.ob_silica_steps.specs.Cells.{Cell, noted}
-use Rattle.ob_silica_steps.specs.Configurations.{SlotCells, SilicaFrame, Rest, Waiting, Control, runs, leaves, HandleNote, Notes, Configuration}
+use Rattle.ob_silica_steps.specs.Configurations.{SlotCells, Waiting, Control, runs, leaves, HandleNote, Notes, Configuration}
 use Rattle.ob_silica_steps.specs.Here.{with_field_note}
-use Rattle.ob_coherent_spec.specs.Counting.{nth_object, field_cell, sum_below, one_if, fields_counted, Counted, any, refers_to, is_counted, in_cell, in_slots, in_fields, in_objects, in_handles, in_waiting, in_control, in_all, owners, references}
-use Rattle.ob_coherent_counting_laws.proofs.Sums.{sum_same, sum_at_most, sum_but_one, sum_at, sum_zero, term_at_most, terms_at_most, terms_zero, term_of, no_other_term}
-use Rattle.ob_coherent_counting_laws.proofs.Objects.{no_object, no_field_cell, field_cell_same, field_cell_there, set_field_same, set_field_other_field, set_field_other_object, set_permission_same, renoted_other_field, renoted_other_object, edit_length, make_length, make_same, make_other}
+use Rattle.ob_coherent_spec.specs.Counting.{field_cell, sum_below, fields_counted, Counted, any, in_cell, in_slots, in_fields, in_objects, in_handles, in_waiting, in_control, in_all}
+use Rattle.ob_coherent_counting_laws.proofs.Sums.{sum_same, sum_at_most, sum_but_one, sum_at, sum_zero, term_at_most, terms_at_most, term_of}
+use Rattle.ob_coherent_counting_laws.proofs.Objects.{no_object, no_field_cell, field_cell_same, set_field_same, set_field_other_field, set_field_other_object, set_permission_same, renoted_other_field, renoted_other_object, edit_length, make_length, make_same, make_other}
 use Rattle.ob_coherent_counting_laws.proofs.Cells.{counts_refers, one_if_less}
 
 -- Slots.

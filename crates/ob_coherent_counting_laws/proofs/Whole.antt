@@ -1,17 +1,14 @@
 -- What all places of a configuration count.
-use Rattle.std.proofs.Common.{◌≡◌, ◌≢◌, ℕ, zero, suc, ◌+◌, ◌<◌, ◌≤◌, Bool, true, false, nat_eq, ◌&&◌, List, [], ◌∷◌, length, Option, Some, None, slice_get, refl, sym, ap, ◌∙◌, subst, arith, ◌⊎◌, inl, inr, ⊎_elim}
+use Rattle.std.proofs.Common.{◌≡◌, ◌≢◌, ℕ, zero, suc, ◌+◌, ◌<◌, ◌≤◌, nat_eq, ◌&&◌, List, [], ◌∷◌, length, Option, Some, slice_get, refl, ap, subst, arith}
 use Rattle.std.proofs.lemmas.Option.{none-some, same_Some}
 use Rattle.ob_base.specs.Limits.{most_slots}
-use Rattle.ob_perm.specs.Permissions.{Permission, owns}
-use Rattle.ob_heap_spec.specs.Objects.{Object}
-use Rattle.ob_heap_spec.specs.Worlds.{World}
 use Rattle.ob_silica.specs.Terms.{SilicaTerms}
 use Rattle.ob_silica_places.specs.Places.{Location}
 use Rattle.ob_silica_steps.specs.Cells.{Cell}
-use Rattle.ob_silica_steps.specs.Configurations.{SlotCells, SilicaFrame, Rest, Waiting, Control, runs, leaves, HandleNote, Notes, Configuration}
-use Rattle.ob_silica_steps.specs.Here.{Here, here}
-use Rattle.ob_coherent_spec.specs.Counting.{field_cell, fields_counted, one_if, Counted, any, in_cell, in_slots, in_fields, in_objects, in_handles, in_waiting, in_control, in_all}
-use Rattle.ob_coherent_counting_laws.proofs.Places.{in_slot, in_field_of, in_object, in_two_slots, slots_at, object_with, field_with, slot_of}
+use Rattle.ob_silica_steps.specs.Configurations.{Rest, Waiting, runs, leaves, HandleNote, Configuration}
+use Rattle.ob_silica_steps.specs.Here.{here}
+use Rattle.ob_coherent_spec.specs.Counting.{field_cell, fields_counted, one_if, Counted, in_cell, in_slots, in_fields, in_objects, in_handles, in_waiting, in_control, in_all}
+use Rattle.ob_coherent_counting_laws.proofs.Places.{in_slot, in_field_of, in_object, in_two_slots}
 use Rattle.ob_coherent_counting_laws.proofs.Writing.{IsLow, cell_at, in_here, in_place}
 
 -- Frames that wait, by their place among them.

@@ -1,17 +1,16 @@
 -- What the places of the innermost frame and of all objects count, where the frame writes one of them.
-use Rattle.std.proofs.Common.{◌≡◌, ◌≢◌, ℕ, ◌+◌, ◌<◌, ◌≤◌, Option, Some, None, option_map, List, length, refl, sym, ap, ◌∙◌, subst, arith, if◌then◌else◌}
+use Rattle.std.proofs.Common.{◌≡◌, ℕ, ◌+◌, ◌<◌, ◌≤◌, Option, Some, option_map, length, refl, sym, ap, ◌∙◌, subst, arith}
 use Rattle.ob_base.specs.Limits.{most_slots}
 use Rattle.ob_perm.specs.Permissions.{Permission, kept}
 use Rattle.ob_table.specs.declared.contract.ResolvedType.{ResolvedType}
-use Rattle.ob_heap_spec.specs.Objects.{Object}
 use Rattle.ob_heap_spec.specs.Worlds.{World}
 use Rattle.ob_heap_spec.specs.Marks.{comes_into}
-use Rattle.ob_silica_places.specs.Known.{Known, known, permission_of_type, at}
+use Rattle.ob_silica_places.specs.Known.{permission_of_type}
 use Rattle.ob_silica_places.specs.Places.{Location, slot, field}
 use Rattle.ob_silica_steps.specs.Cells.{Cell, noted}
-use Rattle.ob_silica_steps.specs.Configurations.{SlotCells, Notes}
+use Rattle.ob_silica_steps.specs.Configurations.{Notes}
 use Rattle.ob_silica_steps.specs.Here.{Here, self_of, set_slot, set_field, set_permission, hand}
-use Rattle.ob_coherent_spec.specs.Counting.{nth_object, field_cell, fields_counted, Counted, in_cell, in_slots, in_objects}
+use Rattle.ob_coherent_spec.specs.Counting.{field_cell, fields_counted, Counted, in_cell, in_slots, in_objects}
 use Rattle.ob_coherent_counting_laws.proofs.Objects.{field_cell_same}
 use Rattle.ob_coherent_counting_laws.proofs.Marking.{Keeps, comes_keeps}
 use Rattle.ob_coherent_counting_laws.proofs.Places.{slots_at, objects_same, objects_set_field, objects_set_permission, in_slot, in_field_of}

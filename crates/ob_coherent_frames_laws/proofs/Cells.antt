@@ -57,7 +57,7 @@ one_if_zero : (b : Bool) → one_if b ≡ 0 → b ≡ false
 one_if_zero true e = absurd (omega arith)
 one_if_zero false e = refl
 
-same_number : (n : ℕ) → nat_eq n n ≡ true
+pub same_number : (n : ℕ) → nat_eq n n ≡ true
 same_number n = ⊎_elim (λ t. t.0) (λ t. absurd (t.1 refl)) (eqb_tells n n)
 
 -- a cell that owns an object is counted for it

@@ -1,6 +1,7 @@
 -- Frames that wait go on waiting where one object changes, with the frames above it that work on it.
 use Rattle.std.proofs.Common.{◌≡◌, ◌≢◌, ℕ, ◌+◌, ◌<◌, ◌≤◌, ◌⊎◌, inl, inr, ⊎_elim, Bool, true, false, List, [], ◌∷◌, length, Option, Some, None, option_map, slice_get, refl, sym, ap, ◌∙◌, subst, arith}
 use Rattle.std.specs.Option.{option_and_then}
+use Rattle.std.specs.Prelude.{⊤}
 use Rattle.std.proofs.lemmas.Bool.{both_ways, or_right, not_from_true, cases_lt}
 use Rattle.std.proofs.lemmas.Bool.Decides.{eqb_tells}
 use Rattle.std.proofs.lemmas.List.{length-map}
@@ -27,13 +28,14 @@ use Rattle.ob_coherent_spec.specs.Standing.{Stands, IsOfKind, RefersToShared, Re
 use Rattle.ob_coherent_spec.specs.Saying.{SaysOf, Says}
 use Rattle.ob_coherent_spec.specs.Remaining.{BodyParts, body_of}
 use Rattle.ob_coherent_spec.specs.OpenTests.{IsTestOf, IsOpen, AreOpen, EndsNoField, TestNoField}
-use Rattle.ob_coherent_spec.specs.Waiting.{IsFrame, tests_of, SharesThis, is_lent, is_result, is_on_this, is_settled, waiting_here, IsLoan, AreLoans, LendNoField, IsNotAmong, IsApart, gives_back_by, AwaitsResult, Waits, AllWait}
+use Rattle.ob_coherent_spec.specs.Waiting.{IsFrame, tests_of, SharesThis, is_lent, is_result, is_on_this, is_settled, waiting_here, IsLoan, AreLoans, LendNoField, IsNotAmong, IsApart, gives_back_by, AwaitsResult, AllLend, Waits, AllWait}
 use Rattle.ob_coherent_frames_laws.specs.Steps.{KeepsArgument}
 use Rattle.ob_coherent_frames_laws.proofs.Cells.{each_zero, object_there, same_field_value, same_seen, same_has_state, owns_counted, owned_there, reference_there, says_less}
 
 -- Two configurations that differ in one object that there was, in new ones, and in what the frames above have. Fewer objects
--- that there were must have an owner; marks and transactions in progress stay; where a lock ends no place owns the object.
-pub record IsNear (table : ClassTable) (i : ℕ) (N M : ℕ → Type 0) (c d : Configuration) : Type 0 where
+-- that there were must have an owner; marks stay, and transactions in progress of the objects of which this is so; where a
+-- lock ends no place owns the object.
+pub record IsNear (table : ClassTable) (i : ℕ) (stays : ℕ → Type 0) (N M : ℕ → Type 0) (c d : Configuration) : Type 0 where
   pub count : length c.world.objects ≤ length d.world.objects
   pub contracts : (n : ℕ) → n < length c.world.objects
       → (nth_object d.world.objects n).contract ≡ (nth_object c.world.objects n).contract
@@ -43,7 +45,7 @@ pub record IsNear (table : ClassTable) (i : ℕ) (N M : ℕ → Type 0) (c d : C
       → (nth_object d.world.objects n).fields k ≡ (nth_object c.world.objects n).fields k
   pub notes : (n k : ℕ) → n < length c.world.objects → n ≢ i → d.notes.fields n k ≡ c.notes.fields n k
   pub shared : (n : ℕ) → (nth_object c.world.objects n).shared ≡ true → (nth_object d.world.objects n).shared ≡ true
-  pub progress : (n : ℕ) → 0 < times n c.world.progress → 0 < times n d.world.progress
+  pub progress : (n : ℕ) → stays n → 0 < times n c.world.progress → 0 < times n d.world.progress
   pub lock_ends : (n : ℕ) → 0 < times n c.world.locked → (0 < times n d.world.locked) ⊎ (owners n d ≡ 0)
   pub needs : (n : ℕ) → n < length c.world.objects → M n → N n
   pub stand : (n : ℕ) → AllStand table c.world.objects (field_cell c.notes c.world.objects n)
@@ -61,6 +63,16 @@ IsAmong n (m ∷ ms) = (n ≡ m) ⊎ IsAmong n ms
 abbrev pub IsFree : ℕ → Configuration → Configuration → List Waiting → Type 0
 IsFree i c d hs = ((nth_object d.world.objects i).state ≡ (nth_object c.world.objects i).state) ⊎ (in_waiting owns i hs ≡ 0)
 
+-- this is so of the object of each frame that waits
+abbrev pub EachSelf : (ℕ → Type 0) → List Waiting → Type 0
+EachSelf P [] = ⊤
+EachSelf P (h ∷ hs) = P (self_of h.frame.slots) × EachSelf P hs
+
+-- it is so where it is so of every number
+pub each_self : (P : ℕ → Type 0) → ((n : ℕ) → P n) → (hs : List Waiting) → EachSelf P hs
+each_self P all [] = tt
+each_self P all (h ∷ hs) = (all (self_of h.frame.slots), each_self P all hs)
+
 -- parameters keep their values
 abbrev pub KeepsArguments : BodyParts → Configuration → SlotCells → SlotCells → Type 0
 KeepsArguments parts d before after = (k : ℕ) (x : Cell) → k ≤ length parts.signature.params → before k ≡ Some x
@@ -72,7 +84,7 @@ differ n i (m ∷ ms) a (inl e) = λ z. a.0 (z ∙ e)
 differ n i (m ∷ ms) a (inr h) = differ n i ms a.1 h
 
 -- the object of a frame that waits isn't the one that changes, unless the callee is one of a call on `this`
-others : (how : How) (n m i : ℕ) (above : List ℕ) → IsApart how n above m → IsAmong i above → (how ≡ by_this → ⊥) → n ≢ i
+pub others : (how : How) (n m i : ℕ) (above : List ℕ) → IsApart how n above m → IsAmong i above → (how ≡ by_this → ⊥) → n ≢ i
 others by_this n m i above a h ne = absurd (ne refl)
 others by_receiver n m i above a h ne = differ n i above a h
 others by_new n m i above a h ne = differ n i above a h
@@ -82,7 +94,7 @@ unsettled : (how : How) (h : Waiting) (f : ℕ) → is_settled how h (field f) �
 unsettled how h f e called = both_ways _
     (not_from_true _ (or_right (is_lent h.loans (field f)) _ (or_right (is_result h.result (field f)) _ (rw called refl)))) e
 
-on_this : (how : How) → (how ≡ by_this) ⊎ (how ≡ by_this → ⊥)
+pub on_this : (how : How) → (how ≡ by_this) ⊎ (how ≡ by_this → ⊥)
 on_this by_this = inl refl
 on_this by_receiver = inr (λ e. cc)
 on_this by_new = inr (λ e. cc)
@@ -98,7 +110,14 @@ same_gift by_receiver f slots parts = refl
 same_gift by_this f slots parts = refl
 same_gift by_new f slots parts = refl
 
-module _ (table : ClassTable) (i : ℕ) (N M : ℕ → Type 0) (c d : Configuration) (near : IsNear table i N M c d) where
+-- what a frame has lent doesn't depend on the callee's slots
+pub lends_with : (table : ClassTable) (f : SilicaFrame) (slots : SlotCells) (hs : List Waiting) → AllLend table f hs
+    → AllLend table (frame_with f slots) hs
+lends_with table f slots [] a = tt
+lends_with table f slots (h ∷ hs) a = (record { owners = a.0.owners; made = a.0.made }, a.1)
+
+module _ (table : ClassTable) (i : ℕ) (stays : ℕ → Type 0) (N M : ℕ → Type 0) (c d : Configuration)
+    (near : IsNear table i stays N M c d) where
   kind_near : (kind : Kind) (v : Value) → IsOfKind table c.world.objects kind v → IsOfKind table d.world.objects kind v
   kind_near Int (int_value z) e = e
   kind_near BoolKind (bool_value b) e = e
@@ -216,7 +235,7 @@ module _ (table : ClassTable) (i : ℕ) (N M : ℕ → Type 0) (c d : Configurat
       → (self_of h.frame.slots ≢ i) ⊎ EndsNoField e
       → IsOpen b (waiting_here c.notes c.world h) e → IsOpen b (waiting_here d.notes d.world h) e
   ends_near b h plain_end same below far a = tt
-  ends_near b h (test_end p) same below far a = (a.0, open_near b h p _ same below far a.1)
+  ends_near b h (test_end p) same below far a = (a.0, open_near b h p _ same below far a.1, near.shared _ a.2)
   ends_near b h (lock_end p n) same below far a = (a.0, open_near b h p n same below far a.1, near.shared n a.2)
 
   opens_near : (b : BodyFrame) (h : Waiting) (outer : List Rest) → b.table ≡ table → self_of h.frame.slots < length c.world.objects
@@ -290,9 +309,10 @@ module _ (table : ClassTable) (i : ℕ) (N M : ℕ → Type 0) (c d : Configurat
   -- Frames.
 
   shares_near : (f : SilicaFrame) (above more : ℕ) → self_of f.slots < length c.world.objects
-      → owners (self_of f.slots) d + above ≤ owners (self_of f.slots) c + more → SharesThis f c above → SharesThis f d more
-  shares_near f above more below balanced a e = let y = a e in (
-    near.progress (self_of f.slots) y.0,
+      → owners (self_of f.slots) d + above ≤ owners (self_of f.slots) c + more → stays (self_of f.slots)
+      → SharesThis f c above → SharesThis f d more
+  shares_near f above more below balanced still_on a e = let y = a e in (
+    near.progress (self_of f.slots) still_on y.0,
     ⊎_elim (λ few. inl (omega arith))
         (λ z. ⊎_elim (λ still. inr (z.0, still)) (λ none. inl (omega arith)) (near.lock_ends (self_of f.slots) z.1))
         y.1,
@@ -324,13 +344,21 @@ module _ (table : ClassTable) (i : ℕ) (N M : ℕ → Type 0) (c d : Configurat
   far_loans how n m above ls apart inside none = ⊎_elim
       (λ e. inr (none e)) (λ ne. inl (λ l e. others how n m i above apart inside ne)) (on_this how)
 
-  waits_near : (callee : SilicaFrame) (called : BodyParts) (slots : SlotCells) (above : List ℕ) (tests more : ℕ → ℕ) (h : Waiting)
+  apart_near : (how : How) (n m k : ℕ) (above wide : List ℕ) → k ≡ m → (IsNotAmong n above → IsNotAmong n wide)
+      → IsApart how n above m → IsApart how n wide k
+  apart_near by_this n m k above wide same apart a = a ∙ sym same
+  apart_near by_receiver n m k above wide same apart a = apart a
+  apart_near by_new n m k above wide same apart a = apart a
+
+  waits_near : (callee : SilicaFrame) (called : BodyParts) (slots : SlotCells) (above wide : List ℕ) (tests more : ℕ → ℕ)
+      (h : Waiting)
       → self_of slots ≡ self_of callee.slots → KeepsArguments called d callee.slots slots
       → AllStand table c.world.objects callee.slots → IsAmong i above
       → ((n : ℕ) → n < length c.world.objects → owners n d + tests n ≤ owners n c + more n)
       → ((nth_object d.world.objects i).state ≡ (nth_object c.world.objects i).state) ⊎ (in_slots owns i h.frame.slots ≡ 0)
-      → Waits table N c callee called above tests h → Waits table M d (frame_with callee slots) called above more h
-  waits_near callee called slots above tests more h same kept stand inside balanced free w = record {
+      → stays (self_of h.frame.slots) → (IsNotAmong (self_of h.frame.slots) above → IsNotAmong (self_of h.frame.slots) wide)
+      → Waits table N c callee called above tests h → Waits table M d (frame_with callee slots) called wide more h
+  waits_near callee called slots above wide tests more h same kept stand inside balanced free still_on apart w = record {
     parts = w.parts;
     context = w.context;
     holdings = w.holdings;
@@ -353,28 +381,41 @@ module _ (table : ClassTable) (i : ℕ) (N M : ℕ → Type 0) (c d : Configurat
         (nth_object d.world.objects (self_of h.frame.slots)) (near.contracts _ w.frame.there)
         (near.states _ w.frame.there (others callee.how _ _ i above w.apart inside (λ e. let t : is_on_this callee.how ≡ true = rw e refl in both_ways _ other t)))
         (w.placed other made);
-    apart = subst (IsApart callee.how (self_of h.frame.slots) above) (sym same) w.apart;
+    apart = apart_near callee.how (self_of h.frame.slots) _ _ above wide same apart w.apart;
     back = w.back;
     no_constructor = w.no_constructor;
     result = subst (AwaitsResult (body_of table h.frame w.parts) w.context h h.result)
         (sym (same_gift callee.how callee slots called)) w.result;
-    shares = shares_near h.frame _ _ w.frame.there (balanced _ w.frame.there) w.shares;
+    shares = shares_near h.frame _ _ w.frame.there (balanced _ w.frame.there) still_on w.shares;
     share_entered = w.share_entered;
   }
 
-  -- All frames that wait go on waiting, where the frame above them has other slots that keep the parameters.
+  -- All frames that wait go on waiting, where the frame above them has other slots that keep the parameters, and where each
+  -- of their objects, if it is none of those above, is none of those above then.
+  pub all_near_under : (callee : SilicaFrame) (called : BodyParts) (slots : SlotCells) (above wide : List ℕ) (tests more : ℕ → ℕ)
+      (hs : List Waiting) → self_of slots ≡ self_of callee.slots → KeepsArguments called d callee.slots slots
+      → AllStand table c.world.objects callee.slots → IsAmong i above
+      → ((n : ℕ) → n < length c.world.objects → owners n d + tests n ≤ owners n c + more n) → IsFree i c d hs
+      → EachSelf stays hs → ((n : ℕ) → stays n → IsNotAmong n above → IsNotAmong n wide)
+      → AllWait table N c callee called above tests hs → AllWait table M d (frame_with callee slots) called wide more hs
+  unfolding waits_near
+  all_near_under callee called slots above wide tests more [] same kept stand inside balanced free on apart w = w
+  all_near_under callee called slots above wide tests more (h ∷ hs) same kept stand inside balanced free on apart (w, ws) = (
+    waits_near callee called slots above wide tests more h same kept stand inside balanced
+        (⊎_elim (λ e. inl e) (λ none. inr (omega arith)) free) on.0 (apart (self_of h.frame.slots) on.0) w,
+    all_near_under h.frame w.parts h.frame.slots (self_of h.frame.slots ∷ above) (self_of h.frame.slots ∷ wide)
+        (λ n. tests_of n h.frame.slots h.outer + tests n) (λ n. tests_of n h.frame.slots h.outer + more n) hs refl
+        (λ k x le e. keeps_itself (λ n. owners n d) x (h.frame.slots k) e) w.cells (inr inside)
+        (λ n below. let less = balanced n below in omega arith) (⊎_elim (λ e. inl e) (λ none. inr (omega arith)) free) on.1
+        (λ n stay a. (a.0, apart n stay a.1)) ws,
+  )
+
+  -- the same, where the objects above are those that they were
   pub all_near : (callee : SilicaFrame) (called : BodyParts) (slots : SlotCells) (above : List ℕ) (tests more : ℕ → ℕ)
       (hs : List Waiting) → self_of slots ≡ self_of callee.slots → KeepsArguments called d callee.slots slots
       → AllStand table c.world.objects callee.slots → IsAmong i above
       → ((n : ℕ) → n < length c.world.objects → owners n d + tests n ≤ owners n c + more n) → IsFree i c d hs
+      → EachSelf stays hs
       → AllWait table N c callee called above tests hs → AllWait table M d (frame_with callee slots) called above more hs
-  unfolding waits_near
-  all_near callee called slots above tests more [] same kept stand inside balanced free w = w
-  all_near callee called slots above tests more (h ∷ hs) same kept stand inside balanced free (w, ws) = (
-    waits_near callee called slots above tests more h same kept stand inside balanced
-        (⊎_elim (λ e. inl e) (λ none. inr (omega arith)) free) w,
-    all_near h.frame w.parts h.frame.slots (self_of h.frame.slots ∷ above)
-        (λ n. tests_of n h.frame.slots h.outer + tests n) (λ n. tests_of n h.frame.slots h.outer + more n) hs refl
-        (λ k x le e. keeps_itself (λ n. owners n d) x (h.frame.slots k) e) w.cells (inr inside)
-        (λ n below. let less = balanced n below in omega arith) (⊎_elim (λ e. inl e) (λ none. inr (omega arith)) free) ws,
-  )
+  all_near callee called slots above tests more hs same kept stand inside balanced free on w =
+      all_near_under callee called slots above above tests more hs same kept stand inside balanced free on (λ n stay a. a) w

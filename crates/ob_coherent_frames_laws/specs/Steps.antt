@@ -5,7 +5,7 @@ use Rattle.ob_table.specs.Tables.{ClassTable}
 use Rattle.ob_heap_spec.specs.Values.{reference}
 use Rattle.ob_silica.specs.Terms.{SilicaTerms}
 use Rattle.ob_silica_steps.specs.Cells.{Cell, permission_in}
-use Rattle.ob_silica_steps.specs.Configurations.{by_new, Rest, runs, Configuration}
+use Rattle.ob_silica_steps.specs.Configurations.{by_new, Rest, Control, runs, Configuration}
 use Rattle.ob_silica_steps.specs.Here.{Here, self_of}
 use Rattle.ob_coherent_spec.specs.Counting.{nth_object, field_cell, in_fields, in_waiting, owners, references}
 use Rattle.ob_coherent_spec.specs.Runs.{times, around, constructions, tests_in, locks, open_tests}
@@ -14,15 +14,19 @@ use Rattle.ob_coherent_spec.specs.Remaining.{BodyParts, body_of}
 use Rattle.ob_coherent_spec.specs.OpenTests.{AreOpen}
 use Rattle.ob_coherent_spec.specs.Waiting.{OwnsMade, tests_of, SharesThis}
 
--- the configuration after a step of the innermost frame, which then works on this and has these terms to run
-abbrev pub moved : Configuration → Here → SilicaTerms → List Rest → Configuration
-moved c h terms outer = record {
+-- the configuration after a step of the innermost frame, which then works on this and is about to do what the control says
+abbrev pub moved_to : Configuration → Here → Control → Configuration
+moved_to c h control = record {
   frame = record c.frame { slots = h.slots };
-  control = runs terms outer;
+  control = control;
   stack = c.stack;
   notes = h.notes;
   world = h.world;
 }
+
+-- the same, where it has these terms to run
+abbrev pub moved : Configuration → Here → SilicaTerms → List Rest → Configuration
+moved c h terms outer = moved_to c h (runs terms outer)
 
 -- A slot keeps its value and kind. Where it's Shared afterwards it was so before, or no place owns its object any more.
 abbrev pub KeepsArgument : (ℕ → ℕ) → Cell → Option Cell → Type 0
@@ -51,6 +55,34 @@ FreeToChange c h =
     ((nth_object h.world.objects (self_of c.frame.slots)).state ≡ (nth_object c.world.objects (self_of c.frame.slots)).state)
     ⊎ ((in_waiting owns (self_of c.frame.slots) c.stack ≡ 0)
     × ((n : ℕ) → n ≢ self_of c.frame.slots → in_fields owns (self_of c.frame.slots) c.notes c.world.objects n ≡ 0))
+
+-- What a step of the innermost frame leaves of the whole, whatever the frame is about to do then.
+pub record KeepsWhole (table : ClassTable) (entry : Option ℕ) (c : Configuration) (parts : BodyParts) (h : Here)
+    (control : Control) : Type 0 where
+  pub others : LeavesOthers c h
+  pub free : FreeToChange c h
+  pub this : self_of h.slots ≡ self_of c.frame.slots
+  pub arguments : (k : ℕ) (x : Cell) → k ≤ length parts.signature.params → c.frame.slots k ≡ Some x
+      → KeepsArgument (λ n. owners n (moved_to c h control)) x (h.slots k)
+  pub unset : (k : ℕ) → parts.slots ≤ k → h.slots k ≡ None
+  pub slots : AllStand table h.world.objects h.slots
+  pub fields : AllStand table h.world.objects (field_cell h.notes h.world.objects (self_of c.frame.slots))
+  pub object : IsObjectInRun table h.notes (self_of c.frame.slots) (nth_object h.world.objects (self_of c.frame.slots))
+  pub one_owner : (n : ℕ) → owners n (moved_to c h control) ≤ 1
+  pub disowned : (n : ℕ) → (nth_object h.world.objects n).disowned ≡ true → (nth_object h.world.objects n).shared ≡ false
+      → owners n (moved_to c h control) ≡ 0
+  pub shared : (n : ℕ) → (nth_object h.world.objects n).shared ≡ true → 0 < owners n (moved_to c h control)
+      → (0 < times n h.world.locked) ⊎ (0 < open_tests n (moved_to c h control))
+  pub assets : (n : ℕ) → NeedsOwner table h.world.objects n → 0 < owners n (moved_to c h control)
+  -- an object gains an owner only where a test of it begins
+  pub balanced : (n : ℕ) → owners n (moved_to c h control) + tests_of n c.frame.slots (around c.control)
+      ≤ owners n c + tests_of n h.slots (around control)
+  -- where a lock ends no place owns the object
+  pub lock_ends : (n : ℕ) → 0 < times n c.world.locked
+      → (0 < times n h.world.locked) ⊎ (owners n (moved_to c h control) ≡ 0)
+  pub tested : (n : ℕ) → 0 < tests_in n h.slots (around control) → 0 < times n c.world.progress
+  pub locked : (n : ℕ) → locks entry n (moved_to c h control) ≡ times n h.world.locked
+  pub locked_once : (n : ℕ) → locks entry n (moved_to c h control) ≤ 1
 
 -- What a step of the innermost frame leaves, after which these lists are around, so that the configuration is coherent again.
 pub record IsOwnStep (table : ClassTable) (entry : Option ℕ) (c : Configuration) (parts : BodyParts) (h : Here)

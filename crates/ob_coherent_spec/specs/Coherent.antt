@@ -37,7 +37,7 @@ use Rattle.ob_coherent_spec.specs.Standing.{AllStand, Stands, is_in, HasItsState
 use Rattle.ob_coherent_spec.specs.Saying.{SaysOf, Says, own_cell, every}
 use Rattle.ob_coherent_spec.specs.Remaining.{BodyParts, body_of, AreHeld, Remains}
 use Rattle.ob_coherent_spec.specs.OpenTests.{AreOpen}
-use Rattle.ob_coherent_spec.specs.Waiting.{IsFrame, OwnsMade, tests_of, SharesThis, has_lent, gives_back_as, AllWait}
+use Rattle.ob_coherent_spec.specs.Waiting.{IsFrame, OwnsMade, tests_of, SharesThis, has_lent, gives_back_as, AllLend, AllWait}
 
 -- How a run began: the body that it entered from outside, and the values that stand in its slots from one number on.
 pub record Beginning : Type 0 where
@@ -119,6 +119,7 @@ pub record IsRunning (table : ClassTable) (entry : Option ℕ) (beginning : Begi
   pub owns_made : OwnsMade c.frame
   -- an object under construction is referred to by its own frame alone
   pub unreferred : (n : ℕ) → 0 < constructions n c → references n c ≤ 1
+  pub lends : AllLend table c.frame c.stack
 
 -- What the innermost frame has given back: as its body declares.
 abbrev pub IsGivenBack : (ℕ → Type 0) → Option Cell → Option ResolvedType → Type 0
@@ -153,6 +154,7 @@ pub record IsLeaving (table : ClassTable) (entry : Option ℕ) (beginning : Begi
   pub placed : HasItsState table (nth_object c.world.objects (self_of c.frame.slots))
   pub shares : c.frame.how ≢ by_new → SharesThis c.frame c 0
   pub unreferred : (n : ℕ) → 0 < constructing_among n c.stack → references n c ≤ 1
+  pub lends : AllLend table c.frame c.stack
 
 -- What a callee leaves in the slot of a loan meets the exit: an owner's and a Shared one are held so, and where there is no
 -- say no object is owned that must have an owner.
@@ -186,6 +188,7 @@ pub record IsReturning (table : ClassTable) (entry : Option ℕ) (beginning : Be
       (own_cell (here c) k)
   pub shares : c.frame.how ≢ by_new → SharesThis c.frame c 0
   pub unreferred : (n : ℕ) → 0 < constructing_among n c.stack → references n c ≤ 1
+  pub lends : AllLend table below.frame others
 
 -- A coherent configuration: one that runs, that leaves, or that returns.
 pub data IsCoherent (table : ClassTable) (entry : Option ℕ) (beginning : Beginning) (c : Configuration) : Type 0 where

@@ -6,8 +6,10 @@ use Rattle.ob_perm.specs.States.{States}
 use Rattle.ob_perm.specs.Permissions.{Permission, owned, shared, unowned, owns, is_shared, is_unowned}
 use Rattle.ob_perm.specs.Masks.{permission_of}
 use Rattle.ob_table.specs.Tables.{ClassTable, contract_at, signature_at}
+use Rattle.ob_table.specs.declared.contract.Contract.{Contract}
 use Rattle.ob_table.specs.declared.contract.ResolvedType.{ResolvedType}
 use Rattle.ob_table.specs.declared.contract.ResolvedType.TheVariants.{Reference as TypedReference}
+use Rattle.ob_table.specs.declared.contract.Signature.{Signature}
 use Rattle.ob_table.specs.declared.seen.Kind.{Kind}
 use Rattle.ob_table.specs.declared.seen.Kind.TheVariants.{Reference}
 use Rattle.ob_table_spec.specs.WellFormed.{kind_of_resolved, serves_as, is_reference}
@@ -137,6 +139,18 @@ AreLoans table c callee called tests h g (l ∷ ls) =
 abbrev pub LendNoField : List Loan → Type 0
 LendNoField [] = ⊤
 LendNoField (l ∷ ls) = (is_field l.place ≡ false) × LendNoField ls
+
+-- A frame that waits has lent each parameter whose exit is an owner's, and a `new` hasn't lent what it makes.
+pub record Lends (table : ClassTable) (f : SilicaFrame) (h : Waiting) : Type 0 where
+  pub owners : (own : Contract) (s : Signature) → contract_at table f.contract ≡ Some own → signature_at own f.tx ≡ Some s
+      → (k : ℕ) (p : Parameter) → slice_get (all_parameters f.contract s) k ≡ Some p
+      → owns (permission_of p.exit) ≡ true → (f.how ≡ by_new → k ≢ 0) → has_lent h.loans k ≡ true
+  pub made : f.how ≡ by_new → has_lent h.loans 0 ≡ false
+
+-- each frame that waits has
+abbrev pub AllLend : ClassTable → SilicaFrame → List Waiting → Type 0
+AllLend table f [] = ⊤
+AllLend table f (h ∷ hs) = Lends table f h × AllLend table h.frame hs
 
 -- Frames that wait.
 
