@@ -1,2 +1,4 @@
 pub mod Within
 pub mod Entered
+pub mod Giving
+pub mod Binding

@@ -1,2 +1,3 @@
 pub mod Bound
 pub mod Entered
+pub mod Binds

@@ -187,7 +187,8 @@ module _ (b : BodyFrame) (h after : Here) (s : Stays h after) where
   open_kept : (ends : Ends) → ((p : Location) → (ends ≡ test_end p) ⊎ ((n : ℕ) × (ends ≡ lock_end p n)) → (z : Cell) → read b.table h p ≡ Some z
       → (y : Cell) × (read b.table after p ≡ Some y) × (y.value ≡ z.value)) → IsOpen b h ends → IsOpen b after ends
   open_kept plain_end kept a = a
-  open_kept (test_end p) kept a = (a.0, test_kept p (self_of h.slots) (self_of after.slots) s.this (kept p (inl refl)) a.1)
+  open_kept (test_end p) kept a = (a.0, test_kept p (self_of h.slots) (self_of after.slots) s.this (kept p (inl refl)) a.1,
+      subst (λ n. (nth_object after.world.objects n).shared ≡ true) (sym s.this) (s.shared (self_of h.slots) a.2))
   open_kept (lock_end p n) kept a = (a.0, test_kept p n n refl (kept p (inr (n, refl))) a.1, s.shared n a.2)
 
   later : (ends : Ends) (ps : List Location) (q : Location) → is_tested ps q ≡ true → is_tested (tested_before ends ps) q ≡ true

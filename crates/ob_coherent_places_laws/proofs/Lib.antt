@@ -3,3 +3,4 @@ pub mod Reading
 pub mod Writing
 pub mod Standing
 pub mod Keeping
+pub mod Finding
