@@ -3,7 +3,7 @@ use Rattle.std.proofs.Common.{◌≡◌, ◌≢◌, ℕ, suc, ◌+◌, ◌<◌, 
 use Rattle.std.specs.Prelude.{option_map}
 use Rattle.std.proofs.lemmas.Bool.{cases_Bool, both_ways}
 use Rattle.std.proofs.lemmas.Bool.Decides.{eqb_tells}
-use Rattle.std.proofs.lemmas.Option.{same_Some}
+use Rattle.std.proofs.lemmas.Option.{same_Some, none-some}
 use Rattle.ob_base.specs.Limits.{most_slots}
 use Rattle.ob_base.specs.declared.id.ContractId.{ContractId}
 use Rattle.ob_base.specs.declared.permission.Perm.{Perm}
@@ -329,6 +329,11 @@ module _ (table : ClassTable) (made : IsClassTable table) (c : Configuration) (p
     stays = stays_onward (here c) b.from after k.stays written.stays;
     sits = next_sits;
     alike = alike_now;
+    unset = λ q none. ⊎_elim
+        (λ same. absurd (let z = k.unset q none in
+        none-some u.cell (sym z ∙ ap (cell_at b.from) same ∙ u.is)))
+        (λ other. written.others q other ∙ k.unset q none)
+        (place_is q a);
     shares = shares_now;
     fewer = λ m. let less = fewer_now m in let old = k.fewer m in omega (arith, less, old);
     assets = λ m must. let more = assets_now m must in
