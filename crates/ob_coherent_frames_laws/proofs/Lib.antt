@@ -1,6 +1,10 @@
 pub mod Cells
 pub mod Near
 pub mod Entered
+pub mod Others
+pub mod Objects
 pub mod Whole
+pub mod After
+pub mod Quiet
 pub mod Own
 pub mod Apart

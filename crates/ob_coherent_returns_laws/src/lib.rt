@@ -1,2 +1,2 @@
-//! Laws of frames: what a step of the innermost frame leaves of the frames that wait and of the whole configuration.
+//! Laws of returns: what a return and the silent steps after it lead to from a coherent configuration.
 #![tactic(auto)]

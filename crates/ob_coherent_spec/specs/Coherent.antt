@@ -119,7 +119,7 @@ pub record IsRunning (table : ClassTable) (entry : Option ℕ) (beginning : Begi
   pub owns_made : OwnsMade c.frame
   -- an object under construction is referred to by its own frame alone
   pub unreferred : (n : ℕ) → 0 < constructions n c → references n c ≤ 1
-  pub lends : AllLend table c.frame c.stack
+  pub lends : AllLend table c.frame.contract c.frame.tx c.frame.how c.stack
 
 -- What the innermost frame has given back: as its body declares.
 abbrev pub IsGivenBack : (ℕ → Type 0) → Option Cell → Option ResolvedType → Type 0
@@ -154,7 +154,7 @@ pub record IsLeaving (table : ClassTable) (entry : Option ℕ) (beginning : Begi
   pub placed : HasItsState table (nth_object c.world.objects (self_of c.frame.slots))
   pub shares : c.frame.how ≢ by_new → SharesThis c.frame c 0
   pub unreferred : (n : ℕ) → 0 < constructing_among n c.stack → references n c ≤ 1
-  pub lends : AllLend table c.frame c.stack
+  pub lends : AllLend table c.frame.contract c.frame.tx c.frame.how c.stack
 
 -- What a callee leaves in the slot of a loan meets the exit: an owner's and a Shared one are held so, and where there is no
 -- say no object is owned that must have an owner.
@@ -188,7 +188,7 @@ pub record IsReturning (table : ClassTable) (entry : Option ℕ) (beginning : Be
       (own_cell (here c) k)
   pub shares : c.frame.how ≢ by_new → SharesThis c.frame c 0
   pub unreferred : (n : ℕ) → 0 < constructing_among n c.stack → references n c ≤ 1
-  pub lends : AllLend table below.frame others
+  pub lends : AllLend table below.frame.contract below.frame.tx below.frame.how others
 
 -- A coherent configuration: one that runs, that leaves, or that returns.
 pub data IsCoherent (table : ClassTable) (entry : Option ℕ) (beginning : Beginning) (c : Configuration) : Type 0 where

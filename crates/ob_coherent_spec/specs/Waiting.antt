@@ -2,6 +2,8 @@
 -- loans, and calls on `this` that pass fields along, are this project's own).
 use Rattle.std.specs.Prelude.{◌≡◌, ◌≢◌, ℕ, ◌<◌, ◌≤◌, ◌+◌, ◌⊎◌, Bool, true, false, not, ◌&&◌, ◌||◌, List, [], ◌∷◌, length, Option, Some, None, slice_get, ⊤}
 use Rattle.ob_base.specs.Limits.{most_slots}
+use Rattle.ob_base.specs.declared.id.ContractId.{ContractId}
+use Rattle.ob_base.specs.declared.id.TxId.{TxId}
 use Rattle.ob_perm.specs.States.{States}
 use Rattle.ob_perm.specs.Permissions.{Permission, owned, shared, unowned, owns, is_shared, is_unowned}
 use Rattle.ob_perm.specs.Masks.{permission_of}
@@ -140,17 +142,19 @@ abbrev pub LendNoField : List Loan → Type 0
 LendNoField [] = ⊤
 LendNoField (l ∷ ls) = (is_field l.place ≡ false) × LendNoField ls
 
--- A frame that waits has lent each parameter whose exit is an owner's, and a `new` hasn't lent what it makes.
-pub record Lends (table : ClassTable) (f : SilicaFrame) (h : Waiting) : Type 0 where
-  pub owners : (own : Contract) (s : Signature) → contract_at table f.contract ≡ Some own → signature_at own f.tx ≡ Some s
-      → (k : ℕ) (p : Parameter) → slice_get (all_parameters f.contract s) k ≡ Some p
-      → owns (permission_of p.exit) ≡ true → (f.how ≡ by_new → k ≢ 0) → has_lent h.loans k ≡ true
-  pub made : f.how ≡ by_new → has_lent h.loans 0 ≡ false
+-- A frame that waits for this body, entered so, has lent each parameter whose exit is an owner's; a `new` hasn't lent what it
+-- makes.
+pub record Lends (table : ClassTable) (contract : ContractId) (tx : TxId) (how : How) (h : Waiting) : Type 0 where
+  pub owners : (own : Contract) (s : Signature) → contract_at table contract ≡ Some own → signature_at own tx ≡ Some s
+      → (k : ℕ) (p : Parameter) → slice_get (all_parameters contract s) k ≡ Some p
+      → owns (permission_of p.exit) ≡ true → (how ≡ by_new → k ≢ 0) → has_lent h.loans k ≡ true
+  pub made : how ≡ by_new → has_lent h.loans 0 ≡ false
 
 -- each frame that waits has
-abbrev pub AllLend : ClassTable → SilicaFrame → List Waiting → Type 0
-AllLend table f [] = ⊤
-AllLend table f (h ∷ hs) = Lends table f h × AllLend table h.frame hs
+abbrev pub AllLend : ClassTable → ContractId → TxId → How → List Waiting → Type 0
+AllLend table contract tx how [] = ⊤
+AllLend table contract tx how (h ∷ hs) =
+    Lends table contract tx how h × AllLend table h.frame.contract h.frame.tx h.frame.how hs
 
 -- Frames that wait.
 
