@@ -51,10 +51,19 @@ agrees_allows (Some y) (Some x) a = a.1
 pub found : (N : ℕ → Type 0) (y : Option Known) (x : Option Cell) → is_set y ≡ true → SaysOf N y x → Found N y x
 found N None x e s = absurd (true≢false (sym e))
 found N (Some y) None e s = absurd s.known
-found N (Some y) (Some x) e s = record { note = y; told = refl; cell = x; is = refl; kind = s.known.0; permission = s.known.1; owner = s.owner }
+found N (Some y) (Some x) e s = record {
+  note = y;
+  told = refl;
+  cell = x;
+  is = refl;
+  kind = s.known.0;
+  permission = s.known.1;
+  owner = s.owner;
+}
 
 -- a cell that owns an object that must have an owner is known to own
-pub found_owner : (N : ℕ → Type 0) (y : Option Known) (x : Option Cell) (u : Found N y x) (n : ℕ) → N n → owns u.cell.note.permission ≡ true → u.cell.value ≡ reference n
+pub found_owner : (N : ℕ → Type 0) (y : Option Known) (x : Option Cell) (u : Found N y x) (n : ℕ) → N n
+    → owns u.cell.note.permission ≡ true → u.cell.value ≡ reference n
     → owns u.note.permission ≡ true
 found_owner N y x u n l e d = u.owner n l (owns_it u.cell n e d)
 
@@ -64,21 +73,25 @@ is_new by_this = inr (λ e. cc)
 is_new by_new = inl refl
 
 -- the number of a state, also while there is none
-pub number_low : (table : ClassTable) (c : Contract) (state : Option StateId) → IsContract table c → IfSome state (λ s. s.0 < length c.states) → state_number state < states_max
+pub number_low : (table : ClassTable) (c : Contract) (state : Option StateId) → IsContract table c
+    → IfSome state (λ s. s.0 < length c.states) → state_number state < states_max
 number_low table c None made is = low_state stateless (lit< tt)
 number_low table c (Some s) made is = let few = made.few_states in low_state s.0 (omega (arith, few, is))
 
-module _ (table : ClassTable) (made : IsClassTable table) (f : SilicaFrame) (parts : BodyParts) (h : Here) (g : Context) (k : Sits table f parts h g) where
+module _ (table : ClassTable) (made : IsClassTable table) (f : SilicaFrame) (parts : BodyParts) (h : Here) (g : Context)
+    (k : Sits table f parts h g) where
   -- a frame reads what stands at a place
   pub sits_read : (p : Location) → read table h p ≡ cell_at h p
   sits_read = read_is table h k.frame.there k.object
 
   -- the contract of its object is that of its body
   pub own_is : k.object.own ≡ parts.own
-  own_is = same_Some k.object.own parts.own (sym k.object.contract ∙ ap (contract_at table) k.frame.contract ∙ k.frame.own)
+  own_is = same_Some k.object.own parts.own
+      (sym k.object.contract ∙ ap (contract_at table) k.frame.contract ∙ k.frame.own)
 
   pub own_state_low : state_number (own_object h).state < states_max
-  own_state_low = number_low table k.object.own (own_object h).state (contract_is table made (own_object h).contract k.object.own k.object.contract) k.object.state
+  own_state_low = number_low table k.object.own (own_object h).state
+      (contract_is table made (own_object h).contract k.object.own k.object.contract) k.object.state
 
   -- each cell stands
   pub cell_stands : (p : Location) (x : Cell) → cell_at h p ≡ Some x → Stands table h.world.objects x
@@ -96,56 +109,72 @@ module _ (table : ClassTable) (made : IsClassTable table) (f : SilicaFrame) (par
   pub owner_knows : (a : States) → permission_in (h.slots 0) ≡ owned a → a (state_number (own_object h).state) ≡ true
   owner_knows a e =
       let s = (k.slots 0 k.frame.this k.frame.set).states a (sym (ap permission_in k.frame.set) ∙ e) in
-      let v : RefersToIn table h.world.objects k.frame.this.note.kind a (reference (self_of h.slots)) = subst (RefersToIn table h.world.objects k.frame.this.note.kind a) k.frame.refers s in
-      let d : is_in table (Reference f.contract) a (own_object h) ≡ true = subst (λ (kind : Kind). is_in table kind a (own_object h) ≡ true) k.frame.kind v in
+      let v : RefersToIn table h.world.objects k.frame.this.note.kind a (reference (self_of h.slots)) = subst
+      (RefersToIn table h.world.objects k.frame.this.note.kind a) k.frame.refers s in
+      let d : is_in table (Reference f.contract) a (own_object h) ≡ true = subst
+      (λ (kind : Kind). is_in table kind a (own_object h) ≡ true) k.frame.kind v in
       ap a (sym (seen_itself table (own_object h)) ∙ ap (λ c. seen_state table c (own_object h)) k.frame.contract) ∙ d
 
-  state_is_one : (p : Permission) → same_mode p (permission_in (h.slots 0)) ≡ true → owns p ≡ false → all_states (length parts.own.states) (state_number (own_object h).state) ≡ true
+  state_is_one : (p : Permission) → same_mode p (permission_in (h.slots 0)) ≡ true → owns p ≡ false
+      → all_states (length parts.own.states) (state_number (own_object h).state) ≡ true
   state_is_one p m e = ⊎_elim
       (λ i. absurd (both_ways _ e (same_mode_owns p (permission_in (h.slots 0)) m ∙ k.owns_made i)))
-      (λ i. state_in_all parts.own (own_object h).state (there_so (contract_at table (own_object h).contract) (λ c. IsStateOf c (own_object h).state) parts.own
+      (λ i. state_in_all parts.own (own_object h).state
+      (there_so (contract_at table (own_object h).contract) (λ c. IsStateOf c (own_object h).state) parts.own
       (ap (contract_at table) k.frame.contract ∙ k.frame.own) (k.placed i)))
       (is_new f.how)
 
   -- the state of `this` is one of those that are possible
-  pub state_possible : possible_under (body_of table f parts) (permission_at g this) (state_number (own_object h).state) ≡ true
+  pub state_possible : possible_under (body_of table f parts) (permission_at g this)
+      (state_number (own_object h).state) ≡ true
   state_possible = by_permission (permission_at g this) this_allows this_mode
     where
-      by_permission : (p : Permission) → Allows p (permission_in (h.slots 0)) → same_mode p (permission_in (h.slots 0)) ≡ true
+      by_permission : (p : Permission) → Allows p (permission_in (h.slots 0))
+          → same_mode p (permission_in (h.slots 0)) ≡ true
           → possible (length parts.own.states) p (state_number (own_object h).state) ≡ true
-      by_permission (owned a) (b, e, among) m = among (state_number (own_object h).state) own_state_low (owner_knows b e)
+      by_permission (owned a) (b, e, among) m = among (state_number (own_object h).state) own_state_low
+          (owner_knows b e)
       by_permission shared e m = state_is_one shared m refl
       by_permission unowned e m = state_is_one unowned m refl
 
   -- an accessible field is available
-  pub available_now : (n : ℕ) → accessible (body_of table f parts) g n ≡ true → available (body_of table f parts) n (state_number (own_object h).state) ≡ true
-  available_now n acc = among_from_subset (possible_under (body_of table f parts) (permission_at g this)) (available (body_of table f parts) n) acc
+  pub available_now : (n : ℕ) → accessible (body_of table f parts) g n ≡ true
+      → available (body_of table f parts) n (state_number (own_object h).state) ≡ true
+  available_now n acc = among_from_subset (possible_under (body_of table f parts) (permission_at g this))
+      (available (body_of table f parts) n) acc
       (state_number (own_object h).state) own_state_low state_possible
 
   pub field_now : (n : ℕ) → accessible (body_of table f parts) g n ≡ true
       → (d : Field) × (slice_get parts.own.fields n ≡ Some d) × (is_available (own_object h).state d ≡ true)
-  field_now n acc = field_is parts.own (own_object h).state n (sym (available_is (body_of table f parts) n (own_object h).state) ∙ available_now n acc)
+  field_now n acc = field_is parts.own (own_object h).state n
+      (sym (available_is (body_of table f parts) n (own_object h).state) ∙ available_now n acc)
 
   -- What a place that can be read has.
-  pub found_at : (p : Location) → CanRead (body_of table f parts) g p → Found (NeedsOwner table h.world.objects) (g p) (cell_at h p)
+  pub found_at : (p : Location) → CanRead (body_of table f parts) g p
+      → Found (NeedsOwner table h.world.objects) (g p) (cell_at h p)
   found_at (slot n) c = found (NeedsOwner table h.world.objects) (g (slot n)) (h.slots n) c.set (k.says.slots n refl)
-  found_at (field n) c = found (NeedsOwner table h.world.objects) (g (field n)) (cell_at h (field n)) c.set (k.says.fields n (available_now n (c.reached n refl)) refl)
+  found_at (field n) c = found (NeedsOwner table h.world.objects) (g (field n)) (cell_at h (field n)) c.set
+      (k.says.fields n (available_now n (c.reached n refl)) refl)
 
   -- what it has, as it is read
-  pub found_read : (p : Location) (u : Found (NeedsOwner table h.world.objects) (g p) (cell_at h p)) → read table h p ≡ Some u.cell
+  pub found_read : (p : Location) (u : Found (NeedsOwner table h.world.objects) (g p) (cell_at h p))
+      → read table h p ≡ Some u.cell
   found_read p u = sits_read p ∙ u.is
 
-  pub found_stands : (p : Location) (u : Found (NeedsOwner table h.world.objects) (g p) (cell_at h p)) → Stands table h.world.objects u.cell
+  pub found_stands : (p : Location) (u : Found (NeedsOwner table h.world.objects) (g p) (cell_at h p))
+      → Stands table h.world.objects u.cell
   found_stands p u = cell_stands p u.cell u.is
 
   -- a place keeps its value under another permission: there is room for it
-  pub room_noted : (p : Location) (x : Cell) (q : Permission) → cell_at h p ≡ Some x → HasRoom k.object.own (own_object h).state p (Some (noted q x))
+  pub room_noted : (p : Location) (x : Cell) (q : Permission) → cell_at h p ≡ Some x
+      → HasRoom k.object.own (own_object h).state p (Some (noted q x))
   room_noted p x q e n z is d =
       let r = kind_in_run table h.notes h.world.objects (self_of h.slots) k.object n x (ap (cell_at h) (sym is) ∙ e) in
       (r.1, r.2, r.3, ap (λ (y : Cell). y.note.kind) (sym (same_Some (noted q x) z d)) ∙ r.4)
 
   -- a value of the declared kind has room in an accessible field
-  pub room_in_field : (n : ℕ) (x : Cell) → accessible (body_of table f parts) g n ≡ true → x.note.kind ≡ kind_of_resolved (type_of_field (body_of table f parts) n)
+  pub room_in_field : (n : ℕ) (x : Cell) → accessible (body_of table f parts) g n ≡ true
+      → x.note.kind ≡ kind_of_resolved (type_of_field (body_of table f parts) n)
       → HasRoom k.object.own (own_object h).state (field n) (Some x)
   room_in_field n x acc e m z is d =
       let r = field_now n acc in
@@ -153,7 +182,8 @@ module _ (table : ClassTable) (made : IsClassTable table) (f : SilicaFrame) (par
         r.0,
         ap (λ (c : Contract). slice_get c.fields m) own_is ∙ ap (slice_get parts.own.fields) (sym same) ∙ r.1,
         r.2,
-        ap (λ (y : Cell). y.note.kind) (sym (same_Some x z d)) ∙ e ∙ ap (λ y. kind_of_resolved (option_map_or (λ (c : Field). c.of) y IntType)) r.1,
+        ap (λ (y : Cell). y.note.kind) (sym (same_Some x z d)) ∙ e
+            ∙ ap (λ y. kind_of_resolved (option_map_or (λ (c : Field). c.of) y IntType)) r.1,
       )
     where
       field_number : {i j : ℕ} → field i ≡ field j → i ≡ j
@@ -161,35 +191,46 @@ module _ (table : ClassTable) (made : IsClassTable table) (f : SilicaFrame) (par
 
   -- no other slot than those of the body is set, and a field that is set has a small number
   pub field_small : (n : ℕ) (x : Cell) → cell_at h (field n) ≡ Some x → n < length k.object.own.fields
-  field_small n x e = slice_get_within k.object.own.fields n _ (kind_in_run table h.notes h.world.objects (self_of h.slots) k.object n x e).2
+  field_small n x e = slice_get_within k.object.own.fields n _
+      (kind_in_run table h.notes h.world.objects (self_of h.slots) k.object n x e).2
 
   -- The permission as it counts.
 
-  pub counted_allows : (p : Location) (u : Found (NeedsOwner table h.world.objects) (g p) (cell_at h p)) → Allows (counted g p) (counts_as h p u.cell)
+  pub counted_allows : (p : Location) (u : Found (NeedsOwner table h.world.objects) (g p) (cell_at h p))
+      → Allows (counted g p) (counts_as h p u.cell)
   counted_allows (slot n) u = subst (λ y. Allows (permission_on y) u.cell.note.permission) (sym u.told) u.permission
-  counted_allows (field n) u = under_keeps (permission_at g this) (permission_in (h.slots 0)) (permission_at g (field n)) u.cell.note.permission this_mode
+  counted_allows (field n) u = under_keeps (permission_at g this) (permission_in (h.slots 0))
+      (permission_at g (field n)) u.cell.note.permission this_mode
       (subst (λ y. Allows (permission_on y) u.cell.note.permission) (sym u.told) u.permission)
 
   -- what counts as owning in the run counts so for the rules, of an object that must have an owner
-  pub counted_owner : (p : Location) (u : Found (NeedsOwner table h.world.objects) (g p) (cell_at h p)) → owns u.note.permission ≡ true → owns (counts_as h p u.cell) ≡ true
+  pub counted_owner : (p : Location) (u : Found (NeedsOwner table h.world.objects) (g p) (cell_at h p))
+      → owns u.note.permission ≡ true → owns (counts_as h p u.cell) ≡ true
       → owns (counted g p) ≡ true
   counted_owner (slot n) u e d = ap (λ y. owns (permission_on y)) u.told ∙ e
   counted_owner (field n) u e d =
       let t = permission_in (h.slots 0) in
-      let say = (and_parts (not (is_unowned t)) (owns u.cell.note.permission) (sym (under_owns t u.cell.note.permission) ∙ d)).0 in
-      ap owns (under_same (permission_at g this) t (permission_at g (field n)) this_mode) ∙ under_owns t (permission_at g (field n))
-      ∙ and_from (not (is_unowned t)) (owns (permission_at g (field n))) say (ap (λ y. owns (permission_on y)) u.told ∙ e)
+      let say = (and_parts (not (is_unowned t)) (owns u.cell.note.permission)
+      (sym (under_owns t u.cell.note.permission) ∙ d)).0 in
+      ap owns (under_same (permission_at g this) t (permission_at g (field n)) this_mode)
+      ∙ under_owns t (permission_at g (field n))
+      ∙ and_from (not (is_unowned t)) (owns (permission_at g (field n))) say
+      (ap (λ y. owns (permission_on y)) u.told ∙ e)
 
   -- and so where it refers to such an object
-  pub counted_needs : (p : Location) (u : Found (NeedsOwner table h.world.objects) (g p) (cell_at h p)) (n : ℕ) → NeedsOwner table h.world.objects n
+  pub counted_needs : (p : Location) (u : Found (NeedsOwner table h.world.objects) (g p) (cell_at h p)) (n : ℕ)
+      → NeedsOwner table h.world.objects n
       → u.cell.value ≡ reference n → owns (counts_as h p u.cell) ≡ true → owns (counted g p) ≡ true
   counted_needs p u n l e d = counted_owner p u (u.owner n l (owns_it u.cell n (counts_owner p d) e)) d
     where
       counts_owner : (p : Location) → owns (counts_as h p u.cell) ≡ true → owns u.cell.note.permission ≡ true
       counts_owner (slot n) d = d
-      counts_owner (field n) d = (and_parts (not (is_unowned (permission_in (h.slots 0)))) (owns u.cell.note.permission) (sym (under_owns (permission_in (h.slots 0)) u.cell.note.permission) ∙ d)).1
+      counts_owner (field n) d =
+          (and_parts (not (is_unowned (permission_in (h.slots 0)))) (owns u.cell.note.permission)
+          (sym (under_owns (permission_in (h.slots 0)) u.cell.note.permission) ∙ d)).1
 
 -- a cell's permission counts as it is, or as Unowned
-pub counts_is : (h : Here) (p : Location) (x : Cell) → (counts_as h p x ≡ x.note.permission) ⊎ (counts_as h p x ≡ unowned)
+pub counts_is : (h : Here) (p : Location) (x : Cell)
+    → (counts_as h p x ≡ x.note.permission) ⊎ (counts_as h p x ≡ unowned)
 counts_is h (slot n) x = inl refl
 counts_is h (field n) x = under_is (permission_in (h.slots 0)) x.note.permission

@@ -4,3 +4,8 @@ pub mod Writing
 pub mod Standing
 pub mod Keeping
 pub mod Finding
+pub mod Carrying
+pub mod Getting
+pub mod Handing
+pub mod Holding
+pub mod Alike

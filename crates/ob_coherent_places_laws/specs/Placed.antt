@@ -27,8 +27,8 @@ abbrev pub cell_at : Here → Location → Option Cell
 cell_at h (slot k) = h.slots k
 cell_at h (field k) = own_cell h k
 
--- What a frame's work leaves: `this`, the number of objects, their contracts and states, the fields of other objects than
--- its own, marks, handles, locks, and transactions in progress.
+-- What a frame's work leaves: `this`, the number of objects, their contracts and states, the fields of other objects
+-- than its own, marks, handles, locks, and transactions in progress.
 pub record Stays (h after : Here) : Type 0 where
   pub this : self_of after.slots ≡ self_of h.slots
   pub count : length after.world.objects ≡ length h.world.objects
@@ -60,7 +60,7 @@ pub record SameCells (h after : Here) : Type 0 where
   pub stays : Stays h after
   pub same : (q : Location) → cell_at after q ≡ cell_at h q
 
--- the cell of a place that is known to be set, of the kind that is known, with a permission that serves as the known one
+-- the cell of a place that is known to be set, of the known kind, with a permission that serves as the known one
 pub record Found (N : ℕ → Type 0) (y : Option Known) (x : Option Cell) : Type 0 where
   pub note : Known
   pub told : y ≡ Some note
@@ -70,8 +70,8 @@ pub record Found (N : ℕ → Type 0) (y : Option Known) (x : Option Cell) : Typ
   pub permission : Allows note.permission cell.note.permission
   pub owner : (n : ℕ) → N n → 0 < in_cell owns n (Some cell) → owns note.permission ≡ true
 
--- What is so of a frame's own places, whatever its other parts are: it is a frame of its body, its slots and the fields of
--- `this` stand, and a context says what is in them.
+-- What is so of a frame's own places, whatever its other parts are: it is a frame of its body, its slots and the fields
+-- of `this` stand, and a context says what is in them.
 pub record Sits (table : ClassTable) (f : SilicaFrame) (parts : BodyParts) (h : Here) (g : Context) : Type 0 where
   pub frame : IsFrame table h.world.objects (record f { slots = h.slots }) parts
   pub slots : AllStand table h.world.objects h.slots
@@ -92,7 +92,8 @@ SlotsKept n h after = (k : ℕ) → k ≤ n → IsAlike (h.slots k) (after.slots
 -- What is written into a field of `this` is of the declared kind, and the field is available.
 abbrev pub HasRoom : Contract → Option StateId → Location → Option Cell → Type 0
 HasRoom own state p x = (k : ℕ) (z : Cell) → p ≡ field k → x ≡ Some z
-    → (f : Field) × (slice_get own.fields k ≡ Some f) × (is_available state f ≡ true) × (z.note.kind ≡ kind_of_resolved f.of)
+    → (f : Field) × (slice_get own.fields k ≡ Some f) × (is_available state f ≡ true)
+    × (z.note.kind ≡ kind_of_resolved f.of)
 
 -- what is known of `this` says how it is held
 abbrev pub TellsThis : Location → Option Known → Option Cell → Type 0
