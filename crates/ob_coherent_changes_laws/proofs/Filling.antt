@@ -175,13 +175,13 @@ module _ (table : ClassTable) (made : IsClassTable table) (c : Configuration) (p
   say_given : w ≡ shared → is_unowned u.cell.note.permission ≡ false
   say_given e =
       let fit = said_fits table made c.frame parts h g k.sits a u (type_of_field (body_of table c.frame parts) f)
-          (permission_of_type (type_of_field (body_of table c.frame parts) f))
-          (fill_serves (body_of table c.frame parts) ts g f a
-          (declared_permission (body_of table c.frame parts) f) can.serves e) in
+      (permission_of_type (type_of_field (body_of table c.frame parts) f))
+      (fill_serves (body_of table c.frame parts) ts g f a
+      (declared_permission (body_of table c.frame parts) f) can.serves e) in
       let run = gives_say table u.cell.note.kind (kind_of_resolved (type_of_field (body_of table c.frame parts) f))
-          (counts_as h a u.cell)
-          (subst (λ z. fits (converted table u.cell.note.kind
-          (kind_of_resolved (type_of_field (body_of table c.frame parts) f)) (counts_as h a u.cell)) z ≡ true) e fit) in
+      (counts_as h a u.cell)
+      (subst (λ z. fits (converted table u.cell.note.kind
+      (kind_of_resolved (type_of_field (body_of table c.frame parts) f)) (counts_as h a u.cell)) z ≡ true) e fit) in
       ⊎_elim (λ same. ap is_unowned (sym same) ∙ run) (λ none. absurd (true≢false (sym (ap is_unowned none) ∙ run)))
       (counts_is h a u.cell)
 
@@ -284,7 +284,7 @@ module _ (table : ClassTable) (made : IsClassTable table) (c : Configuration) (p
   assets_now m must = ⊎_elim
       (λ e.
       let other : u.cell.value ≢ reference m =
-          λ is. both_ways _ must.unshared (shared_there after.world.objects u.cell.value m is (marked e)) in
+      λ is. both_ways _ must.unshared (shared_there after.world.objects u.cell.value m is (marked e)) in
       let z = gone_now e m in let none = cell_other owns m u.cell other in
       omega (arith, z, none))
       (λ ne. let z = same_now ne m in omega (arith, z))
@@ -306,10 +306,10 @@ module _ (table : ClassTable) (made : IsClassTable table) (c : Configuration) (p
       here_now same =
           let is : cell_at h q ≡ Some u.cell = ap (cell_at h) same ∙ u.is in
           let now : noted (kept u.cell.note.permission w) u.cell ≡ z =
-              same_Some _ z (sym (written_that h after a _ written q same) ∙ ez) in
+          same_Some _ z (sym (written_that h after a _ written q same) ∙ ez) in
           let sh : kept u.cell.note.permission w ≡ shared = ap (λ (v : Cell). v.note.permission) now ∙ e in
           let value : u.cell.value ≡ x.value =
-              (let r = k.alike q x ex in ap (λ (v : Cell). v.value) (same_Some u.cell r.0 (sym is ∙ r.1)) ∙ r.2) in
+          (let r = k.alike q x ex in ap (λ (v : Cell). v.value) (same_Some u.cell r.0 (sym is ∙ r.1)) ∙ r.2) in
           ⊎_elim (λ i. was u.cell is i)
           (λ wanted. ⊎_elim (λ own. inr (λ m refers. none_left wanted own m (value ∙ refers)))
           (λ more. ⊎_elim (λ i. was u.cell is i)
@@ -321,9 +321,12 @@ module _ (table : ClassTable) (made : IsClassTable table) (c : Configuration) (p
   alike_now q z e =
       let r = k.alike q z e in
       ⊎_elim
-      (λ same. let v : r.0 ≡ u.cell = same_Some r.0 u.cell (sym r.1 ∙ ap (cell_at h) same ∙ u.is) in
-      (noted (kept u.cell.note.permission w) u.cell, written_that h after a _ written q same,
-      ap (λ (x : Cell). x.value) (sym v) ∙ r.2, ap (λ (x : Cell). x.note.kind) (sym v) ∙ r.3))
+      (λ same. let v : r.0 ≡ u.cell = same_Some r.0 u.cell (sym r.1 ∙ ap (cell_at h) same ∙ u.is) in (
+        noted (kept u.cell.note.permission w) u.cell,
+        written_that h after a _ written q same,
+        ap (λ (x : Cell). x.value) (sym v) ∙ r.2,
+        ap (λ (x : Cell). x.note.kind) (sym v) ∙ r.3,
+      ))
       (λ other. (r.0, written.others q other ∙ r.1, r.2, r.3))
       (place_is q a)
 
