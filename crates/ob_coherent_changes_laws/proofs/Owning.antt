@@ -1,8 +1,7 @@
 -- No other place owns an object that changes its state, and what goes owns no object that must have an owner.
 use Rattle.std.proofs.Common.{◌≡◌, ◌≢◌, ℕ, ◌+◌, ◌<◌, ◌≤◌, Bool, true, false, ◌&&◌, List, length, Option, Some, None, refl, sym, ap, subst, ◌∙◌, arith, ⊎_elim, ◌⊎◌, inl, inr, true≢false}
-use Rattle.std.proofs.lemmas.Bool.{cases_Bool, cases_lt, both_ways, and_from}
-use Rattle.std.proofs.lemmas.Option.{same_Some, none-some, slice_get_within}
-use Rattle.ob_base.specs.Limits.{most_slots}
+use Rattle.std.proofs.lemmas.Bool.{cases_lt, both_ways, and_from}
+use Rattle.std.proofs.lemmas.Option.{slice_get_within}
 use Rattle.ob_base.specs.declared.id.StateId.{StateId}
 use Rattle.ob_perm.specs.Permissions.{Permission, owned, shared, unowned, owns, is_unowned}
 use Rattle.ob_table.specs.Tables.{ClassTable}
@@ -13,20 +12,19 @@ use Rattle.ob_heap_spec.specs.Objects.{Object, has_field, state_number}
 use Rattle.ob_heap_spec.specs.Marks.{is_locked}
 use Rattle.ob_silica.specs.Terms.{SilicaTerms}
 use Rattle.ob_silica_places.specs.Known.{Known}
-use Rattle.ob_silica_places.specs.Places.{Location, slot, field, this}
+use Rattle.ob_silica_places.specs.Places.{field, this}
 use Rattle.ob_silica_steps.specs.Cells.{Cell, permission_in}
 use Rattle.ob_silica_steps.specs.Configurations.{Rest, Configuration}
 use Rattle.ob_silica_steps.specs.Here.{Here, here, self_of}
 use Rattle.ob_silica_steps.specs.Changing.{is_locked_out, changed_here}
 use Rattle.ob_flow_spec.specs.Contexts.{Context, available, field_count, maybe_there, owns_asset, possible_under, permission_at, permission_on, is_asset, is_owned_asset}
-use Rattle.ob_flow_spec.specs.Joining.{same_mode}
 use Rattle.ob_places_laws.proofs.Permissions.{same_mode_no_say}
 use Rattle.ob_places_laws.proofs.Sets.{meets_from}
 use Rattle.ob_coherent_spec.specs.Counting.{Counted, any, nth_object, field_cell, fields_counted, sum_below, in_cell, in_slots, in_fields, in_objects, in_waiting, owners, references}
 use Rattle.ob_coherent_spec.specs.Runs.{constructions}
 use Rattle.ob_coherent_spec.specs.Standing.{Stands, NeedsOwner}
 use Rattle.ob_coherent_spec.specs.Saying.{Agrees, SaysOf, own_object}
-use Rattle.ob_coherent_spec.specs.Remaining.{BodyParts, body_of}
+use Rattle.ob_coherent_spec.specs.Remaining.{body_of}
 use Rattle.ob_coherent_spec.specs.Coherent.{Beginning, IsRunning}
 use Rattle.ob_coherent_counting_laws.proofs.Sums.{sum_zero, term_at_most}
 use Rattle.ob_coherent_counting_laws.proofs.Numbers.{times_among}
@@ -36,13 +34,13 @@ use Rattle.ob_coherent_counting_laws.proofs.Entering.{some_slots}
 use Rattle.ob_coherent_counting_laws.proofs.Low.{contract_field_low, field_low}
 use Rattle.ob_coherent_counting_laws.proofs.Changing.{cell_lost, in_lost, owners_after, references_after}
 use Rattle.ob_coherent_frames_laws.specs.Steps.{moved, FreeToChange}
-use Rattle.ob_coherent_places_laws.specs.Placed.{cell_at, Sits}
-use Rattle.ob_coherent_places_laws.proofs.Changed.{changed_leaves, changed_self}
+use Rattle.ob_coherent_places_laws.specs.Placed.{cell_at}
+use Rattle.ob_coherent_places_laws.proofs.Changed.{changed_leaves}
 use Rattle.ob_coherent_places_laws.proofs.Finding.{own_is, own_state_low, state_possible}
 use Rattle.ob_coherent_places_laws.proofs.Reading.{same_field_cell, kind_in_run, available_is}
 use Rattle.ob_coherent_remaining_laws.proofs.Following.{owner_is_asset}
 use Rattle.ob_coherent_calls_laws.proofs.Running.{running_owners, running_references, running_one}
-use Rattle.ob_coherent_changes_laws.specs.Fills.{in_frame, in_cells, in_both, in_rest, IsGot, Fills}
+use Rattle.ob_coherent_changes_laws.specs.Fills.{in_both, in_rest, Fills}
 
 some_or_none : (m : ℕ) → (0 < m) ⊎ (m ≡ 0)
 some_or_none Rattle.std.proofs.Common.zero = inr refl
@@ -89,7 +87,7 @@ module _ (table : ClassTable) (made : IsClassTable table) (entry : Option ℕ) (
       (λ own. let most = running_one table made entry beginning c k (self_of c.frame.slots) in
       let less = a.fewer (self_of c.frame.slots) in
       let is : in_cell owns (self_of c.frame.slots) (h.slots 0) ≡ 1 = ap (in_cell owns (self_of c.frame.slots)) a.sits.frame.set
-          ∙ cell_counted owns (self_of c.frame.slots) a.sits.frame.this own this_refers in
+      ∙ cell_counted owns (self_of c.frame.slots) a.sits.frame.this own this_refers in
       omega (arith, most, less, is))
       (λ other. ⊎_elim (λ sh. held_shared sh)
       (λ none. absurd (both_ways _ this_say (ap (λ z. is_unowned (permission_in z)) a.sits.frame.set ∙ ap is_unowned none))) other)
@@ -116,7 +114,7 @@ module _ (table : ClassTable) (made : IsClassTable table) (entry : Option ℕ) (
   no_slot j ne = subst (λ n. in_cell owns n (h.slots j) ≡ 0) (sym a.stays.this) (⊎_elim
       (λ low. let all = alone in
       let two = in_two_slots owns (self_of c.frame.slots) h.slots 0 j some_slots
-          (let few = a.sits.frame.few in omega (arith, low, few)) (λ e. ne (sym e)) in
+      (let few = a.sits.frame.few in omega (arith, low, few)) (λ e. ne (sym e)) in
       omega (arith, all, two))
       (λ past. ap (in_cell owns (self_of c.frame.slots)) (a.sits.frame.unset j past))
       (cases_lt j k.whole.parts.slots))
@@ -140,11 +138,11 @@ module _ (table : ClassTable) (made : IsClassTable table) (entry : Option ℕ) (
   no_got j x e =
       let i = a.cells j x e in
       let low = contract_field_low table made c.frame.contract k.whole.parts.own k.whole.frame.own j
-          (slice_get_within k.whole.parts.own.fields j i.field i.is) in
+      (slice_get_within k.whole.parts.own.fields j i.field i.is) in
       let all = alone in let slots = slot_in in
       let one = term_at_most fields_counted (λ n. in_cell owns (self_of c.frame.slots) (got n)) j low in
       let is : in_cell owns (self_of c.frame.slots) (got j) ≡ in_cell owns (self_of c.frame.slots) (Some x) =
-          ap (in_cell owns (self_of c.frame.slots)) e in
+      ap (in_cell owns (self_of c.frame.slots)) e in
       subst (λ n. in_cell owns n (Some x) ≡ 0) (sym a.stays.this) (omega (arith, all, slots, one, is))
 
   pub free_to_change : FreeToChange c (changed_here k.whole.parts.own s got h)
@@ -224,7 +222,7 @@ module _ (table : ClassTable) (made : IsClassTable table) (entry : Option ℕ) (
       all_owners n =
           let e = owners_after k.whole.parts.own s got h n there some_slots in
           let same = ap (Rattle.ob_coherent_spec.specs.Counting.in_handles owns n)
-              (changed_leaves k.whole.parts.own s got h c a.stays).handles in
+          (changed_leaves k.whole.parts.own s got h c a.stays).handles in
           omega (arith, e, same)
 
       pub fewer_owners : (n : ℕ) → owners n (moved c (changed_here k.whole.parts.own s got h) terms outer) ≤ owners n c
@@ -246,6 +244,6 @@ module _ (table : ClassTable) (made : IsClassTable table) (entry : Option ℕ) (
       fewer_references n building =
           let e = references_after k.whole.parts.own s got h n there some_slots in
           let same = ap (Rattle.ob_coherent_spec.specs.Counting.in_handles any n)
-              (changed_leaves k.whole.parts.own s got h c a.stays).handles in
+          (changed_leaves k.whole.parts.own s got h c a.stays).handles in
           let keep = a.refers n building in
           let all = running_references table made entry beginning c k n in omega (arith, e, same, keep, all)
