@@ -1,3 +1,4 @@
 pub mod Filling
 pub mod FillingAll
 pub mod Owning
+pub mod Changed
