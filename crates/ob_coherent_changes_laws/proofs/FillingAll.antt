@@ -51,7 +51,7 @@ none_got_put got f y [] new none = tt
 none_got_put got f y (x ∷ xs) new none =
     (put_elsewhere got f y x.field.0 (λ e. new.0 (sym e)) ∙ none.0, none_got_put got f y xs new.1 none.1)
 
-none_at_first : (xs : List Given) → NoneGot nothing xs
+pub none_at_first : (xs : List Given) → NoneGot nothing xs
 none_at_first [] = tt
 none_at_first (x ∷ xs) = (refl, none_at_first xs)
 

@@ -2,3 +2,4 @@ pub mod Filling
 pub mod FillingAll
 pub mod Owning
 pub mod Changed
+pub mod Changing
