@@ -1,12 +1,11 @@
 -- One place is given to one field.
 use Rattle.std.proofs.Common.{◌≡◌, ◌≢◌, ℕ, ◌+◌, ◌<◌, ◌≤◌, true, false, List, length, Some, None, refl, sym, ap, subst, ◌∙◌, arith, ⊎_elim, ◌⊎◌, inl, inr, true≢false}
-use Rattle.std.proofs.lemmas.Bool.{cases_Bool, both_ways}
+use Rattle.std.proofs.lemmas.Bool.{cases_Bool, both_ways, ne_eqb}
 use Rattle.std.proofs.lemmas.Bool.Decides.{eqb_tells}
 use Rattle.std.proofs.lemmas.Option.{same_Some, none-some, slice_get_within}
 use Rattle.std.specs.Prelude.{slice_get}
 use Rattle.std.specs.Option.{option_map_or}
 use Rattle.ob_base.specs.declared.id.StateId.{StateId}
-use Rattle.ob_perm.specs.States.{States}
 use Rattle.ob_perm.specs.Permissions.{Permission, owned, shared, unowned, owns, is_unowned, fits, kept}
 use Rattle.ob_table.specs.Tables.{ClassTable}
 use Rattle.ob_table.specs.declared.contract.Field.{Field}
@@ -16,22 +15,17 @@ use Rattle.ob_table_spec.specs.Conditions.{IsClassTable}
 use Rattle.ob_table_spec.specs.WellFormed.{kind_of_resolved, serves_as}
 use Rattle.ob_heap_spec.specs.Values.{Value, reference, Numbered, put}
 use Rattle.ob_heap_spec.specs.Objects.{Object, has_field}
-use Rattle.ob_heap_spec.specs.Worlds.{World}
 use Rattle.ob_silica_places.specs.Known.{permission_of_type}
 use Rattle.ob_silica_places.specs.Places.{Location, field, this, same_location}
-use Rattle.ob_silica_places.specs.Converting.{converted, gotten}
+use Rattle.ob_silica_places.specs.Converting.{converted}
 use Rattle.ob_silica_steps.specs.Cells.{Cell, noted}
 use Rattle.ob_silica_steps.specs.Configurations.{Configuration}
 use Rattle.ob_silica_steps.specs.Here.{Here, here, self_of, hand, counted as counts_as}
 use Rattle.ob_silica_steps.specs.Getting.{got_from}
-use Rattle.ob_flow_spec.specs.Contexts.{BodyFrame, Context, TestedPlaces, with_permission, permission_on, permission_at, counted, type_of_field, declared_permission, put as put_known}
+use Rattle.ob_flow_spec.specs.Contexts.{BodyFrame, Context, TestedPlaces, with_permission, permission_on, permission_at, type_of_field, declared_permission, put as put_known}
 use Rattle.ob_flow_spec.specs.Uses.{said_for_type, after_give}
 use Rattle.ob_flow_spec.specs.Filling.{got as got_known}
-use Rattle.ob_flow_laws.specs.Uses.{CanUse}
 use Rattle.ob_flow_laws.specs.Filling.{CanFillAs, CanFill}
-use Rattle.ob_places_laws.specs.Serving.{Allows}
-use Rattle.ob_places_laws.proofs.Conversions.{converted_owns}
-use Rattle.ob_places_laws.proofs.Serves.{allows_owner}
 use Rattle.ob_coherent_spec.specs.Counting.{Counted, any, nth_object, fields_counted, in_cell}
 use Rattle.ob_coherent_spec.specs.Runs.{constructions}
 use Rattle.ob_coherent_spec.specs.Standing.{RefersToShared, Stands, NeedsOwner}
@@ -42,50 +36,30 @@ use Rattle.ob_coherent_counting_laws.proofs.Cells.{cell_other, cell_counted}
 use Rattle.ob_coherent_counting_laws.proofs.Low.{place_low, contract_field_low}
 use Rattle.ob_coherent_counting_laws.proofs.Permitting.{hand_counts, hand_refers}
 use Rattle.ob_coherent_counting_laws.proofs.Writing.{IsLow}
-use Rattle.ob_coherent_places_laws.specs.Placed.{cell_at, Written, Sits, Found, IsAlike}
-use Rattle.ob_coherent_places_laws.proofs.Objects.{comes_sets}
-use Rattle.ob_coherent_places_laws.proofs.Reading.{place_is, same_place}
-use Rattle.ob_coherent_places_laws.proofs.Writing.{stays_onward, hand_written, hand_world, hand_shares, hand_disowns_none}
-use Rattle.ob_coherent_places_laws.proofs.Standing.{reference_is, needs_stay, stands_stay, says_of_less}
+use Rattle.ob_coherent_places_laws.specs.Placed.{cell_at, Written, Found, IsAlike}
+use Rattle.ob_coherent_places_laws.proofs.Reading.{place_is, same_place, field_is}
+use Rattle.ob_coherent_places_laws.proofs.Writing.{stays_onward, hand_written, hand_shares, hand_disowns_none}
+use Rattle.ob_coherent_places_laws.proofs.Standing.{needs_stay, stands_stay, says_of_less}
 use Rattle.ob_coherent_places_laws.proofs.Keeping.{written_that, put_that, put_other}
-use Rattle.ob_coherent_places_laws.proofs.Finding.{found_stands, counted_allows, counts_is}
-use Rattle.ob_coherent_places_laws.proofs.Getting.{AreLow, gotten_stands, given_refers}
-use Rattle.ob_coherent_places_laws.proofs.Handing.{filled_says, gives_on, gives_shared, said_fits}
-use Rattle.ob_coherent_places_laws.proofs.Carrying.{carry_hand, spares, kept_is_shared}
+use Rattle.ob_coherent_places_laws.proofs.Finding.{found_stands, counts_is}
+use Rattle.ob_coherent_places_laws.proofs.Getting.{AreLow}
+use Rattle.ob_coherent_places_laws.proofs.Handing.{gives_on, gives_shared, said_fits}
+use Rattle.ob_coherent_places_laws.proofs.Carrying.{kept_is_shared}
+use Rattle.ob_coherent_places_laws.proofs.Filling.{low_stays, is_shared_or, fill_found, fill_owner, fill_owns, fill_marks, fill_sits, fill_stands, fill_says}
+use Rattle.ob_coherent_calls_laws.specs.Binds.{in_frame, in_rest}
 use Rattle.ob_coherent_calls_laws.proofs.Giving.{gives_say}
-use Rattle.ob_coherent_changes_laws.specs.Fills.{in_frame, in_cells, in_both, in_rest, IsGot, Fills}
+use Rattle.ob_coherent_changes_laws.specs.Fills.{in_cells, in_both, IsGot, Fills}
 
 by_mode : (p : Permission) → (owns p ≡ true) ⊎ ((p ≡ shared) ⊎ (p ≡ unowned))
 by_mode (owned a) = inl refl
 by_mode shared = inr (inl refl)
 by_mode unowned = inr (inr refl)
 
-pub shared_or_not : (p : Permission) → (p ≡ shared) ⊎ (p ≢ shared)
-shared_or_not (owned a) = inr (λ e. cc)
-shared_or_not shared = inl refl
-shared_or_not unowned = inr (λ e. cc)
-
-shared_at : (objects : List Object) (v : Value) (n : ℕ) → v ≡ reference n → (nth_object objects n).shared ≡ true
-    → RefersToShared objects v
-shared_at objects v n e s = subst (RefersToShared objects) (sym e) s
-
 shared_there : (objects : List Object) (v : Value) (n : ℕ) → v ≡ reference n → RefersToShared objects v
     → (nth_object objects n).shared ≡ true
 shared_there objects v n e s = subst (RefersToShared objects) e s
 
--- A place that fills a field can be used, owns where an owner is wanted, and has a say where a Shared one is.
-
-pub fill_uses : (b : BodyFrame) (ts : TestedPlaces) (g : Context) (f : ℕ) (p : Location) (w : Permission)
-    → CanFillAs b ts g f p w → CanUse b g p
-fill_uses b ts g f p (owned a) k = k.usable
-fill_uses b ts g f p shared k = k.usable
-fill_uses b ts g f p unowned k = k.usable
-
-fill_owns : (b : BodyFrame) (ts : TestedPlaces) (g : Context) (f : ℕ) (p : Location) (w : Permission)
-    → CanFillAs b ts g f p w → owns w ≡ true → owns (counted g p) ≡ true
-fill_owns b ts g f p (owned a) k e = k.owner
-fill_owns b ts g f p shared k e = absurd (true≢false (sym e))
-fill_owns b ts g f p unowned k e = absurd (true≢false (sym e))
+-- A place that fills a field declared Shared has a say.
 
 fill_serves : (b : BodyFrame) (ts : TestedPlaces) (g : Context) (f : ℕ) (p : Location) (w : Permission)
     → CanFillAs b ts g f p w → w ≡ shared
@@ -94,58 +68,53 @@ fill_serves b ts g f p (owned a) k e = absurd (let z : owned a ≡ shared = e in
 fill_serves b ts g f p shared k e = k.serves
 fill_serves b ts g f p unowned k e = absurd (let z : unowned ≡ shared = e in cc)
 
--- what is got owns as is wanted
-got_owner : (w p : Permission) → (owns w ≡ true → owns p ≡ true) → owns (gotten w p) ≡ owns w
-got_owner (owned a) p h = h refl
-got_owner shared p h = refl
-got_owner unowned p h = refl
-
 -- a permission with a say keeps it, unless an owner is wanted of it
 keeps_say : (p w : Permission) → is_unowned p ≡ false → owns w ≡ false → is_unowned (kept p w) ≡ false
 keeps_say p (owned a) s e = absurd (true≢false e)
 keeps_say p shared s e = refl
 keeps_say p unowned s e = s
 
+-- a field of the new state has a type
 pub has_field_at : (table : ClassTable) (c : Configuration) (parts : BodyParts) (s : StateId) (f : ℕ)
     → has_field parts.own (Some s) f ≡ true
     → (d : Field) × (slice_get parts.own.fields f ≡ Some d) × (type_of_field (body_of table c.frame parts) f ≡ d.of)
 has_field_at table c parts s f h =
-    let r = Rattle.ob_coherent_places_laws.proofs.Reading.field_is parts.own (Some s) f h in
+    let r = field_is parts.own (Some s) f h in
     (r.0, r.1, ap (λ y. option_map_or (λ (x : Field). x.of) y IntType) r.1)
 
-module _ (table : ClassTable) (made : IsClassTable table) (c : Configuration) (parts : BodyParts) (s : StateId) (ts : TestedPlaces)
-    (one : (m : ℕ) → in_frame owns m (here c) + in_rest owns m c ≤ 1)
+module _ (table : ClassTable) (made : IsClassTable table) (c : Configuration) (parts : BodyParts) (s : StateId)
+    (ts : TestedPlaces) (one : (m : ℕ) → in_frame owns m (here c) + in_rest owns m c ≤ 1)
     (lows : AreLow c.world.objects)
-    (last : Context) (h : Here) (got : Numbered Cell) (g said : Context) (k : Fills table c parts s last h got g said)
-    (f : ℕ) (a : Location)
+    (last : Context) (h : Here) (got : Numbered Cell) (g said : Context)
+    (k : Fills table c parts s last h got g said) (f : ℕ) (a : Location)
     (inside : IsPlaceIn (body_of table c.frame parts) a) (has : has_field parts.own (Some s) f ≡ true)
     (can : CanFill (body_of table c.frame parts) ts g f a)
-    (u : Found (NeedsOwner table h.world.objects) (g a) (cell_at h a))
-    (serves : serves_as table (kind_of_resolved (type_of_field (body_of table c.frame parts) f)) u.cell.note.kind ≡ true)
-    (finished : (m : ℕ) → 0 < constructions m c → u.cell.value ≢ reference m)
+    (serves : serves_as table (kind_of_resolved (type_of_field (body_of table c.frame parts) f))
+    (fill_found table made c.frame parts h g k.sits ts f a can inside).cell.note.kind ≡ true)
+    (finished : (m : ℕ) → 0 < constructions m c
+    → (fill_found table made c.frame parts h g k.sits ts f a can inside).cell.value ≢ reference m)
     (fresh : got f ≡ None)
     (no_this : owns (declared_permission (body_of table c.frame parts) f) ≡ true → same_location a this ≡ false) where
-  abbrev b : BodyFrame
-  b = body_of table c.frame parts
+  abbrev u : Found (NeedsOwner table h.world.objects) (g a) (cell_at h a)
+  u = fill_found table made c.frame parts h g k.sits ts f a can inside
 
   abbrev of : ResolvedType
   of = type_of_field (body_of table c.frame parts) f
 
   abbrev w : Permission
-  w = permission_of_type (type_of_field (body_of table c.frame parts) f)
+  w = permission_of_type of
 
   abbrev after : Here
-  after = hand (type_of_field (body_of table c.frame parts) f) a u.cell h
+  after = hand of a u.cell h
 
   abbrev y : Cell
-  y = got_from table (type_of_field (body_of table c.frame parts) f) h a u.cell
+  y = got_from table of h a u.cell
 
   abbrev next : Numbered Cell
-  next = put got f (got_from table (type_of_field (body_of table c.frame parts) f) h a u.cell)
+  next = put got f y
 
-  usable : CanUse (body_of table c.frame parts) g a
-  usable = fill_uses (body_of table c.frame parts) ts g f a
-      (declared_permission (body_of table c.frame parts) f) can.serves
+  lows_now : AreLow h.world.objects
+  lows_now = low_stays (here c) h k.stays lows
 
   low : IsLow a
   low = place_low table made h.world.objects (record c.frame { slots = h.slots }) parts k.sits.frame a inside
@@ -153,86 +122,39 @@ module _ (table : ClassTable) (made : IsClassTable table) (c : Configuration) (p
   low_field : f < fields_counted
   low_field =
       let r = has_field_at table c parts s f has in
-      contract_field_low table made c.frame.contract parts.own k.sits.frame.own f (slice_get_within parts.own.fields f r.0 r.1)
+      contract_field_low table made c.frame.contract parts.own k.sits.frame.own f
+      (slice_get_within parts.own.fields f r.0 r.1)
 
   there : self_of h.slots < length h.world.objects
   there = k.sits.frame.there
 
-  allows : Allows (counted g a) (counts_as h a u.cell)
-  allows = counted_allows table made c.frame parts h g k.sits a u
-
-  -- an owner is given where one is wanted
-  counts_owner : owns w ≡ true → owns (counts_as h a u.cell) ≡ true
-  counts_owner e = allows_owner (counted g a) (counts_as h a u.cell) allows
-      (fill_owns (body_of table c.frame parts) ts g f a (declared_permission (body_of table c.frame parts) f) can.serves e)
-
-  owner_given : owns w ≡ true → owns u.cell.note.permission ≡ true
-  owner_given e =
-      ⊎_elim (λ same. ap owns (sym same) ∙ counts_owner e)
-      (λ none. absurd (true≢false (sym (counts_owner e) ∙ ap owns none))) (counts_is h a u.cell)
-
-  -- and it has a say where a Shared one is
+  -- a place that is given where a Shared one is wanted has a say
   say_given : w ≡ shared → is_unowned u.cell.note.permission ≡ false
   say_given e =
-      let fit = said_fits table made c.frame parts h g k.sits a u (type_of_field (body_of table c.frame parts) f)
-      (permission_of_type (type_of_field (body_of table c.frame parts) f))
+      let fit = said_fits table made c.frame parts h g k.sits a u of w
       (fill_serves (body_of table c.frame parts) ts g f a
       (declared_permission (body_of table c.frame parts) f) can.serves e) in
-      let run = gives_say table u.cell.note.kind (kind_of_resolved (type_of_field (body_of table c.frame parts) f))
-      (counts_as h a u.cell)
-      (subst (λ z. fits (converted table u.cell.note.kind
-      (kind_of_resolved (type_of_field (body_of table c.frame parts) f)) (counts_as h a u.cell)) z ≡ true) e fit) in
+      let run = gives_say table u.cell.note.kind (kind_of_resolved of) (counts_as h a u.cell)
+      (subst (λ z. fits (converted table u.cell.note.kind (kind_of_resolved of) (counts_as h a u.cell)) z ≡ true)
+      e fit) in
       ⊎_elim (λ same. ap is_unowned (sym same) ∙ run) (λ none. absurd (true≢false (sym (ap is_unowned none) ∙ run)))
       (counts_is h a u.cell)
 
   written : Written a (Some (noted (kept u.cell.note.permission w) u.cell)) h after
-  written = hand_written (type_of_field (body_of table c.frame parts) f) a u.cell h u.is
+  written = hand_written of a u.cell h u.is
 
   stood : Stands table h.world.objects u.cell
   stood = found_stands table made c.frame parts h g k.sits a u
 
-  stands_on : Stands table after.world.objects u.cell
-  stands_on = stands_stay table h after written.stays u.cell stood
-
-  refers : w ≡ shared → (n : ℕ) × (u.cell.value ≡ reference n)
-  refers = given_refers table made h.world.objects u.cell (type_of_field (body_of table c.frame parts) f) serves stood.kind
-
-  -- the object is marked where a Shared one is wanted
-  marked : w ≡ shared → RefersToShared after.world.objects u.cell.value
-  marked e =
-      let r = refers e in
-      shared_at after.world.objects u.cell.value r.0 r.1
-      (ap (λ (v : World). (nth_object v.objects r.0).shared)
-      (hand_world (type_of_field (body_of table c.frame parts) f) a u.cell h)
-      ∙ comes_sets (type_of_field (body_of table c.frame parts) f) u.cell.value h.world r.0
-      (reference_is table h.world.objects u.cell.note.kind r.0
-      (subst (Rattle.ob_coherent_spec.specs.Standing.IsOfKind table h.world.objects u.cell.note.kind) r.1 stood.kind)).2 r.1 e)
-
-  next_sits : Sits table c.frame parts after (after_give g a w)
-  next_sits = carry_hand table made c.frame parts h g k.sits (type_of_field (body_of table c.frame parts) f) a inside u refers
-      (spares table made c.frame parts h g k.sits a usable.spares_this)
-
-  -- What the field gets.
-
-  lows_now : AreLow after.world.objects
-  lows_now n lt =
-      let count = written.stays.count in let counts = k.stays.count in
-      subst (λ z. Rattle.ob_heap_spec.specs.Objects.state_number z < Rattle.ob_perm.specs.States.states_max)
-      (sym (written.stays.states n ∙ k.stays.states n)) (lows n (omega (arith, lt, count, counts)))
-
-  got_stands_so : Stands table after.world.objects y
-  got_stands_so = gotten_stands table made after.world.objects u.cell (counts_as h a u.cell) w
-      (kind_of_resolved (type_of_field (body_of table c.frame parts) f)) lows_now serves (counts_is h a u.cell) marked stands_on
-
-  got_says : SaysOf (NeedsOwner table after.world.objects) (got_known (body_of table c.frame parts) g f a) (Some y)
-  got_says = says_of_less (NeedsOwner table h.world.objects) (NeedsOwner table after.world.objects)
-      (needs_stay table h after written.stays) _ _ (filled_says table made c.frame parts h g k.sits a u f)
+  owner_given : owns w ≡ true → owns u.cell.note.permission ≡ true
+  owner_given = fill_owner table made c.frame parts h g k.sits ts f a can inside
 
   got_owns : owns y.note.permission ≡ owns w
-  got_owns = got_owner w (converted table u.cell.note.kind (kind_of_resolved (type_of_field (body_of table c.frame parts) f))
-      (counts_as h a u.cell))
-      (λ e. converted_owns table u.cell.note.kind (kind_of_resolved (type_of_field (body_of table c.frame parts) f))
-      (counts_as h a u.cell) ∙ counts_owner e)
+  got_owns = fill_owns table made c.frame parts h g k.sits ts f a can inside
+
+  -- where a Shared one is wanted its object is marked
+  marked : w ≡ shared → (m : ℕ) → u.cell.value ≡ reference m → (nth_object after.world.objects m).shared ≡ true
+  marked = fill_marks table made c.frame parts h g k.sits ts f a can inside serves lows_now
 
   -- Owners.
 
@@ -244,7 +166,7 @@ module _ (table : ClassTable) (made : IsClassTable table) (c : Configuration) (p
 
   here_counts : (counts : Counted) (m : ℕ) → in_frame counts m after + in_cell counts m (Some u.cell)
       ≡ in_frame counts m h + in_cell counts m (Some (noted (kept u.cell.note.permission w) u.cell))
-  here_counts counts m = hand_counts (type_of_field (body_of table c.frame parts) f) a h low there u.cell u.is counts m
+  here_counts counts m = hand_counts of a h low there u.cell u.is counts m
 
   same_now : w ≢ shared → (m : ℕ) → in_both owns m after next ≡ in_both owns m h got
   same_now ne m =
@@ -259,7 +181,8 @@ module _ (table : ClassTable) (made : IsClassTable table) (c : Configuration) (p
       omega (arith, x, d, n0, n1)
 
   fewer_now : (m : ℕ) → in_both owns m after next ≤ in_both owns m h got
-  fewer_now m = ⊎_elim (λ e. let z = gone_now e m in omega (arith, z)) (λ e. let z = same_now e m in omega (arith, z)) (shared_or_not w)
+  fewer_now m = ⊎_elim (λ e. let z = gone_now e m in omega (arith, z))
+      (λ e. let z = same_now e m in omega (arith, z)) (is_shared_or w)
 
   -- where a Shared one is wanted of an owner none is left
   none_left : w ≡ shared → owns u.cell.note.permission ≡ true → (m : ℕ) → u.cell.value ≡ reference m
@@ -270,10 +193,11 @@ module _ (table : ClassTable) (made : IsClassTable table) (c : Configuration) (p
       let less = k.fewer m in let o = one m in
       omega (arith, z, was, less, o)
 
-  shared_now : (m : ℕ) → (nth_object h.world.objects m).shared ≡ false → (nth_object after.world.objects m).shared ≡ true
+  shared_now : (m : ℕ) → (nth_object h.world.objects m).shared ≡ false
+      → (nth_object after.world.objects m).shared ≡ true
       → in_both owns m after next + in_rest owns m c ≡ 0
   shared_now m before since =
-      let r = hand_shares (type_of_field (body_of table c.frame parts) f) a u.cell h m before since in
+      let r = hand_shares of a u.cell h m before since in
       ⊎_elim (λ own. none_left r.1 own m r.0)
       (λ other. ⊎_elim
       (λ was. absurd (both_ways _ before (shared_there h.world.objects u.cell.value m r.0 (stood.marked was))))
@@ -284,25 +208,29 @@ module _ (table : ClassTable) (made : IsClassTable table) (c : Configuration) (p
   assets_now m must = ⊎_elim
       (λ e.
       let other : u.cell.value ≢ reference m =
-      λ is. both_ways _ must.unshared (shared_there after.world.objects u.cell.value m is (marked e)) in
+      λ is. both_ways _ must.unshared (marked e m is) in
       let z = gone_now e m in let none = cell_other owns m u.cell other in
       omega (arith, z, none))
       (λ ne. let z = same_now ne m in omega (arith, z))
-      (shared_or_not w)
+      (is_shared_or w)
 
   shares_now : (q : Location) (x z : Cell) → cell_at (here c) q ≡ Some x → cell_at after q ≡ Some z
       → z.note.permission ≡ shared
-      → (x.note.permission ≡ shared) ⊎ ((m : ℕ) → x.value ≡ reference m → in_both owns m after next + in_rest owns m c ≡ 0)
-  shares_now q x z ex ez e = ⊎_elim (λ same. here_now same) (λ other. was z (sym (written.others q other) ∙ ez) e) (place_is q a)
+      → (x.note.permission ≡ shared) ⊎ ((m : ℕ) → x.value ≡ reference m
+      → in_both owns m after next + in_rest owns m c ≡ 0)
+  shares_now q x z ex ez e = ⊎_elim (λ same. here_now same) (λ other. was z (sym (written.others q other) ∙ ez) e)
+      (place_is q a)
     where
       was : (v : Cell) → cell_at h q ≡ Some v → v.note.permission ≡ shared
-          → (x.note.permission ≡ shared) ⊎ ((m : ℕ) → x.value ≡ reference m → in_both owns m after next + in_rest owns m c ≡ 0)
+          → (x.note.permission ≡ shared) ⊎ ((m : ℕ) → x.value ≡ reference m
+          → in_both owns m after next + in_rest owns m c ≡ 0)
       was v ev s = ⊎_elim (λ i. inl i)
           (λ none. inr (λ m is. let less = fewer_now m in let old = none m is in omega (arith, less, old)))
           (k.shares q x v ex ev s)
 
       here_now : q ≡ a
-          → (x.note.permission ≡ shared) ⊎ ((m : ℕ) → x.value ≡ reference m → in_both owns m after next + in_rest owns m c ≡ 0)
+          → (x.note.permission ≡ shared) ⊎ ((m : ℕ) → x.value ≡ reference m
+          → in_both owns m after next + in_rest owns m c ≡ 0)
       here_now same =
           let is : cell_at h q ≡ Some u.cell = ap (cell_at h) same ∙ u.is in
           let now : noted (kept u.cell.note.permission w) u.cell ≡ z =
@@ -347,9 +275,10 @@ module _ (table : ClassTable) (made : IsClassTable table) (c : Configuration) (p
   got_is =
       let r = has_field_at table c parts s f has in
       record {
-        stands = got_stands_so;
+        stands = fill_stands table made c.frame parts h g k.sits ts f a can inside serves lows_now;
         says = subst (λ z. SaysOf (NeedsOwner table after.world.objects) z (Some y))
-            (sym (put_that said (field f) (got_known (body_of table c.frame parts) g f a) (field f) refl)) got_says;
+            (sym (put_that said (field f) (got_known (body_of table c.frame parts) g f a) (field f) refl))
+            (fill_says table made c.frame parts h g k.sits ts f a can inside serves lows_now);
         field = r.0;
         is = r.1;
         has = has;
@@ -365,7 +294,7 @@ module _ (table : ClassTable) (made : IsClassTable table) (c : Configuration) (p
         stands = stands_stay table h after written.stays x i.stands;
         says = subst (λ z. SaysOf (NeedsOwner table after.world.objects) z (Some x))
             (sym (put_other said (field f) (got_known (body_of table c.frame parts) g f a) (field j)
-            (Rattle.std.proofs.lemmas.Bool.ne_eqb j f ne)))
+            (ne_eqb j f ne)))
             (says_of_less (NeedsOwner table h.world.objects) (NeedsOwner table after.world.objects)
             (needs_stay table h after written.stays) _ _ i.says);
         field = i.field;
@@ -379,7 +308,7 @@ module _ (table : ClassTable) (made : IsClassTable table) (c : Configuration) (p
       (put_known said (field f) (got_known (body_of table c.frame parts) g f a))
   fill_next = record {
     stays = stays_onward (here c) h after k.stays written.stays;
-    sits = next_sits;
+    sits = fill_sits table made c.frame parts h g k.sits ts f a can inside serves lows_now;
     alike = alike_now;
     unset = λ q none. ⊎_elim
         (λ same. absurd (let z = k.unset q none in none-some u.cell (sym z ∙ ap (cell_at h) same ∙ u.is)))
@@ -393,9 +322,9 @@ module _ (table : ClassTable) (made : IsClassTable table) (c : Configuration) (p
         (λ was. let less = fewer_now m in let old = k.newly m no was in omega (arith, less, old))
         (λ not. shared_now m not yes)
         (cases_Bool (nth_object h.world.objects m).shared);
-    disowned = λ m. hand_disowns_none (type_of_field (body_of table c.frame parts) f) a u.cell h m ∙ k.disowned m;
+    disowned = λ m. hand_disowns_none of a u.cell h m ∙ k.disowned m;
     refers = λ m building. let old = k.refers m building in
-        let more = hand_refers (type_of_field (body_of table c.frame parts) f) a h low there u.cell u.is m in
+        let more = hand_refers of a h low there u.cell u.is m in
         let e = got_counts any m in
         let none = cell_other any m y (finished m building) in omega (arith, old, more, e, none);
     say = say_now;

@@ -1,5 +1,5 @@
 -- No other place owns an object that changes its state, and what goes owns no object that must have an owner.
-use Rattle.std.proofs.Common.{◌≡◌, ◌≢◌, ℕ, ◌+◌, ◌<◌, ◌≤◌, Bool, true, false, ◌&&◌, List, length, Option, Some, None, refl, sym, ap, subst, ◌∙◌, arith, ⊎_elim, ◌⊎◌, inl, inr, true≢false}
+use Rattle.std.proofs.Common.{◌≡◌, ◌≢◌, ℕ, zero, suc, ◌+◌, ◌<◌, ◌≤◌, Bool, true, false, List, length, Option, Some, None, refl, sym, ap, subst, ◌∙◌, arith, ⊎_elim, ◌⊎◌, inl, inr, true≢false}
 use Rattle.std.proofs.lemmas.Bool.{cases_lt, both_ways, and_from}
 use Rattle.std.proofs.lemmas.Option.{slice_get_within}
 use Rattle.ob_base.specs.declared.id.StateId.{StateId}
@@ -17,10 +17,10 @@ use Rattle.ob_silica_steps.specs.Cells.{Cell, permission_in}
 use Rattle.ob_silica_steps.specs.Configurations.{Rest, Configuration}
 use Rattle.ob_silica_steps.specs.Here.{Here, here, self_of}
 use Rattle.ob_silica_steps.specs.Changing.{is_locked_out, changed_here}
-use Rattle.ob_flow_spec.specs.Contexts.{Context, available, field_count, maybe_there, owns_asset, possible_under, permission_at, permission_on, is_asset, is_owned_asset}
+use Rattle.ob_flow_spec.specs.Contexts.{BodyFrame, Context, available, field_count, maybe_there, owns_asset, possible_under, permission_at, permission_on, is_asset, is_owned_asset}
 use Rattle.ob_places_laws.proofs.Permissions.{same_mode_no_say}
 use Rattle.ob_places_laws.proofs.Sets.{meets_from}
-use Rattle.ob_coherent_spec.specs.Counting.{Counted, any, nth_object, field_cell, fields_counted, sum_below, in_cell, in_slots, in_fields, in_objects, in_waiting, owners, references}
+use Rattle.ob_coherent_spec.specs.Counting.{any, field_cell, fields_counted, in_cell, in_slots, in_fields, in_handles, owners, references}
 use Rattle.ob_coherent_spec.specs.Runs.{constructions}
 use Rattle.ob_coherent_spec.specs.Standing.{Stands, NeedsOwner}
 use Rattle.ob_coherent_spec.specs.Saying.{Agrees, SaysOf, own_object}
@@ -39,12 +39,13 @@ use Rattle.ob_coherent_places_laws.proofs.Changed.{changed_leaves}
 use Rattle.ob_coherent_places_laws.proofs.Finding.{own_is, own_state_low, state_possible}
 use Rattle.ob_coherent_places_laws.proofs.Reading.{same_field_cell, kind_in_run, available_is}
 use Rattle.ob_coherent_remaining_laws.proofs.Following.{owner_is_asset}
+use Rattle.ob_coherent_calls_laws.specs.Binds.{in_rest}
 use Rattle.ob_coherent_calls_laws.proofs.Running.{running_owners, running_references, running_one}
-use Rattle.ob_coherent_changes_laws.specs.Fills.{in_both, in_rest, Fills}
+use Rattle.ob_coherent_changes_laws.specs.Fills.{in_both, Fills}
 
 some_or_none : (m : ℕ) → (0 < m) ⊎ (m ≡ 0)
-some_or_none Rattle.std.proofs.Common.zero = inr refl
-some_or_none (Rattle.std.proofs.Common.suc m) = inl (omega arith)
+some_or_none zero = inr refl
+some_or_none (suc m) = inl (omega arith)
 
 by_mode : (p : Permission) → (owns p ≡ true) ⊎ ((p ≡ shared) ⊎ (p ≡ unowned))
 by_mode (owned a) = inl refl
@@ -67,8 +68,18 @@ no_asset table t objects y x st s e n needs = ⊎_elim
         (and_from (owns z.permission) (is_asset table z.kind) own (subst (λ w. is_asset table w ≡ true) a.0 asset))
 
 module _ (table : ClassTable) (made : IsClassTable table) (entry : Option ℕ) (beginning : Beginning) (c : Configuration)
-    (k : IsRunning table entry beginning c) (s : StateId) (last : Context) (h : Here) (got : Numbered Cell) (g said : Context)
+    (k : IsRunning table entry beginning c) (s : StateId) (last : Context) (h : Here) (got : Numbered Cell)
+    (g said : Context)
     (a : Fills table c k.whole.parts s last h got g said) (free : is_locked_out c.frame (here c) ≡ false) where
+  abbrev own : Contract
+  own = k.whole.parts.own
+
+  abbrev body : BodyFrame
+  body = body_of table c.frame k.whole.parts
+
+  abbrev after : Here
+  after = changed_here own s got h
+
   there : self_of h.slots < length h.world.objects
   there = a.sits.frame.there
 
@@ -84,13 +95,15 @@ module _ (table : ClassTable) (made : IsClassTable table) (entry : Option ℕ) (
   alone : in_both owns (self_of c.frame.slots) h got + in_rest owns (self_of c.frame.slots) c
       ≤ in_cell owns (self_of c.frame.slots) (h.slots 0)
   alone = ⊎_elim
-      (λ own. let most = running_one table made entry beginning c k (self_of c.frame.slots) in
+      (λ owner. let most = running_one table made entry beginning c k (self_of c.frame.slots) in
       let less = a.fewer (self_of c.frame.slots) in
-      let is : in_cell owns (self_of c.frame.slots) (h.slots 0) ≡ 1 = ap (in_cell owns (self_of c.frame.slots)) a.sits.frame.set
-      ∙ cell_counted owns (self_of c.frame.slots) a.sits.frame.this own this_refers in
+      let is : in_cell owns (self_of c.frame.slots) (h.slots 0) ≡ 1 =
+      ap (in_cell owns (self_of c.frame.slots)) a.sits.frame.set
+      ∙ cell_counted owns (self_of c.frame.slots) a.sits.frame.this owner this_refers in
       omega (arith, most, less, is))
       (λ other. ⊎_elim (λ sh. held_shared sh)
-      (λ none. absurd (both_ways _ this_say (ap (λ z. is_unowned (permission_in z)) a.sits.frame.set ∙ ap is_unowned none))) other)
+      (λ none. absurd (both_ways _ this_say (ap (λ z. is_unowned (permission_in z)) a.sits.frame.set
+      ∙ ap is_unowned none))) other)
       (by_mode a.sits.frame.this.note.permission)
     where
       held_shared : a.sits.frame.this.note.permission ≡ shared
@@ -122,10 +135,12 @@ module _ (table : ClassTable) (made : IsClassTable table) (entry : Option ℕ) (
   no_low_field : (i j : ℕ) → j < fields_counted
       → in_cell owns (self_of c.frame.slots) (field_cell h.notes h.world.objects i j) ≡ 0
   no_low_field i j low = let all = alone in let slots = slot_in in
-      let one = in_field_of owns (self_of c.frame.slots) h.notes h.world.objects i j low in omega (arith, all, slots, one)
+      let one = in_field_of owns (self_of c.frame.slots) h.notes h.world.objects i j low in
+      omega (arith, all, slots, one)
 
   pub no_field : (j : ℕ) → in_cell owns (self_of h.slots) (field_cell h.notes h.world.objects (self_of h.slots) j) ≡ 0
-  no_field j = subst (λ n. in_cell owns n (field_cell h.notes h.world.objects (self_of h.slots) j) ≡ 0) (sym a.stays.this)
+  no_field j = subst (λ n. in_cell owns n (field_cell h.notes h.world.objects (self_of h.slots) j) ≡ 0)
+      (sym a.stays.this)
       (by_cell (field_cell h.notes h.world.objects (self_of h.slots) j) refl)
     where
       by_cell : (x : Option Cell) → field_cell h.notes h.world.objects (self_of h.slots) j ≡ x
@@ -137,20 +152,21 @@ module _ (table : ClassTable) (made : IsClassTable table) (entry : Option ℕ) (
   pub no_got : (j : ℕ) (x : Cell) → got j ≡ Some x → in_cell owns (self_of h.slots) (Some x) ≡ 0
   no_got j x e =
       let i = a.cells j x e in
-      let low = contract_field_low table made c.frame.contract k.whole.parts.own k.whole.frame.own j
-      (slice_get_within k.whole.parts.own.fields j i.field i.is) in
+      let low = contract_field_low table made c.frame.contract own k.whole.frame.own j
+      (slice_get_within own.fields j i.field i.is) in
       let all = alone in let slots = slot_in in
       let one = term_at_most fields_counted (λ n. in_cell owns (self_of c.frame.slots) (got n)) j low in
       let is : in_cell owns (self_of c.frame.slots) (got j) ≡ in_cell owns (self_of c.frame.slots) (Some x) =
       ap (in_cell owns (self_of c.frame.slots)) e in
       subst (λ n. in_cell owns n (Some x) ≡ 0) (sym a.stays.this) (omega (arith, all, slots, one, is))
 
-  pub free_to_change : FreeToChange c (changed_here k.whole.parts.own s got h)
+  pub free_to_change : FreeToChange c after
   free_to_change = inr (
     let all = alone in let slots = slot_in in omega (arith, all, slots),
     λ n ne. fields_same owns (self_of c.frame.slots) c.notes h.notes c.world.objects h.world.objects n n
         (λ j. ap (in_cell owns (self_of c.frame.slots))
-        (same_field_cell h.notes c.notes h.world.objects c.world.objects n j (sym (a.stays.fields n j ne)) (sym (a.stays.notes n j ne))))
+        (same_field_cell h.notes c.notes h.world.objects c.world.objects n j (sym (a.stays.fields n j ne))
+        (sym (a.stays.notes n j ne))))
         ∙ none_in n,
   )
     where
@@ -163,32 +179,32 @@ module _ (table : ClassTable) (made : IsClassTable table) (entry : Option ℕ) (
 
   -- What goes.
 
-  module _ (overwritten : (f : ℕ) (x : Cell) → got f ≡ Some x → maybe_there (body_of table c.frame k.whole.parts) g f ≡ true
-      → owns_asset (body_of table c.frame k.whole.parts) g (field f) ≡ false)
-      (lost : (f : ℕ) → f < field_count (body_of table c.frame k.whole.parts)
-      → available (body_of table c.frame k.whole.parts) f s.0 ≡ false
-      → maybe_there (body_of table c.frame k.whole.parts) g f ≡ true
-      → owns_asset (body_of table c.frame k.whole.parts) g (field f) ≡ false) where
+  module _ (overwritten : (f : ℕ) (x : Cell) → got f ≡ Some x → maybe_there body g f ≡ true
+      → owns_asset body g (field f) ≡ false)
+      (lost : (f : ℕ) → f < field_count body
+      → available body f s.0 ≡ false
+      → maybe_there body g f ≡ true
+      → owns_asset body g (field f) ≡ false) where
     -- a field with a value may be there
     there_now : (f : ℕ) (x : Cell) → cell_at h (field f) ≡ Some x
-        → (available (body_of table c.frame k.whole.parts) f (state_number (own_object h).state) ≡ true)
-        × (f < field_count (body_of table c.frame k.whole.parts))
+        → (available body f (state_number (own_object h).state) ≡ true)
+        × (f < field_count body)
     there_now f x e =
         let r = kind_in_run table h.notes h.world.objects (self_of h.slots) a.sits.object f x e in
         let same = own_is table made c.frame k.whole.parts h g a.sits in (
-          available_is (body_of table c.frame k.whole.parts) f (own_object h).state
+          available_is body f (own_object h).state
               ∙ ap (λ (o : Contract). has_field o (own_object h).state f) (sym same) ∙ r.0,
           subst (λ (o : Contract). f < length o.fields) same (slice_get_within a.sits.object.own.fields f r.1 r.2),
         )
 
-    maybe_now : (f : ℕ) (x : Cell) → cell_at h (field f) ≡ Some x → maybe_there (body_of table c.frame k.whole.parts) g f ≡ true
-    maybe_now f x e = meets_from (possible_under (body_of table c.frame k.whole.parts) (permission_at g this))
-        (available (body_of table c.frame k.whole.parts) f) (state_number (own_object h).state)
+    maybe_now : (f : ℕ) (x : Cell) → cell_at h (field f) ≡ Some x → maybe_there body g f ≡ true
+    maybe_now f x e = meets_from (possible_under body (permission_at g this))
+        (available body f) (state_number (own_object h).state)
         (own_state_low table made c.frame k.whole.parts h g a.sits)
         (state_possible table made c.frame k.whole.parts h g a.sits) (there_now f x e).0
 
     old_none : (f n : ℕ) → NeedsOwner table h.world.objects n
-        → ((x : Cell) → cell_at h (field f) ≡ Some x → owns_asset (body_of table c.frame k.whole.parts) g (field f) ≡ false)
+        → ((x : Cell) → cell_at h (field f) ≡ Some x → owns_asset body g (field f) ≡ false)
         → in_cell owns n (cell_at h (field f)) ≡ 0
     old_none f n needs none = by_cell (cell_at h (field f)) refl
       where
@@ -196,54 +212,55 @@ module _ (table : ClassTable) (made : IsClassTable table) (entry : Option ℕ) (
         by_cell None e = ap (in_cell owns n) e
         by_cell (Some x) e = ap (in_cell owns n) e
             ∙ no_asset table made h.world.objects (g (field f)) x (a.sits.fields f x e)
-            (subst (SaysOf (NeedsOwner table h.world.objects) (g (field f))) e (a.sits.says.fields f (there_now f x e).0 refl))
+            (subst (SaysOf (NeedsOwner table h.world.objects) (g (field f))) e
+            (a.sits.says.fields f (there_now f x e).0 refl))
             (none x e) n needs
 
     lost_at : (n : ℕ) → NeedsOwner table h.world.objects n → (f : ℕ) → f < fields_counted
-        → in_cell owns n (cell_lost (got f) (has_field k.whole.parts.own (Some s) f)
+        → in_cell owns n (cell_lost (got f) (has_field own (Some s) f)
         (field_cell h.notes h.world.objects (self_of h.slots) f)) ≡ 0
-    lost_at n needs f low = by_got (got f) refl (has_field k.whole.parts.own (Some s) f) refl
+    lost_at n needs f low = by_got (got f) refl (has_field own (Some s) f) refl
       where
-        by_got : (y : Option Cell) → got f ≡ y → (b : Bool) → has_field k.whole.parts.own (Some s) f ≡ b
+        by_got : (y : Option Cell) → got f ≡ y → (b : Bool) → has_field own (Some s) f ≡ b
             → in_cell owns n (cell_lost y b (field_cell h.notes h.world.objects (self_of h.slots) f)) ≡ 0
         by_got (Some y) e b d = old_none f n needs (λ x i. overwritten f y e (maybe_now f x i))
         by_got None e true d = refl
         by_got None e false d = old_none f n needs (λ x i. lost f (there_now f x i).1
-            (available_is (body_of table c.frame k.whole.parts) f (Some s) ∙ d) (maybe_now f x i))
+            (available_is body f (Some s) ∙ d) (maybe_now f x i))
 
-    lost_none : (n : ℕ) → NeedsOwner table h.world.objects n → in_lost k.whole.parts.own s got h owns n ≡ 0
+    lost_none : (n : ℕ) → NeedsOwner table h.world.objects n → in_lost own s got h owns n ≡ 0
     lost_none n needs = sum_zero fields_counted _ (lost_at n needs)
 
     -- Owners and references after the change.
 
     module _ (terms : SilicaTerms) (outer : List Rest) where
-      pub all_owners : (n : ℕ) → owners n (moved c (changed_here k.whole.parts.own s got h) terms outer)
-          + in_lost k.whole.parts.own s got h owns n ≡ in_both owns n h got + in_rest owns n c
+      pub all_owners : (n : ℕ) → owners n (moved c after terms outer)
+          + in_lost own s got h owns n ≡ in_both owns n h got + in_rest owns n c
       all_owners n =
-          let e = owners_after k.whole.parts.own s got h n there some_slots in
-          let same = ap (Rattle.ob_coherent_spec.specs.Counting.in_handles owns n)
-          (changed_leaves k.whole.parts.own s got h c a.stays).handles in
+          let e = owners_after own s got h n there some_slots in
+          let same = ap (in_handles owns n)
+          (changed_leaves own s got h c a.stays).handles in
           omega (arith, e, same)
 
-      pub fewer_owners : (n : ℕ) → owners n (moved c (changed_here k.whole.parts.own s got h) terms outer) ≤ owners n c
+      pub fewer_owners : (n : ℕ) → owners n (moved c after terms outer) ≤ owners n c
       fewer_owners n = let e = all_owners n in let less = a.fewer n in
           let all = running_owners table made entry beginning c k n in omega (arith, e, less, all)
 
       pub keeps_owners : (n : ℕ) → NeedsOwner table h.world.objects n
-          → owners n c ≤ owners n (moved c (changed_here k.whole.parts.own s got h) terms outer)
+          → owners n c ≤ owners n (moved c after terms outer)
       keeps_owners n needs = let e = all_owners n in let more = a.assets n needs in
           let none = lost_none n needs in
           let all = running_owners table made entry beginning c k n in omega (arith, e, more, none, all)
 
       pub no_owners : (n : ℕ) → in_both owns n h got + in_rest owns n c ≡ 0
-          → owners n (moved c (changed_here k.whole.parts.own s got h) terms outer) ≡ 0
+          → owners n (moved c after terms outer) ≡ 0
       no_owners n none = let e = all_owners n in omega (arith, e, none)
 
       pub fewer_references : (n : ℕ) → 0 < constructions n c
-          → references n (moved c (changed_here k.whole.parts.own s got h) terms outer) ≤ references n c
+          → references n (moved c after terms outer) ≤ references n c
       fewer_references n building =
-          let e = references_after k.whole.parts.own s got h n there some_slots in
-          let same = ap (Rattle.ob_coherent_spec.specs.Counting.in_handles any n)
-          (changed_leaves k.whole.parts.own s got h c a.stays).handles in
+          let e = references_after own s got h n there some_slots in
+          let same = ap (in_handles any n)
+          (changed_leaves own s got h c a.stays).handles in
           let keep = a.refers n building in
           let all = running_references table made entry beginning c k n in omega (arith, e, same, keep, all)

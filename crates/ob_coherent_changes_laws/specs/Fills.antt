@@ -16,31 +16,25 @@ use Rattle.ob_silica_steps.specs.Cells.{Cell}
 use Rattle.ob_silica_steps.specs.Configurations.{Configuration}
 use Rattle.ob_silica_steps.specs.Here.{Here, here}
 use Rattle.ob_flow_spec.specs.Contexts.{Context, permission_at, type_of_field}
-use Rattle.ob_coherent_spec.specs.Counting.{Counted, any, nth_object, sum_below, fields_counted, in_cell, in_slots, in_objects, in_waiting, in_handles}
+use Rattle.ob_coherent_spec.specs.Counting.{Counted, any, nth_object, sum_below, fields_counted, in_cell}
 use Rattle.ob_coherent_spec.specs.Runs.{constructions}
 use Rattle.ob_coherent_spec.specs.Standing.{Stands, NeedsOwner}
 use Rattle.ob_coherent_spec.specs.Saying.{SaysOf}
 use Rattle.ob_coherent_spec.specs.Remaining.{BodyParts, body_of, IsPlaceIn}
+use Rattle.ob_coherent_calls_laws.specs.Binds.{in_frame, in_rest}
 use Rattle.ob_coherent_places_laws.specs.Placed.{cell_at, Stays, Sits, IsAlike}
-
--- in the slots of a frame and in the fields of all objects
-abbrev pub in_frame : Counted → ℕ → Here → ℕ
-in_frame counts n h = in_slots counts n h.slots + in_objects counts n h.notes h.world.objects
 
 -- in what fields are given
 abbrev pub in_cells : Counted → ℕ → Numbered Cell → ℕ
 in_cells counts n got = sum_below fields_counted (λ k. in_cell counts n (got k))
 
--- in both
+-- in what the frame is left with, and in what fields are given
 abbrev pub in_both : Counted → ℕ → Here → Numbered Cell → ℕ
 in_both counts n h got = in_frame counts n h + in_cells counts n got
 
--- in frames that wait and in handles
-abbrev pub in_rest : Counted → ℕ → Configuration → ℕ
-in_rest counts n c = in_waiting counts n c.stack + in_handles counts n c.notes.handles
-
 -- what a field gets stands, is known so, is of the field's kind, and the new state has the field
-pub record IsGot (table : ClassTable) (objects : List Object) (own : Contract) (s : StateId) (said : Option Known) (f : ℕ)
+pub record IsGot (table : ClassTable) (objects : List Object) (own : Contract) (s : StateId) (said : Option Known)
+    (f : ℕ)
     (x : Cell) : Type 0 where
   pub stands : Stands table objects x
   pub says : SaysOf (NeedsOwner table objects) said (Some x)
@@ -49,17 +43,18 @@ pub record IsGot (table : ClassTable) (objects : List Object) (own : Contract) (
   pub has : has_field own (Some s) f ≡ true
   pub kind : x.note.kind ≡ kind_of_resolved field.of
 
--- What is given from a configuration, where the frame's context is this by now, and `said` tells of fields what they got and
--- of other places the same as `last`. The frame's places keep values and kinds; objects gain no owners, and those that must
--- have one keep it; where a place or a mark has come to be Shared no owner is left; and no object under construction is
--- referred to once more.
+-- What is given from a configuration, where the frame's context is this by now, and `said` tells of fields what they
+-- got and of other places the same as `last`. The frame's places keep values and kinds; objects gain no owners, and
+-- those that must have one keep it; where a place or a mark has come to be Shared no owner is left; and no object under
+-- construction is referred to once more.
 pub record Fills (table : ClassTable) (c : Configuration) (parts : BodyParts) (s : StateId) (last : Context) (h : Here)
     (got : Numbered Cell) (g said : Context) : Type 0 where
   pub stays : Stays (here c) h
   pub sits : Sits table c.frame parts h g
   pub alike : (q : Location) → IsAlike (cell_at (here c) q) (cell_at h q)
   pub unset : (q : Location) → cell_at (here c) q ≡ None → cell_at h q ≡ None
-  pub shares : (q : Location) (x y : Cell) → cell_at (here c) q ≡ Some x → cell_at h q ≡ Some y → y.note.permission ≡ shared
+  pub shares : (q : Location) (x y : Cell) → cell_at (here c) q ≡ Some x → cell_at h q ≡ Some y
+      → y.note.permission ≡ shared
       → (x.note.permission ≡ shared) ⊎ ((m : ℕ) → x.value ≡ reference m → in_both owns m h got + in_rest owns m c ≡ 0)
   pub fewer : (m : ℕ) → in_both owns m h got ≤ in_frame owns m (here c)
   pub assets : (m : ℕ) → NeedsOwner table h.world.objects m → in_frame owns m (here c) ≤ in_both owns m h got
@@ -74,8 +69,8 @@ pub record Fills (table : ClassTable) (c : Configuration) (parts : BodyParts) (s
   pub rest : (f : ℕ) → got f ≡ None → said (field f) ≡ last (field f)
   pub others : (k : ℕ) → said (slot k) ≡ last (slot k)
 
--- A place can be given to a field: it is one of the body, its value serves as one of the field, and the new state has the
--- field.
+-- A place can be given to a field: it is one of the body, its value serves as one of the field, and the new state has
+-- that field.
 pub record CanTake (table : ClassTable) (c : Configuration) (parts : BodyParts) (s : StateId) (x : Given) : Type 0 where
   pub inside : IsPlaceIn (body_of table c.frame parts) (located x.from)
   pub serves : (y : Cell) → cell_at (here c) (located x.from) ≡ Some y
