@@ -146,8 +146,8 @@ module _ (table : ClassTable) (made : IsClassTable table) (entry : Option ℕ) (
             (a.sits.owns_made new)))
             (λ not. in_progress (innermost_in_progress table entry beginning c k.whole not))
             (is_new c.frame.how),
-        inl (none_left (let z = no_owners table made entry beginning c k s g h got g said a free overwritten lost rest outer
-            (self_of c.frame.slots) (none (self_of c.frame.slots) k.whole.frame.refers) in omega (arith, z))),
+        inl (none_left (let z = no_owners table made entry beginning c k s g h got g said a free overwritten lost rest
+            outer (self_of c.frame.slots) (none (self_of c.frame.slots) k.whole.frame.refers) in omega (arith, z))),
       ))
       (a.shares this k.whole.frame.this a.sits.frame.this k.whole.frame.set a.sits.frame.set sh)
     where
@@ -179,7 +179,8 @@ module _ (table : ClassTable) (made : IsClassTable table) (entry : Option ℕ) (
         r.3 ∙ ap (λ (y : Cell). y.note.kind) (same_Some x z is),
       ))
       (λ z is sh. ⊎_elim (λ was. inl was)
-      (λ none. inr (λ n refers. no_owners table made entry beginning c k s g h got g said a free overwritten lost rest outer n
+      (λ none. inr (λ n refers. no_owners table made entry beginning c k s g h got g said a free overwritten lost rest
+      outer n
       (none n refers)))
       (a.shares (slot j) x z e (r.1 ∙ is) sh)))
       (changed_arguments own s got h here_there
@@ -294,7 +295,8 @@ module _ (table : ClassTable) (made : IsClassTable table) (entry : Option ℕ) (
         (λ none. absurd (omega (arith, none, has)))
         (marks_same n e);
     assets = λ n l. let needs = needs_less n l in let has = k.whole.assets n (needs_first n needs) in
-        let keeps = keeps_owners table made entry beginning c k s g h got g said a free overwritten lost rest outer n needs in
+        let keeps = keeps_owners table made entry beginning c k s g h got g said a free overwritten lost rest
+        outer n needs in
         omega (arith, has, keeps);
     balanced = λ n. let less = fewer n in let t = same_tests n in let l = same_locks n in omega (arith, less, t, l);
     lock_ends = λ n has. inl (subst (λ l. 0 < times n l) (sym locked_same) has);
