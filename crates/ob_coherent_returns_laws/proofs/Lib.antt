@@ -1,1 +1,4 @@
 pub mod Leaving
+pub mod Result
+pub mod Below
+pub mod Returned
