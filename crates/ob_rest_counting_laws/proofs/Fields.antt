@@ -1,18 +1,16 @@
 -- The owning fields of a store are counted as a run counts them whose notes are as the fields are declared.
-use Rattle.std.proofs.Common.{◌≡◌, ℕ, zero, suc, ◌+◌, ◌<◌, ◌≤◌, Bool, true, false, cond, nat_eq, ◌&&◌, List, [], ◌∷◌, ◌++◌, length, map, filter, filter_map, flat_map, Option, Some, None, option_map, slice_get, is_some, refl, sym, ap, ◌∙◌, subst, arith, true≢false, ◌⊎◌, ⊎_elim, inl, inr, if◌then◌else◌}
+use Rattle.std.proofs.Common.{◌≡◌, ℕ, ◌+◌, ◌<◌, ◌≤◌, Bool, true, false, nat_eq, ◌&&◌, List, [], ◌∷◌, ◌++◌, length, map, filter, filter_map, flat_map, Option, Some, None, option_map, slice_get, is_some, refl, sym, ap, ◌∙◌, arith, true≢false, ⊎_elim}
 use Rattle.std.specs.Prelude.{IsSomeAnd}
 use Rattle.std.specs.Option.{option_map_or, option_and_then}
 use Rattle.std.specs.List.{enumerate_from, cons_option}
-use Rattle.std.proofs.lemmas.Bool.{cases_Bool, cases_lt}
+use Rattle.std.proofs.lemmas.Bool.{cases_Bool}
 use Rattle.std.proofs.lemmas.Option.{slice_get_past, slice_get_cases}
-use Rattle.std.proofs.lemmas.List.Elements.{All-get_or}
 use Rattle.ob_base.specs.Limits.{most_fields}
 use Rattle.ob_base.specs.declared.permission.Mode.{Mode}
 use Rattle.ob_base.specs.declared.permission.Mode.TheVariants.{Owned, Shared, Unowned}
-use Rattle.ob_base.specs.declared.permission.Perm.{Perm}
 use Rattle.ob_perm.specs.States.{States}
 use Rattle.ob_perm.specs.Permissions.{owns}
-use Rattle.ob_perm.specs.Masks.{held, permission_of, states_of}
+use Rattle.ob_perm.specs.Masks.{held, states_of}
 use Rattle.ob_table.specs.Tables.{ClassTable, contract_at}
 use Rattle.ob_table.specs.declared.contract.Contract.{Contract}
 use Rattle.ob_table.specs.declared.contract.Field.{Field}
@@ -25,17 +23,16 @@ use Rattle.ob_heap_spec.specs.Contents.{IsObject, IsObjectOf}
 use Rattle.ob_silica_steps.specs.Cells.{Cell}
 use Rattle.ob_silica_steps.specs.Configurations.{Notes, HandleNote}
 use Rattle.ob_silica_steps.specs.Here.{field_of}
-use Rattle.ob_silica_steps.specs.Starting.{declared_note, declared_notes, no_note, first_notes}
-use Rattle.ob_coherent_spec.specs.Counting.{nth_object, field_cell, fields_counted, sum_below, one_if, in_cell, in_fields, in_objects}
+use Rattle.ob_silica_steps.specs.Starting.{declared_note, no_note, first_notes}
+use Rattle.ob_coherent_spec.specs.Counting.{nth_object, field_cell, fields_counted, one_if, in_cell, in_fields, in_objects}
 use Rattle.ob_coherent_spec.specs.Standing.{IsObjectInRun}
 use Rattle.ob_coherent_counting_laws.proofs.Sums.{sum_same}
 use Rattle.ob_coherent_counting_laws.proofs.Cells.{cell_plain}
 use Rattle.ob_coherent_counting_laws.proofs.Objects.{object_there, no_field_cell}
 use Rattle.ob_coherent_counting_laws.proofs.Low.{contract_fields}
-use Rattle.ob_coherent_counting_laws.proofs.Places.{few_fields}
 use Rattle.ob_rest_spec.specs.Modes.{is_owned}
 use Rattle.ob_rest_spec.specs.References.{FieldReference, reference_of, available_value, references_of, field_references}
-use Rattle.ob_rest_spec.specs.Incoming.{incoming_by_field, fields_onto}
+use Rattle.ob_rest_spec.specs.Incoming.{incoming_by_field}
 use Rattle.ob_rest_counting_laws.proofs.Lists.{sum_further, sum_each, sum_each_below}
 
 -- how many of these references own the object of a number

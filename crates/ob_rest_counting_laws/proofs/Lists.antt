@@ -1,5 +1,5 @@
 -- Sums over lists, by the places in them.
-use Rattle.std.proofs.Common.{◌≡◌, ℕ, zero, suc, ◌+◌, ◌<◌, ◌≤◌, List, [], ◌∷◌, length, Option, Some, None, slice_get, refl, sym, ap, ◌∙◌, subst, arith, ◌⊎◌, ⊎_elim, inl, inr}
+use Rattle.std.proofs.Common.{◌≡◌, ℕ, zero, suc, ◌+◌, ◌<◌, ◌≤◌, List, [], ◌∷◌, length, slice_get, refl, ap, arith, ⊎_elim}
 use Rattle.std.specs.Option.{option_map_or}
 use Rattle.ob_coherent_spec.specs.Counting.{sum_below}
 use Rattle.ob_coherent_counting_laws.proofs.Sums.{sum_same}
