@@ -41,7 +41,8 @@ cell_lost None false old = old
 cell_lost (Some x) has old = old
 
 pub cells_balanced : (counts : Counted) (n : ℕ) (got : Option Cell) (has : Bool) (old : Option Cell)
-    → in_cell counts n (cell_after got has old) + in_cell counts n (cell_lost got has old) ≡ in_cell counts n got + in_cell counts n old
+    → in_cell counts n (cell_after got has old) + in_cell counts n (cell_lost got has old)
+    ≡ in_cell counts n got + in_cell counts n old
 cells_balanced counts n None true old = omega arith
 cells_balanced counts n None false old = omega arith
 cells_balanced counts n (Some x) has old = refl
@@ -52,7 +53,11 @@ module _ (c : Contract) (state : StateId) (got : Numbered Cell) (h : Here) where
       → field_cell (changed_here c state got h).notes (changed_here c state got h).world.objects (self_of h.slots) k
       ≡ cell_after (got k) (has_field c (Some state) k) (field_cell h.notes h.world.objects (self_of h.slots) k)
   field_after there k =
-      ap (λ o. option_map {U = Cell} (λ (v : Value). record { value = v; note = (notes_after (self_of h.slots) got h.notes).fields (self_of h.slots) k }) (o.fields k))
+      ap (λ o. option_map {U = Cell} (λ (v : Value). record {
+        value = v;
+        note =
+            (notes_after (self_of h.slots) got h.notes).fields (self_of h.slots) k;
+      }) (o.fields k))
       (edit_same (changed_object c state got) (self_of h.slots) h.world there)
       ∙ ap (λ (y : ℕ → Known). option_map {U = Cell} (λ (v : Value). record { value = v; note = y k })
       (values_after c state got (nth_object h.world.objects (self_of h.slots)).fields k))
@@ -60,18 +65,29 @@ module _ (c : Contract) (state : StateId) (got : Numbered Cell) (h : Here) where
       ∙ go (got k) (has_field c (Some state) k) ((nth_object h.world.objects (self_of h.slots)).fields k)
     where
       go : (x : Option Cell) (has : Bool) (v : Option Value)
-          → option_map {U = Cell} (λ (v : Value). record { value = v; note = note_after x (h.notes.fields (self_of h.slots) k) }) (value_after x (if has then v else None))
-          ≡ cell_after x has (option_map {U = Cell} (λ (v : Value). record { value = v; note = h.notes.fields (self_of h.slots) k }) v)
+          → option_map {U = Cell} (λ (v : Value). record {
+            value = v;
+            note =
+                note_after x (h.notes.fields (self_of h.slots) k);
+          }) (value_after x (if has then v else None))
+          ≡ cell_after x has (option_map {U = Cell} (λ (v : Value). record {
+            value = v;
+            note =
+                h.notes.fields (self_of h.slots) k;
+          }) v)
       go None true v = refl
       go None false v = refl
       go (Some x) has v = refl
 
   -- fields of other objects stay
   pub other_after : (m k : ℕ) → m ≢ self_of h.slots
-      → field_cell (changed_here c state got h).notes (changed_here c state got h).world.objects m k ≡ field_cell h.notes h.world.objects m k
-  other_after m k other = field_cell_same h.notes (changed_here c state got h).notes h.world.objects (changed_here c state got h).world.objects m k
+      → field_cell (changed_here c state got h).notes (changed_here c state got h).world.objects m k
+      ≡ field_cell h.notes h.world.objects m k
+  other_after m k other = field_cell_same h.notes (changed_here c state got h).notes h.world.objects
+      (changed_here c state got h).world.objects m k
       (ap (λ o. o.fields k) (edit_other (changed_object c state got) (self_of h.slots) h.world m other))
-      (ap (λ (y : ℕ → Known). y k) (at_other h.notes.fields (self_of h.slots) (λ k. note_after (got k) (h.notes.fields (self_of h.slots) k)) m other))
+      (ap (λ (y : ℕ → Known). y k) (at_other h.notes.fields (self_of h.slots)
+      (λ k. note_after (got k) (h.notes.fields (self_of h.slots) k)) m other))
 
   module _ (counts : Counted) (n : ℕ) where
     -- in what was given, and in what went
@@ -80,16 +96,20 @@ module _ (c : Contract) (state : StateId) (got : Numbered Cell) (h : Here) where
 
     abbrev pub in_lost : ℕ
     in_lost = sum_below fields_counted
-        (λ k. in_cell counts n (cell_lost (got k) (has_field c (Some state) k) (field_cell h.notes h.world.objects (self_of h.slots) k)))
+        (λ k. in_cell counts n (cell_lost (got k) (has_field c (Some state) k)
+        (field_cell h.notes h.world.objects (self_of h.slots) k)))
 
     pub fields_after : self_of h.slots < length h.world.objects
-        → in_fields counts n (changed_here c state got h).notes (changed_here c state got h).world.objects (self_of h.slots) + in_lost
+        → in_fields counts n (changed_here c state got h).notes (changed_here c state got h).world.objects
+        (self_of h.slots) + in_lost
         ≡ in_got + in_fields counts n h.notes h.world.objects (self_of h.slots)
     fields_after there = sums_balanced fields_counted _ _ _ _
         (λ k below. ap (λ y. in_cell counts n y
-        + in_cell counts n (cell_lost (got k) (has_field c (Some state) k) (field_cell h.notes h.world.objects (self_of h.slots) k)))
+        + in_cell counts n (cell_lost (got k) (has_field c (Some state) k)
+        (field_cell h.notes h.world.objects (self_of h.slots) k)))
         (field_after there k)
-        ∙ cells_balanced counts n (got k) (has_field c (Some state) k) (field_cell h.notes h.world.objects (self_of h.slots) k))
+        ∙ cells_balanced counts n (got k) (has_field c (Some state) k)
+        (field_cell h.notes h.world.objects (self_of h.slots) k))
 
     pub objects_after : self_of h.slots < length h.world.objects
         → in_objects counts n (changed_here c state got h).notes (changed_here c state got h).world.objects + in_lost
@@ -97,7 +117,8 @@ module _ (c : Contract) (state : StateId) (got : Numbered Cell) (h : Here) where
     objects_after there = omega (
       arith,
       fields_after there,
-      objects_but_one counts n (changed_here c state got h).notes h.notes (changed_here c state got h).world.objects h.world.objects (self_of h.slots)
+      objects_but_one counts n (changed_here c state got h).notes h.notes
+          (changed_here c state got h).world.objects h.world.objects (self_of h.slots)
           (edit_length (changed_object c state got) (self_of h.slots) h.world)
           (omega (arith, there, edit_length (changed_object c state got) (self_of h.slots) h.world))
           (λ j k other. ap (in_cell counts n) (other_after j k other)),

@@ -34,10 +34,12 @@ nothing_counts counts n = no_slots counts n nothing (λ k. refl)
 abbrev pub in_bound : Counted → ℕ → Bound → ℕ
 in_bound counts n b = in_here counts n b.from + in_slots counts n b.slots
 
-pub hand_self : (of : ResolvedType) (p : Location) (x : Cell) (h : Here) → self_of (hand of p x h).slots ≡ self_of h.slots
+pub hand_self : (of : ResolvedType) (p : Location) (x : Cell) (h : Here) → self_of (hand of p x h).slots
+    ≡ self_of h.slots
 hand_self of p x h = self_permission p _ _
 
-pub hand_handles : (of : ResolvedType) (p : Location) (x : Cell) (h : Here) → (hand of p x h).notes.handles ≡ h.notes.handles
+pub hand_handles : (of : ResolvedType) (p : Location) (x : Cell) (h : Here) → (hand of p x h).notes.handles
+    ≡ h.notes.handles
 hand_handles of p x h = permission_handles p _ _
 
 module _ (table : ClassTable) (b : Bound) (place : Location) (x : Cell) (k : ℕ) (p : Parameter) (low : IsLow place)
@@ -45,7 +47,11 @@ module _ (table : ClassTable) (b : Bound) (place : Location) (x : Cell) (k : ℕ
     (few : k < most_slots) (unset : b.slots k ≡ None) where
   bound_more : (counts : Counted) (n : ℕ) → in_slots counts n (at b.slots k (Some (bound_cell p.of x.value)))
       ≡ in_slots counts n b.slots + in_cell counts n (Some (bound_cell p.of x.value))
-  bound_more counts n = omega (arith, slots_at counts n b.slots k (Some (bound_cell p.of x.value)) few, ap (in_cell counts n) unset)
+  bound_more counts n = omega (
+    arith,
+    slots_at counts n b.slots k (Some (bound_cell p.of x.value)) few,
+    ap (in_cell counts n) unset,
+  )
 
   -- there are no more owners than before
   pub bind_owners : (n : ℕ) → (owns (permission_of_type p.of) ≡ true → owns x.note.permission ≡ true)
@@ -90,7 +96,8 @@ this_alike counts n slots x y set value alike some = omega (
 -- slot 0 was unset
 pub this_more : (counts : Counted) (n : ℕ) (slots : SlotCells) (y : Cell) → slots 0 ≡ None → 0 < most_slots
     → in_slots counts n (at slots 0 (Some y)) ≡ in_slots counts n slots + in_cell counts n (Some y)
-this_more counts n slots y unset some = omega (arith, slots_at counts n slots 0 (Some y) some, ap (in_cell counts n) unset)
+this_more counts n slots y unset some =
+    omega (arith, slots_at counts n slots 0 (Some y) some, ap (in_cell counts n) unset)
 
 pub some_slots : 0 < most_slots
 unfolding most_slots
@@ -109,10 +116,16 @@ module _ (n : ℕ) (c : Configuration) (h : Waiting) (how : h.frame.how ≡ c.fr
   entered_below = omega (arith, entered_at_same n c.frame.how h.frame.how c.frame.slots h.frame.slots how self)
 
   pub constructing_below : constructing_among n (h ∷ c.stack) ≡ constructions n c
-  constructing_below = omega (arith, constructing_at_same n c.frame.how h.frame.how c.frame.slots h.frame.slots how self)
+  constructing_below =
+      omega (arith, constructing_at_same n c.frame.how h.frame.how c.frame.slots h.frame.slots how self)
 
   pub tests_below : h.outer ≡ around c.control → tests_among n (h ∷ c.stack) ≡ open_tests n c
-  tests_below outer = omega (arith, ap (tests_in n h.frame.slots) outer, tests_in_same n c.frame.slots h.frame.slots (around c.control) self)
+  tests_below outer = omega (
+    arith,
+    ap (tests_in n h.frame.slots) outer,
+    tests_in_same n c.frame.slots h.frame.slots (around c.control) self,
+  )
 
-  pub locks_below : (entry : Option ℕ) → h.outer ≡ around c.control → locks_among n (h ∷ c.stack) + locks_entry entry n ≡ locks entry n c
+  pub locks_below : (entry : Option ℕ) → h.outer ≡ around c.control → locks_among n (h ∷ c.stack) + locks_entry entry n
+      ≡ locks entry n c
   locks_below entry outer = omega (arith, ap (locks_around n) outer)

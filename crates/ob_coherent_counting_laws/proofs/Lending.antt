@@ -26,47 +26,51 @@ unlent result h loan loans stack c = record {
   world = c.world;
 }
 
-module _ (counts : Counted) (n : ℕ) (c : Configuration) (h : Waiting) (loan : Loan) (loans : List Loan) (stack : List Waiting)
+module _ (counts : Counted) (n : ℕ) (c : Configuration) (h : Waiting) (loan : Loan) (loans : List Loan)
+    (stack : List Waiting)
     (result : Option Cell) (control : c.control ≡ leaves result []) (waits : c.stack ≡ h ∷ stack)
-    (low : IsLow loan.place) (few : loan.param < most_slots) (there : self_of h.frame.slots < length c.world.objects) where
-  pub unlent_counts : in_all counts n (unlent result h loan loans stack c) + in_cell counts n (cell_at (below_here h c) loan.place)
-      + in_cell counts n (c.frame.slots loan.param)
-      ≡ in_all counts n c + in_cell counts n (option_map (noted loan.exit) (cell_at (below_here h c) loan.place))
-      + in_cell counts n (option_map (noted unowned) (c.frame.slots loan.param))
-  unlent_counts = omega (
-    arith,
-    here_permission counts n loan.place loan.exit (below_here h c) low there,
-    world_same loan.place,
-    slots_at counts n c.frame.slots loan.param (option_map (noted unowned) (c.frame.slots loan.param)) few,
-    ap (in_control counts n) control,
-    ap (in_waiting counts n) waits,
-    ap (in_handles counts n) (permission_handles loan.place loan.exit (below_here h c)),
-  )
-    where
-      world_same : (p : Location) → in_objects counts n (set_permission p loan.exit (below_here h c)).notes
-          (set_permission p loan.exit (below_here h c)).world.objects
-          ≡ in_objects counts n (set_permission p loan.exit (below_here h c)).notes c.world.objects
-      world_same (slot k) = refl
-      world_same (field k) = refl
+    (low : IsLow loan.place) (few : loan.param < most_slots) (there : self_of h.frame.slots < length c.world.objects)
+  where
+    pub unlent_counts : in_all counts n (unlent result h loan loans stack c) + in_cell counts n
+        (cell_at (below_here h c) loan.place)
+        + in_cell counts n (c.frame.slots loan.param)
+        ≡ in_all counts n c + in_cell counts n (option_map (noted loan.exit) (cell_at (below_here h c) loan.place))
+        + in_cell counts n (option_map (noted unowned) (c.frame.slots loan.param))
+    unlent_counts = omega (
+      arith,
+      here_permission counts n loan.place loan.exit (below_here h c) low there,
+      world_same loan.place,
+      slots_at counts n c.frame.slots loan.param (option_map (noted unowned) (c.frame.slots loan.param)) few,
+      ap (in_control counts n) control,
+      ap (in_waiting counts n) waits,
+      ap (in_handles counts n) (permission_handles loan.place loan.exit (below_here h c)),
+    )
+      where
+        world_same : (p : Location) → in_objects counts n (set_permission p loan.exit (below_here h c)).notes
+            (set_permission p loan.exit (below_here h c)).world.objects
+            ≡ in_objects counts n (set_permission p loan.exit (below_here h c)).notes c.world.objects
+        world_same (slot k) = refl
+        world_same (field k) = refl
 
-  -- the place and the slot have the same value; the place owns nothing before
-  pub unlent_with : (x y : Cell) → cell_at (below_here h c) loan.place ≡ Some x → c.frame.slots loan.param ≡ Some y
-      → in_all counts n (unlent result h loan loans stack c) + in_cell counts n (Some x) + in_cell counts n (Some y)
-      ≡ in_all counts n c + in_cell counts n (Some (noted loan.exit x)) + in_cell counts n (Some (noted unowned y))
-  unlent_with x y found given = omega (
-    arith,
-    unlent_counts,
-    ap (in_cell counts n) found,
-    ap (in_cell counts n) given,
-    ap (λ z. in_cell counts n (option_map (noted loan.exit) z)) found,
-    ap (λ z. in_cell counts n (option_map (noted unowned) z)) given,
-  )
+    -- the place and the slot have the same value; the place owns nothing before
+    pub unlent_with : (x y : Cell) → cell_at (below_here h c) loan.place ≡ Some x → c.frame.slots loan.param ≡ Some y
+        → in_all counts n (unlent result h loan loans stack c) + in_cell counts n (Some x) + in_cell counts n (Some y)
+        ≡ in_all counts n c + in_cell counts n (Some (noted loan.exit x)) + in_cell counts n (Some (noted unowned y))
+    unlent_with x y found given = omega (
+      arith,
+      unlent_counts,
+      ap (in_cell counts n) found,
+      ap (in_cell counts n) given,
+      ap (λ z. in_cell counts n (option_map (noted loan.exit) z)) found,
+      ap (λ z. in_cell counts n (option_map (noted unowned) z)) given,
+    )
 
 -- the object of the frame that leaves, and of the one below
 pub unlent_self : (slots : SlotCells) (k : ℕ) → self_of (without_owner k slots) ≡ self_of slots
 unlent_self slots k = noted_refers_same unowned slots k
 
-pub returned_self : (h : Waiting) (loan : Loan) (c : Configuration) → self_of (returned_to h loan c).slots ≡ self_of h.frame.slots
+pub returned_self : (h : Waiting) (loan : Loan) (c : Configuration) → self_of (returned_to h loan c).slots
+    ≡ self_of h.frame.slots
 returned_self h loan c = self_permission loan.place loan.exit (below_here h c)
 
 -- The frame below goes on.
@@ -99,7 +103,8 @@ left_locked c = go c.frame.how
 module _ (counts : Counted) (n : ℕ) (c : Configuration) (h : Waiting) (stack : List Waiting) (result : Option Cell)
     (control : c.control ≡ leaves result []) (waits : c.stack ≡ h ∷ stack) where
   pub resumed_none : h.result ≡ None
-      → in_all counts n (resumed h result stack c) + in_slots counts n c.frame.slots + in_cell counts n result ≡ in_all counts n c
+      → in_all counts n (resumed h result stack c) + in_slots counts n c.frame.slots + in_cell counts n result
+      ≡ in_all counts n c
   resumed_none none = omega (
     arith,
     ap (in_control counts n) control,
@@ -109,7 +114,8 @@ module _ (counts : Counted) (n : ℕ) (c : Configuration) (h : Waiting) (stack :
   )
 
   pub resumed_some : (k : ℕ) → h.result ≡ Some k → k < most_slots
-      → in_all counts n (resumed h result stack c) + in_slots counts n c.frame.slots + in_cell counts n (h.frame.slots k) ≡ in_all counts n c
+      → in_all counts n (resumed h result stack c) + in_slots counts n c.frame.slots + in_cell counts n
+      (h.frame.slots k) ≡ in_all counts n c
   resumed_some k some low = omega (
     arith,
     ap (in_control counts n) control,

@@ -17,22 +17,28 @@ use Rattle.ob_coherent_counting_laws.proofs.Frames.{self_same}
 use Rattle.ob_coherent_counting_laws.proofs.Writing.{IsLow, cell_at, in_here, here_permission, here_hand}
 
 -- a slot with another permission refers to the same object
-pub noted_refers_same : (q : Permission) (slots : SlotCells) (k : ℕ) → self_of (at slots k (option_map (noted q) (slots k))) ≡ self_of slots
+pub noted_refers_same : (q : Permission) (slots : SlotCells) (k : ℕ)
+    → self_of (at slots k (option_map (noted q) (slots k))) ≡ self_of slots
 noted_refers_same q slots k = ⊎_elim
-    (λ e. self_same slots (at slots k (option_map (noted q) (slots k))) (ap object_in (ap (at slots k (option_map (noted q) (slots k))) e.1 ∙ at_same slots k (option_map (noted q) (slots k)))
+    (λ e. self_same slots (at slots k (option_map (noted q) (slots k)))
+    (ap object_in (ap (at slots k (option_map (noted q) (slots k))) e.1
+    ∙ at_same slots k (option_map (noted q) (slots k)))
     ∙ go (slots k) ∙ ap (λ i. object_in (slots i)) (sym e.1)))
-    (λ e. self_same slots (at slots k (option_map (noted q) (slots k))) (ap object_in (at_other slots k (option_map (noted q) (slots k)) 0 e.1)))
+    (λ e. self_same slots (at slots k (option_map (noted q) (slots k)))
+    (ap object_in (at_other slots k (option_map (noted q) (slots k)) 0 e.1)))
     (eqb_tells 0 k)
   where
     go : (x : Option Cell) → object_in (option_map (noted q) x) ≡ object_in x
     go None = refl
     go (Some x) = refl
 
-pub self_permission : (p : Location) (q : Permission) (h : Here) → self_of (set_permission p q h).slots ≡ self_of h.slots
+pub self_permission : (p : Location) (q : Permission) (h : Here) → self_of (set_permission p q h).slots
+    ≡ self_of h.slots
 self_permission (slot k) q h = noted_refers_same q h.slots k
 self_permission (field k) q h = refl
 
-pub permission_handles : (p : Location) (q : Permission) (h : Here) → (set_permission p q h).notes.handles ≡ h.notes.handles
+pub permission_handles : (p : Location) (q : Permission) (h : Here) → (set_permission p q h).notes.handles
+    ≡ h.notes.handles
 permission_handles (slot k) q h = refl
 permission_handles (field k) q h = refl
 
@@ -44,10 +50,12 @@ permission_world (field k) q h = refl
 
 module _ (p : Location) (q : Permission) (h : Here) (low : IsLow p) (there : self_of h.slots < length h.world.objects)
     (x : Cell) (found : cell_at h p ≡ Some x) where
-  pub permission_counts : (counts : Counted) (n : ℕ) → in_here counts n (set_permission p q h) + in_cell counts n (Some x)
+  pub permission_counts : (counts : Counted) (n : ℕ) → in_here counts n (set_permission p q h) + in_cell counts n
+      (Some x)
       ≡ in_here counts n h + in_cell counts n (Some (noted q x))
   permission_counts counts n =
-      subst (λ y. in_here counts n (set_permission p q h) + in_cell counts n y ≡ in_here counts n h + in_cell counts n (option_map (noted q) y))
+      subst (λ y. in_here counts n (set_permission p q h) + in_cell counts n y
+      ≡ in_here counts n h + in_cell counts n (option_map (noted q) y))
       found (here_permission counts n p q h low there)
 
   -- of another object nothing changes
@@ -70,7 +78,8 @@ module _ (p : Location) (q : Permission) (h : Here) (low : IsLow p) (there : sel
   permission_refers n = permission_alike any n refl
 
   -- what counted counts no more
-  pub permission_gone : (counts : Counted) (n : ℕ) → x.value ≡ reference n → counts x.note.permission ≡ true → counts q ≡ false
+  pub permission_gone : (counts : Counted) (n : ℕ) → x.value ≡ reference n → counts x.note.permission ≡ true → counts q
+      ≡ false
       → in_here counts n (set_permission p q h) + 1 ≡ in_here counts n h
   permission_gone counts n value so not = omega (
     arith,
@@ -80,7 +89,8 @@ module _ (p : Location) (q : Permission) (h : Here) (low : IsLow p) (there : sel
   )
 
   -- what didn't count counts
-  pub permission_come : (counts : Counted) (n : ℕ) → x.value ≡ reference n → counts x.note.permission ≡ false → counts q ≡ true
+  pub permission_come : (counts : Counted) (n : ℕ) → x.value ≡ reference n → counts x.note.permission
+      ≡ false → counts q ≡ true
       → in_here counts n (set_permission p q h) ≡ in_here counts n h + 1
   permission_come counts n value not so = omega (
     arith,
@@ -93,7 +103,8 @@ module _ (p : Location) (q : Permission) (h : Here) (low : IsLow p) (there : sel
 
 -- what a giver keeps, and what is got, count together at most what the place had, where it owns what an owner gets
 pub handed_owners : (v : Value) (k l : Kind) (p q : Permission) (n : ℕ) → (owns q ≡ true → owns p ≡ true)
-    → in_cell owns n (Some (record { value = v; note = known k (kept p q) })) + in_cell owns n (Some (record { value = v; note = known l q }))
+    → in_cell owns n (Some (record { value = v; note = known k (kept p q) })) + in_cell owns n
+    (Some (record { value = v; note = known l q }))
     ≤ in_cell owns n (Some (record { value = v; note = known k p }))
 handed_owners v k l p unowned n less = omega arith
 handed_owners v k l p shared n less = omega arith
@@ -103,18 +114,23 @@ handed_owners v k l p (owned b) n less = omega (
 )
 
 -- and as much as the place had, unless it owned what comes into a place declared Shared
-pub handed_same : (v : Value) (k l : Kind) (p q : Permission) (n : ℕ) → (owns q ≡ true → owns p ≡ true) → (q ≡ shared → owns p ≡ false)
-    → in_cell owns n (Some (record { value = v; note = known k (kept p q) })) + in_cell owns n (Some (record { value = v; note = known l q }))
+pub handed_same : (v : Value) (k l : Kind) (p q : Permission) (n : ℕ) → (owns q ≡ true → owns p ≡ true)
+    → (q ≡ shared → owns p ≡ false)
+    → in_cell owns n (Some (record { value = v; note = known k (kept p q) })) + in_cell owns n
+    (Some (record { value = v; note = known l q }))
     ≡ in_cell owns n (Some (record { value = v; note = known k p }))
 handed_same v k l p unowned n less unless = omega arith
-handed_same v k l p shared n less unless = omega (arith, cell_uncounted owns n (record { value = v; note = known k p }) (unless refl))
+handed_same v k l p shared n less unless =
+    omega (arith, cell_uncounted owns n (record { value = v; note = known k p }) (unless refl))
 handed_same v k l p (owned b) n less unless = omega (
   arith,
   cell_less owns n (record { value = v; note = known l (owned b) }) (record { value = v; note = known k p }) refl less,
-  cell_less owns n (record { value = v; note = known k p }) (record { value = v; note = known l (owned b) }) refl (λ e. refl),
+  cell_less owns n (record { value = v; note = known k p }) (record { value = v; note = known l (owned b) }) refl
+      (λ e. refl),
 )
 
-module _ (of : ResolvedType) (p : Location) (h : Here) (low : IsLow p) (there : self_of h.slots < length h.world.objects)
+module _ (of : ResolvedType) (p : Location) (h : Here) (low : IsLow p)
+    (there : self_of h.slots < length h.world.objects)
     (x : Cell) (found : cell_at h p ≡ Some x) where
   pub hand_counts : (counts : Counted) (n : ℕ) → in_here counts n (hand of p x h) + in_cell counts n (Some x)
       ≡ in_here counts n h + in_cell counts n (Some (noted (kept x.note.permission (permission_of_type of)) x))
@@ -128,7 +144,8 @@ module _ (of : ResolvedType) (p : Location) (h : Here) (low : IsLow p) (there : 
 
   -- with what is got there are no more owners than before
   pub hand_owners : (k : Kind) (n : ℕ) → (owns (permission_of_type of) ≡ true → owns x.note.permission ≡ true)
-      → in_here owns n (hand of p x h) + in_cell owns n (Some (record { value = x.value; note = known k (permission_of_type of) }))
+      → in_here owns n (hand of p x h) + in_cell owns n
+      (Some (record { value = x.value; note = known k (permission_of_type of) }))
       ≤ in_here owns n h
   hand_owners k n less = omega (
     arith,
@@ -139,7 +156,8 @@ module _ (of : ResolvedType) (p : Location) (h : Here) (low : IsLow p) (there : 
   -- and as many, unless an owner comes into a place declared Shared
   pub hand_owners_same : (k : Kind) (n : ℕ) → (owns (permission_of_type of) ≡ true → owns x.note.permission ≡ true)
       → (permission_of_type of ≡ shared → owns x.note.permission ≡ false)
-      → in_here owns n (hand of p x h) + in_cell owns n (Some (record { value = x.value; note = known k (permission_of_type of) }))
+      → in_here owns n (hand of p x h) + in_cell owns n
+      (Some (record { value = x.value; note = known k (permission_of_type of) }))
       ≡ in_here owns n h
   hand_owners_same k n less unless = omega (
     arith,

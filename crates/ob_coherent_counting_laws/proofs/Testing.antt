@@ -31,7 +31,8 @@ pub tests_of_more : (n : ℕ) (slots : SlotCells) (r : Rest) (outer : List Rest)
     → tests_of n slots (r ∷ outer) ≡ tested_at n slots r.ends + tests_of n slots outer
 tests_of_more n slots r outer = go r.ends
   where
-    go : (e : Ends) → locks_at n e + locks_around n outer + (tests_at (one_if (nat_eq (self_of slots) n)) e + tests_in n slots outer)
+    go : (e : Ends) → locks_at n e + locks_around n outer +
+        (tests_at (one_if (nat_eq (self_of slots) n)) e + tests_in n slots outer)
         ≡ tested_at n slots e + tests_of n slots outer
     go plain_end = omega arith
     go (test_end p) = omega arith
@@ -41,7 +42,8 @@ pub tests_of_same : (n : ℕ) (slots others : SlotCells) (outer : List Rest) →
     → tests_of n others outer ≡ tests_of n slots outer
 tests_of_same n slots others outer self = omega (arith, tests_in_same n slots others outer self)
 
-pub tested_same : (n : ℕ) (slots others : SlotCells) (e : Ends) → self_of others ≡ self_of slots → tested_at n others e ≡ tested_at n slots e
+pub tested_same : (n : ℕ) (slots others : SlotCells) (e : Ends) → self_of others ≡ self_of slots → tested_at n others e
+    ≡ tested_at n slots e
 tested_same n slots others plain_end self = refl
 tested_same n slots others (test_end p) self = ap (λ m. one_if (nat_eq m n)) self
 tested_same n slots others (lock_end p m) self = refl
@@ -85,7 +87,8 @@ module _ (h : Here) (there : self_of h.slots < length h.world.objects) where
       (eqb_tells m n)
 
   -- one place owns the object from here on
-  pub owned_now : (p : Location) (m : ℕ) (x : HasAt p m h) (q : Permission) → owns x.cell.note.permission ≡ false → owns q ≡ true → (n : ℕ)
+  pub owned_now : (p : Location) (m : ℕ) (x : HasAt p m h) (q : Permission) → owns x.cell.note.permission
+      ≡ false → owns q ≡ true → (n : ℕ)
       → in_here owns n (set_permission p q h) ≡ in_here owns n h + one_if (nat_eq m n)
   owned_now p m x q not so n = ⊎_elim
       (λ e. omega (
@@ -105,7 +108,8 @@ module _ (h : Here) (there : self_of h.slots < length h.world.objects) where
   end_self (test_end p) = self_permission p shared h
   end_self (lock_end p n) = self_permission p shared h
 
-  pub end_owners : (e : Ends) → EndsAs true e h → (n : ℕ) → in_here owns n (end_branch e h) + tested_at n h.slots e ≡ in_here owns n h
+  pub end_owners : (e : Ends) → EndsAs true e h → (n : ℕ) → in_here owns n (end_branch e h) + tested_at n h.slots e
+      ≡ in_here owns n h
   end_owners plain_end owner n = omega arith
   end_owners (test_end p) owner n = shared_again p (self_of h.slots) owner.0 owner.1 n
   end_owners (lock_end p m) owner n = shared_again p m owner.0 owner.1 n
@@ -132,7 +136,8 @@ module _ (h : Here) (there : self_of h.slots < length h.world.objects) where
   end_none e owner n one some = omega (arith, end_owners e owner n)
 
   -- a test begins
-  pub begin_balanced_this : (p : Location) (q : Permission) (x : HasAt p (self_of h.slots) h) (terms : SilicaTerms) (outer : List Rest)
+  pub begin_balanced_this : (p : Location) (q : Permission) (x : HasAt p (self_of h.slots) h) (terms : SilicaTerms)
+      (outer : List Rest)
       → owns x.cell.note.permission ≡ false → owns q ≡ true → (n : ℕ)
       → in_here owns n (set_permission p q h) + tests_of n h.slots outer
       ≡ in_here owns n h + tests_of n (set_permission p q h).slots (record { terms = terms; ends = test_end p } ∷ outer)
@@ -140,31 +145,38 @@ module _ (h : Here) (there : self_of h.slots < length h.world.objects) where
     arith,
     owned_now p (self_of h.slots) x q not so n,
     tests_of_more n h.slots (record { terms = terms; ends = test_end p }) outer,
-    tests_of_same n h.slots (set_permission p q h).slots (record { terms = terms; ends = test_end p } ∷ outer) (self_permission p q h),
+    tests_of_same n h.slots (set_permission p q h).slots (record { terms = terms; ends = test_end p } ∷ outer)
+        (self_permission p q h),
   )
 
-  pub begin_balanced_other : (p : Location) (m : ℕ) (q : Permission) (x : HasAt p m h) (terms : SilicaTerms) (outer : List Rest)
+  pub begin_balanced_other : (p : Location) (m : ℕ) (q : Permission) (x : HasAt p m h) (terms : SilicaTerms)
+      (outer : List Rest)
       → owns x.cell.note.permission ≡ false → owns q ≡ true → (n : ℕ)
       → in_here owns n (set_permission p q h) + tests_of n h.slots outer
-      ≡ in_here owns n h + tests_of n (set_permission p q h).slots (record { terms = terms; ends = lock_end p m } ∷ outer)
+      ≡ in_here owns n h + tests_of n (set_permission p q h).slots
+      (record { terms = terms; ends = lock_end p m } ∷ outer)
   begin_balanced_other p m q x terms outer not so n = omega (
     arith,
     owned_now p m x q not so n,
     tests_of_more n h.slots (record { terms = terms; ends = lock_end p m }) outer,
-    tests_of_same n h.slots (set_permission p q h).slots (record { terms = terms; ends = lock_end p m } ∷ outer) (self_permission p q h),
+    tests_of_same n h.slots (set_permission p q h).slots (record { terms = terms; ends = lock_end p m } ∷ outer)
+        (self_permission p q h),
   )
 
 -- Locks.
 
 -- a number is among others once less
-pub without_count : (m n : ℕ) (ns : List ℕ) → 0 < times m ns → one_if (nat_eq m n) + times n (without_first m ns) ≡ times n ns
+pub without_count : (m n : ℕ) (ns : List ℕ) → 0 < times m ns → one_if (nat_eq m n) + times n (without_first m ns)
+    ≡ times n ns
 without_count m n ns some = ⊎_elim
-    (λ e. subst (λ i. one_if (nat_eq m i) + times i (without_first m ns) ≡ times i ns) e.1 (omega (arith, one_same m, without_times m ns some)))
+    (λ e. subst (λ i. one_if (nat_eq m i) + times i (without_first m ns) ≡ times i ns) e.1
+    (omega (arith, one_same m, without_times m ns some)))
     (λ e. omega (arith, ap one_if e.0, without_other m n ns (λ z. e.1 (sym z))))
     (eqb_tells m n)
 
 -- a test with a lock ends: the locks of the lists around and the locked objects go together
-pub unlocked : (m n : ℕ) (locked : List ℕ) (terms : SilicaTerms) (p : Location) (outer : List Rest) (others : ℕ) → 0 < times m locked
+pub unlocked : (m n : ℕ) (locked : List ℕ) (terms : SilicaTerms) (p : Location) (outer : List Rest) (others : ℕ)
+    → 0 < times m locked
     → locks_around n (record { terms = terms; ends = lock_end p m } ∷ outer) + others ≡ times n locked
     → locks_around n outer + others ≡ times n (without_first m locked)
 unlocked m n locked terms p outer others some same = omega (arith, without_count m n locked some)
