@@ -32,9 +32,11 @@ allows_owner unowned q allowed e = absurd (true≢false (sym e))
 abbrev pub as_declared : ResolvedType → Cell → Cell
 as_declared of x = record { value = x.value; note = declared_note of }
 
-module _ (N : ℕ → Type 0) (of : ResolvedType) (x : Cell) (says : SaysOf N (Some (declared_note of)) (Some x)) (n : ℕ) where
+module _ (N : ℕ → Type 0) (of : ResolvedType) (x : Cell) (says : SaysOf N (Some (declared_note of)) (Some x))
+    (n : ℕ) where
   pub declared_less : in_cell owns n (Some (as_declared of x)) ≤ in_cell owns n (Some x)
-  declared_less = cell_less owns n (as_declared of x) x refl (allows_owner (declared_note of).permission x.note.permission says.known.1)
+  declared_less = cell_less owns n (as_declared of x) x refl
+      (allows_owner (declared_note of).permission x.note.permission says.known.1)
 
   pub declared_same : N n → in_cell owns n (Some (as_declared of x)) ≡ in_cell owns n (Some x)
   declared_same needs = go (in_cell owns n (Some x)) refl
@@ -48,11 +50,14 @@ module _ (N : ℕ → Type 0) (of : ResolvedType) (x : Cell) (says : SaysOf N (S
 
 -- each available field of each object is held as it is declared
 abbrev pub HeldAsDeclared : ClassTable → (ℕ → Type 0) → Notes → List Object → Type 0
-HeldAsDeclared table N notes objects = (i k : ℕ) (f : Field) → i < length objects → field_of table (nth_object objects i) k ≡ Some f
-    → is_available (nth_object objects i).state f ≡ true → SaysOf N (Some (declared_note f.of)) (field_cell notes objects i k)
+HeldAsDeclared table N notes objects = (i k : ℕ) (f : Field) → i < length objects
+    → field_of table (nth_object objects i) k ≡ Some f
+    → is_available (nth_object objects i).state f ≡ true
+    → SaysOf N (Some (declared_note f.of)) (field_cell notes objects i k)
 
 module _ (table : ClassTable) (conditions : IsClassTable table) (objects : List Object) (notes : Notes) (N : ℕ → Type 0)
-    (held : HeldAsDeclared table N notes objects) (has : (i : ℕ) → i < length objects → HasOwnFields table (nth_object objects i)) (n : ℕ) where
+    (held : HeldAsDeclared table N notes objects) (has : (i : ℕ) → i < length objects
+    → HasOwnFields table (nth_object objects i)) (n : ℕ) where
   -- the notes of a run that would begin from this store
   abbrev anew : Notes
   anew = first_notes table objects []
@@ -64,11 +69,14 @@ module _ (table : ClassTable) (conditions : IsClassTable table) (objects : List 
   field_with_value i k v below e =
       let own = has i below in
       let f = some_field (slice_get own.own.fields k)
-      (⊎_elim (λ y. y) (λ z. absurd (none-some v (sym (own.fields k z) ∙ e))) (cases_Bool (has_field own.own (nth_object objects i).state k))) in
-      let at : field_of table (nth_object objects i) k ≡ Some f.0 = ap (option_and_then (λ c. slice_get c.fields k)) own.contract ∙ f.1 in (
+      (⊎_elim (λ y. y) (λ z. absurd (none-some v (sym (own.fields k z) ∙ e)))
+      (cases_Bool (has_field own.own (nth_object objects i).state k))) in
+      let at : field_of table (nth_object objects i) k ≡ Some f.0 =
+      ap (option_and_then (λ c. slice_get c.fields k)) own.contract ∙ f.1 in (
         f.0,
         first_declared table objects [] i k f.0 below at,
-        subst (λ y. SaysOf N (Some (declared_note f.0.of)) (option_map {U = Cell} (λ v. record { value = v; note = notes.fields i k }) y)) e
+        subst (λ y. SaysOf N (Some (declared_note f.0.of)) (option_map {U =
+            Cell} (λ v. record { value = v; note = notes.fields i k }) y)) e
             (held i k f.0 below at f.2),
       )
     where
@@ -77,7 +85,8 @@ module _ (table : ClassTable) (conditions : IsClassTable table) (objects : List 
       some_field None e = absurd (true≢false (sym e))
       some_field (Some f) e = (f, refl, e)
 
-  cell_less_anew : (i k : ℕ) → i < length objects → in_cell owns n (field_cell anew objects i k) ≤ in_cell owns n (field_cell notes objects i k)
+  cell_less_anew : (i k : ℕ) → i < length objects → in_cell owns n (field_cell anew objects i k)
+      ≤ in_cell owns n (field_cell notes objects i k)
   cell_less_anew i k below = go ((nth_object objects i).fields k) refl
     where
       go : (v : Option Value) → (nth_object objects i).fields k ≡ v
@@ -86,7 +95,8 @@ module _ (table : ClassTable) (conditions : IsClassTable table) (objects : List 
       go (Some v) e = let f = field_with_value i k v below e in
           rw (e, f.1) (declared_less N f.0.of (record { value = v; note = notes.fields i k }) f.2 n)
 
-  cell_same_anew : N n → (i k : ℕ) → i < length objects → in_cell owns n (field_cell anew objects i k) ≡ in_cell owns n (field_cell notes objects i k)
+  cell_same_anew : N n → (i k : ℕ) → i < length objects → in_cell owns n (field_cell anew objects i k)
+      ≡ in_cell owns n (field_cell notes objects i k)
   cell_same_anew needs i k below = go ((nth_object objects i).fields k) refl
     where
       go : (v : Option Value) → (nth_object objects i).fields k ≡ v
@@ -101,7 +111,8 @@ module _ (table : ClassTable) (conditions : IsClassTable table) (objects : List 
     arith,
     objects_owning table conditions objects anew (first_declared table objects []) n has,
     sum_at_most (length objects) (λ i. in_fields owns n anew objects i) (λ i. in_fields owns n notes objects i)
-        (λ i below. sum_at_most fields_counted (λ k. in_cell owns n (field_cell anew objects i k)) (λ k. in_cell owns n (field_cell notes objects i k))
+        (λ i below. sum_at_most fields_counted (λ k. in_cell owns n (field_cell anew objects i k))
+        (λ k. in_cell owns n (field_cell notes objects i k))
         (λ k few. cell_less_anew i k below)),
   )
 
@@ -111,6 +122,7 @@ module _ (table : ClassTable) (conditions : IsClassTable table) (objects : List 
     arith,
     objects_owning table conditions objects anew (first_declared table objects []) n has,
     sum_same (length objects) (λ i. in_fields owns n anew objects i) (λ i. in_fields owns n notes objects i)
-        (λ i below. sum_same fields_counted (λ k. in_cell owns n (field_cell anew objects i k)) (λ k. in_cell owns n (field_cell notes objects i k))
+        (λ i below. sum_same fields_counted (λ k. in_cell owns n (field_cell anew objects i k))
+        (λ k. in_cell owns n (field_cell notes objects i k))
         (λ k few. cell_same_anew needs i k below)),
   )

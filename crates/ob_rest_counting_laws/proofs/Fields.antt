@@ -45,16 +45,19 @@ owning_one n None = 0
 owning_one n (Some r) = one_if (is_owned r.perm.mode && nat_eq r.object n)
 
 module _ (n : ℕ) where
-  pub owning_more : (r : FieldReference) (rs : List FieldReference) → owning n (r ∷ rs) ≡ owning_one n (Some r) + owning n rs
+  pub owning_more : (r : FieldReference) (rs : List FieldReference) → owning n (r ∷ rs)
+      ≡ owning_one n (Some r) + owning n rs
   owning_more r rs = go (nat_eq r.object n) (is_owned r.perm.mode) refl refl
     where
-      go : (a b : Bool) → nat_eq r.object n ≡ a → is_owned r.perm.mode ≡ b → owning n (r ∷ rs) ≡ owning_one n (Some r) + owning n rs
+      go : (a b : Bool) → nat_eq r.object n ≡ a → is_owned r.perm.mode ≡ b → owning n (r ∷ rs)
+          ≡ owning_one n (Some r) + owning n rs
       go true true e f = rw (e, f) (omega arith)
       go true false e f = rw (e, f) (omega arith)
       go false true e f = rw (e, f) (omega arith)
       go false false e f = rw (e, f) (omega arith)
 
-  owning_option : (o : Option FieldReference) (rs : List FieldReference) → owning n (cons_option o rs) ≡ owning_one n o + owning n rs
+  owning_option : (o : Option FieldReference) (rs : List FieldReference) → owning n (cons_option o rs)
+      ≡ owning_one n o + owning n rs
   owning_option None rs = omega arith
   owning_option (Some r) rs = owning_more r rs
 
@@ -69,7 +72,8 @@ module _ (n : ℕ) where
 
   -- a value of a declared type counts as its reference does
   value_counts : (holder k : ℕ) (of : ResolvedType) (v : Option Value)
-      → owning_one n (reference_of holder k of v) ≡ in_cell owns n (option_map {U = Cell} (λ v. record { value = v; note = declared_note of }) v)
+      → owning_one n (reference_of holder k of v) ≡ in_cell owns n
+      (option_map {U = Cell} (λ v. record { value = v; note = declared_note of }) v)
   value_counts holder k (Reference c p) (Some (reference m)) =
       ap (λ b. one_if (b && nat_eq m n)) (sym (owned_mode p.mode (states_of p.states)))
   value_counts holder k (Reference c p) (Some (int_value z)) =
@@ -88,21 +92,25 @@ module _ (n : ℕ) where
 
   -- what a field counts, by its value
   abbrev field_counts : (ℕ → Option Value) → ℕ → Field → ℕ
-  field_counts values k f = in_cell owns n (option_map {U = Cell} (λ v. record { value = v; note = declared_note f.of }) (values k))
+  field_counts values k f =
+      in_cell owns n (option_map {U = Cell} (λ v. record { value = v; note = declared_note f.of }) (values k))
 
   fields_counts : (holder : ℕ) (values : ℕ → Option Value) (i : ℕ) (fs : List Field)
-      → owning n (filter_map (λ (f : ℕ × Field). reference_of holder f.0 f.1.of (values f.0)) (enumerate_from i fs)) ≡ sum_each (field_counts values) i fs
+      → owning n (filter_map (λ (f : ℕ × Field). reference_of holder f.0 f.1.of (values f.0)) (enumerate_from i fs))
+      ≡ sum_each (field_counts values) i fs
   fields_counts holder values i [] = refl
   fields_counts holder values i (f ∷ fs) = omega (
     arith,
-    owning_option (reference_of holder i f.of (values i)) (filter_map (λ (f : ℕ × Field). reference_of holder f.0 f.1.of (values f.0)) (enumerate_from (i + 1) fs)),
+    owning_option (reference_of holder i f.of (values i))
+        (filter_map (λ (f : ℕ × Field). reference_of holder f.0 f.1.of (values f.0)) (enumerate_from (i + 1) fs)),
     value_counts holder i f.of (values i),
     fields_counts holder values (i + 1) fs,
   )
 
   -- references of all objects
   objects_counts : (refs : ℕ → Object → List FieldReference) (i : ℕ) (objects : List Object)
-      → owning n (flat_map (λ (o : ℕ × Object). refs o.0 o.1) (enumerate_from i objects)) ≡ sum_each (λ j o. owning n (refs j o)) i objects
+      → owning n (flat_map (λ (o : ℕ × Object). refs o.0 o.1) (enumerate_from i objects))
+      ≡ sum_each (λ j o. owning n (refs j o)) i objects
   objects_counts refs i [] = refl
   objects_counts refs i (o ∷ objects) = omega (
     arith,
@@ -120,67 +128,92 @@ pub record HasOwnFields (table : ClassTable) (o : Object) : Type 0 where
   pub contract : contract_at table o.contract ≡ Some own
   pub fields : (k : ℕ) → has_field own o.state k ≡ false → o.fields k ≡ None
 
-pub in_run_fields : (table : ClassTable) (notes : Notes) (n : ℕ) (o : Object) → IsObjectInRun table notes n o → HasOwnFields table o
+pub in_run_fields : (table : ClassTable) (notes : Notes) (n : ℕ) (o : Object) → IsObjectInRun table notes n o
+    → HasOwnFields table o
 in_run_fields table notes n o run = record { own = run.own; contract = run.contract; fields = run.fields }
 
-pub stored_fields : (table : ClassTable) (objects : List Object) (o : Object) → IsObject table objects o → HasOwnFields table o
+pub stored_fields : (table : ClassTable) (objects : List Object) (o : Object) → IsObject table objects o
+    → HasOwnFields table o
 stored_fields table objects o is = go (contract_at table o.contract) refl is
   where
     none_at : (x : Option Value) (b : Bool) → is_some x ≡ b → b ≡ false → x ≡ None
     none_at None b e f = refl
     none_at (Some v) b e f = absurd (true≢false (e ∙ f))
 
-    go : (c : Option Contract) → contract_at table o.contract ≡ c → IsSomeAnd c (λ c. IsObjectOf objects c o) → HasOwnFields table o
+    go : (c : Option Contract) → contract_at table o.contract ≡ c → IsSomeAnd c (λ c. IsObjectOf objects c o)
+        → HasOwnFields table o
     go None e s = absurd s
-    go (Some c) e s = record { own = c; contract = e; fields = λ k none. none_at (o.fields k) (has_field c o.state k) (s.fields k) none }
+    go (Some c) e s = record {
+      own = c;
+      contract = e;
+      fields =
+          λ k none. none_at (o.fields k) (has_field c o.state k) (s.fields k) none;
+    }
 
 -- notes are as fields are declared, where they have values
 abbrev pub AreDeclared : ClassTable → Notes → List Object → Type 0
-AreDeclared table notes objects = (n k : ℕ) (f : Field) → n < length objects → field_of table (nth_object objects n) k ≡ Some f
+AreDeclared table notes objects = (n k : ℕ) (f : Field) → n < length objects → field_of table (nth_object objects n) k
+    ≡ Some f
     → notes.fields n k ≡ declared_note f.of
 
 -- the notes with which a run begins
 pub first_declared : (table : ClassTable) (objects : List Object) (handles : List HandleNote)
     → AreDeclared table (first_notes table objects handles) objects
 first_declared table objects handles n k f below e =
-    ap (λ x. option_map_or (λ o. option_map_or (λ f. declared_note f.of) (field_of table o k) no_note) x no_note) (object_there objects n below)
+    ap (λ x. option_map_or (λ o. option_map_or (λ f. declared_note f.of) (field_of table o k) no_note) x no_note)
+    (object_there objects n below)
     ∙ ap (λ x. option_map_or (λ f. declared_note f.of) x no_note) e
 
-module _ (table : ClassTable) (conditions : IsClassTable table) (objects : List Object) (notes : Notes) (declared : AreDeclared table notes objects)
+module _ (table : ClassTable) (conditions : IsClassTable table) (objects : List Object) (notes : Notes)
+    (declared : AreDeclared table notes objects)
     (n : ℕ) where
   -- the references of an object
   pub object_owning : (i : ℕ) → i < length objects → HasOwnFields table (nth_object objects i)
       → owning n (references_of table i (nth_object objects i)) ≡ in_fields owns n notes objects i
   object_owning i there has =
-      ap (λ x. owning n (option_map_or (λ c. filter_map (λ f. reference_of i f.0 f.1.of (available_value c (nth_object objects i) f.0)) (enumerate_from 0 c.fields)) x []))
+      ap
+      (λ x. owning n (option_map_or (λ c. filter_map (λ f. reference_of i f.0 f.1.of
+      (available_value c (nth_object objects i) f.0)) (enumerate_from 0 c.fields)) x []))
       has.contract
       ∙ fields_counts n i (available_value has.own (nth_object objects i)) 0 has.own.fields
       ∙ sum_each_below (field_counts n (available_value has.own (nth_object objects i))) 0 has.own.fields
       ∙ sum_same (length has.own.fields) _ (λ k. in_cell owns n (field_cell notes objects i k)) inside
-      ∙ sym (sum_further fields_counted (length has.own.fields) (λ k. in_cell owns n (field_cell notes objects i k)) few outside)
+      ∙ sym (sum_further fields_counted (length has.own.fields) (λ k. in_cell owns n (field_cell notes objects i k))
+      few outside)
     where
       few : length has.own.fields ≤ fields_counted
-      few = fields_few (length has.own.fields) (contract_fields table conditions (nth_object objects i).contract has.own has.contract)
+      few = fields_few (length has.own.fields) (contract_fields table conditions
+          (nth_object objects i).contract has.own has.contract)
 
-      outside : (k : ℕ) → length has.own.fields ≤ k → k < fields_counted → in_cell owns n (field_cell notes objects i k) ≡ 0
+      outside : (k : ℕ) → length has.own.fields ≤ k → k < fields_counted
+          → in_cell owns n (field_cell notes objects i k) ≡ 0
       outside k past below = ap (in_cell owns n) (no_field_cell notes objects i k
-          (has.fields k (ap (λ x. option_map_or (is_available (nth_object objects i).state) x false) (slice_get_past has.own.fields k past))))
+          (has.fields k (ap (λ x. option_map_or (is_available (nth_object objects i).state) x false)
+          (slice_get_past has.own.fields k past))))
 
       value_is : (k : ℕ) → available_value has.own (nth_object objects i) k ≡ (nth_object objects i).fields k
-      value_is k = ⊎_elim (λ e. rw e refl) (λ e. rw e (sym (has.fields k e))) (cases_Bool (has_field has.own (nth_object objects i).state k))
+      value_is k = ⊎_elim (λ e. rw e refl) (λ e. rw e (sym (has.fields k e)))
+          (cases_Bool (has_field has.own (nth_object objects i).state k))
 
       at_field : (k : ℕ) (f : Field) → slice_get has.own.fields k ≡ Some f
-          → field_counts n (available_value has.own (nth_object objects i)) k f ≡ in_cell owns n (field_cell notes objects i k)
-      at_field k f e = ap (λ v. in_cell owns n (option_map {U = Cell} (λ v. record { value = v; note = declared_note f.of }) v)) (value_is k)
-          ∙ ap (λ y. in_cell owns n (option_map {U = Cell} (λ v. record { value = v; note = y }) ((nth_object objects i).fields k)))
+          → field_counts n (available_value has.own (nth_object objects i)) k f
+          ≡ in_cell owns n (field_cell notes objects i k)
+      at_field k f e =
+          ap (λ v. in_cell owns n (option_map {U = Cell} (λ v. record { value = v; note = declared_note f.of }) v))
+          (value_is k)
+          ∙ ap (λ y. in_cell owns n (option_map {U = Cell} (λ v. record { value = v; note = y })
+          ((nth_object objects i).fields k)))
           (sym (declared i k f there (ap (option_and_then (λ c. slice_get c.fields k)) has.contract ∙ e)))
 
       inside : (k : ℕ) → k < length has.own.fields
-          → option_map_or (field_counts n (available_value has.own (nth_object objects i)) (0 + k)) (slice_get has.own.fields k) 0
+          → option_map_or (field_counts n (available_value has.own (nth_object objects i)) (0 + k))
+          (slice_get has.own.fields k) 0
           ≡ in_cell owns n (field_cell notes objects i k)
       inside k below = ⊎_elim
-          (λ f. ap (λ x. option_map_or (field_counts n (available_value has.own (nth_object objects i)) (0 + k)) x 0) f.2
-          ∙ ap (λ j. field_counts n (available_value has.own (nth_object objects i)) j f.0) (let z : 0 + k ≡ k = omega arith in z) ∙ at_field k f.0 f.2)
+          (λ f. ap (λ x. option_map_or (field_counts n (available_value has.own (nth_object objects i)) (0 + k)) x 0)
+          f.2
+          ∙ ap (λ j. field_counts n (available_value has.own (nth_object objects i)) j f.0) (let z : 0 + k ≡ k =
+          omega arith in z) ∙ at_field k f.0 f.2)
           (λ past. absurd (omega (arith, past.0, below)))
           (slice_get_cases has.own.fields k).1
 
@@ -191,6 +224,7 @@ module _ (table : ClassTable) (conditions : IsClassTable table) (objects : List 
       objects_counts n (references_of table) 0 objects
       ∙ sum_each_below (λ j o. owning n (references_of table j o)) 0 objects
       ∙ sum_same (length objects) _ (λ i. in_fields owns n notes objects i)
-      (λ i below. ap (λ x. option_map_or (λ o. owning n (references_of table (0 + i) o)) x 0) (object_there objects i below)
+      (λ i below. ap (λ x. option_map_or (λ o. owning n (references_of table (0 + i) o)) x 0)
+      (object_there objects i below)
       ∙ ap (λ j. owning n (references_of table j (nth_object objects i))) (let z : 0 + i ≡ i = omega arith in z)
       ∙ object_owning i below (has i below))

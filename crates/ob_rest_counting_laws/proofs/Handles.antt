@@ -56,7 +56,8 @@ module _ (n : ℕ) where
   )
 
   -- and where those of which a test holds are lent, and carry no owner
-  pub handles_owning_but : (test : HandleName × Handle → Bool) (note : HandleName × Handle → HandleNote) (hs : List (HandleName × Handle))
+  pub handles_owning_but : (test : HandleName × Handle → Bool) (note : HandleName × Handle → HandleNote)
+      (hs : List (HandleName × Handle))
       → ((h : HandleName × Handle) → (note h).object ≡ h.1.object)
       → ((h : HandleName × Handle) → owns (note h).permission ≡ (is_owned h.1.mode && not (test h)))
       → in_handles owns n (map note hs) + owning_where test n hs ≡ owning_handles n hs
@@ -80,14 +81,17 @@ module _ (n : ℕ) where
 pub store_owners : (table : ClassTable) (content : Content) (n : ℕ)
     → owners table content n ≡ owning n (field_references table content.objects) + owning_handles n content.handles
 store_owners table content n =
-    ap length (filter_append (λ (r : IncomingReference). is_owned r.mode) (map incoming_by_field (fields_onto table content.objects n))
+    ap length (filter_append (λ (r : IncomingReference). is_owned r.mode)
+    (map incoming_by_field (fields_onto table content.objects n))
     (map incoming_by_handle (handles_onto content.handles n)))
-    ∙ length-append (filter (λ (r : IncomingReference). is_owned r.mode) (map incoming_by_field (fields_onto table content.objects n)))
+    ∙ length-append (filter (λ (r : IncomingReference). is_owned r.mode)
+    (map incoming_by_field (fields_onto table content.objects n)))
     (filter (λ (r : IncomingReference). is_owned r.mode) (map incoming_by_handle (handles_onto content.handles n)))
 
 -- a store counts its owning places as a run does, whose notes of fields are as they are declared
 pub store_owners_counted : (table : ClassTable) → IsClassTable table → (content : Content) (notes : Notes)
-    → AreDeclared table notes content.objects → ((i : ℕ) → i < length content.objects → HasOwnFields table (nth_object content.objects i))
+    → AreDeclared table notes content.objects → ((i : ℕ) → i < length content.objects
+    → HasOwnFields table (nth_object content.objects i))
     → (n : ℕ) → owners table content n ≡ in_objects owns n notes content.objects + owning_handles n content.handles
 store_owners_counted table conditions content notes declared has n =
     omega (arith, store_owners table content n, objects_owning table conditions content.objects notes declared n has)

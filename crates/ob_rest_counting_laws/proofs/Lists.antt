@@ -14,7 +14,11 @@ sum_first (suc n) f = let rest = sum_first n f in omega (arith, rest)
 pub sum_further : (n m : ℕ) (f : ℕ → ℕ) → m ≤ n → ((k : ℕ) → m ≤ k → k < n → f k ≡ 0) → sum_below n f ≡ sum_below m f
 sum_further zero m f le none = ap (λ i. sum_below i f) (let e : zero ≡ m = omega arith in e)
 sum_further (suc n) m f le none = ⊎_elim
-    (λ below. omega (arith, none n (omega arith) (omega arith), sum_further n m f (omega arith) (λ k from to. none k from (omega arith))))
+    (λ below. omega (
+      arith,
+      none n (omega arith) (omega arith),
+      sum_further n m f (omega arith) (λ k from to. none k from (omega arith)),
+    ))
     (λ above. ap (λ i. sum_below i f) (let e : suc n ≡ m = omega arith in e))
     (cases_lt m (suc n))
 
