@@ -2,3 +2,4 @@ pub mod Leaving
 pub mod Result
 pub mod Below
 pub mod Returned
+pub mod Resuming
