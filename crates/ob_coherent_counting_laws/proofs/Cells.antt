@@ -53,25 +53,30 @@ module _ (counts : Counted) (n : ℕ) where
 
   -- a cell of another value counts nothing
   pub cell_other : (x : Cell) → x.value ≢ reference n → in_cell counts n (Some x) ≡ 0
-  cell_other x other = ap one_if (and_right (counts x.note.permission) (refers_to n x.value) (no_reference n x.value other))
+  cell_other x other = ap one_if (and_right (counts x.note.permission) (refers_to n x.value)
+      (no_reference n x.value other))
 
   -- a cell that is no reference counts nothing
   pub cell_plain : (x : Cell) → referred x.value ≡ None → in_cell counts n (Some x) ≡ 0
-  cell_plain x plain = ap one_if (and_right (counts x.note.permission) (refers_to n x.value) (plain_refers n x.value plain))
+  cell_plain x plain = ap one_if (and_right (counts x.note.permission) (refers_to n x.value)
+      (plain_refers n x.value plain))
 
   -- a cell whose permission isn't counted counts nothing
   pub cell_uncounted : (x : Cell) → counts x.note.permission ≡ false → in_cell counts n (Some x) ≡ 0
   cell_uncounted x not = ap one_if (and_left (counts x.note.permission) (refers_to n x.value) not)
 
   -- a cell that is counted
-  pub cell_counted : (x : Cell) → counts x.note.permission ≡ true → x.value ≡ reference n → in_cell counts n (Some x) ≡ 1
+  pub cell_counted : (x : Cell) → counts x.note.permission ≡ true → x.value ≡ reference n → in_cell counts n (Some x)
+      ≡ 1
   cell_counted x so value = ap one_if (and_from (counts x.note.permission) (refers_to n x.value) so
       (ap (refers_to n) value ∙ refers_to_it n))
 
   -- what a cell has that counts
-  pub counted_cell : (x : Cell) → 0 < in_cell counts n (Some x) → (counts x.note.permission ≡ true) × (x.value ≡ reference n)
+  pub counted_cell : (x : Cell) → 0 < in_cell counts n (Some x) → (counts x.note.permission ≡ true)
+      × (x.value ≡ reference n)
   counted_cell x some =
-      let both = and_parts (counts x.note.permission) (refers_to n x.value) (one_if_true (is_counted counts n x) some) in
+      let both = and_parts (counts x.note.permission) (refers_to n x.value)
+      (one_if_true (is_counted counts n x) some) in
       (both.0, reference_of n x.value both.1)
 
   -- a place that counts has a cell
@@ -137,7 +142,8 @@ module _ (n : ℕ) where
   all_noted_refers p (Some x) = refl
 
 -- a place that counts for one object counts for no other
-pub counts_one : (counts more : Counted) (n m : ℕ) (x : Option Cell) → n ≢ m → 0 < in_cell counts n x → in_cell more m x ≡ 0
+pub counts_one : (counts more : Counted) (n m : ℕ) (x : Option Cell) → n ≢ m → 0 < in_cell counts n x
+    → in_cell more m x ≡ 0
 counts_one counts more n m None other some = refl
 counts_one counts more n m (Some x) other some =
     let r = counted_cell counts n x some in cell_other more m x (λ e. other (go (sym r.1 ∙ e)))

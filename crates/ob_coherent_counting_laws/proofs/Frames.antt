@@ -48,10 +48,19 @@ module _ (n : ℕ) where
   module _ (c d : Configuration) (stack : d.stack ≡ c.stack) (how : d.frame.how ≡ c.frame.how)
       (self : self_of d.frame.slots ≡ self_of c.frame.slots) where
     pub entries_same : entries n d ≡ entries n c
-    entries_same = omega (arith, entered_at_same c.frame.how d.frame.how c.frame.slots d.frame.slots how self, ap (entered_among n) stack)
+    entries_same = omega (
+      arith,
+      entered_at_same c.frame.how d.frame.how c.frame.slots d.frame.slots how self,
+      ap (entered_among n) stack,
+    )
 
     pub constructions_same : constructions n d ≡ constructions n c
-    constructions_same = omega (arith, constructing_at_same c.frame.how d.frame.how c.frame.slots d.frame.slots how self, ap (constructing_among n) stack)
+    constructions_same =
+        omega (
+          arith,
+          constructing_at_same c.frame.how d.frame.how c.frame.slots d.frame.slots how self,
+          ap (constructing_among n) stack,
+        )
 
     -- and with the same lists around
     pub open_tests_same : around d.control ≡ around c.control → open_tests n d ≡ open_tests n c
@@ -81,7 +90,8 @@ module _ (n : ℕ) where
       → entered_at n h.frame.how h.frame.slots ≤ entered_among n hs
   entered_of [] i h is = absurd (none-some h is)
   entered_of (g ∷ hs) zero h is =
-      subst (λ (x : Waiting). entered_at n x.frame.how x.frame.slots ≤ entered_at n g.frame.how g.frame.slots + entered_among n hs)
+      subst (λ (x : Waiting). entered_at n x.frame.how x.frame.slots
+      ≤ entered_at n g.frame.how g.frame.slots + entered_among n hs)
       (same_Some g h is) (omega arith)
   entered_of (g ∷ hs) (suc i) h is = omega (arith, entered_of hs i h is)
 
@@ -89,7 +99,8 @@ module _ (n : ℕ) where
       → constructing_at n h.frame.how h.frame.slots ≤ constructing_among n hs
   constructing_of [] i h is = absurd (none-some h is)
   constructing_of (g ∷ hs) zero h is =
-      subst (λ (x : Waiting). constructing_at n x.frame.how x.frame.slots ≤ constructing_at n g.frame.how g.frame.slots + constructing_among n hs)
+      subst (λ (x : Waiting). constructing_at n x.frame.how x.frame.slots
+      ≤ constructing_at n g.frame.how g.frame.slots + constructing_among n hs)
       (same_Some g h is) (omega arith)
   constructing_of (g ∷ hs) (suc i) h is = omega (arith, constructing_of hs i h is)
 
@@ -111,10 +122,12 @@ module _ (n : ℕ) where
 
 -- A frame of an object.
 
-pub entered_here : (n : ℕ) (how : How) (slots : SlotCells) → how ≡ by_receiver → self_of slots ≡ n → entered_at n how slots ≡ 1
+pub entered_here : (n : ℕ) (how : How) (slots : SlotCells) → how ≡ by_receiver → self_of slots
+    ≡ n → entered_at n how slots ≡ 1
 entered_here n how slots e self = rw (e, self) (one_same n)
 
-pub entered_by : (n : ℕ) (how : How) (slots : SlotCells) → 0 < entered_at n how slots → (how ≡ by_receiver) × (self_of slots ≡ n)
+pub entered_by : (n : ℕ) (how : How) (slots : SlotCells) → 0 < entered_at n how slots → (how ≡ by_receiver)
+    × (self_of slots ≡ n)
 entered_by n by_receiver slots some = (refl, one_of (self_of slots) n some)
 entered_by n by_this slots some = absurd (omega arith)
 entered_by n by_new slots some = absurd (omega arith)
@@ -124,10 +137,12 @@ entered_other n by_receiver slots other = one_other (self_of slots) n other
 entered_other n by_this slots other = refl
 entered_other n by_new slots other = refl
 
-pub constructing_here : (n : ℕ) (how : How) (slots : SlotCells) → how ≡ by_new → self_of slots ≡ n → constructing_at n how slots ≡ 1
+pub constructing_here : (n : ℕ) (how : How) (slots : SlotCells) → how ≡ by_new → self_of slots
+    ≡ n → constructing_at n how slots ≡ 1
 constructing_here n how slots e self = rw (e, self) (one_same n)
 
-pub constructing_by : (n : ℕ) (how : How) (slots : SlotCells) → 0 < constructing_at n how slots → (how ≡ by_new) × (self_of slots ≡ n)
+pub constructing_by : (n : ℕ) (how : How) (slots : SlotCells) → 0 < constructing_at n how slots → (how ≡ by_new)
+    × (self_of slots ≡ n)
 constructing_by n by_receiver slots some = absurd (omega arith)
 constructing_by n by_this slots some = absurd (omega arith)
 constructing_by n by_new slots some = (refl, one_of (self_of slots) n some)
@@ -152,4 +167,5 @@ tests_other n slots outer other = ap (λ m. tests_around m outer) (one_other (se
 
 -- the object of a test of `this`
 pub tested_self : (n : ℕ) (slots : SlotCells) (outer : List Rest) → 0 < tests_in n slots outer → self_of slots ≡ n
-tested_self n slots outer some = ⊎_elim (λ e. e.1) (λ e. absurd (omega (arith, tests_other n slots outer e.1))) (eqb_tells (self_of slots) n)
+tested_self n slots outer some = ⊎_elim (λ e. e.1) (λ e. absurd (omega (arith, tests_other n slots outer e.1)))
+    (eqb_tells (self_of slots) n)

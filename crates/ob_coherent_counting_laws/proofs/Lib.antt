@@ -8,3 +8,9 @@ pub mod Writing
 pub mod Whole
 pub mod Frames
 pub mod NextNumber
+pub mod Low
+pub mod Permitting
+pub mod Testing
+pub mod Lending
+pub mod Entering
+pub mod Changing

@@ -79,8 +79,10 @@ edit_marks f n w marks = record {
   contract = edit_keeps f n w (λ o. o.contract) marks.contract;
   state = edit_keeps f n w (λ o. o.state) marks.state;
   fields = edit_keeps f n w (λ o. o.fields) marks.fields;
-  shared = λ m e. ⊎_elim (λ same. ap (λ o. o.shared) same ∙ e) (λ p. ap (λ o. o.shared) p.2 ∙ marks.shared _ e) (edit_either f n w m);
-  disowned = λ m e. ⊎_elim (λ same. ap (λ o. o.disowned) same ∙ e) (λ p. ap (λ o. o.disowned) p.2 ∙ marks.disowned _ e) (edit_either f n w m);
+  shared = λ m e. ⊎_elim (λ same. ap (λ o. o.shared) same ∙ e) (λ p. ap (λ o. o.shared) p.2 ∙ marks.shared _ e)
+      (edit_either f n w m);
+  disowned = λ m e. ⊎_elim (λ same. ap (λ o. o.disowned) same ∙ e) (λ p. ap (λ o. o.disowned) p.2 ∙ marks.disowned _ e)
+      (edit_either f n w m);
   locked = edit_locked f n w;
   progress = edit_progress f n w;
 }
@@ -93,10 +95,24 @@ abbrev pub as_disowned : Object → Object
 as_disowned o = record o { disowned = true }
 
 pub shared_marks : Marks as_shared
-shared_marks = record { contract = λ o. refl; state = λ o. refl; fields = λ o. refl; shared = λ o e. refl; disowned = λ o e. e }
+shared_marks = record {
+  contract = λ o. refl;
+  state = λ o. refl;
+  fields = λ o. refl;
+  shared = λ o e. refl;
+  disowned =
+      λ o e. e;
+}
 
 pub disowned_marks : Marks as_disowned
-disowned_marks = record { contract = λ o. refl; state = λ o. refl; fields = λ o. refl; shared = λ o e. e; disowned = λ o e. refl }
+disowned_marks = record {
+  contract = λ o. refl;
+  state = λ o. refl;
+  fields = λ o. refl;
+  shared = λ o e. e;
+  disowned =
+      λ o e. refl;
+}
 
 -- An object is marked as shared.
 
@@ -104,33 +120,39 @@ module _ (n : ℕ) (w : World) where
   -- where it has the mark it is read alone
   pub shared_either : (mark_shared n w ≡ read_object w n)
       ⊎ (mark_shared n w ≡ edit_object as_shared n (read_object w n))
-  shared_either = ⊎_elim (λ e. inl (rw e refl)) (λ e. inr (rw e refl)) (cases_Bool (has_mark (λ o. o.shared) (read_object w n) n))
+  shared_either = ⊎_elim (λ e. inl (rw e refl)) (λ e. inr (rw e refl))
+      (cases_Bool (has_mark (λ o. o.shared) (read_object w n) n))
 
   pub mark_shared_keeps : Keeps w (mark_shared n w)
   mark_shared_keeps = ⊎_elim
       (λ e. subst (Keeps w) (sym e) (read_keeps w n))
-      (λ e. subst (Keeps w) (sym e) (keeps_then w (read_object w n) (edit_object as_shared n (read_object w n)) (read_keeps w n)
+      (λ e. subst (Keeps w) (sym e) (keeps_then w (read_object w n) (edit_object as_shared n (read_object w n))
+      (read_keeps w n)
       (edit_marks as_shared n (read_object w n) shared_marks)))
       shared_either
 
   pub mark_shared_other : (m : ℕ) → m ≢ n → nth_object (mark_shared n w).objects m ≡ nth_object w.objects m
   mark_shared_other m other = ⊎_elim
       (λ e. ap (λ v. nth_object v.objects m) e ∙ ap (λ l. nth_object l m) (read_objects w n))
-      (λ e. ap (λ v. nth_object v.objects m) e ∙ edit_other as_shared n (read_object w n) m other ∙ ap (λ l. nth_object l m) (read_objects w n))
+      (λ e. ap (λ v. nth_object v.objects m) e ∙ edit_other as_shared n (read_object w n) m other
+      ∙ ap (λ l. nth_object l m) (read_objects w n))
       shared_either
 
-  pub mark_shared_disowned : (m : ℕ) → (nth_object (mark_shared n w).objects m).disowned ≡ (nth_object w.objects m).disowned
+  pub mark_shared_disowned : (m : ℕ) → (nth_object (mark_shared n w).objects m).disowned
+      ≡ (nth_object w.objects m).disowned
   mark_shared_disowned m = ⊎_elim
       (λ e. ap (λ v. (nth_object v.objects m).disowned) e ∙ ap (λ l. (nth_object l m).disowned) (read_objects w n))
       (λ e. ap (λ v. (nth_object v.objects m).disowned) e
-      ∙ edit_keeps as_shared n (read_object w n) (λ o. o.disowned) (λ o. refl) m ∙ ap (λ l. (nth_object l m).disowned) (read_objects w n))
+      ∙ edit_keeps as_shared n (read_object w n) (λ o. o.disowned) (λ o. refl) m
+      ∙ ap (λ l. (nth_object l m).disowned) (read_objects w n))
       shared_either
 
   pub mark_shared_there : n < length w.objects → (nth_object (mark_shared n w).objects n).shared ≡ true
   mark_shared_there below = ⊎_elim
       (λ e. rw e (ap (λ x. option_map_or (λ o. o.shared) x true)
       (sym (object_there (read_object w n).objects n (omega (arith, below, ap length (read_objects w n))))) ∙ e))
-      (λ e. rw e (ap (λ o. o.shared) (edit_same as_shared n (read_object w n) (omega (arith, below, ap length (read_objects w n))))))
+      (λ e. rw e (ap (λ o. o.shared) (edit_same as_shared n (read_object w n)
+      (omega (arith, below, ap length (read_objects w n))))))
       (cases_Bool (has_mark (λ o. o.shared) (read_object w n) n))
 
 -- An object is marked as disowned.
@@ -138,40 +160,47 @@ module _ (n : ℕ) (w : World) where
 module _ (n : ℕ) (w : World) where
   pub disowned_either : (mark_disowned n w ≡ read_object w n)
       ⊎ (mark_disowned n w ≡ edit_object as_disowned n (read_object w n))
-  disowned_either = ⊎_elim (λ e. inl (rw e refl)) (λ e. inr (rw e refl)) (cases_Bool (has_mark (λ o. o.disowned) (read_object w n) n))
+  disowned_either = ⊎_elim (λ e. inl (rw e refl)) (λ e. inr (rw e refl))
+      (cases_Bool (has_mark (λ o. o.disowned) (read_object w n) n))
 
   pub mark_disowned_keeps : Keeps w (mark_disowned n w)
   mark_disowned_keeps = ⊎_elim
       (λ e. subst (Keeps w) (sym e) (read_keeps w n))
-      (λ e. subst (Keeps w) (sym e) (keeps_then w (read_object w n) (edit_object as_disowned n (read_object w n)) (read_keeps w n)
+      (λ e. subst (Keeps w) (sym e) (keeps_then w (read_object w n) (edit_object as_disowned n (read_object w n))
+      (read_keeps w n)
       (edit_marks as_disowned n (read_object w n) disowned_marks)))
       disowned_either
 
   pub mark_disowned_other : (m : ℕ) → m ≢ n → nth_object (mark_disowned n w).objects m ≡ nth_object w.objects m
   mark_disowned_other m other = ⊎_elim
       (λ e. ap (λ v. nth_object v.objects m) e ∙ ap (λ l. nth_object l m) (read_objects w n))
-      (λ e. ap (λ v. nth_object v.objects m) e ∙ edit_other as_disowned n (read_object w n) m other ∙ ap (λ l. nth_object l m) (read_objects w n))
+      (λ e. ap (λ v. nth_object v.objects m) e ∙ edit_other as_disowned n (read_object w n) m other
+      ∙ ap (λ l. nth_object l m) (read_objects w n))
       disowned_either
 
-  pub mark_disowned_shared : (m : ℕ) → (nth_object (mark_disowned n w).objects m).shared ≡ (nth_object w.objects m).shared
+  pub mark_disowned_shared : (m : ℕ) → (nth_object (mark_disowned n w).objects m).shared
+      ≡ (nth_object w.objects m).shared
   mark_disowned_shared m = ⊎_elim
       (λ e. ap (λ v. (nth_object v.objects m).shared) e ∙ ap (λ l. (nth_object l m).shared) (read_objects w n))
       (λ e. ap (λ v. (nth_object v.objects m).shared) e
-      ∙ edit_keeps as_disowned n (read_object w n) (λ o. o.shared) (λ o. refl) m ∙ ap (λ l. (nth_object l m).shared) (read_objects w n))
+      ∙ edit_keeps as_disowned n (read_object w n) (λ o. o.shared) (λ o. refl) m
+      ∙ ap (λ l. (nth_object l m).shared) (read_objects w n))
       disowned_either
 
   pub mark_disowned_there : n < length w.objects → (nth_object (mark_disowned n w).objects n).disowned ≡ true
   mark_disowned_there below = ⊎_elim
       (λ e. rw e (ap (λ x. option_map_or (λ o. o.disowned) x true)
       (sym (object_there (read_object w n).objects n (omega (arith, below, ap length (read_objects w n))))) ∙ e))
-      (λ e. rw e (ap (λ o. o.disowned) (edit_same as_disowned n (read_object w n) (omega (arith, below, ap length (read_objects w n))))))
+      (λ e. rw e (ap (λ o. o.disowned) (edit_same as_disowned n (read_object w n)
+      (omega (arith, below, ap length (read_objects w n))))))
       (cases_Bool (has_mark (λ o. o.disowned) (read_object w n) n))
 
 -- A value comes into a place.
 
 pub comes_keeps : (of : ResolvedType) (v : Value) (w : World) → Keeps w (comes_into of v w)
 comes_keeps (Reference id p) (reference n) w = ⊎_elim
-    (λ e. rw e (mark_shared_keeps n w)) (λ e. rw e (keeps_all w w refl refl refl)) (cases_Bool (is_shared (permission_of p)))
+    (λ e. rw e (mark_shared_keeps n w)) (λ e. rw e (keeps_all w w refl refl refl))
+    (cases_Bool (is_shared (permission_of p)))
 comes_keeps (Reference id p) (int_value z) w = keeps_all w w refl refl refl
 comes_keeps (Reference id p) (bool_value b) w = keeps_all w w refl refl refl
 comes_keeps (Reference id p) (text_value bytes) w = keeps_all w w refl refl refl
@@ -183,7 +212,8 @@ comes_keeps Text v w = keeps_all w w refl refl refl
 pub comes_other : (of : ResolvedType) (v : Value) (w : World) (m : ℕ) → v ≢ reference m
     → nth_object (comes_into of v w).objects m ≡ nth_object w.objects m
 comes_other (Reference id p) (reference n) w m other = ⊎_elim
-    (λ e. rw e (mark_shared_other n w m (λ z. other (ap reference (sym z))))) (λ e. rw e refl) (cases_Bool (is_shared (permission_of p)))
+    (λ e. rw e (mark_shared_other n w m (λ z. other (ap reference (sym z))))) (λ e. rw e refl)
+    (cases_Bool (is_shared (permission_of p)))
 comes_other (Reference id p) (int_value z) w m other = refl
 comes_other (Reference id p) (bool_value b) w m other = refl
 comes_other (Reference id p) (text_value bytes) w m other = refl
@@ -203,16 +233,19 @@ comes_disowned BoolKind v w m = refl
 comes_disowned Text v w m = refl
 
 -- a reference in a place declared Shared marks its object
-pub comes_shared : (id : ContractId) (p : Perm) (n : ℕ) (w : World) → is_shared (permission_of p) ≡ true → n < length w.objects
+pub comes_shared : (id : ContractId) (p : Perm) (n : ℕ) (w : World) → is_shared (permission_of p)
+    ≡ true → n < length w.objects
     → (nth_object (comes_into (Reference id p) (reference n) w).objects n).shared ≡ true
 comes_shared id p n w e below = rw e (mark_shared_there n w below)
 
 -- where an object is marked so, the place was declared Shared
 pub comes_newly_shared : (of : ResolvedType) (v : Value) (w : World) (m : ℕ) → (nth_object w.objects m).shared ≡ false
-    → (nth_object (comes_into of v w).objects m).shared ≡ true → (v ≡ reference m) × (is_shared (permission_of_type of) ≡ true)
+    → (nth_object (comes_into of v w).objects m).shared ≡ true → (v ≡ reference m)
+    × (is_shared (permission_of_type of) ≡ true)
 comes_newly_shared (Reference id p) (reference n) w m unmarked marked = ⊎_elim
     (λ e. ⊎_elim (λ same. (ap reference (sym same.1), e))
-    (λ other. absurd (true≢false (sym marked ∙ ap (λ o. o.shared) (comes_other (Reference id p) (reference n) w m (λ z. other.1 (go z))) ∙ unmarked)))
+    (λ other. absurd (true≢false (sym marked ∙ ap (λ o. o.shared)
+    (comes_other (Reference id p) (reference n) w m (λ z. other.1 (go z))) ∙ unmarked)))
     (eqb_tells m n))
     (λ e. absurd (true≢false (sym marked ∙ rw e unmarked))) (cases_Bool (is_shared (permission_of p)))
   where

@@ -20,7 +20,8 @@ use Rattle.ob_coherent_counting_laws.proofs.Places.{no_slots, no_objects, all_re
 use Rattle.ob_coherent_counting_laws.proofs.Numbers.{one_other}
 
 -- a reference of a kind is to an object that is there
-pub refers_there : (table : ClassTable) (objects : List Object) (kind : Kind) (n : ℕ) → IsOfKind table objects kind (reference n)
+pub refers_there : (table : ClassTable) (objects : List Object) (kind : Kind) (n : ℕ)
+    → IsOfKind table objects kind (reference n)
     → n < length objects
 refers_there table objects Int n of = absurd of
 refers_there table objects BoolKind n of = absurd of
@@ -28,7 +29,8 @@ refers_there table objects Text n of = absurd of
 refers_there table objects (Reference id) n of = of.0
 
 -- a cell that stands refers to an object that is there
-pub stands_there : (table : ClassTable) (objects : List Object) (x : Cell) (n : ℕ) → Stands table objects x → x.value ≡ reference n
+pub stands_there : (table : ClassTable) (objects : List Object) (x : Cell) (n : ℕ) → Stands table objects x → x.value
+    ≡ reference n
     → n < length objects
 stands_there table objects x n stands value =
     refers_there table objects x.note.kind n (subst (IsOfKind table objects x.note.kind) value stands.kind)
@@ -45,8 +47,10 @@ module _ (table : ClassTable) (objects : List Object) (n : ℕ) (past : length o
   pub slots_past : (slots : SlotCells) → AllStand table objects slots → in_slots any n slots ≡ 0
   slots_past slots stand = no_slots any n slots (λ k. cell_past (slots k) (stand k))
 
-  pub objects_past : (notes : Notes) → ((i : ℕ) → AllStand table objects (field_cell notes objects i)) → in_objects any n notes objects ≡ 0
-  objects_past notes stand = no_objects any n notes objects (λ i k. cell_past (field_cell notes objects i k) (stand i k))
+  pub objects_past : (notes : Notes) → ((i : ℕ) → AllStand table objects (field_cell notes objects i))
+      → in_objects any n notes objects ≡ 0
+  objects_past notes stand = no_objects any n notes objects
+      (λ i k. cell_past (field_cell notes objects i k) (stand i k))
 
   pub handles_past : (hs : List HandleNote) → HandlesStand objects hs → in_handles any n hs ≡ 0
   handles_past [] stand = refl
@@ -61,12 +65,14 @@ module _ (table : ClassTable) (objects : List Object) (n : ℕ) (past : length o
       omega (
         arith,
         slots_past h.frame.slots (subst (λ l. AllStand table l h.frame.slots) same waits.0.cells),
-        waiting_past N c same h.frame waits.0.parts (self_of h.frame.slots ∷ above) (λ n. tests_of n h.frame.slots h.outer + tests n) hs waits.1,
+        waiting_past N c same h.frame waits.0.parts (self_of h.frame.slots ∷ above)
+            (λ n. tests_of n h.frame.slots h.outer + tests n) hs waits.1,
       )
 
 -- Nothing refers to the next object, or owns it.
 
-module _ (table : ClassTable) (entry : Option ℕ) (beginning : Beginning) (c : Configuration) (holds : Holds table entry beginning c)
+module _ (table : ClassTable) (entry : Option ℕ) (beginning : Beginning) (c : Configuration)
+    (holds : Holds table entry beginning c)
     (n : ℕ) (past : length c.world.objects ≤ n) where
   pub references_past : in_control any n c.control ≡ 0 → references n c ≡ 0
   references_past none = omega (
@@ -75,7 +81,8 @@ module _ (table : ClassTable) (entry : Option ℕ) (beginning : Beginning) (c : 
     slots_past table c.world.objects n past c.frame.slots holds.slots,
     objects_past table c.world.objects n past c.notes holds.fields,
     handles_past table c.world.objects n past c.notes.handles holds.handles,
-    waiting_past table c.world.objects n past (NeedsOwner table c.world.objects) c refl c.frame holds.parts (self_of c.frame.slots ∷ [])
+    waiting_past table c.world.objects n past (NeedsOwner table c.world.objects) c refl c.frame holds.parts
+        (self_of c.frame.slots ∷ [])
         (λ n. tests_of n c.frame.slots (around c.control)) c.stack holds.waiting,
   )
 

@@ -27,7 +27,8 @@ module _ (counts : Counted) (n : ℕ) where
   slots_same slots more same = sum_same most_slots _ _ (λ k below. same k)
 
   -- slots that are the same but for one
-  pub slots_but_one : (slots more : SlotCells) (k : ℕ) → k < most_slots → ((i : ℕ) → i ≢ k → in_cell counts n (slots i) ≡ in_cell counts n (more i))
+  pub slots_but_one : (slots more : SlotCells) (k : ℕ) → k < most_slots
+      → ((i : ℕ) → i ≢ k → in_cell counts n (slots i) ≡ in_cell counts n (more i))
       → in_slots counts n slots + in_cell counts n (more k) ≡ in_slots counts n more + in_cell counts n (slots k)
   slots_but_one slots more k below same = sum_but_one most_slots k _ _ below (λ i less other. same i other)
 
@@ -41,7 +42,8 @@ module _ (counts : Counted) (n : ℕ) where
   pub no_slots : (slots : SlotCells) → ((k : ℕ) → in_cell counts n (slots k) ≡ 0) → in_slots counts n slots ≡ 0
   no_slots slots none = sum_zero most_slots _ (λ k below. none k)
 
-  pub slot_of : (slots : SlotCells) → 0 < in_slots counts n slots → (k : ℕ) × (k < most_slots) × (0 < in_cell counts n (slots k))
+  pub slot_of : (slots : SlotCells) → 0 < in_slots counts n slots → (k : ℕ) × (k < most_slots)
+      × (0 < in_cell counts n (slots k))
   slot_of slots some = term_of most_slots (λ i. in_cell counts n (slots i)) some
 
 -- Fields and objects.
@@ -59,21 +61,27 @@ module _ (counts : Counted) (n : ℕ) where
 
   -- fields of an object that are the same but for one
   pub fields_but_one : (notes more : Notes) (objects others : List Object) (i k : ℕ) → k < fields_counted
-      → ((j : ℕ) → j ≢ k → in_cell counts n (field_cell notes objects i j) ≡ in_cell counts n (field_cell more others i j))
+      → ((j : ℕ) → j ≢ k → in_cell counts n (field_cell notes objects i j)
+      ≡ in_cell counts n (field_cell more others i j))
       → in_fields counts n notes objects i + in_cell counts n (field_cell more others i k)
       ≡ in_fields counts n more others i + in_cell counts n (field_cell notes objects i k)
-  fields_but_one notes more objects others i k below same = sum_but_one fields_counted k _ _ below (λ j less other. same j other)
+  fields_but_one notes more objects others i k below same =
+      sum_but_one fields_counted k _ _ below (λ j less other. same j other)
 
   pub in_field : (notes : Notes) (objects : List Object) (i k : ℕ) → k < fields_counted
       → in_cell counts n (field_cell notes objects i k) ≤ in_fields counts n notes objects i
-  in_field notes objects i k below = term_at_most fields_counted (λ k. in_cell counts n (field_cell notes objects i k)) k below
+  in_field notes objects i k below = term_at_most fields_counted (λ k. in_cell counts n (field_cell notes objects i k))
+      k below
 
-  pub in_two_fields : (notes : Notes) (objects : List Object) (i j k : ℕ) → j < fields_counted → k < fields_counted → j ≢ k
-      → in_cell counts n (field_cell notes objects i j) + in_cell counts n (field_cell notes objects i k) ≤ in_fields counts n notes objects i
+  pub in_two_fields : (notes : Notes) (objects : List Object) (i j k : ℕ) → j < fields_counted → k < fields_counted
+      → j ≢ k
+      → in_cell counts n (field_cell notes objects i j) + in_cell counts n (field_cell notes objects i k)
+      ≤ in_fields counts n notes objects i
   in_two_fields notes objects i j k bj bk other =
       terms_at_most fields_counted (λ k. in_cell counts n (field_cell notes objects i k)) j k bj bk other
 
-  pub no_fields : (notes : Notes) (objects : List Object) (i : ℕ) → ((k : ℕ) → in_cell counts n (field_cell notes objects i k) ≡ 0)
+  pub no_fields : (notes : Notes) (objects : List Object) (i : ℕ)
+      → ((k : ℕ) → in_cell counts n (field_cell notes objects i k) ≡ 0)
       → in_fields counts n notes objects i ≡ 0
   no_fields notes objects i none = sum_zero fields_counted _ (λ k below. none k)
 
@@ -82,16 +90,21 @@ module _ (counts : Counted) (n : ℕ) where
   field_with notes objects i some = term_of fields_counted (λ k. in_cell counts n (field_cell notes objects i k)) some
 
   -- where there is no object no field counts
-  pub past_fields : (notes : Notes) (objects : List Object) (i : ℕ) → length objects ≤ i → in_fields counts n notes objects i ≡ 0
-  past_fields notes objects i past = no_fields notes objects i (λ k. ap (in_cell counts n) (no_field_cell notes objects i k (ap (λ o. o.fields k) (no_object objects i past))))
+  pub past_fields : (notes : Notes) (objects : List Object) (i : ℕ) → length objects ≤ i
+      → in_fields counts n notes objects i ≡ 0
+  past_fields notes objects i past =
+      no_fields notes objects i (λ k. ap (in_cell counts n)
+      (no_field_cell notes objects i k (ap (λ o. o.fields k) (no_object objects i past))))
 
   pub in_object : (notes : Notes) (objects : List Object) (i : ℕ) → i < length objects
       → in_fields counts n notes objects i ≤ in_objects counts n notes objects
   in_object notes objects i below = term_at_most (length objects) (λ i. in_fields counts n notes objects i) i below
 
-  pub in_two_objects : (notes : Notes) (objects : List Object) (i j : ℕ) → i < length objects → j < length objects → i ≢ j
+  pub in_two_objects : (notes : Notes) (objects : List Object) (i j : ℕ) → i < length objects → j < length objects
+      → i ≢ j
       → in_fields counts n notes objects i + in_fields counts n notes objects j ≤ in_objects counts n notes objects
-  in_two_objects notes objects i j bi bj other = terms_at_most (length objects) (λ i. in_fields counts n notes objects i) i j bi bj other
+  in_two_objects notes objects i j bi bj other =
+      terms_at_most (length objects) (λ i. in_fields counts n notes objects i) i j bi bj other
 
   -- a field of any object is among them
   pub in_field_of : (notes : Notes) (objects : List Object) (i k : ℕ) → k < fields_counted
@@ -101,7 +114,8 @@ module _ (counts : Counted) (n : ℕ) where
       (λ past. omega (arith, in_field notes objects i k below, past_fields notes objects i past))
       (cases_lt i (length objects))
 
-  pub no_objects : (notes : Notes) (objects : List Object) → ((i k : ℕ) → in_cell counts n (field_cell notes objects i k) ≡ 0)
+  pub no_objects : (notes : Notes) (objects : List Object)
+      → ((i k : ℕ) → in_cell counts n (field_cell notes objects i k) ≡ 0)
       → in_objects counts n notes objects ≡ 0
   no_objects notes objects none = sum_zero (length objects) _ (λ i below. no_fields notes objects i (none i))
 
@@ -118,20 +132,27 @@ module _ (counts : Counted) (n : ℕ) where
       ∙ sum_same (length others) _ _ (λ i below. fields_same notes more objects others i i (same i))
 
   -- the fields of one object differ
-  pub objects_but_one : (notes more : Notes) (objects others : List Object) (i : ℕ) → length objects ≡ length others → i < length objects
-      → ((j k : ℕ) → j ≢ i → in_cell counts n (field_cell notes objects j k) ≡ in_cell counts n (field_cell more others j k))
+  pub objects_but_one : (notes more : Notes) (objects others : List Object) (i : ℕ) → length objects
+      ≡ length others → i < length objects
+      → ((j k : ℕ) → j ≢ i → in_cell counts n (field_cell notes objects j k)
+      ≡ in_cell counts n (field_cell more others j k))
       → in_objects counts n notes objects + in_fields counts n more others i
       ≡ in_objects counts n more others + in_fields counts n notes objects i
   objects_but_one notes more objects others i long below same =
-      subst (λ m. sum_below (length objects) (λ i. in_fields counts n notes objects i) + in_fields counts n more others i
+      subst (λ m. sum_below (length objects) (λ i. in_fields counts n notes objects i) + in_fields counts n more others
+      i
       ≡ sum_below m (λ i. in_fields counts n more others i) + in_fields counts n notes objects i) long
-      (sum_but_one (length objects) i _ _ below (λ j less other. fields_same notes more objects others j j (λ k. same j k other)))
+      (sum_but_one (length objects) i _ _ below (λ j less other. fields_same notes more objects others j j
+      (λ k. same j k other)))
 
   -- one field of one object differs
-  pub objects_but_one_field : (notes more : Notes) (objects others : List Object) (i k : ℕ) → length objects ≡ length others
+  pub objects_but_one_field : (notes more : Notes) (objects others : List Object) (i k : ℕ) → length objects
+      ≡ length others
       → i < length objects → k < fields_counted
-      → ((j l : ℕ) → j ≢ i → in_cell counts n (field_cell notes objects j l) ≡ in_cell counts n (field_cell more others j l))
-      → ((l : ℕ) → l ≢ k → in_cell counts n (field_cell notes objects i l) ≡ in_cell counts n (field_cell more others i l))
+      → ((j l : ℕ) → j ≢ i → in_cell counts n (field_cell notes objects j l)
+      ≡ in_cell counts n (field_cell more others j l))
+      → ((l : ℕ) → l ≢ k → in_cell counts n (field_cell notes objects i l)
+      ≡ in_cell counts n (field_cell more others i l))
       → in_objects counts n notes objects + in_cell counts n (field_cell more others i k)
       ≡ in_objects counts n more others + in_cell counts n (field_cell notes objects i k)
   objects_but_one_field notes more objects others i k long below few other_objects other_fields =
@@ -147,16 +168,19 @@ module _ (counts : Counted) (n : ℕ) where
       + in_cell counts n (field_cell notes w.objects i k)
       ≡ in_objects counts n notes w.objects + in_cell counts n (Some x)
   objects_set_field notes w i k x below few =
-      subst (λ y. in_objects counts n (with_field_note notes i k x.note) (edit_object (with_field k x.value) i w).objects
+      subst (λ y. in_objects counts n (with_field_note notes i k x.note)
+      (edit_object (with_field k x.value) i w).objects
       + in_cell counts n (field_cell notes w.objects i k) ≡ in_objects counts n notes w.objects + in_cell counts n y)
       (set_field_same notes w i k x below)
-      (objects_but_one_field (with_field_note notes i k x.note) notes (edit_object (with_field k x.value) i w).objects w.objects i k
+      (objects_but_one_field (with_field_note notes i k x.note) notes
+      (edit_object (with_field k x.value) i w).objects w.objects i k
       (edit_length (with_field k x.value) i w) (omega (arith, below, edit_length (with_field k x.value) i w)) few
       (λ j l other. ap (in_cell counts n) (set_field_other_object notes w i k x j l other))
       (λ l other. ap (in_cell counts n) (set_field_other_field notes w i k x l other)))
 
   -- the permission on a field changes
-  pub objects_set_permission : (notes : Notes) (objects : List Object) (i k : ℕ) (p : Permission) → i < length objects → k < fields_counted
+  pub objects_set_permission : (notes : Notes) (objects : List Object) (i k : ℕ) (p : Permission) → i < length objects
+      → k < fields_counted
       → in_objects counts n (with_field_note notes i k (known (notes.fields i k).kind p)) objects
       + in_cell counts n (field_cell notes objects i k)
       ≡ in_objects counts n notes objects + in_cell counts n (option_map (noted p) (field_cell notes objects i k))
@@ -164,21 +188,26 @@ module _ (counts : Counted) (n : ℕ) where
       subst (λ y. in_objects counts n (with_field_note notes i k (known (notes.fields i k).kind p)) objects
       + in_cell counts n (field_cell notes objects i k) ≡ in_objects counts n notes objects + in_cell counts n y)
       (set_permission_same notes objects i k p)
-      (objects_but_one_field (with_field_note notes i k (known (notes.fields i k).kind p)) notes objects objects i k refl below few
-      (λ j l other. ap (in_cell counts n) (renoted_other_object notes objects i k (known (notes.fields i k).kind p) j l other))
-      (λ l other. ap (in_cell counts n) (renoted_other_field notes objects i k (known (notes.fields i k).kind p) l other)))
+      (objects_but_one_field (with_field_note notes i k (known (notes.fields i k).kind p)) notes objects objects i k
+      refl below few
+      (λ j l other. ap (in_cell counts n) (renoted_other_object notes objects i k
+      (known (notes.fields i k).kind p) j l other))
+      (λ l other. ap (in_cell counts n) (renoted_other_field notes objects i k
+      (known (notes.fields i k).kind p) l other)))
 
   -- an object that has no value yet is made
   pub objects_make : (notes : Notes) (w : World) (o : Object) → ((k : ℕ) → o.fields k ≡ None)
       → in_objects counts n notes (make_object w o).objects ≡ in_objects counts n notes w.objects
   objects_make notes w o bare =
-      subst (λ m. sum_below m (λ i. in_fields counts n notes (make_object w o).objects i) ≡ in_objects counts n notes w.objects)
+      subst (λ m. sum_below m (λ i. in_fields counts n notes (make_object w o).objects i)
+      ≡ in_objects counts n notes w.objects)
       (sym (make_length w o ∙ add-one (length w.objects))) (omega (
         arith,
         no_fields notes (make_object w o).objects (length w.objects)
             (λ k. ap (in_cell counts n) (no_field_cell notes (make_object w o).objects (length w.objects) k
             (ap (λ x. x.fields k) (make_same w o) ∙ bare k))),
-        sum_same (length w.objects) (λ i. in_fields counts n notes (make_object w o).objects i) (λ i. in_fields counts n notes w.objects i)
+        sum_same (length w.objects) (λ i. in_fields counts n notes (make_object w o).objects i)
+            (λ i. in_fields counts n notes w.objects i)
             (λ i below. fields_same notes notes (make_object w o).objects w.objects i i
             (λ k. ap (in_cell counts n) (field_cell_same notes notes w.objects (make_object w o).objects i k
             (ap (λ x. x.fields k) (make_other w o i below)) refl))),
@@ -195,7 +224,8 @@ module _ (counts : Counted) (n : ℕ) where
   waiting_refer [] = omega arith
   waiting_refer (h ∷ hs) = omega (arith, slots_refer h.frame.slots, waiting_refer hs)
 
-  pub objects_refer : (notes : Notes) (objects : List Object) → in_objects counts n notes objects ≤ in_objects any n notes objects
+  pub objects_refer : (notes : Notes) (objects : List Object) → in_objects counts n notes objects
+      ≤ in_objects any n notes objects
   objects_refer notes objects = sum_at_most (length objects) _ _
       (λ i below. sum_at_most fields_counted _ _ (λ k less. counts_refers n counts (field_cell notes objects i k)))
 
@@ -204,7 +234,8 @@ module _ (counts : Counted) (n : ℕ) where
   handles_refer (h ∷ hs) = omega (
     arith,
     handles_refer hs,
-    one_if_less (counts h.permission && nat_eq h.object n) (nat_eq h.object n) (λ e. (and_parts (counts h.permission) (nat_eq h.object n) e).1),
+    one_if_less (counts h.permission && nat_eq h.object n) (nat_eq h.object n)
+        (λ e. (and_parts (counts h.permission) (nat_eq h.object n) e).1),
   )
 
   pub control_refer : (control : Control) → in_control counts n control ≤ in_control any n control

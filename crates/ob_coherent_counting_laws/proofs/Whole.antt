@@ -17,7 +17,8 @@ module _ (counts : Counted) (n : ℕ) where
   pub in_waiting_frame : (hs : List Waiting) (i : ℕ) (h : Waiting) → slice_get hs i ≡ Some h
       → in_slots counts n h.frame.slots ≤ in_waiting counts n hs
   in_waiting_frame [] i h is = absurd (none-some h is)
-  in_waiting_frame (g ∷ hs) zero h is = subst (λ (x : Waiting). in_slots counts n x.frame.slots ≤ in_slots counts n g.frame.slots + in_waiting counts n hs)
+  in_waiting_frame (g ∷ hs) zero h is = subst (λ (x : Waiting). in_slots counts n x.frame.slots
+      ≤ in_slots counts n g.frame.slots + in_waiting counts n hs)
       (same_Some g h is) (omega arith)
   in_waiting_frame (g ∷ hs) (suc i) h is = omega (arith, in_waiting_frame hs i h is)
 
@@ -33,7 +34,8 @@ module _ (counts : Counted) (n : ℕ) where
       (λ rest. let r = waiting_of hs rest in (suc r.0, r.1, r.2, r.3))
     where
       go : (m : ℕ) → in_slots counts n g.frame.slots ≡ m
-          → (0 < in_waiting counts n hs → (i : ℕ) × (h : Waiting) × (slice_get (g ∷ hs) i ≡ Some h) × (0 < in_slots counts n h.frame.slots))
+          → (0 < in_waiting counts n hs → (i : ℕ) × (h : Waiting) × (slice_get (g ∷ hs) i ≡ Some h)
+          × (0 < in_slots counts n h.frame.slots))
           → (i : ℕ) × (h : Waiting) × (slice_get (g ∷ hs) i ≡ Some h) × (0 < in_slots counts n h.frame.slots)
       go zero e more = more (omega arith)
       go (suc m) e more = (zero, g, refl, omega arith)
@@ -42,7 +44,8 @@ module _ (counts : Counted) (n : ℕ) where
       → one_if (counts h.permission && nat_eq h.object n) ≤ in_handles counts n hs
   in_handle [] i h is = absurd (none-some h is)
   in_handle (g ∷ hs) zero h is =
-      subst (λ (x : HandleNote). one_if (counts x.permission && nat_eq x.object n) ≤ one_if (counts g.permission && nat_eq g.object n) + in_handles counts n hs)
+      subst (λ (x : HandleNote). one_if (counts x.permission && nat_eq x.object n)
+      ≤ one_if (counts g.permission && nat_eq g.object n) + in_handles counts n hs)
       (same_Some g h is) (omega arith)
   in_handle (g ∷ hs) (suc i) h is = omega (arith, in_handle hs i h is)
 
@@ -64,7 +67,8 @@ module _ (counts : Counted) (n : ℕ) where
 
   -- and where both run
   pub all_but_running : (c d : Configuration) (terms more : SilicaTerms) (outer around : List Rest)
-      → c.control ≡ runs terms outer → d.control ≡ runs more around → d.stack ≡ c.stack → d.notes.handles ≡ c.notes.handles
+      → c.control ≡ runs terms outer → d.control ≡ runs more around → d.stack ≡ c.stack → d.notes.handles
+      ≡ c.notes.handles
       → in_all counts n d + in_here counts n (here c) ≡ in_all counts n c + in_here counts n (here d)
   all_but_running c d terms more outer around first second stack handles =
       omega (arith, all_but_here c d stack handles, ap (in_control counts n) first, ap (in_control counts n) second)
@@ -82,7 +86,8 @@ module _ (counts : Counted) (n : ℕ) where
   pub here_whole : (c : Configuration) → in_here counts n (here c) ≤ in_all counts n c
   here_whole c = omega arith
 
-  pub place_whole : (c : Configuration) (p : Location) → IsLow p → in_cell counts n (cell_at (here c) p) ≤ in_all counts n c
+  pub place_whole : (c : Configuration) (p : Location) → IsLow p → in_cell counts n (cell_at (here c) p)
+      ≤ in_all counts n c
   place_whole c p low = omega (arith, in_place counts n p (here c) low)
 
   pub slots_whole : (c : Configuration) → in_slots counts n c.frame.slots ≤ in_all counts n c
@@ -94,7 +99,8 @@ module _ (counts : Counted) (n : ℕ) where
   pub objects_whole : (c : Configuration) → in_objects counts n c.notes c.world.objects ≤ in_all counts n c
   objects_whole c = omega arith
 
-  pub fields_whole : (c : Configuration) (i : ℕ) → i < length c.world.objects → in_fields counts n c.notes c.world.objects i ≤ in_all counts n c
+  pub fields_whole : (c : Configuration) (i : ℕ) → i < length c.world.objects
+      → in_fields counts n c.notes c.world.objects i ≤ in_all counts n c
   fields_whole c i there = omega (arith, in_object counts n c.notes c.world.objects i there)
 
   pub field_whole : (c : Configuration) (i k : ℕ) → k < fields_counted
@@ -104,7 +110,8 @@ module _ (counts : Counted) (n : ℕ) where
   pub waiting_whole : (c : Configuration) → in_waiting counts n c.stack ≤ in_all counts n c
   waiting_whole c = omega arith
 
-  pub waiting_slot_whole : (c : Configuration) (i : ℕ) (h : Waiting) (k : ℕ) → slice_get c.stack i ≡ Some h → k < most_slots
+  pub waiting_slot_whole : (c : Configuration) (i : ℕ) (h : Waiting) (k : ℕ) → slice_get c.stack i
+      ≡ Some h → k < most_slots
       → in_cell counts n (h.frame.slots k) ≤ in_all counts n c
   waiting_slot_whole c i h k is low = omega (arith, in_waiting_slot counts n c.stack i h k is low)
 
@@ -119,7 +126,8 @@ module _ (counts : Counted) (n : ℕ) where
   -- Two places of different parts are at most all of them together.
 
   pub slot_and_field : (c : Configuration) (k i f : ℕ) → k < most_slots → f < fields_counted
-      → in_cell counts n (c.frame.slots k) + in_cell counts n (field_cell c.notes c.world.objects i f) ≤ in_all counts n c
+      → in_cell counts n (c.frame.slots k) + in_cell counts n (field_cell c.notes c.world.objects i f)
+      ≤ in_all counts n c
   slot_and_field c k i f low few =
       omega (arith, in_slot counts n c.frame.slots k low, in_field_of counts n c.notes c.world.objects i f few)
 
@@ -128,9 +136,12 @@ module _ (counts : Counted) (n : ℕ) where
   place_and_waiting c p low = omega (arith, in_place counts n p (here c) low)
 
   -- a slot counts, and so nothing beside the slots does, where at most one place counts
-  pub slot_alone : (c : Configuration) (k : ℕ) → k < most_slots → in_all counts n c ≤ 1 → 0 < in_cell counts n (c.frame.slots k)
-      → (in_objects counts n c.notes c.world.objects ≡ 0) × (in_control counts n c.control ≡ 0) × (in_waiting counts n c.stack ≡ 0)
-      × (in_handles counts n c.notes.handles ≡ 0) × ((j : ℕ) → j < most_slots → k ≢ j → in_cell counts n (c.frame.slots j) ≡ 0)
+  pub slot_alone : (c : Configuration) (k : ℕ) → k < most_slots → in_all counts n c ≤ 1
+      → 0 < in_cell counts n (c.frame.slots k)
+      → (in_objects counts n c.notes c.world.objects ≡ 0) × (in_control counts n c.control ≡ 0)
+      × (in_waiting counts n c.stack ≡ 0)
+      × (in_handles counts n c.notes.handles ≡ 0) × ((j : ℕ) → j < most_slots → k ≢ j
+      → in_cell counts n (c.frame.slots j) ≡ 0)
   slot_alone c k low one some =
       let here = in_slot counts n c.frame.slots k low in (
         omega arith,
@@ -146,4 +157,5 @@ module _ (counts : Counted) (n : ℕ) where
       → (in_slots counts n c.frame.slots ≡ 0) × (in_control counts n c.control ≡ 0) × (in_waiting counts n c.stack ≡ 0)
       × (in_handles counts n c.notes.handles ≡ 0)
   field_alone c i k low one some =
-      let there = in_field_of counts n c.notes c.world.objects i k low in (omega arith, omega arith, omega arith, omega arith)
+      let there = in_field_of counts n c.notes c.world.objects i k low in
+      (omega arith, omega arith, omega arith, omega arith)

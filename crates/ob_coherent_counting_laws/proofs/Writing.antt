@@ -35,41 +35,51 @@ module _ (counts : Counted) (n : ℕ) where
   here_slot k x h low = omega (arith, slots_at counts n h.slots k x low)
 
   pub here_field : (k : ℕ) (x : Cell) (h : Here) → k < fields_counted → self_of h.slots < length h.world.objects
-      → in_here counts n (set_field k x h) + in_cell counts n (cell_at h (field k)) ≡ in_here counts n h + in_cell counts n (Some x)
+      → in_here counts n (set_field k x h) + in_cell counts n (cell_at h (field k))
+      ≡ in_here counts n h + in_cell counts n (Some x)
   here_field k x h low there = omega (arith, objects_set_field counts n h.notes h.world (self_of h.slots) k x there low)
 
   pub here_permission : (p : Location) (q : Permission) (h : Here) → IsLow p → self_of h.slots < length h.world.objects
       → in_here counts n (set_permission p q h) + in_cell counts n (cell_at h p)
       ≡ in_here counts n h + in_cell counts n (option_map (noted q) (cell_at h p))
-  here_permission (slot k) q h low there = omega (arith, slots_at counts n h.slots k (option_map (noted q) (h.slots k)) low)
+  here_permission (slot k) q h low there =
+      omega (arith, slots_at counts n h.slots k (option_map (noted q) (h.slots k)) low)
   here_permission (field k) q h low there =
       omega (arith, objects_set_permission counts n h.notes h.world.objects (self_of h.slots) k q there low)
 
   -- marks don't count
-  pub kept_objects : (notes : Notes) (w v : World) → Keeps w v → in_objects counts n notes v.objects ≡ in_objects counts n notes w.objects
+  pub kept_objects : (notes : Notes) (w v : World) → Keeps w v → in_objects counts n notes v.objects
+      ≡ in_objects counts n notes w.objects
   kept_objects notes w v keeps = objects_same counts n notes notes v.objects w.objects keeps.count
-      (λ i k. ap (in_cell counts n) (field_cell_same notes notes w.objects v.objects i k (ap (λ f. f k) (keeps.fields i)) refl))
+      (λ i k. ap (in_cell counts n) (field_cell_same notes notes w.objects v.objects i k
+      (ap (λ f. f k) (keeps.fields i)) refl))
 
-  pub here_kept : (h : Here) (w : World) → Keeps h.world w → in_here counts n (record h { world = w }) ≡ in_here counts n h
+  pub here_kept : (h : Here) (w : World) → Keeps h.world w → in_here counts n (record h { world = w })
+      ≡ in_here counts n h
   here_kept h w keeps = omega (arith, kept_objects h.notes h.world w keeps)
 
   -- a place hands its value over
-  pub here_hand : (of : ResolvedType) (p : Location) (x : Cell) (h : Here) → IsLow p → self_of h.slots < length h.world.objects
+  pub here_hand : (of : ResolvedType) (p : Location) (x : Cell) (h : Here) → IsLow p
+      → self_of h.slots < length h.world.objects
       → in_here counts n (hand of p x h) + in_cell counts n (cell_at h p)
-      ≡ in_here counts n h + in_cell counts n (option_map (noted (kept x.note.permission (permission_of_type of))) (cell_at h p))
+      ≡ in_here counts n h + in_cell counts n (option_map (noted (kept x.note.permission (permission_of_type of)))
+      (cell_at h p))
   here_hand of p x h low there =
       let keeps = comes_keeps of x.value h.world in
       subst (λ y. in_here counts n (hand of p x h) + in_cell counts n y ≡ in_here counts n h
       + in_cell counts n (option_map (noted (kept x.note.permission (permission_of_type of))) y))
       (same p)
-      (here_permission p (kept x.note.permission (permission_of_type of)) (record h { world = comes_into of x.value h.world }) low
+      (here_permission p (kept x.note.permission (permission_of_type of))
+      (record h { world = comes_into of x.value h.world }) low
       (subst (λ m. self_of h.slots < m) (sym keeps.count) there)
       ∙ ap (λ m. m + in_cell counts n (option_map (noted (kept x.note.permission (permission_of_type of)))
-      (cell_at (record h { world = comes_into of x.value h.world }) p))) (here_kept h (comes_into of x.value h.world) keeps))
+      (cell_at (record h { world = comes_into of x.value h.world }) p)))
+      (here_kept h (comes_into of x.value h.world) keeps))
     where
       same : (p : Location) → cell_at (record h { world = comes_into of x.value h.world }) p ≡ cell_at h p
       same (slot k) = refl
-      same (field k) = field_cell_same h.notes h.notes h.world.objects (comes_into of x.value h.world).objects (self_of h.slots) k
+      same (field k) = field_cell_same h.notes h.notes h.world.objects (comes_into of x.value h.world).objects
+          (self_of h.slots) k
           (ap (λ f. f k) ((comes_keeps of x.value h.world).fields (self_of h.slots))) refl
 
   -- one place is at most all of them

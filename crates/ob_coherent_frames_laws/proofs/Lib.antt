@@ -1,5 +1,9 @@
 pub mod Cells
 pub mod Near
 pub mod Entered
+pub mod Others
 pub mod Whole
+pub mod After
+pub mod Quiet
 pub mod Own
+pub mod Apart

@@ -84,7 +84,7 @@ differ n i (m ∷ ms) a (inl e) = λ z. a.0 (z ∙ e)
 differ n i (m ∷ ms) a (inr h) = differ n i ms a.1 h
 
 -- the object of a frame that waits isn't the one that changes, unless the callee is one of a call on `this`
-others : (how : How) (n m i : ℕ) (above : List ℕ) → IsApart how n above m → IsAmong i above → (how ≡ by_this → ⊥) → n ≢ i
+pub others : (how : How) (n m i : ℕ) (above : List ℕ) → IsApart how n above m → IsAmong i above → (how ≡ by_this → ⊥) → n ≢ i
 others by_this n m i above a h ne = absurd (ne refl)
 others by_receiver n m i above a h ne = differ n i above a h
 others by_new n m i above a h ne = differ n i above a h
@@ -94,7 +94,7 @@ unsettled : (how : How) (h : Waiting) (f : ℕ) → is_settled how h (field f) �
 unsettled how h f e called = both_ways _
     (not_from_true _ (or_right (is_lent h.loans (field f)) _ (or_right (is_result h.result (field f)) _ (rw called refl)))) e
 
-on_this : (how : How) → (how ≡ by_this) ⊎ (how ≡ by_this → ⊥)
+pub on_this : (how : How) → (how ≡ by_this) ⊎ (how ≡ by_this → ⊥)
 on_this by_this = inl refl
 on_this by_receiver = inr (λ e. cc)
 on_this by_new = inr (λ e. cc)

@@ -1,6 +1,5 @@
 -- A step by which the innermost frame changes its own places leads to a coherent configuration, where the frame goes on.
-use Rattle.std.proofs.Common.{◌≡◌, ℕ, ◌+◌, ◌<◌, ◌≤◌, inl, inr, ⊎_elim, nat_eq, List, Option, refl, sym, ap, ◌∙◌, subst, arith}
-use Rattle.std.proofs.lemmas.Bool.{cases_Bool}
+use Rattle.std.proofs.Common.{ℕ, ◌<◌, List, Option, refl, sym, subst, arith}
 use Rattle.ob_table.specs.Tables.{ClassTable}
 use Rattle.ob_table_spec.specs.Conditions.{IsClassTable}
 use Rattle.ob_silica.specs.Terms.{SilicaTerms}
@@ -8,17 +7,17 @@ use Rattle.ob_silica_formed.specs.Holdings.{Holdings}
 use Rattle.ob_silica_steps.specs.Configurations.{Rest, runs, Configuration}
 use Rattle.ob_silica_steps.specs.Here.{Here, self_of}
 use Rattle.ob_flow_spec.specs.Contexts.{Context}
-use Rattle.ob_coherent_spec.specs.Counting.{nth_object, one_if, owners}
-use Rattle.ob_coherent_spec.specs.Runs.{times, around, locks_around, locks_among, locks_entry, locks, tests_around, tests_in, constructions}
+use Rattle.ob_coherent_spec.specs.Counting.{nth_object}
+use Rattle.ob_coherent_spec.specs.Runs.{around, constructions}
 use Rattle.ob_coherent_spec.specs.Standing.{HasItsState, NeedsOwner}
 use Rattle.ob_coherent_spec.specs.Saying.{Says, every}
 use Rattle.ob_coherent_spec.specs.Remaining.{BodyParts, body_of, AreHeld, Remains}
-use Rattle.ob_coherent_spec.specs.Waiting.{SharesThis}
 use Rattle.ob_coherent_spec.specs.Coherent.{Beginning, IsRunning}
-use Rattle.ob_coherent_frames_laws.specs.Steps.{moved, KeepsWhole, IsOwnStep, IsQuietStep}
+use Rattle.ob_coherent_frames_laws.specs.Steps.{moved, KeepsWhole, KeepsQuietly, IsOwnStep, IsQuietStep}
 use Rattle.ob_coherent_frames_laws.proofs.Cells.{same_has_state}
-use Rattle.ob_coherent_frames_laws.proofs.Near.{frame_with}
-use Rattle.ob_coherent_frames_laws.proofs.Whole.{fewer_needs, same_constructions, whole_kept}
+pub use Rattle.ob_coherent_frames_laws.proofs.Quiet.{EndsSame}
+use Rattle.ob_coherent_frames_laws.proofs.Quiet.{quiet_shares, quiet_whole}
+use Rattle.ob_coherent_frames_laws.proofs.Whole.{same_constructions, whole_kept}
 
 -- what such a step leaves of the whole
 pub own_keeps : (table : ClassTable) (entry : Option ℕ) (c : Configuration) (parts : BodyParts) (h : Here) (terms : SilicaTerms)
@@ -71,79 +70,60 @@ own_step_keeps table entry beginning c h terms outer t k m g says i held remains
       let few = m.unreferred n made in let one = k.unreferred n made in omega arith;
 }
 
--- Two lists of what is around end the same tests.
-pub record EndsSame (before after : List Rest) : Type 0 where
-  pub locks : (n : ℕ) → locks_around n after ≡ locks_around n before
-  pub tests : (n : ℕ) → tests_around n after ≡ tests_around n before
+-- what a step that opens and ends no test leaves of the whole
+pub quiet_keeps : (table : ClassTable) (c : Configuration) (parts : BodyParts) (h : Here) (terms : SilicaTerms)
+    (outer : List Rest) → IsQuietStep table c parts h terms outer → KeepsQuietly table c parts h (runs terms outer)
+quiet_keeps table c parts h terms outer m = record {
+  others = m.others;
+  state = m.state;
+  locks = m.locks;
+  this = m.this;
+  arguments = m.arguments;
+  unset = m.unset;
+  slots = m.slots;
+  fields = m.fields;
+  object = m.object;
+  fewer = m.fewer;
+  keeps_owner = m.keeps_owner;
+  newly_shared = m.newly_shared;
+  newly_disowned = m.newly_disowned;
+}
 
-module _ (table : ClassTable) (entry : Option ℕ) (beginning : Beginning) (c : Configuration) (h : Here)
-    (terms : SilicaTerms) (outer : List Rest) (k : IsRunning table entry beginning c) (same : EndsSame (around c.control) outer)
-    (m : IsQuietStep table c k.whole.parts h terms outer) where
-  same_tests : (n : ℕ) → tests_in n h.slots outer ≡ tests_in n c.frame.slots (around c.control)
-  same_tests n = ap (λ j. tests_around (one_if (nat_eq j n)) outer) m.this ∙ same.tests (one_if (nat_eq (self_of c.frame.slots) n))
+-- such a step is one of the innermost frame
+pub quiet_is_own : (table : ClassTable) (entry : Option ℕ) (beginning : Beginning) (c : Configuration) (h : Here)
+    (terms : SilicaTerms) (outer : List Rest) → (k : IsRunning table entry beginning c) → EndsSame (around c.control) outer
+    → IsQuietStep table c k.whole.parts h terms outer → IsOwnStep table entry c k.whole.parts h terms outer
+quiet_is_own table entry beginning c h terms outer k same m = record {
+  others = whole.others;
+  free = whole.free;
+  this = m.this;
+  arguments = m.arguments;
+  unset = m.unset;
+  slots = m.slots;
+  fields = m.fields;
+  object = m.object;
+  placed = λ made. same_has_state table (nth_object c.world.objects (self_of c.frame.slots))
+      (nth_object h.world.objects (self_of c.frame.slots)) (m.others.contracts (self_of c.frame.slots)) m.state (k.placed made);
+  opens = m.opens;
+  shares = quiet_shares table entry beginning c h (runs terms outer) k.whole same quietly k.shares m.shares;
+  owns_made = m.owns_made;
+  one_owner = whole.one_owner;
+  disowned = whole.disowned;
+  shared = whole.shared;
+  assets = whole.assets;
+  balanced = whole.balanced;
+  lock_ends = whole.lock_ends;
+  tested = whole.tested;
+  locked = whole.locked;
+  locked_once = whole.locked_once;
+  unreferred = m.unreferred;
+}
+  where
+    quietly : KeepsQuietly table c k.whole.parts h (runs terms outer)
+    quietly = quiet_keeps table c k.whole.parts h terms outer m
 
-  same_locks : (n : ℕ) → locks entry n (moved c h terms outer) ≡ locks entry n c
-  same_locks n = ap (λ x. x + locks_among n c.stack + locks_entry entry n) (same.locks n)
-
-  quiet_shares : SharesThis (frame_with c.frame h.slots) (moved c h terms outer) 0
-  quiet_shares held = ⊎_elim
-      (λ was. let y = k.shares was in (
-        subst (λ n. 0 < times n h.world.progress) (sym m.this)
-            (subst (λ l. 0 < times (self_of c.frame.slots) l) (sym m.others.progress) y.0),
-        ⊎_elim
-            (λ few. inl (subst (λ n. owners n (moved c h terms outer) ≤ 0) (sym m.this)
-            (let less = m.fewer (self_of c.frame.slots) in omega arith)))
-            (λ z. inr (
-              z.0,
-              subst (λ n. 0 < times n h.world.locked) (sym m.this)
-                  (subst (λ l. 0 < times (self_of c.frame.slots) l) (sym m.locks) z.1),
-            ))
-            y.1,
-      ))
-      (λ y. (
-        subst (λ n. 0 < times n h.world.progress) (sym m.this)
-            (subst (λ l. 0 < times (self_of c.frame.slots) l) (sym m.others.progress) y.0),
-        inl (subst (λ n. owners n (moved c h terms outer) ≤ 0) (sym m.this) (let none = y.1 in omega arith)),
-      ))
-      (m.shares held)
-
-  -- a step that opens and ends no test is one of the innermost frame
-  pub quiet_is_own : IsOwnStep table entry c k.whole.parts h terms outer
-  quiet_is_own = record {
-    others = m.others;
-    free = inl m.state;
-    this = m.this;
-    arguments = m.arguments;
-    unset = m.unset;
-    slots = m.slots;
-    fields = m.fields;
-    object = m.object;
-    placed = λ made. same_has_state table (nth_object c.world.objects (self_of c.frame.slots))
-        (nth_object h.world.objects (self_of c.frame.slots)) (m.others.contracts (self_of c.frame.slots)) m.state (k.placed made);
-    opens = m.opens;
-    shares = quiet_shares;
-    owns_made = m.owns_made;
-    one_owner = λ n. let less = m.fewer n in let one = k.whole.one_owner n in omega arith;
-    disowned = λ n e f. ⊎_elim
-        (λ y. ⊎_elim (λ z. absurd (let w = m.others.shared n z in cc))
-        (λ z. let none = k.whole.disowned n y z in let less = m.fewer n in omega arith)
-        (cases_Bool (nth_object c.world.objects n).shared))
-        (λ y. m.newly_disowned n y e)
-        (cases_Bool (nth_object c.world.objects n).disowned);
-    shared = λ n e has. ⊎_elim
-        (λ y. ⊎_elim (λ z. inl (subst (λ l. 0 < times n l) (sym m.locks) z))
-        (λ z. inr (let tests = same_tests n in omega arith))
-        (k.whole.shared n y (let less = m.fewer n in omega arith)))
-        (λ y. absurd (let none = m.newly_shared n y e in omega arith))
-        (cases_Bool (nth_object c.world.objects n).shared);
-    assets = λ n l. let has = k.whole.assets n (fewer_needs table c h m.others n l) in let keeps = m.keeps_owner n l in omega arith;
-    balanced = λ n. let less = m.fewer n in let tests = same_tests n in let locks = same.locks n in omega arith;
-    lock_ends = λ n has. inl (subst (λ l. 0 < times n l) (sym m.locks) has);
-    tested = λ n has. k.whole.tested n (let tests = same_tests n in omega arith);
-    locked = λ n. same_locks n ∙ k.whole.locked n ∙ ap (times n) (sym m.locks);
-    locked_once = λ n. let locks = same_locks n in let once = k.whole.locked_once n in omega arith;
-    unreferred = m.unreferred;
-  }
+    whole : KeepsWhole table entry c k.whole.parts h (runs terms outer)
+    whole = quiet_whole table entry beginning c h (runs terms outer) k.whole same quietly
 
 -- A step of the innermost frame that opens and ends no test leads from a coherent configuration to a coherent one.
 pub quiet_step_keeps : (table : ClassTable) (entry : Option ℕ) (beginning : Beginning) (c : Configuration) (h : Here)

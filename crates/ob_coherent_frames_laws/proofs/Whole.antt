@@ -1,70 +1,31 @@
 -- A step by which the innermost frame changes its own places keeps what is so of the whole.
-use Rattle.std.proofs.Common.{◌≡◌, ◌≢◌, ℕ, ◌+◌, ◌<◌, ◌≤◌, ◌⊎◌, inl, inr, ⊎_elim, Bool, true, false, List, [], ◌∷◌, length, Option, Some, None, slice_get, refl, sym, ap, ◌∙◌, subst, arith}
-use Rattle.std.specs.Option.{option_map_or, option_and_then}
-use Rattle.std.specs.Prelude.{IfSome, ⊤}
+use Rattle.std.proofs.Common.{◌≡◌, ◌≢◌, ℕ, ◌+◌, ◌<◌, ◌≤◌, ◌⊎◌, inl, inr, ⊎_elim, true, List, [], ◌∷◌, length, Option, Some, None, slice_get, refl, sym, ap, ◌∙◌, subst, arith}
+use Rattle.std.specs.Prelude.{⊤}
 use Rattle.std.proofs.lemmas.Bool.{both_ways, cases_Bool, cases_lt}
 use Rattle.std.proofs.lemmas.Bool.Decides.{eqb_tells}
-use Rattle.std.proofs.lemmas.Option.{slice_get_within, slice_get_past, get_or_from_slice_get}
+use Rattle.std.proofs.lemmas.Option.{slice_get_within}
 use Rattle.std.proofs.lemmas.List.{length-map}
-use Rattle.std.proofs.lemmas.List.Elements.{All-get_or}
-use Rattle.ob_base.specs.declared.id.StateId.{StateId}
-use Rattle.ob_base.specs.Limits.{most_fields}
-use Rattle.ob_perm.specs.Permissions.{owns}
-use Rattle.ob_table.specs.Tables.{ClassTable, contract_at}
-use Rattle.ob_table.specs.declared.contract.Contract.{Contract}
-use Rattle.ob_table.specs.declared.contract.Field.{Field}
+use Rattle.ob_table.specs.Tables.{ClassTable}
 use Rattle.ob_table.specs.declared.seen.Kind.TheVariants.{Reference}
 use Rattle.ob_table_spec.specs.WellFormed.{kind_of_resolved}
-use Rattle.ob_table_spec.specs.Conditions.{IsContract, IsClassTable}
+use Rattle.ob_table_spec.specs.Conditions.{IsClassTable}
 use Rattle.ob_heap_spec.specs.Values.{Value, reference}
-use Rattle.ob_heap_spec.specs.Objects.{Object, is_available, has_field}
-use Rattle.ob_heap_spec.specs.Contents.{object_at}
-use Rattle.ob_silica_places.specs.Known.{Known}
+use Rattle.ob_heap_spec.specs.Objects.{Object}
 use Rattle.ob_silica_places.specs.Parameters.{Parameter, parameter_of, all_parameters}
 use Rattle.ob_silica_steps.specs.Cells.{Cell, value_in}
-use Rattle.ob_silica_steps.specs.Configurations.{SlotCells, How, by_receiver, by_this, by_new, SilicaFrame, Waiting, Control, HandleNote, Notes, Configuration}
+use Rattle.ob_silica_steps.specs.Configurations.{SlotCells, How, by_receiver, by_this, by_new, SilicaFrame, Waiting, Control, HandleNote, Configuration}
 use Rattle.ob_silica_steps.specs.Here.{Here, self_of}
-use Rattle.ob_silica_steps.specs.Starting.{declared_note}
 use Rattle.ob_flow_spec.specs.Contexts.{is_asset}
-use Rattle.ob_coherent_spec.specs.Counting.{nth_object, fields_counted, field_cell, in_cell, owners}
+use Rattle.ob_coherent_spec.specs.Counting.{nth_object, field_cell, owners}
 use Rattle.ob_coherent_spec.specs.Runs.{times, around, entered_at, entered_among, entries, constructing_at, constructing_among, constructions, tests_in, tests_among, open_tests}
 use Rattle.ob_coherent_spec.specs.Standing.{AllStand, IsObjectInRun, NeedsOwner, HandlesStand}
 use Rattle.ob_coherent_spec.specs.Remaining.{BodyParts}
 use Rattle.ob_coherent_spec.specs.Waiting.{IsFrame, tests_of, AllWait}
 use Rattle.ob_coherent_spec.specs.Coherent.{Beginning, outermost, BeganSo, IsAsDeclared, Holds}
 use Rattle.ob_coherent_frames_laws.specs.Steps.{moved_to, KeepsArgument, LeavesOthers, KeepsWhole}
-use Rattle.ob_coherent_frames_laws.proofs.Cells.{each_zero, same_has_state}
-use Rattle.ob_coherent_frames_laws.proofs.Near.{IsNear, frame_with, stands_near, says_field_near, each_self, all_near}
+use Rattle.ob_coherent_frames_laws.proofs.Others.{no_field, fields_near, object_near, declared_near}
+use Rattle.ob_coherent_frames_laws.proofs.Near.{IsNear, frame_with, each_self, all_near}
 use Rattle.ob_coherent_frames_laws.proofs.Entered.{has_entry}
-
--- Fields of objects.
-
--- each contract of a class table has few fields
-pub few_fields : (table : ClassTable) → IsClassTable table → (k : ℕ) (own : Contract) → slice_get table.contracts k ≡ Some own
-    → length own.fields ≤ most_fields
-few_fields table t k own e = few.few_fields
-  where
-    few : IsContract table own
-    few = subst (IsContract table) (get_or_from_slice_get table.contracts k own own e)
-        (All-get_or (IsContract table) table.contracts k own (slice_get_within table.contracts k own e) t.contracts)
-
-some_field : (p : Field → Bool) (x : Option Field) → option_map_or p x false ≡ true → (f : Field) × (x ≡ Some f)
-some_field p None e = cc
-some_field p (Some f) e = (f, refl)
-
--- a field that has a value is one of its contract's
-pub field_low : (table : ClassTable) → IsClassTable table → (objects : List Object) (n : ℕ) (notes : Notes) → IsObjectInRun table notes n (nth_object objects n)
-    → (k : ℕ) (x : Cell) → field_cell notes objects n k ≡ Some x → k < fields_counted
-unfolding fields_counted
-field_low table t objects n notes o k x e = ⊎_elim
-    (λ has. let f = some_field (is_available (nth_object objects n).state) (slice_get o.own.fields k) has in
-    let below = slice_get_within o.own.fields k f.0 f.1 in
-    let few = few_fields table t (nth_object objects n).contract.0 o.own o.contract in omega arith)
-    (λ none. absurd (unset (o.fields k none)))
-    (cases_Bool (has_field o.own (nth_object objects n).state k))
-  where
-    unset : (nth_object objects n).fields k ≡ None → ⊥
-    unset none = let z : field_cell notes objects n k ≡ None = rw none refl in cc
 
 -- Frames.
 
@@ -137,25 +98,11 @@ module _ (table : ClassTable) (entry : Option ℕ) (beginning : Beginning) (c : 
   }
 
   other_field : (n : ℕ) → n ≢ self_of c.frame.slots → AllStand table h.world.objects (field_cell h.notes h.world.objects n)
-  other_field n ne j x e = ⊎_elim
-      (λ below. stands_near table _ _ _ _ c (moved_to c h control) step_near x
-      (⊎_elim (λ same. inl same)
-      (λ none. inr (subst (λ y. in_cell owns (self_of c.frame.slots) y ≡ 0) was
-      (each_zero fields_counted (λ l. in_cell owns (self_of c.frame.slots) (field_cell c.notes c.world.objects n l))
-      (none.1 n ne) j (field_low table t c.world.objects n c.notes (k.objects n below) j x was))))
-      m.free)
-      (k.fields n j x was))
-      (λ past. absurd (unset (slice_get_past c.world.objects n past)))
+  other_field n ne = ⊎_elim
+      (λ below. fields_near table _ _ _ _ c (moved_to c h control) step_near t n below ne (k.objects n below)
+      (⊎_elim (λ same. inl same) (λ none. inr (none.1 n ne)) m.free))
+      (λ past. no_field table h.world.objects n h.notes (let same = m.others.count in omega arith))
       (cases_lt n (length c.world.objects))
-    where
-      was : field_cell c.notes c.world.objects n j ≡ Some x
-      was = sym same ∙ e
-        where
-          same : field_cell h.notes h.world.objects n j ≡ field_cell c.notes c.world.objects n j
-          same = rw (m.others.fields n j ne, m.others.notes n j ne) refl
-
-      unset : object_at c.world.objects n ≡ None → ⊥
-      unset none = let z : field_cell c.notes c.world.objects n j ≡ None = rw none refl in let y = was in cc
 
   pub all_fields : (n : ℕ) → AllStand table h.world.objects (field_cell h.notes h.world.objects n)
   all_fields n = ⊎_elim
@@ -163,21 +110,11 @@ module _ (table : ClassTable) (entry : Option ℕ) (beginning : Beginning) (c : 
       (λ e. other_field n e.1)
       (eqb_tells n (self_of c.frame.slots))
 
-  other_object : (n : ℕ) → n ≢ self_of c.frame.slots → IsObjectInRun table c.notes n (nth_object c.world.objects n)
-      → IsObjectInRun table h.notes n (nth_object h.world.objects n)
-  other_object n ne o = record {
-    own = o.own;
-    contract = ap (contract_at table) (m.others.contracts n) ∙ o.contract;
-    class = o.class;
-    state = subst (λ s. IfSome s (λ (x : StateId). x.0 < length o.own.states)) (sym (m.others.states n ne)) o.state;
-    fields = λ j none. m.others.fields n j ne ∙ o.fields j (ap (λ s. has_field o.own s j) (sym (m.others.states n ne)) ∙ none);
-    kinds = λ j f v e set. ap (λ (y : Known). y.kind) (m.others.notes n j ne) ∙ o.kinds j f v e (sym (m.others.fields n j ne) ∙ set);
-  }
-
   pub all_objects : (n : ℕ) → n < length h.world.objects → IsObjectInRun table h.notes n (nth_object h.world.objects n)
   all_objects n below = ⊎_elim
       (λ e. subst (λ j. IsObjectInRun table h.notes j (nth_object h.world.objects j)) (sym e.1) m.object)
-      (λ e. other_object n e.1 (k.objects n (let same = m.others.count in omega arith)))
+      (λ e. let same = m.others.count in let there : n < length c.world.objects = omega arith in
+      object_near table _ _ _ _ c (moved_to c h control) step_near n there e.1 (k.objects n there))
       (eqb_tells n (self_of c.frame.slots))
 
   pub same_entries : (n : ℕ) → entries n (moved_to c h control) ≡ entries n c
@@ -186,23 +123,14 @@ module _ (table : ClassTable) (entry : Option ℕ) (beginning : Beginning) (c : 
   pub same_constructions : (n : ℕ) → constructions n (moved_to c h control) ≡ constructions n c
   same_constructions n = ap (λ x. x + constructing_among n c.stack) (constructing_same n c.frame.how c.frame.slots h.slots m.this)
 
-  other_declared : (n : ℕ) → n ≢ self_of c.frame.slots → n < length c.world.objects
-      → IsAsDeclared table (NeedsOwner table c.world.objects) c.notes c.world.objects n
-      → IsAsDeclared table (NeedsOwner table h.world.objects) h.notes h.world.objects n
-  other_declared n ne below a = record {
-    placed = same_has_state table (nth_object c.world.objects n) (nth_object h.world.objects n) (m.others.contracts n) (m.others.states n ne) a.placed;
-    fields = λ j f e there. says_field_near table _ _ _ _ c (moved_to c h control) step_near (Some (declared_note f.of)) n j below ne
-        (a.fields j f (ap (λ id. option_and_then (λ (x : Contract). slice_get x.fields j) (contract_at table id)) (sym (m.others.contracts n)) ∙ e)
-        (ap (λ s. is_available s f) (sym (m.others.states n ne)) ∙ there));
-  }
-
   pub all_declared : (n : ℕ) → n < length h.world.objects → entries n (moved_to c h control) ≡ 0 → constructions n (moved_to c h control) ≡ 0
       → IsAsDeclared table (NeedsOwner table h.world.objects) h.notes h.world.objects n
   all_declared n below none new = ⊎_elim
       (λ e. absurd (let z : 0 < entries n c + constructions n c =
       subst (λ j. 0 < entries j c + constructions j c) (sym e.1) (has_entry table _ c c.frame k.parts _ _ c.stack k.waiting) in
       let x = same_entries n in let y = same_constructions n in omega arith))
-      (λ e. other_declared n e.1 (let same = m.others.count in omega arith) (k.declared n (let same = m.others.count in omega arith)
+      (λ e. let same = m.others.count in let there : n < length c.world.objects = omega arith in
+      declared_near table _ _ _ _ c (moved_to c h control) step_near n there e.1 (k.declared n there
       (sym (same_entries n) ∙ none) (sym (same_constructions n) ∙ new)))
       (eqb_tells n (self_of c.frame.slots))
 

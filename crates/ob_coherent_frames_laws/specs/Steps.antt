@@ -84,6 +84,28 @@ pub record KeepsWhole (table : ClassTable) (entry : Option ℕ) (c : Configurati
   pub locked : (n : ℕ) → locks entry n (moved_to c h control) ≡ times n h.world.locked
   pub locked_once : (n : ℕ) → locks entry n (moved_to c h control) ≤ 1
 
+-- What a step leaves that opens and ends no test, whatever the frame is about to do then: no object gains an owner, and one
+-- that must have an owner keeps it.
+pub record KeepsQuietly (table : ClassTable) (c : Configuration) (parts : BodyParts) (h : Here) (control : Control)
+    : Type 0 where
+  pub others : LeavesOthers c h
+  pub state : (nth_object h.world.objects (self_of c.frame.slots)).state
+      ≡ (nth_object c.world.objects (self_of c.frame.slots)).state
+  pub locks : h.world.locked ≡ c.world.locked
+  pub this : self_of h.slots ≡ self_of c.frame.slots
+  pub arguments : (k : ℕ) (x : Cell) → k ≤ length parts.signature.params → c.frame.slots k ≡ Some x
+      → KeepsArgument (λ n. owners n (moved_to c h control)) x (h.slots k)
+  pub unset : (k : ℕ) → parts.slots ≤ k → h.slots k ≡ None
+  pub slots : AllStand table h.world.objects h.slots
+  pub fields : AllStand table h.world.objects (field_cell h.notes h.world.objects (self_of c.frame.slots))
+  pub object : IsObjectInRun table h.notes (self_of c.frame.slots) (nth_object h.world.objects (self_of c.frame.slots))
+  pub fewer : (n : ℕ) → owners n (moved_to c h control) ≤ owners n c
+  pub keeps_owner : (n : ℕ) → NeedsOwner table h.world.objects n → owners n c ≤ owners n (moved_to c h control)
+  pub newly_shared : (n : ℕ) → (nth_object c.world.objects n).shared ≡ false → (nth_object h.world.objects n).shared ≡ true
+      → owners n (moved_to c h control) ≡ 0
+  pub newly_disowned : (n : ℕ) → (nth_object c.world.objects n).disowned ≡ false
+      → (nth_object h.world.objects n).disowned ≡ true → owners n (moved_to c h control) ≡ 0
+
 -- What a step of the innermost frame leaves, after which these lists are around, so that the configuration is coherent again.
 pub record IsOwnStep (table : ClassTable) (entry : Option ℕ) (c : Configuration) (parts : BodyParts) (h : Here)
     (terms : SilicaTerms) (outer : List Rest) : Type 0 where

@@ -2,3 +2,10 @@ pub mod Objects
 pub mod Reading
 pub mod Writing
 pub mod Standing
+pub mod Keeping
+pub mod Finding
+pub mod Carrying
+pub mod Getting
+pub mod Handing
+pub mod Holding
+pub mod Alike

@@ -44,25 +44,31 @@ pub nth_is : (os : List Object) (n : ℕ) (o : Object) → object_at os n ≡ So
 nth_is os n o e = ap (λ x. unwrap_or x (unfinished (record { 0 = 0 }))) e
 
 pub nth_set_same : (os : List Object) (n : ℕ) (o : Object) → n < length os → nth_object (slice_set os n o) n ≡ o
-nth_set_same os n o lt = unwrap_or-slice_get (slice_set os n o) n (unfinished (record { 0 = 0 })) ∙ get_or-set_same os n o _ lt
+nth_set_same os n o lt = unwrap_or-slice_get (slice_set os n o) n (unfinished (record { 0 = 0 }))
+    ∙ get_or-set_same os n o _ lt
 
-pub nth_set_other : (os : List Object) (n m : ℕ) (o : Object) → m ≢ n → nth_object (slice_set os n o) m ≡ nth_object os m
-nth_set_other os n m o ne = unwrap_or-slice_get (slice_set os n o) m (unfinished (record { 0 = 0 })) ∙ get_or-set_other os n m o _ ne
+pub nth_set_other : (os : List Object) (n m : ℕ) (o : Object) → m ≢ n
+    → nth_object (slice_set os n o) m ≡ nth_object os m
+nth_set_other os n m o ne = unwrap_or-slice_get (slice_set os n o) m (unfinished (record { 0 = 0 }))
+    ∙ get_or-set_other os n m o _ ne
     ∙ sym (unwrap_or-slice_get os m (unfinished (record { 0 = 0 })))
 
 -- An edit.
 
 -- what an edit of an object does to a world, where the object is there
-pub edit_in : (f : Object → Object) (n : ℕ) (w : World) → n < length w.objects → edit_object f n w ≡ set_object w n (f (nth_object w.objects n))
+pub edit_in : (f : Object → Object) (n : ℕ) (w : World) → n < length w.objects
+    → edit_object f n w ≡ set_object w n (f (nth_object w.objects n))
 edit_in f n w lt = ap (λ x. option_map_or (λ o. set_object w n (f o)) x w) (is_there w.objects n lt)
 
 -- it has an effect, or none
 pub edit_cases : (f : Object → Object) (n : ℕ) (w : World)
-    → ((n < length w.objects) × (edit_object f n w ≡ set_object w n (f (nth_object w.objects n)))) ⊎ (edit_object f n w ≡ w)
+    → ((n < length w.objects) × (edit_object f n w ≡ set_object w n (f (nth_object w.objects n)))) ⊎
+    (edit_object f n w ≡ w)
 edit_cases f n w = by_found (object_at w.objects n) refl
   where
     by_found : (x : Option Object) → object_at w.objects n ≡ x
-        → ((n < length w.objects) × (edit_object f n w ≡ set_object w n (f (nth_object w.objects n)))) ⊎ (edit_object f n w ≡ w)
+        → ((n < length w.objects) × (edit_object f n w ≡ set_object w n (f (nth_object w.objects n)))) ⊎
+        (edit_object f n w ≡ w)
     by_found None e = inr (ap (λ x. option_map_or (λ o. set_object w n (f o)) x w) e)
     by_found (Some o) e = let lt = is_within w.objects n o e in inl (lt, edit_in f n w lt)
 
@@ -73,17 +79,21 @@ edit_count f n w = ⊎_elim
     (λ e. ap (λ (v : World). length v.objects) e)
     (edit_cases f n w)
 
-pub edit_same : (f : Object → Object) (n : ℕ) (w : World) → n < length w.objects → nth_object (edit_object f n w).objects n ≡ f (nth_object w.objects n)
-edit_same f n w lt = ap (λ (v : World). nth_object v.objects n) (edit_in f n w lt) ∙ nth_set_same w.objects n (f (nth_object w.objects n)) lt
+pub edit_same : (f : Object → Object) (n : ℕ) (w : World) → n < length w.objects
+    → nth_object (edit_object f n w).objects n ≡ f (nth_object w.objects n)
+edit_same f n w lt = ap (λ (v : World). nth_object v.objects n) (edit_in f n w lt)
+    ∙ nth_set_same w.objects n (f (nth_object w.objects n)) lt
 
-pub edit_other : (f : Object → Object) (n : ℕ) (w : World) (m : ℕ) → m ≢ n → nth_object (edit_object f n w).objects m ≡ nth_object w.objects m
+pub edit_other : (f : Object → Object) (n : ℕ) (w : World) (m : ℕ) → m ≢ n
+    → nth_object (edit_object f n w).objects m ≡ nth_object w.objects m
 edit_other f n w m ne = ⊎_elim
     (λ e. ap (λ (v : World). nth_object v.objects m) e.1 ∙ nth_set_other w.objects n m (f (nth_object w.objects n)) ne)
     (λ e. ap (λ (v : World). nth_object v.objects m) e)
     (edit_cases f n w)
 
 -- what holds of each object after an edit holds of the one edited, and held of each before
-pub edit_each : (P : Object → Object → Type 0) (f : Object → Object) (n : ℕ) (w : World) → ((o : Object) → P o o) → ((o : Object) → P o (f o))
+pub edit_each : (P : Object → Object → Type 0) (f : Object → Object) (n : ℕ) (w : World) → ((o : Object) → P o o)
+    → ((o : Object) → P o (f o))
     → (m : ℕ) → P (nth_object w.objects m) (nth_object (edit_object f n w).objects m)
 edit_each P f n w same edited m = ⊎_elim
     (λ e. ⊎_elim
@@ -91,13 +101,16 @@ edit_each P f n w same edited m = ⊎_elim
     (subst (P (nth_object w.objects n)) (sym (edit_same f n w e.0)) (edited (nth_object w.objects n))))
     (λ q. subst (P (nth_object w.objects m)) (sym (edit_other f n w m q.1)) (same (nth_object w.objects m)))
     (eqb_tells m n))
-    (λ e. subst (λ (v : World). P (nth_object w.objects m) (nth_object v.objects m)) (sym e) (same (nth_object w.objects m)))
+    (λ e. subst (λ (v : World). P (nth_object w.objects m) (nth_object v.objects m)) (sym e)
+    (same (nth_object w.objects m)))
     (edit_cases f n w)
 
 -- what an edit leaves of the rest of a world
-pub edit_rest : {A : Type 0} (P : World → A) (f : Object → Object) (n : ℕ) (w : World) → ((os : List Object) → P (record w { objects = os }) ≡ P w)
+pub edit_rest : {A : Type 0} (P : World → A) (f : Object → Object) (n : ℕ) (w : World)
+    → ((os : List Object) → P (record w { objects = os }) ≡ P w)
     → P (edit_object f n w) ≡ P w
-edit_rest P f n w same = ⊎_elim (λ e. ap P e.1 ∙ same (slice_set w.objects n (f (nth_object w.objects n)))) (λ e. ap P e) (edit_cases f n w)
+edit_rest P f n w same = ⊎_elim (λ e. ap P e.1 ∙ same (slice_set w.objects n (f (nth_object w.objects n))))
+    (λ e. ap P e) (edit_cases f n w)
 
 -- Marks.
 
@@ -114,7 +127,17 @@ pub record IsMarked (w v : World) : Type 0 where
   pub made : v.made ≡ w.made
 
 pub marked_itself : (w : World) → IsMarked w w
-marked_itself w = record { count = refl; contracts = λ n. refl; states = λ n. refl; fields = λ n. refl; shared = λ n e. e; disowned = λ n e. e; locked = refl; progress = refl; made = refl }
+marked_itself w = record {
+  count = refl;
+  contracts = λ n. refl;
+  states = λ n. refl;
+  fields = λ n. refl;
+  shared = λ n e. e;
+  disowned = λ n e. e;
+  locked = refl;
+  progress = refl;
+  made = refl;
+}
 
 pub marked_onward : (u w v : World) → IsMarked u w → IsMarked w v → IsMarked u v
 marked_onward u w v a b = record {
@@ -133,7 +156,8 @@ marked_onward u w v a b = record {
 pub read_cases : (w : World) (n : ℕ) → (read_object w n ≡ w) ⊎ (read_object w n ≡ with_read w (object_item n))
 read_cases w n = by_made (is_made w n)
   where
-    by_made : (b : Bool) → ((if b then w else with_read w (object_item n)) ≡ w) ⊎ ((if b then w else with_read w (object_item n)) ≡ with_read w (object_item n))
+    by_made : (b : Bool) → ((if b then w else with_read w (object_item n)) ≡ w) ⊎
+        ((if b then w else with_read w (object_item n)) ≡ with_read w (object_item n))
     by_made true = inl refl
     by_made false = inr refl
 
@@ -143,7 +167,18 @@ read_objects w n = ⊎_elim (λ e. ap (λ (v : World). v.objects) e) (λ e. ap (
 pub read_marks : (w : World) (n : ℕ) → IsMarked w (read_object w n)
 read_marks w n = ⊎_elim
     (λ e. subst (IsMarked w) (sym e) (marked_itself w))
-    (λ e. subst (IsMarked w) (sym e) (record { count = refl; contracts = λ m. refl; states = λ m. refl; fields = λ m. refl; shared = λ m e. e; disowned = λ m e. e; locked = refl; progress = refl; made = refl }))
+    (λ e. subst (IsMarked w) (sym e)
+    (record {
+      count = refl;
+      contracts = λ m. refl;
+      states = λ m. refl;
+      fields = λ m. refl;
+      shared = λ m e. e;
+      disowned = λ m e. e;
+      locked = refl;
+      progress = refl;
+      made = refl;
+    }))
     (read_cases w n)
 
 -- the object with the mark of a shared one, and of a disowned one
@@ -183,75 +218,98 @@ edit_disowned w n = record {
 pub mark_shared_cases : (n : ℕ) (w : World)
     → ((has_mark (λ o. o.shared) (read_object w n) n ≡ true) × (mark_shared n w ≡ read_object w n))
     ⊎ (mark_shared n w ≡ edit_object with_shared n (read_object w n))
-mark_shared_cases n w = ⊎_elim (λ e. inl (e, rw e refl)) (λ e. inr (rw e refl)) (cases_Bool (has_mark (λ o. o.shared) (read_object w n) n))
+mark_shared_cases n w = ⊎_elim (λ e. inl (e, rw e refl)) (λ e. inr (rw e refl))
+    (cases_Bool (has_mark (λ o. o.shared) (read_object w n) n))
 
 pub mark_disowned_cases : (n : ℕ) (w : World)
     → ((has_mark (λ o. o.disowned) (read_object w n) n ≡ true) × (mark_disowned n w ≡ read_object w n))
     ⊎ (mark_disowned n w ≡ edit_object with_disowned n (read_object w n))
-mark_disowned_cases n w = ⊎_elim (λ e. inl (e, rw e refl)) (λ e. inr (rw e refl)) (cases_Bool (has_mark (λ o. o.disowned) (read_object w n) n))
+mark_disowned_cases n w = ⊎_elim (λ e. inl (e, rw e refl)) (λ e. inr (rw e refl))
+    (cases_Bool (has_mark (λ o. o.disowned) (read_object w n) n))
 
 pub mark_shared_marks : (n : ℕ) (w : World) → IsMarked w (mark_shared n w)
 mark_shared_marks n w = ⊎_elim
     (λ e. subst (IsMarked w) (sym e.1) (read_marks w n))
-    (λ e. subst (IsMarked w) (sym e) (marked_onward w (read_object w n) (edit_object with_shared n (read_object w n)) (read_marks w n) (edit_shared (read_object w n) n)))
+    (λ e. subst (IsMarked w) (sym e)
+    (marked_onward w (read_object w n) (edit_object with_shared n (read_object w n)) (read_marks w n)
+    (edit_shared (read_object w n) n)))
     (mark_shared_cases n w)
 
 pub mark_disowned_marks : (n : ℕ) (w : World) → IsMarked w (mark_disowned n w)
 mark_disowned_marks n w = ⊎_elim
     (λ e. subst (IsMarked w) (sym e.1) (read_marks w n))
-    (λ e. subst (IsMarked w) (sym e) (marked_onward w (read_object w n) (edit_object with_disowned n (read_object w n)) (read_marks w n) (edit_disowned (read_object w n) n)))
+    (λ e. subst (IsMarked w) (sym e)
+    (marked_onward w (read_object w n) (edit_object with_disowned n (read_object w n)) (read_marks w n)
+    (edit_disowned (read_object w n) n)))
     (mark_disowned_cases n w)
 
 -- an object that has a mark
-mark_there : (mark : Object → Bool) (w : World) (n : ℕ) → n < length w.objects → has_mark mark w n ≡ true → mark (nth_object w.objects n) ≡ true
+mark_there : (mark : Object → Bool) (w : World) (n : ℕ) → n < length w.objects → has_mark mark w n ≡ true
+    → mark (nth_object w.objects n) ≡ true
 mark_there mark w n lt e = sym (ap (λ x. option_map_or mark x true) (is_there w.objects n lt)) ∙ e
 
 -- the object is marked afterwards
-pub mark_shared_sets : (n : ℕ) (w : World) → n < length w.objects → (nth_object (mark_shared n w).objects n).shared ≡ true
+pub mark_shared_sets : (n : ℕ) (w : World) → n < length w.objects
+    → (nth_object (mark_shared n w).objects n).shared ≡ true
 mark_shared_sets n w lt =
-    let low : n < length (read_object w n).objects = subst (λ (os : List Object). n < length os) (sym (read_objects w n)) lt in
+    let low : n < length (read_object w n).objects = subst (λ (os : List Object). n < length os)
+    (sym (read_objects w n)) lt in
     ⊎_elim
-    (λ e. ap (λ (v : World). (nth_object v.objects n).shared) e.1 ∙ mark_there (λ o. o.shared) (read_object w n) n low e.0)
-    (λ e. ap (λ (v : World). (nth_object v.objects n).shared) e ∙ ap (λ (o : Object). o.shared) (edit_same with_shared n (read_object w n) low))
+    (λ e. ap (λ (v : World). (nth_object v.objects n).shared) e.1
+    ∙ mark_there (λ o. o.shared) (read_object w n) n low e.0)
+    (λ e. ap (λ (v : World). (nth_object v.objects n).shared) e
+    ∙ ap (λ (o : Object). o.shared) (edit_same with_shared n (read_object w n) low))
     (mark_shared_cases n w)
 
-pub mark_disowned_sets : (n : ℕ) (w : World) → n < length w.objects → (nth_object (mark_disowned n w).objects n).disowned ≡ true
+pub mark_disowned_sets : (n : ℕ) (w : World) → n < length w.objects
+    → (nth_object (mark_disowned n w).objects n).disowned ≡ true
 mark_disowned_sets n w lt =
-    let low : n < length (read_object w n).objects = subst (λ (os : List Object). n < length os) (sym (read_objects w n)) lt in
+    let low : n < length (read_object w n).objects = subst (λ (os : List Object). n < length os)
+    (sym (read_objects w n)) lt in
     ⊎_elim
-    (λ e. ap (λ (v : World). (nth_object v.objects n).disowned) e.1 ∙ mark_there (λ o. o.disowned) (read_object w n) n low e.0)
-    (λ e. ap (λ (v : World). (nth_object v.objects n).disowned) e ∙ ap (λ (o : Object). o.disowned) (edit_same with_disowned n (read_object w n) low))
+    (λ e. ap (λ (v : World). (nth_object v.objects n).disowned) e.1
+    ∙ mark_there (λ o. o.disowned) (read_object w n) n low e.0)
+    (λ e. ap (λ (v : World). (nth_object v.objects n).disowned) e
+    ∙ ap (λ (o : Object). o.disowned) (edit_same with_disowned n (read_object w n) low))
     (mark_disowned_cases n w)
 
 -- no other object is marked
 read_same : (w : World) (n m : ℕ) → nth_object (read_object w n).objects m ≡ nth_object w.objects m
 read_same w n m = ap (λ (os : List Object). nth_object os m) (read_objects w n)
 
-pub mark_shared_other : (n : ℕ) (w : World) (m : ℕ) → m ≢ n → nth_object (mark_shared n w).objects m ≡ nth_object w.objects m
+pub mark_shared_other : (n : ℕ) (w : World) (m : ℕ) → m ≢ n
+    → nth_object (mark_shared n w).objects m ≡ nth_object w.objects m
 mark_shared_other n w m ne = ⊎_elim
     (λ e. ap (λ (v : World). nth_object v.objects m) e.1 ∙ read_same w n m)
-    (λ e. ap (λ (v : World). nth_object v.objects m) e ∙ edit_other with_shared n (read_object w n) m ne ∙ read_same w n m)
+    (λ e. ap (λ (v : World). nth_object v.objects m) e ∙ edit_other with_shared n (read_object w n) m ne
+    ∙ read_same w n m)
     (mark_shared_cases n w)
 
-pub mark_disowned_other : (n : ℕ) (w : World) (m : ℕ) → m ≢ n → nth_object (mark_disowned n w).objects m ≡ nth_object w.objects m
+pub mark_disowned_other : (n : ℕ) (w : World) (m : ℕ) → m ≢ n
+    → nth_object (mark_disowned n w).objects m ≡ nth_object w.objects m
 mark_disowned_other n w m ne = ⊎_elim
     (λ e. ap (λ (v : World). nth_object v.objects m) e.1 ∙ read_same w n m)
-    (λ e. ap (λ (v : World). nth_object v.objects m) e ∙ edit_other with_disowned n (read_object w n) m ne ∙ read_same w n m)
+    (λ e. ap (λ (v : World). nth_object v.objects m) e ∙ edit_other with_disowned n (read_object w n) m ne
+    ∙ read_same w n m)
     (mark_disowned_cases n w)
 
 -- each kind of mark leaves the other
-pub mark_shared_keeps_owner : (n : ℕ) (w : World) (m : ℕ) → (nth_object (mark_shared n w).objects m).disowned ≡ (nth_object w.objects m).disowned
+pub mark_shared_keeps_owner : (n : ℕ) (w : World) (m : ℕ)
+    → (nth_object (mark_shared n w).objects m).disowned ≡ (nth_object w.objects m).disowned
 mark_shared_keeps_owner n w m = ⊎_elim
     (λ e. ap (λ (v : World). (nth_object v.objects m).disowned) e.1 ∙ ap (λ (o : Object). o.disowned) (read_same w n m))
     (λ e. ap (λ (v : World). (nth_object v.objects m).disowned) e
-    ∙ edit_each (λ o p. p.disowned ≡ o.disowned) with_shared n (read_object w n) (λ o. refl) (λ o. refl) m ∙ ap (λ (o : Object). o.disowned) (read_same w n m))
+    ∙ edit_each (λ o p. p.disowned ≡ o.disowned) with_shared n (read_object w n) (λ o. refl) (λ o. refl) m
+    ∙ ap (λ (o : Object). o.disowned) (read_same w n m))
     (mark_shared_cases n w)
 
-pub mark_disowned_keeps_shares : (n : ℕ) (w : World) (m : ℕ) → (nth_object (mark_disowned n w).objects m).shared ≡ (nth_object w.objects m).shared
+pub mark_disowned_keeps_shares : (n : ℕ) (w : World) (m : ℕ)
+    → (nth_object (mark_disowned n w).objects m).shared ≡ (nth_object w.objects m).shared
 mark_disowned_keeps_shares n w m = ⊎_elim
     (λ e. ap (λ (v : World). (nth_object v.objects m).shared) e.1 ∙ ap (λ (o : Object). o.shared) (read_same w n m))
     (λ e. ap (λ (v : World). (nth_object v.objects m).shared) e
-    ∙ edit_each (λ o p. p.shared ≡ o.shared) with_disowned n (read_object w n) (λ o. refl) (λ o. refl) m ∙ ap (λ (o : Object). o.shared) (read_same w n m))
+    ∙ edit_each (λ o p. p.shared ≡ o.shared) with_disowned n (read_object w n) (λ o. refl) (λ o. refl) m
+    ∙ ap (λ (o : Object). o.shared) (read_same w n m))
     (mark_disowned_cases n w)
 
 -- A value that comes into a place of a type: what this is.
@@ -276,7 +334,8 @@ comes_marks of v w = ⊎_elim
     (λ e. subst (IsMarked w) (sym e) (marked_itself w))
     (comes_cases of v w)
 
-pub comes_keeps_owner : (of : ResolvedType) (v : Value) (w : World) (m : ℕ) → (nth_object (comes_into of v w).objects m).disowned ≡ (nth_object w.objects m).disowned
+pub comes_keeps_owner : (of : ResolvedType) (v : Value) (w : World) (m : ℕ)
+    → (nth_object (comes_into of v w).objects m).disowned ≡ (nth_object w.objects m).disowned
 comes_keeps_owner of v w m = ⊎_elim
     (λ e. ap (λ (u : World). (nth_object u.objects m).disowned) e.3 ∙ mark_shared_keeps_owner e.0 w m)
     (λ e. ap (λ (u : World). (nth_object u.objects m).disowned) e)
@@ -288,7 +347,9 @@ pub comes_newly_shared : (of : ResolvedType) (v : Value) (w : World) (m : ℕ) �
 comes_newly_shared of v w m unset set = ⊎_elim
     (λ e. ⊎_elim
     (λ q. (e.1 ∙ ap reference (sym q.1), e.2))
-    (λ q. absurd (both_ways _ unset (sym (ap (λ (o : Object). o.shared) (mark_shared_other e.0 w m q.1)) ∙ sym (ap (λ (u : World). (nth_object u.objects m).shared) e.3) ∙ set)))
+    (λ q. absurd (both_ways _ unset
+    (sym (ap (λ (o : Object). o.shared) (mark_shared_other e.0 w m q.1))
+    ∙ sym (ap (λ (u : World). (nth_object u.objects m).shared) e.3) ∙ set)))
     (eqb_tells m e.0))
     (λ e. absurd (both_ways _ unset (sym (ap (λ (u : World). (nth_object u.objects m).shared) e) ∙ set)))
     (comes_cases of v w)
@@ -297,11 +358,13 @@ comes_newly_shared of v w m unset set = ⊎_elim
 shared_marks : (of : ResolvedType) (n : ℕ) (w : World) → n < length w.objects → permission_of_type of ≡ shared
     → (nth_object (comes_into of (reference n) w).objects n).shared ≡ true
 shared_marks (Reference id p) n w lt e =
-    ap (λ (b : Bool). (nth_object (if b then mark_shared n w else w).objects n).shared) (ap is_shared e) ∙ mark_shared_sets n w lt
+    ap (λ (b : Bool). (nth_object (if b then mark_shared n w else w).objects n).shared) (ap is_shared e)
+    ∙ mark_shared_sets n w lt
 shared_marks Int n w lt e = absurd (cc)
 shared_marks BoolType n w lt e = absurd (cc)
 shared_marks Text n w lt e = absurd (cc)
 
 pub comes_sets : (of : ResolvedType) (v : Value) (w : World) (n : ℕ) → n < length w.objects → v ≡ reference n
     → permission_of_type of ≡ shared → (nth_object (comes_into of v w).objects n).shared ≡ true
-comes_sets of v w n lt is e = subst (λ u. (nth_object (comes_into of u w).objects n).shared ≡ true) (sym is) (shared_marks of n w lt e)
+comes_sets of v w n lt is e = subst (λ u. (nth_object (comes_into of u w).objects n).shared ≡ true) (sym is)
+    (shared_marks of n w lt e)

@@ -23,7 +23,19 @@ use Rattle.ob_coherent_places_laws.proofs.Reading.{self_same, field_cell_is, fie
 -- What stays.
 
 pub stays_itself : (h : Here) → Stays h h
-stays_itself h = record { this = refl; count = refl; contracts = λ n. refl; states = λ n. refl; fields = λ n k ne. refl; notes = λ n k ne. refl; shared = λ n e. e; disowned = λ n e. e; handles = refl; locked = refl; progress = refl }
+stays_itself h = record {
+  this = refl;
+  count = refl;
+  contracts = λ n. refl;
+  states = λ n. refl;
+  fields = λ n k ne. refl;
+  notes = λ n k ne. refl;
+  shared = λ n e. e;
+  disowned = λ n e. e;
+  handles = refl;
+  locked = refl;
+  progress = refl;
+}
 
 pub stays_onward : (h1 h2 h3 : Here) → Stays h1 h2 → Stays h2 h3 → Stays h1 h3
 stays_onward h1 h2 h3 a b = record {
@@ -42,21 +54,46 @@ stays_onward h1 h2 h3 a b = record {
 
 -- other frames and objects are left as they are
 pub stays_leaves : (c : Configuration) (h : Here) → Stays (here c) h → LeavesOthers c h
-stays_leaves c h a = record { count = a.count; contracts = a.contracts; states = λ n ne. a.states n; fields = a.fields; notes = a.notes; shared = a.shared; disowned = a.disowned; handles = a.handles; progress = a.progress }
+stays_leaves c h a = record {
+  count = a.count;
+  contracts = a.contracts;
+  states = λ n ne. a.states n;
+  fields = a.fields;
+  notes = a.notes;
+  shared = a.shared;
+  disowned = a.disowned;
+  handles = a.handles;
+  progress = a.progress;
+}
 
 -- Marks.
 
 pub marks_stay : (h : Here) (w : World) → IsMarked h.world w → Stays h (record h { world = w })
-marks_stay h w m = record { this = refl; count = m.count; contracts = m.contracts; states = m.states; fields = λ n k ne. ap (λ (f : ℕ → Option Value). f k) (m.fields n); notes = λ n k ne. refl; shared = m.shared; disowned = m.disowned; handles = refl; locked = m.locked; progress = m.progress }
+marks_stay h w m = record {
+  this = refl;
+  count = m.count;
+  contracts = m.contracts;
+  states = m.states;
+  fields = λ n k ne. ap (λ (f : ℕ → Option Value). f k) (m.fields n);
+  notes = λ n k ne. refl;
+  shared = m.shared;
+  disowned = m.disowned;
+  handles = refl;
+  locked = m.locked;
+  progress = m.progress;
+}
 
 pub marks_same_cells : (h : Here) (w : World) → IsMarked h.world w → SameCells h (record h { world = w })
 marks_same_cells h w m = record { stays = marks_stay h w m; same = places }
   where
     places : (q : Location) → cell_at (record h { world = w }) q ≡ cell_at h q
     places (slot k) = refl
-    places (field k) = ap (λ (f : ℕ → Option Value). option_map (λ v. record { value = v; note = h.notes.fields (self_of h.slots) k }) (f k)) (m.fields (self_of h.slots))
+    places (field k) = ap
+        (λ (f : ℕ → Option Value). option_map (λ v. record { value = v; note = h.notes.fields (self_of h.slots) k })
+        (f k)) (m.fields (self_of h.slots))
 
-pub written_after : (h1 h2 h3 : Here) (p : Location) (x : Option Cell) → SameCells h1 h2 → Written p x h2 h3 → Written p x h1 h3
+pub written_after : (h1 h2 h3 : Here) (p : Location) (x : Option Cell) → SameCells h1 h2 → Written p x h2 h3
+    → Written p x h1 h3
 written_after h1 h2 h3 p x a b = record {
   stays = stays_onward h1 h2 h3 a.stays b.stays;
   itself = b.itself;
@@ -76,7 +113,19 @@ keeps_this h k x keep = self_same h.slots (at h.slots k x) (⊎_elim
     (eqb_tells 0 k))
 
 pub slot_stays : (k : ℕ) (x : Option Cell) (h : Here) → KeepsThis h k x → Stays h (set_slot k x h)
-slot_stays k x h keep = record { this = keeps_this h k x keep; count = refl; contracts = λ n. refl; states = λ n. refl; fields = λ n k ne. refl; notes = λ n k ne. refl; shared = λ n e. e; disowned = λ n e. e; handles = refl; locked = refl; progress = refl }
+slot_stays k x h keep = record {
+  this = keeps_this h k x keep;
+  count = refl;
+  contracts = λ n. refl;
+  states = λ n. refl;
+  fields = λ n k ne. refl;
+  notes = λ n k ne. refl;
+  shared = λ n e. e;
+  disowned = λ n e. e;
+  handles = refl;
+  locked = refl;
+  progress = refl;
+}
 
 pub slot_written : (k : ℕ) (x : Option Cell) (h : Here) → KeepsThis h k x → Written (slot k) x h (set_slot k x h)
 slot_written k x h keep = record { stays = slot_stays k x h keep; itself = at_same h.slots k x; others = places }
@@ -91,13 +140,18 @@ slot_marks k x h = record { shared = λ n. refl; disowned = λ n. refl }
 -- A field of `this` is written.
 
 note_same : (notes : Notes) (n k : ℕ) (note : Known) → (with_field_note notes n k note).fields n k ≡ note
-note_same notes n k note = ap (λ (f : ℕ → Known). f k) (at_same notes.fields n (at (notes.fields n) k note)) ∙ at_same (notes.fields n) k note
+note_same notes n k note = ap (λ (f : ℕ → Known). f k) (at_same notes.fields n (at (notes.fields n) k note))
+    ∙ at_same (notes.fields n) k note
 
-note_other : (notes : Notes) (n k : ℕ) (note : Known) (f : ℕ) → f ≢ k → (with_field_note notes n k note).fields n f ≡ notes.fields n f
-note_other notes n k note f ne = ap (λ (g : ℕ → Known). g f) (at_same notes.fields n (at (notes.fields n) k note)) ∙ at_other (notes.fields n) k note f ne
+note_other : (notes : Notes) (n k : ℕ) (note : Known) (f : ℕ) → f ≢ k
+    → (with_field_note notes n k note).fields n f ≡ notes.fields n f
+note_other notes n k note f ne = ap (λ (g : ℕ → Known). g f) (at_same notes.fields n (at (notes.fields n) k note))
+    ∙ at_other (notes.fields n) k note f ne
 
-note_elsewhere : (notes : Notes) (n k : ℕ) (note : Known) (m f : ℕ) → m ≢ n → (with_field_note notes n k note).fields m f ≡ notes.fields m f
-note_elsewhere notes n k note m f ne = ap (λ (g : ℕ → Known). g f) (at_other notes.fields n (at (notes.fields n) k note) m ne)
+note_elsewhere : (notes : Notes) (n k : ℕ) (note : Known) (m f : ℕ) → m ≢ n
+    → (with_field_note notes n k note).fields m f ≡ notes.fields m f
+note_elsewhere notes n k note m f ne = ap (λ (g : ℕ → Known). g f)
+    (at_other notes.fields n (at (notes.fields n) k note) m ne)
 
 put_same : (xs : Numbered Value) (k : ℕ) (v : Value) → put xs k v k ≡ Some v
 put_same xs k v = rw (eq-eqb k k refl)
@@ -120,11 +174,13 @@ field_stays k x h = let n = self_of h.slots in let f = with_field k x.value in r
   progress = edit_rest (λ v. v.progress) f n h.world (λ os. refl);
 }
 
-pub field_written : (k : ℕ) (x : Cell) (h : Here) → self_of h.slots < length h.world.objects → Written (field k) (Some x) h (set_field k x h)
+pub field_written : (k : ℕ) (x : Cell) (h : Here) → self_of h.slots < length h.world.objects
+    → Written (field k) (Some x) h (set_field k x h)
 field_written k x h lt = record {
   stays = field_stays k x h;
   itself = field_cell_from (set_field k x h).notes (set_field k x h).world.objects (self_of h.slots) k x.value
-      (ap (λ (o : Object). o.fields k) (edit_same (with_field k x.value) (self_of h.slots) h.world lt) ∙ put_same (nth_object h.world.objects (self_of h.slots)).fields k x.value)
+      (ap (λ (o : Object). o.fields k) (edit_same (with_field k x.value) (self_of h.slots) h.world lt)
+      ∙ put_same (nth_object h.world.objects (self_of h.slots)).fields k x.value)
       ∙ ap (λ y. Some (record { value = x.value; note = y })) (note_same h.notes (self_of h.slots) k x.note);
   others = places;
 }
@@ -133,14 +189,18 @@ field_written k x h lt = record {
     places (slot n) ne = refl
     places (field f) ne =
         let apart : f ≢ k = λ e. both_ways _ ne (eq-eqb f k e) in
-        same_field_cell h.notes (set_field k x h).notes h.world.objects (set_field k x h).world.objects (self_of h.slots) f
-        (ap (λ (o : Object). o.fields f) (edit_same (with_field k x.value) (self_of h.slots) h.world lt) ∙ put_other (nth_object h.world.objects (self_of h.slots)).fields k x.value f apart)
+        same_field_cell h.notes (set_field k x h).notes h.world.objects (set_field k x h).world.objects
+        (self_of h.slots) f
+        (ap (λ (o : Object). o.fields f) (edit_same (with_field k x.value) (self_of h.slots) h.world lt)
+        ∙ put_other (nth_object h.world.objects (self_of h.slots)).fields k x.value f apart)
         (note_other h.notes (self_of h.slots) k x.note f apart)
 
 pub field_marks : (k : ℕ) (x : Cell) (h : Here) → SameMarks h (set_field k x h)
 field_marks k x h = record {
-  shared = edit_each (λ o p. p.shared ≡ o.shared) (with_field k x.value) (self_of h.slots) h.world (λ o. refl) (λ o. refl);
-  disowned = edit_each (λ o p. p.disowned ≡ o.disowned) (with_field k x.value) (self_of h.slots) h.world (λ o. refl) (λ o. refl);
+  shared = edit_each (λ o p. p.shared ≡ o.shared) (with_field k x.value) (self_of h.slots) h.world (λ o. refl)
+      (λ o. refl);
+  disowned = edit_each (λ o p. p.disowned ≡ o.disowned) (with_field k x.value) (self_of h.slots) h.world (λ o. refl)
+      (λ o. refl);
 }
 
 -- A place gets another permission.
@@ -149,30 +209,53 @@ noted_object : (q : Permission) (x : Option Cell) → object_in (option_map (not
 noted_object q None = refl
 noted_object q (Some x) = refl
 
-pub permission_written : (p : Location) (q : Permission) (x : Cell) (h : Here) → cell_at h p ≡ Some x → Written p (Some (noted q x)) h (set_permission p q h)
-permission_written (slot k) q x h e = subst (λ z. Written (slot k) z h (set_permission (slot k) q h)) (ap (option_map (noted q)) e)
-    (slot_written k (option_map (noted q) (h.slots k)) h (λ z. noted_object q (h.slots k) ∙ ap (λ n. object_in (h.slots n)) z))
+pub permission_written : (p : Location) (q : Permission) (x : Cell) (h : Here) → cell_at h p ≡ Some x
+    → Written p (Some (noted q x)) h (set_permission p q h)
+permission_written (slot k) q x h e = subst (λ z. Written (slot k) z h (set_permission (slot k) q h))
+    (ap (option_map (noted q)) e)
+    (slot_written k (option_map (noted q) (h.slots k)) h
+    (λ z. noted_object q (h.slots k) ∙ ap (λ n. object_in (h.slots n)) z))
 permission_written (field k) q x h e =
     let n = self_of h.slots in
     let is = field_cell_is h.notes h.world.objects n k x e in
     record {
-      stays = record { this = refl; count = refl; contracts = λ m. refl; states = λ m. refl; fields = λ m j ne. refl; notes = λ m j ne. note_elsewhere h.notes n k (known (h.notes.fields n k).kind q) m j ne; shared = λ m z. z; disowned = λ m z. z; handles = refl; locked = refl; progress = refl };
+      stays = record {
+        this = refl;
+        count = refl;
+        contracts = λ m. refl;
+        states = λ m. refl;
+        fields = λ m j ne. refl;
+        notes = λ m j ne. note_elsewhere h.notes n k (known (h.notes.fields n k).kind q) m j ne;
+        shared = λ m z. z;
+        disowned = λ m z. z;
+        handles = refl;
+        locked = refl;
+        progress = refl;
+      };
       itself = field_cell_from (set_permission (field k) q h).notes h.world.objects n k x.value is.0
-          ∙ ap (λ y. Some (record { value = x.value; note = y })) (note_same h.notes n k (known (h.notes.fields n k).kind q) ∙ ap (λ (y : Known). known y.kind q) is.1);
+          ∙ ap (λ y. Some (record { value = x.value; note = y }))
+          (note_same h.notes n k (known (h.notes.fields n k).kind q) ∙ ap (λ (y : Known). known y.kind q) is.1);
       others = places;
     }
   where
     places : (r : Location) → same_location r (field k) ≡ false → cell_at (set_permission (field k) q h) r ≡ cell_at h r
     places (slot j) ne = refl
-    places (field f) ne = same_field_cell h.notes (set_permission (field k) q h).notes h.world.objects h.world.objects (self_of h.slots) f refl
-        (note_other h.notes (self_of h.slots) k (known (h.notes.fields (self_of h.slots) k).kind q) f (λ z. both_ways _ ne (eq-eqb f k z)))
+    places (field f) ne = same_field_cell h.notes (set_permission (field k) q h).notes h.world.objects h.world.objects
+        (self_of h.slots) f refl
+        (note_other h.notes (self_of h.slots) k (known (h.notes.fields (self_of h.slots) k).kind q) f
+        (λ z. both_ways _ ne (eq-eqb f k z)))
 
 pub permission_world : (p : Location) (q : Permission) (h : Here) → (set_permission p q h).world ≡ h.world
 permission_world (slot k) q h = refl
 permission_world (field k) q h = refl
 
 pub permission_marks : (p : Location) (q : Permission) (h : Here) → SameMarks h (set_permission p q h)
-permission_marks p q h = record { shared = λ n. ap (λ (w : World). (nth_object w.objects n).shared) (permission_world p q h); disowned = λ n. ap (λ (w : World). (nth_object w.objects n).disowned) (permission_world p q h) }
+permission_marks p q h = record {
+  shared = λ n. ap (λ (w : World). (nth_object w.objects n).shared)
+      (permission_world p q h);
+  disowned = λ n. ap (λ (w : World). (nth_object w.objects n).disowned)
+      (permission_world p q h);
+}
 
 -- A place hands its value over.
 
@@ -181,19 +264,26 @@ pub hand_written : (of : ResolvedType) (p : Location) (x : Cell) (h : Here) → 
 hand_written of p x h e =
     let m = marks_same_cells h (comes_into of x.value h.world) (comes_marks of x.value h.world) in
     written_after h (record h { world = comes_into of x.value h.world }) (hand of p x h) p _ m
-    (permission_written p (kept x.note.permission (permission_of_type of)) x (record h { world = comes_into of x.value h.world }) (m.same p ∙ e))
+    (permission_written p (kept x.note.permission (permission_of_type of)) x
+    (record h { world = comes_into of x.value h.world }) (m.same p ∙ e))
 
-pub hand_world : (of : ResolvedType) (p : Location) (x : Cell) (h : Here) → (hand of p x h).world ≡ comes_into of x.value h.world
-hand_world of p x h = permission_world p (kept x.note.permission (permission_of_type of)) (record h { world = comes_into of x.value h.world })
+pub hand_world : (of : ResolvedType) (p : Location) (x : Cell) (h : Here)
+    → (hand of p x h).world ≡ comes_into of x.value h.world
+hand_world of p x h = permission_world p (kept x.note.permission (permission_of_type of))
+    (record h { world = comes_into of x.value h.world })
 
 -- only its object is newly shared, where the type is declared Shared, and no object is newly disowned
-pub hand_shares : (of : ResolvedType) (p : Location) (x : Cell) (h : Here) (n : ℕ) → (nth_object h.world.objects n).shared ≡ false
-    → (nth_object (hand of p x h).world.objects n).shared ≡ true → (x.value ≡ reference n) × (permission_of_type of ≡ shared)
-hand_shares of p x h n unset set = comes_newly_shared of x.value h.world n unset (sym (ap (λ (w : World). (nth_object w.objects n).shared) (hand_world of p x h)) ∙ set)
+pub hand_shares : (of : ResolvedType) (p : Location) (x : Cell) (h : Here) (n : ℕ)
+    → (nth_object h.world.objects n).shared ≡ false
+    → (nth_object (hand of p x h).world.objects n).shared ≡ true → (x.value ≡ reference n)
+    × (permission_of_type of ≡ shared)
+hand_shares of p x h n unset set = comes_newly_shared of x.value h.world n unset
+    (sym (ap (λ (w : World). (nth_object w.objects n).shared) (hand_world of p x h)) ∙ set)
 
 pub hand_disowns_none : (of : ResolvedType) (p : Location) (x : Cell) (h : Here) (n : ℕ)
     → (nth_object (hand of p x h).world.objects n).disowned ≡ (nth_object h.world.objects n).disowned
-hand_disowns_none of p x h n = ap (λ (w : World). (nth_object w.objects n).disowned) (hand_world of p x h) ∙ comes_keeps_owner of x.value h.world n
+hand_disowns_none of p x h n = ap (λ (w : World). (nth_object w.objects n).disowned) (hand_world of p x h)
+    ∙ comes_keeps_owner of x.value h.world n
 
 -- An object is disowned.
 
@@ -205,6 +295,8 @@ disown_written n p x h e =
     (permission_written p unowned x (record h { world = mark_disowned n h.world }) (m.same p ∙ e))
 
 pub disown_shares_none : (n : ℕ) (p : Location) (h : Here) (m : ℕ)
-    → (nth_object (set_permission p unowned (record h { world = mark_disowned n h.world })).world.objects m).shared ≡ (nth_object h.world.objects m).shared
-disown_shares_none n p h m = ap (λ (w : World). (nth_object w.objects m).shared) (permission_world p unowned (record h { world = mark_disowned n h.world }))
+    → (nth_object (set_permission p unowned (record h { world = mark_disowned n h.world })).world.objects m).shared ≡
+    (nth_object h.world.objects m).shared
+disown_shares_none n p h m = ap (λ (w : World). (nth_object w.objects m).shared)
+    (permission_world p unowned (record h { world = mark_disowned n h.world }))
     ∙ mark_disowned_keeps_shares n h.world m

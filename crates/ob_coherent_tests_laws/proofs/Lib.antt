@@ -1,0 +1,4 @@
+pub mod Finding
+pub mod Unchanged
+pub mod Operands
+pub mod Conditions
