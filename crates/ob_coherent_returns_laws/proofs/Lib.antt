@@ -3,3 +3,4 @@ pub mod Result
 pub mod Below
 pub mod Returned
 pub mod Resuming
+pub mod Lent
