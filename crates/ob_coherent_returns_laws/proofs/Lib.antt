@@ -4,3 +4,4 @@ pub mod Below
 pub mod Returned
 pub mod Resuming
 pub mod Lent
+pub mod GivingBack
