@@ -5,3 +5,4 @@ pub mod Returned
 pub mod Resuming
 pub mod Lent
 pub mod GivingBack
+pub mod Silent
