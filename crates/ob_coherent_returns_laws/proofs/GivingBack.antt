@@ -55,7 +55,7 @@ use Rattle.ob_coherent_places_laws.proofs.Keeping.{written_that, slots_stand, fi
 use Rattle.ob_coherent_places_laws.proofs.Carrying.{noted_alike}
 use Rattle.ob_coherent_places_laws.proofs.Getting.{objects_low}
 use Rattle.ob_coherent_returns_laws.proofs.Below.{is_far}
-use Rattle.ob_coherent_returns_laws.proofs.Returned.{back_to, Returned, to_returning}
+use Rattle.ob_coherent_returns_laws.proofs.Returned.{back_to, Returned, to_returning, same_gift}
 use Rattle.ob_coherent_returns_laws.proofs.Lent.{state_of, back_owners, back_kept, back_shared, back_stands}
 
 some_same : {A : Type 0} (x y : A) → Some x ≡ Some y → x ≡ y
@@ -82,12 +82,6 @@ unowned_stands table objects y s = record {
   marked = λ e. absurd (let z : unowned ≡ shared = e in cc);
   states = λ a e. absurd (let z : unowned ≡ owned a = e in cc);
 }
-
-same_gift : (how : How) (f : SilicaFrame) (slots : SlotCells) (parts : BodyParts)
-    → gives_back_by how (frame_with f slots) parts ≡ gives_back_by how f parts
-same_gift by_receiver f slots parts = refl
-same_gift by_this f slots parts = refl
-same_gift by_new f slots parts = refl
 
 is_new : (how : How) → (how ≡ by_new) ⊎ (how ≢ by_new)
 is_new by_new = inl refl

@@ -6,3 +6,4 @@ pub mod Resuming
 pub mod Lent
 pub mod GivingBack
 pub mod Silent
+pub mod Ending
