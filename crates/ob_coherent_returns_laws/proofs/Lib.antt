@@ -7,3 +7,4 @@ pub mod Lent
 pub mod GivingBack
 pub mod Silent
 pub mod Ending
+pub mod Handed
