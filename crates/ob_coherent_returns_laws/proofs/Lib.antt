@@ -8,3 +8,4 @@ pub mod GivingBack
 pub mod Silent
 pub mod Ending
 pub mod Handed
+pub mod AtReturn
