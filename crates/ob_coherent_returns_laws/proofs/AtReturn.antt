@@ -275,7 +275,7 @@ module _ (table : ClassTable) (t : IsClassTable table) (entry : Option ℕ) (beg
         by_permission shared e = subst (λ q. possible (length k.whole.parts.own.states) q own_state ≡ true) (sym e) (any_state (ap owns e))
         by_permission unowned e = subst (λ q. possible (length k.whole.parts.own.states) q own_state ≡ true) (sym e) (any_state (ap owns e))
 
-    field_left : possible_under b (permission_at (tests_ended (tested_places outer) v) this) own_state ≡ true → (j : ℕ) → available b j own_state ≡ true
+    pub field_left : possible_under b (permission_at (tests_ended (tested_places outer) v) this) own_state ≡ true → (j : ℕ) → available b j own_state ≡ true
         → is_held_as (tests_ended (tested_places outer) v (field j)) (exit_of_field b b.signature j) ≡ true
     field_left can j there = m.fields j low_field
         (meets_from (possible_under b (permission_at (tests_ended (tested_places outer) v) this)) (available b j) own_state low can there)
@@ -294,7 +294,7 @@ module _ (table : ClassTable) (t : IsClassTable table) (entry : Option ℕ) (beg
             ∙ ap (λ x. is_owned_asset table (with_permission shared x)) (none j past)
         by_test false e = ap (λ z. is_owned_asset table (if z then with_permission shared (v (slot j)) else v (slot j))) e ∙ ap (is_owned_asset table) (none j past)
 
-    others_left : ((j : ℕ) → k.whole.parts.slots ≤ j → v (slot j) ≡ None) → (j : ℕ) → length k.whole.parts.signature.params < j
+    pub others_left : ((j : ℕ) → k.whole.parts.slots ≤ j → v (slot j) ≡ None) → (j : ℕ) → length k.whole.parts.signature.params < j
         → owns_asset b (tests_ended (tested_places outer) v) (slot j) ≡ false
     others_left none j more = ⊎_elim (λ below. m.others j more below) (λ past. past_ended none j past) (cases_lt j k.whole.parts.slots)
 

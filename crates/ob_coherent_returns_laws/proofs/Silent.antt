@@ -4,13 +4,14 @@ use Rattle.ob_table.specs.Tables.{ClassTable}
 use Rattle.ob_table_spec.specs.Conditions.{IsClassTable}
 use Rattle.ob_heap_spec.specs.Worlds.{World}
 use Rattle.ob_silica_steps.specs.Cells.{Cell}
-use Rattle.ob_silica_steps.specs.Configurations.{SilicaFrame, Loan, Waiting, Control, leaves, Notes, Configuration}
+use Rattle.ob_silica_steps.specs.Configurations.{SilicaFrame, Loan, Waiting, Rest, Control, runs, leaves, Notes, Configuration}
 use Rattle.ob_silica_steps.specs.Returning.{gives_back, goes_back, leave_step}
-use Rattle.ob_coherent_spec.specs.Coherent.{Beginning, IsLeaving, IsReturning, StepsSo}
+use Rattle.ob_coherent_spec.specs.Coherent.{Beginning, IsRunning, IsLeaving, IsReturning, IsCoherent, running, leaving, returning, StepsSo}
 use Rattle.ob_coherent_returns_laws.proofs.Leaving.{ends_alone, leaving_returns}
 use Rattle.ob_coherent_returns_laws.proofs.Returned.{back_to, Returned, from_returning}
 use Rattle.ob_coherent_returns_laws.proofs.Resuming.{resumes_so}
 use Rattle.ob_coherent_returns_laws.proofs.GivingBack.{unlends_so}
+use Rattle.ob_coherent_returns_laws.proofs.Ending.{leaving_steps}
 
 -- what was lent goes back, or the frame goes on
 gives_so : (table : ClassTable) (entry : Option ℕ) (beginning : Beginning) → IsClassTable table → (f : SilicaFrame) (result : Option Cell)
@@ -44,3 +45,31 @@ left_steps table entry beginning t c k outer = by_stack c.stack refl
     by_stack [] e = subst (λ s. StepsSo table entry beginning (goes_back s k.result c)) (sym e) (ends_alone table entry beginning c k outer e)
     by_stack (h ∷ hs) e = returning_steps table entry beginning t c k.result h hs
         (k.control ∙ ap (leaves k.result) outer) e (leaving_returns table entry beginning c t k outer h hs e)
+
+leaves_result : (x y : Option Cell) (xs ys : List Rest) → leaves x xs ≡ leaves y ys → x ≡ y
+leaves_result x y xs ys e = cc
+
+leaves_lists : (x y : Option Cell) (xs ys : List Rest) → leaves x xs ≡ leaves y ys → xs ≡ ys
+leaves_lists x y xs ys e = cc
+
+-- a list around ends, or all have
+leaving_goes : (table : ClassTable) (entry : Option ℕ) (beginning : Beginning) → IsClassTable table → (c : Configuration)
+    → (k : IsLeaving table entry beginning c) → (outer : List Rest) → k.outer ≡ outer → StepsSo table entry beginning (leave_step k.result outer c)
+leaving_goes table entry beginning t c k [] e = left_steps table entry beginning t c k e
+leaving_goes table entry beginning t c k (r ∷ outer) e = leaving_steps table entry beginning t c k r outer e
+
+-- Each silent step of a return leads from a coherent configuration to another one, or to the end of the run.
+pub leave_keeps : (table : ClassTable) (entry : Option ℕ) (beginning : Beginning) → IsClassTable table → (c : Configuration)
+    → (result : Option Cell) (outer : List Rest) → c.control ≡ leaves result outer → IsCoherent table entry beginning c
+    → StepsSo table entry beginning (leave_step result outer c)
+leave_keeps table entry beginning t c result outer so (running k) = absurd (never k.terms k.outer result outer (sym k.control ∙ so))
+  where
+    never : (terms : _) (lists : List Rest) (result : Option Cell) (outer : List Rest) → runs terms lists ≡ leaves result outer → ⊥
+    never terms lists result outer e = cc
+leave_keeps table entry beginning t c result outer so (leaving k) =
+    subst (λ x. StepsSo table entry beginning (leave_step x outer c)) (leaves_result k.result result k.outer outer (sym k.control ∙ so))
+    (leaving_goes table entry beginning t c k outer (leaves_lists k.result result k.outer outer (sym k.control ∙ so)))
+leave_keeps table entry beginning t c result outer so (returning k) =
+    subst (λ x. StepsSo table entry beginning (leave_step x outer c)) (leaves_result k.result result [] outer (sym k.control ∙ so))
+    (subst (λ xs. StepsSo table entry beginning (leave_step k.result xs c)) (leaves_lists k.result result [] outer (sym k.control ∙ so))
+    (returning_steps table entry beginning t c k.result k.below k.others k.control k.stack k))
