@@ -5,3 +5,5 @@ pub mod Binding
 pub mod BindingAll
 pub mod Running
 pub mod Lending
+pub mod Called
+pub mod Caller
