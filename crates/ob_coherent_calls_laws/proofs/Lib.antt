@@ -7,3 +7,4 @@ pub mod Running
 pub mod Lending
 pub mod Called
 pub mod Caller
+pub mod Beginning
