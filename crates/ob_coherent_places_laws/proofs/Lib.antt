@@ -9,3 +9,4 @@ pub mod Getting
 pub mod Handing
 pub mod Holding
 pub mod Alike
+pub mod Changed

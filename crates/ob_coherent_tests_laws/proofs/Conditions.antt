@@ -63,7 +63,7 @@ if_keeps program entry beginning c a branch other join span rest outer checked k
     (goes_to c (here c) (runs branch (record { terms = rest; ends = plain_end } ∷ outer)))
     (goes_to c (here c) (runs other (record { terms = rest; ends = plain_end } ∷ outer)))
     (subst (λ d. IsOfKind program.table c.world.objects d u.cell.value) noted stands.kind)
-    (running (into_plain program.table entry beginning c k (and_term (if_form a branch other join) span rest) outer so checked.table branch rest
+    (running (into_plain program.table entry beginning c k (and_term (if_form a branch other join) span rest) outer so checked.table c.world.reads branch rest
     (if_first b k.holdings k.context a branch other join span rest outer first.mid r first.derives first.passes)))
-    (running (into_plain program.table entry beginning c k (and_term (if_form a branch other join) span rest) outer so checked.table other rest
+    (running (into_plain program.table entry beginning c k (and_term (if_form a branch other join) span rest) outer so checked.table c.world.reads other rest
     (if_second b k.holdings k.context a branch other join span rest outer first.mid r first.derives first.passes))))

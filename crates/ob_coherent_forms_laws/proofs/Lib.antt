@@ -1,0 +1,4 @@
+pub mod Amid
+pub mod Slots
+pub mod Operations
+pub mod Straight
