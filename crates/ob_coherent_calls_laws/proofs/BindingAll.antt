@@ -123,9 +123,10 @@ module _ (table : ClassTable) (made : IsClassTable table) (c : Configuration) (p
       (bound_cell p.of x.value)
       → Stays b.from (bind_one table b r.location x n p).from
       → (wants_owner p ≡ true → is_among r.location rs ≡ false)
+      → ((y : Cell) → cell_at (here c) r.location ≡ Some y → x.value ≡ y.value)
       → AllBound table c parts known (given_to g r.location p) (bind_one table b r.location x n p) rs ps (suc n) next
       → AllBound table c parts known g b (r ∷ rs) (p ∷ ps) n next
-  bound_first known g b r rs p ps n x next kind set same other stands stays once a = record {
+  bound_first known g b r rs p ps n x next kind set same other stands stays once first a = record {
     binds = subst (Binds table c parts next (given_all (given_to g r.location p) rs ps))
         (let e : suc n + length ps ≡ n + suc (length ps) = omega arith in e) a.binds;
     stays = stays_onward b.from (bind_one table b r.location x n p).from next.from stays a.stays;
@@ -148,6 +149,7 @@ module _ (table : ClassTable) (made : IsClassTable table) (c : Configuration) (p
       known = set;
       given = slot_is;
     }, a.lent);
+    first = λ y e. slot_is ∙ ap (λ v. Some (bound_cell p.of v)) (first y e);
   }
     where
       slot_is : next.slots n ≡ Some (bound_cell p.of x.value)
@@ -173,6 +175,7 @@ module _ (table : ClassTable) (made : IsClassTable table) (c : Configuration) (p
     untouched = λ q none. refl;
     loans = sym (Rattle.std.proofs.Common.append-nil b.loans);
     lent = tt;
+    first = tt;
   })
   bind_all_steps P go known [] (p ∷ ps) b g n k few kinds sets can passed once done = absurd passed
   bind_all_steps P go known (r ∷ rs) [] b g n k few kinds sets can passed once done = absurd passed
@@ -200,4 +203,5 @@ module _ (table : ClassTable) (made : IsClassTable table) (c : Configuration) (p
       (next_other table made c parts ts one placed b g n k r.location p passed.0 low can.0 u serves old)
       (next_bound table made c parts ts one placed b g n k r.location p passed.0 low can.0 u serves old)
       (next_stays table made c parts ts one placed b g n k r.location p passed.0 low can.0 u serves old)
-      once.0 a)))
+      once.0
+      (λ y e. was.2 ∙ ap (λ (z : Cell). z.value) (Rattle.std.proofs.lemmas.Option.same_Some was.0 y (sym was.1 ∙ e))) a)))

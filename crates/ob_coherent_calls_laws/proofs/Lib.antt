@@ -8,3 +8,4 @@ pub mod Lending
 pub mod Called
 pub mod Caller
 pub mod Beginning
+pub mod Passing

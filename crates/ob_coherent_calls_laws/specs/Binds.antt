@@ -94,6 +94,13 @@ ArePassedTo table c parts (r ∷ rs) (p ∷ ps) =
     × ((x : Cell) → cell_at (here c) r.location ≡ Some x → serves_as table (kind_of_resolved p.of) x.note.kind ≡ true)
     × ArePassedTo table c parts rs ps
 
+-- the slot of the first parameter has the value of the first place
+abbrev pub HasFirst : Configuration → Bound → List Read → List Parameter → ℕ → Type 0
+HasFirst c b [] ps n = ⊤
+HasFirst c b (r ∷ rs) [] n = ⊤
+HasFirst c b (r ∷ rs) (p ∷ ps) n =
+    (x : Cell) → cell_at (here c) r.location ≡ Some x → b.slots n ≡ Some (bound_cell p.of x.value)
+
 -- the places that are read
 abbrev pub places_of : List Read → List Location
 places_of rs = map (λ (r : Read). r.location) rs
@@ -109,3 +116,4 @@ pub record AllBound (table : ClassTable) (c : Configuration) (parts : BodyParts)
   pub untouched : (q : Location) → is_among q rs ≡ false → cell_at next.from q ≡ cell_at b.from q
   pub loans : next.loans ≡ b.loans ++ lent_all table known rs ps n
   pub lent : AreLent known next rs ps n
+  pub first : HasFirst c next rs ps n
