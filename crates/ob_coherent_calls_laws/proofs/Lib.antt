@@ -9,3 +9,5 @@ pub mod Called
 pub mod Caller
 pub mod Beginning
 pub mod Passing
+pub mod Untested
+pub mod Stepping
