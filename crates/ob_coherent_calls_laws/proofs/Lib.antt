@@ -12,3 +12,4 @@ pub mod Passing
 pub mod Untested
 pub mod Stepping
 pub mod Receiving
+pub mod After
