@@ -13,3 +13,4 @@ pub mod Untested
 pub mod Stepping
 pub mod Receiving
 pub mod After
+pub mod Calling
