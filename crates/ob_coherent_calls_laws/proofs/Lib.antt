@@ -14,3 +14,4 @@ pub mod Stepping
 pub mod Receiving
 pub mod After
 pub mod Calling
+pub mod SlotLoans
