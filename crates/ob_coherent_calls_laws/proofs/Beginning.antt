@@ -1,32 +1,29 @@
 -- Where a body of a checked program begins, it has its terms to run.
-use Rattle.std.proofs.Common.{◌≡◌, ℕ, zero, suc, ◌+◌, ◌<◌, ◌≤◌, Bool, true, false, ◌&&◌, List, [], ◌∷◌, length, Option, Some, None, Ok, refl, sym, ap, subst, ◌∙◌, arith, ⊎_elim, ◌⊎◌, inl, inr, true≢false, cond, eqb-true}
-use Rattle.std.specs.Prelude.{nat_eq, find, option_map, max, slice_get, All, IsSome, IsSomeAnd}
+use Rattle.std.proofs.Common.{◌≡◌, ℕ, suc, ◌+◌, ◌<◌, ◌≤◌, Bool, true, false, List, [], ◌∷◌, length, Option, Some, None, Ok, refl, sym, ap, subst, ◌∙◌, arith, ⊎_elim, true≢false, cond, eqb-true}
+use Rattle.std.specs.Prelude.{nat_eq, find, option_map, max, slice_get, IsSome, IsSomeAnd}
 use Rattle.std.specs.Option.{option_and_then}
 use Rattle.std.proofs.lemmas.Bool.{cases_Bool, both_ways, and_parts}
 use Rattle.std.proofs.lemmas.Option.{same_Some}
 use Rattle.ob_base.specs.Limits.{most_slots}
 use Rattle.ob_base.specs.declared.id.ContractId.{ContractId}
 use Rattle.ob_base.specs.declared.id.TxId.{TxId}
-use Rattle.ob_table.specs.Tables.{ClassTable, contract_at, signature_at}
+use Rattle.ob_table.specs.Tables.{contract_at, signature_at}
 use Rattle.ob_table.specs.declared.contract.Contract.{Contract}
 use Rattle.ob_table.specs.declared.contract.Signature.{Signature}
-use Rattle.ob_table.specs.declared.seen.Kind.TheVariants.{Reference}
 use Rattle.ob_table_spec.specs.WellFormed.{StaticFrame, frame_of}
 use Rattle.ob_silica.specs.Terms.{SilicaForm, test_form, if_form, SilicaTerms, no_terms, and_term, SilicaBody}
 use Rattle.ob_silica.specs.Slots.{slots_of_terms}
-use Rattle.ob_silica_places.specs.Known.{known}
-use Rattle.ob_silica_places.specs.Places.{this}
 use Rattle.ob_silica_steps.specs.Configurations.{SilicaProgram, is_terms_of, terms_at}
 use Rattle.ob_silica_formed.specs.Holdings.{Holdings, held_at_start, terms_end, after_form, after_terms, EachWithin, Each}
 use Rattle.ob_silica_formed.specs.Points.{NamesWhatIsThere, HasKinds, TakesResult, LeavesParams, LosesNoReference, NamesBody, ReturnsResult}
 use Rattle.ob_silica_formed.specs.WellFormedTerms.{AreWellFormed}
 use Rattle.ob_flow_spec.specs.Contexts.{BodyFrame, Context, this_known, beginning}
-use Rattle.ob_flow_spec.specs.Deriving.{derive_all, body_frame}
+use Rattle.ob_flow_spec.specs.Deriving.{derive_all}
 use Rattle.ob_flow_laws.proofs.Deriving.{body_passes}
 use Rattle.ob_places_laws.proofs.Interfaces.{contract_number}
 use Rattle.ob_places_laws.proofs.Tables.{each_at, there_so}
 use Rattle.ob_coherent_remaining_laws.proofs.Branches.{reached_goes_on}
-use Rattle.ob_coherent_spec.specs.Remaining.{IsCheckedBody, IsCheckedProgram, static_of, IsWellFormedForm, GoOn, Remains}
+use Rattle.ob_coherent_spec.specs.Remaining.{IsCheckedBody, IsCheckedProgram, IsWellFormedForm, GoOn, Remains}
 
 -- Forms that are well-formed.
 
@@ -62,8 +59,14 @@ found_body : (p : SilicaBody → Bool) (bodies : List SilicaBody) (terms : Silic
     → (body : SilicaBody) × (n : ℕ) × (slice_get bodies n ≡ Some body) × (p body ≡ true) × (body.terms ≡ terms)
 found_body p [] terms e = absurd (cc)
 found_body p (body ∷ bodies) terms e = ⊎_elim
-    (λ yes. (body, 0, refl, yes, same_Some body.terms terms
-    (sym (ap (λ z. option_map (λ (x : SilicaBody). x.terms) (cond z (Some body) (find p bodies))) yes) ∙ e)))
+    (λ yes. (
+      body,
+      0,
+      refl,
+      yes,
+      same_Some body.terms terms
+          (sym (ap (λ z. option_map (λ (x : SilicaBody). x.terms) (cond z (Some body) (find p bodies))) yes) ∙ e),
+    ))
     (λ no. let r = found_body p bodies terms
     (sym (ap (λ z. option_map (λ (x : SilicaBody). x.terms) (cond z (Some body) (find p bodies))) no) ∙ e) in
     (r.0, suc r.1, r.2, r.3, r.4))
@@ -126,10 +129,22 @@ body_begins program body own s is ec es found = record {
         (beginning (record { table = program.table; here = body.contract; own = own; tx = body.tx; signature = s; slots = body.slots })) ≡ Ok left)
     derived = body_passes program.table body
         (record { table = program.table; here = body.contract; own = own; tx = body.tx; signature = s; slots = body.slots })
-        (ap (λ o. option_and_then (λ (c : Contract). option_map (λ (x : Signature). record { table = program.table;
-        here = body.contract; own = c; tx = body.tx; signature = x; slots = body.slots }) (signature_at c body.tx)) o) ec
-        ∙ ap (option_map (λ (x : Signature). record { table = program.table;
-        here = body.contract; own = own; tx = body.tx; signature = x; slots = body.slots })) es)
+        (ap (λ o. option_and_then (λ (c : Contract). option_map (λ (x : Signature). record {
+          table = program.table;
+          here = body.contract;
+          own = c;
+          tx = body.tx;
+          signature = x;
+          slots = body.slots;
+        }) (signature_at c body.tx)) o) ec
+        ∙ ap (option_map (λ (x : Signature). record {
+          table = program.table;
+          here = body.contract;
+          own = own;
+          tx = body.tx;
+          signature = x;
+          slots = body.slots;
+        })) es)
         is.derives
 
     nothing_after : (left : Option Context) → derive_all (record { table = program.table; here = body.contract; own = own; tx = body.tx; signature = s; slots = body.slots }) [] body.terms

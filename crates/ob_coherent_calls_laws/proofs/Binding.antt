@@ -6,21 +6,16 @@ use Rattle.std.proofs.lemmas.Bool.Decides.{eqb_tells}
 use Rattle.std.proofs.lemmas.Option.{same_Some, none-some}
 use Rattle.ob_base.specs.Limits.{most_slots}
 use Rattle.ob_base.specs.declared.id.ContractId.{ContractId}
-use Rattle.ob_base.specs.declared.permission.Perm.{Perm}
-use Rattle.ob_perm.specs.States.{States}
 use Rattle.ob_perm.specs.Permissions.{Permission, owned, shared, unowned, owns, is_unowned, fits, kept}
 use Rattle.ob_table.specs.Tables.{ClassTable}
 use Rattle.ob_table.specs.declared.contract.ResolvedType.{ResolvedType}
-use Rattle.ob_table.specs.declared.contract.ResolvedType.TheVariants.{Reference as TypedReference}
-use Rattle.ob_table.specs.declared.seen.Kind.{Kind}
 use Rattle.ob_table.specs.declared.seen.Kind.TheVariants.{Reference}
 use Rattle.ob_table_spec.specs.Conditions.{IsClassTable}
 use Rattle.ob_table_spec.specs.WellFormed.{kind_of_resolved, serves_as}
 use Rattle.ob_heap_spec.specs.Values.{Value, reference}
 use Rattle.ob_heap_spec.specs.Objects.{Object}
 use Rattle.ob_heap_spec.specs.Worlds.{World}
-use Rattle.ob_heap_spec.specs.Marks.{comes_into}
-use Rattle.ob_silica_places.specs.Known.{Known, permission_of_type, at}
+use Rattle.ob_silica_places.specs.Known.{permission_of_type, at}
 use Rattle.ob_silica_places.specs.Places.{Location, slot, field, this, same_location}
 use Rattle.ob_silica_places.specs.Parameters.{Parameter}
 use Rattle.ob_silica_places.specs.Converting.{converted}
@@ -29,25 +24,25 @@ use Rattle.ob_silica_steps.specs.Configurations.{Configuration, by_new}
 use Rattle.ob_silica_steps.specs.Here.{Here, here, self_of, hand, counted as counts_as}
 use Rattle.ob_silica_steps.specs.Binding.{Bound, bound_cell, bind_one}
 use Rattle.ob_flow_spec.specs.Contexts.{Context, TestedPlaces, with_permission, permission_on, permission_at, counted}
-use Rattle.ob_flow_spec.specs.Uses.{kind_known, said_for_type, given_to}
+use Rattle.ob_flow_spec.specs.Uses.{kind_known, given_to}
 use Rattle.ob_flow_spec.specs.Joining.{same_mode}
-use Rattle.ob_flow_laws.specs.Uses.{CanUse, CanGive}
+use Rattle.ob_flow_laws.specs.Uses.{CanGive}
 use Rattle.ob_places_laws.specs.Serving.{Allows}
 use Rattle.ob_places_laws.proofs.Serves.{allows_owner}
 use Rattle.ob_places_laws.proofs.Tables.{contract_is}
 use Rattle.ob_coherent_spec.specs.Counting.{any, nth_object, in_cell, in_slots}
 use Rattle.ob_coherent_spec.specs.Runs.{constructions}
-use Rattle.ob_coherent_spec.specs.Standing.{IsOfKind, RefersToShared, Stands, AllStand, HasItsState, NeedsOwner}
-use Rattle.ob_coherent_spec.specs.Saying.{SaysOf, own_object}
+use Rattle.ob_coherent_spec.specs.Standing.{IsOfKind, RefersToShared, Stands, HasItsState, NeedsOwner}
+use Rattle.ob_coherent_spec.specs.Saying.{SaysOf}
 use Rattle.ob_coherent_spec.specs.Remaining.{BodyParts, body_of, IsPlaceIn}
 use Rattle.ob_coherent_counting_laws.proofs.Sums.{at_same, at_other}
 use Rattle.ob_coherent_counting_laws.proofs.Places.{few_fields, slots_at}
 use Rattle.ob_coherent_counting_laws.proofs.Cells.{cell_other, cell_counted, cell_uncounted}
 use Rattle.ob_coherent_counting_laws.proofs.Writing.{IsLow, here_hand}
 use Rattle.ob_coherent_counting_laws.proofs.Entering.{bind_owners, bind_owners_same, bind_refers}
-use Rattle.ob_coherent_places_laws.specs.Placed.{cell_at, Stays, Written, Sits, Found, IsAlike, HasRoom, TellsThis}
+use Rattle.ob_coherent_places_laws.specs.Placed.{cell_at, Stays, Written, Sits, Found, IsAlike, TellsThis}
 use Rattle.ob_coherent_places_laws.proofs.Objects.{comes_sets}
-use Rattle.ob_coherent_places_laws.proofs.Reading.{place_is, same_place}
+use Rattle.ob_coherent_places_laws.proofs.Reading.{place_is}
 use Rattle.ob_coherent_places_laws.proofs.Writing.{stays_onward, hand_written, hand_world, hand_shares, hand_disowns_none}
 use Rattle.ob_coherent_places_laws.proofs.Standing.{needs_stay, has_state_same, stands_stay, all_stand_stay}
 use Rattle.ob_coherent_places_laws.proofs.Keeping.{written_that, sits_written}
@@ -189,8 +184,8 @@ module _ (table : ClassTable) (made : IsClassTable table) (c : Configuration) (p
       (Some (noted (kept u.cell.note.permission (permission_of_type p.of)) u.cell))
   tells e =
       let mode : same_mode (permission_at g a) (permission_in (cell_at b.from a)) ≡ true =
-          subst (λ q. same_mode (permission_at g q) (permission_in (cell_at b.from q)) ≡ true) (sym e)
-          (this_mode table made c.frame parts b.from g k.sits) in
+      subst (λ q. same_mode (permission_at g q) (permission_in (cell_at b.from q)) ≡ true) (sym e)
+      (this_mode table made c.frame parts b.from g k.sits) in
       subst (λ q. same_mode q (kept u.cell.note.permission (permission_of_type p.of)) ≡ true)
       (sym (told_permission (kept (permission_on (g a)) (permission_of_type p.of))))
       (kept_mode (permission_on (g a)) u.cell.note.permission (permission_of_type p.of)
@@ -203,9 +198,12 @@ module _ (table : ClassTable) (made : IsClassTable table) (c : Configuration) (p
 
   kept_alike : IsAlike (cell_at b.from a) (Some (noted (kept u.cell.note.permission (permission_of_type p.of)) u.cell))
   kept_alike z e =
-      let same : u.cell ≡ z = same_Some u.cell z (sym u.is ∙ e) in
-      (noted (kept u.cell.note.permission (permission_of_type p.of)) u.cell, refl,
-      ap (λ (x : Cell). x.value) same, ap (λ (x : Cell). x.note.kind) same)
+      let same : u.cell ≡ z = same_Some u.cell z (sym u.is ∙ e) in (
+        noted (kept u.cell.note.permission (permission_of_type p.of)) u.cell,
+        refl,
+        ap (λ (x : Cell). x.value) same,
+        ap (λ (x : Cell). x.note.kind) same,
+      )
 
   next_sits : Sits table c.frame parts after (given_to g a p)
   next_sits = sits_written table c.frame parts b.from after g a
@@ -239,8 +237,11 @@ module _ (table : ClassTable) (made : IsClassTable table) (c : Configuration) (p
 
   bound_counts : (m : ℕ) → in_slots owns m (at b.slots n (Some (bound_cell p.of u.cell.value)))
       ≡ in_slots owns m b.slots + in_cell owns m (Some (bound_cell p.of u.cell.value))
-  bound_counts m = omega (arith, slots_at owns m b.slots n (Some (bound_cell p.of u.cell.value)) few,
-      ap (in_cell owns m) (k.above n (omega arith)))
+  bound_counts m = omega (
+    arith,
+    slots_at owns m b.slots n (Some (bound_cell p.of u.cell.value)) few,
+    ap (in_cell owns m) (k.above n (omega arith)),
+  )
 
   fewer_now : (m : ℕ) → in_both owns m next ≤ in_both owns m b
   fewer_now m = bind_owners table b a u.cell n p low there u.is few (k.above n (omega arith)) m owner_given
@@ -253,10 +254,10 @@ module _ (table : ClassTable) (made : IsClassTable table) (c : Configuration) (p
       let less = here_hand owns m p.of a u.cell b.from low there in
       let was : in_cell owns m (cell_at b.from a) ≡ 1 = ap (in_cell owns m) u.is ∙ cell_counted owns m u.cell own is in
       let now : in_cell owns m (option_map (noted (kept u.cell.note.permission (permission_of_type p.of))) (cell_at b.from a)) ≡ 0 =
-          ap (λ y. in_cell owns m (option_map (noted (kept u.cell.note.permission (permission_of_type p.of))) y)) u.is
-          ∙ ap (λ z. in_cell owns m (Some (noted (kept u.cell.note.permission z) u.cell))) e in
+      ap (λ y. in_cell owns m (option_map (noted (kept u.cell.note.permission (permission_of_type p.of))) y)) u.is
+      ∙ ap (λ z. in_cell owns m (Some (noted (kept u.cell.note.permission z) u.cell))) e in
       let got : in_cell owns m (Some (bound_cell p.of u.cell.value)) ≡ 0 =
-          cell_uncounted owns m (bound_cell p.of u.cell.value) (ap owns e) in
+      cell_uncounted owns m (bound_cell p.of u.cell.value) (ap owns e) in
       let f = k.fewer m in let o = one m in
       omega (arith, more, less, was, now, got, f, o)
 
@@ -274,7 +275,7 @@ module _ (table : ClassTable) (made : IsClassTable table) (c : Configuration) (p
   assets_now m must = ⊎_elim
       (λ e.
       let other : u.cell.value ≢ reference m =
-          λ is. both_ways _ must.unshared (shared_there after.world.objects u.cell.value m is (marked e)) in
+      λ is. both_ways _ must.unshared (shared_there after.world.objects u.cell.value m is (marked e)) in
       let more = bound_counts m in
       let less = here_hand owns m p.of a u.cell b.from low there in
       let was : in_cell owns m (cell_at b.from a) ≡ 0 = ap (in_cell owns m) u.is ∙ cell_other owns m u.cell other in
@@ -299,11 +300,11 @@ module _ (table : ClassTable) (made : IsClassTable table) (c : Configuration) (p
       here_now same =
           let is : cell_at b.from q ≡ Some u.cell = ap (cell_at b.from) same ∙ u.is in
           let now : noted (kept u.cell.note.permission (permission_of_type p.of)) u.cell ≡ y =
-              same_Some _ y (sym (written_that b.from after a _ written q same) ∙ ey) in
+          same_Some _ y (sym (written_that b.from after a _ written q same) ∙ ey) in
           let s : kept u.cell.note.permission (permission_of_type p.of) ≡ shared =
-              ap (λ (z : Cell). z.note.permission) now ∙ e in
+          ap (λ (z : Cell). z.note.permission) now ∙ e in
           let value : u.cell.value ≡ x.value =
-              (let r = k.alike q x ex in ap (λ (z : Cell). z.value) (same_Some u.cell r.0 (sym is ∙ r.1)) ∙ r.2) in
+          (let r = k.alike q x ex in ap (λ (z : Cell). z.value) (same_Some u.cell r.0 (sym is ∙ r.1)) ∙ r.2) in
           ⊎_elim (λ i. was u.cell is i)
           (λ other. ⊎_elim
           (λ wanted. ⊎_elim (λ own. inr (λ m refers. none_left wanted own m (value ∙ refers)))

@@ -1,6 +1,6 @@
 -- All places are handed over to their parameters.
 use Rattle.std.proofs.Common.{◌≡◌, ◌≢◌, ℕ, suc, ◌+◌, ◌<◌, ◌≤◌, Bool, true, false, ◌&&◌, ◌||◌, List, [], ◌∷◌, ◌++◌, append_assoc, length, Option, Some, None, refl, sym, ap, subst, ◌∙◌, arith, ⊎_elim, ◌⊎◌, inl, inr, true≢false}
-use Rattle.std.specs.Prelude.{map, if◌then◌else◌}
+use Rattle.std.specs.Prelude.{if◌then◌else◌}
 use Rattle.std.proofs.lemmas.Bool.{cases_Bool, both_ways, or_left, or_right}
 use Rattle.std.proofs.lemmas.Option.{none-some}
 use Rattle.ob_base.specs.Limits.{most_slots}
@@ -10,12 +10,12 @@ use Rattle.ob_table.specs.declared.seen.Kind.{Kind}
 use Rattle.ob_table_spec.specs.Conditions.{IsClassTable}
 use Rattle.ob_table_spec.specs.WellFormed.{kind_of_resolved, serves_as}
 use Rattle.ob_heap_spec.specs.Values.{reference}
-use Rattle.ob_silica_places.specs.Known.{Known, permission_of_type, at}
+use Rattle.ob_silica_places.specs.Known.{Known, permission_of_type}
 use Rattle.ob_silica_places.specs.Places.{Location, this, same_location}
 use Rattle.ob_silica_places.specs.Parameters.{Parameter}
 use Rattle.ob_silica_steps.specs.Cells.{Cell, noted}
-use Rattle.ob_silica_steps.specs.Configurations.{Loan, Configuration, NextStep}
-use Rattle.ob_silica_steps.specs.Here.{here, read, if_there}
+use Rattle.ob_silica_steps.specs.Configurations.{Configuration, NextStep}
+use Rattle.ob_silica_steps.specs.Here.{here, if_there}
 use Rattle.ob_silica_steps.specs.Binding.{Bound, bound_cell, bind_one, bind_all, loan_of}
 use Rattle.ob_flow_spec.specs.Contexts.{Context, TestedPlaces, constructs, now, with_permission, permission_at, is_set}
 use Rattle.ob_flow_spec.specs.Uses.{Read, kind_known, given_to}
@@ -28,13 +28,12 @@ use Rattle.ob_coherent_spec.specs.Standing.{HasItsState, NeedsOwner}
 use Rattle.ob_coherent_spec.specs.Remaining.{BodyParts, body_of, IsPlaceIn}
 use Rattle.ob_perm.specs.Permissions.{owns}
 use Rattle.ob_coherent_counting_laws.proofs.Sums.{at_same, at_other}
-use Rattle.ob_coherent_places_laws.specs.Placed.{cell_at, Stays, Sits, Found}
+use Rattle.ob_coherent_places_laws.specs.Placed.{cell_at, Stays}
 use Rattle.ob_coherent_places_laws.proofs.Reading.{place_is, same_place}
 use Rattle.ob_coherent_places_laws.proofs.Writing.{stays_itself, stays_onward}
 use Rattle.ob_coherent_places_laws.proofs.Standing.{stands_stay}
 use Rattle.ob_coherent_places_laws.proofs.Finding.{found_at, found_read}
-use Rattle.ob_coherent_calls_laws.specs.Bound.{IsBoundTo, AreBound}
-use Rattle.ob_coherent_calls_laws.specs.Binds.{in_frame, in_both, in_rest, Binds, IsLent, AreLent, lent_all, AreOnce, ArePassedTo, places_of, AllBound}
+use Rattle.ob_coherent_calls_laws.specs.Binds.{in_frame, in_rest, Binds, lent_all, AreOnce, ArePassedTo, places_of, AllBound}
 use Rattle.ob_coherent_calls_laws.proofs.Binding.{bind_next, next_same, next_other, next_bound, next_stays}
 
 -- Kinds, and what is known to be set, stay where a permission changes.
@@ -130,25 +129,31 @@ module _ (table : ClassTable) (made : IsClassTable table) (c : Configuration) (p
     binds = subst (Binds table c parts next (given_all (given_to g r.location p) rs ps))
         (let e : suc n + length ps ≡ n + suc (length ps) = omega arith in e) a.binds;
     stays = stays_onward b.from (bind_one table b r.location x n p).from next.from stays a.stays;
-    bound = (record {
-      value = x.value;
-      set = slot_is;
-      stands = stands_stay table (bind_one table b r.location x n p).from next.from a.stays (bound_cell p.of x.value) stands;
-    }, a.bound);
+    bound = (
+      record {
+        value = x.value;
+        set = slot_is;
+        stands = stands_stay table (bind_one table b r.location x n p).from next.from a.stays (bound_cell p.of x.value) stands;
+      },
+      a.bound,
+    );
     before = λ k lt. a.before k (omega (arith, lt))
         ∙ at_other b.slots n (Some (bound_cell p.of x.value)) k (λ e. omega (arith, e, lt));
     untouched = λ q none. apart q none;
     loans = a.loans ∙ append_assoc b.loans (loan_of table r.location n p x.note) (lent_all table known rs ps (suc n))
         ∙ ap (λ (k : Kind). b.loans ++ (loan_of table r.location n p (record { kind = k; permission = unowned })
         ++ lent_all table known rs ps (suc n))) (sym kind);
-    lent = (λ wants. record {
-      cell = noted (kept x.note.permission (permission_of_type p.of)) x;
-      is = a.untouched r.location (once wants) ∙ same;
-      lent = kept_owner x.note.permission (permission_of_type p.of) wants;
-      kind = sym kind;
-      known = set;
-      given = slot_is;
-    }, a.lent);
+    lent = (
+      λ wants. record {
+        cell = noted (kept x.note.permission (permission_of_type p.of)) x;
+        is = a.untouched r.location (once wants) ∙ same;
+        lent = kept_owner x.note.permission (permission_of_type p.of) wants;
+        kind = sym kind;
+        known = set;
+        given = slot_is;
+      },
+      a.lent,
+    );
     first = λ y e. slot_is ∙ ap (λ v. Some (bound_cell p.of v)) (first y e);
   }
     where
@@ -184,11 +189,11 @@ module _ (table : ClassTable) (made : IsClassTable table) (c : Configuration) (p
       let was = was_set b g n k r.location u.cell u.is in
       let low : n < most_slots = omega (arith, few) in
       let serves : serves_as table (kind_of_resolved p.of) u.cell.note.kind ≡ true =
-          ap (serves_as table (kind_of_resolved p.of)) was.3 ∙ passed.1 was.0 was.1 in
+      ap (serves_as table (kind_of_resolved p.of)) was.3 ∙ passed.1 was.0 was.1 in
       let old : (m : ℕ) → 0 < constructions m c → u.cell.value ≢ reference m =
-          λ m some e. finished r.location was.0 passed.0 can.0.usable.spares_this was.1 m some (sym was.2 ∙ e) in
+      λ m some e. finished r.location was.0 passed.0 can.0.usable.spares_this was.1 m some (sym was.2 ∙ e) in
       let kind : kind_known (known r.location) ≡ u.cell.note.kind =
-          kinds r.location ∙ ap kind_known u.told ∙ sym u.kind in
+      kinds r.location ∙ ap kind_known u.told ∙ sym u.kind in
       let set : is_set (known r.location) ≡ true = sets r.location ∙ ap is_set u.told in
       subst (λ z. P (if_there z (λ x. bind_all table (bind_one table b r.location x n p) (places_of rs) (suc n) ps go)))
       (sym (found_read table made c.frame parts b.from g k.sits r.location u))

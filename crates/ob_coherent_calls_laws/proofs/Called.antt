@@ -1,39 +1,34 @@
 -- What is so of the whole where a call has bound its places and its body begins.
-use Rattle.std.proofs.Common.{◌≡◌, ◌≢◌, ℕ, zero, suc, ◌+◌, ◌<◌, ◌≤◌, Bool, true, false, List, [], ◌∷◌, length, Option, Some, None, refl, sym, ap, subst, ◌∙◌, arith, ⊎_elim, ◌⊎◌, inl, inr}
+use Rattle.std.proofs.Common.{◌≡◌, ◌≢◌, ℕ, ◌+◌, ◌<◌, ◌≤◌, true, false, List, [], ◌∷◌, length, Option, refl, sym, ap, subst, ◌∙◌, arith, ⊎_elim, ◌⊎◌, inl, inr}
 use Rattle.std.proofs.lemmas.Bool.{cases_Bool, both_ways}
-use Rattle.std.proofs.lemmas.Option.{same_Some}
-use Rattle.ob_perm.specs.Permissions.{shared, owns}
+use Rattle.ob_perm.specs.Permissions.{owns}
 use Rattle.ob_table.specs.Tables.{ClassTable}
 use Rattle.ob_table_spec.specs.Conditions.{IsClassTable}
-use Rattle.ob_heap_spec.specs.Values.{reference}
 use Rattle.ob_heap_spec.specs.Objects.{Object}
 use Rattle.ob_heap_spec.specs.Worlds.{World}
 use Rattle.ob_silica.specs.Terms.{SilicaTerms}
-use Rattle.ob_silica_places.specs.Places.{Location, slot}
-use Rattle.ob_silica_steps.specs.Cells.{Cell}
+use Rattle.ob_silica_places.specs.Places.{slot}
 use Rattle.ob_silica_steps.specs.Configurations.{SilicaFrame, Loan, Rest, Waiting, runs, Configuration}
-use Rattle.ob_silica_steps.specs.Here.{Here, here, self_of}
+use Rattle.ob_silica_steps.specs.Here.{self_of}
 use Rattle.ob_silica_steps.specs.Binding.{Bound}
 use Rattle.ob_flow_spec.specs.Contexts.{Context}
-use Rattle.ob_coherent_spec.specs.Counting.{Counted, any, nth_object, field_cell, in_slots, in_objects, in_handles, in_waiting, owners, references}
-use Rattle.ob_coherent_spec.specs.Runs.{times, around, entered_at, entered_among, entries, constructing_at, constructing_among, constructions, locks, tests_in, tests_around, open_tests}
+use Rattle.ob_coherent_spec.specs.Counting.{any, nth_object, field_cell, in_slots, in_objects, in_handles, owners, references}
+use Rattle.ob_coherent_spec.specs.Runs.{times, around, entered_at, entries, constructing_at, constructions, locks, open_tests}
 use Rattle.ob_coherent_spec.specs.Standing.{AllStand, NeedsOwner}
 use Rattle.ob_coherent_spec.specs.Remaining.{BodyParts}
-use Rattle.ob_coherent_spec.specs.Waiting.{IsFrame, tests_of, IsNotAmong, Waits, AllWait}
+use Rattle.ob_coherent_spec.specs.Waiting.{IsFrame, tests_of, Waits, AllWait}
 use Rattle.ob_coherent_spec.specs.Coherent.{Beginning, Holds, IsRunning}
 use Rattle.ob_coherent_counting_laws.proofs.Frames.{tests_in_same}
 use Rattle.ob_coherent_counting_laws.proofs.Entering.{entered_below, constructing_below, tests_below, locks_below}
-use Rattle.ob_coherent_frames_laws.specs.Steps.{KeepsArgument}
 use Rattle.ob_coherent_frames_laws.proofs.Near.{IsNear, frame_with, EachSelf, KeepsArguments, all_near_under}
 use Rattle.ob_coherent_frames_laws.proofs.After.{near_after}
 use Rattle.ob_coherent_frames_laws.proofs.Objects.{ObjectHolds, ObjectsHold, objects_hold}
 use Rattle.ob_coherent_frames_laws.proofs.Entered.{innermost_has_entry}
 use Rattle.ob_coherent_frames_laws.proofs.Whole.{began_kept}
-use Rattle.ob_coherent_places_laws.specs.Placed.{cell_at}
 use Rattle.ob_coherent_places_laws.proofs.Writing.{stays_leaves}
 use Rattle.ob_coherent_places_laws.proofs.Keeping.{argument_kept}
-use Rattle.ob_coherent_calls_laws.specs.Binds.{in_frame, in_both, in_rest, Binds}
-use Rattle.ob_coherent_calls_laws.proofs.Running.{running_owners, running_references}
+use Rattle.ob_coherent_calls_laws.specs.Binds.{in_both, in_rest, Binds}
+use Rattle.ob_coherent_calls_laws.proofs.Running.{running_owners}
 
 -- the frame of a configuration, left with what is bound, waits
 abbrev pub left_waiting : Configuration → Bound → SilicaTerms → List Rest → Option ℕ → List Loan → Waiting
@@ -160,7 +155,7 @@ module _ (table : ClassTable) (made : IsClassTable table) (entry : Option ℕ) (
     declared = λ none new.
         let has = innermost_has_entry table entry beginning c k.whole in
         let some : 0 < entries (self_of b.from.slots) c + constructions (self_of b.from.slots) c =
-            subst (λ i. 0 < entries i c + constructions i c) (sym self_left) has in
+        subst (λ i. 0 < entries i c + constructions i c) (sym self_left) has in
         let e = called_entries (self_of b.from.slots) in let f = called_constructions (self_of b.from.slots) in
         absurd (omega (arith, some, e, f, none, new));
   })
@@ -197,10 +192,10 @@ module _ (table : ClassTable) (made : IsClassTable table) (entry : Option ℕ) (
       one_owner = λ m. let less = called_fewer m in let most = k.whole.one_owner m in omega (arith, less, most);
       disowned = λ m yes no.
           let was : (nth_object c.world.objects m).disowned ≡ true =
-              sym (binds.disowned m) ∙ ap (λ os. (nth_object os m).disowned) (sym objects) ∙ yes in
+          sym (binds.disowned m) ∙ ap (λ os. (nth_object os m).disowned) (sym objects) ∙ yes in
           let not : (nth_object c.world.objects m).shared ≡ false =
-              ⊎_elim (λ z. absurd (both_ways _ no (called_near.shared m z))) (λ z. z)
-              (cases_Bool (nth_object c.world.objects m).shared) in
+          ⊎_elim (λ z. absurd (both_ways _ no (called_near.shared m z))) (λ z. z)
+          (cases_Bool (nth_object c.world.objects m).shared) in
           let none = k.whole.disowned m was not in let less = called_fewer m in omega (arith, none, less);
       shared = λ m yes some. ⊎_elim
           (λ was. let less = called_fewer m in ⊎_elim
@@ -227,9 +222,12 @@ module _ (table : ClassTable) (made : IsClassTable table) (entry : Option ℕ) (
       locked_once = λ m. let same = called_locks m in let most = k.whole.locked_once m in omega (arith, same, most);
       parts = called;
       frame = frame;
-      waiting = (waiting, subst (λ p. AllWait table (NeedsOwner table w.objects) d (frame_with c.frame b.from.slots) p
-          (self_of b.from.slots ∷ self_of callee.slots ∷ [])
-          (λ m. tests_of m b.from.slots outer + tests_of m callee.slots []) c.stack) (sym same_parts) called_below);
+      waiting = (
+        waiting,
+        subst (λ p. AllWait table (NeedsOwner table w.objects) d (frame_with c.frame b.from.slots) p
+            (self_of b.from.slots ∷ self_of callee.slots ∷ [])
+            (λ m. tests_of m b.from.slots outer + tests_of m callee.slots []) c.stack) (sym same_parts) called_below,
+      );
       began = began_kept table c.world.objects beginning c.frame k.whole.parts b.from.slots (λ m. owners m d) c.stack
           k.whole.frame called_arguments k.whole.began;
     }

@@ -1,5 +1,5 @@
 -- The caller waits.
-use Rattle.std.proofs.Common.{◌≡◌, ◌≢◌, ℕ, zero, suc, ◌+◌, ◌<◌, ◌≤◌, Bool, true, false, not, List, [], ◌∷◌, length, Option, Some, None, refl, sym, ap, subst, ◌∙◌, arith, ⊎_elim, ◌⊎◌, inl, inr, true≢false}
+use Rattle.std.proofs.Common.{◌≡◌, ◌≢◌, ℕ, ◌+◌, ◌<◌, ◌≤◌, true, false, List, [], ◌∷◌, Option, Some, None, refl, sym, ap, subst, ◌∙◌, arith, ⊎_elim, inl, inr, true≢false}
 use Rattle.std.proofs.lemmas.Bool.{cases_Bool, both_ways}
 use Rattle.std.proofs.lemmas.Option.{same_Some, none-some}
 use Rattle.ob_perm.specs.Permissions.{shared, owns}
@@ -7,25 +7,23 @@ use Rattle.ob_table.specs.Tables.{ClassTable}
 use Rattle.ob_table.specs.declared.contract.ResolvedType.{ResolvedType}
 use Rattle.ob_table_spec.specs.Conditions.{IsClassTable}
 use Rattle.ob_table_spec.specs.WellFormed.{kind_of_resolved}
-use Rattle.ob_heap_spec.specs.Values.{reference}
-use Rattle.ob_heap_spec.specs.Objects.{Object}
 use Rattle.ob_heap_spec.specs.Worlds.{World}
 use Rattle.ob_silica.specs.Terms.{SilicaTerms}
 use Rattle.ob_silica_places.specs.Places.{Location, slot, field, this}
 use Rattle.ob_silica_steps.specs.Cells.{Cell, permission_in}
-use Rattle.ob_silica_steps.specs.Configurations.{SilicaFrame, by_this, by_new, Loan, Ends, plain_end, test_end, lock_end, Rest, runs, Configuration}
-use Rattle.ob_silica_steps.specs.Here.{Here, here, self_of, read}
+use Rattle.ob_silica_steps.specs.Configurations.{SilicaFrame, by_this, by_new, Loan, Ends, plain_end, test_end, lock_end, Rest, Configuration}
+use Rattle.ob_silica_steps.specs.Here.{Here, here, self_of}
 use Rattle.ob_silica_steps.specs.Binding.{Bound}
 use Rattle.ob_silica_formed.specs.Holdings.{Holdings, held as held_as}
 use Rattle.ob_flow_spec.specs.Contexts.{BodyFrame, Context, permission_at, is_tested}
 use Rattle.ob_flow_spec.specs.Joining.{same_mode}
-use Rattle.ob_coherent_spec.specs.Counting.{nth_object, in_slots, any, owners}
-use Rattle.ob_coherent_spec.specs.Runs.{times, tested_places}
+use Rattle.ob_coherent_spec.specs.Counting.{nth_object, owners}
+use Rattle.ob_coherent_spec.specs.Runs.{times}
 use Rattle.ob_coherent_spec.specs.Standing.{AllStand, NeedsOwner, HasItsState}
 use Rattle.ob_coherent_spec.specs.Saying.{SaysOf, Says, every}
 use Rattle.ob_coherent_spec.specs.Remaining.{BodyParts, body_of, AreHeld, Remains}
 use Rattle.ob_coherent_spec.specs.OpenTests.{IsTestOf, IsOpen, AreOpen, TestNoField}
-use Rattle.ob_coherent_spec.specs.Waiting.{IsFrame, is_settled, is_result, is_on_this, tests_of, SharesThis, AreLoans, LendNoField, IsApart, gives_back_as, AwaitsResult, FieldsComeBack, waiting_here, Waits}
+use Rattle.ob_coherent_spec.specs.Waiting.{IsFrame, is_settled, is_result, tests_of, SharesThis, AreLoans, LendNoField, IsApart, gives_back_as, AwaitsResult, FieldsComeBack, waiting_here, Waits}
 use Rattle.ob_coherent_spec.specs.Coherent.{Beginning, IsRunning}
 use Rattle.ob_coherent_frames_laws.proofs.Entered.{innermost_in_progress}
 use Rattle.ob_coherent_frames_laws.proofs.Near.{frame_with}
@@ -128,22 +126,27 @@ module _ (table : ClassTable) (made : IsClassTable table) (entry : Option ℕ) (
         let old = k.shares (ap permission_in k.whole.frame.set ∙ was) in
         let more = progress (self_of c.frame.slots) in
         let less = fewer (self_of c.frame.slots) in
-        let old_progress = old.0 in
-        (subst (λ m. 0 < times m w.progress) (sym self) (omega (arith, old_progress, more)),
-        ⊎_elim
-        (λ few. inl (subst (λ m. owners m (called_on c b callee terms rest outer result loans w)
-        ≤ tests_of (self_of b.from.slots) callee.slots []) (sym self) (omega (arith, few, less))))
-        (λ z. inr (z.0, subst (λ ls. 0 < times (self_of b.from.slots) ls) (sym locked)
-        (subst (λ m. 0 < times m c.world.locked) (sym self) z.1)))
-        old.1))
+        let old_progress = old.0 in (
+          subst (λ m. 0 < times m w.progress) (sym self) (omega (arith, old_progress, more)),
+          ⊎_elim
+              (λ few. inl (subst (λ m. owners m (called_on c b callee terms rest outer result loans w)
+              ≤ tests_of (self_of b.from.slots) callee.slots []) (sym self) (omega (arith, few, less))))
+              (λ z. inr (
+                z.0,
+                subst (λ ls. 0 < times (self_of b.from.slots) ls) (sym locked)
+                    (subst (λ m. 0 < times m c.world.locked) (sym self) z.1),
+              ))
+              old.1,
+        ))
         (λ left.
         let zero = none (self_of c.frame.slots) (left (self_of c.frame.slots) k.whole.frame.refers) in
         let old = innermost_in_progress table entry beginning c k.whole (λ made. absurd (true≢false
         (sym (binds.sits.owns_made made) ∙ ap owns e))) in
-        let more = progress (self_of c.frame.slots) in
-        (subst (λ m. 0 < times m w.progress) (sym self) (omega (arith, old, more)),
-        inl (subst (λ m. owners m (called_on c b callee terms rest outer result loans w)
-        ≤ tests_of (self_of b.from.slots) callee.slots []) (sym self) (omega (arith, zero)))))
+        let more = progress (self_of c.frame.slots) in (
+          subst (λ m. 0 < times m w.progress) (sym self) (omega (arith, old, more)),
+          inl (subst (λ m. owners m (called_on c b callee terms rest outer result loans w)
+              ≤ tests_of (self_of b.from.slots) callee.slots []) (sym self) (omega (arith, zero))),
+        ))
         (binds.shares this x y.0 k.whole.frame.set y.1 ys)
 
     -- the caller waits

@@ -1,6 +1,6 @@
 -- The step of a call of another object.
 use Rattle.std.proofs.Common.{◌≡◌, ◌≢◌, ℕ, zero, suc, ◌+◌, ◌<◌, ◌≤◌, Bool, true, false, not, ◌&&◌, ◌||◌, List, [], ◌∷◌, ◌++◌, map, length, Option, Some, None, Ok, refl, sym, ap, subst, ◌∙◌, arith, ⊎_elim, ◌⊎◌, inl, inr, true≢false}
-use Rattle.std.specs.Prelude.{nat_eq, slice_get, max, option_map, is_some, IsSome, IfSome, if◌then◌else◌}
+use Rattle.std.specs.Prelude.{slice_get, max, option_map, is_some, IsSome, if◌then◌else◌}
 use Rattle.std.specs.Option.{option_and_then}
 use Rattle.std.proofs.lemmas.Bool.{cases_Bool, both_ways}
 use Rattle.std.proofs.lemmas.List.{length-map}
@@ -11,44 +11,41 @@ use Rattle.ob_base.specs.declared.id.ContractId.{ContractId}
 use Rattle.ob_base.specs.declared.id.TxId.{TxId}
 use Rattle.ob_perm.specs.Permissions.{owns}
 use Rattle.ob_perm.specs.Masks.{permission_of}
-use Rattle.ob_table.specs.Tables.{ClassTable, contract_at, signature_at, signature_of}
+use Rattle.ob_table.specs.Tables.{contract_at, signature_at, signature_of}
 use Rattle.ob_table.specs.declared.contract.Contract.{Contract}
 use Rattle.ob_table.specs.declared.contract.ResolvedType.{ResolvedType}
 use Rattle.ob_table.specs.declared.contract.ResolvedType.TheVariants.{Reference as TypedReference}
 use Rattle.ob_table.specs.declared.contract.Signature.{Signature}
-use Rattle.ob_table.specs.declared.seen.Kind.{Kind}
 use Rattle.ob_table.specs.declared.seen.Kind.TheVariants.{Reference}
-use Rattle.ob_table_spec.specs.WellFormed.{kind_of_resolved, serves_as, is_constructor}
-use Rattle.ob_heap_spec.specs.Values.{Value, reference, referred}
+use Rattle.ob_table_spec.specs.WellFormed.{kind_of_resolved, serves_as}
+use Rattle.ob_heap_spec.specs.Values.{reference, referred}
 use Rattle.ob_heap_spec.specs.Objects.{Object}
-use Rattle.ob_heap_spec.specs.Contents.{object_at}
 use Rattle.ob_heap_spec.specs.Worlds.{World, read_object, with_unit_taken}
 use Rattle.ob_heap_spec.specs.Marks.{is_in_progress, enter}
 use Rattle.ob_silica.specs.Terms.{SilicaForm, call_form, SilicaTerms, and_term}
 use Rattle.ob_silica.specs.Slots.{slots_of_form, slots_of_result, slots_of_operand, slots_of_operands}
 use Rattle.ob_silica.specs.declared.place.Operand.{Operand}
-use Rattle.ob_silica_places.specs.Places.{Location, slot, field, this, located, all_located, same_location}
+use Rattle.ob_silica_places.specs.Places.{Location, slot, located, all_located}
 use Rattle.ob_silica_places.specs.Parameters.{Parameter, parameters, this_parameter, all_parameters, parameter_of}
 use Rattle.ob_silica_places.specs.Converting.{converted}
 use Rattle.ob_silica_places.specs.Known.{at}
 use Rattle.ob_silica_steps.specs.Cells.{Cell}
 use Rattle.ob_silica_steps.specs.Configurations.{SilicaProgram, by_receiver, by_new, Loan, Rest, Waiting, runs, Configuration, NextStep, goes}
-use Rattle.ob_silica_steps.specs.Here.{Here, here, self_of, read, if_there, with_unit, with_fuel_left}
+use Rattle.ob_silica_steps.specs.Here.{here, self_of, read, if_there, with_unit, with_fuel_left}
 use Rattle.ob_silica_steps.specs.Binding.{Bound, unbound, bound_cell, bind_all}
-use Rattle.ob_silica_steps.specs.Calling.{call_step, entered_with}
+use Rattle.ob_silica_steps.specs.Calling.{entered_with}
 use Rattle.ob_silica_steps.specs.Entering.{this_cell, calls_object}
 use Rattle.ob_silica_steps.specs.Steps.{act}
 use Rattle.ob_silica_formed.specs.Holdings.{Holdings, held as held_as, after_form, kind_of_result}
-use Rattle.ob_flow_spec.specs.Contexts.{BodyFrame, Context, constructs}
+use Rattle.ob_flow_spec.specs.Contexts.{BodyFrame, Context}
 use Rattle.ob_flow_spec.specs.Uses.{Read, kind_known}
-use Rattle.ob_flow_spec.specs.Binding.{wants_owner, read_of, reads_of, given_all, got_back_all, passed, with_result}
+use Rattle.ob_flow_spec.specs.Binding.{wants_owner, reads_of, given_all, passed}
 use Rattle.ob_flow_spec.specs.Calling.{all_reads, after_call}
 use Rattle.ob_flow_spec.specs.Deriving.{derive}
 use Rattle.ob_flow_laws.specs.Calling.{CanCall}
-use Rattle.ob_flow_laws.specs.Deriving.{Passes}
-use Rattle.ob_places_laws.specs.Answering.{Answers, HasAnswer}
+use Rattle.ob_places_laws.specs.Answering.{HasAnswer}
 use Rattle.ob_places_laws.proofs.Conversions.{serves_itself, converted_same}
-use Rattle.ob_places_laws.proofs.Dispatch.{has_answer, answer_entry_mode, answer_exit_mode, answer_parameters, transaction_as_came}
+use Rattle.ob_places_laws.proofs.Dispatch.{has_answer, answer_entry_mode, answer_parameters, transaction_as_came}
 use Rattle.ob_places_laws.proofs.Passing.{all_are, exit_owner_came}
 use Rattle.ob_places_laws.specs.Passing.{IsParameter}
 use Rattle.ob_places_laws.proofs.Permissions.{same_mode_owns}
@@ -60,7 +57,7 @@ use Rattle.ob_coherent_spec.specs.Runs.{times, constructions, tested_places}
 use Rattle.ob_coherent_spec.specs.Standing.{IsOfKind, Stands, NeedsOwner}
 use Rattle.ob_coherent_spec.specs.Remaining.{IsCheckedProgram, BodyParts, body_of, static_of, IsWellFormedForm, Remains}
 use Rattle.ob_coherent_spec.specs.Waiting.{has_lent, Serves, AreLoans, gives_back_as, AwaitsResult, is_settled, is_result, Lends, tests_of, waiting_here, Waits}
-use Rattle.ob_coherent_spec.specs.Coherent.{Beginning, IsRunning, IsCoherent, running, StepsSo}
+use Rattle.ob_coherent_spec.specs.Coherent.{Beginning, IsRunning, running, StepsSo}
 use Rattle.ob_coherent_tests_laws.proofs.Operands.{place_inside}
 use Rattle.ob_coherent_tests_laws.proofs.Unchanged.{remains_so}
 use Rattle.ob_coherent_places_laws.specs.Placed.{cell_at, Found}
@@ -69,7 +66,7 @@ use Rattle.ob_coherent_places_laws.proofs.Finding.{found_at, found_read, found_s
 use Rattle.ob_coherent_places_laws.proofs.Objects.{is_there, read_objects, read_marks}
 use Rattle.ob_coherent_places_laws.proofs.Standing.{refers_is}
 use Rattle.ob_coherent_calls_laws.specs.Binds.{in_both, in_rest, Binds, lent_all, ArePassedTo, AllBound, places_of}
-use Rattle.ob_coherent_calls_laws.specs.Lending.{AreBack, GivesBack, GiveBack, HasBound}
+use Rattle.ob_coherent_calls_laws.specs.Lending.{AreBack, GiveBack, HasBound}
 use Rattle.ob_coherent_calls_laws.proofs.After.{kinds_given, sets_given, result_other, settled_parts, backs_beside}
 use Rattle.ob_coherent_calls_laws.proofs.Beginning.{Begins, begins_to_run}
 use Rattle.ob_coherent_calls_laws.proofs.BindingAll.{are_once, bind_all_steps}
@@ -224,9 +221,9 @@ module _ (program : SilicaProgram) (is : IsCheckedProgram program) (entry : Opti
           let few = b.few in
           let low = b.params in
           let same : length (parameters s) ≡ length a.signature.params =
-              ap (λ (qs : List Parameter). length qs)
-              (sym (answer_parameters program.table contract (nth_object c.world.objects n).contract s a.signature a.answers))
-              ∙ length-map a.signature.params parameter_of in
+          ap (λ (qs : List Parameter). length qs)
+          (sym (answer_parameters program.table contract (nth_object c.world.objects n).contract s a.signature a.answers))
+          ∙ length-map a.signature.params parameter_of in
           omega (arith, few, low, same)
 
       -- What is bound.
@@ -348,16 +345,22 @@ module _ (program : SilicaProgram) (is : IsCheckedProgram program) (entry : Opti
                 → (y : Cell) × (at b.slots 0 (Some (this_cell (nth_object wr.objects n).contract ans.signature.entry n)) j ≡ Some y)
                 × (y.value ≡ x.value) × (owns y.note.permission ≡ owns x.note.permission)
             at_slot zero x e =
-                let same : bound_cell (TypedReference contract s.entry) (reference n) ≡ x = same_Some _ x (sym first_slot ∙ e) in
-                (this_cell (nth_object wr.objects n).contract ans.signature.entry n,
-                Rattle.ob_coherent_counting_laws.proofs.Sums.at_same b.slots 0
-                (Some (this_cell (nth_object wr.objects n).contract ans.signature.entry n)),
-                ap (λ (z : Cell). z.value) same,
-                same_mode_owns (permission_of ans.signature.entry) (permission_of s.entry)
-                (answer_entry_mode program.table contract (nth_object wr.objects n).contract s ans.signature ans.answers)
-                ∙ ap (λ (z : Cell). owns z.note.permission) same)
-            at_slot (suc j) x e = (x, Rattle.ob_coherent_counting_laws.proofs.Sums.at_other b.slots 0
-                (Some (this_cell (nth_object wr.objects n).contract ans.signature.entry n)) (suc j) (λ z. omega (arith, z)) ∙ e, refl, refl)
+                let same : bound_cell (TypedReference contract s.entry) (reference n) ≡ x = same_Some _ x (sym first_slot ∙ e) in (
+                  this_cell (nth_object wr.objects n).contract ans.signature.entry n,
+                  Rattle.ob_coherent_counting_laws.proofs.Sums.at_same b.slots 0
+                      (Some (this_cell (nth_object wr.objects n).contract ans.signature.entry n)),
+                  ap (λ (z : Cell). z.value) same,
+                  same_mode_owns (permission_of ans.signature.entry) (permission_of s.entry)
+                      (answer_entry_mode program.table contract (nth_object wr.objects n).contract s ans.signature ans.answers)
+                      ∙ ap (λ (z : Cell). owns z.note.permission) same,
+                )
+            at_slot (suc j) x e = (
+              x,
+              Rattle.ob_coherent_counting_laws.proofs.Sums.at_other b.slots 0
+                  (Some (this_cell (nth_object wr.objects n).contract ans.signature.entry n)) (suc j) (λ z. omega (arith, z)) ∙ e,
+              refl,
+              refl,
+            )
 
         same_parameters : parameters ans.signature ≡ parameters s
         same_parameters = answer_parameters program.table contract (nth_object wr.objects n).contract s ans.signature ans.answers
@@ -494,7 +497,7 @@ module _ (program : SilicaProgram) (is : IsCheckedProgram program) (entry : Opti
             owner_lent own2 s2 e1 e2 j p e out =
                 let same_own : own2 ≡ own = same_Some own2 own (sym e1 ∙ ec) in
                 let same : s2 ≡ ans.signature = same_Some s2 ans.signature
-                    (sym e2 ∙ ap (λ (x : Contract). signature_at x ans.number) same_own ∙ ans.there) in
+                (sym e2 ∙ ap (λ (x : Contract). signature_at x ans.number) same_own ∙ ans.there) in
                 at_number j p (subst (λ z. slice_get (all_parameters (nth_object wr.objects n).contract z) j ≡ Some p) same e) out
 
         entered : StepsSo program.table entry beginning

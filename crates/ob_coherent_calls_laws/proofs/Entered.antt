@@ -1,38 +1,35 @@
 -- What is so of a frame whose body begins: of its slots and parameters, and what its first context says.
-use Rattle.std.proofs.Common.{◌≡◌, ◌≢◌, ℕ, zero, suc, ◌+◌, ◌<◌, ◌≤◌, Bool, true, false, ◌&&◌, List, [], ◌∷◌, map, length, Option, Some, None, refl, sym, ap, subst, ◌∙◌, arith, ⊎_elim, ◌⊎◌, inl, inr, eq-eqb, true≢false, add-one}
-use Rattle.std.specs.Prelude.{nat_eq, slice_get, option_map, unwrap_or, if◌then◌else◌}
-use Rattle.std.proofs.lemmas.Bool.{cases_Bool, both_ways, ne_eqb}
+use Rattle.std.proofs.Common.{◌≡◌, ◌≢◌, ℕ, zero, suc, ◌+◌, ◌<◌, ◌≤◌, true, false, List, [], ◌∷◌, map, length, Option, Some, None, refl, sym, ap, subst, ◌∙◌, arith, ⊎_elim, add-one}
+use Rattle.std.specs.Prelude.{nat_eq, slice_get, unwrap_or}
+use Rattle.std.proofs.lemmas.Bool.{ne_eqb}
 use Rattle.std.proofs.lemmas.Bool.Decides.{eqb_tells}
 use Rattle.std.proofs.lemmas.Option.{same_Some}
 use Rattle.ob_base.specs.Limits.{most_slots}
-use Rattle.ob_perm.specs.States.{States}
 use Rattle.ob_perm.specs.Permissions.{Permission, owned, shared, unowned, owns}
 use Rattle.ob_table.specs.Tables.{ClassTable, contract_at, signature_at}
 use Rattle.ob_table.specs.declared.contract.Contract.{Contract}
 use Rattle.ob_table.specs.declared.contract.Param.{Param}
 use Rattle.ob_table.specs.declared.contract.ResolvedType.{ResolvedType}
-use Rattle.ob_table.specs.declared.contract.ResolvedType.TheVariants.{Reference as TypedReference}
 use Rattle.ob_table.specs.declared.contract.Signature.{Signature}
-use Rattle.ob_table.specs.declared.seen.Kind.{Kind}
 use Rattle.ob_table.specs.declared.seen.Kind.TheVariants.{Reference}
-use Rattle.ob_table_spec.specs.WellFormed.{kind_of_resolved, is_reference}
-use Rattle.ob_heap_spec.specs.Values.{Value, reference}
+use Rattle.ob_table_spec.specs.WellFormed.{kind_of_resolved}
+use Rattle.ob_heap_spec.specs.Values.{reference}
 use Rattle.ob_heap_spec.specs.Objects.{Object, state_number}
-use Rattle.ob_silica_places.specs.Known.{Known, known, permission_of_type}
-use Rattle.ob_silica_places.specs.Places.{Location, slot, field}
+use Rattle.ob_silica_places.specs.Known.{known, permission_of_type}
+use Rattle.ob_silica_places.specs.Places.{slot}
 use Rattle.ob_silica_places.specs.Parameters.{Parameter, parameter_of, parameters, this_parameter, all_parameters}
 use Rattle.ob_silica_steps.specs.Cells.{Cell, cell, object_in, permission_in}
-use Rattle.ob_silica_steps.specs.Configurations.{SlotCells, SilicaFrame, How, by_this, by_new}
+use Rattle.ob_silica_steps.specs.Configurations.{SlotCells, SilicaFrame, by_this, by_new}
 use Rattle.ob_silica_steps.specs.Binding.{bound_cell}
 use Rattle.ob_silica_steps.specs.Here.{Here, self_of}
-use Rattle.ob_silica_formed.specs.Holdings.{SlotContent, Holdings, held, with_slot, params_held, held_at_start}
+use Rattle.ob_silica_formed.specs.Holdings.{held, params_held, held_at_start}
 use Rattle.ob_flow_spec.specs.Contexts.{BodyFrame, constructs, available, known_as, params_known, this_known, field_known, beginning}
 use Rattle.ob_flow_spec.specs.Joining.{same_mode}
 use Rattle.ob_places_laws.specs.Serving.{Allows}
-use Rattle.ob_coherent_spec.specs.Counting.{nth_object, in_cell}
+use Rattle.ob_coherent_spec.specs.Counting.{nth_object}
 use Rattle.ob_coherent_spec.specs.Standing.{AllStand, Stands}
-use Rattle.ob_coherent_spec.specs.Saying.{AgreesWith, Agrees, SaysOf, Says, own_object, own_cell, every}
-use Rattle.ob_coherent_spec.specs.Remaining.{BodyParts, body_of, HoldsSo, AreHeld}
+use Rattle.ob_coherent_spec.specs.Saying.{SaysOf, Says, own_object, own_cell, every}
+use Rattle.ob_coherent_spec.specs.Remaining.{HoldsSo, AreHeld}
 use Rattle.ob_coherent_spec.specs.Waiting.{IsFrame}
 use Rattle.ob_coherent_counting_laws.proofs.Cells.{counted_cell}
 use Rattle.ob_coherent_calls_laws.specs.Bound.{IsBoundTo, AreBound}
@@ -174,8 +171,11 @@ module _ (table : ClassTable) (objects : List Object) (f : SilicaFrame) (s : Sig
     where
       argument : (k : ℕ) (p : Parameter) → slice_get (all_parameters f.contract s) k ≡ Some p
           → (x : Cell) × (f.slots k ≡ Some x) × (x.note.kind ≡ kind_of_resolved p.of)
-      argument zero p e = (cell (reference n) (Reference f.contract) q, begins.this,
-          ap (λ (r : Parameter). kind_of_resolved r.of) (same_Some (this_parameter f.contract s) p e))
+      argument zero p e = (
+        cell (reference n) (Reference f.contract) q,
+        begins.this,
+        ap (λ (r : Parameter). kind_of_resolved r.of) (same_Some (this_parameter f.contract s) p e),
+      )
       argument (suc k) p e =
           let b = bound_at table objects f.slots 1 (parameters s) begins.bound k p e in
           (bound_cell p.of b.value, ap f.slots (let z : suc k ≡ 1 + k = omega arith in z) ∙ b.set, refl)

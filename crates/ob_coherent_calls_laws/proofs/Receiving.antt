@@ -1,43 +1,40 @@
 -- The body of the object that is called begins.
-use Rattle.std.proofs.Common.{◌≡◌, ◌≢◌, ℕ, zero, suc, ◌+◌, ◌<◌, ◌≤◌, Bool, true, false, ◌&&◌, List, [], ◌∷◌, map, length, Option, Some, None, refl, sym, ap, subst, ◌∙◌, arith, ⊎_elim, ◌⊎◌, inl, inr, true≢false, eqb-true, add-one}
+use Rattle.std.proofs.Common.{◌≡◌, ◌≢◌, ℕ, zero, suc, ◌+◌, ◌<◌, ◌≤◌, true, false, List, [], ◌∷◌, length, Option, Some, refl, sym, ap, subst, ◌∙◌, arith, ⊎_elim, ◌⊎◌, inl, inr, true≢false, eqb-true}
 use Rattle.std.specs.Prelude.{nat_eq, slice_get}
 use Rattle.std.specs.Option.{option_map_or}
 use Rattle.std.proofs.lemmas.Bool.{cases_Bool, both_ways}
 use Rattle.std.proofs.lemmas.List.{length-map}
-use Rattle.std.proofs.lemmas.Option.{same_Some}
 use Rattle.ob_base.specs.declared.id.ContractId.{ContractId}
 use Rattle.ob_base.specs.declared.id.TxId.{TxId}
 use Rattle.ob_perm.specs.States.{States}
 use Rattle.ob_perm.specs.Permissions.{Permission, owned, shared, unowned, owns, is_shared}
 use Rattle.ob_perm.specs.Masks.{permission_of}
-use Rattle.ob_table.specs.Tables.{ClassTable, contract_at, signature_at}
+use Rattle.ob_table.specs.Tables.{ClassTable, contract_at}
 use Rattle.ob_table.specs.declared.contract.Contract.{Contract}
 use Rattle.ob_table.specs.declared.contract.Field.{Field}
-use Rattle.ob_table.specs.declared.contract.ResolvedType.{ResolvedType}
 use Rattle.ob_table.specs.declared.contract.ResolvedType.TheVariants.{Int as IntType, Reference as TypedReference}
 use Rattle.ob_table.specs.declared.contract.Listed.{Listed}
 use Rattle.ob_table.specs.declared.contract.Signature.{Signature}
 use Rattle.ob_table.specs.declared.seen.Kind.TheVariants.{Reference}
 use Rattle.ob_table_spec.specs.WellFormed.{kind_of_resolved, serves_as}
-use Rattle.ob_heap_spec.specs.Values.{Value, reference}
+use Rattle.ob_heap_spec.specs.Values.{reference}
 use Rattle.ob_heap_spec.specs.Objects.{Object, state_number, seen_state}
 use Rattle.ob_heap_spec.specs.Contents.{IsStateOf}
 use Rattle.ob_heap_spec.specs.Worlds.{World}
 use Rattle.ob_heap_spec.specs.Marks.{is_in_progress, enter}
 use Rattle.ob_silica.specs.Terms.{SilicaTerms}
 use Rattle.ob_silica_places.specs.Known.{known, at}
-use Rattle.ob_silica_places.specs.Places.{field}
 use Rattle.ob_silica_places.specs.Parameters.{Parameter, parameters, all_parameters, parameter_of}
-use Rattle.ob_silica_steps.specs.Cells.{Cell, cell, permission_in}
-use Rattle.ob_silica_steps.specs.Configurations.{SilicaProgram, SlotCells, SilicaFrame, by_receiver, by_new, Loan, Rest, Configuration}
-use Rattle.ob_silica_steps.specs.Here.{here, self_of, field_of}
+use Rattle.ob_silica_steps.specs.Cells.{permission_in}
+use Rattle.ob_silica_steps.specs.Configurations.{SilicaProgram, SlotCells, SilicaFrame, by_receiver, Loan, Rest, Configuration}
+use Rattle.ob_silica_steps.specs.Here.{here, self_of}
 use Rattle.ob_silica_steps.specs.Binding.{Bound, bound_cell}
 use Rattle.ob_silica_steps.specs.Entering.{are_within, this_cell}
 use Rattle.ob_silica_steps.specs.Starting.{declared_note}
 use Rattle.ob_silica_formed.specs.Holdings.{held_at_start}
 use Rattle.ob_flow_spec.specs.Contexts.{BodyFrame, Context, available, type_of_field, entry_of_field, listed_at, field_known, beginning, constructs}
 use Rattle.ob_places_laws.specs.Serving.{AllowsState}
-use Rattle.ob_places_laws.specs.Answering.{Answers, HasAnswer}
+use Rattle.ob_places_laws.specs.Answering.{HasAnswer}
 use Rattle.ob_places_laws.proofs.Beginnings.{this_of_transaction, beginning_field}
 use Rattle.ob_places_laws.proofs.Conversions.{serves_itself}
 use Rattle.ob_places_laws.proofs.Dispatch.{answer_entry_mode, answer_parameters}
@@ -46,13 +43,12 @@ use Rattle.ob_places_laws.proofs.SeenStates.{converted_allows_state}
 use Rattle.ob_places_laws.proofs.Tables.{there_is}
 use Rattle.ob_coherent_spec.specs.Counting.{any, nth_object, in_slots, owners}
 use Rattle.ob_coherent_spec.specs.Runs.{times, entered_at, entries, constructions}
-use Rattle.ob_coherent_spec.specs.Standing.{RefersToShared, RefersToIn, Stands, AllStand, HasItsState, NeedsOwner}
-use Rattle.ob_coherent_spec.specs.Saying.{SaysOf, own_object, own_cell, every}
+use Rattle.ob_coherent_spec.specs.Standing.{RefersToIn, Stands, HasItsState, NeedsOwner}
+use Rattle.ob_coherent_spec.specs.Saying.{SaysOf, own_object, own_cell}
 use Rattle.ob_coherent_spec.specs.Remaining.{IsCheckedProgram, BodyParts, body_of}
-use Rattle.ob_coherent_spec.specs.Waiting.{IsFrame, tests_of, SharesThis, Lends, Waits, AllWait}
+use Rattle.ob_coherent_spec.specs.Waiting.{IsFrame, tests_of, SharesThis, Lends, Waits}
 use Rattle.ob_coherent_spec.specs.Coherent.{Beginning, IsAsDeclared, Holds, IsRunning}
-use Rattle.ob_coherent_counting_laws.proofs.Frames.{entered_here}
-use Rattle.ob_coherent_counting_laws.proofs.Numbers.{not_among_times, times_same, one_same}
+use Rattle.ob_coherent_counting_laws.proofs.Numbers.{not_among_times, times_same}
 use Rattle.ob_coherent_counting_laws.proofs.Entering.{this_alike, some_slots}
 use Rattle.ob_coherent_counting_laws.proofs.Sums.{at_same, at_other}
 use Rattle.ob_coherent_frames_laws.proofs.Apart.{apart_from_idle}
@@ -60,13 +56,13 @@ use Rattle.ob_coherent_frames_laws.proofs.Near.{EachSelf}
 use Rattle.ob_coherent_frames_laws.proofs.Others.{declared_near}
 use Rattle.ob_coherent_places_laws.proofs.Reading.{available_is, field_is, field_of_is}
 use Rattle.ob_coherent_calls_laws.specs.Bound.{IsBoundTo, AreBound}
-use Rattle.ob_coherent_calls_laws.specs.Binds.{in_both, in_rest, Binds}
+use Rattle.ob_coherent_calls_laws.specs.Binds.{Binds}
 use Rattle.ob_coherent_calls_laws.specs.Entered.{BeginsOn}
 use Rattle.ob_coherent_calls_laws.proofs.Within.{are_all_within}
 use Rattle.ob_coherent_calls_laws.proofs.Entered.{begins_self, begins_stand, begins_held, begins_frame, begins_says}
 use Rattle.ob_coherent_calls_laws.proofs.Beginning.{Begins, begins_to_run}
 use Rattle.ob_coherent_calls_laws.proofs.Running.{running_references}
-use Rattle.ob_coherent_calls_laws.proofs.Called.{left_waiting, called_on, called_owners, called_references, called_tests, called_entries, called_constructions, called_near, called_whole}
+use Rattle.ob_coherent_calls_laws.proofs.Called.{left_waiting, called_on, called_references, called_tests, called_entries, called_constructions, called_near, called_whole}
 
 -- bound slots, where those from a number on are the same
 pub bound_slots : (table : ClassTable) (objects : List Object) (slots more : SlotCells) (k : ℕ) (ps : List Parameter)
@@ -190,7 +186,7 @@ module _ (program : SilicaProgram) (is : IsCheckedProgram program) (entry : Opti
       in_state a e =
           let x = there_is (contract_at program.table o.contract) (λ y. IsStateOf y o.state) placed_then in
           let old : AllowsState (permission_of asked.entry) (seen_state program.table contract o) =
-              allows_from (permission_of asked.entry) (seen_state program.table contract o) (λ q i. stands_first.states q i) in
+          allows_from (permission_of asked.entry) (seen_state program.table contract o) (λ q i. stands_first.states q i) in
           allows_to (permission_of s.entry) (seen_state program.table o.contract o) a e
           (subst (λ q. AllowsState q (seen_state program.table o.contract o)) (sym ans.answers.entry)
           (converted_allows_state program.table is.table x.0 o x.1 x.2 contract o.contract (permission_of asked.entry) serves
@@ -211,11 +207,14 @@ module _ (program : SilicaProgram) (is : IsCheckedProgram program) (entry : Opti
       (subst (λ os. AreBound program.table os b.slots 1 (parameters asked)) (sym objects) bound.1))
 
   pub within : are_within program.table wr.objects callee.slots 0 (all_parameters (nth_object wr.objects n).contract ans.signature) ≡ true
-  within = are_all_within program.table wr.objects callee.slots 0 (all_parameters o.contract s) (record {
-    value = reference n;
-    set = at_same b.slots 0 (Some (this_cell o.contract s.entry n));
-    stands = this_stands;
-  }, bound_after)
+  within = are_all_within program.table wr.objects callee.slots 0 (all_parameters o.contract s) (
+    record {
+      value = reference n;
+      set = at_same b.slots 0 (Some (this_cell o.contract s.entry n));
+      stands = this_stands;
+    },
+    bound_after,
+  )
 
   pub begun : BeginsOn program.table wr.objects callee ans.signature (permission_of ans.signature.entry) n
   begun = record {
@@ -276,7 +275,7 @@ module _ (program : SilicaProgram) (is : IsCheckedProgram program) (entry : Opti
       let same = k.whole.progress m in
       let p = ap (times m) (progress ∙ binds.stays.progress) in
       let i : entered_at m by_receiver callee.slots ≡ Rattle.ob_coherent_spec.specs.Counting.one_if (nat_eq n m) =
-          ap (λ x. Rattle.ob_coherent_spec.specs.Counting.one_if (nat_eq x m)) self_is in
+      ap (λ x. Rattle.ob_coherent_spec.specs.Counting.one_if (nat_eq x m)) self_is in
       omega (arith, e, same, p, i)
 
   pub entered_once : (m : ℕ) → entries m d ≤ 1
@@ -288,8 +287,8 @@ module _ (program : SilicaProgram) (is : IsCheckedProgram program) (entry : Opti
       (λ other. let e = entries_now m in
       let most = k.whole.entered_once m in
       let i : entered_at m by_receiver callee.slots ≡ 0 =
-          ap (λ x. Rattle.ob_coherent_spec.specs.Counting.one_if (nat_eq x m)) self_is
-          ∙ ap Rattle.ob_coherent_spec.specs.Counting.one_if other.0 in
+      ap (λ x. Rattle.ob_coherent_spec.specs.Counting.one_if (nat_eq x m)) self_is
+      ∙ ap Rattle.ob_coherent_spec.specs.Counting.one_if other.0 in
       omega (arith, e, most, i))
       (Rattle.std.proofs.lemmas.Bool.Decides.eqb_tells n m)
 
@@ -319,13 +318,13 @@ module _ (program : SilicaProgram) (is : IsCheckedProgram program) (entry : Opti
         → SaysOf (NeedsOwner program.table w.objects) (field_known bf j) (own_cell (here d) j)
     fields_say j can =
         let can_n : available bf j (state_number (nth_object wr.objects n).state) ≡ true =
-            subst (λ i. available bf j (state_number (nth_object wr.objects i).state) ≡ true) self_is can in
+        subst (λ i. available bf j (state_number (nth_object wr.objects i).state) ≡ true) self_is can in
         let f = field_is own (nth_object wr.objects n).state j
-            (sym (available_is bf j (nth_object wr.objects n).state) ∙ can_n) in
+        (sym (available_is bf j (nth_object wr.objects n).state) ∙ can_n) in
         let says = declared_now.fields j f.0 (field_of_is program.table (nth_object wr.objects n) own j ec ∙ f.1) f.2 in
         let known_is : field_known bf j ≡ Some (declared_note f.0.of) =
-            beginning_field bf j f.0 f.1 plain_number
-            ∙ ap (λ p. Some (known (kind_of_resolved f.0.of) p)) (unlisted_entry bf s j f.0 no_list f.1) in
+        beginning_field bf j f.0 f.1 plain_number
+        ∙ ap (λ p. Some (known (kind_of_resolved f.0.of) p)) (unlisted_entry bf s j f.0 no_list f.1) in
         subst (λ y. SaysOf (NeedsOwner program.table w.objects) y (own_cell (here d) j)) (sym known_is)
         (subst (λ i. SaysOf (NeedsOwner program.table w.objects) (Some (declared_note f.0.of))
         (Rattle.ob_coherent_spec.specs.Counting.field_cell b.from.notes w.objects i j)) (sym self_is) says)
@@ -334,19 +333,23 @@ module _ (program : SilicaProgram) (is : IsCheckedProgram program) (entry : Opti
     shares_now e =
         let is_entry : permission_of ans.signature.entry ≡ shared = sym (ap permission_in begun.this) ∙ e in
         let marked : (nth_object w.objects n).shared ≡ true = this_stands.marked is_entry in
-        let more = times_same n wr.progress in
-        (subst (λ i. 0 < times i w.progress) (sym self_is) (omega (arith, more)),
-        subst (λ i. (owners i d ≤ 0) ⊎ ((callee.share_entered ≡ true) × (0 < times i w.locked))) (sym self_is)
-        (⊎_elim (λ none. inl (omega (arith, none)))
-        (λ some. inr (ap is_shared is_entry, ⊎_elim (λ l. l)
-        (λ t.
-        let same = called_tests program.table is.table entry beginning_of c k b g nb binds callee begins.terms rest outer result
-            loans w same_outer objects locked bound_owners bound_references progress_grows (λ m. m ≢ n) each_apart apart_stays n in
-        let busy = k.whole.tested n (omega (arith, t, same)) in
-        let quiet = idle_times in
-        absurd (omega (arith, busy, quiet)))
-        (whole.shared n marked some)))
-        (zero_or_more (owners n d))))
+        let more = times_same n wr.progress in (
+          subst (λ i. 0 < times i w.progress) (sym self_is) (omega (arith, more)),
+          subst (λ i. (owners i d ≤ 0) ⊎ ((callee.share_entered ≡ true) × (0 < times i w.locked))) (sym self_is)
+              (⊎_elim (λ none. inl (omega (arith, none)))
+              (λ some. inr (
+                ap is_shared is_entry,
+                ⊎_elim (λ l. l)
+                    (λ t.
+                    let same = called_tests program.table is.table entry beginning_of c k b g nb binds callee begins.terms rest outer result
+                    loans w same_outer objects locked bound_owners bound_references progress_grows (λ m. m ≢ n) each_apart apart_stays n in
+                    let busy = k.whole.tested n (omega (arith, t, same)) in
+                    let quiet = idle_times in
+                    absurd (omega (arith, busy, quiet)))
+                    (whole.shared n marked some),
+              ))
+              (zero_or_more (owners n d))),
+        )
 
     pub receiver_runs : IsRunning program.table entry beginning_of d
     receiver_runs = record {
@@ -354,8 +357,14 @@ module _ (program : SilicaProgram) (is : IsCheckedProgram program) (entry : Opti
       terms = begins.terms;
       outer = [];
       control = refl;
-      context = beginning (record { table = program.table; here = (nth_object wr.objects n).contract; own = own; tx = ans.number;
-          signature = ans.signature; slots = begins.slots });
+      context = beginning (record {
+        table = program.table;
+        here = (nth_object wr.objects n).contract;
+        own = own;
+        tx = ans.number;
+        signature = ans.signature;
+        slots = begins.slots;
+      });
       says = begins_says program.table wr.objects callee s (permission_of s.entry) n begun
           (NeedsOwner program.table w.objects) (here d) bf refl refl refl
           (ap (λ (y : Rattle.ob_silica_places.specs.Known.Known). y.permission) (this_of_transaction bf plain_number)) fields_say;
@@ -368,10 +377,10 @@ module _ (program : SilicaProgram) (is : IsCheckedProgram program) (entry : Opti
       owns_made = λ e. absurd (cc);
       unreferred = λ m some.
           let new = called_constructions program.table is.table entry beginning_of c k b g nb binds callee begins.terms rest outer result
-              loans w same_outer objects locked bound_owners bound_references progress_grows (λ m. m ≢ n) each_apart apart_stays m in
+          loans w same_outer objects locked bound_owners bound_references progress_grows (λ m. m ≢ n) each_apart apart_stays m in
           let old : 0 < constructions m c = omega (arith, some, new) in
           let refs = called_references program.table is.table entry beginning_of c k b g nb binds callee begins.terms rest outer result
-              loans w same_outer objects locked bound_owners bound_references progress_grows (λ m. m ≢ n) each_apart apart_stays m in
+          loans w same_outer objects locked bound_owners bound_references progress_grows (λ m. m ≢ n) each_apart apart_stays m in
           let kept = binds.refers m old in
           let was = running_references program.table is.table entry beginning_of c k m in
           let few = k.unreferred m old in

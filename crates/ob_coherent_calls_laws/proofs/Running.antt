@@ -1,34 +1,32 @@
 -- What a configuration that runs tells where a call begins to bind.
-use Rattle.std.proofs.Common.{◌≡◌, ◌≢◌, ℕ, zero, suc, ◌+◌, ◌<◌, ◌≤◌, Bool, true, false, List, [], ◌∷◌, length, Option, Some, None, refl, sym, ap, subst, ◌∙◌, arith, ⊎_elim, ◌⊎◌, inl, inr, eq-eqb, true≢false}
-use Rattle.std.specs.Prelude.{nat_eq}
+use Rattle.std.proofs.Common.{◌≡◌, ◌≢◌, ℕ, zero, suc, ◌+◌, ◌<◌, ◌≤◌, true, false, List, [], ◌∷◌, length, Option, Some, refl, sym, ap, subst, ◌∙◌, arith, ⊎_elim, ◌⊎◌, inl, inr, eq-eqb}
 use Rattle.std.proofs.lemmas.Bool.{both_ways}
-use Rattle.std.proofs.lemmas.Bool.Decides.{eqb_tells}
 use Rattle.ob_base.specs.Limits.{most_slots}
 use Rattle.ob_perm.specs.Permissions.{shared, owns}
 use Rattle.ob_table.specs.Tables.{ClassTable}
 use Rattle.ob_table_spec.specs.Conditions.{IsClassTable}
-use Rattle.ob_heap_spec.specs.Values.{Value, reference, nothing}
+use Rattle.ob_heap_spec.specs.Values.{reference}
 use Rattle.ob_heap_spec.specs.Objects.{Object}
 use Rattle.ob_silica_places.specs.Places.{Location, slot, field, this, same_location}
 use Rattle.ob_silica_steps.specs.Cells.{Cell}
 use Rattle.ob_silica_steps.specs.Configurations.{SlotCells, How, by_receiver, by_this, by_new, SilicaFrame, Waiting, Configuration}
-use Rattle.ob_silica_steps.specs.Here.{Here, here, self_of}
+use Rattle.ob_silica_steps.specs.Here.{here, self_of}
 use Rattle.ob_silica_steps.specs.Binding.{unbound}
 use Rattle.ob_flow_spec.specs.Contexts.{constructs}
 use Rattle.ob_places_laws.proofs.Tables.{contract_is}
-use Rattle.ob_coherent_spec.specs.Counting.{fields_counted, any, nth_object, in_cell, in_slots, in_waiting, in_control, owners, references}
+use Rattle.ob_coherent_spec.specs.Counting.{fields_counted, any, nth_object, in_cell, in_waiting, in_control, owners, references}
 use Rattle.ob_coherent_spec.specs.Runs.{entered_at, entered_among, entries, constructing_at, constructing_among, constructions}
-use Rattle.ob_coherent_spec.specs.Standing.{HasItsState, NeedsOwner}
+use Rattle.ob_coherent_spec.specs.Standing.{HasItsState}
 use Rattle.ob_coherent_spec.specs.Remaining.{BodyParts, body_of, IsPlaceIn}
-use Rattle.ob_coherent_spec.specs.Waiting.{IsFrame, is_on_this, IsApart, Waits, AllWait}
-use Rattle.ob_coherent_spec.specs.Coherent.{Beginning, Holds, IsRunning}
+use Rattle.ob_coherent_spec.specs.Waiting.{IsFrame, is_on_this, IsApart, AllWait}
+use Rattle.ob_coherent_spec.specs.Coherent.{Beginning, IsRunning}
 use Rattle.ob_coherent_counting_laws.proofs.Cells.{cell_counted}
 use Rattle.ob_coherent_counting_laws.proofs.Numbers.{one_of}
 use Rattle.ob_coherent_counting_laws.proofs.Places.{few_fields, in_slot, in_two_slots, in_field_of}
 use Rattle.ob_coherent_counting_laws.proofs.Entering.{some_slots, nothing_counts}
 use Rattle.ob_coherent_places_laws.specs.Placed.{cell_at, Sits}
 use Rattle.ob_coherent_places_laws.proofs.Writing.{stays_itself}
-use Rattle.ob_coherent_calls_laws.specs.Binds.{in_frame, in_both, in_rest, Binds}
+use Rattle.ob_coherent_calls_laws.specs.Binds.{in_frame, in_rest, Binds}
 
 -- A frame that is entered or under construction.
 
@@ -178,14 +176,14 @@ module _ (table : ClassTable) (made : IsClassTable table) (entry : Option ℕ) (
       at_two (slot j) lt i other self =
           let is : in_cell any m (c.frame.slots j) ≡ 1 = ap (in_cell any m) i ∙ counted in
           let first = subst (λ n. in_cell any n (c.frame.slots 0) ≡ 1) self
-              (refers_itself table c.world.objects c.frame k.whole.parts k.whole.frame) in
+          (refers_itself table c.world.objects c.frame k.whole.parts k.whole.frame) in
           let low = in_two_slots any m c.frame.slots j 0 (low_slot j lt) some_slots
-              (λ z. both_ways _ other (eq-eqb j 0 z)) in
+          (λ z. both_ways _ other (eq-eqb j 0 z)) in
           omega (arith, is, first, low)
       at_two (field j) lt i other self =
           let is : in_cell any m (cell_at (here c) (field j)) ≡ 1 = ap (in_cell any m) i ∙ counted in
           let first = subst (λ n. in_cell any n (c.frame.slots 0) ≡ 1) self
-              (refers_itself table c.world.objects c.frame k.whole.parts k.whole.frame) in
+          (refers_itself table c.world.objects c.frame k.whole.parts k.whole.frame) in
           let low = in_field_of any m c.notes c.world.objects (self_of c.frame.slots) j (low_field j lt) in
           let zero = in_slot any m c.frame.slots 0 some_slots in
           omega (arith, is, first, low, zero)

@@ -1,7 +1,7 @@
 -- The loans of slots alone, as a call on `this` has them.
-use Rattle.std.proofs.Common.{◌≡◌, ℕ, zero, suc, ◌+◌, ◌<◌, Bool, true, false, ◌&&◌, ◌||◌, List, [], ◌∷◌, ◌++◌, Option, Some, None, refl, sym, ap, subst, ◌∙◌, arith, ⊎_elim, eq-eqb, true≢false}
+use Rattle.std.proofs.Common.{◌≡◌, ℕ, zero, suc, ◌+◌, Bool, true, false, ◌||◌, List, [], ◌∷◌, ◌++◌, Some, refl, sym, ap, subst, ◌∙◌, arith, eq-eqb, true≢false}
 use Rattle.std.specs.Prelude.{slice_get, nat_eq, if◌then◌else◌}
-use Rattle.std.proofs.lemmas.Bool.{cases_Bool, both_ways, or_left, or_right, or_parts}
+use Rattle.std.proofs.lemmas.Bool.{or_left, or_right, or_parts}
 use Rattle.std.proofs.lemmas.Option.{same_Some}
 use Rattle.ob_perm.specs.Permissions.{Permission, owned, shared, unowned, owns, is_unowned}
 use Rattle.ob_perm.specs.Masks.{permission_of}
@@ -136,13 +136,19 @@ wanted_slot_lent table c parts known (r ∷ rs) (q ∷ ps) n zero p passed keeps
     let same : q ≡ p = same_Some q p e in
     let wants_q : wants_owner q ≡ true = subst (λ z. wants_owner z ≡ true) (sym same) wants in
     let out_q : owns (permission_of q.exit) ≡ true = subst (λ (z : Parameter). owns (permission_of z.exit) ≡ true) (sym same) out in
-    subst (λ w. has_lent (slot_loans ((if w then (record { place = r.location; param = n;
-    exit = converted table (kind_of_resolved q.of) (kind_known (known r.location)) (permission_of q.exit) } ∷ []) else [])
+    subst (λ w. has_lent (slot_loans ((if w then (record {
+      place = r.location;
+      param = n;
+      exit = converted table (kind_of_resolved q.of) (kind_known (known r.location)) (permission_of q.exit);
+    } ∷ []) else [])
     ++ lent_all table known rs ps (suc n))) (n + 0) ≡ true) (sym wants_q) (by_place r.location refl wants_q out_q)
   where
     by_place : (l : Location) → r.location ≡ l → wants_owner q ≡ true → owns (permission_of q.exit) ≡ true
-        → has_lent (if_slot l (record { place = r.location; param = n;
-        exit = converted table (kind_of_resolved q.of) (kind_known (known r.location)) (permission_of q.exit) })
+        → has_lent (if_slot l (record {
+          place = r.location;
+          param = n;
+          exit = converted table (kind_of_resolved q.of) (kind_known (known r.location)) (permission_of q.exit);
+        })
         (slot_loans (lent_all table known rs ps (suc n)))) (n + 0) ≡ true
     by_place (slot k) is w o = or_left (nat_eq (n + 0) n) (has_lent (slot_loans (lent_all table known rs ps (suc n))) (n + 0))
         (eq-eqb (n + 0) n (omega arith))
@@ -153,15 +159,21 @@ wanted_slot_lent table c parts known (r ∷ rs) (q ∷ ps) n (suc j) p passed ke
     (let z : suc n + j ≡ n + suc j = omega arith in z) rest)
   where
     by_place : (l : Location) → has_lent (slot_loans (lent_all table known rs ps (suc n))) (n + suc j) ≡ true
-        → has_lent (if_slot l (record { place = r.location; param = n;
-        exit = converted table (kind_of_resolved q.of) (kind_known (known r.location)) (permission_of q.exit) })
+        → has_lent (if_slot l (record {
+          place = r.location;
+          param = n;
+          exit = converted table (kind_of_resolved q.of) (kind_known (known r.location)) (permission_of q.exit);
+        })
         (slot_loans (lent_all table known rs ps (suc n)))) (n + suc j) ≡ true
     by_place (slot k) h = or_right (nat_eq (n + suc j) n) (has_lent (slot_loans (lent_all table known rs ps (suc n))) (n + suc j)) h
     by_place (field k) h = h
 
     by_want : (w : Bool) → has_lent (slot_loans (lent_all table known rs ps (suc n))) (n + suc j) ≡ true
-        → has_lent (slot_loans ((if w then (record { place = r.location; param = n;
-        exit = converted table (kind_of_resolved q.of) (kind_known (known r.location)) (permission_of q.exit) } ∷ []) else [])
+        → has_lent (slot_loans ((if w then (record {
+          place = r.location;
+          param = n;
+          exit = converted table (kind_of_resolved q.of) (kind_known (known r.location)) (permission_of q.exit);
+        } ∷ []) else [])
         ++ lent_all table known rs ps (suc n))) (n + suc j) ≡ true
     by_want true h = by_place r.location h
     by_want false h = h

@@ -1,11 +1,11 @@
 -- How a call of an object enters its body.
-use Rattle.std.proofs.Common.{◌≡◌, ℕ, Bool, true, false, List, [], Option, Some, None, refl, sym, ap, ◌∙◌, subst}
+use Rattle.std.proofs.Common.{◌≡◌, ℕ, true, false, [], Some, refl, ap, ◌∙◌}
 use Rattle.std.specs.Prelude.{if◌then◌else◌}
 use Rattle.ob_base.specs.declared.id.ContractId.{ContractId}
 use Rattle.ob_base.specs.declared.id.TxId.{TxId}
 use Rattle.ob_perm.specs.Permissions.{is_shared}
 use Rattle.ob_perm.specs.Masks.{permission_of}
-use Rattle.ob_table.specs.Tables.{ClassTable, contract_at, signature_at}
+use Rattle.ob_table.specs.Tables.{contract_at, signature_at}
 use Rattle.ob_table.specs.declared.contract.Contract.{Contract}
 use Rattle.ob_table.specs.declared.contract.Signature.{Signature}
 use Rattle.ob_heap_spec.specs.Objects.{Object}
@@ -16,7 +16,7 @@ use Rattle.ob_heap_spec.specs.Dispatch.{answering}
 use Rattle.ob_silica.specs.Terms.{SilicaTerms}
 use Rattle.ob_silica_places.specs.Known.{at}
 use Rattle.ob_silica_places.specs.Parameters.{all_parameters}
-use Rattle.ob_silica_steps.specs.Configurations.{SilicaProgram, terms_at, SilicaFrame, How, by_receiver, by_this, runs, Configuration, NextStep, goes, abort_step, stuck}
+use Rattle.ob_silica_steps.specs.Configurations.{SilicaProgram, terms_at, SilicaFrame, by_receiver, by_this, runs, Configuration, goes, abort_step, stuck}
 use Rattle.ob_silica_steps.specs.Here.{if_there}
 use Rattle.ob_silica_steps.specs.Entering.{are_within, Entered, enters, this_cell, entered_on, begins_on, calls_object, calls_this}
 

@@ -1,6 +1,6 @@
 -- The slot of a result holds no reference, so that it isn't under test.
-use Rattle.std.proofs.Common.{◌≡◌, ◌≢◌, ℕ, ◌+◌, ◌<◌, ◌≤◌, ◌⊎◌, inl, inr, ⊎_elim, Bool, true, false, List, [], ◌∷◌, length, Option, Some, None, refl, sym, ap, ◌∙◌, subst, arith, true≢false}
-use Rattle.std.specs.Prelude.{is_some, IfSome, if◌then◌else◌}
+use Rattle.std.proofs.Common.{◌≡◌, ◌≢◌, ℕ, ◌<◌, ◌≤◌, ⊎_elim, true, false, List, [], ◌∷◌, length, Option, Some, None, refl, sym, ap, ◌∙◌, subst, arith, true≢false}
+use Rattle.std.specs.Prelude.{is_some, IfSome}
 use Rattle.std.proofs.lemmas.Bool.{cases_Bool, both_ways, or_cases}
 use Rattle.ob_table.specs.Tables.{ClassTable}
 use Rattle.ob_table.specs.declared.contract.ResolvedType.{ResolvedType}
@@ -8,7 +8,7 @@ use Rattle.ob_table.specs.declared.seen.Kind.{Kind}
 use Rattle.ob_table.specs.declared.seen.Kind.TheVariants.{Int, Bool as BoolKind, Text, Reference}
 use Rattle.ob_table_spec.specs.Conditions.{IsClassTable}
 use Rattle.ob_table_spec.specs.WellFormed.{is_reference}
-use Rattle.ob_heap_spec.specs.Values.{Value, reference}
+use Rattle.ob_heap_spec.specs.Values.{reference}
 use Rattle.ob_heap_spec.specs.Objects.{Object}
 use Rattle.ob_silica.specs.Slots.{slots_of_result}
 use Rattle.ob_silica_places.specs.Places.{Location, slot, same_location}
@@ -20,7 +20,7 @@ use Rattle.ob_flow_spec.specs.Contexts.{BodyFrame, Context, known_as, is_tested}
 use Rattle.ob_flow_spec.specs.Binding.{with_result}
 use Rattle.ob_coherent_spec.specs.Runs.{tested_places, tested_before}
 use Rattle.ob_coherent_spec.specs.Standing.{Stands, IsOfKind}
-use Rattle.ob_coherent_spec.specs.Remaining.{BodyParts, body_of}
+use Rattle.ob_coherent_spec.specs.Remaining.{body_of}
 use Rattle.ob_coherent_spec.specs.OpenTests.{IsTestOf, IsOpen, AreOpen}
 use Rattle.ob_coherent_spec.specs.Waiting.{AwaitsResult}
 use Rattle.ob_coherent_spec.specs.Coherent.{Beginning, IsRunning}

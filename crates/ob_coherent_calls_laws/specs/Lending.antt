@@ -1,6 +1,6 @@
 -- What a call lends, and what its places get back (Coblenz et al., TOPLAS 42(3), 2020, "Silica"; the statements are this
 -- project's own).
-use Rattle.std.specs.Prelude.{◌≡◌, ℕ, suc, Bool, true, List, [], ◌∷◌, Some, slice_get, ⊤}
+use Rattle.std.specs.Prelude.{◌≡◌, ℕ, suc, true, List, [], ◌∷◌, Some, slice_get, ⊤}
 use Rattle.ob_perm.specs.Permissions.{owns}
 use Rattle.ob_perm.specs.Masks.{permission_of}
 use Rattle.ob_table.specs.Tables.{ClassTable}
