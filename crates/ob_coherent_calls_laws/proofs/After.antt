@@ -46,7 +46,8 @@ sets_given g (r ∷ rs) (p ∷ ps) q = sets_given (given_to g r.location p) rs p
 
 -- The result is in its slot alone.
 
-pub result_other : (g : Context) (result : Option ℕ) (of : Option ResolvedType) (q : Location) → is_result result q ≡ false
+pub result_other : (g : Context) (result : Option ℕ) (of : Option ResolvedType) (q : Location)
+    → is_result result q ≡ false
     → with_result g result of q ≡ g q
 result_other g None of q e = refl
 result_other g (Some j) None q e = refl
@@ -62,7 +63,8 @@ settled_parts how h q e =
     (one.0, two.0, two.1)
 
 -- a value that is an owner's is a reference
-owner_refers : (table : ClassTable) (objects : List Object) (of : ResolvedType) (v : Value) → owns (permission_of_type of) ≡ true
+owner_refers : (table : ClassTable) (objects : List Object) (of : ResolvedType) (v : Value)
+    → owns (permission_of_type of) ≡ true
     → IsOfKind table objects (kind_of_resolved of) v → (n : ℕ) × (v ≡ reference n)
 owner_refers table objects of v e h =
     let r = say_type of (has_say (permission_of_type of) e) in
@@ -100,7 +102,8 @@ backs_beside table objects known g b result of (r ∷ rs) (p ∷ ps) n stand pla
   backs_beside table objects known g b result of rs ps (suc n) stand plain lent.1 back.1,
 )
   where
-    apart : (z : Option ℕ) → result ≡ z → (q : Location) (x : Cell) → cell_at b.from q ≡ Some x → (m : ℕ) → x.value ≡ reference m
+    apart : (z : Option ℕ) → result ≡ z → (q : Location) (x : Cell) → cell_at b.from q ≡ Some x → (m : ℕ)
+        → x.value ≡ reference m
         → is_result result q ≡ false
     apart None e q x is m refers = ap (λ y. is_result y q) e
     apart (Some j) e q x is m refers = ap (λ y. is_result y q) e ∙ ⊎_elim

@@ -28,8 +28,10 @@ use Rattle.ob_coherent_spec.specs.Remaining.{IsCheckedBody, IsCheckedProgram, Is
 -- Forms that are well-formed.
 
 mutual
-  each_formed : (f : StaticFrame) (h : Holdings) (terms : SilicaTerms) → Each NamesWhatIsThere f h terms → Each HasKinds f h terms
-      → Each TakesResult f h terms → Each LeavesParams f h terms → Each LosesNoReference f h terms → Each NamesBody f h terms
+  each_formed : (f : StaticFrame) (h : Holdings) (terms : SilicaTerms) → Each NamesWhatIsThere f h terms
+      → Each HasKinds f h terms
+      → Each TakesResult f h terms → Each LeavesParams f h terms → Each LosesNoReference f h terms
+      → Each NamesBody f h terms
       → Each ReturnsResult f h terms → Each IsWellFormedForm f h terms
   each_formed f h no_terms n k t p l b r = tt
   each_formed f h (and_term form span rest) n k t p l b r = (
@@ -77,15 +79,31 @@ some_terms (Some terms) h = (terms, refl)
 some_terms None h = absurd (true≢false (sym h))
 
 -- What a body has to run where it begins.
-pub record Begins (program : SilicaProgram) (contract : ContractId) (tx : TxId) (own : Contract) (s : Signature) : Type 0 where
+pub record Begins (program : SilicaProgram) (contract : ContractId) (tx : TxId) (own : Contract)
+    (s : Signature) : Type 0 where
   pub terms : SilicaTerms
   pub slots : ℕ
   pub found : terms_at program contract tx ≡ Some terms
   pub few : slots ≤ most_slots
   pub params : length s.params < slots
-  pub remains : Remains (record { table = program.table; here = contract; own = own; tx = tx; signature = s; slots = slots })
+  pub remains : Remains (record {
+    table = program.table;
+    here = contract;
+    own = own;
+    tx = tx;
+    signature = s;
+    slots =
+        slots;
+  })
       (held_at_start contract s.params)
-      (beginning (record { table = program.table; here = contract; own = own; tx = tx; signature = s; slots = slots })) terms []
+      (beginning (record {
+        table = program.table;
+        here = contract;
+        own = own;
+        tx = tx;
+        signature = s;
+        slots = slots;
+      })) terms []
 
 max_first : (m n k : ℕ) → max m n ≤ k → m ≤ k
 max_first m n k h = omega (arith, h)
@@ -94,14 +112,16 @@ max_second : (m n k : ℕ) → max m n ≤ k → n ≤ k
 max_second m n k h = omega (arith, h)
 
 body_begins : (program : SilicaProgram) (body : SilicaBody) (own : Contract) (s : Signature)
-    → IsCheckedBody program.table body → contract_at program.table body.contract ≡ Some own → signature_at own body.tx ≡ Some s
+    → IsCheckedBody program.table body → contract_at program.table body.contract ≡ Some own
+    → signature_at own body.tx ≡ Some s
     → (terms_at program body.contract body.tx ≡ Some body.terms) → Begins program body.contract body.tx own s
 body_begins program body own s is ec es found = record {
   terms = body.terms;
   slots = body.slots;
   found = found;
   few = formed.numbers.few;
-  params = (let z = max_first (length s.params + 1) (slots_of_terms body.terms) body.slots formed.numbers.slots in omega (arith, z));
+  params = (let z = max_first (length s.params + 1)
+      (slots_of_terms body.terms) body.slots formed.numbers.slots in omega (arith, z));
   remains = record {
     formed = record {
       forms = each_formed (frame_of program.table body.contract own s) (held_at_start body.contract s.params) body.terms
@@ -116,19 +136,52 @@ body_begins program body own s is ec es found = record {
 }
   where
     frame : BodyFrame
-    frame = record { table = program.table; here = body.contract; own = own; tx = body.tx; signature = s; slots = body.slots }
+    frame = record {
+      table = program.table;
+      here = body.contract;
+      own = own;
+      tx = body.tx;
+      signature = s;
+      slots =
+          body.slots;
+    }
 
     formed : AreWellFormed (frame_of program.table body.contract own s) (held_at_start body.contract s.params) body
     formed = there_so (signature_at own body.tx)
-        (λ s. AreWellFormed (frame_of program.table body.contract own s) (held_at_start body.contract s.params) body) s es
+        (λ s. AreWellFormed (frame_of program.table body.contract own s)
+        (held_at_start body.contract s.params) body) s es
         (there_so (contract_at program.table body.contract) (λ own. IsSomeAnd (signature_at own body.tx)
         (λ s. AreWellFormed (frame_of program.table body.contract own s) (held_at_start body.contract s.params) body))
         own ec is.well_formed)
 
-    derived : (left : Option Context) × (derive_all (record { table = program.table; here = body.contract; own = own; tx = body.tx; signature = s; slots = body.slots }) [] body.terms
-        (beginning (record { table = program.table; here = body.contract; own = own; tx = body.tx; signature = s; slots = body.slots })) ≡ Ok left)
+    derived : (left : Option Context) × (derive_all
+        (record {
+          table = program.table;
+          here = body.contract;
+          own = own;
+          tx = body.tx;
+          signature = s;
+          slots =
+              body.slots;
+        }) [] body.terms
+        (beginning (record {
+          table = program.table;
+          here = body.contract;
+          own = own;
+          tx = body.tx;
+          signature = s;
+          slots = body.slots;
+        })) ≡ Ok left)
     derived = body_passes program.table body
-        (record { table = program.table; here = body.contract; own = own; tx = body.tx; signature = s; slots = body.slots })
+        (record {
+          table = program.table;
+          here = body.contract;
+          own = own;
+          tx = body.tx;
+          signature = s;
+          slots =
+              body.slots;
+        })
         (ap (λ o. option_and_then (λ (c : Contract). option_map (λ (x : Signature). record {
           table = program.table;
           here = body.contract;
@@ -147,27 +200,68 @@ body_begins program body own s is ec es found = record {
         })) es)
         is.derives
 
-    nothing_after : (left : Option Context) → derive_all (record { table = program.table; here = body.contract; own = own; tx = body.tx; signature = s; slots = body.slots }) [] body.terms
-        (beginning (record { table = program.table; here = body.contract; own = own; tx = body.tx; signature = s; slots = body.slots })) ≡ Ok left
-        → GoOn (record { table = program.table; here = body.contract; own = own; tx = body.tx; signature = s; slots = body.slots }) left
+    nothing_after : (left : Option Context)
+        → derive_all (record {
+          table = program.table;
+          here = body.contract;
+          own = own;
+          tx = body.tx;
+          signature = s;
+          slots = body.slots;
+        }) [] body.terms
+        (beginning (record {
+          table = program.table;
+          here = body.contract;
+          own = own;
+          tx = body.tx;
+          signature = s;
+          slots = body.slots;
+        })) ≡ Ok left
+        → GoOn (record {
+          table = program.table;
+          here = body.contract;
+          own = own;
+          tx = body.tx;
+          signature = s;
+          slots =
+              body.slots;
+        }) left
         (after_terms (frame_of program.table body.contract own s) body.terms (held_at_start body.contract s.params)) []
     nothing_after None e = tt
     nothing_after (Some j) e = absurd (both_ways (terms_end body.terms) (reached_goes_on
-        (record { table = program.table; here = body.contract; own = own; tx = body.tx; signature = s; slots = body.slots }) []
-        body.terms (beginning (record { table = program.table; here = body.contract; own = own; tx = body.tx; signature = s; slots = body.slots })) j e) formed.ends)
+        (record {
+          table = program.table;
+          here = body.contract;
+          own = own;
+          tx = body.tx;
+          signature = s;
+          slots =
+              body.slots;
+        }) []
+        body.terms (beginning (record {
+          table = program.table;
+          here = body.contract;
+          own = own;
+          tx = body.tx;
+          signature = s;
+          slots = body.slots;
+        })) j e) formed.ends)
 
 same_tx : (a b : TxId) → a.0 ≡ b.0 → a ≡ b
 same_tx a b e = ap (λ n. record { 0 = n }) e
 
 -- each constructor and transaction of a checked program has its terms to run
-pub begins_to_run : (program : SilicaProgram) → IsCheckedProgram program → (contract : ContractId) (tx : TxId) (own : Contract)
-    (s : Signature) → contract_at program.table contract ≡ Some own → own.interface ≡ false → signature_at own tx ≡ Some s
+pub begins_to_run : (program : SilicaProgram) → IsCheckedProgram program
+    → (contract : ContractId) (tx : TxId) (own : Contract)
+    (s : Signature) → contract_at program.table contract ≡ Some own → own.interface ≡ false
+    → signature_at own tx ≡ Some s
     → Begins program contract tx own s
 begins_to_run program is contract tx own s ec class es =
     let some = some_terms (terms_at program contract tx) (is.terms contract tx own s ec class es) in
     let r = found_body (is_terms_of contract tx) program.bodies some.0 some.1 in
     let parts = and_parts (nat_eq r.0.contract.0 contract.0) (nat_eq r.0.tx.0 tx.0) r.3 in
-    let c : r.0.contract ≡ contract = contract_number r.0.contract contract (eqb-true r.0.contract.0 contract.0 parts.0) in
+    let c : r.0.contract ≡ contract = contract_number r.0.contract contract
+    (eqb-true r.0.contract.0 contract.0 parts.0) in
     let t : r.0.tx ≡ tx = same_tx r.0.tx tx (eqb-true r.0.tx.0 tx.0 parts.1) in
     subst (λ z. Begins program z tx own s) c (subst (λ z. Begins program r.0.contract z own s) t
     (body_begins program r.0 own s (each_at (IsCheckedBody program.table) program.bodies r.1 r.0 is.bodies r.2)

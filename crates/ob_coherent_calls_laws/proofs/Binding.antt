@@ -72,7 +72,8 @@ kept_shared_is p shared e = inl refl
 kept_shared_is p unowned e = inr e
 
 -- a value that is a reference where a Shared one is declared
-shared_refers : (table : ClassTable) (objects : List Object) (of : ResolvedType) (v : Value) → permission_of_type of ≡ shared
+shared_refers : (table : ClassTable) (objects : List Object) (of : ResolvedType) (v : Value)
+    → permission_of_type of ≡ shared
     → IsOfKind table objects (kind_of_resolved of) v → (n : ℕ) × (v ≡ reference n) × (n < length objects)
 shared_refers table objects of v e h =
     let r = say_type of (ap is_unowned e) in
@@ -118,7 +119,8 @@ module _ (table : ClassTable) (made : IsClassTable table) (c : Configuration) (p
       at_place : (q : Location) → IsPlaceIn (body_of table c.frame parts) q → IsLow q
       at_place (slot j) lt = let few = k.sits.frame.few in omega (arith, few, lt)
       at_place (field j) lt = few_fields j
-          (let few = (contract_is table made c.frame.contract parts.own k.sits.frame.own).few_fields in omega (arith, few, lt))
+          (let few = (contract_is table made c.frame.contract parts.own k.sits.frame.own).few_fields in omega
+          (arith, few, lt))
 
   there : self_of b.from.slots < length b.from.world.objects
   there = k.sits.frame.there
@@ -127,7 +129,8 @@ module _ (table : ClassTable) (made : IsClassTable table) (c : Configuration) (p
   kinds = ap kind_known u.told ∙ sym u.kind
 
   fit : fits (converted table u.cell.note.kind (kind_of_resolved p.of) (counted g a)) (permission_of_type p.of) ≡ true
-  fit = subst (λ z. fits (converted table z (kind_of_resolved p.of) (counted g a)) (permission_of_type p.of) ≡ true) kinds can.serves
+  fit = subst (λ z. fits (converted table z (kind_of_resolved p.of) (counted g a))
+      (permission_of_type p.of) ≡ true) kinds can.serves
 
   allows : Allows (counted g a) (counts_as b.from a u.cell)
   allows = counted_allows table made c.frame parts b.from g k.sits a u
@@ -137,7 +140,8 @@ module _ (table : ClassTable) (made : IsClassTable table) (c : Configuration) (p
   owner_given e =
       let run = allows_owner (counted g a) (counts_as b.from a u.cell) allows
       (gives_owner table u.cell.note.kind (kind_of_resolved p.of) (counted g a) (permission_of_type p.of) fit e) in
-      ⊎_elim (λ same. ap owns (sym same) ∙ run) (λ none. absurd (true≢false (sym run ∙ ap owns none))) (counts_is b.from a u.cell)
+      ⊎_elim (λ same. ap owns (sym same) ∙ run) (λ none. absurd (true≢false (sym run ∙ ap owns none)))
+      (counts_is b.from a u.cell)
 
   -- and it has a say where a Shared one is
   say_given : permission_of_type p.of ≡ shared → is_unowned u.cell.note.permission ≡ false
@@ -161,7 +165,8 @@ module _ (table : ClassTable) (made : IsClassTable table) (c : Configuration) (p
   marked : permission_of_type p.of ≡ shared → RefersToShared after.world.objects u.cell.value
   marked e =
       let r = shared_refers table b.from.world.objects p.of u.cell.value e
-      (kind_serves table made b.from.world.objects (kind_of_resolved p.of) u.cell.note.kind u.cell.value serves stood.kind) in
+      (kind_serves table made b.from.world.objects
+      (kind_of_resolved p.of) u.cell.note.kind u.cell.value serves stood.kind) in
       shared_at after.world.objects u.cell.value r.0 r.1
       (ap (λ (v : World). (nth_object v.objects r.0).shared) (hand_world p.of a u.cell b.from)
       ∙ comes_sets p.of u.cell.value b.from.world r.0 r.2 r.1 e)
@@ -210,7 +215,8 @@ module _ (table : ClassTable) (made : IsClassTable table) (c : Configuration) (p
       (Some (noted (kept u.cell.note.permission (permission_of_type p.of)) u.cell))
       (with_permission (kept (permission_on (g a)) (permission_of_type p.of)) (g a)) k.sits written inside
       (λ j e le. kept_alike)
-      (room_noted table made c.frame parts b.from g k.sits a u.cell (kept u.cell.note.permission (permission_of_type p.of)) u.is)
+      (room_noted table made c.frame parts b.from g k.sits a u.cell
+      (kept u.cell.note.permission (permission_of_type p.of)) u.is)
       given_stands says tells not_this
 
   -- the object of the value is in one of its states
@@ -221,7 +227,8 @@ module _ (table : ClassTable) (made : IsClassTable table) (c : Configuration) (p
     where
       below : m < length c.world.objects
       below =
-          let lt = Rattle.ob_coherent_counting_laws.proofs.NextNumber.stands_there table b.from.world.objects u.cell m stood e in
+          let lt = Rattle.ob_coherent_counting_laws.proofs.NextNumber.stands_there table b.from.world.objects u.cell
+          m stood e in
           let same = k.stays.count in omega (arith, lt, same)
 
       none : (i : ℕ) → constructions m c ≡ i → constructions m c ≡ 0
@@ -230,7 +237,8 @@ module _ (table : ClassTable) (made : IsClassTable table) (c : Configuration) (p
 
   -- what the parameter gets stands
   bound_one : Stands table after.world.objects (bound_cell p.of u.cell.value)
-  bound_one = bound_stands table made after.world.objects u.cell p.of (counted g a) (counts_as b.from a u.cell) stands_on
+  bound_one = bound_stands table made after.world.objects u.cell p.of (counted g a)
+      (counts_as b.from a u.cell) stands_on
       serves in_state allows (counts_is b.from a u.cell) fit marked
 
   -- Owners.
@@ -247,13 +255,15 @@ module _ (table : ClassTable) (made : IsClassTable table) (c : Configuration) (p
   fewer_now m = bind_owners table b a u.cell n p low there u.is few (k.above n (omega arith)) m owner_given
 
   -- where a Shared one is wanted of an owner none is left
-  none_left : permission_of_type p.of ≡ shared → owns u.cell.note.permission ≡ true → (m : ℕ) → u.cell.value ≡ reference m
+  none_left : permission_of_type p.of ≡ shared → owns u.cell.note.permission ≡ true → (m : ℕ)
+      → u.cell.value ≡ reference m
       → in_both owns m next + in_rest owns m c ≡ 0
   none_left e own m is =
       let more = bound_counts m in
       let less = here_hand owns m p.of a u.cell b.from low there in
       let was : in_cell owns m (cell_at b.from a) ≡ 1 = ap (in_cell owns m) u.is ∙ cell_counted owns m u.cell own is in
-      let now : in_cell owns m (option_map (noted (kept u.cell.note.permission (permission_of_type p.of))) (cell_at b.from a)) ≡ 0 =
+      let now : in_cell owns m (option_map (noted (kept u.cell.note.permission (permission_of_type p.of)))
+      (cell_at b.from a)) ≡ 0 =
       ap (λ y. in_cell owns m (option_map (noted (kept u.cell.note.permission (permission_of_type p.of))) y)) u.is
       ∙ ap (λ z. in_cell owns m (Some (noted (kept u.cell.note.permission z) u.cell))) e in
       let got : in_cell owns m (Some (bound_cell p.of u.cell.value)) ≡ 0 =
@@ -261,7 +271,8 @@ module _ (table : ClassTable) (made : IsClassTable table) (c : Configuration) (p
       let f = k.fewer m in let o = one m in
       omega (arith, more, less, was, now, got, f, o)
 
-  shared_now : (m : ℕ) → (nth_object b.from.world.objects m).shared ≡ false → (nth_object after.world.objects m).shared ≡ true
+  shared_now : (m : ℕ) → (nth_object b.from.world.objects m).shared ≡ false
+      → (nth_object after.world.objects m).shared ≡ true
       → in_both owns m next + in_rest owns m c ≡ 0
   shared_now m before since =
       let r = hand_shares p.of a u.cell b.from m before since in
@@ -287,16 +298,19 @@ module _ (table : ClassTable) (made : IsClassTable table) (c : Configuration) (p
   shares_now : (q : Location) (x y : Cell) → cell_at (here c) q ≡ Some x → cell_at after q ≡ Some y
       → y.note.permission ≡ shared
       → (x.note.permission ≡ shared) ⊎ ((m : ℕ) → x.value ≡ reference m → in_both owns m next + in_rest owns m c ≡ 0)
-  shares_now q x y ex ey e = ⊎_elim (λ same. here_now same) (λ other. was y (sym (written.others q other) ∙ ey) e) (place_is q a)
+  shares_now q x y ex ey e = ⊎_elim (λ same. here_now same) (λ other. was y (sym (written.others q other) ∙ ey) e)
+      (place_is q a)
     where
       was : (z : Cell) → cell_at b.from q ≡ Some z → z.note.permission ≡ shared
-          → (x.note.permission ≡ shared) ⊎ ((m : ℕ) → x.value ≡ reference m → in_both owns m next + in_rest owns m c ≡ 0)
+          → (x.note.permission ≡ shared) ⊎
+          ((m : ℕ) → x.value ≡ reference m → in_both owns m next + in_rest owns m c ≡ 0)
       was z ez s = ⊎_elim (λ i. inl i)
           (λ none. inr (λ m is. let less = fewer_now m in let old = none m is in omega (arith, less, old)))
           (k.shares q x z ex ez s)
 
       here_now : q ≡ a
-          → (x.note.permission ≡ shared) ⊎ ((m : ℕ) → x.value ≡ reference m → in_both owns m next + in_rest owns m c ≡ 0)
+          → (x.note.permission ≡ shared) ⊎
+          ((m : ℕ) → x.value ≡ reference m → in_both owns m next + in_rest owns m c ≡ 0)
       here_now same =
           let is : cell_at b.from q ≡ Some u.cell = ap (cell_at b.from) same ∙ u.is in
           let now : noted (kept u.cell.note.permission (permission_of_type p.of)) u.cell ≡ y =

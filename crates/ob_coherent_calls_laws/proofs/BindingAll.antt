@@ -38,18 +38,21 @@ use Rattle.ob_coherent_calls_laws.proofs.Binding.{bind_next, next_same, next_oth
 
 -- Kinds, and what is known to be set, stay where a permission changes.
 
-kind_put : (b : Bool) (w : Permission) (x y : Option Known) → x ≡ y → kind_known (if b then with_permission w x else y) ≡ kind_known y
+kind_put : (b : Bool) (w : Permission) (x y : Option Known) → x ≡ y
+    → kind_known (if b then with_permission w x else y) ≡ kind_known y
 kind_put true w None y e = ap kind_known e
 kind_put true w (Some z) y e = ap kind_known e
 kind_put false w x y e = refl
 
-pub kind_now : (g : Context) (p : Location) (w : Permission) (q : Location) → kind_known (now g p w q) ≡ kind_known (g q)
+pub kind_now : (g : Context) (p : Location) (w : Permission) (q : Location)
+    → kind_known (now g p w q) ≡ kind_known (g q)
 kind_now g p w q = ⊎_elim
     (λ e. kind_put (same_location q p) w (g p) (g q) (ap g (sym e)))
     (λ e. ap (λ b. kind_known (if b then with_permission w (g p) else g q)) e)
     (place_is q p)
 
-set_put : (b : Bool) (w : Permission) (x y : Option Known) → x ≡ y → is_set (if b then with_permission w x else y) ≡ is_set y
+set_put : (b : Bool) (w : Permission) (x y : Option Known) → x ≡ y
+    → is_set (if b then with_permission w x else y) ≡ is_set y
 set_put true w None y e = ap is_set e
 set_put true w (Some z) y e = ap is_set e
 set_put false w x y e = refl
@@ -78,7 +81,8 @@ once_from owning before [] ps once says = tt
 once_from owning before (r ∷ rs) [] once says = tt
 once_from owning before (r ∷ rs) (p ∷ ps) once says = (
   λ wants. free_after owning (r ∷ before) rs r.location once.1
-      (says r.location (or_left (same_location r.location r.location && wants_owner p) (is_given_owning r.location rs ps)
+      (says r.location (or_left (same_location r.location r.location && wants_owner p)
+      (is_given_owning r.location rs ps)
       (ap (λ b. b && wants_owner p) (same_place r.location) ∙ wants)))
       (or_left (same_location r.location r.location) (is_among r.location before) (same_place r.location)),
   once_from owning (r ∷ before) rs ps once.1
@@ -112,7 +116,8 @@ module _ (table : ClassTable) (made : IsClassTable table) (c : Configuration) (p
           (x, i, ap (λ (z : Cell). z.value) (sym same) ∙ r.2, ap (λ (z : Cell). z.note.kind) (sym same) ∙ r.3)
 
   -- what is bound of the first place and of those after it
-  bound_first : (known g : Context) (b : Bound) (r : Read) (rs : List Read) (p : Parameter) (ps : List Parameter) (n : ℕ)
+  bound_first : (known g : Context) (b : Bound) (r : Read) (rs : List Read) (p : Parameter) (ps : List Parameter)
+      (n : ℕ)
       (x : Cell) (next : Bound) → kind_known (known r.location) ≡ x.note.kind → is_set (known r.location) ≡ true
       → cell_at (bind_one table b r.location x n p).from r.location
       ≡ Some (noted (kept x.note.permission (permission_of_type p.of)) x)
@@ -133,7 +138,8 @@ module _ (table : ClassTable) (made : IsClassTable table) (c : Configuration) (p
       record {
         value = x.value;
         set = slot_is;
-        stands = stands_stay table (bind_one table b r.location x n p).from next.from a.stays (bound_cell p.of x.value) stands;
+        stands = stands_stay table (bind_one table b r.location x n p).from next.from a.stays
+            (bound_cell p.of x.value) stands;
       },
       a.bound,
     );
@@ -166,7 +172,8 @@ module _ (table : ClassTable) (made : IsClassTable table) (c : Configuration) (p
           a.untouched q parts.1 ∙ other q parts.0
 
   -- What follows the binding of all places follows from what it comes to.
-  pub bind_all_steps : (P : NextStep → Type 0) (go : Bound → NextStep) (known : Context) (rs : List Read) (ps : List Parameter)
+  pub bind_all_steps : (P : NextStep → Type 0) (go : Bound → NextStep) (known : Context) (rs : List Read)
+      (ps : List Parameter)
       (b : Bound) (g : Context) (n : ℕ) → Binds table c parts b g n → n + length ps ≤ most_slots
       → ((q : Location) → kind_known (known q) ≡ kind_known (g q)) → ((q : Location) → is_set (known q) ≡ is_set (g q))
       → CanGiveAll (body_of table c.frame parts) ts g rs ps → ArePassedTo table c parts rs ps → AreOnce rs ps
@@ -209,4 +216,5 @@ module _ (table : ClassTable) (made : IsClassTable table) (c : Configuration) (p
       (next_bound table made c parts ts one placed b g n k r.location p passed.0 low can.0 u serves old)
       (next_stays table made c parts ts one placed b g n k r.location p passed.0 low can.0 u serves old)
       once.0
-      (λ y e. was.2 ∙ ap (λ (z : Cell). z.value) (Rattle.std.proofs.lemmas.Option.same_Some was.0 y (sym was.1 ∙ e))) a)))
+      (λ y e. was.2 ∙ ap (λ (z : Cell). z.value)
+      (Rattle.std.proofs.lemmas.Option.same_Some was.0 y (sym was.1 ∙ e))) a)))

@@ -41,7 +41,8 @@ left_waiting c b rest outer result loans = record {
 }
 
 -- the configuration in which a called body begins above it
-abbrev pub called_on : Configuration → Bound → SilicaFrame → SilicaTerms → SilicaTerms → List Rest → Option ℕ → List Loan
+abbrev pub called_on : Configuration → Bound → SilicaFrame → SilicaTerms → SilicaTerms → List Rest → Option ℕ
+    → List Loan
     → World → Configuration
 called_on c b callee terms rest outer result loans w = record {
   frame = callee;
@@ -54,7 +55,8 @@ called_on c b callee terms rest outer result loans w = record {
 module _ (table : ClassTable) (made : IsClassTable table) (entry : Option ℕ) (beginning : Beginning) (c : Configuration)
     (k : IsRunning table entry beginning c) (b : Bound) (g : Context) (n : ℕ)
     (binds : Binds table c k.whole.parts b g n)
-    (callee : SilicaFrame) (terms rest : SilicaTerms) (outer : List Rest) (result : Option ℕ) (loans : List Loan) (w : World)
+    (callee : SilicaFrame) (terms rest : SilicaTerms) (outer : List Rest) (result : Option ℕ) (loans : List Loan)
+    (w : World)
     (same_outer : outer ≡ k.outer) (objects : w.objects ≡ b.from.world.objects)
     (locked : w.locked ≡ b.from.world.locked)
     (bound_owners : (m : ℕ) → in_slots owns m callee.slots ≡ in_slots owns m b.slots)
@@ -97,7 +99,8 @@ module _ (table : ClassTable) (made : IsClassTable table) (entry : Option ℕ) (
 
   pub called_locks : (m : ℕ) → locks entry m d ≡ locks entry m c
   called_locks m =
-      let e = locks_below m c (left_waiting c b rest outer result loans) refl self_left entry outer_around in omega (arith, e)
+      let e = locks_below m c (left_waiting c b rest outer result loans) refl self_left entry outer_around in omega
+      (arith, e)
 
   pub called_entries : (m : ℕ) → entries m d ≡ entered_at m callee.how callee.slots + entries m c
   called_entries m =
@@ -112,7 +115,8 @@ module _ (table : ClassTable) (made : IsClassTable table) (entry : Option ℕ) (
 
   -- Frames that wait.
 
-  pub called_near : IsNear table (self_of c.frame.slots) stays (NeedsOwner table c.world.objects) (NeedsOwner table w.objects) c d
+  pub called_near : IsNear table (self_of c.frame.slots) stays (NeedsOwner table c.world.objects)
+      (NeedsOwner table w.objects) c d
   called_near = near_after table stays c d c.frame b.from (stays_leaves c b.from binds.stays) objects refl
       (λ m stay some. let more = progress m in omega (arith, some, more))
       (λ m some. inl (subst (λ ls. 0 < times m ls) (sym locked_same) some)) k.whole.fields
@@ -137,7 +141,8 @@ module _ (table : ClassTable) (made : IsClassTable table) (entry : Option ℕ) (
       (λ m. tests_of m b.from.slots outer + tests_of m callee.slots []) c.stack self_left called_arguments k.whole.slots
       (inl refl)
       (λ m below. let less = called_fewer m in let same = tests_left m in omega (arith, less, same))
-      (inl (ap (λ os. (nth_object os (self_of c.frame.slots)).state) objects ∙ binds.stays.states (self_of c.frame.slots)))
+      (inl (ap (λ os. (nth_object os (self_of c.frame.slots)).state) objects
+      ∙ binds.stays.states (self_of c.frame.slots)))
       each_stays
       (λ m stay a. ((λ e. a.0 (e ∙ self_left)), (apart m stay a.0, tt)))
       k.whole.waiting
@@ -149,7 +154,8 @@ module _ (table : ClassTable) (made : IsClassTable table) (entry : Option ℕ) (
   changed m (inr past) below = absurd (let e = ap (λ (os : List Object). length os) objects in
       let same = binds.stays.count in omega (arith, past, below, e, same))
   changed m (inl is) below = subst (ObjectHolds table d) (sym (is ∙ sym self_left)) (record {
-    stand = subst (λ os. AllStand table os (field_cell b.from.notes os (self_of b.from.slots))) (sym objects) binds.sits.fields;
+    stand = subst (λ os. AllStand table os (field_cell b.from.notes os (self_of b.from.slots)))
+        (sym objects) binds.sits.fields;
     object = subst (λ os. Rattle.ob_coherent_spec.specs.Standing.IsObjectInRun table b.from.notes (self_of b.from.slots)
         (nth_object os (self_of b.from.slots))) (sym objects) binds.sits.object;
     declared = λ none new.
@@ -166,12 +172,15 @@ module _ (table : ClassTable) (made : IsClassTable table) (entry : Option ℕ) (
       (λ m ne. inl (ap (λ os. (nth_object os (self_of c.frame.slots)).state) objects
       ∙ binds.stays.states (self_of c.frame.slots)))
       changed
-      (λ m below ne none new. let e = called_entries m in let f = called_constructions m in
-      ((let z : entries m c ≡ 0 = omega (arith, e, none) in z), (let z : constructions m c ≡ 0 = omega (arith, f, new) in z)))
+      (λ m below ne none new. let e = called_entries m in let f = called_constructions m in (
+        (let z : entries m c ≡ 0 = omega (arith, e, none) in z),
+        (let z : constructions m c ≡ 0 = omega (arith, f, new) in z),
+      ))
 
   -- The whole.
 
-  module _ (called : BodyParts) (frame : IsFrame table w.objects callee called) (stand : AllStand table w.objects callee.slots)
+  module _ (called : BodyParts) (frame : IsFrame table w.objects callee called)
+      (stand : AllStand table w.objects callee.slots)
       (waiting : Waits table (NeedsOwner table w.objects) d callee called (self_of callee.slots ∷ [])
       (λ m. tests_of m callee.slots []) (left_waiting c b rest outer result loans))
       (same_parts : waiting.parts ≡ k.whole.parts)

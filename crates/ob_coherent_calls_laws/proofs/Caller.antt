@@ -83,10 +83,12 @@ module _ (table : ClassTable) (made : IsClassTable table) (entry : Option ℕ) (
       kept : OpensKept table k.outer (here c) b.from
       kept q z tested e =
           let r = binds.alike q z
-          (sym (sits_read table made c.frame k.whole.parts (here c) k.context (running_sits table made entry beginning c k) q) ∙ e) in
+          (sym (sits_read table made c.frame k.whole.parts (here c) k.context
+          (running_sits table made entry beginning c k) q) ∙ e) in
           (r.0, sits_read table made c.frame k.whole.parts b.from g binds.sits q ∙ r.1, r.2)
 
-  module _ (callee : SilicaFrame) (called : BodyParts) (terms rest : SilicaTerms) (outer : List Rest) (result : Option ℕ)
+  module _ (callee : SilicaFrame) (called : BodyParts) (terms rest : SilicaTerms) (outer : List Rest)
+      (result : Option ℕ)
       (loans : List Loan) (w : World) (same_outer : outer ≡ k.outer) (objects : w.objects ≡ b.from.world.objects)
       (progress : (m : ℕ) → times m c.world.progress ≤ times m w.progress)
       (locked : w.locked ≡ c.world.locked)
@@ -94,23 +96,28 @@ module _ (table : ClassTable) (made : IsClassTable table) (entry : Option ℕ) (
       (none : (m : ℕ) → in_both owns m b + in_rest owns m c ≡ 0
       → owners m (called_on c b callee terms rest outer result loans w) ≡ 0)
       (after : Context) (holdings : Holdings)
-      (settled : (q : Location) → is_settled callee.how (left_waiting c b rest outer result loans) q ≡ true → after q ≡ g q)
+      (settled : (q : Location) → is_settled callee.how (left_waiting c b rest outer result loans) q ≡ true
+      → after q ≡ g q)
       (held_on : (j : ℕ) → is_result result (slot j) ≡ false → holdings j ≡ k.holdings j)
       (result_held : (j : ℕ) (of : ResolvedType) → result ≡ Some j → gives_back_as callee called ≡ Some of
       → holdings j ≡ held_as (Some (kind_of_resolved of)))
       (remains : Remains (body_of table c.frame k.whole.parts) holdings after rest outer)
       (open_slots : callee.how ≡ by_this → TestNoField outer)
       (lending : AreLoans table (called_on c b callee terms rest outer result loans w) callee called
-      (λ m. tests_of m callee.slots []) (waiting_here b.from.notes w (left_waiting c b rest outer result loans)) after loans)
+      (λ m. tests_of m callee.slots []) (waiting_here b.from.notes w
+      (left_waiting c b rest outer result loans)) after loans)
       (lent_slots : callee.how ≡ by_this → LendNoField loans)
       (apart : IsApart callee.how (self_of b.from.slots) (self_of callee.slots ∷ []) (self_of callee.slots))
       (back : callee.how ≡ by_this → FieldsComeBack (body_of table c.frame k.whole.parts) after called)
       (no_constructor : callee.how ≡ by_this → c.frame.how ≢ by_new)
-      (awaits : AwaitsResult (body_of table c.frame k.whole.parts) after (left_waiting c b rest outer result loans) result
+      (awaits : AwaitsResult (body_of table c.frame k.whole.parts) after
+      (left_waiting c b rest outer result loans) result
       (gives_back_as callee called))
       (share_entered : callee.how ≡ by_this → callee.share_entered ≡ c.frame.share_entered) where
-    says_now : Says (body_of table c.frame k.whole.parts) (NeedsOwner table w.objects) g (record b.from { world = w }) every
-    says_now = subst (λ os. Says (body_of table c.frame k.whole.parts) (NeedsOwner table os) g (record b.from { world = w }) every)
+    says_now : Says (body_of table c.frame k.whole.parts) (NeedsOwner table w.objects) g
+        (record b.from { world = w }) every
+    says_now = subst (λ os. Says (body_of table c.frame k.whole.parts) (NeedsOwner table os) g
+        (record b.from { world = w }) every)
         (sym objects) (says_alike b.from w objects (body_of table c.frame k.whole.parts)
         (NeedsOwner table b.from.world.objects) g every binds.sits.says)
 
@@ -150,21 +157,25 @@ module _ (table : ClassTable) (made : IsClassTable table) (entry : Option ℕ) (
         (binds.shares this x y.0 k.whole.frame.set y.1 ys)
 
     -- the caller waits
-    pub caller_waits : Waits table (NeedsOwner table w.objects) (called_on c b callee terms rest outer result loans w) callee called
+    pub caller_waits : Waits table (NeedsOwner table w.objects)
+        (called_on c b callee terms rest outer result loans w) callee called
         (self_of callee.slots ∷ []) (λ m. tests_of m callee.slots []) (left_waiting c b rest outer result loans)
     caller_waits = record {
       parts = k.whole.parts;
       context = after;
       holdings = holdings;
-      frame = subst (λ os. IsFrame table os (frame_with c.frame b.from.slots) k.whole.parts) (sym objects) binds.sits.frame;
+      frame = subst (λ os. IsFrame table os (frame_with c.frame b.from.slots) k.whole.parts)
+          (sym objects) binds.sits.frame;
       owns_made = binds.sits.owns_made;
       cells = subst (λ os. AllStand table os b.from.slots) (sym objects) binds.sits.slots;
       says = record {
         slots = λ j e. subst (λ y. SaysOf (NeedsOwner table w.objects) y (b.from.slots j)) (sym (settled (slot j) e))
             (says_now.slots j refl);
-        fields = λ j there e. subst (λ y. SaysOf (NeedsOwner table w.objects) y (cell_at (record b.from { world = w }) (field j)))
+        fields = λ j there e. subst (λ y. SaysOf (NeedsOwner table w.objects) y
+            (cell_at (record b.from { world = w }) (field j)))
             (sym (settled (field j) e)) (says_now.fields j there refl);
-        mode = λ e. subst (λ y. same_mode (Rattle.ob_flow_spec.specs.Contexts.permission_on y) (permission_in (b.from.slots 0)) ≡ true)
+        mode = λ e. subst (λ y. same_mode (Rattle.ob_flow_spec.specs.Contexts.permission_on y)
+            (permission_in (b.from.slots 0)) ≡ true)
             (sym (settled this e)) (says_now.mode refl);
       };
       held = λ j y free e.

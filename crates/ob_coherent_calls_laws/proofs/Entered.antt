@@ -188,13 +188,15 @@ module _ (table : ClassTable) (objects : List Object) (f : SilicaFrame) (s : Sig
   begins_says N h b slots here signature permission fields = record {
     slots = λ k free. subst (λ (t : SlotCells). SaysOf N (beginning b (slot k)) (t k)) (sym slots) (slot_says k);
     fields = λ k there free. fields k there;
-    mode = λ free. subst (λ (t : SlotCells). same_mode (this_known b).permission (permission_in (t 0)) ≡ true) (sym slots)
+    mode = λ free. subst (λ (t : SlotCells). same_mode (this_known b).permission (permission_in (t 0)) ≡ true)
+        (sym slots)
         (subst (λ y. same_mode (this_known b).permission (permission_in y) ≡ true) (sym begins.this)
         (subst (λ p. same_mode p q ≡ true) (sym permission) (mode_itself q)));
   }
     where
       this_is : this_known b ≡ known (Reference f.contract) q
-      this_is = ap (λ c. known (Reference c) (this_known b).permission) here ∙ ap (known (Reference f.contract)) permission
+      this_is = ap (λ c. known (Reference c) (this_known b).permission) here
+          ∙ ap (known (Reference f.contract)) permission
 
       slot_says : (k : ℕ) → SaysOf N (beginning b (slot k)) (f.slots k)
       slot_says zero = subst (λ y. SaysOf N (Some y) (f.slots 0)) (sym this_is)
@@ -202,5 +204,6 @@ module _ (table : ClassTable) (objects : List Object) (f : SilicaFrame) (s : Sig
             known = (refl, allows_itself q);
             owner = λ m must some. (counted_cell owns m (cell (reference n) (Reference f.contract) q) some).0;
           }))
-      slot_says (suc k) = rw (not_first k) (subst (λ (r : Signature). SaysOf N (params_known 1 r.params (suc k)) (f.slots (suc k))) (sym signature)
+      slot_says (suc k) = rw (not_first k)
+          (subst (λ (r : Signature). SaysOf N (params_known 1 r.params (suc k)) (f.slots (suc k))) (sym signature)
           (params_say table objects N f.slots 1 s.params begins.bound begins_unset (suc k) (omega arith)))

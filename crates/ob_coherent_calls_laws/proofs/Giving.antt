@@ -112,10 +112,12 @@ module _ (table : ClassTable) (is : IsClassTable table) (objects : List Object) 
       → IsOfKind table objects l v
   kind_serves l k v e h = ⊎_elim
       (λ same. subst (λ z. IsOfKind table objects z v) (sym same) h)
-      (λ r. subst (λ z. IsOfKind table objects z v) (sym r.2) (up r.0 r.1 v r.4 (subst (λ z. IsOfKind table objects z v) r.3 h)))
+      (λ r. subst (λ z. IsOfKind table objects z v) (sym r.2)
+      (up r.0 r.1 v r.4 (subst (λ z. IsOfKind table objects z v) r.3 h)))
       (serves_is table l k e)
     where
-      up : (i c : ContractId) (v : Value) → is_implemented table c i ≡ true → IsOfKind table objects (Reference c) v → IsOfKind table objects (Reference i) v
+      up : (i c : ContractId) (v : Value) → is_implemented table c i ≡ true → IsOfKind table objects (Reference c) v
+          → IsOfKind table objects (Reference i) v
       up i c (reference n) e h = (
         h.0,
         serves_onward table is (Reference i) (Reference c)
@@ -157,7 +159,8 @@ module _ (table : ClassTable) (is : IsClassTable table) (objects : List Object) 
     states = in_states of e f;
   }
     where
-      run_fits : (of : ResolvedType) → fits (converted table x.note.kind (kind_of_resolved of) p) (permission_of_type of) ≡ true
+      run_fits : (of : ResolvedType) → fits (converted table x.note.kind (kind_of_resolved of) p)
+          (permission_of_type of) ≡ true
           → fits (converted table x.note.kind (kind_of_resolved of) v) (permission_of_type of) ≡ true
       run_fits of f = fits_allowed (converted table x.note.kind (kind_of_resolved of) p)
           (converted table x.note.kind (kind_of_resolved of) v) (permission_of_type of)
@@ -180,5 +183,6 @@ module _ (table : ClassTable) (is : IsClassTable table) (objects : List Object) 
       in_states TextType e f a w = absurd (cc)
       in_states (TypedReference d q) e f a w =
           bound_in x.note.kind d x.value x.note.permission a s.kind e (λ b i. s.states b i) placed
-          (note_fits (TypedReference d q) a w (subst (λ z. fits (converted table x.note.kind (Reference d) v) z ≡ true) w
+          (note_fits (TypedReference d q) a w
+          (subst (λ z. fits (converted table x.note.kind (Reference d) v) z ≡ true) w
           (run_fits (TypedReference d q) f)))

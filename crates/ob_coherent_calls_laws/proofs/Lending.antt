@@ -64,14 +64,17 @@ module _ (b : BodyFrame) where
       by_want true = now_other g r.location _ q e
       by_want false = refl
 
-  back_none : (g : Context) (r : Read) (p : Parameter) (q : Location) → wants_owner p ≡ false → got_back b g r.location p q ≡ g q
+  back_none : (g : Context) (r : Read) (p : Parameter) (q : Location) → wants_owner p ≡ false
+      → got_back b g r.location p q ≡ g q
   back_none g r p q e = ap (λ w. (if w then now g r.location
       (converted b.table (kind_of_resolved p.of) (kind_known (g r.location)) (permission_of p.exit)) else g) q) e
 
   back_at : (g : Context) (r : Read) (p : Parameter) → wants_owner p ≡ true → got_back b g r.location p r.location
-      ≡ with_permission (converted b.table (kind_of_resolved p.of) (kind_known (g r.location)) (permission_of p.exit)) (g r.location)
+      ≡ with_permission (converted b.table (kind_of_resolved p.of) (kind_known (g r.location))
+      (permission_of p.exit)) (g r.location)
   back_at g r p e = ap (λ w. (if w then now g r.location
-      (converted b.table (kind_of_resolved p.of) (kind_known (g r.location)) (permission_of p.exit)) else g) r.location) e
+      (converted b.table (kind_of_resolved p.of) (kind_known (g r.location)) (permission_of p.exit)) else g)
+      r.location) e
       ∙ now_that g r.location _
 
   back_kind : (g : Context) (r : Read) (p : Parameter) (q : Location)
@@ -79,15 +82,18 @@ module _ (b : BodyFrame) where
   back_kind g r p q = by_want (wants_owner p)
     where
       by_want : (w : Bool) → kind_known ((if w then now g r.location
-          (converted b.table (kind_of_resolved p.of) (kind_known (g r.location)) (permission_of p.exit)) else g) q) ≡ kind_known (g q)
+          (converted b.table (kind_of_resolved p.of) (kind_known (g r.location)) (permission_of p.exit)) else g) q)
+          ≡ kind_known (g q)
       by_want true = kind_now g r.location _ q
       by_want false = refl
 
-  back_set : (g : Context) (r : Read) (p : Parameter) (q : Location) → is_set (got_back b g r.location p q) ≡ is_set (g q)
+  back_set : (g : Context) (r : Read) (p : Parameter) (q : Location)
+      → is_set (got_back b g r.location p q) ≡ is_set (g q)
   back_set g r p q = by_want (wants_owner p)
     where
       by_want : (w : Bool) → is_set ((if w then now g r.location
-          (converted b.table (kind_of_resolved p.of) (kind_known (g r.location)) (permission_of p.exit)) else g) q) ≡ is_set (g q)
+          (converted b.table (kind_of_resolved p.of) (kind_known (g r.location)) (permission_of p.exit)) else g) q)
+          ≡ is_set (g q)
       by_want true = set_now g r.location _ q
       by_want false = refl
 
@@ -187,7 +193,8 @@ module _ (table : ClassTable) (known : Context) where
             exit = converted table (kind_of_resolved p.of) (kind_known (known r.location)) (permission_of p.exit);
           } ∷ []) else [])
           ++ lent_all table known rs ps (suc n)) k ≡ false
-      by_want true f = ap (λ b. b || has_lent (lent_all table known rs ps (suc n)) k) (ne_eqb k n (λ e. omega (arith, e, lt))) ∙ f
+      by_want true f = ap (λ b. b || has_lent (lent_all table known rs ps (suc n)) k)
+          (ne_eqb k n (λ e. omega (arith, e, lt))) ∙ f
       by_want false f = f
 
 -- All loans of a call.
@@ -221,7 +228,8 @@ module _ (table : ClassTable) (d : Configuration) (callee : SilicaFrame) (called
         gone = λ m refers e. absurd (true≢false (sym wants ∙ sym y.3 ∙ ap owns e));
       }
 
-  pub all_loans : (rs : List Read) (ps : List Parameter) (n : ℕ) → AreLent known bound rs ps n → AreBack table known g rs ps
+  pub all_loans : (rs : List Read) (ps : List Parameter) (n : ℕ) → AreLent known bound rs ps n
+      → AreBack table known g rs ps
       → GiveBack table (all_parameters callee.contract called.signature) known rs ps n → AreOnce rs ps
       → AreLoans table d callee called tests h g (lent_all table known rs ps n)
   all_loans [] ps n lent back gives once = tt
@@ -258,23 +266,29 @@ module _ (table : ClassTable) (is : IsClassTable table) where
     states = λ a b o ea eb state sk sl h. by_kinds k l p a b o ea eb state sk sl h;
   }
     where
-      by_kinds : (k l : Kind) (p : Permission) (a b : States) (o : Object) → p ≡ owned a → converted table k l p ≡ owned b
+      by_kinds : (k l : Kind) (p : Permission) (a b : States) (o : Object) → p ≡ owned a
+          → converted table k l p ≡ owned b
           → HasItsState table o → serves_as table k (Reference o.contract) ≡ true
           → serves_as table l (Reference o.contract) ≡ true → is_in table k a o ≡ true → is_in table l b o ≡ true
       by_kinds (Reference c) (Reference e) p a b o ea eb state sk sl h =
           let own = there_is (contract_at table o.contract) (λ x. IsStateOf x o.state) state in
-          let old : AllowsState p (seen_state table c o) = subst (λ q. AllowsState q (seen_state table c o)) (sym ea) h in
+          let old : AllowsState p (seen_state table c o) = subst (λ q. AllowsState q (seen_state table c o))
+          (sym ea) h in
           subst (λ q. AllowsState q (seen_state table e o)) eb
           (converted_allows_state table is own.0 o own.1 own.2 c e p sk sl old)
-      by_kinds (Reference c) Int p a b o ea eb state sk sl h = absurd (true≢false (sym (serves_reference table Int (Reference o.contract) sl)))
-      by_kinds (Reference c) BoolKind p a b o ea eb state sk sl h = absurd (true≢false (sym (serves_reference table BoolKind (Reference o.contract) sl)))
-      by_kinds (Reference c) Text p a b o ea eb state sk sl h = absurd (true≢false (sym (serves_reference table Text (Reference o.contract) sl)))
+      by_kinds (Reference c) Int p a b o ea eb state sk sl h = absurd
+          (true≢false (sym (serves_reference table Int (Reference o.contract) sl)))
+      by_kinds (Reference c) BoolKind p a b o ea eb state sk sl h = absurd
+          (true≢false (sym (serves_reference table BoolKind (Reference o.contract) sl)))
+      by_kinds (Reference c) Text p a b o ea eb state sk sl h = absurd
+          (true≢false (sym (serves_reference table Text (Reference o.contract) sl)))
       by_kinds Int l p a b o ea eb state sk sl h = absurd (true≢false (sym h))
       by_kinds BoolKind l p a b o ea eb state sk sl h = absurd (true≢false (sym h))
       by_kinds Text l p a b o ea eb state sk sl h = absurd (true≢false (sym h))
 
   -- what a contract's own body leaves of `this` serves as what its interface asks
-  pub answer_serves : (d e : ContractId) (own : Contract) (p q : Permission) → contract_at table e ≡ Some own → own.interface ≡ false
+  pub answer_serves : (d e : ContractId) (own : Contract) (p q : Permission) → contract_at table e ≡ Some own
+      → own.interface ≡ false
       → q ≡ converted table (Reference d) (Reference e) p → Serves table (Reference e) q (Reference d) p
   answer_serves d e own p q ee plain said = record {
     mode = subst (λ z. same_mode z p ≡ true) (sym said) (converted_mode table (Reference d) (Reference e) p);

@@ -66,7 +66,8 @@ module _ (table : ClassTable) (made : IsClassTable table) (entry : Option ℕ) (
   )
     where
       serves : HasKind (static_of (body_of table c.frame k.whole.parts)) k.holdings (kind_of_resolved p.of) o
-          → (x : Cell) → cell_at (here c) (located o) ≡ Some x → serves_as table (kind_of_resolved p.of) x.note.kind ≡ true
+          → (x : Cell) → cell_at (here c) (located o) ≡ Some x
+          → serves_as table (kind_of_resolved p.of) x.note.kind ≡ true
       serves has x e =
           let r = there_is (kind_of_operand (static_of (body_of table c.frame k.whole.parts)) k.holdings o)
           (λ kind. serves_as table (kind_of_resolved p.of) kind ≡ true) has in
@@ -89,7 +90,8 @@ wanted_lent table c parts known (r ∷ rs) (q ∷ ps) n zero p passed e wants =
       exit = converted table (kind_of_resolved q.of) (kind_known (known r.location)) (permission_of q.exit);
     } ∷ []) else [])
     ++ lent_all table known rs ps (suc n)) (n + 0) ≡ true) (sym same)
-    (or_left (nat_eq (n + 0) n) (has_lent (lent_all table known rs ps (suc n)) (n + 0)) (eq-eqb (n + 0) n (omega arith)))
+    (or_left (nat_eq (n + 0) n) (has_lent (lent_all table known rs ps (suc n)) (n + 0))
+    (eq-eqb (n + 0) n (omega arith)))
 wanted_lent table c parts known (r ∷ rs) (q ∷ ps) n (suc j) p passed e wants =
     let rest = wanted_lent table c parts known rs ps (suc n) j p passed.2 e wants in
     by_want (wants_owner q) (subst (λ m. has_lent (lent_all table known rs ps (suc n)) m ≡ true)
@@ -106,8 +108,10 @@ wanted_lent table c parts known (r ∷ rs) (q ∷ ps) n (suc j) p passed e wants
     by_want false h = h
 
 -- what parameters of the same types leave serves as what places get back
-pub same_give_back : (table : ClassTable) → IsClassTable table → (called : List Parameter) (known : Context) (rs : List Read)
-    (ps : List Parameter) (n : ℕ) → ((j : ℕ) (p : Parameter) → slice_get ps j ≡ Some p → slice_get called (n + j) ≡ Some p)
+pub same_give_back : (table : ClassTable) → IsClassTable table
+    → (called : List Parameter) (known : Context) (rs : List Read)
+    (ps : List Parameter) (n : ℕ) → ((j : ℕ) (p : Parameter) → slice_get ps j ≡ Some p
+    → slice_get called (n + j) ≡ Some p)
     → GiveBack table called known rs ps n
 same_give_back table is called known [] ps n same = tt
 same_give_back table is called known (r ∷ rs) [] n same = tt
@@ -118,5 +122,6 @@ same_give_back table is called known (r ∷ rs) (p ∷ ps) n same = (
     serves = converted_serves table is (kind_of_resolved p.of) (kind_known (known r.location)) (permission_of p.exit);
   },
   same_give_back table is called known rs ps (suc n)
-      (λ j q e. subst (λ m. slice_get called m ≡ Some q) (let z : n + suc j ≡ suc n + j = omega arith in z) (same (suc j) q e)),
+      (λ j q e. subst (λ m. slice_get called m ≡ Some q) (let z : n + suc j ≡ suc n + j = omega arith in z)
+      (same (suc j) q e)),
 )

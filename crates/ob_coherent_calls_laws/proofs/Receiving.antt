@@ -98,19 +98,24 @@ unlisted_entry b s j f none e =
     (Rattle.ob_silica_places.specs.Known.permission_of_type (type_of_field b j))) none
     ∙ ap (λ o. Rattle.ob_silica_places.specs.Known.permission_of_type (option_map_or (λ (x : Field). x.of) o IntType)) e
 
-module _ (program : SilicaProgram) (is : IsCheckedProgram program) (entry : Option ℕ) (beginning_of : Beginning) (c : Configuration)
-    (k : IsRunning program.table entry beginning_of c) (contract : ContractId) (tx : TxId) (asked : Signature) (own : Contract)
+module _ (program : SilicaProgram) (is : IsCheckedProgram program) (entry : Option ℕ) (beginning_of : Beginning)
+    (c : Configuration)
+    (k : IsRunning program.table entry beginning_of c) (contract : ContractId) (tx : TxId) (asked : Signature)
+    (own : Contract)
     (b : Bound) (g : Context) (nb : ℕ) (binds : Binds program.table c k.whole.parts b g nb)
     (past : nb ≤ suc (length (parameters asked)))
     (n : ℕ) (there : n < length c.world.objects)
     (first : b.slots 0 ≡ Some (bound_cell (TypedReference contract asked.entry) (reference n)))
     (bound : AreBound program.table b.from.world.objects b.slots 0 (all_parameters contract asked))
     (wr : World) (objects : wr.objects ≡ b.from.world.objects) (locked : wr.locked ≡ b.from.world.locked)
-    (progress : wr.progress ≡ b.from.world.progress) (idle : is_in_progress wr n ≡ false) (not_new : constructions n c ≡ 0)
+    (progress : wr.progress ≡ b.from.world.progress) (idle : is_in_progress wr n ≡ false)
+    (not_new : constructions n c ≡ 0)
     (ec : contract_at program.table (nth_object wr.objects n).contract ≡ Some own) (class : own.interface ≡ false)
     (serves : serves_as program.table (Reference contract) (Reference (nth_object wr.objects n).contract) ≡ true)
-    (ans : HasAnswer program.table contract (nth_object wr.objects n).contract own tx asked) (public : asked.private ≡ false)
-    (rest : SilicaTerms) (outer : List Rest) (result : Option ℕ) (loans : List Loan) (same_outer : outer ≡ k.outer) where
+    (ans : HasAnswer program.table contract (nth_object wr.objects n).contract own tx asked)
+    (public : asked.private ≡ false)
+    (rest : SilicaTerms) (outer : List Rest) (result : Option ℕ) (loans : List Loan)
+    (same_outer : outer ≡ k.outer) where
   abbrev pub o : Object
   o = nth_object wr.objects n
 
@@ -144,7 +149,8 @@ module _ (program : SilicaProgram) (is : IsCheckedProgram program) (entry : Opti
   no_entries = k.whole.progress n ∙ idle_times
 
   apart_so : (self_of c.frame.slots ≢ n) × EachSelf (λ m. m ≢ n) c.stack
-  apart_so = apart_from_idle program.table (NeedsOwner program.table c.world.objects) c c.frame k.whole.parts _ _ c.stack n
+  apart_so = apart_from_idle program.table
+      (NeedsOwner program.table c.world.objects) c c.frame k.whole.parts _ _ c.stack n
       (let one = no_entries in omega (arith, one, not_new)) k.whole.waiting
 
   placed_now : HasItsState program.table (nth_object c.world.objects n)
@@ -157,16 +163,19 @@ module _ (program : SilicaProgram) (is : IsCheckedProgram program) (entry : Opti
   state_same = ap (λ os. (nth_object os n).state) objects ∙ binds.stays.states n
 
   placed_then : HasItsState program.table (nth_object wr.objects n)
-  placed_then = Rattle.ob_coherent_places_laws.proofs.Standing.has_state_same program.table (nth_object c.world.objects n)
+  placed_then = Rattle.ob_coherent_places_laws.proofs.Standing.has_state_same program.table
+      (nth_object c.world.objects n)
       (nth_object wr.objects n) contract_same state_same placed_now
 
   there_now : n < length wr.objects
-  there_now = let e = ap (λ (os : List Object). length os) objects in let same = binds.stays.count in omega (arith, there, e, same)
+  there_now = let e = ap (λ (os : List Object). length os) objects in let same = binds.stays.count in omega
+      (arith, there, e, same)
 
   -- `this` of the body.
 
   stands_first : Stands program.table wr.objects (bound_cell (TypedReference contract asked.entry) (reference n))
-  stands_first = subst (λ os. Stands program.table os (bound_cell (TypedReference contract asked.entry) (reference n))) (sym objects)
+  stands_first = subst (λ os. Stands program.table os
+      (bound_cell (TypedReference contract asked.entry) (reference n))) (sym objects)
       (binds.bound 0 (bound_cell (TypedReference contract asked.entry) (reference n)) first)
 
   shared_asked : permission_of ans.signature.entry ≡ shared → permission_of asked.entry ≡ shared
@@ -186,10 +195,12 @@ module _ (program : SilicaProgram) (is : IsCheckedProgram program) (entry : Opti
       in_state a e =
           let x = there_is (contract_at program.table o.contract) (λ y. IsStateOf y o.state) placed_then in
           let old : AllowsState (permission_of asked.entry) (seen_state program.table contract o) =
-          allows_from (permission_of asked.entry) (seen_state program.table contract o) (λ q i. stands_first.states q i) in
+          allows_from (permission_of asked.entry) (seen_state program.table contract o)
+          (λ q i. stands_first.states q i) in
           allows_to (permission_of s.entry) (seen_state program.table o.contract o) a e
           (subst (λ q. AllowsState q (seen_state program.table o.contract o)) (sym ans.answers.entry)
-          (converted_allows_state program.table is.table x.0 o x.1 x.2 contract o.contract (permission_of asked.entry) serves
+          (converted_allows_state program.table is.table x.0 o x.1 x.2 contract o.contract
+          (permission_of asked.entry) serves
           (serves_itself program.table (Reference o.contract)) old))
 
   same_parameters : parameters ans.signature ≡ parameters asked
@@ -206,7 +217,8 @@ module _ (program : SilicaProgram) (is : IsCheckedProgram program) (entry : Opti
       (bound_slots program.table wr.objects b.slots callee.slots 1 (parameters asked) slots_after
       (subst (λ os. AreBound program.table os b.slots 1 (parameters asked)) (sym objects) bound.1))
 
-  pub within : are_within program.table wr.objects callee.slots 0 (all_parameters (nth_object wr.objects n).contract ans.signature) ≡ true
+  pub within : are_within program.table wr.objects callee.slots 0
+      (all_parameters (nth_object wr.objects n).contract ans.signature) ≡ true
   within = are_all_within program.table wr.objects callee.slots 0 (all_parameters o.contract s) (
     record {
       value = reference n;
@@ -236,7 +248,8 @@ module _ (program : SilicaProgram) (is : IsCheckedProgram program) (entry : Opti
       (cases_Bool (nat_eq ans.number.0 0))
 
   pub callee_frame : IsFrame program.table w.objects callee called
-  callee_frame = begins_frame program.table wr.objects callee s (permission_of s.entry) n begun own begins.slots ec class
+  callee_frame = begins_frame program.table wr.objects callee s
+      (permission_of s.entry) n begun own begins.slots ec class
       ans.there begins.few begins.params refl
       (λ e. absurd (ans.no_constructor (eqb-true ans.number.0 0 e))) (λ e. absurd (cc)) (λ e. no_list)
 
@@ -266,7 +279,8 @@ module _ (program : SilicaProgram) (is : IsCheckedProgram program) (entry : Opti
   d = called_on c b callee begins.terms rest outer result loans w
 
   entries_now : (m : ℕ) → entries m d ≡ entered_at m callee.how callee.slots + entries m c
-  entries_now = called_entries program.table is.table entry beginning_of c k b g nb binds callee begins.terms rest outer result
+  entries_now = called_entries program.table is.table entry beginning_of c k b g nb binds callee begins.terms rest
+      outer result
       loans w same_outer objects locked bound_owners bound_references progress_grows (λ m. m ≢ n) each_apart apart_stays
 
   pub entered_so : (m : ℕ) → entries m d ≡ times m w.progress
@@ -294,21 +308,28 @@ module _ (program : SilicaProgram) (is : IsCheckedProgram program) (entry : Opti
 
   -- The configuration runs.
 
-  module _ (waiting : Waits program.table (NeedsOwner program.table w.objects) d callee called (self_of callee.slots ∷ [])
+  module _ (waiting : Waits program.table (NeedsOwner program.table w.objects) d callee called
+      (self_of callee.slots ∷ [])
       (λ m. tests_of m callee.slots []) (left_waiting c b rest outer result loans))
       (same_parts : waiting.parts ≡ k.whole.parts)
-      (lend : Lends program.table (nth_object wr.objects n).contract ans.number by_receiver (left_waiting c b rest outer result loans)) where
+      (lend : Lends program.table (nth_object wr.objects n).contract ans.number by_receiver
+      (left_waiting c b rest outer result loans)) where
     abbrev whole : Holds program.table entry beginning_of d
-    whole = called_whole program.table is.table entry beginning_of c k b g nb binds callee begins.terms rest outer result
-        loans w same_outer objects locked bound_owners bound_references progress_grows (λ m. m ≢ n) each_apart apart_stays
-        called callee_frame (begins_stand program.table wr.objects callee s (permission_of s.entry) n begun) waiting same_parts
+    whole = called_whole program.table is.table entry beginning_of c k b g nb binds callee begins.terms rest outer
+        result
+        loans w same_outer objects locked bound_owners bound_references progress_grows
+        (λ m. m ≢ n) each_apart apart_stays
+        called callee_frame (begins_stand program.table wr.objects callee s
+        (permission_of s.entry) n begun) waiting same_parts
         entered_so entered_once
 
     declared_now : IsAsDeclared program.table (NeedsOwner program.table w.objects) b.from.notes w.objects n
-    declared_now = declared_near program.table (self_of c.frame.slots) (λ m. m ≢ n) (NeedsOwner program.table c.world.objects)
+    declared_now = declared_near program.table (self_of c.frame.slots) (λ m. m ≢ n)
+        (NeedsOwner program.table c.world.objects)
         (NeedsOwner program.table w.objects) c d
         (called_near program.table is.table entry beginning_of c k b g nb binds callee begins.terms rest outer result
-        loans w same_outer objects locked bound_owners bound_references progress_grows (λ m. m ≢ n) each_apart apart_stays)
+        loans w same_outer objects locked bound_owners bound_references progress_grows
+        (λ m. m ≢ n) each_apart apart_stays)
         n there (λ e. apart_so.0 (sym e)) (k.whole.declared n there no_entries not_new)
 
     abbrev bf : BodyFrame
@@ -341,8 +362,10 @@ module _ (program : SilicaProgram) (is : IsCheckedProgram program) (entry : Opti
                 ap is_shared is_entry,
                 ⊎_elim (λ l. l)
                     (λ t.
-                    let same = called_tests program.table is.table entry beginning_of c k b g nb binds callee begins.terms rest outer result
-                    loans w same_outer objects locked bound_owners bound_references progress_grows (λ m. m ≢ n) each_apart apart_stays n in
+                    let same = called_tests program.table is.table entry beginning_of c k b g nb binds callee
+                    begins.terms rest outer result
+                    loans w same_outer objects locked bound_owners bound_references progress_grows
+                    (λ m. m ≢ n) each_apart apart_stays n in
                     let busy = k.whole.tested n (omega (arith, t, same)) in
                     let quiet = idle_times in
                     absurd (omega (arith, busy, quiet)))
@@ -367,7 +390,8 @@ module _ (program : SilicaProgram) (is : IsCheckedProgram program) (entry : Opti
       });
       says = begins_says program.table wr.objects callee s (permission_of s.entry) n begun
           (NeedsOwner program.table w.objects) (here d) bf refl refl refl
-          (ap (λ (y : Rattle.ob_silica_places.specs.Known.Known). y.permission) (this_of_transaction bf plain_number)) fields_say;
+          (ap (λ (y : Rattle.ob_silica_places.specs.Known.Known). y.permission)
+          (this_of_transaction bf plain_number)) fields_say;
       holdings = held_at_start (nth_object wr.objects n).contract ans.signature.params;
       held = begins_held program.table wr.objects callee s (permission_of s.entry) n begun;
       remains = begins.remains;
@@ -376,11 +400,15 @@ module _ (program : SilicaProgram) (is : IsCheckedProgram program) (entry : Opti
       shares = shares_now;
       owns_made = λ e. absurd (cc);
       unreferred = λ m some.
-          let new = called_constructions program.table is.table entry beginning_of c k b g nb binds callee begins.terms rest outer result
-          loans w same_outer objects locked bound_owners bound_references progress_grows (λ m. m ≢ n) each_apart apart_stays m in
+          let new = called_constructions program.table is.table entry beginning_of c k b g nb binds callee
+          begins.terms rest outer result
+          loans w same_outer objects locked bound_owners bound_references progress_grows
+          (λ m. m ≢ n) each_apart apart_stays m in
           let old : 0 < constructions m c = omega (arith, some, new) in
-          let refs = called_references program.table is.table entry beginning_of c k b g nb binds callee begins.terms rest outer result
-          loans w same_outer objects locked bound_owners bound_references progress_grows (λ m. m ≢ n) each_apart apart_stays m in
+          let refs = called_references program.table is.table entry beginning_of c k b g nb binds callee begins.terms
+          rest outer result
+          loans w same_outer objects locked bound_owners bound_references progress_grows
+          (λ m. m ≢ n) each_apart apart_stays m in
           let kept = binds.refers m old in
           let was = running_references program.table is.table entry beginning_of c k m in
           let few = k.unreferred m old in

@@ -30,12 +30,14 @@ use Rattle.ob_coherent_calls_laws.specs.Binds.{in_frame, in_rest, Binds}
 
 -- A frame that is entered or under construction.
 
-entered_is : (n : ℕ) (how : How) (slots : SlotCells) → 0 < entered_at n how slots → (how ≡ by_receiver) × (self_of slots ≡ n)
+entered_is : (n : ℕ) (how : How) (slots : SlotCells) → 0 < entered_at n how slots → (how ≡ by_receiver)
+    × (self_of slots ≡ n)
 entered_is n by_receiver slots some = (refl, one_of (self_of slots) n some)
 entered_is n by_this slots some = absurd (omega arith)
 entered_is n by_new slots some = absurd (omega arith)
 
-constructing_is : (n : ℕ) (how : How) (slots : SlotCells) → 0 < constructing_at n how slots → (how ≡ by_new) × (self_of slots ≡ n)
+constructing_is : (n : ℕ) (how : How) (slots : SlotCells) → 0 < constructing_at n how slots → (how ≡ by_new)
+    × (self_of slots ≡ n)
 constructing_is n by_new slots some = (refl, one_of (self_of slots) n some)
 constructing_is n by_this slots some = absurd (omega arith)
 constructing_is n by_receiver slots some = absurd (omega arith)
@@ -61,7 +63,8 @@ placed_among : (table : ClassTable) (N : ℕ → Type 0) (c : Configuration) (ca
 placed_among table N c callee called above tests [] placed waits n some = absurd (omega arith)
 placed_among table N c callee called above tests (h ∷ hs) placed (w, ws) n some =
     ⊎_elim
-    (λ none. placed_among table N c h.frame w.parts (self_of h.frame.slots ∷ above) _ hs below ws n (omega (arith, some, none)))
+    (λ none. placed_among table N c h.frame w.parts (self_of h.frame.slots ∷ above) _ hs below ws n
+    (omega (arith, some, none)))
     (λ more. let r = entered_is n h.frame.how h.frame.slots more in
     subst (λ m. HasItsState table (nth_object c.world.objects m)) r.1
     (below (λ e. (let z : by_receiver ≡ by_new = sym r.0 ∙ e in cc))))
@@ -76,13 +79,15 @@ placed_among table N c callee called above tests (h ∷ hs) placed (w, ws) n som
         (on_this_or_not callee.how)
 
 -- a frame's own object is referred to by its slot 0
-refers_itself : (table : ClassTable) (objects : List Object) (f : SilicaFrame) (parts : BodyParts) → IsFrame table objects f parts
+refers_itself : (table : ClassTable) (objects : List Object) (f : SilicaFrame) (parts : BodyParts)
+    → IsFrame table objects f parts
     → in_cell any (self_of f.slots) (f.slots 0) ≡ 1
 refers_itself table objects f parts a = ap (in_cell any (self_of f.slots)) a.set
     ∙ cell_counted any (self_of f.slots) a.this refl a.refers
 
 -- frames under construction are referred to
-constructing_refer : (table : ClassTable) (N : ℕ → Type 0) (c : Configuration) (callee : SilicaFrame) (called : BodyParts)
+constructing_refer : (table : ClassTable) (N : ℕ → Type 0) (c : Configuration) (callee : SilicaFrame)
+    (called : BodyParts)
     (above : List ℕ) (tests : ℕ → ℕ) (hs : List Waiting) → AllWait table N c callee called above tests hs → (n : ℕ)
     → 0 < constructing_among n hs → 0 < in_waiting any n hs
 constructing_refer table N c callee called above tests [] waits n some = absurd (omega arith)
@@ -114,10 +119,12 @@ module _ (table : ClassTable) (made : IsClassTable table) (entry : Option ℕ) (
   running_control = ap (in_control owns zero) k.control
 
   pub running_owners : (m : ℕ) → owners m c ≡ in_frame owns m (here c) + in_rest owns m c
-  running_owners m = let none : in_control owns m c.control ≡ 0 = ap (in_control owns m) k.control in omega (arith, none)
+  running_owners m = let none : in_control owns m c.control ≡ 0 = ap (in_control owns m) k.control in omega
+      (arith, none)
 
   pub running_references : (m : ℕ) → references m c ≡ in_frame any m (here c) + in_rest any m c
-  running_references m = let none : in_control any m c.control ≡ 0 = ap (in_control any m) k.control in omega (arith, none)
+  running_references m = let none : in_control any m c.control ≡ 0 = ap (in_control any m) k.control in omega
+      (arith, none)
 
   pub running_one : (m : ℕ) → in_frame owns m (here c) + in_rest owns m c ≤ 1
   running_one m = let most = k.whole.one_owner m in let is = running_owners m in omega (arith, most, is)
@@ -128,7 +135,8 @@ module _ (table : ClassTable) (made : IsClassTable table) (entry : Option ℕ) (
   running_placed m low none = ⊎_elim
       (λ outside. (k.whole.declared m low outside none).placed)
       (λ inside. ⊎_elim
-      (λ other. placed_among table _ c c.frame k.whole.parts _ _ c.stack k.placed k.whole.waiting m (omega (arith, inside, other)))
+      (λ other. placed_among table _ c c.frame k.whole.parts _ _ c.stack k.placed k.whole.waiting m
+      (omega (arith, inside, other)))
       (λ here. let r = entered_is m c.frame.how c.frame.slots here in
       subst (λ i. HasItsState table (nth_object c.world.objects i)) r.1
       (k.placed (λ e. (let z : by_receiver ≡ by_new = sym r.0 ∙ e in cc))))
@@ -137,14 +145,16 @@ module _ (table : ClassTable) (made : IsClassTable table) (entry : Option ℕ) (
 
   -- no place but its own `this` refers to an object under construction
   pub running_finished : (q : Location) (x : Cell) → IsPlaceIn (body_of table c.frame k.whole.parts) q
-      → (constructs (body_of table c.frame k.whole.parts) ≡ true → same_location q this ≡ false) → cell_at (here c) q ≡ Some x
+      → (constructs (body_of table c.frame k.whole.parts) ≡ true → same_location q this ≡ false)
+      → cell_at (here c) q ≡ Some x
       → (m : ℕ) → 0 < constructions m c → x.value ≢ reference m
   running_finished q x inside spares e m some refers =
       let few = k.unreferred m some in
       let all = running_references m in
       ⊎_elim
       (λ other.
-      let more = constructing_refer table _ c c.frame k.whole.parts _ _ c.stack k.whole.waiting m (omega (arith, some, other)) in
+      let more = constructing_refer table _ c c.frame k.whole.parts _ _ c.stack k.whole.waiting m
+      (omega (arith, some, other)) in
       let place = at_place q inside e in
       omega (arith, few, all, more, place))
       (λ own. let r = constructing_is m c.frame.how c.frame.slots own in
@@ -160,7 +170,8 @@ module _ (table : ClassTable) (made : IsClassTable table) (entry : Option ℕ) (
 
       low_field : (j : ℕ) → j < length k.whole.parts.own.fields → j < fields_counted
       low_field j lt = few_fields j
-          (let few = (contract_is table made c.frame.contract k.whole.parts.own k.whole.frame.own).few_fields in omega (arith, few, lt))
+          (let few = (contract_is table made c.frame.contract k.whole.parts.own k.whole.frame.own).few_fields in
+          omega (arith, few, lt))
 
       at_place : (p : Location) → IsPlaceIn (body_of table c.frame k.whole.parts) p → cell_at (here c) p ≡ Some x
           → 1 ≤ in_frame any m (here c)
@@ -169,7 +180,8 @@ module _ (table : ClassTable) (made : IsClassTable table) (entry : Option ℕ) (
           let low = in_slot any m c.frame.slots j (low_slot j lt) in omega (arith, is, low)
       at_place (field j) lt i =
           let is : in_cell any m (cell_at (here c) (field j)) ≡ 1 = ap (in_cell any m) i ∙ counted in
-          let low = in_field_of any m c.notes c.world.objects (self_of c.frame.slots) j (low_field j lt) in omega (arith, is, low)
+          let low = in_field_of any m c.notes c.world.objects (self_of c.frame.slots) j (low_field j lt) in omega
+          (arith, is, low)
 
       at_two : (p : Location) → IsPlaceIn (body_of table c.frame k.whole.parts) p → cell_at (here c) p ≡ Some x
           → same_location p this ≡ false → self_of c.frame.slots ≡ m → 2 ≤ in_frame any m (here c)

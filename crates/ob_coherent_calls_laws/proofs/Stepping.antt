@@ -24,7 +24,8 @@ use Rattle.ob_silica_steps.specs.Entering.{are_within, Entered, enters, this_cel
 abbrev pub entered_into : Entered → SilicaFrame → SilicaTerms → World → Configuration
 entered_into e f terms w = record { frame = f; control = runs terms []; stack = e.stack; notes = e.notes; world = w }
 
-pub call_enters : (program : SilicaProgram) (e : Entered) (contract : ContractId) (tx : TxId) (asked : Signature) (n : ℕ)
+pub call_enters : (program : SilicaProgram) (e : Entered) (contract : ContractId) (tx : TxId) (asked : Signature)
+    (n : ℕ)
     (o : Object) (own : Contract) (t : TxId) (s : Signature) (terms : SilicaTerms)
     → is_in_progress (read_object e.world n) n ≡ false → object_at (read_object e.world n).objects n ≡ Some o
     → contract_at program.table o.contract ≡ Some own → answering contract tx asked o.contract own ≡ Some t
@@ -56,7 +57,8 @@ call_enters program e contract tx asked n o own t s terms idle there ec ea es wi
     ∙ ap (λ z. if_there z (λ t.
     if_there (signature_at own t) (λ s. begins_on program (record e { world = w }) n o t s))) ea
     ∙ ap (λ z. if_there z (λ s. begins_on program (record e { world = w }) n o t s)) es
-    ∙ ap (λ b. if b then enters program (record (entered_on (record e { world = w }) n o s) { world = enter n w }) o.contract t
+    ∙ ap (λ b. if b then enters program (record
+    (entered_on (record e { world = w }) n o s) { world = enter n w }) o.contract t
     by_receiver (is_shared (permission_of s.entry)) else stuck) within
     ∙ ap (λ z. if_there z (λ (terms : SilicaTerms). goes (entered_into e (record {
       slots = at e.slots 0 (Some (this_cell o.contract s.entry n));
@@ -66,7 +68,8 @@ call_enters program e contract tx asked n o own t s terms idle there ec ea es wi
       share_entered = is_shared (permission_of s.entry);
     }) terms (enter n w)))) et
 
-pub call_aborts : (program : SilicaProgram) (e : Entered) (contract : ContractId) (tx : TxId) (asked : Signature) (n : ℕ)
+pub call_aborts : (program : SilicaProgram) (e : Entered) (contract : ContractId) (tx : TxId) (asked : Signature)
+    (n : ℕ)
     → is_in_progress (read_object e.world n) n ≡ true
     → calls_object program e contract tx asked n ≡ abort_step (by_reentry n) (read_object e.world n)
 call_aborts program e contract tx asked n busy = rw busy refl
