@@ -15,7 +15,7 @@ use Rattle.ob_silica_places.specs.Parameters.{Parameter}
 use Rattle.ob_silica_steps.specs.Cells.{Cell}
 use Rattle.ob_silica_steps.specs.Configurations.{How, Waiting}
 use Rattle.ob_silica_steps.specs.Binding.{Bound, bound_cell}
-use Rattle.ob_flow_spec.specs.Contexts.{Context, permission_at, is_set, known_as, is_field}
+use Rattle.ob_flow_spec.specs.Contexts.{Context, permission_at, is_set, known_as, is_field, permission_on}
 use Rattle.ob_flow_spec.specs.Uses.{Read, kind_known, given_to}
 use Rattle.ob_flow_spec.specs.Binding.{given_all, with_result}
 use Rattle.ob_coherent_spec.specs.Standing.{IsOfKind, AllStand}
@@ -96,7 +96,7 @@ backs_beside table objects known g b result of (r ∷ rs) (p ∷ ps) n stand pla
       let other = apart result refl r.location l.cell l.is refers.0 refers.1 in
       let same = result_other g result of r.location other in
       record {
-        permission = ap Rattle.ob_flow_spec.specs.Contexts.permission_on same ∙ (back.0 wants).permission;
+        permission = ap permission_on same ∙ (back.0 wants).permission;
         kind = ap kind_known same ∙ (back.0 wants).kind;
       },
   backs_beside table objects known g b result of rs ps (suc n) stand plain lent.1 back.1,

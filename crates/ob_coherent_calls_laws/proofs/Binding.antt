@@ -1,5 +1,5 @@
 -- One place is handed over to one parameter.
-use Rattle.std.proofs.Common.{◌≡◌, ◌≢◌, ℕ, suc, ◌+◌, ◌<◌, ◌≤◌, Bool, true, false, ◌&&◌, List, length, Option, Some, None, refl, sym, ap, subst, ◌∙◌, arith, ⊎_elim, ◌⊎◌, inl, inr, eq-eqb, true≢false}
+use Rattle.std.proofs.Common.{◌≡◌, ◌≢◌, ℕ, suc, ◌+◌, ◌<◌, ◌≤◌, true, false, List, length, Some, refl, sym, ap, subst, ◌∙◌, arith, ⊎_elim, ◌⊎◌, inl, inr, true≢false, zero}
 use Rattle.std.specs.Prelude.{option_map}
 use Rattle.std.proofs.lemmas.Bool.{cases_Bool, both_ways}
 use Rattle.std.proofs.lemmas.Bool.Decides.{eqb_tells}
@@ -12,7 +12,7 @@ use Rattle.ob_table.specs.declared.contract.ResolvedType.{ResolvedType}
 use Rattle.ob_table.specs.declared.seen.Kind.TheVariants.{Reference}
 use Rattle.ob_table_spec.specs.Conditions.{IsClassTable}
 use Rattle.ob_table_spec.specs.WellFormed.{kind_of_resolved, serves_as}
-use Rattle.ob_heap_spec.specs.Values.{Value, reference}
+use Rattle.ob_heap_spec.specs.Values.{Value, reference, int_value, text_value, bool_value}
 use Rattle.ob_heap_spec.specs.Objects.{Object}
 use Rattle.ob_heap_spec.specs.Worlds.{World}
 use Rattle.ob_silica_places.specs.Known.{permission_of_type, at}
@@ -49,6 +49,7 @@ use Rattle.ob_coherent_places_laws.proofs.Keeping.{written_that, sits_written}
 use Rattle.ob_coherent_places_laws.proofs.Finding.{found_stands, room_noted, counted_allows, counts_is, this_mode}
 use Rattle.ob_coherent_calls_laws.specs.Binds.{in_frame, in_both, in_rest, Binds}
 use Rattle.ob_coherent_calls_laws.proofs.Giving.{kept_stands, kept_says, kept_mode, gives_owner, gives_say, allowed_say, say_type, kind_serves, bound_stands}
+use Rattle.ob_coherent_counting_laws.proofs.NextNumber.{stands_there}
 
 -- A permission is an owner's, Shared or Unowned.
 
@@ -81,10 +82,10 @@ shared_refers table objects of v e h =
   where
     refers : (id : ContractId) (v : Value) → IsOfKind table objects (Reference id) v
         → (n : ℕ) × (v ≡ reference n) × (n < length objects)
-    refers id (Rattle.ob_heap_spec.specs.Values.reference n) h = (n, refl, h.0)
-    refers id (Rattle.ob_heap_spec.specs.Values.int_value z) h = absurd h
-    refers id (Rattle.ob_heap_spec.specs.Values.bool_value z) h = absurd h
-    refers id (Rattle.ob_heap_spec.specs.Values.text_value z) h = absurd h
+    refers id (reference n) h = (n, refl, h.0)
+    refers id (int_value z) h = absurd h
+    refers id (bool_value z) h = absurd h
+    refers id (text_value z) h = absurd h
 
 shared_at : (objects : List Object) (v : Value) (n : ℕ) → v ≡ reference n → (nth_object objects n).shared ≡ true
     → RefersToShared objects v
@@ -227,12 +228,12 @@ module _ (table : ClassTable) (made : IsClassTable table) (c : Configuration) (p
     where
       below : m < length c.world.objects
       below =
-          let lt = Rattle.ob_coherent_counting_laws.proofs.NextNumber.stands_there table b.from.world.objects u.cell
+          let lt = stands_there table b.from.world.objects u.cell
           m stood e in
           let same = k.stays.count in omega (arith, lt, same)
 
       none : (i : ℕ) → constructions m c ≡ i → constructions m c ≡ 0
-      none Rattle.std.proofs.Common.zero i = i
+      none zero i = i
       none (suc j) i = absurd (finished m (omega (arith, i)) e)
 
   -- what the parameter gets stands

@@ -1,8 +1,8 @@
 -- All places are handed over to their parameters.
-use Rattle.std.proofs.Common.{◌≡◌, ◌≢◌, ℕ, suc, ◌+◌, ◌<◌, ◌≤◌, Bool, true, false, ◌&&◌, ◌||◌, List, [], ◌∷◌, ◌++◌, append_assoc, length, Option, Some, None, refl, sym, ap, subst, ◌∙◌, arith, ⊎_elim, ◌⊎◌, inl, inr, true≢false}
+use Rattle.std.proofs.Common.{◌≡◌, ◌≢◌, ℕ, suc, ◌+◌, ◌<◌, ◌≤◌, Bool, true, false, ◌&&◌, ◌||◌, List, [], ◌∷◌, ◌++◌, append_assoc, length, Option, Some, None, refl, sym, ap, subst, ◌∙◌, arith, ⊎_elim, append-nil}
 use Rattle.std.specs.Prelude.{if◌then◌else◌}
-use Rattle.std.proofs.lemmas.Bool.{cases_Bool, both_ways, or_left, or_right}
-use Rattle.std.proofs.lemmas.Option.{none-some}
+use Rattle.std.proofs.lemmas.Bool.{both_ways, or_left, or_right, or_parts}
+use Rattle.std.proofs.lemmas.Option.{none-some, same_Some}
 use Rattle.ob_base.specs.Limits.{most_slots}
 use Rattle.ob_perm.specs.Permissions.{Permission, unowned, owns, kept}
 use Rattle.ob_table.specs.Tables.{ClassTable}
@@ -24,7 +24,7 @@ use Rattle.ob_flow_laws.specs.Binding.{EachOnceAfter, EachOnce, CanGiveAll}
 use Rattle.ob_places_laws.proofs.Permissions.{kept_owner}
 use Rattle.ob_coherent_spec.specs.Counting.{nth_object}
 use Rattle.ob_coherent_spec.specs.Runs.{constructions}
-use Rattle.ob_coherent_spec.specs.Standing.{HasItsState, NeedsOwner}
+use Rattle.ob_coherent_spec.specs.Standing.{HasItsState, Stands}
 use Rattle.ob_coherent_spec.specs.Remaining.{BodyParts, body_of, IsPlaceIn}
 use Rattle.ob_perm.specs.Permissions.{owns}
 use Rattle.ob_coherent_counting_laws.proofs.Sums.{at_same, at_other}
@@ -92,6 +92,20 @@ once_from owning before (r ∷ rs) (p ∷ ps) once says = (
 pub are_once : (rs : List Read) (ps : List Parameter) → EachOnce rs ps → AreOnce rs ps
 are_once rs ps once = once_from (λ p. is_given_owning p rs ps) [] rs ps once (λ l given. given)
 
+-- a place that has a cell while places are bound had one with that value and kind
+pub was_set : (table : ClassTable) (c : Configuration) (parts : BodyParts) (b : Bound) (g : Context) (n : ℕ)
+    → Binds table c parts b g n → (q : Location) (y : Cell) → cell_at b.from q ≡ Some y
+    → (x : Cell) × (cell_at (here c) q ≡ Some x) × (y.value ≡ x.value) × (y.note.kind ≡ x.note.kind)
+was_set table c parts b g n k q y e = by_cell (cell_at (here c) q) refl
+  where
+    by_cell : (o : Option Cell) → cell_at (here c) q ≡ o
+        → (x : Cell) × (cell_at (here c) q ≡ Some x) × (y.value ≡ x.value) × (y.note.kind ≡ x.note.kind)
+    by_cell None i = absurd (none-some y (sym (k.unset q i) ∙ e))
+    by_cell (Some x) i =
+        let r = k.alike q x i in
+        let same : r.0 ≡ y = same_Some r.0 y (sym r.1 ∙ e) in
+        (x, i, ap (λ (z : Cell). z.value) (sym same) ∙ r.2, ap (λ (z : Cell). z.note.kind) (sym same) ∙ r.3)
+
 -- All places.
 
 module _ (table : ClassTable) (made : IsClassTable table) (c : Configuration) (parts : BodyParts) (ts : TestedPlaces)
@@ -101,20 +115,6 @@ module _ (table : ClassTable) (made : IsClassTable table) (c : Configuration) (p
     (finished : (q : Location) (x : Cell) → IsPlaceIn (body_of table c.frame parts) q
     → (constructs (body_of table c.frame parts) ≡ true → same_location q this ≡ false) → cell_at (here c) q ≡ Some x
     → (m : ℕ) → 0 < constructions m c → x.value ≢ reference m) where
-  -- a place that has a cell had one with that value and kind
-  was_set : (b : Bound) (g : Context) (n : ℕ) → Binds table c parts b g n → (q : Location) (y : Cell)
-      → cell_at b.from q ≡ Some y
-      → (x : Cell) × (cell_at (here c) q ≡ Some x) × (y.value ≡ x.value) × (y.note.kind ≡ x.note.kind)
-  was_set b g n k q y e = by_cell (cell_at (here c) q) refl
-    where
-      by_cell : (o : Option Cell) → cell_at (here c) q ≡ o
-          → (x : Cell) × (cell_at (here c) q ≡ Some x) × (y.value ≡ x.value) × (y.note.kind ≡ x.note.kind)
-      by_cell None i = absurd (none-some y (sym (k.unset q i) ∙ e))
-      by_cell (Some x) i =
-          let r = k.alike q x i in
-          let same : r.0 ≡ y = Rattle.std.proofs.lemmas.Option.same_Some r.0 y (sym r.1 ∙ e) in
-          (x, i, ap (λ (z : Cell). z.value) (sym same) ∙ r.2, ap (λ (z : Cell). z.note.kind) (sym same) ∙ r.3)
-
   -- what is bound of the first place and of those after it
   bound_first : (known g : Context) (b : Bound) (r : Read) (rs : List Read) (p : Parameter) (ps : List Parameter)
       (n : ℕ)
@@ -123,7 +123,7 @@ module _ (table : ClassTable) (made : IsClassTable table) (c : Configuration) (p
       ≡ Some (noted (kept x.note.permission (permission_of_type p.of)) x)
       → ((q : Location) → same_location q r.location ≡ false
       → cell_at (bind_one table b r.location x n p).from q ≡ cell_at b.from q)
-      → Rattle.ob_coherent_spec.specs.Standing.Stands table (bind_one table b r.location x n p).from.world.objects
+      → Stands table (bind_one table b r.location x n p).from.world.objects
       (bound_cell p.of x.value)
       → Stays b.from (bind_one table b r.location x n p).from
       → (wants_owner p ≡ true → is_among r.location rs ≡ false)
@@ -168,7 +168,7 @@ module _ (table : ClassTable) (made : IsClassTable table) (c : Configuration) (p
 
       apart : (q : Location) → is_among q (r ∷ rs) ≡ false → cell_at next.from q ≡ cell_at b.from q
       apart q none =
-          let parts = Rattle.std.proofs.lemmas.Bool.or_parts (same_location q r.location) (is_among q rs) none in
+          let parts = or_parts (same_location q r.location) (is_among q rs) none in
           a.untouched q parts.1 ∙ other q parts.0
 
   -- What follows the binding of all places follows from what it comes to.
@@ -185,7 +185,7 @@ module _ (table : ClassTable) (made : IsClassTable table) (c : Configuration) (p
     bound = tt;
     before = λ k lt. refl;
     untouched = λ q none. refl;
-    loans = sym (Rattle.std.proofs.Common.append-nil b.loans);
+    loans = sym (append-nil b.loans);
     lent = tt;
     first = tt;
   })
@@ -193,7 +193,7 @@ module _ (table : ClassTable) (made : IsClassTable table) (c : Configuration) (p
   bind_all_steps P go known (r ∷ rs) [] b g n k few kinds sets can passed once done = absurd passed
   bind_all_steps P go known (r ∷ rs) (p ∷ ps) b g n k few kinds sets can passed once done =
       let u = found_at table made c.frame parts b.from g k.sits r.location can.0.usable.readable in
-      let was = was_set b g n k r.location u.cell u.is in
+      let was = was_set table c parts b g n k r.location u.cell u.is in
       let low : n < most_slots = omega (arith, few) in
       let serves : serves_as table (kind_of_resolved p.of) u.cell.note.kind ≡ true =
       ap (serves_as table (kind_of_resolved p.of)) was.3 ∙ passed.1 was.0 was.1 in
@@ -217,4 +217,4 @@ module _ (table : ClassTable) (made : IsClassTable table) (c : Configuration) (p
       (next_stays table made c parts ts one placed b g n k r.location p passed.0 low can.0 u serves old)
       once.0
       (λ y e. was.2 ∙ ap (λ (z : Cell). z.value)
-      (Rattle.std.proofs.lemmas.Option.same_Some was.0 y (sym was.1 ∙ e))) a)))
+      (same_Some was.0 y (sym was.1 ∙ e))) a)))

@@ -14,7 +14,7 @@ use Rattle.ob_silica_steps.specs.Binding.{Bound}
 use Rattle.ob_flow_spec.specs.Contexts.{Context}
 use Rattle.ob_coherent_spec.specs.Counting.{any, nth_object, field_cell, in_slots, in_objects, in_handles, owners, references}
 use Rattle.ob_coherent_spec.specs.Runs.{times, around, entered_at, entries, constructing_at, constructions, locks, open_tests}
-use Rattle.ob_coherent_spec.specs.Standing.{AllStand, NeedsOwner}
+use Rattle.ob_coherent_spec.specs.Standing.{AllStand, NeedsOwner, IsObjectInRun}
 use Rattle.ob_coherent_spec.specs.Remaining.{BodyParts}
 use Rattle.ob_coherent_spec.specs.Waiting.{IsFrame, tests_of, Waits, AllWait}
 use Rattle.ob_coherent_spec.specs.Coherent.{Beginning, Holds, IsRunning}
@@ -156,7 +156,7 @@ module _ (table : ClassTable) (made : IsClassTable table) (entry : Option ℕ) (
   changed m (inl is) below = subst (ObjectHolds table d) (sym (is ∙ sym self_left)) (record {
     stand = subst (λ os. AllStand table os (field_cell b.from.notes os (self_of b.from.slots)))
         (sym objects) binds.sits.fields;
-    object = subst (λ os. Rattle.ob_coherent_spec.specs.Standing.IsObjectInRun table b.from.notes (self_of b.from.slots)
+    object = subst (λ os. IsObjectInRun table b.from.notes (self_of b.from.slots)
         (nth_object os (self_of b.from.slots))) (sym objects) binds.sits.object;
     declared = λ none new.
         let has = innermost_has_entry table entry beginning c k.whole in

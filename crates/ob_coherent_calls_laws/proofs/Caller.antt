@@ -1,7 +1,6 @@
 -- The caller waits.
-use Rattle.std.proofs.Common.{◌≡◌, ◌≢◌, ℕ, ◌+◌, ◌<◌, ◌≤◌, true, false, List, [], ◌∷◌, Option, Some, None, refl, sym, ap, subst, ◌∙◌, arith, ⊎_elim, inl, inr, true≢false}
-use Rattle.std.proofs.lemmas.Bool.{cases_Bool, both_ways}
-use Rattle.std.proofs.lemmas.Option.{same_Some, none-some}
+use Rattle.std.proofs.Common.{◌≡◌, ◌≢◌, ℕ, ◌+◌, ◌<◌, ◌≤◌, true, false, List, [], ◌∷◌, Option, Some, refl, sym, ap, subst, ◌∙◌, arith, ⊎_elim, inl, inr, true≢false}
+use Rattle.std.proofs.lemmas.Bool.{not-true}
 use Rattle.ob_perm.specs.Permissions.{shared, owns}
 use Rattle.ob_table.specs.Tables.{ClassTable}
 use Rattle.ob_table.specs.declared.contract.ResolvedType.{ResolvedType}
@@ -10,18 +9,18 @@ use Rattle.ob_table_spec.specs.WellFormed.{kind_of_resolved}
 use Rattle.ob_heap_spec.specs.Worlds.{World}
 use Rattle.ob_silica.specs.Terms.{SilicaTerms}
 use Rattle.ob_silica_places.specs.Places.{Location, slot, field, this}
-use Rattle.ob_silica_steps.specs.Cells.{Cell, permission_in}
+use Rattle.ob_silica_steps.specs.Cells.{permission_in}
 use Rattle.ob_silica_steps.specs.Configurations.{SilicaFrame, by_this, by_new, Loan, Ends, plain_end, test_end, lock_end, Rest, Configuration}
 use Rattle.ob_silica_steps.specs.Here.{Here, here, self_of}
 use Rattle.ob_silica_steps.specs.Binding.{Bound}
 use Rattle.ob_silica_formed.specs.Holdings.{Holdings, held as held_as}
-use Rattle.ob_flow_spec.specs.Contexts.{BodyFrame, Context, permission_at, is_tested}
+use Rattle.ob_flow_spec.specs.Contexts.{BodyFrame, Context, permission_on}
 use Rattle.ob_flow_spec.specs.Joining.{same_mode}
 use Rattle.ob_coherent_spec.specs.Counting.{nth_object, owners}
 use Rattle.ob_coherent_spec.specs.Runs.{times}
 use Rattle.ob_coherent_spec.specs.Standing.{AllStand, NeedsOwner, HasItsState}
 use Rattle.ob_coherent_spec.specs.Saying.{SaysOf, Says, every}
-use Rattle.ob_coherent_spec.specs.Remaining.{BodyParts, body_of, AreHeld, Remains}
+use Rattle.ob_coherent_spec.specs.Remaining.{BodyParts, body_of, Remains, HoldsSo}
 use Rattle.ob_coherent_spec.specs.OpenTests.{IsTestOf, IsOpen, AreOpen, TestNoField}
 use Rattle.ob_coherent_spec.specs.Waiting.{IsFrame, is_settled, is_result, tests_of, SharesThis, AreLoans, LendNoField, IsApart, gives_back_as, AwaitsResult, FieldsComeBack, waiting_here, Waits}
 use Rattle.ob_coherent_spec.specs.Coherent.{Beginning, IsRunning}
@@ -34,21 +33,8 @@ use Rattle.ob_coherent_places_laws.proofs.Alike.{says_alike, reads_alike}
 use Rattle.ob_coherent_places_laws.proofs.Holding.{held_alike}
 use Rattle.ob_coherent_calls_laws.specs.Binds.{in_both, in_rest, Binds}
 use Rattle.ob_coherent_calls_laws.proofs.Running.{running_sits}
+use Rattle.ob_coherent_calls_laws.proofs.BindingAll.{was_set}
 use Rattle.ob_coherent_calls_laws.proofs.Called.{left_waiting, called_on}
-
--- a place that has a cell while places are bound had one with that value and kind
-pub was_set : (table : ClassTable) (c : Configuration) (parts : BodyParts) (b : Bound) (g : Context) (n : ℕ)
-    → Binds table c parts b g n → (q : Location) (y : Cell) → cell_at b.from q ≡ Some y
-    → (x : Cell) × (cell_at (here c) q ≡ Some x) × (y.value ≡ x.value) × (y.note.kind ≡ x.note.kind)
-was_set table c parts b g n k q y e = by_cell (cell_at (here c) q) refl
-  where
-    by_cell : (o : Option Cell) → cell_at (here c) q ≡ o
-        → (x : Cell) × (cell_at (here c) q ≡ Some x) × (y.value ≡ x.value) × (y.note.kind ≡ x.note.kind)
-    by_cell None i = absurd (none-some y (sym (k.unset q i) ∙ e))
-    by_cell (Some x) i =
-        let r = k.alike q x i in
-        let same : r.0 ≡ y = same_Some r.0 y (sym r.1 ∙ e) in
-        (x, i, ap (λ (z : Cell). z.value) (sym same) ∙ r.2, ap (λ (z : Cell). z.note.kind) (sym same) ∙ r.3)
 
 -- Tests stay open where the objects of a world stay.
 
@@ -174,14 +160,14 @@ module _ (table : ClassTable) (made : IsClassTable table) (entry : Option ℕ) (
         fields = λ j there e. subst (λ y. SaysOf (NeedsOwner table w.objects) y
             (cell_at (record b.from { world = w }) (field j)))
             (sym (settled (field j) e)) (says_now.fields j there refl);
-        mode = λ e. subst (λ y. same_mode (Rattle.ob_flow_spec.specs.Contexts.permission_on y)
+        mode = λ e. subst (λ y. same_mode (permission_on y)
             (permission_in (b.from.slots 0)) ≡ true)
             (sym (settled this e)) (says_now.mode refl);
       };
       held = λ j y free e.
           let x = was_set table c k.whole.parts b g n binds (slot j) y e in
-          subst (λ s. Rattle.ob_coherent_spec.specs.Remaining.HoldsSo s y)
-          (sym (held_on j (Rattle.std.proofs.lemmas.Bool.not-true (is_result result (slot j)) free)))
+          subst (λ s. HoldsSo s y)
+          (sym (held_on j (not-true (is_result result (slot j)) free)))
           (held_alike (k.holdings j) x.0 y x.3 (k.held j x.0 refl x.1));
       result_held = result_held;
       remains = remains;

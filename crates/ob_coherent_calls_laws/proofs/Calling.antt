@@ -1,5 +1,5 @@
 -- The step of a call of another object.
-use Rattle.std.proofs.Common.{◌≡◌, ◌≢◌, ℕ, zero, suc, ◌+◌, ◌<◌, ◌≤◌, Bool, true, false, not, ◌&&◌, ◌||◌, List, [], ◌∷◌, ◌++◌, map, length, Option, Some, None, Ok, refl, sym, ap, subst, ◌∙◌, arith, ⊎_elim, ◌⊎◌, inl, inr, true≢false}
+use Rattle.std.proofs.Common.{◌≡◌, ◌≢◌, ℕ, zero, suc, ◌+◌, ◌≤◌, true, false, List, [], ◌∷◌, length, Option, Some, None, Ok, refl, sym, ap, subst, ◌∙◌, arith, ⊎_elim, true≢false, eq-eqb}
 use Rattle.std.specs.Prelude.{slice_get, max, option_map, is_some, IsSome, if◌then◌else◌}
 use Rattle.std.specs.Option.{option_and_then}
 use Rattle.std.proofs.lemmas.Bool.{cases_Bool, both_ways}
@@ -30,13 +30,13 @@ use Rattle.ob_silica_places.specs.Parameters.{Parameter, parameters, this_parame
 use Rattle.ob_silica_places.specs.Converting.{converted}
 use Rattle.ob_silica_places.specs.Known.{at}
 use Rattle.ob_silica_steps.specs.Cells.{Cell}
-use Rattle.ob_silica_steps.specs.Configurations.{SilicaProgram, by_receiver, by_new, Loan, Rest, Waiting, runs, Configuration, NextStep, goes}
+use Rattle.ob_silica_steps.specs.Configurations.{SilicaProgram, by_receiver, Rest, runs, Configuration, SilicaFrame}
 use Rattle.ob_silica_steps.specs.Here.{here, self_of, read, if_there, with_unit, with_fuel_left}
 use Rattle.ob_silica_steps.specs.Binding.{Bound, unbound, bound_cell, bind_all}
 use Rattle.ob_silica_steps.specs.Calling.{entered_with}
 use Rattle.ob_silica_steps.specs.Entering.{this_cell, calls_object}
 use Rattle.ob_silica_steps.specs.Steps.{act}
-use Rattle.ob_silica_formed.specs.Holdings.{Holdings, held as held_as, after_form, kind_of_result}
+use Rattle.ob_silica_formed.specs.Holdings.{held as held_as, after_form, kind_of_result, with_slot_if}
 use Rattle.ob_flow_spec.specs.Contexts.{BodyFrame, Context}
 use Rattle.ob_flow_spec.specs.Uses.{Read, kind_known}
 use Rattle.ob_flow_spec.specs.Binding.{wants_owner, reads_of, given_all, passed}
@@ -52,11 +52,11 @@ use Rattle.ob_places_laws.proofs.Permissions.{same_mode_owns}
 use Rattle.ob_places_laws.proofs.Tables.{each_at, if_there_so}
 use Rattle.ob_coherent_remaining_laws.proofs.Knowing.{KnowsIf, form_knows}
 use Rattle.ob_coherent_remaining_laws.proofs.Remaining.{IsFirst, first_formed, first_slots, first_passes, rest_remains}
-use Rattle.ob_coherent_spec.specs.Counting.{nth_object, owners}
+use Rattle.ob_coherent_spec.specs.Counting.{nth_object, owners, any, in_slots}
 use Rattle.ob_coherent_spec.specs.Runs.{times, constructions, tested_places}
 use Rattle.ob_coherent_spec.specs.Standing.{IsOfKind, Stands, NeedsOwner}
-use Rattle.ob_coherent_spec.specs.Remaining.{IsCheckedProgram, BodyParts, body_of, static_of, IsWellFormedForm, Remains}
-use Rattle.ob_coherent_spec.specs.Waiting.{has_lent, Serves, AreLoans, gives_back_as, AwaitsResult, is_settled, is_result, Lends, tests_of, waiting_here, Waits}
+use Rattle.ob_coherent_spec.specs.Remaining.{IsCheckedProgram, BodyParts, body_of, static_of, IsWellFormedForm, Remains, IsPlaceIn}
+use Rattle.ob_coherent_spec.specs.Waiting.{has_lent, Serves, AreLoans, gives_back_as, AwaitsResult, is_settled, is_result, Lends, tests_of, waiting_here, Waits, is_lent}
 use Rattle.ob_coherent_spec.specs.Coherent.{Beginning, IsRunning, running, StepsSo}
 use Rattle.ob_coherent_tests_laws.proofs.Operands.{place_inside}
 use Rattle.ob_coherent_tests_laws.proofs.Unchanged.{remains_so}
@@ -65,7 +65,7 @@ use Rattle.ob_coherent_places_laws.proofs.Alike.{reads_alike}
 use Rattle.ob_coherent_places_laws.proofs.Finding.{found_at, found_read, found_stands, sits_read}
 use Rattle.ob_coherent_places_laws.proofs.Objects.{is_there, read_objects, read_marks}
 use Rattle.ob_coherent_places_laws.proofs.Standing.{refers_is}
-use Rattle.ob_coherent_calls_laws.specs.Binds.{in_both, in_rest, Binds, lent_all, ArePassedTo, AllBound, places_of}
+use Rattle.ob_coherent_calls_laws.specs.Binds.{in_both, in_rest, Binds, lent_all, ArePassedTo, AllBound, AreOnce}
 use Rattle.ob_coherent_calls_laws.specs.Lending.{AreBack, GiveBack, HasBound}
 use Rattle.ob_coherent_calls_laws.proofs.After.{kinds_given, sets_given, result_other, settled_parts, backs_beside}
 use Rattle.ob_coherent_calls_laws.proofs.Beginning.{Begins, begins_to_run}
@@ -73,11 +73,13 @@ use Rattle.ob_coherent_calls_laws.proofs.BindingAll.{are_once, bind_all_steps}
 use Rattle.ob_coherent_calls_laws.proofs.Called.{left_waiting, called_on, called_owners, called_fewer}
 use Rattle.ob_coherent_calls_laws.proofs.Caller.{caller_waits, caller_parts}
 use Rattle.ob_coherent_calls_laws.proofs.Lending.{backs_settled, backs_are, all_loans, answer_serves}
-use Rattle.ob_coherent_calls_laws.proofs.Passing.{places_of_reads, operand_kind, args_passed, wanted_lent, same_give_back}
-use Rattle.ob_coherent_calls_laws.proofs.Receiving.{begins, within, bound_owners, bound_references, progress_grows, each_apart, caller_apart, apart_stays, receiver_runs}
-use Rattle.ob_coherent_calls_laws.proofs.Running.{running_sits, running_one, running_placed, running_finished, running_binds}
+use Rattle.ob_coherent_calls_laws.proofs.Passing.{first_of, second_of, places_of_reads, operand_kind, args_passed, wanted_lent, same_give_back}
+use Rattle.ob_coherent_calls_laws.proofs.Receiving.{callee as entered_frame, called as entered_body, begins, within, bound_owners, bound_references, progress_grows, each_apart, caller_apart, apart_stays, receiver_runs}
+use Rattle.ob_coherent_calls_laws.proofs.Running.{zero_or_more, running_sits, running_one, running_placed, running_finished, running_binds}
 use Rattle.ob_coherent_calls_laws.proofs.Stepping.{call_enters, call_aborts}
 use Rattle.ob_coherent_calls_laws.proofs.Untested.{awaits_result, result_plain}
+use Rattle.ob_coherent_counting_laws.proofs.Sums.{at_same, at_other}
+use Rattle.ob_silica_formed.specs.Points.{ArePassed}
 
 some_is : {A : Type 0} (o : Option A) → IsSome o → (x : A) × (o ≡ Some x)
 some_is (Some x) h = (x, refl)
@@ -85,16 +87,6 @@ some_is None h = absurd (true≢false (sym h))
 
 runs_outer : (terms others : SilicaTerms) (outer more : List Rest) → runs terms outer ≡ runs others more → outer ≡ more
 runs_outer terms others outer more e = cc
-
-first_of : (m n k : ℕ) → max m n ≤ k → m ≤ k
-first_of m n k h = omega (arith, h)
-
-second_of : (m n k : ℕ) → max m n ≤ k → n ≤ k
-second_of m n k h = omega (arith, h)
-
-zero_or_more : (n : ℕ) → (n ≡ 0) ⊎ (0 < n)
-zero_or_more zero = inl refl
-zero_or_more (suc n) = inr (omega arith)
 
 module _ (program : SilicaProgram) (is : IsCheckedProgram program) (entry : Option ℕ) (beginning : Beginning)
     (c : Configuration)
@@ -181,7 +173,7 @@ module _ (program : SilicaProgram) (is : IsCheckedProgram program) (entry : Opti
     refers : (n : ℕ) × (u.cell.value ≡ reference n)
     refers = refers_is program.table c.world.objects contract u.cell.value of_kind
 
-    inside : Rattle.ob_coherent_spec.specs.Remaining.IsPlaceIn bf (located receiver)
+    inside : IsPlaceIn bf (located receiver)
     inside = place_inside bf receiver.place
         (first_of (slots_of_operand receiver)
         (slots_of_operands args) k.whole.parts.slots few_operands) formed.numbers.1
@@ -197,7 +189,7 @@ module _ (program : SilicaProgram) (is : IsCheckedProgram program) (entry : Opti
           (second_of (slots_of_operand receiver)
           (slots_of_operands args) k.whole.parts.slots few_operands) formed.numbers.2
           (if_there_so (signature_of program.table contract tx)
-          (λ s. Rattle.ob_silica_formed.specs.Points.ArePassed
+          (λ s. ArePassed
           (static_of bf) k.holdings s.params args) s es formed.kinds.1),
     )
 
@@ -294,8 +286,8 @@ module _ (program : SilicaProgram) (is : IsCheckedProgram program) (entry : Opti
             outer result
             b.loans same_outer
 
-        abbrev callee : Rattle.ob_silica_steps.specs.Configurations.SilicaFrame
-        callee = Rattle.ob_coherent_calls_laws.proofs.Receiving.callee program is entry beginning c k contract tx s
+        abbrev callee : SilicaFrame
+        callee = entered_frame program is entry beginning c k contract tx s
             own b given
             (0 + length (all_parameters contract s)) binds past n
             of_object.0 first_slot a.bound wr objects locked progress idle not_new ec class serves ans public rest
@@ -303,7 +295,7 @@ module _ (program : SilicaProgram) (is : IsCheckedProgram program) (entry : Opti
             b.loans same_outer
 
         abbrev called : BodyParts
-        called = Rattle.ob_coherent_calls_laws.proofs.Receiving.called program is entry beginning c k contract tx s
+        called = entered_body program is entry beginning c k contract tx s
             own b given
             (0 + length (all_parameters contract s)) binds past n
             of_object.0 first_slot a.bound wr objects locked progress idle not_new ec class serves ans public rest
@@ -313,17 +305,17 @@ module _ (program : SilicaProgram) (is : IsCheckedProgram program) (entry : Opti
         abbrev d : Configuration
         d = called_on c b callee body.terms rest outer result b.loans (enter n wr)
 
-        owners_grow : (m : ℕ) → Rattle.ob_coherent_spec.specs.Counting.in_slots owns m callee.slots
-            ≡ Rattle.ob_coherent_spec.specs.Counting.in_slots owns m b.slots
+        owners_grow : (m : ℕ) → in_slots owns m callee.slots
+            ≡ in_slots owns m b.slots
         owners_grow = bound_owners program is entry beginning c k contract tx s own b given
             (0 + length (all_parameters contract s)) binds past n
             of_object.0 first_slot a.bound wr objects locked progress idle not_new ec class serves ans public rest
             outer result
             b.loans same_outer
 
-        references_grow : (m : ℕ) → Rattle.ob_coherent_spec.specs.Counting.in_slots
-            Rattle.ob_coherent_spec.specs.Counting.any m callee.slots
-            ≡ Rattle.ob_coherent_spec.specs.Counting.in_slots Rattle.ob_coherent_spec.specs.Counting.any m b.slots
+        references_grow : (m : ℕ) → in_slots
+            any m callee.slots
+            ≡ in_slots any m b.slots
         references_grow = bound_references program is entry beginning c k contract tx s own b given
             (0 + length (all_parameters contract s)) binds past n
             of_object.0 first_slot a.bound wr objects locked progress idle not_new ec class serves ans public rest
@@ -391,7 +383,7 @@ module _ (program : SilicaProgram) (is : IsCheckedProgram program) (entry : Opti
                 let same : bound_cell (TypedReference contract s.entry) (reference n) ≡ x = same_Some _ x
                 (sym first_slot ∙ e) in (
                   this_cell (nth_object wr.objects n).contract ans.signature.entry n,
-                  Rattle.ob_coherent_counting_laws.proofs.Sums.at_same b.slots 0
+                  at_same b.slots 0
                       (Some (this_cell (nth_object wr.objects n).contract ans.signature.entry n)),
                   ap (λ (z : Cell). z.value) same,
                   same_mode_owns (permission_of ans.signature.entry) (permission_of s.entry)
@@ -401,7 +393,7 @@ module _ (program : SilicaProgram) (is : IsCheckedProgram program) (entry : Opti
                 )
             at_slot (suc j) x e = (
               x,
-              Rattle.ob_coherent_counting_laws.proofs.Sums.at_other b.slots 0
+              at_other b.slots 0
                   (Some (this_cell (nth_object wr.objects n).contract ans.signature.entry n)) (suc j)
                   (λ z. omega (arith, z)) ∙ e,
               refl,
@@ -437,7 +429,7 @@ module _ (program : SilicaProgram) (is : IsCheckedProgram program) (entry : Opti
               (subst (λ (qs : List Parameter). slice_get qs j ≡ Some p) (sym same_parameters) e)),
         )
 
-        once : Rattle.ob_coherent_calls_laws.specs.Binds.AreOnce (all_reads receiver args) (all_parameters contract s)
+        once : AreOnce (all_reads receiver args) (all_parameters contract s)
         once = are_once (all_reads receiver args) (all_parameters contract s) can.once
 
         back : AreBack program.table k.context after (all_reads receiver args) (all_parameters contract s)
@@ -469,10 +461,10 @@ module _ (program : SilicaProgram) (is : IsCheckedProgram program) (entry : Opti
             result_other (passed bf k.context (all_reads receiver args)
             (all_parameters contract s)) result s.result q parts.1
             ∙ backs_settled bf k.context given (all_reads receiver args) (all_parameters contract s) 0 q
-            (subst (λ ls. Rattle.ob_coherent_spec.specs.Waiting.is_lent ls q ≡ false) a.loans parts.0)
+            (subst (λ ls. is_lent ls q ≡ false) a.loans parts.0)
 
         held_on : (z : Option ℕ) → result ≡ z → (j : ℕ) → is_result z (slot j) ≡ false
-            → Rattle.ob_silica_formed.specs.Holdings.with_slot_if z
+            → with_slot_if z
             (held_as (kind_of_result (static_of bf) contract tx)) k.holdings j
             ≡ k.holdings j
         held_on None i j e = refl
@@ -487,10 +479,10 @@ module _ (program : SilicaProgram) (is : IsCheckedProgram program) (entry : Opti
         result_held : (j : ℕ) (of : ResolvedType) → result ≡ Some j → ans.signature.result ≡ Some of
             → after_form (static_of bf) form k.holdings j ≡ held_as (Some (kind_of_resolved of))
         result_held j of i e =
-            ap (λ z. Rattle.ob_silica_formed.specs.Holdings.with_slot_if z
+            ap (λ z. with_slot_if z
             (held_as (kind_of_result (static_of bf) contract tx)) k.holdings j) i
             ∙ ap (λ x. if x then held_as (kind_of_result (static_of bf) contract tx) else k.holdings j)
-            (Rattle.std.proofs.Common.eq-eqb j j refl)
+            (eq-eqb j j refl)
             ∙ ap held_as (result_kind of e)
 
         awaits : AwaitsResult bf after (left_waiting c b rest outer result b.loans) result (gives_back_as callee called)

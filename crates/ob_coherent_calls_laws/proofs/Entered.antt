@@ -5,7 +5,7 @@ use Rattle.std.proofs.lemmas.Bool.{ne_eqb}
 use Rattle.std.proofs.lemmas.Bool.Decides.{eqb_tells}
 use Rattle.std.proofs.lemmas.Option.{same_Some}
 use Rattle.ob_base.specs.Limits.{most_slots}
-use Rattle.ob_perm.specs.Permissions.{Permission, owned, shared, unowned, owns}
+use Rattle.ob_perm.specs.Permissions.{Permission, owns}
 use Rattle.ob_table.specs.Tables.{ClassTable, contract_at, signature_at}
 use Rattle.ob_table.specs.declared.contract.Contract.{Contract}
 use Rattle.ob_table.specs.declared.contract.Param.{Param}
@@ -25,7 +25,8 @@ use Rattle.ob_silica_steps.specs.Here.{Here, self_of}
 use Rattle.ob_silica_formed.specs.Holdings.{held, params_held, held_at_start}
 use Rattle.ob_flow_spec.specs.Contexts.{BodyFrame, constructs, available, known_as, params_known, this_known, field_known, beginning}
 use Rattle.ob_flow_spec.specs.Joining.{same_mode}
-use Rattle.ob_places_laws.specs.Serving.{Allows}
+use Rattle.ob_places_laws.proofs.Permissions.{same_mode_itself}
+use Rattle.ob_places_laws.proofs.Serves.{allows_itself}
 use Rattle.ob_coherent_spec.specs.Counting.{nth_object}
 use Rattle.ob_coherent_spec.specs.Standing.{AllStand, Stands}
 use Rattle.ob_coherent_spec.specs.Saying.{SaysOf, Says, own_object, own_cell, every}
@@ -34,18 +35,6 @@ use Rattle.ob_coherent_spec.specs.Waiting.{IsFrame}
 use Rattle.ob_coherent_counting_laws.proofs.Cells.{counted_cell}
 use Rattle.ob_coherent_calls_laws.specs.Bound.{IsBoundTo, AreBound}
 use Rattle.ob_coherent_calls_laws.specs.Entered.{BeginsOn}
-
--- Permissions.
-
-allows_itself : (p : Permission) → Allows p p
-allows_itself (owned a) = (a, refl, λ i low e. e)
-allows_itself shared = refl
-allows_itself unowned = tt
-
-mode_itself : (p : Permission) → same_mode p p ≡ true
-mode_itself (owned a) = refl
-mode_itself shared = refl
-mode_itself unowned = refl
 
 not_first : (k : ℕ) → nat_eq (suc k) 0 ≡ false
 not_first k = ne_eqb (suc k) 0 (λ e. omega arith)
@@ -191,7 +180,7 @@ module _ (table : ClassTable) (objects : List Object) (f : SilicaFrame) (s : Sig
     mode = λ free. subst (λ (t : SlotCells). same_mode (this_known b).permission (permission_in (t 0)) ≡ true)
         (sym slots)
         (subst (λ y. same_mode (this_known b).permission (permission_in y) ≡ true) (sym begins.this)
-        (subst (λ p. same_mode p q ≡ true) (sym permission) (mode_itself q)));
+        (subst (λ p. same_mode p q ≡ true) (sym permission) (same_mode_itself q)));
   }
     where
       this_is : this_known b ≡ known (Reference f.contract) q

@@ -11,7 +11,7 @@ use Rattle.ob_table.specs.declared.contract.Contract.{Contract}
 use Rattle.ob_table.specs.declared.seen.Kind.{Kind}
 use Rattle.ob_table.specs.declared.seen.Kind.TheVariants.{Int, Bool as BoolKind, Text, Reference}
 use Rattle.ob_table_spec.specs.Conditions.{IsClassTable}
-use Rattle.ob_table_spec.specs.WellFormed.{kind_of_resolved, serves_as, is_reference}
+use Rattle.ob_table_spec.specs.WellFormed.{kind_of_resolved, serves_as, is_implemented}
 use Rattle.ob_heap_spec.specs.Objects.{Object, seen_state}
 use Rattle.ob_heap_spec.specs.Contents.{IsStateOf}
 use Rattle.ob_silica_places.specs.Known.{Known}
@@ -39,6 +39,7 @@ use Rattle.ob_coherent_places_laws.proofs.Reading.{place_is, same_place}
 use Rattle.ob_coherent_calls_laws.specs.Binds.{IsLent, AreLent, lent_all, AreOnce}
 use Rattle.ob_coherent_calls_laws.specs.Lending.{IsBack, AreBack, GivesBack, GiveBack, HasBound}
 use Rattle.ob_coherent_calls_laws.proofs.BindingAll.{kind_now, set_now}
+use Rattle.std.proofs.lemmas.Option.{same_Some}
 
 -- Places that get nothing back.
 
@@ -303,9 +304,9 @@ module _ (table : ClassTable) (is : IsClassTable table) where
   }
     where
       only : (c : ContractId) (x : Contract) → contract_at table c ≡ Some x
-          → (e ≡ c) ⊎ (Rattle.ob_table_spec.specs.WellFormed.is_implemented table c e ≡ true) → e ≡ c
+          → (e ≡ c) ⊎ (is_implemented table c e ≡ true) → e ≡ c
       only c x ec (inl same) = same
       only c x ec (inr i) =
           let r = interface_is table is c e x ec i in
           absurd (both_ways own.interface plain (ap (λ (y : Contract). y.interface)
-          (Rattle.std.proofs.lemmas.Option.same_Some own r.0 (sym ee ∙ r.1)) ∙ r.2))
+          (same_Some own r.0 (sym ee ∙ r.1)) ∙ r.2))

@@ -37,10 +37,10 @@ pub places_of_reads : (args : List Operand) → all_located args ≡ places_of (
 places_of_reads [] = refl
 places_of_reads (o ∷ os) = ap (λ ls. located o ∷ ls) (places_of_reads os)
 
-first_of : (m n k : ℕ) → max m n ≤ k → m ≤ k
+pub first_of : (m n k : ℕ) → max m n ≤ k → m ≤ k
 first_of m n k h = omega (arith, h)
 
-second_of : (m n k : ℕ) → max m n ≤ k → n ≤ k
+pub second_of : (m n k : ℕ) → max m n ≤ k → n ≤ k
 second_of m n k h = omega (arith, h)
 
 module _ (table : ClassTable) (made : IsClassTable table) (entry : Option ℕ) (beginning : Beginning) (c : Configuration)

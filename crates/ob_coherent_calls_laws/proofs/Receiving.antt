@@ -1,8 +1,8 @@
 -- The body of the object that is called begins.
-use Rattle.std.proofs.Common.{◌≡◌, ◌≢◌, ℕ, zero, suc, ◌+◌, ◌<◌, ◌≤◌, true, false, List, [], ◌∷◌, length, Option, Some, refl, sym, ap, subst, ◌∙◌, arith, ⊎_elim, ◌⊎◌, inl, inr, true≢false, eqb-true}
+use Rattle.std.proofs.Common.{◌≡◌, ◌≢◌, ℕ, suc, ◌+◌, ◌<◌, ◌≤◌, true, false, List, [], ◌∷◌, length, Option, Some, refl, sym, ap, subst, ◌∙◌, arith, ⊎_elim, ◌⊎◌, inl, inr, true≢false, eqb-true}
 use Rattle.std.specs.Prelude.{nat_eq, slice_get}
 use Rattle.std.specs.Option.{option_map_or}
-use Rattle.std.proofs.lemmas.Bool.{cases_Bool, both_ways}
+use Rattle.std.proofs.lemmas.Bool.{cases_Bool}
 use Rattle.std.proofs.lemmas.List.{length-map}
 use Rattle.ob_base.specs.declared.id.ContractId.{ContractId}
 use Rattle.ob_base.specs.declared.id.TxId.{TxId}
@@ -23,7 +23,7 @@ use Rattle.ob_heap_spec.specs.Contents.{IsStateOf}
 use Rattle.ob_heap_spec.specs.Worlds.{World}
 use Rattle.ob_heap_spec.specs.Marks.{is_in_progress, enter}
 use Rattle.ob_silica.specs.Terms.{SilicaTerms}
-use Rattle.ob_silica_places.specs.Known.{known, at}
+use Rattle.ob_silica_places.specs.Known.{known, at, Known, permission_of_type}
 use Rattle.ob_silica_places.specs.Parameters.{Parameter, parameters, all_parameters, parameter_of}
 use Rattle.ob_silica_steps.specs.Cells.{permission_in}
 use Rattle.ob_silica_steps.specs.Configurations.{SilicaProgram, SlotCells, SilicaFrame, by_receiver, Loan, Rest, Configuration}
@@ -41,7 +41,7 @@ use Rattle.ob_places_laws.proofs.Dispatch.{answer_entry_mode, answer_parameters}
 use Rattle.ob_places_laws.proofs.Permissions.{same_mode_owns, same_mode_shares}
 use Rattle.ob_places_laws.proofs.SeenStates.{converted_allows_state}
 use Rattle.ob_places_laws.proofs.Tables.{there_is}
-use Rattle.ob_coherent_spec.specs.Counting.{any, nth_object, in_slots, owners}
+use Rattle.ob_coherent_spec.specs.Counting.{any, nth_object, in_slots, owners, one_if, field_cell}
 use Rattle.ob_coherent_spec.specs.Runs.{times, entered_at, entries, constructions}
 use Rattle.ob_coherent_spec.specs.Standing.{RefersToIn, Stands, HasItsState, NeedsOwner}
 use Rattle.ob_coherent_spec.specs.Saying.{SaysOf, own_object, own_cell}
@@ -61,8 +61,11 @@ use Rattle.ob_coherent_calls_laws.specs.Entered.{BeginsOn}
 use Rattle.ob_coherent_calls_laws.proofs.Within.{are_all_within}
 use Rattle.ob_coherent_calls_laws.proofs.Entered.{begins_self, begins_stand, begins_held, begins_frame, begins_says}
 use Rattle.ob_coherent_calls_laws.proofs.Beginning.{Begins, begins_to_run}
-use Rattle.ob_coherent_calls_laws.proofs.Running.{running_references}
+use Rattle.ob_coherent_calls_laws.proofs.Running.{zero_or_more, running_references}
 use Rattle.ob_coherent_calls_laws.proofs.Called.{left_waiting, called_on, called_references, called_tests, called_entries, called_constructions, called_near, called_whole}
+use Rattle.std.proofs.lemmas.Bool.Decides.{eqb_tells}
+use Rattle.ob_coherent_places_laws.proofs.Standing.{has_state_same}
+use Rattle.ob_coherent_counting_laws.proofs.Cells.{one_if_most}
 
 -- bound slots, where those from a number on are the same
 pub bound_slots : (table : ClassTable) (objects : List Object) (slots more : SlotCells) (k : ℕ) (ps : List Parameter)
@@ -81,10 +84,6 @@ allows_from unowned s h = tt
 allows_to : (p : Permission) (s : ℕ) (a : States) → p ≡ owned a → AllowsState p s → a s ≡ true
 allows_to p s a e h = subst (λ q. AllowsState q s) e h
 
-zero_or_more : (n : ℕ) → (n ≡ 0) ⊎ (0 < n)
-zero_or_more zero = inl refl
-zero_or_more (suc n) = inr (omega arith)
-
 shared_so : (p : Permission) → is_shared p ≡ true → p ≡ shared
 shared_so (owned a) e = absurd (true≢false (sym e))
 shared_so shared e = refl
@@ -92,11 +91,11 @@ shared_so unowned e = absurd (true≢false (sym e))
 
 -- a field that isn't listed is entered as it's declared
 unlisted_entry : (b : BodyFrame) (s : Signature) (j : ℕ) (f : Field) → s.listed ≡ [] → slice_get b.own.fields j ≡ Some f
-    → entry_of_field b s j ≡ Rattle.ob_silica_places.specs.Known.permission_of_type f.of
+    → entry_of_field b s j ≡ permission_of_type f.of
 unlisted_entry b s j f none e =
     ap (λ ls. option_map_or (λ (l : Listed). permission_of l.entry) (listed_at ls j)
-    (Rattle.ob_silica_places.specs.Known.permission_of_type (type_of_field b j))) none
-    ∙ ap (λ o. Rattle.ob_silica_places.specs.Known.permission_of_type (option_map_or (λ (x : Field). x.of) o IntType)) e
+    (permission_of_type (type_of_field b j))) none
+    ∙ ap (λ o. permission_of_type (option_map_or (λ (x : Field). x.of) o IntType)) e
 
 module _ (program : SilicaProgram) (is : IsCheckedProgram program) (entry : Option ℕ) (beginning_of : Beginning)
     (c : Configuration)
@@ -163,7 +162,7 @@ module _ (program : SilicaProgram) (is : IsCheckedProgram program) (entry : Opti
   state_same = ap (λ os. (nth_object os n).state) objects ∙ binds.stays.states n
 
   placed_then : HasItsState program.table (nth_object wr.objects n)
-  placed_then = Rattle.ob_coherent_places_laws.proofs.Standing.has_state_same program.table
+  placed_then = has_state_same program.table
       (nth_object c.world.objects n)
       (nth_object wr.objects n) contract_same state_same placed_now
 
@@ -288,23 +287,23 @@ module _ (program : SilicaProgram) (is : IsCheckedProgram program) (entry : Opti
       let e = entries_now m in
       let same = k.whole.progress m in
       let p = ap (times m) (progress ∙ binds.stays.progress) in
-      let i : entered_at m by_receiver callee.slots ≡ Rattle.ob_coherent_spec.specs.Counting.one_if (nat_eq n m) =
-      ap (λ x. Rattle.ob_coherent_spec.specs.Counting.one_if (nat_eq x m)) self_is in
+      let i : entered_at m by_receiver callee.slots ≡ one_if (nat_eq n m) =
+      ap (λ x. one_if (nat_eq x m)) self_is in
       omega (arith, e, same, p, i)
 
   pub entered_once : (m : ℕ) → entries m d ≤ 1
   entered_once m = ⊎_elim
       (λ same. let e = entries_now m in
       let none = subst (λ j. entries j c ≡ 0) same.1 no_entries in
-      let one = Rattle.ob_coherent_counting_laws.proofs.Cells.one_if_most (nat_eq (self_of callee.slots) m) in
+      let one = one_if_most (nat_eq (self_of callee.slots) m) in
       omega (arith, e, none, one))
       (λ other. let e = entries_now m in
       let most = k.whole.entered_once m in
       let i : entered_at m by_receiver callee.slots ≡ 0 =
-      ap (λ x. Rattle.ob_coherent_spec.specs.Counting.one_if (nat_eq x m)) self_is
-      ∙ ap Rattle.ob_coherent_spec.specs.Counting.one_if other.0 in
+      ap (λ x. one_if (nat_eq x m)) self_is
+      ∙ ap one_if other.0 in
       omega (arith, e, most, i))
-      (Rattle.std.proofs.lemmas.Bool.Decides.eqb_tells n m)
+      (eqb_tells n m)
 
   -- The configuration runs.
 
@@ -348,7 +347,7 @@ module _ (program : SilicaProgram) (is : IsCheckedProgram program) (entry : Opti
         ∙ ap (λ p. Some (known (kind_of_resolved f.0.of) p)) (unlisted_entry bf s j f.0 no_list f.1) in
         subst (λ y. SaysOf (NeedsOwner program.table w.objects) y (own_cell (here d) j)) (sym known_is)
         (subst (λ i. SaysOf (NeedsOwner program.table w.objects) (Some (declared_note f.0.of))
-        (Rattle.ob_coherent_spec.specs.Counting.field_cell b.from.notes w.objects i j)) (sym self_is) says)
+        (field_cell b.from.notes w.objects i j)) (sym self_is) says)
 
     shares_now : SharesThis callee d 0
     shares_now e =
@@ -390,7 +389,7 @@ module _ (program : SilicaProgram) (is : IsCheckedProgram program) (entry : Opti
       });
       says = begins_says program.table wr.objects callee s (permission_of s.entry) n begun
           (NeedsOwner program.table w.objects) (here d) bf refl refl refl
-          (ap (λ (y : Rattle.ob_silica_places.specs.Known.Known). y.permission)
+          (ap (λ (y : Known). y.permission)
           (this_of_transaction bf plain_number)) fields_say;
       holdings = held_at_start (nth_object wr.objects n).contract ans.signature.params;
       held = begins_held program.table wr.objects callee s (permission_of s.entry) n begun;

@@ -27,6 +27,7 @@ use Rattle.ob_coherent_counting_laws.proofs.Entering.{some_slots, nothing_counts
 use Rattle.ob_coherent_places_laws.specs.Placed.{cell_at, Sits}
 use Rattle.ob_coherent_places_laws.proofs.Writing.{stays_itself}
 use Rattle.ob_coherent_calls_laws.specs.Binds.{in_frame, in_rest, Binds}
+use Rattle.std.proofs.lemmas.Option.{same_Some}
 
 -- A frame that is entered or under construction.
 
@@ -50,7 +51,7 @@ on_this_or_not by_new = inr refl
 same_apart : (how : How) (n m : ℕ) (above : List ℕ) → how ≡ by_this → IsApart how n above m → n ≡ m
 same_apart how n m above e a = subst (λ x. IsApart x n above m) e a
 
-zero_or_more : (n : ℕ) → (n ≡ 0) ⊎ (0 < n)
+pub zero_or_more : (n : ℕ) → (n ≡ 0) ⊎ (0 < n)
 zero_or_more zero = inl refl
 zero_or_more (suc n) = inr (omega arith)
 
@@ -208,7 +209,7 @@ module _ (table : ClassTable) (made : IsClassTable table) (entry : Option ℕ) (
     alike = λ q z e. (z, e, refl, refl);
     unset = λ q none. none;
     shares = λ q x y ex ey e. inl (subst (λ (z : Cell). z.note.permission ≡ shared)
-        (sym (Rattle.std.proofs.lemmas.Option.same_Some x y (sym ex ∙ ey))) e);
+        (sym (same_Some x y (sym ex ∙ ey))) e);
     fewer = λ m. let none = nothing_counts owns m in omega (arith, none);
     assets = λ m must. omega arith;
     newly = λ m no yes. absurd (both_ways _ no yes);

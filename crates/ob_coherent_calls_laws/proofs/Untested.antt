@@ -27,7 +27,7 @@ use Rattle.ob_coherent_spec.specs.Coherent.{Beginning, IsRunning}
 use Rattle.ob_coherent_places_laws.proofs.Keeping.{put_that}
 use Rattle.ob_coherent_places_laws.proofs.Reading.{same_places}
 use Rattle.ob_coherent_calls_laws.specs.Binds.{Binds}
-use Rattle.ob_coherent_calls_laws.proofs.Caller.{was_set}
+use Rattle.ob_coherent_calls_laws.proofs.BindingAll.{was_set}
 
 -- Values that are no references.
 
