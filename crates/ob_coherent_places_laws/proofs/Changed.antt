@@ -36,7 +36,8 @@ use Rattle.ob_coherent_frames_laws.specs.Steps.{LeavesOthers, KeepsArgument}
 use Rattle.ob_coherent_counting_laws.proofs.Cells.{cell_uncounted}
 use Rattle.ob_coherent_counting_laws.proofs.Changing.{cell_after, field_after}
 use Rattle.ob_coherent_places_laws.specs.Placed.{cell_at, Stays}
-use Rattle.ob_coherent_places_laws.proofs.Objects.{at_same, at_other, edit_count, edit_same, edit_other, edit_each, edit_rest}
+use Rattle.ob_coherent_counting_laws.proofs.Objects.{edit_length, edit_same, edit_other, edit_locked, edit_progress}
+use Rattle.ob_coherent_places_laws.proofs.Objects.{at_same, at_other, edit_each}
 use Rattle.ob_coherent_places_laws.proofs.Reading.{self_same, read_is, field_cell_is, field_cell_from, has_field_from}
 use Rattle.ob_coherent_places_laws.proofs.Keeping.{OpensKept}
 use Rattle.ob_coherent_places_laws.proofs.Standing.{ObjectsKeep, kind_keeps, stands_keeps}
@@ -86,10 +87,10 @@ module _ (own : Contract) (state : StateId) (got : Numbered Cell) (h : Here) whe
       (λ o. refl) (λ o. refl)
 
   pub changed_count : length (changed_here own state got h).world.objects ≡ length h.world.objects
-  changed_count = edit_count (changed_object own state got) (self_of h.slots) h.world
+  changed_count = edit_length (changed_object own state got) (self_of h.slots) h.world
 
   pub changed_locked : (changed_here own state got h).world.locked ≡ h.world.locked
-  changed_locked = edit_rest (λ v. v.locked) (changed_object own state got) (self_of h.slots) h.world (λ os. refl)
+  changed_locked = edit_locked (changed_object own state got) (self_of h.slots) h.world
 
   pub changed_keeps : ObjectsKeep h.world.objects (changed_here own state got h).world.objects
   changed_keeps = record {
@@ -114,7 +115,7 @@ module _ (own : Contract) (state : StateId) (got : Numbered Cell) (h : Here) whe
     shared = λ n e. changed_shared n ∙ s.shared n e;
     disowned = λ n e. changed_disowned n ∙ s.disowned n e;
     handles = s.handles;
-    progress = edit_rest (λ v. v.progress) (changed_object own state got) (self_of h.slots) h.world (λ os. refl)
+    progress = edit_progress (changed_object own state got) (self_of h.slots) h.world
         ∙ s.progress;
   }
 
