@@ -11,7 +11,8 @@ use Rattle.ob_coherent_frames_laws.proofs.Entered.{has_entry}
 
 -- Where a frame above isn't linked to them by calls on `this`, no frame that waits has its object.
 pub apart_from_above : (table : ClassTable) (N : ℕ → Type 0) (c : Configuration) (f : SilicaFrame) (parts : BodyParts)
-    (above : List ℕ) (tests : ℕ → ℕ) (hs : List Waiting) (i : ℕ) → IsAmong i above → (f.how ≡ by_this → self_of f.slots ≢ i)
+    (above : List ℕ) (tests : ℕ → ℕ) (hs : List Waiting) (i : ℕ) → IsAmong i above
+    → (f.how ≡ by_this → self_of f.slots ≢ i)
     → AllWait table N c f parts above tests hs → EachSelf (λ n. n ≢ i) hs
 apart_from_above table N c f parts above tests [] i inside ne w = tt
 apart_from_above table N c f parts above tests (h ∷ hs) i inside ne (w, ws) = (
@@ -22,7 +23,8 @@ apart_from_above table N c f parts above tests (h ∷ hs) i inside ne (w, ws) = 
     here : self_of h.frame.slots ≢ i
     here = ⊎_elim
         (λ e. let same : self_of h.frame.slots ≡ self_of f.slots =
-        subst (λ how. IsApart how (self_of h.frame.slots) above (self_of f.slots)) e w.apart in λ z. ne e (sym same ∙ z))
+        subst (λ how. IsApart how (self_of h.frame.slots) above (self_of f.slots)) e w.apart in
+        λ z. ne e (sym same ∙ z))
         (λ other. others f.how _ _ i above w.apart inside other)
         (on_this f.how)
 
@@ -31,8 +33,10 @@ self_apart : (table : ClassTable) (N : ℕ → Type 0) (c : Configuration) (f : 
     → entered_at n f.how f.slots + entered_among n hs + (constructing_at n f.how f.slots + constructing_among n hs) ≡ 0
     → AllWait table N c f parts above tests hs → self_of f.slots ≢ n
 self_apart table N c f parts above tests hs n none w = λ e.
-    let has : 0 < entered_at n f.how f.slots + entered_among n hs + (constructing_at n f.how f.slots + constructing_among n hs) =
-    subst (λ m. 0 < entered_at m f.how f.slots + entered_among m hs + (constructing_at m f.how f.slots + constructing_among m hs)) e
+    let has : 0 < entered_at n f.how f.slots + entered_among n hs +
+    (constructing_at n f.how f.slots + constructing_among n hs) =
+    subst (λ m. 0 < entered_at m f.how f.slots + entered_among m hs +
+    (constructing_at m f.how f.slots + constructing_among m hs)) e
     (has_entry table N c f parts above tests hs w) in
     omega arith
 

@@ -1,5 +1,5 @@
 -- What is so of cells and of objects, of a changed list of objects.
-use Rattle.std.proofs.Common.{◌≡◌, ◌≢◌, ℕ, zero, suc, ◌<◌, ⊎_elim, Bool, true, false, nat_eq, ◌&&◌, List, [], ◌∷◌, length, Option, Some, unwrap_or, slice_get, refl, sym, subst, arith}
+use Rattle.std.proofs.Common.{◌≡◌, ℕ, ◌<◌, ⊎_elim, Bool, true, false, nat_eq, ◌&&◌, List, length, Option, Some, refl, subst, arith}
 use Rattle.std.proofs.lemmas.Bool.Decides.{eqb_tells}
 use Rattle.ob_base.specs.declared.id.ContractId.{ContractId}
 use Rattle.ob_perm.specs.States.{States}
@@ -8,55 +8,34 @@ use Rattle.ob_table.specs.Tables.{ClassTable}
 use Rattle.ob_table.specs.declared.seen.Kind.{Kind}
 use Rattle.ob_table.specs.declared.seen.Kind.TheVariants.{Int, Bool as BoolKind, Text, Reference}
 use Rattle.ob_heap_spec.specs.Values.{Value, int_value, bool_value, text_value, reference}
-use Rattle.ob_heap_spec.specs.Objects.{Object, unfinished, seen_state}
-use Rattle.ob_heap_spec.specs.Contents.{object_at}
+use Rattle.ob_heap_spec.specs.Objects.{Object, seen_state}
 use Rattle.ob_silica_places.specs.Known.{Known}
 use Rattle.ob_silica_steps.specs.Cells.{Cell}
 use Rattle.ob_silica_steps.specs.Here.{field_value}
-use Rattle.ob_coherent_spec.specs.Counting.{nth_object, sum_below, one_if, refers_to, in_cell}
+use Rattle.ob_coherent_spec.specs.Counting.{one_if, refers_to, in_cell}
 use Rattle.ob_coherent_spec.specs.Standing.{Stands, IsOfKind, HasItsState}
 use Rattle.ob_coherent_spec.specs.Saying.{SaysOf}
 
--- Sums.
-
--- where a sum is 0 each of its terms is
-pub each_zero : (n : ℕ) (f : ℕ → ℕ) → sum_below n f ≡ 0 → (k : ℕ) → k < n → f k ≡ 0
-each_zero zero f e k below = absurd (omega arith)
-each_zero (suc n) f e k below = ⊎_elim
-    (λ t. subst (λ j. f j ≡ 0) (sym t.1) (omega arith))
-    (λ t. each_zero n f (omega arith) k (let ne : k ≢ n = t.1 in omega arith))
-    (eqb_tells k n)
-
 -- Objects.
-
-get_there : {A : Type 0} (xs : List A) (n : ℕ) (d : A) → n < length xs → slice_get xs n ≡ Some (unwrap_or (slice_get xs n) d)
-get_there [] n d below = absurd (omega arith)
-get_there (x ∷ xs) zero d below = refl
-get_there (x ∷ xs) (suc n) d below = get_there xs n d (omega arith)
-
-pub object_there : (objects : List Object) (n : ℕ) → n < length objects → object_at objects n ≡ Some (nth_object objects n)
-object_there objects n below = get_there objects n (unfinished (record { 0 = 0 })) below
 
 -- an object's field is read from its contract, its state and the field's value
 pub same_field_value : (table : ClassTable) (o p : Object) (k : ℕ) → p.contract ≡ o.contract → p.state ≡ o.state
     → p.fields k ≡ o.fields k → field_value table p k ≡ field_value table o k
 same_field_value table o p k contract state fields = rw (contract, state, fields) refl
 
+-- an object is seen in a state by its contract and its state
 pub same_seen : (table : ClassTable) (id : ContractId) (o p : Object) → p.contract ≡ o.contract → p.state ≡ o.state
     → seen_state table id p ≡ seen_state table id o
 same_seen table id o p contract state = rw (contract, state) refl
 
+-- an object with the same contract and state is in one of its states too
 pub same_has_state : (table : ClassTable) (o p : Object) → p.contract ≡ o.contract → p.state ≡ o.state
     → HasItsState table o → HasItsState table p
 same_has_state table o p contract state h = rw (contract, state) h
 
 -- Cells.
 
--- 1 is counted where a test holds
-one_if_zero : (b : Bool) → one_if b ≡ 0 → b ≡ false
-one_if_zero true e = absurd (omega arith)
-one_if_zero false e = refl
-
+-- a number is equal to itself
 pub same_number : (n : ℕ) → nat_eq n n ≡ true
 same_number n = ⊎_elim (λ t. t.0) (λ t. absurd (t.1 refl)) (eqb_tells n n)
 
@@ -65,12 +44,14 @@ pub owns_counted : (n : ℕ) (x : Cell) (a : States) → x.note.permission ≡ o
     → in_cell owns n (Some x) ≡ 1
 owns_counted n x a owning refers = rw (owning, refers, same_number n) refl
 
+-- an object to which a cell refers that is counted is there
 refers_there : (table : ClassTable) (objects : List Object) (kind : Kind) (v : Value) (n : ℕ) (b : Bool)
     → IsOfKind table objects kind v → 0 < one_if (b && refers_to n v) → n < length objects
 refers_there table objects kind v n false of has = absurd (omega arith)
 refers_there table objects (Reference id) (reference m) n true of has = ⊎_elim
     (λ t. subst (λ j. j < length objects) t.1 of.0)
-    (λ t. absurd (let z : 0 < one_if (nat_eq m n) = has in let y : one_if (nat_eq m n) ≡ 0 = rw t.0 refl in omega arith))
+    (λ t. absurd (let z : 0 < one_if (nat_eq m n) = has in let y : one_if (nat_eq m n) ≡ 0 = rw t.0 refl in
+    omega arith))
     (eqb_tells m n)
 refers_there table objects Int (reference m) n true of has = absurd of
 refers_there table objects BoolKind (reference m) n true of has = absurd of
@@ -87,7 +68,8 @@ owned_there table objects x n stands has = refers_there table objects x.note.kin
 -- an object to which a value of a kind refers is there
 pub reference_there : (table : ClassTable) (objects : List Object) (kind : Kind) (v : Value) (n : ℕ)
     → IsOfKind table objects kind v → v ≡ reference n → n < length objects
-reference_there table objects kind v n of e = refers_there table objects kind v n true of (rw (e, same_number n) (omega arith))
+reference_there table objects kind v n of e =
+    refers_there table objects kind v n true of (rw (e, same_number n) (omega arith))
 
 -- what holds of fewer objects that must have an owner is said of a place too
 pub says_less : (N M : ℕ → Type 0) (y : Option Known) (x : Option Cell) → ((n : ℕ) → 0 < in_cell owns n x → M n → N n)

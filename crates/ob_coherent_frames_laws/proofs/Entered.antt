@@ -28,7 +28,8 @@ frame_in_call by_this slots x made below = let more = below refl in omega arith
 frame_in_call by_new slots x made below = absurd (made refl)
 
 -- The object of a frame above frames that wait is entered or under construction.
-pub has_entry : (table : ClassTable) (N : ℕ → Type 0) (c : Configuration) (f : SilicaFrame) (parts : BodyParts) (above : List ℕ)
+pub has_entry : (table : ClassTable) (N : ℕ → Type 0) (c : Configuration) (f : SilicaFrame) (parts : BodyParts)
+    (above : List ℕ)
     (tests : ℕ → ℕ) (hs : List Waiting) → AllWait table N c f parts above tests hs
     → 0 < entered_at (self_of f.slots) f.how f.slots + entered_among (self_of f.slots) hs
     + (constructing_at (self_of f.slots) f.how f.slots + constructing_among (self_of f.slots) hs)
@@ -42,7 +43,8 @@ has_entry table N c f parts above tests (h ∷ hs) w = frame_entered f.how f.slo
     (has_entry table N c h.frame w.0.parts _ _ hs w.1))
 
 -- That of a frame that isn't a constructor's is entered.
-pub is_entered : (table : ClassTable) (N : ℕ → Type 0) (c : Configuration) (f : SilicaFrame) (parts : BodyParts) (above : List ℕ)
+pub is_entered : (table : ClassTable) (N : ℕ → Type 0) (c : Configuration) (f : SilicaFrame) (parts : BodyParts)
+    (above : List ℕ)
     (tests : ℕ → ℕ) (hs : List Waiting) → f.how ≢ by_new → AllWait table N c f parts above tests hs
     → 0 < entered_at (self_of f.slots) f.how f.slots + entered_among (self_of f.slots) hs
 is_entered table N c f parts above tests [] made w = frame_in_call f.how f.slots 0 made

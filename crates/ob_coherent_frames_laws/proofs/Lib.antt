@@ -2,6 +2,7 @@ pub mod Cells
 pub mod Near
 pub mod Entered
 pub mod Others
+pub mod Objects
 pub mod Whole
 pub mod After
 pub mod Quiet

@@ -30,12 +30,15 @@ use Rattle.ob_coherent_spec.specs.Remaining.{BodyParts, body_of}
 use Rattle.ob_coherent_spec.specs.OpenTests.{IsTestOf, IsOpen, AreOpen, EndsNoField, TestNoField}
 use Rattle.ob_coherent_spec.specs.Waiting.{IsFrame, tests_of, SharesThis, is_lent, is_result, is_on_this, is_settled, waiting_here, IsLoan, AreLoans, LendNoField, IsNotAmong, IsApart, gives_back_by, AwaitsResult, Waits, AllWait}
 use Rattle.ob_coherent_frames_laws.specs.Steps.{KeepsArgument}
-use Rattle.ob_coherent_frames_laws.proofs.Cells.{each_zero, object_there, same_field_value, same_seen, same_has_state, owns_counted, owned_there, reference_there, says_less}
+use Rattle.ob_coherent_counting_laws.proofs.Sums.{terms_zero}
+use Rattle.ob_coherent_counting_laws.proofs.Objects.{object_there}
+use Rattle.ob_coherent_frames_laws.proofs.Cells.{same_field_value, same_seen, same_has_state, owns_counted, owned_there, reference_there, says_less}
 
--- Two configurations that differ in one object that there was, in new ones, and in what the frames above have. Fewer objects
--- that there were must have an owner; marks stay, and transactions in progress of the objects of which this is so; where a
--- lock ends no place owns the object.
-pub record IsNear (table : ClassTable) (i : ℕ) (stays : ℕ → Type 0) (N M : ℕ → Type 0) (c d : Configuration) : Type 0 where
+-- Two configurations that differ in one object that there was, in new ones, and in what the frames above have. Fewer
+-- objects that there were must have an owner; marks stay, and transactions in progress of the objects of which this is
+-- so; where a lock ends no place owns the object.
+pub record IsNear (table : ClassTable) (i : ℕ) (stays : ℕ → Type 0) (N M : ℕ → Type 0)
+    (c d : Configuration) : Type 0 where
   pub count : length c.world.objects ≤ length d.world.objects
   pub contracts : (n : ℕ) → n < length c.world.objects
       → (nth_object d.world.objects n).contract ≡ (nth_object c.world.objects n).contract
@@ -61,7 +64,8 @@ IsAmong n (m ∷ ms) = (n ≡ m) ⊎ IsAmong n ms
 
 -- The state of the object that changes stays, or none of the frames that wait owns it.
 abbrev pub IsFree : ℕ → Configuration → Configuration → List Waiting → Type 0
-IsFree i c d hs = ((nth_object d.world.objects i).state ≡ (nth_object c.world.objects i).state) ⊎ (in_waiting owns i hs ≡ 0)
+IsFree i c d hs = ((nth_object d.world.objects i).state ≡ (nth_object c.world.objects i).state)
+    ⊎ (in_waiting owns i hs ≡ 0)
 
 -- this is so of the object of each frame that waits
 abbrev pub EachSelf : (ℕ → Type 0) → List Waiting → Type 0
@@ -84,7 +88,8 @@ differ n i (m ∷ ms) a (inl e) = λ z. a.0 (z ∙ e)
 differ n i (m ∷ ms) a (inr h) = differ n i ms a.1 h
 
 -- the object of a frame that waits isn't the one that changes, unless the callee is one of a call on `this`
-pub others : (how : How) (n m i : ℕ) (above : List ℕ) → IsApart how n above m → IsAmong i above → (how ≡ by_this → ⊥) → n ≢ i
+pub others : (how : How) (n m i : ℕ) (above : List ℕ) → IsApart how n above m → IsAmong i above
+    → (how ≡ by_this → ⊥) → n ≢ i
 others by_this n m i above a h ne = absurd (ne refl)
 others by_receiver n m i above a h ne = differ n i above a h
 others by_new n m i above a h ne = differ n i above a h
@@ -92,7 +97,8 @@ others by_new n m i above a h ne = differ n i above a h
 -- a field that is settled isn't one of a called `this`
 unsettled : (how : How) (h : Waiting) (f : ℕ) → is_settled how h (field f) ≡ true → how ≡ by_this → ⊥
 unsettled how h f e called = both_ways _
-    (not_from_true _ (or_right (is_lent h.loans (field f)) _ (or_right (is_result h.result (field f)) _ (rw called refl)))) e
+    (not_from_true _ (or_right (is_lent h.loans (field f)) _
+    (or_right (is_result h.result (field f)) _ (rw called refl)))) e
 
 pub on_this : (how : How) → (how ≡ by_this) ⊎ (how ≡ by_this → ⊥)
 on_this by_this = inl refl
@@ -112,12 +118,16 @@ same_gift by_new f slots parts = refl
 
 module _ (table : ClassTable) (i : ℕ) (stays : ℕ → Type 0) (N M : ℕ → Type 0) (c d : Configuration)
     (near : IsNear table i stays N M c d) where
-  kind_near : (kind : Kind) (v : Value) → IsOfKind table c.world.objects kind v → IsOfKind table d.world.objects kind v
+  pub kind_near : (kind : Kind) (v : Value) → IsOfKind table c.world.objects kind v
+      → IsOfKind table d.world.objects kind v
   kind_near Int (int_value z) e = e
   kind_near BoolKind (bool_value b) e = e
   kind_near Text (text_value s) e = e
-  kind_near (Reference id) (reference n) (below, serves) =
-      (let more = near.count in omega arith, ap (λ e. serves_as table (Reference id) (Reference e)) (near.contracts n below) ∙ serves)
+  kind_near (Reference id) (reference n) (below, serves) = (
+    let more = near.count in omega arith,
+    ap (λ e. serves_as table (Reference id) (Reference e))
+        (near.contracts n below) ∙ serves,
+  )
   kind_near kind v e = absurd e
 
   marked_near : (v : Value) → RefersToShared c.world.objects v → RefersToShared d.world.objects v
@@ -126,11 +136,12 @@ module _ (table : ClassTable) (i : ℕ) (stays : ℕ → Type 0) (N M : ℕ → 
   marked_near (bool_value z) e = absurd e
   marked_near (text_value z) e = absurd e
 
-  state_near : (n : ℕ) → n < length c.world.objects
+  pub state_near : (n : ℕ) → n < length c.world.objects
       → (n ≡ i → (nth_object d.world.objects i).state ≡ (nth_object c.world.objects i).state)
       → (nth_object d.world.objects n).state ≡ (nth_object c.world.objects n).state
   state_near n below same = ⊎_elim
-      (λ t. subst (λ m. (nth_object d.world.objects m).state ≡ (nth_object c.world.objects m).state) (sym t.1) (same t.1))
+      (λ t. subst (λ m. (nth_object d.world.objects m).state ≡ (nth_object c.world.objects m).state) (sym t.1)
+      (same t.1))
       (λ t. near.states n below t.1)
       (eqb_tells n i)
 
@@ -160,19 +171,21 @@ module _ (table : ClassTable) (i : ℕ) (stays : ℕ → Type 0) (N M : ℕ → 
         (s.states a e);
   }
 
-  all_stand_near : (slots : SlotCells) (bound : ℕ) → bound ≤ most_slots → ((k : ℕ) → bound ≤ k → slots k ≡ None)
+  pub all_stand_near : (slots : SlotCells) (bound : ℕ) → bound ≤ most_slots → ((k : ℕ) → bound ≤ k → slots k ≡ None)
       → ((nth_object d.world.objects i).state ≡ (nth_object c.world.objects i).state) ⊎ (in_slots owns i slots ≡ 0)
       → AllStand table c.world.objects slots → AllStand table d.world.objects slots
   all_stand_near slots bound few unset free a k x e = stands_near x
       (⊎_elim (λ same. inl same)
-      (λ none. inr (subst (λ y. in_cell owns i y ≡ 0) e (each_zero most_slots (λ j. in_cell owns i (slots j)) none k inside)))
+      (λ none. inr (subst (λ y. in_cell owns i y ≡ 0) e
+      (terms_zero most_slots (λ j. in_cell owns i (slots j)) none k inside)))
       free)
       (a k x e)
     where
       inside : k < most_slots
       inside = ⊎_elim (λ below. omega arith) (λ past. absurd (let z = unset k past in cc)) (cases_lt k bound)
 
-  needs_in : (x : Option Cell) → ((z : Cell) → x ≡ Some z → Stands table c.world.objects z) → (n : ℕ) → 0 < in_cell owns n x → M n → N n
+  needs_in : (x : Option Cell) → ((z : Cell) → x ≡ Some z → Stands table c.world.objects z) → (n : ℕ)
+      → 0 < in_cell owns n x → M n → N n
   needs_in None stands n has m = absurd (omega arith)
   needs_in (Some z) stands n has m = near.needs n (owned_there table c.world.objects z n (stands z refl) has) m
 
@@ -187,7 +200,8 @@ module _ (table : ClassTable) (i : ℕ) (stays : ℕ → Type 0) (N M : ℕ → 
   says_field_near y n k below ne s = subst (SaysOf M y) (sym (field_near n k below ne))
       (says_less N M y _ (needs_in (field_cell c.notes c.world.objects n k) (near.stand n k)) s)
 
-  says_near : (b : BodyFrame) (g : Context) (h : Waiting) (free : Location → Bool) → self_of h.frame.slots < length c.world.objects
+  pub says_near : (b : BodyFrame) (g : Context) (h : Waiting) (free : Location → Bool)
+      → self_of h.frame.slots < length c.world.objects
       → ((f : ℕ) → free (field f) ≡ true → self_of h.frame.slots ≢ i) → AllStand table c.world.objects h.frame.slots
       → Says b N g (waiting_here c.notes c.world h) free → Says b M g (waiting_here d.notes d.world h) free
   says_near b g h free below far stand y = record {
@@ -197,23 +211,27 @@ module _ (table : ClassTable) (i : ℕ) (stays : ℕ → Type 0) (N M : ℕ → 
     mode = y.mode;
   }
 
-  read_near : (h : Waiting) (p : Location) → self_of h.frame.slots < length c.world.objects
+  pub read_near : (h : Waiting) (p : Location) → self_of h.frame.slots < length c.world.objects
       → (is_field p ≡ true → self_of h.frame.slots ≢ i)
       → read table (waiting_here d.notes d.world h) p ≡ read table (waiting_here c.notes c.world h) p
   read_near h (slot k) below far = refl
   read_near h (field k) below far = let ne = far refl in let n = self_of h.frame.slots in
       let same = same_field_value table (nth_object c.world.objects n) (nth_object d.world.objects n) k
       (near.contracts n below) (near.states n below ne) (near.fields n k below ne) in
-      ap (λ x. option_map (λ v. record { value = v; note = d.notes.fields n k }) (option_and_then (λ o. field_value table o k) x))
+      ap (λ x. option_map (λ v. record { value = v; note = d.notes.fields n k })
+      (option_and_then (λ o. field_value table o k) x))
       (object_there d.world.objects n (let more = near.count in omega arith))
       ∙ ap (λ x. option_map (λ v. record { value = v; note = d.notes.fields n k }) x) same
-      ∙ ap (λ note. option_map (λ v. record { value = v; note = note }) (field_value table (nth_object c.world.objects n) k)) (near.notes n k below ne)
-      ∙ sym (ap (λ x. option_map (λ v. record { value = v; note = c.notes.fields n k }) (option_and_then (λ o. field_value table o k) x))
+      ∙ ap (λ note. option_map (λ v. record { value = v; note = note })
+      (field_value table (nth_object c.world.objects n) k)) (near.notes n k below ne)
+      ∙ sym (ap (λ x. option_map (λ v. record { value = v; note = c.notes.fields n k })
+      (option_and_then (λ o. field_value table o k) x))
       (object_there c.world.objects n below))
 
   -- Tests.
 
-  open_near : (b : BodyFrame) (h : Waiting) (p : Location) (n : ℕ) → b.table ≡ table → self_of h.frame.slots < length c.world.objects
+  open_near : (b : BodyFrame) (h : Waiting) (p : Location) (n : ℕ) → b.table ≡ table
+      → self_of h.frame.slots < length c.world.objects
       → (self_of h.frame.slots ≢ i) ⊎ (is_field p ≡ false)
       → IsTestOf b (waiting_here c.notes c.world h) p n → IsTestOf b (waiting_here d.notes d.world h) p n
   open_near b h p n same below far a = record {
@@ -225,14 +243,16 @@ module _ (table : ClassTable) (i : ℕ) (stays : ℕ → Type 0) (N M : ℕ → 
     object = a.object;
   }
 
-  ends_near : (b : BodyFrame) (h : Waiting) (e : Ends) → b.table ≡ table → self_of h.frame.slots < length c.world.objects
+  ends_near : (b : BodyFrame) (h : Waiting) (e : Ends) → b.table ≡ table
+      → self_of h.frame.slots < length c.world.objects
       → (self_of h.frame.slots ≢ i) ⊎ EndsNoField e
       → IsOpen b (waiting_here c.notes c.world h) e → IsOpen b (waiting_here d.notes d.world h) e
   ends_near b h plain_end same below far a = tt
   ends_near b h (test_end p) same below far a = (a.0, open_near b h p _ same below far a.1, near.shared _ a.2)
   ends_near b h (lock_end p n) same below far a = (a.0, open_near b h p n same below far a.1, near.shared n a.2)
 
-  opens_near : (b : BodyFrame) (h : Waiting) (outer : List Rest) → b.table ≡ table → self_of h.frame.slots < length c.world.objects
+  pub opens_near : (b : BodyFrame) (h : Waiting) (outer : List Rest) → b.table ≡ table
+      → self_of h.frame.slots < length c.world.objects
       → (self_of h.frame.slots ≢ i) ⊎ TestNoField outer
       → AreOpen b (waiting_here c.notes c.world h) outer → AreOpen b (waiting_here d.notes d.world h) outer
   opens_near b h [] same below far a = tt
@@ -302,7 +322,7 @@ module _ (table : ClassTable) (i : ℕ) (stays : ℕ → Type 0) (N M : ℕ → 
 
   -- Frames.
 
-  shares_near : (f : SilicaFrame) (above more : ℕ) → self_of f.slots < length c.world.objects
+  pub shares_near : (f : SilicaFrame) (above more : ℕ) → self_of f.slots < length c.world.objects
       → owners (self_of f.slots) d + above ≤ owners (self_of f.slots) c + more → stays (self_of f.slots)
       → SharesThis f c above → SharesThis f d more
   shares_near f above more below balanced still_on a e = let y = a e in (
@@ -313,7 +333,8 @@ module _ (table : ClassTable) (i : ℕ) (stays : ℕ → Type 0) (N M : ℕ → 
   )
 
   -- a frame of which nothing changes
-  pub frame_near : (f : SilicaFrame) (parts : BodyParts) → IsFrame table c.world.objects f parts → IsFrame table d.world.objects f parts
+  pub frame_near : (f : SilicaFrame) (parts : BodyParts) → IsFrame table c.world.objects f parts
+      → IsFrame table d.world.objects f parts
   frame_near f parts a = record {
     own = a.own;
     class = a.class;
@@ -338,55 +359,62 @@ module _ (table : ClassTable) (i : ℕ) (stays : ℕ → Type 0) (N M : ℕ → 
   far_loans how n m above ls apart inside none = ⊎_elim
       (λ e. inr (none e)) (λ ne. inl (λ l e. others how n m i above apart inside ne)) (on_this how)
 
-  apart_near : (how : How) (n m k : ℕ) (above wide : List ℕ) → k ≡ m → (IsNotAmong n above → IsNotAmong n wide)
+  pub apart_near : (how : How) (n m k : ℕ) (above wide : List ℕ) → k ≡ m → (IsNotAmong n above → IsNotAmong n wide)
       → IsApart how n above m → IsApart how n wide k
   apart_near by_this n m k above wide same apart a = a ∙ sym same
   apart_near by_receiver n m k above wide same apart a = apart a
   apart_near by_new n m k above wide same apart a = apart a
 
-  waits_near : (callee : SilicaFrame) (called : BodyParts) (slots : SlotCells) (above wide : List ℕ) (tests more : ℕ → ℕ)
+  pub waits_near : (callee : SilicaFrame) (called : BodyParts) (slots : SlotCells) (above wide : List ℕ)
+      (tests more : ℕ → ℕ)
       (h : Waiting)
       → self_of slots ≡ self_of callee.slots → KeepsArguments called d callee.slots slots
       → AllStand table c.world.objects callee.slots → IsAmong i above
       → ((n : ℕ) → n < length c.world.objects → owners n d + tests n ≤ owners n c + more n)
-      → ((nth_object d.world.objects i).state ≡ (nth_object c.world.objects i).state) ⊎ (in_slots owns i h.frame.slots ≡ 0)
-      → stays (self_of h.frame.slots) → (IsNotAmong (self_of h.frame.slots) above → IsNotAmong (self_of h.frame.slots) wide)
+      → ((nth_object d.world.objects i).state ≡ (nth_object c.world.objects i).state)
+      ⊎ (in_slots owns i h.frame.slots ≡ 0)
+      → stays (self_of h.frame.slots)
+      → (IsNotAmong (self_of h.frame.slots) above → IsNotAmong (self_of h.frame.slots) wide)
       → Waits table N c callee called above tests h → Waits table M d (frame_with callee slots) called wide more h
-  waits_near callee called slots above wide tests more h same kept stand inside balanced free still_on apart w = record {
-    parts = w.parts;
-    context = w.context;
-    holdings = w.holdings;
-    frame = frame_near h.frame w.parts w.frame;
-    owns_made = w.owns_made;
-    cells = all_stand_near h.frame.slots w.parts.slots w.frame.few w.frame.unset free w.cells;
-    says = says_near (body_of table h.frame w.parts) w.context h (is_settled callee.how h) w.frame.there
-        (λ k e. others callee.how _ _ i above w.apart inside (unsettled callee.how h k e)) w.cells w.says;
-    held = w.held;
-    result_held = λ k of e gift. w.result_held k of e (sym (same_gift callee.how callee slots called) ∙ gift);
-    remains = w.remains;
-    opens = opens_near (body_of table h.frame w.parts) h h.outer refl w.frame.there
-        (⊎_elim (λ e. inr (w.open_slots e)) (λ ne. inl (others callee.how _ _ i above w.apart inside ne)) (on_this callee.how))
-        w.opens;
-    open_slots = w.open_slots;
-    loans = loans_near callee called slots tests more kept stand balanced h w.context h.loans w.frame.there
-        (far_loans callee.how _ _ above h.loans w.apart inside w.lent_slots) w.loans;
-    lent_slots = w.lent_slots;
-    placed = λ other made. same_has_state table (nth_object c.world.objects (self_of h.frame.slots))
-        (nth_object d.world.objects (self_of h.frame.slots)) (near.contracts _ w.frame.there)
-        (near.states _ w.frame.there (others callee.how _ _ i above w.apart inside (λ e. let t : is_on_this callee.how ≡ true = rw e refl in both_ways _ other t)))
-        (w.placed other made);
-    apart = apart_near callee.how (self_of h.frame.slots) _ _ above wide same apart w.apart;
-    back = w.back;
-    no_constructor = w.no_constructor;
-    result = subst (AwaitsResult (body_of table h.frame w.parts) w.context h h.result)
-        (sym (same_gift callee.how callee slots called)) w.result;
-    shares = shares_near h.frame _ _ w.frame.there (balanced _ w.frame.there) still_on w.shares;
-    share_entered = w.share_entered;
-  }
+  waits_near callee called slots above wide tests more h same kept stand inside balanced free still_on apart w =
+      record {
+        parts = w.parts;
+        context = w.context;
+        holdings = w.holdings;
+        frame = frame_near h.frame w.parts w.frame;
+        owns_made = w.owns_made;
+        cells = all_stand_near h.frame.slots w.parts.slots w.frame.few w.frame.unset free w.cells;
+        says = says_near (body_of table h.frame w.parts) w.context h (is_settled callee.how h) w.frame.there
+            (λ k e. others callee.how _ _ i above w.apart inside (unsettled callee.how h k e)) w.cells w.says;
+        held = w.held;
+        result_held = λ k of e gift. w.result_held k of e (sym (same_gift callee.how callee slots called) ∙ gift);
+        remains = w.remains;
+        opens = opens_near (body_of table h.frame w.parts) h h.outer refl w.frame.there
+            (⊎_elim (λ e. inr (w.open_slots e)) (λ ne. inl (others callee.how _ _ i above w.apart inside ne))
+            (on_this callee.how))
+            w.opens;
+        open_slots = w.open_slots;
+        loans = loans_near callee called slots tests more kept stand balanced h w.context h.loans w.frame.there
+            (far_loans callee.how _ _ above h.loans w.apart inside w.lent_slots) w.loans;
+        lent_slots = w.lent_slots;
+        placed = λ other made. same_has_state table (nth_object c.world.objects (self_of h.frame.slots))
+            (nth_object d.world.objects (self_of h.frame.slots)) (near.contracts _ w.frame.there)
+            (near.states _ w.frame.there (others callee.how _ _ i above w.apart inside
+            (λ e. let t : is_on_this callee.how ≡ true = rw e refl in both_ways _ other t)))
+            (w.placed other made);
+        apart = apart_near callee.how (self_of h.frame.slots) _ _ above wide same apart w.apart;
+        back = w.back;
+        no_constructor = w.no_constructor;
+        result = subst (AwaitsResult (body_of table h.frame w.parts) w.context h h.result)
+            (sym (same_gift callee.how callee slots called)) w.result;
+        shares = shares_near h.frame _ _ w.frame.there (balanced _ w.frame.there) still_on w.shares;
+        share_entered = w.share_entered;
+      }
 
-  -- All frames that wait go on waiting, where the frame above them has other slots that keep the parameters, and where each
-  -- of their objects, if it is none of those above, is none of those above then.
-  pub all_near_under : (callee : SilicaFrame) (called : BodyParts) (slots : SlotCells) (above wide : List ℕ) (tests more : ℕ → ℕ)
+  -- All frames that wait go on waiting, where the frame above them has other slots that keep the parameters, and where
+  -- each of their objects, if it is none of those above, is none of those above then.
+  pub all_near_under : (callee : SilicaFrame) (called : BodyParts) (slots : SlotCells) (above wide : List ℕ)
+      (tests more : ℕ → ℕ)
       (hs : List Waiting) → self_of slots ≡ self_of callee.slots → KeepsArguments called d callee.slots slots
       → AllStand table c.world.objects callee.slots → IsAmong i above
       → ((n : ℕ) → n < length c.world.objects → owners n d + tests n ≤ owners n c + more n) → IsFree i c d hs
@@ -394,15 +422,17 @@ module _ (table : ClassTable) (i : ℕ) (stays : ℕ → Type 0) (N M : ℕ → 
       → AllWait table N c callee called above tests hs → AllWait table M d (frame_with callee slots) called wide more hs
   unfolding waits_near
   all_near_under callee called slots above wide tests more [] same kept stand inside balanced free on apart w = w
-  all_near_under callee called slots above wide tests more (h ∷ hs) same kept stand inside balanced free on apart (w, ws) = (
-    waits_near callee called slots above wide tests more h same kept stand inside balanced
-        (⊎_elim (λ e. inl e) (λ none. inr (omega arith)) free) on.0 (apart (self_of h.frame.slots) on.0) w,
-    all_near_under h.frame w.parts h.frame.slots (self_of h.frame.slots ∷ above) (self_of h.frame.slots ∷ wide)
-        (λ n. tests_of n h.frame.slots h.outer + tests n) (λ n. tests_of n h.frame.slots h.outer + more n) hs refl
-        (λ k x le e. keeps_itself (λ n. owners n d) x (h.frame.slots k) e) w.cells (inr inside)
-        (λ n below. let less = balanced n below in omega arith) (⊎_elim (λ e. inl e) (λ none. inr (omega arith)) free) on.1
-        (λ n stay a. (a.0, apart n stay a.1)) ws,
-  )
+  all_near_under callee called slots above wide tests more (h ∷ hs) same kept stand inside balanced free on apart
+      (w, ws) = (
+        waits_near callee called slots above wide tests more h same kept stand inside balanced
+            (⊎_elim (λ e. inl e) (λ none. inr (omega arith)) free) on.0 (apart (self_of h.frame.slots) on.0) w,
+        all_near_under h.frame w.parts h.frame.slots (self_of h.frame.slots ∷ above) (self_of h.frame.slots ∷ wide)
+            (λ n. tests_of n h.frame.slots h.outer + tests n) (λ n. tests_of n h.frame.slots h.outer + more n) hs refl
+            (λ k x le e. keeps_itself (λ n. owners n d) x (h.frame.slots k) e) w.cells (inr inside)
+            (λ n below. let less = balanced n below in omega arith)
+            (⊎_elim (λ e. inl e) (λ none. inr (omega arith)) free) on.1
+            (λ n stay a. (a.0, apart n stay a.1)) ws,
+      )
 
   -- the same, where the objects above are those that they were
   pub all_near : (callee : SilicaFrame) (called : BodyParts) (slots : SlotCells) (above : List ℕ) (tests more : ℕ → ℕ)
@@ -410,6 +440,8 @@ module _ (table : ClassTable) (i : ℕ) (stays : ℕ → Type 0) (N M : ℕ → 
       → AllStand table c.world.objects callee.slots → IsAmong i above
       → ((n : ℕ) → n < length c.world.objects → owners n d + tests n ≤ owners n c + more n) → IsFree i c d hs
       → EachSelf stays hs
-      → AllWait table N c callee called above tests hs → AllWait table M d (frame_with callee slots) called above more hs
+      → AllWait table N c callee called above tests hs
+      → AllWait table M d (frame_with callee slots) called above more hs
   all_near callee called slots above tests more hs same kept stand inside balanced free on w =
-      all_near_under callee called slots above above tests more hs same kept stand inside balanced free on (λ n stay a. a) w
+      all_near_under callee called slots above above tests more hs same kept stand inside balanced free on
+      (λ n stay a. a) w

@@ -1,57 +1,25 @@
 -- Objects other than the one that changes: their fields stand, and they are as declared.
-use Rattle.std.proofs.Common.{◌≡◌, ◌≢◌, ℕ, ◌<◌, ◌≤◌, ◌⊎◌, inl, inr, ⊎_elim, Bool, true, false, List, length, Option, Some, None, slice_get, refl, sym, ap, ◌∙◌, subst, arith}
-use Rattle.std.specs.Option.{option_map_or, option_and_then}
+use Rattle.std.proofs.Common.{◌≡◌, ◌≢◌, ℕ, ◌<◌, ◌≤◌, ◌⊎◌, inl, inr, ⊎_elim, List, length, Some, None, slice_get, refl, sym, ap, ◌∙◌, subst}
+use Rattle.std.specs.Option.{option_and_then}
 use Rattle.std.specs.Prelude.{IfSome}
-use Rattle.std.proofs.lemmas.Bool.{cases_Bool}
-use Rattle.std.proofs.lemmas.Option.{slice_get_within, slice_get_past, get_or_from_slice_get}
-use Rattle.std.proofs.lemmas.List.Elements.{All-get_or}
+use Rattle.std.proofs.lemmas.Option.{slice_get_past}
 use Rattle.ob_base.specs.declared.id.StateId.{StateId}
-use Rattle.ob_base.specs.Limits.{most_fields}
 use Rattle.ob_perm.specs.Permissions.{owns}
 use Rattle.ob_table.specs.Tables.{ClassTable, contract_at}
 use Rattle.ob_table.specs.declared.contract.Contract.{Contract}
-use Rattle.ob_table.specs.declared.contract.Field.{Field}
-use Rattle.ob_table_spec.specs.Conditions.{IsContract, IsClassTable}
+use Rattle.ob_table_spec.specs.Conditions.{IsClassTable}
 use Rattle.ob_heap_spec.specs.Objects.{Object, is_available, has_field}
 use Rattle.ob_heap_spec.specs.Contents.{object_at}
 use Rattle.ob_silica_places.specs.Known.{Known}
-use Rattle.ob_silica_steps.specs.Cells.{Cell}
 use Rattle.ob_silica_steps.specs.Configurations.{Notes, Configuration}
 use Rattle.ob_silica_steps.specs.Starting.{declared_note}
 use Rattle.ob_coherent_spec.specs.Counting.{nth_object, fields_counted, field_cell, in_cell, in_fields}
 use Rattle.ob_coherent_spec.specs.Standing.{AllStand, IsObjectInRun}
 use Rattle.ob_coherent_spec.specs.Coherent.{IsAsDeclared}
-use Rattle.ob_coherent_frames_laws.proofs.Cells.{each_zero, same_has_state}
+use Rattle.ob_coherent_counting_laws.proofs.Sums.{terms_zero}
+use Rattle.ob_coherent_counting_laws.proofs.Low.{field_low}
+use Rattle.ob_coherent_frames_laws.proofs.Cells.{same_has_state}
 use Rattle.ob_coherent_frames_laws.proofs.Near.{IsNear, field_near, stands_near, says_field_near}
-
--- Fields of objects.
-
--- each contract of a class table has few fields
-pub few_fields : (table : ClassTable) → IsClassTable table → (k : ℕ) (own : Contract) → slice_get table.contracts k ≡ Some own
-    → length own.fields ≤ most_fields
-few_fields table t k own e = few.few_fields
-  where
-    few : IsContract table own
-    few = subst (IsContract table) (get_or_from_slice_get table.contracts k own own e)
-        (All-get_or (IsContract table) table.contracts k own (slice_get_within table.contracts k own e) t.contracts)
-
-some_field : (p : Field → Bool) (x : Option Field) → option_map_or p x false ≡ true → (f : Field) × (x ≡ Some f)
-some_field p None e = cc
-some_field p (Some f) e = (f, refl)
-
--- a field that has a value is one of its contract's
-pub field_low : (table : ClassTable) → IsClassTable table → (objects : List Object) (n : ℕ) (notes : Notes) → IsObjectInRun table notes n (nth_object objects n)
-    → (k : ℕ) (x : Cell) → field_cell notes objects n k ≡ Some x → k < fields_counted
-unfolding fields_counted
-field_low table t objects n notes o k x e = ⊎_elim
-    (λ has. let f = some_field (is_available (nth_object objects n).state) (slice_get o.own.fields k) has in
-    let below = slice_get_within o.own.fields k f.0 f.1 in
-    let few = few_fields table t (nth_object objects n).contract.0 o.own o.contract in omega arith)
-    (λ none. absurd (unset (o.fields k none)))
-    (cases_Bool (has_field o.own (nth_object objects n).state k))
-  where
-    unset : (nth_object objects n).fields k ≡ None → ⊥
-    unset none = let z : field_cell notes objects n k ≡ None = rw none refl in cc
 
 -- where there is no object there is no field
 pub no_field : (table : ClassTable) (objects : List Object) (n : ℕ) (notes : Notes) → length objects ≤ n
@@ -72,8 +40,8 @@ module _ (table : ClassTable) (i : ℕ) (stays : ℕ → Type 0) (N M : ℕ → 
   fields_near t n below ne o free j x e = stands_near table i stays N M c d near x
       (⊎_elim (λ same. inl same)
       (λ none. inr (subst (λ y. in_cell owns i y ≡ 0) was
-      (each_zero fields_counted (λ l. in_cell owns i (field_cell c.notes c.world.objects n l))
-      none j (field_low table t c.world.objects n c.notes o j x was))))
+      (terms_zero fields_counted (λ l. in_cell owns i (field_cell c.notes c.world.objects n l))
+      none j (field_low table t c.notes c.world.objects n o j x was))))
       free)
       (near.stand n j x was)
     where
@@ -81,7 +49,8 @@ module _ (table : ClassTable) (i : ℕ) (stays : ℕ → Type 0) (N M : ℕ → 
       was = sym (field_near table i stays N M c d near n j below ne) ∙ e
 
   -- another object is one in a run
-  pub object_near : (n : ℕ) → n < length c.world.objects → n ≢ i → IsObjectInRun table c.notes n (nth_object c.world.objects n)
+  pub object_near : (n : ℕ) → n < length c.world.objects → n ≢ i
+      → IsObjectInRun table c.notes n (nth_object c.world.objects n)
       → IsObjectInRun table d.notes n (nth_object d.world.objects n)
   object_near n below ne o = record {
     own = o.own;

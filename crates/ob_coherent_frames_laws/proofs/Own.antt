@@ -1,4 +1,4 @@
--- A step by which the innermost frame changes its own places leads to a coherent configuration, where the frame goes on.
+-- A step by which the innermost frame changes its own places leads to a coherent configuration.
 use Rattle.std.proofs.Common.{ℕ, ◌<◌, List, Option, refl, sym, subst, arith}
 use Rattle.ob_table.specs.Tables.{ClassTable}
 use Rattle.ob_table_spec.specs.Conditions.{IsClassTable}
@@ -20,8 +20,10 @@ use Rattle.ob_coherent_frames_laws.proofs.Quiet.{quiet_shares, quiet_whole}
 use Rattle.ob_coherent_frames_laws.proofs.Whole.{same_constructions, whole_kept}
 
 -- what such a step leaves of the whole
-pub own_keeps : (table : ClassTable) (entry : Option ℕ) (c : Configuration) (parts : BodyParts) (h : Here) (terms : SilicaTerms)
-    (outer : List Rest) → IsOwnStep table entry c parts h terms outer → KeepsWhole table entry c parts h (runs terms outer)
+pub own_keeps : (table : ClassTable) (entry : Option ℕ) (c : Configuration) (parts : BodyParts) (h : Here)
+    (terms : SilicaTerms)
+    (outer : List Rest) → IsOwnStep table entry c parts h terms outer
+    → KeepsWhole table entry c parts h (runs terms outer)
 own_keeps table entry c parts h terms outer m = record {
   others = m.others;
   free = m.free;
@@ -50,7 +52,8 @@ pub own_step_keeps : (table : ClassTable) (entry : Option ℕ) (beginning : Begi
     → (i : Holdings) → AreHeld i h.slots every → Remains (body_of table c.frame k.whole.parts) i g terms outer
     → IsRunning table entry beginning (moved c h terms outer)
 own_step_keeps table entry beginning c h terms outer t k m g says i held remains = record {
-  whole = whole_kept table entry beginning c h (runs terms outer) t k.whole (own_keeps table entry c k.whole.parts h terms outer m);
+  whole = whole_kept table entry beginning c h (runs terms outer) t k.whole
+      (own_keeps table entry c k.whole.parts h terms outer m);
   terms = terms;
   outer = outer;
   control = refl;
@@ -65,7 +68,8 @@ own_step_keeps table entry beginning c h terms outer t k m g says i held remains
   owns_made = m.owns_made;
   lends = k.lends;
   unreferred = λ n has.
-      let same = same_constructions table entry beginning c h (runs terms outer) t k.whole (own_keeps table entry c k.whole.parts h terms outer m) n in
+      let same = same_constructions table entry beginning c h (runs terms outer) t k.whole
+      (own_keeps table entry c k.whole.parts h terms outer m) n in
       let made : 0 < constructions n c = omega arith in
       let few = m.unreferred n made in let one = k.unreferred n made in omega arith;
 }
@@ -91,7 +95,8 @@ quiet_keeps table c parts h terms outer m = record {
 
 -- such a step is one of the innermost frame
 pub quiet_is_own : (table : ClassTable) (entry : Option ℕ) (beginning : Beginning) (c : Configuration) (h : Here)
-    (terms : SilicaTerms) (outer : List Rest) → (k : IsRunning table entry beginning c) → EndsSame (around c.control) outer
+    (terms : SilicaTerms) (outer : List Rest) → (k : IsRunning table entry beginning c)
+    → EndsSame (around c.control) outer
     → IsQuietStep table c k.whole.parts h terms outer → IsOwnStep table entry c k.whole.parts h terms outer
 quiet_is_own table entry beginning c h terms outer k same m = record {
   others = whole.others;
@@ -103,7 +108,8 @@ quiet_is_own table entry beginning c h terms outer k same m = record {
   fields = m.fields;
   object = m.object;
   placed = λ made. same_has_state table (nth_object c.world.objects (self_of c.frame.slots))
-      (nth_object h.world.objects (self_of c.frame.slots)) (m.others.contracts (self_of c.frame.slots)) m.state (k.placed made);
+      (nth_object h.world.objects (self_of c.frame.slots)) (m.others.contracts (self_of c.frame.slots)) m.state
+      (k.placed made);
   opens = m.opens;
   shares = quiet_shares table entry beginning c h (runs terms outer) k.whole same quietly k.shares m.shares;
   owns_made = m.owns_made;

@@ -23,7 +23,8 @@ pub record EndsSame (before after : List Rest) : Type 0 where
 pub ends_itself : (outer : List Rest) → EndsSame outer outer
 ends_itself outer = record { locks = λ n. refl; tests = λ n. refl }
 
-module _ (table : ClassTable) (entry : Option ℕ) (beginning : Beginning) (c : Configuration) (h : Here) (control : Control)
+module _ (table : ClassTable) (entry : Option ℕ) (beginning : Beginning) (c : Configuration) (h : Here)
+    (control : Control)
     (k : Holds table entry beginning c) (same : EndsSame (around c.control) (around control))
     (m : KeepsQuietly table c k.parts h control) where
   same_tests : (n : ℕ) → tests_in n h.slots (around control) ≡ tests_in n c.frame.slots (around c.control)
@@ -58,7 +59,8 @@ module _ (table : ClassTable) (entry : Option ℕ) (beginning : Beginning) (c : 
       in_progress has = subst (λ n. 0 < times n h.world.progress) (sym m.this)
           (subst (λ l. 0 < times (self_of c.frame.slots) l) (sym m.others.progress) has)
 
-      none_left : owners (self_of c.frame.slots) (moved_to c h control) ≤ 0 → owners (self_of h.slots) (moved_to c h control) ≤ 0
+      none_left : owners (self_of c.frame.slots) (moved_to c h control) ≤ 0
+          → owners (self_of h.slots) (moved_to c h control) ≤ 0
       none_left few = subst (λ n. owners n (moved_to c h control) ≤ 0) (sym m.this) few
 
   pub quiet_whole : KeepsWhole table entry c k.parts h control
@@ -84,7 +86,8 @@ module _ (table : ClassTable) (entry : Option ℕ) (beginning : Beginning) (c : 
         (k.shared n y (let less = m.fewer n in omega arith)))
         (λ y. absurd (let none = m.newly_shared n y e in omega arith))
         (cases_Bool (nth_object c.world.objects n).shared);
-    assets = λ n l. let has = k.assets n (fewer_needs table c h m.others n l) in let keeps = m.keeps_owner n l in omega arith;
+    assets = λ n l. let has = k.assets n (fewer_needs table c h m.others n l) in let keeps = m.keeps_owner n l in
+        omega arith;
     balanced = λ n. let less = m.fewer n in let tests = same_tests n in let locks = same.locks n in omega arith;
     lock_ends = λ n has. inl (subst (λ l. 0 < times n l) (sym m.locks) has);
     tested = λ n has. k.tested n (let tests = same_tests n in omega arith);

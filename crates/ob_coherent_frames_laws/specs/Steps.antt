@@ -14,7 +14,7 @@ use Rattle.ob_coherent_spec.specs.Remaining.{BodyParts, body_of}
 use Rattle.ob_coherent_spec.specs.OpenTests.{AreOpen}
 use Rattle.ob_coherent_spec.specs.Waiting.{OwnsMade, tests_of, SharesThis}
 
--- the configuration after a step of the innermost frame, which then works on this and is about to do what the control says
+-- the configuration after a step of the innermost frame, which then works on this and does what the control says
 abbrev pub moved_to : Configuration → Here → Control → Configuration
 moved_to c h control = record {
   frame = record c.frame { slots = h.slots };
@@ -84,8 +84,8 @@ pub record KeepsWhole (table : ClassTable) (entry : Option ℕ) (c : Configurati
   pub locked : (n : ℕ) → locks entry n (moved_to c h control) ≡ times n h.world.locked
   pub locked_once : (n : ℕ) → locks entry n (moved_to c h control) ≤ 1
 
--- What a step leaves that opens and ends no test, whatever the frame is about to do then: no object gains an owner, and one
--- that must have an owner keeps it.
+-- What a step leaves that opens and ends no test, whatever the frame is about to do then: no object gains an owner, and
+-- one that must have an owner keeps it.
 pub record KeepsQuietly (table : ClassTable) (c : Configuration) (parts : BodyParts) (h : Here) (control : Control)
     : Type 0 where
   pub others : LeavesOthers c h
