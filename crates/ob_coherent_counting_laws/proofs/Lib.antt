@@ -14,3 +14,4 @@ pub mod Testing
 pub mod Lending
 pub mod Entering
 pub mod Changing
+pub mod Passing
