@@ -43,8 +43,8 @@ pub record Ways (P : Invocation → Type 0) (meaning : Meaning) (table : ClassTa
 
 module _ (P : Invocation → Type 0) where
   -- what holds of a refusal, and of what follows else
-  of_refusal : (content : Content) (found : Option Refusal) (reads : List ReadItem) (go : Invocation)
-      → ((refusal : Refusal) → P (left_as_it_was content (refused refusal) reads)) → (found ≡ None → P go)
+  of_refusal : (content : Content) (found : Option Refusal) (reads : List ReadItem) (go : List ReadItem → Invocation)
+      → ((refusal : Refusal) → P (left_as_it_was content (refused refusal) reads)) → (found ≡ None → P (go reads))
       → P (refused_or content found reads go)
   of_refusal content (Some refusal) reads go at_refusal rest = at_refusal refusal
   of_refusal content None reads go at_refusal rest = rest refl
@@ -55,7 +55,7 @@ module _ (P : Invocation → Type 0) where
       → (refusal_of checks ≡ None → P (go (reads_of checks)))
       → P (unless_refused content checks go)
   of_checks content checks go at_refusal rest =
-      of_refusal content (refusal_of checks) (reads_of checks) (go (reads_of checks))
+      of_refusal content (refusal_of checks) (reads_of checks) go
       (λ refusal. at_refusal refusal (reads_of checks)) rest
 
   -- what holds where nothing was found, and of what follows from what was found

@@ -1,3 +1,5 @@
 pub mod Following
 pub mod Leaving
 pub mod Taking
+pub mod Handles
+pub mod Owners

@@ -1,6 +1,11 @@
 -- What the laws of the invocation say (this project's own).
-use Rattle.std.specs.Prelude.{◌≡◌, Bool, true, false, ⊤}
-use Rattle.ob_heap_spec.specs.Contents.{Content}
+use Rattle.std.specs.Prelude.{ℕ, nat_eq, ◌&&◌, ◌≡◌, Bool, true, false, List, Option, Some, None, All, AllPairs, if◌then◌else◌, ⊤}
+use Rattle.std.specs.Ordering.{eq_by_cmp}
+use Rattle.std.specs.declared.cmp.Ordering.TheVariants.{Less}
+use Rattle.ob_heap_spec.specs.Objects.{Object}
+use Rattle.ob_heap_spec.specs.Contents.{HandleName, Handle, Content, IsHandle, name_order}
+use Rattle.ob_rest_spec.specs.Modes.{is_owned}
+use Rattle.ob_invocation_spec.specs.Handles.{NamedHandle, handle_at}
 use Rattle.ob_invocation_spec.specs.Requests.{Operation, new_request, call_request}
 use Rattle.ob_invocation_spec.specs.Replies.{Reply, refused, is_ok, Invocation, invoked, goes_wrong}
 
@@ -29,3 +34,21 @@ TakesNothing goes_wrong = ⊤
 abbrev pub TakesNothingIfRefused : Invocation → Type 0
 TakesNothingIfRefused (invoked i) = is_refused i.reply ≡ true → i.taken ≡ 0
 TakesNothingIfRefused goes_wrong = ⊤
+
+-- handles on these objects: each is one, and they stand in the order of their names, each once
+pub record AreHandles (objects : List Object) (handles : List NamedHandle) : Type 0 where
+  pub each : All (IsHandle objects) handles
+  pub order : AllPairs (λ a b. name_order a.0 b.0 ≡ Less) handles
+
+-- what a name stands for once a handle is put
+abbrev pub found_after_put : Content → NamedHandle → HandleName → Option Handle
+found_after_put content h name = if eq_by_cmp name_order name h.0 then Some h.1 else handle_at content name
+
+-- what a name stands for once the handle of a name has gone
+abbrev pub found_without : Content → HandleName → HandleName → Option Handle
+found_without content gone name = if eq_by_cmp name_order gone name then None else handle_at content name
+
+-- how many owners of the object of a number there are in a handle, if there is one: one or none
+abbrev pub owners_in : ℕ → Option Handle → ℕ
+owners_in n None = 0
+owners_in n (Some h) = if nat_eq h.object n && is_owned h.mode then 1 else 0

@@ -2,3 +2,4 @@ pub mod Ways
 pub mod OneOwner
 pub mod FirstFailing
 pub mod Owner
+pub mod Counting

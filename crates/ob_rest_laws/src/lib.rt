@@ -6,5 +6,5 @@ mod laws;
 
 pub use laws::{
     assets_have_one_owner, at_rest_is_asked_way_by_way, first_failing_object_is_told,
-    owner_is_first_owning_place,
+    owner_is_first_owning_place, owners_add_up,
 };
