@@ -1,2 +1,2 @@
 pub mod Many
-pub mod Handles
+pub mod Staying
