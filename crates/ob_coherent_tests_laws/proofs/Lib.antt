@@ -2,3 +2,8 @@ pub mod Finding
 pub mod Unchanged
 pub mod Operands
 pub mod Conditions
+pub mod Permitted
+pub mod Ending
+pub mod Locking
+pub mod Tested
+pub mod Popping

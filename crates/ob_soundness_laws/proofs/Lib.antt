@@ -1,2 +1,3 @@
 pub mod Many
 pub mod Staying
+pub mod Ending

@@ -2,13 +2,16 @@
 -- and progress).
 use Rattle.std.specs.Prelude.{◌≡◌, ℕ, ◌≤◌, true, [], length, Option, ⊤}
 use Rattle.ob_base.specs.Limits.{most_objects}
+use Rattle.ob_table.specs.Tables.{ClassTable}
+use Rattle.ob_heap_spec.specs.Values.{Value}
+use Rattle.ob_heap_spec.specs.Worlds.{World}
 use Rattle.ob_silica_steps.specs.Cells.{Cell, value_in}
 use Rattle.ob_silica_steps.specs.Configurations.{SilicaProgram, leaves, Configuration, NextStep, goes, ended, aborted, stuck}
 use Rattle.ob_silica_steps.specs.Returning.{left_world}
 use Rattle.ob_silica_steps.specs.Steps.{step}
 use Rattle.ob_coherent_spec.specs.Remaining.{IsCheckedProgram}
 use Rattle.ob_coherent_spec.specs.Counting.{nth_object}
-use Rattle.ob_coherent_spec.specs.Coherent.{Beginning, outermost, IsCoherent, StepsSo}
+use Rattle.ob_coherent_spec.specs.Coherent.{Beginning, outermost, IsLeaving, IsCoherent, StepsSo}
 
 -- each step from a coherent configuration of a checked program comes to another one, to an end, or to an abort
 abbrev pub StepsKeep : Type 0
@@ -32,3 +35,15 @@ GoesOrEnds c (ended result w) =
     (r : Option Cell) × (c.control ≡ leaves r []) × (c.stack ≡ []) × (result ≡ value_in r) × (w ≡ left_world c)
 GoesOrEnds c (aborted cause s) = ⊤
 GoesOrEnds c stuck = ⊤
+
+-- How a run has ended that went on from a first configuration: its last configuration leaves, no frame waits for it, and what
+-- stays along a run has stayed.
+pub record EndsFrom (table : ClassTable) (entry : Option ℕ) (beginning : Beginning) (first : Configuration)
+    (result : Option Value) (w : World) : Type 0 where
+  pub last : Configuration
+  pub leaving : IsLeaving table entry beginning last
+  pub outer : leaving.outer ≡ []
+  pub alone : last.stack ≡ []
+  pub gives : result ≡ value_in leaving.result
+  pub world : w ≡ left_world last
+  pub stays : StaysSo first last
