@@ -49,18 +49,22 @@ module _ (keep : StepsKeep) (program : SilicaProgram) (checked : IsCheckedProgra
       }
   ends_here c (returning k) stays r control alone gives world = absurd (let z = sym k.stack ∙ alone in cc)
 
+  -- where the rest of the run ends it
+  after_step : (c : Configuration) → IsCoherent program.table entry beginning c → StaysSo first c → (go : Configuration → NextStep)
+      → ((d : Configuration) → IsCoherent program.table entry beginning d → StaysSo first d → go d ≡ ended result w
+      → EndsFrom program.table entry beginning first result w)
+      → (next : NextStep) → StepsSo program.table entry beginning next → GoesOrEnds c next
+      → then_steps next go ≡ ended result w → EndsFrom program.table entry beginning first result w
+  after_step c coherent stays go rest (goes d) so on e = rest d so (stays_then first c d stays on) e
+  after_step c coherent stays go rest (ended r v) so on e =
+      let same : result ≡ r = cc in let world : w ≡ v = cc in
+      ends_here c coherent stays on.0 on.1 on.2 (same ∙ on.3) (world ∙ on.4)
+  after_step c coherent stays go rest (aborted cause s) so on e = absurd cc
+  after_step c coherent stays go rest stuck so on e = absurd so
+
   -- any number of steps
   pub run_ends : (n : ℕ) (c : Configuration) → IsCoherent program.table entry beginning c → StaysSo first c
       → steps program n c ≡ ended result w → EndsFrom program.table entry beginning first result w
   run_ends zero c coherent stays e = absurd cc
-  run_ends (suc n) c coherent stays e =
-      go (step program c) (keep program entry beginning c checked coherent) (goes_or_ends program c) e
-    where
-      go : (next : NextStep) → StepsSo program.table entry beginning next → GoesOrEnds c next
-          → then_steps next (steps program n) ≡ ended result w → EndsFrom program.table entry beginning first result w
-      go (goes d) so on e = run_ends n d so (stays_then first c d stays on) e
-      go (ended r v) so on e =
-          let same : result ≡ r = cc in let world : w ≡ v = cc in
-          ends_here c coherent stays on.0 on.1 on.2 (same ∙ on.3) (world ∙ on.4)
-      go (aborted cause s) so on e = absurd cc
-      go stuck so on e = absurd so
+  run_ends (suc n) c coherent stays e = after_step c coherent stays (steps program n) (run_ends n) (step program c)
+      (keep program entry beginning c checked coherent) (goes_or_ends program c) e
