@@ -1,7 +1,7 @@
 -- When a store is at rest: its objects hold their fields as declared, each has one owner at most and none where it's marked,
 -- each asset that must have one has one, and Shared handles are on marked objects.
 use Rattle.std.proofs.Common.{◌≡◌, ℕ, zero, suc, ◌+◌, ◌<◌, ◌≤◌, Bool, true, false, cond, not, ◌&&◌, ◌||◌, List, [], ◌∷◌, ◌++◌, length, map, filter, Option, Some, None, refl, sym, ap, subst, ◌∙◌, arith, true≢false, ⊎_elim, ◌⊎◌, inl, inr}
-use Rattle.std.specs.Prelude.{nat_eq, nat_lt, nat_le, slice_get, filter_map, flat_map, ⊤}
+use Rattle.std.specs.Prelude.{nat_eq, nat_lt, nat_le, ◌==◌, slice_get, filter_map, flat_map, ⊤}
 use Rattle.std.specs.Option.{option_map_or, option_and_then}
 use Rattle.std.specs.List.{list_any, enumerate_from, cons_option}
 use Rattle.std.proofs.lemmas.Bool.{cases_Bool}
@@ -168,3 +168,158 @@ module _ (table : ClassTable) (objects : List Object) where
   objects_so i (o ∷ os) has = each_append Is (references_of table i o)
       (flat_map (λ (o : ℕ × Object). references_of table o.0 o.1) (enumerate_from (i + 1) os))
       (object_so i o (has 0 o refl)) (objects_so (i + 1) os (λ k p e. has (suc k) p e))
+
+-- The store.
+
+-- What is asked of a store that is at rest, as a run counts it.
+pub record IsSettled (table : ClassTable) (content : Content) : Type 0 where
+  pub holds : (n : ℕ) → n < length content.objects → HoldsDeclared table content.objects (nth_object content.objects n)
+  pub one : (n : ℕ) → owners table content n ≤ 1
+  pub unmarked : (n : ℕ) → 0 < owners table content n
+      → ((nth_object content.objects n).shared ≡ false) × ((nth_object content.objects n).disowned ≡ false)
+  pub assets : (n : ℕ) → NeedsOwner table content.objects n → 0 < owners table content n
+  pub handles : Each (λ (h : HandleName × Handle). is_shared h.1.mode ≡ true
+      → (nth_object content.objects h.1.object).shared ≡ true) content.handles
+
+list_any_append : {A : Type 0} (test : A → Bool) (xs ys : List A) → list_any test xs ≡ false → list_any test ys ≡ false
+    → list_any test (xs ++ ys) ≡ false
+list_any_append test [] ys a b = b
+list_any_append {A} test (x ∷ xs) ys a b = go (test x) refl (list_any_append test xs ys)
+  where
+    go : (t : Bool) → test x ≡ t → (list_any test xs ≡ false → list_any test ys ≡ false → list_any test (xs ++ ys) ≡ false)
+        → list_any test ((x ∷ xs) ++ ys) ≡ false
+    go true e rest = absurd (let z = rw e at a in cc)
+    go false e rest = rw e (rest (rw e at a) b)
+
+-- those of a filter, where each of them is so
+none_any_among : {A B : Type 0} (P : A → Type 0) (keep : A → Bool) (f : A → B) (test : B → Bool) (xs : List A)
+    → ((x : A) → keep x ≡ true → P x → test (f x) ≡ false) → Each P xs → list_any test (map f (filter keep xs)) ≡ false
+none_any_among P keep f test [] none a = refl
+none_any_among {A} {B} P keep f test (x ∷ xs) none a = go (keep x) refl (none_any_among P keep f test xs none a.1)
+  where
+    go : (b : Bool) → keep x ≡ b → list_any test (map f (filter keep xs)) ≡ false
+        → list_any test (map f (cond b (x ∷ filter keep xs) (filter keep xs))) ≡ false
+    go true e rest = rw (none x e a.0) rest
+    go false e rest = rest
+
+map_itself : {A : Type 0} (xs : List A) → map (λ x. x) xs ≡ xs
+map_itself [] = refl
+map_itself (x ∷ xs) = ap (λ ys. x ∷ ys) (map_itself xs)
+
+same_number : (n m : ℕ) → nat_eq n m ≡ true → n ≡ m
+same_number n m e = grind (arith, nat_tests)
+
+module _ (table : ClassTable) (content : Content) (s : IsSettled table content) where
+  all_so : Each (IsDeclaredSo table content.objects) (field_references table content.objects)
+  all_so = objects_so table content.objects 0 content.objects (λ k o e. let found = object_found content.objects k o e in
+      subst (HoldsDeclared table content.objects) found.1 (s.holds k found.0))
+
+  module _ (n : ℕ) (o : Object) (there : object_at content.objects n ≡ Some o) where
+    inside : n < length content.objects
+    inside = (object_found content.objects n o there).0
+
+    is_it : nth_object content.objects n ≡ o
+    is_it = (object_found content.objects n o there).1
+
+    zero_or_more : (m : ℕ) → (m ≡ 0) ⊎ (0 < m)
+    zero_or_more zero = inl refl
+    zero_or_more (suc m) = inr (omega arith)
+
+    -- 1
+    few : nat_lt 1 (owners table content n) ≡ false
+    few = let z = s.one n in grind (arith, nat_tests)
+
+    -- 2
+    owned_so : (not (owners table content n == 0) && (o.shared || o.disowned)) ≡ false
+    owned_so = ⊎_elim (λ e. rw e refl)
+        (λ more. let u = s.unmarked n more in
+        let a : o.shared ≡ false = ap (λ (x : Object). x.shared) (sym is_it) ∙ u.0 in
+        let b : o.disowned ≡ false = ap (λ (x : Object). x.disowned) (sym is_it) ∙ u.1 in
+        let any : (x : Bool) → (x && false) ≡ false = λ x. both x in
+        rw (a, b) (any (not (owners table content n == 0))))
+        (zero_or_more (owners table content n))
+      where
+        both : (x : Bool) → (x && false) ≡ false
+        both true = refl
+        both false = refl
+
+    -- 3
+    asset_so : ((is_asset table o && not (o.shared || o.disowned)) && (owners table content n == 0)) ≡ false
+    asset_so = go (is_asset table o) o.shared o.disowned refl refl refl
+      where
+        none : (m : ℕ) → 0 < m → (m == 0) ≡ false
+        none m lt = grind (arith, nat_tests)
+
+        go : (a b d : Bool) → is_asset table o ≡ a → o.shared ≡ b → o.disowned ≡ d
+            → ((is_asset table o && not (o.shared || o.disowned)) && (owners table content n == 0)) ≡ false
+        go false b d e f g = rw e refl
+        go true true d e f g = rw (e, f) refl
+        go true false true e f g = rw (e, f, g) refl
+        go true false false e f g = let more = s.assets n (record {
+          there = inside;
+          asset = rw is_it e;
+          unshared = ap (λ (x : Object). x.shared) is_it ∙ f;
+          kept = ap (λ (x : Object). x.disowned) is_it ∙ g;
+        }) in rw (e, f, g) (none (owners table content n) more)
+
+    -- 4
+    marked_so : (not o.shared && list_any (λ r. is_shared r.mode) (incoming_references table content n)) ≡ false
+    marked_so = ⊎_elim (λ e. rw e refl)
+        (λ e. rw e (list_any_append (λ r. is_shared r.mode) (map incoming_by_field (fields_onto table content.objects n))
+        (map incoming_by_handle (handles_onto content.handles n))
+        (none_any_among (IsDeclaredSo table content.objects) (λ r. nat_eq r.object n) incoming_by_field (λ r. is_shared r.mode)
+        (field_references table content.objects) (λ r onto is. no_field e r onto is) all_so)
+        (none_any_among (λ (h : HandleName × Handle). is_shared h.1.mode ≡ true
+        → (nth_object content.objects h.1.object).shared ≡ true) (λ h. nat_eq h.1.object n) incoming_by_handle
+        (λ r. is_shared r.mode) content.handles (λ h onto is. no_handle e h onto is) s.handles)))
+        (cases_Bool o.shared)
+      where
+        not_marked : (m : ℕ) (b : Bool) → o.shared ≡ false → nat_eq m n ≡ true → (b ≡ true → (nth_object content.objects m).shared ≡ true)
+            → b ≡ false
+        not_marked m true e onto is = absurd (true≢false (sym (is refl)
+            ∙ ap (λ k. (nth_object content.objects k).shared) (same_number m n onto) ∙ ap (λ (x : Object). x.shared) is_it ∙ e))
+        not_marked m false e onto is = refl
+
+        no_field : o.shared ≡ false → (r : FieldReference) → nat_eq r.object n ≡ true → IsDeclaredSo table content.objects r
+            → is_shared r.perm.mode ≡ false
+        no_field e r onto is = not_marked r.object (is_shared r.perm.mode) e onto is.marked
+
+        no_handle : o.shared ≡ false → (h : HandleName × Handle) → nat_eq h.1.object n ≡ true
+            → (is_shared h.1.mode ≡ true → (nth_object content.objects h.1.object).shared ≡ true) → is_shared h.1.mode ≡ false
+        no_handle e h onto is = not_marked h.1.object (is_shared h.1.mode) e onto is
+
+    -- 5
+    states_so : list_any (λ (r : FieldReference). is_owned r.perm.mode && not (is_in_states table r.contract r.perm o))
+        (fields_onto table content.objects n) ≡ false
+    states_so = subst (λ rs. list_any (λ (r : FieldReference). is_owned r.perm.mode && not (is_in_states table r.contract r.perm o)) rs ≡ false)
+        (map_itself (fields_onto table content.objects n))
+        (none_any_among (IsDeclaredSo table content.objects) (λ r. nat_eq r.object n) (λ r. r)
+        (λ (r : FieldReference). is_owned r.perm.mode && not (is_in_states table r.contract r.perm o))
+        (field_references table content.objects) within all_so)
+      where
+        within : (r : FieldReference) → nat_eq r.object n ≡ true → IsDeclaredSo table content.objects r
+            → (is_owned r.perm.mode && not (is_in_states table r.contract r.perm o)) ≡ false
+        within r onto is = ⊎_elim
+            (λ owned. let z : is_in_states table r.contract r.perm o ≡ true = ap (is_in_states table r.contract r.perm)
+            (sym is_it ∙ ap (nth_object content.objects) (sym (same_number r.object n onto))) ∙ is.states owned in
+            rw (owned, z) refl)
+            (λ other. rw other refl)
+            (cases_Bool (is_owned r.perm.mode))
+
+    -- 6
+    contracts_so : list_any (λ (r : FieldReference). not (refers_as_declared table content.objects r)) (references_of table n o)
+        ≡ false
+    contracts_so = none_any (IsDeclaredSo table content.objects) (λ r. not (refers_as_declared table content.objects r))
+        (references_of table n o) (λ r is. ap not is.contract)
+        (object_so table content.objects n o (subst (HoldsDeclared table content.objects) is_it (s.holds n inside)))
+
+    each_way : (way : FailingWay) → fails_by way table content n o ≡ false
+    each_way many_owners = few
+    each_way owned_and_marked = owned_so
+    each_way lost_asset = asset_so
+    each_way shared_unmarked = marked_so
+    each_way outside_states = states_so
+    each_way other_contract = contracts_so
+
+  pub settled_rests : IsAtRest table content
+  settled_rests = at_rest table content (λ n o there way. each_way n o there way)
