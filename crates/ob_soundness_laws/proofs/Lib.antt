@@ -2,3 +2,4 @@ pub mod Many
 pub mod Staying
 pub mod Ending
 pub mod Resting
+pub mod Settling
