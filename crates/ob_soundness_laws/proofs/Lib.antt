@@ -3,3 +3,4 @@ pub mod Staying
 pub mod Ending
 pub mod Resting
 pub mod Settling
+pub mod Entries

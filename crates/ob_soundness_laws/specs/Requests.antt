@@ -7,9 +7,12 @@ use Rattle.std.specs.Ordering.{eq_by_cmp}
 use Rattle.ob_perm.specs.States.{States}
 use Rattle.ob_perm.specs.Permissions.{owned, unowned}
 use Rattle.ob_perm.specs.Masks.{held}
-use Rattle.ob_table.specs.Tables.{ClassTable}
+use Rattle.ob_table.specs.Tables.{ClassTable, contract_at, signature_at}
+use Rattle.ob_table.specs.declared.contract.Contract.{Contract}
+use Rattle.ob_table_spec.specs.WellFormed.{constructor_at}
+use Rattle.ob_heap_spec.specs.Objects.{Object}
 use Rattle.ob_heap_spec.specs.Values.{Value, reference}
-use Rattle.ob_heap_spec.specs.Contents.{HandleName, Content, name_order}
+use Rattle.ob_heap_spec.specs.Contents.{HandleName, Handle, Content, name_order, object_at}
 use Rattle.ob_heap_spec.specs.Worlds.{World}
 use Rattle.ob_silica_steps.specs.Cells.{Cell}
 use Rattle.ob_silica_steps.specs.Configurations.{SilicaProgram, by_receiver, by_new, HandleNote, Notes, Configuration, NextStep, goes, ended, aborted, stuck}
@@ -24,10 +27,10 @@ use Rattle.ob_rest_spec.specs.Modes.{is_owned}
 use Rattle.ob_rest_spec.specs.AtRest.{IsStoreAtRest}
 use Rattle.ob_invocation_spec.specs.Requests.{NewRequest, CallRequest, Request, HasLabels}
 use Rattle.ob_invocation_spec.specs.Replies.{Invocation, invoked, goes_wrong}
-use Rattle.ob_invocation_spec.specs.Handles.{NamedHandle, put_handles, mark_puts}
-use Rattle.ob_invocation_spec.specs.Entries.{HandleUse, Entry, entry_of_new, entry_of_call, values_of, handle_uses}
+use Rattle.ob_invocation_spec.specs.Handles.{NamedHandle, handle_name, handle_at, are_handles_full, put_handles, mark_puts}
+use Rattle.ob_invocation_spec.specs.Entries.{HandleUse, Entry, mode_of_result, entry_of_new, entry_of_call, used_as_receiver, values_of, handle_uses}
 use Rattle.ob_invocation_spec.specs.Checks.{refusal_of}
-use Rattle.ob_invocation_spec.specs.Refusals.{new_checks, call_checks}
+use Rattle.ob_invocation_spec.specs.Refusals.{has_other_count, has_other_kind, lacks_permission, repeats_object, lacks_into, has_needless_into, is_taken, new_checks, call_checks}
 use Rattle.ob_invocation_spec.specs.Entering.{first_outside_use, is_locked_at_entry, Meaning, entry_world, put_after_use, puts_after}
 use Rattle.ob_invocation_spec.specs.Invocation.{invoke}
 use Rattle.ob_invocation_laws.specs.Laws.{runs}
@@ -183,3 +186,36 @@ RunsMeetStates =
     (program : SilicaProgram) (content : Content) (fuel : ℕ) (e : Entry) (n : ℕ) (c : Configuration)
     → IsCheckedProgram program → IsStoreAtRest program.table content → IsEntered program.table content e
     → then_steps (started program content fuel e) (steps program n) ≡ goes c → MeetsStates program.table c
+
+-- What was asked of what is entered: its arguments are as many as the parameters, each of its parameter's type; handles serve; no
+-- object that is used as the owner's is used twice; there is a name for what is given, and only then.
+pub record HasPassed (table : ClassTable) (content : Content) (e : Entry) : Type 0 where
+  pub count : has_other_count e ≡ false
+  pub kind : has_other_kind table content e ≡ false
+  pub permission : lacks_permission content e ≡ false
+  pub repeated : repeats_object content e ≡ false
+  pub into_missing : lacks_into e ≡ false
+  pub into_needless : has_needless_into e ≡ false
+  pub into : (name : List ℕ) → e.into ≡ Some name
+      → (is_taken content (handle_name e.who name) ≡ false) × (are_handles_full content ≡ false)
+
+-- what a `new` enters
+pub record EntersNew (table : ClassTable) (e : Entry) : Type 0 where
+  pub receiver : e.receiver ≡ None
+  pub constructor : constructor_at table e.contract ≡ Some e.signature
+  pub tx : e.tx ≡ record { 0 = 0 }
+  pub given : e.given ≡ Some e.signature.exit.mode
+
+-- what a `call` enters
+pub record EntersCall (table : ClassTable) (content : Content) (e : Entry) : Type 0 where
+  pub name : HandleName
+  pub handle : Handle
+  pub found : handle_at content name ≡ Some handle
+  pub object : Object
+  pub there : object_at content.objects handle.object ≡ Some object
+  pub contract : object.contract ≡ e.contract
+  pub own : Contract
+  pub is_own : contract_at table e.contract ≡ Some own
+  pub signature : signature_at own e.tx ≡ Some e.signature
+  pub receiver : e.receiver ≡ Some (used_as_receiver name handle e.contract e.signature)
+  pub given : e.given ≡ mode_of_result e.signature.result
