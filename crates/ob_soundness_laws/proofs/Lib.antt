@@ -1,0 +1,6 @@
+pub mod Many
+pub mod Staying
+pub mod Ending
+pub mod Resting
+pub mod Settling
+pub mod Entries
