@@ -1,61 +1,50 @@
 -- At a return: owners are in the declared states, and the context leaves as the body declares.
-use Rattle.std.proofs.Common.{◌≡◌, ◌≢◌, ℕ, zero, suc, ◌+◌, ◌<◌, ◌≤◌, ◌⊎◌, inl, inr, ⊎_elim, Bool, true, false, not, ◌&&◌, ◌||◌, nat_eq, List, [], ◌∷◌, length, map, Option, Some, None, slice_get, is_some, refl, sym, ap, ◌∙◌, subst, arith, eq-eqb, true≢false}
-use Rattle.std.specs.Prelude.{IsSomeAnd, IfSome, if◌then◌else◌}
-use Rattle.std.specs.Option.{option_map_or, option_and_then}
-use Rattle.std.proofs.lemmas.Bool.{both_ways, cases_Bool, cases_lt, and_from, or_right, or_left}
-use Rattle.std.proofs.lemmas.List.{length-map}
+use Rattle.std.proofs.Common.{◌≡◌, ◌≢◌, ℕ, zero, suc, ◌+◌, ◌<◌, ◌≤◌, inl, ⊎_elim, Bool, true, false, not, ◌||◌, List, [], ◌∷◌, length, map, Option, Some, None, slice_get, refl, sym, ap, ◌∙◌, subst, arith, true≢false}
+use Rattle.std.specs.Prelude.{if◌then◌else◌}
+use Rattle.std.specs.Option.{option_map_or}
+use Rattle.std.proofs.lemmas.Bool.{both_ways, cases_Bool, cases_lt, and_from, or_right}
 use Rattle.ob_base.specs.declared.id.ContractId.{ContractId}
-use Rattle.ob_base.specs.declared.id.StateId.{StateId}
 use Rattle.ob_base.specs.declared.permission.Perm.{Perm}
 use Rattle.ob_base.specs.declared.permission.Mode.{Mode}
 use Rattle.ob_base.specs.declared.permission.Mode.TheVariants.{Owned, Shared, Unowned}
 use Rattle.ob_perm.specs.States.{States, states_max, stateless, all_states, all_below}
-use Rattle.ob_perm.specs.Permissions.{Permission, owned, shared, unowned, owns, is_unowned, kept, fits, matches, possible}
+use Rattle.ob_perm.specs.Permissions.{Permission, owned, shared, unowned, owns, kept, fits, possible}
 use Rattle.ob_perm.specs.Masks.{states_of, held, permission_of}
-use Rattle.ob_perm.proofs.SetLemmas.{all_below_from}
 use Rattle.ob_table.specs.Tables.{ClassTable, contract_at}
-use Rattle.ob_table.specs.declared.contract.Contract.{Contract}
 use Rattle.ob_table.specs.declared.contract.Field.{Field}
-use Rattle.ob_table.specs.declared.contract.Param.{Param}
 use Rattle.ob_table.specs.declared.contract.ResolvedType.{ResolvedType}
 use Rattle.ob_table.specs.declared.contract.ResolvedType.TheVariants.{Reference as TypedReference, Int as IntType, Bool as BoolType, Text as TextType}
-use Rattle.ob_table.specs.declared.contract.Signature.{Signature}
-use Rattle.ob_table.specs.declared.seen.Kind.{Kind}
-use Rattle.ob_table.specs.declared.seen.Kind.TheVariants.{Reference}
 use Rattle.ob_table_spec.specs.Conditions.{IsClassTable}
 use Rattle.ob_table_spec.specs.WellFormed.{kind_of_resolved}
 use Rattle.ob_heap_spec.specs.Values.{Value, int_value, bool_value, text_value, reference, referred}
-use Rattle.ob_heap_spec.specs.Objects.{Object, is_available, state_number, has_field, is_in_states, has_all_values}
-use Rattle.ob_heap_spec.specs.Contents.{object_at, IsStateOf}
-use Rattle.ob_heap_spec.specs.GoingWrong.{has_its_state, is_finished, is_held_within, is_within, type_at_exit}
-use Rattle.ob_silica_places.specs.Known.{Known, known, permission_of_type}
+use Rattle.ob_heap_spec.specs.Objects.{Object, state_number, is_in_states}
+use Rattle.ob_heap_spec.specs.Contents.{IsStateOf}
+use Rattle.ob_heap_spec.specs.GoingWrong.{is_held_within, is_within, type_at_exit}
+use Rattle.ob_silica_places.specs.Known.{Known, permission_of_type}
 use Rattle.ob_silica_places.specs.Places.{Location, slot, field, this, same_location}
-use Rattle.ob_silica_places.specs.Converting.{converted}
-use Rattle.ob_silica_places.specs.Parameters.{Parameter, parameter_of, parameters, all_parameters, this_parameter}
+use Rattle.ob_silica_places.specs.Parameters.{Parameter, parameter_of, all_parameters, this_parameter}
 use Rattle.ob_silica_steps.specs.Binding.{bound_cell}
-use Rattle.ob_silica_steps.specs.Cells.{Cell, cell, permission_in, value_in}
-use Rattle.ob_silica_steps.specs.Configurations.{SlotCells, How, by_receiver, by_this, by_new, Ends, plain_end, test_end, lock_end, Rest, Control, runs, Configuration}
+use Rattle.ob_silica_steps.specs.Cells.{Cell, cell, value_in}
+use Rattle.ob_silica_steps.specs.Configurations.{SlotCells, by_new, Ends, plain_end, test_end, lock_end, Rest, Configuration}
 use Rattle.ob_silica_steps.specs.Entering.{are_within}
 use Rattle.ob_silica_steps.specs.Here.{Here, here, self_of}
 use Rattle.ob_silica_steps.specs.Returning.{at_exit, exits_are_within}
-use Rattle.ob_silica.specs.Terms.{SilicaTerms}
-use Rattle.ob_flow_spec.specs.Contexts.{BodyFrame, constructs, field_count, available, Context, put, now, with_permission, permission_on, permission_at, is_set, is_held_as, is_owned_asset, owns_asset, possible_under, maybe_there, is_tested, exit_of_field}
-use Rattle.ob_flow_spec.specs.Joining.{same_mode}
+use Rattle.ob_flow_spec.specs.Contexts.{BodyFrame, constructs, field_count, available, Context, with_permission, permission_on, permission_at, is_held_as, is_owned_asset, owns_asset, possible_under, is_tested, exit_of_field}
 use Rattle.ob_flow_spec.specs.Returning.{tests_ended}
 use Rattle.ob_flow_spec.specs.Uses.{after_give}
-use Rattle.ob_flow_laws.specs.Laws.{MeetsExit, IsConstructed, MeetsExits}
+use Rattle.ob_flow_laws.specs.Laws.{MeetsExit, MeetsExits}
 use Rattle.ob_flow_laws.proofs.Held.{held_known, matches_owned, fits_owned}
 use Rattle.ob_places_laws.specs.Serving.{Allows, AreAmong}
-use Rattle.ob_places_laws.proofs.Permissions.{owner_is, same_mode_owns, fits_from, kept_owns}
+use Rattle.ob_places_laws.proofs.Permissions.{owner_is, fits_from}
 use Rattle.ob_places_laws.proofs.Sets.{among_from_subset, among_onward, meets_from}
 use Rattle.ob_places_laws.proofs.SeenStates.{state_in_all}
 use Rattle.ob_places_laws.proofs.Conversions.{converted_same, serves_itself}
-use Rattle.ob_places_laws.proofs.Tables.{there_so, there_from}
-use Rattle.ob_coherent_spec.specs.Counting.{nth_object, one_if, field_cell, owners}
-use Rattle.ob_coherent_spec.specs.Runs.{around, tests_at, tests_around, tests_in, tests_among, tested_places, tested_before, open_tests}
-use Rattle.ob_coherent_spec.specs.Standing.{Stands, IsObjectInRun, NeedsOwner, HasItsState}
-use Rattle.ob_coherent_spec.specs.Saying.{Agrees, SaysOf, own_object, own_cell}
-use Rattle.ob_coherent_spec.specs.Remaining.{body_of, IsPlaceIn}
+use Rattle.ob_places_laws.proofs.Tables.{there_so}
+use Rattle.ob_coherent_spec.specs.Counting.{nth_object}
+use Rattle.ob_coherent_spec.specs.Runs.{around, tests_at, tests_around, tests_in, tested_places, tested_before, open_tests}
+use Rattle.ob_coherent_spec.specs.Standing.{Stands, NeedsOwner}
+use Rattle.ob_coherent_spec.specs.Saying.{Agrees, SaysOf}
+use Rattle.ob_coherent_spec.specs.Remaining.{body_of}
 use Rattle.ob_coherent_spec.specs.OpenTests.{IsOpen, AreOpen}
 use Rattle.ob_coherent_spec.specs.Coherent.{Beginning, LeavesSo, IsRunning}
 use Rattle.ob_coherent_counting_laws.proofs.Numbers.{one_same}
@@ -64,9 +53,8 @@ use Rattle.ob_coherent_places_laws.specs.Placed.{Sits}
 use Rattle.ob_coherent_places_laws.proofs.Reading.{place_is, same_place}
 use Rattle.ob_coherent_places_laws.proofs.Carrying.{kept_is_owned}
 use Rattle.ob_coherent_places_laws.proofs.Keeping.{put_that, put_other}
-use Rattle.ob_coherent_places_laws.proofs.Finding.{own_is, own_state_low, state_possible}
+use Rattle.ob_coherent_places_laws.proofs.Finding.{own_state_low, state_possible}
 use Rattle.ob_coherent_places_laws.proofs.Getting.{bound_stands, objects_low}
-use Rattle.ob_coherent_places_laws.proofs.Handing.{sits_holding}
 use Rattle.ob_coherent_tests_laws.proofs.Tested.{test_not_made}
 use Rattle.ob_coherent_returns_laws.proofs.Leaving.{made_of}
 

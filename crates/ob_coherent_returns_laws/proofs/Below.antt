@@ -1,19 +1,18 @@
 -- Frames that wait go on waiting where a call of an object that isn't theirs has ended.
-use Rattle.std.proofs.Common.{◌≡◌, ◌≢◌, ℕ, zero, suc, ◌+◌, ◌<◌, ◌≤◌, ◌⊎◌, inl, inr, ⊎_elim, Bool, true, false, List, [], ◌∷◌, length, Option, Some, None, refl, sym, ap, ◌∙◌, subst, arith}
+use Rattle.std.proofs.Common.{◌≡◌, ◌≢◌, ℕ, ◌+◌, ◌<◌, ◌⊎◌, inl, inr, Bool, List, [], ◌∷◌, refl, sym, ◌∙◌, subst, arith}
 use Rattle.ob_table.specs.Tables.{ClassTable}
 use Rattle.ob_heap_spec.specs.Worlds.{World}
 use Rattle.ob_silica_places.specs.Places.{Location, slot, field}
 use Rattle.ob_silica_steps.specs.Configurations.{How, by_receiver, by_this, by_new, SilicaFrame, Ends, plain_end, test_end, lock_end, Rest, Loan, Waiting, Notes, Configuration}
-use Rattle.ob_silica_steps.specs.Here.{Here, self_of, read}
+use Rattle.ob_silica_steps.specs.Here.{self_of, read}
 use Rattle.ob_flow_spec.specs.Contexts.{BodyFrame, Context}
-use Rattle.ob_coherent_spec.specs.Counting.{owners}
-use Rattle.ob_coherent_spec.specs.Runs.{times, tests_in, tests_among, entered_among, constructing_among}
+use Rattle.ob_coherent_spec.specs.Runs.{times, tests_among, entered_among}
 use Rattle.ob_coherent_spec.specs.Saying.{Says}
 use Rattle.ob_coherent_spec.specs.Remaining.{BodyParts}
 use Rattle.ob_coherent_spec.specs.OpenTests.{IsTestOf, IsOpen, AreOpen}
-use Rattle.ob_coherent_spec.specs.Waiting.{tests_of, SharesThis, waiting_here, is_settled, IsLoan, AreLoans, IsNotAmong, IsApart, Waits, AllWait}
+use Rattle.ob_coherent_spec.specs.Waiting.{tests_of, SharesThis, waiting_here, is_settled, AreLoans, IsNotAmong, IsApart, Waits, AllWait}
 use Rattle.ob_coherent_frames_laws.proofs.Near.{IsAmong}
-use Rattle.ob_coherent_counting_laws.proofs.Frames.{tests_other, entered_other, constructing_other}
+use Rattle.ob_coherent_counting_laws.proofs.Frames.{tests_other, entered_other}
 
 not_that : (n me : ℕ) (above : List ℕ) → IsNotAmong n above → IsAmong me above → n ≢ me
 not_that n me [] a h e = absurd h

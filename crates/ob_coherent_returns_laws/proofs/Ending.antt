@@ -1,20 +1,19 @@
 -- A frame that leaves ends the tests that are open in it, one after another.
-use Rattle.std.proofs.Common.{◌≡◌, ◌≢◌, ℕ, zero, suc, ◌+◌, ◌<◌, ◌≤◌, ◌⊎◌, inl, inr, ⊎_elim, Bool, true, false, nat_eq, ◌||◌, List, [], ◌∷◌, length, Option, Some, None, slice_get, refl, sym, ap, ◌∙◌, subst, arith, eq-eqb}
-use Rattle.std.proofs.lemmas.Bool.{both_ways, cases_Bool, cases_lt, or_right}
+use Rattle.std.proofs.Common.{◌≡◌, ◌≢◌, ℕ, ◌+◌, ◌<◌, ◌≤◌, inl, inr, ⊎_elim, true, false, nat_eq, List, ◌∷◌, Option, Some, None, refl, sym, ap, ◌∙◌, subst, arith}
+use Rattle.std.proofs.lemmas.Bool.{both_ways, or_right}
 use Rattle.std.proofs.lemmas.Bool.Decides.{eqb_tells}
 use Rattle.ob_perm.specs.Permissions.{Permission, owned, shared, unowned, owns}
 use Rattle.ob_perm.specs.Masks.{permission_of}
 use Rattle.ob_table.specs.Tables.{ClassTable, contract_at}
-use Rattle.ob_table.specs.declared.contract.Contract.{Contract}
 use Rattle.ob_table_spec.specs.Conditions.{IsClassTable}
-use Rattle.ob_heap_spec.specs.Values.{Value, reference}
+use Rattle.ob_heap_spec.specs.Values.{reference}
 use Rattle.ob_heap_spec.specs.Objects.{state_number, has_field}
 use Rattle.ob_heap_spec.specs.Worlds.{World}
 use Rattle.ob_heap_spec.specs.Marks.{without_first}
-use Rattle.ob_silica_places.specs.Known.{Known, known}
+use Rattle.ob_silica_places.specs.Known.{Known}
 use Rattle.ob_silica_places.specs.Places.{Location, slot, field, this, same_location}
 use Rattle.ob_silica_steps.specs.Cells.{Cell, noted, permission_in}
-use Rattle.ob_silica_steps.specs.Configurations.{SlotCells, by_new, Ends, plain_end, test_end, lock_end, Rest, Control, leaves, Notes, Configuration}
+use Rattle.ob_silica_steps.specs.Configurations.{by_new, Ends, plain_end, test_end, lock_end, Rest, leaves, Configuration}
 use Rattle.ob_silica_steps.specs.Here.{Here, here, self_of, set_permission}
 use Rattle.ob_silica_steps.specs.Returning.{leave_step}
 use Rattle.ob_silica_steps.specs.Testing.{end_branch}
@@ -24,14 +23,14 @@ use Rattle.ob_flow_spec.specs.Returning.{tests_ended}
 use Rattle.ob_flow_laws.specs.Laws.{MeetsExit}
 use Rattle.ob_places_laws.proofs.Serves.{allows_owner}
 use Rattle.ob_coherent_spec.specs.Counting.{nth_object, one_if, field_cell, Counted, any, in_cell, in_slots, in_objects, in_control, in_all, owners, references}
-use Rattle.ob_coherent_spec.specs.Runs.{times, around, locks_at, locks_around, tests_at, tests_around, tests_in, tested_places, tested_before, open_tests, constructing_among}
+use Rattle.ob_coherent_spec.specs.Runs.{times, around, locks_at, locks_around, tests_at, tests_in, tested_places, tested_before}
 use Rattle.ob_coherent_spec.specs.Standing.{RefersToShared, Stands, AllStand, IsObjectInRun, NeedsOwner, HasItsState}
-use Rattle.ob_coherent_spec.specs.Saying.{Agrees, SaysOf, Says, own_cell, own_object, every}
+use Rattle.ob_coherent_spec.specs.Saying.{SaysOf, own_object, every}
 use Rattle.ob_coherent_spec.specs.Remaining.{body_of, IsPlaceIn}
 use Rattle.ob_coherent_spec.specs.OpenTests.{IsTestOf, IsOpen, IsNew, AreOpen}
 use Rattle.ob_coherent_spec.specs.Waiting.{tests_of, SharesThis}
-use Rattle.ob_coherent_spec.specs.Coherent.{Beginning, Holds, IsGivenBack, LeavesSo, IsLeaving, IsCoherent, leaving, StepsSo}
-use Rattle.ob_coherent_frames_laws.specs.Steps.{moved_to, KeepsArgument, KeepsWhole}
+use Rattle.ob_coherent_spec.specs.Coherent.{Beginning, IsGivenBack, LeavesSo, IsLeaving, leaving, StepsSo}
+use Rattle.ob_coherent_frames_laws.specs.Steps.{moved_to, KeepsWhole}
 use Rattle.ob_coherent_frames_laws.proofs.Near.{keeps_itself}
 use Rattle.ob_coherent_frames_laws.proofs.Whole.{whole_kept}
 use Rattle.ob_coherent_counting_laws.proofs.Cells.{shared_none}
@@ -45,7 +44,7 @@ use Rattle.ob_coherent_counting_laws.proofs.Low.{place_low}
 use Rattle.ob_coherent_places_laws.specs.Placed.{cell_at, Written}
 use Rattle.ob_coherent_places_laws.proofs.Reading.{read_is, place_is, same_place, kind_in_run, available_is}
 use Rattle.ob_coherent_places_laws.proofs.Writing.{permission_written, permission_world}
-use Rattle.ob_coherent_places_laws.proofs.Keeping.{put_other, written_that, slots_stand, fields_stand, in_run_written, says_written, unset_kept, opens_kept, opens_written}
+use Rattle.ob_coherent_places_laws.proofs.Keeping.{put_other, slots_stand, fields_stand, in_run_written, says_written, unset_kept, opens_kept, opens_written}
 use Rattle.ob_coherent_places_laws.proofs.Carrying.{noted_alike}
 use Rattle.ob_coherent_places_laws.proofs.Handing.{carry_arguments}
 use Rattle.ob_coherent_returns_laws.proofs.Returned.{same_gift}
@@ -235,18 +234,21 @@ module _ (table : ClassTable) (entry : Option ℕ) (beginning : Beginning) (t : 
   shares_now old held = ⊎_elim
       (λ e. (
         subst (λ n. 0 < times n c.world.progress) (sym same_self) (busy (sym e)),
-        inl (subst (λ n. owners n d ≤ 0) (sym same_self ) (let none = subst (λ n. owners n d ≡ 0) (this_is (sym e)) none_left in omega (arith, none))),
+        inl (subst (λ n. owners n d ≤ 0) (sym same_self) (let none = subst (λ n. owners n d ≡ 0) (this_is (sym e)) none_left in omega (arith, none))),
       ))
       (λ e. let s = k.shares old (ap permission_in (sym (wr.others this e)) ∙ held) in (
         subst (λ n. 0 < times n c.world.progress) (sym same_self) s.0,
         ⊎_elim
             (λ few. inl (subst (λ n. owners n d ≤ 0) (sym same_self) (let x = owners_ended (self_of c.frame.slots) in omega (arith, x, few))))
             (λ z. ⊎_elim
-                (λ i. inl (subst (λ n. owners n d ≤ 0) (i.1 ∙ sym same_self) (omega (arith, none_left))))
-                (λ i. inr (z.0, subst (λ n. 0 < times n ls) (sym same_self)
-                    (let other = ap one_if i.0 in let x = ends (self_of c.frame.slots) in let y = locks_tested (self_of c.frame.slots) c.frame.slots r.ends in
-                    let v = unlocks (self_of c.frame.slots) in let w = z.1 in omega (arith, other, x, y, v, w))))
-                (eqb_tells m (self_of c.frame.slots)))
+            (λ i. inl (subst (λ n. owners n d ≤ 0) (i.1 ∙ sym same_self) (omega (arith, none_left))))
+            (λ i. inr (
+              z.0,
+              subst (λ n. 0 < times n ls) (sym same_self)
+                  (let other = ap one_if i.0 in let x = ends (self_of c.frame.slots) in let y = locks_tested (self_of c.frame.slots) c.frame.slots r.ends in
+                  let v = unlocks (self_of c.frame.slots) in let w = z.1 in omega (arith, other, x, y, v, w)),
+            ))
+            (eqb_tells m (self_of c.frame.slots)))
             s.1,
       ))
       (place_is this p)
@@ -361,8 +363,11 @@ module _ (table : ClassTable) (entry : Option ℕ) (beginning : Beginning) (t : 
     leaves_so = subst (λ ps. LeavesSo (body_of table c.frame k.whole.parts) c.frame.how (tests_ended ps k.context)
         (state_number (nth_object c.world.objects (self_of c.frame.slots)).state)) same_places k.leaves_so;
     placed = k.placed;
-    shares = λ old held. let s = k.shares old held in (s.0, ⊎_elim
-        (λ few. inl (let x = same_all owns (self_of c.frame.slots) in omega (arith, x, few))) (λ z. inr z) s.1);
+    shares = λ old held. let s = k.shares old held in (
+      s.0,
+      ⊎_elim
+          (λ few. inl (let x = same_all owns (self_of c.frame.slots) in omega (arith, x, few))) (λ z. inr z) s.1,
+    );
     unreferred = λ n has. let x = same_all any n in let y = k.unreferred n has in omega (arith, x, y);
     lends = k.lends;
   }

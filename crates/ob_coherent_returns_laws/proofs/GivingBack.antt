@@ -1,29 +1,24 @@
 -- A loan goes back: the place has its exit, and the parameter that had it is Unowned.
-use Rattle.std.proofs.Common.{◌≡◌, ◌≢◌, ℕ, zero, suc, ◌+◌, ◌<◌, ◌≤◌, ◌⊎◌, inl, inr, ⊎_elim, Bool, true, false, not, ◌&&◌, ◌||◌, List, [], ◌∷◌, length, Option, Some, None, slice_get, option_map, refl, sym, ap, ◌∙◌, subst, arith, eq-eqb}
+use Rattle.std.proofs.Common.{◌≡◌, ◌≢◌, ℕ, ◌+◌, ◌<◌, ◌≤◌, ◌⊎◌, inl, inr, ⊎_elim, Bool, true, false, not, ◌&&◌, ◌||◌, List, [], ◌∷◌, length, Option, Some, None, option_map, refl, sym, ap, ◌∙◌, subst, arith, eq-eqb}
 use Rattle.std.specs.Prelude.{⊤}
-use Rattle.std.specs.Option.{option_and_then}
-use Rattle.std.proofs.lemmas.Bool.{both_ways, cases_Bool, cases_lt, or_right, or_left}
+use Rattle.std.proofs.lemmas.Bool.{both_ways, cases_lt, or_right, or_left}
 use Rattle.std.proofs.lemmas.Bool.Decides.{eqb_tells}
 use Rattle.ob_base.specs.Limits.{most_slots}
-use Rattle.ob_perm.specs.States.{States}
 use Rattle.ob_perm.specs.Permissions.{Permission, owned, shared, unowned, owns}
 use Rattle.ob_perm.specs.Masks.{permission_of}
 use Rattle.ob_table.specs.Tables.{ClassTable}
-use Rattle.ob_table.specs.declared.contract.Field.{Field}
 use Rattle.ob_table.specs.declared.contract.ResolvedType.{ResolvedType}
 use Rattle.ob_table_spec.specs.Conditions.{IsClassTable}
 use Rattle.ob_table_spec.specs.WellFormed.{kind_of_resolved, is_reference}
-use Rattle.ob_heap_spec.specs.Values.{Value, reference}
+use Rattle.ob_heap_spec.specs.Values.{reference}
 use Rattle.ob_heap_spec.specs.Objects.{state_number}
 use Rattle.ob_heap_spec.specs.Worlds.{World}
 use Rattle.ob_silica_places.specs.Known.{Known, known}
 use Rattle.ob_silica_places.specs.Places.{Location, slot, field, this, same_location}
-use Rattle.ob_silica_places.specs.Parameters.{Parameter, all_parameters}
 use Rattle.ob_silica_steps.specs.Cells.{Cell, noted, permission_in}
-use Rattle.ob_silica_steps.specs.Configurations.{SlotCells, How, by_receiver, by_this, by_new, SilicaFrame, Rest, Loan, Waiting, leaves, Notes, Configuration}
-use Rattle.ob_silica_steps.specs.Here.{Here, here, self_of, read, set_permission}
+use Rattle.ob_silica_steps.specs.Configurations.{SlotCells, How, by_receiver, by_this, by_new, SilicaFrame, Loan, Waiting, Notes, Configuration}
+use Rattle.ob_silica_steps.specs.Here.{Here, self_of, set_permission}
 use Rattle.ob_silica_steps.specs.Returning.{without_owner, unlends}
-use Rattle.ob_silica_formed.specs.Holdings.{Holdings}
 use Rattle.ob_flow_spec.specs.Contexts.{BodyFrame, Context, available, permission_on, permission_at, is_field, is_tested}
 use Rattle.ob_flow_spec.specs.Joining.{same_mode}
 use Rattle.ob_flow_spec.specs.Uses.{kind_known}
@@ -31,11 +26,11 @@ use Rattle.ob_places_laws.specs.Serving.{Allows}
 use Rattle.ob_places_laws.proofs.Serves.{allows_itself}
 use Rattle.ob_places_laws.proofs.Permissions.{same_mode_itself}
 use Rattle.ob_coherent_spec.specs.Counting.{nth_object, field_cell, Counted, any, in_cell, in_slots, in_objects, in_handles, in_waiting, in_all, owners, references}
-use Rattle.ob_coherent_spec.specs.Runs.{times, around, entered_at, entered_among, entries, constructing_at, constructing_among, constructions, tested_places, tests_in, tests_among, open_tests, locks}
+use Rattle.ob_coherent_spec.specs.Runs.{times, entered_at, entered_among, entries, constructing_at, constructing_among, constructions, open_tests}
 use Rattle.ob_coherent_spec.specs.Standing.{Stands, AllStand, IsObjectInRun, NeedsOwner, HasItsState}
-use Rattle.ob_coherent_spec.specs.Saying.{Agrees, SaysOf, Says, own_cell}
-use Rattle.ob_coherent_spec.specs.Remaining.{BodyParts, body_of, HoldsSo, AreHeld}
-use Rattle.ob_coherent_spec.specs.Waiting.{IsFrame, tests_of, SharesThis, is_lent, has_lent, is_result, is_on_this, is_settled, waiting_here, gives_back_by, gives_back_as, AwaitsResult, IsLoan, AreLoans, LendNoField, IsApart, Waits, AllWait}
+use Rattle.ob_coherent_spec.specs.Saying.{SaysOf}
+use Rattle.ob_coherent_spec.specs.Remaining.{body_of, HoldsSo, AreHeld}
+use Rattle.ob_coherent_spec.specs.Waiting.{IsFrame, tests_of, SharesThis, is_lent, has_lent, is_result, is_on_this, is_settled, gives_back_as, AwaitsResult, IsLoan, AreLoans, LendNoField, IsApart, Waits, AllWait}
 use Rattle.ob_coherent_spec.specs.Coherent.{Beginning, IsAsDeclared, Holds, LeavesWith, IsCoherent, returning, StepsSo}
 use Rattle.ob_coherent_frames_laws.specs.Steps.{KeepsArgument}
 use Rattle.ob_coherent_frames_laws.proofs.Near.{IsNear, frame_with, all_near, each_self, keeps_itself}
@@ -45,7 +40,7 @@ use Rattle.ob_coherent_counting_laws.proofs.Cells.{unowned_none, cell_noted_none
 use Rattle.ob_coherent_counting_laws.proofs.Places.{in_slot}
 use Rattle.ob_coherent_counting_laws.proofs.Writing.{IsLow, in_here, in_place}
 use Rattle.ob_coherent_counting_laws.proofs.Frames.{tests_in_same}
-use Rattle.ob_coherent_counting_laws.proofs.Sums.{at_same, at_other}
+use Rattle.ob_coherent_counting_laws.proofs.Sums.{at_other}
 use Rattle.ob_coherent_counting_laws.proofs.Low.{set_slot_low, field_low}
 use Rattle.ob_coherent_counting_laws.proofs.Lending.{unlent, unlent_with, unlent_self}
 use Rattle.ob_coherent_places_laws.specs.Placed.{cell_at, Written, IsAlike}
@@ -54,7 +49,6 @@ use Rattle.ob_coherent_places_laws.proofs.Writing.{permission_written, permissio
 use Rattle.ob_coherent_places_laws.proofs.Keeping.{written_that, slots_stand, fields_stand, in_run_written, slots_kept, unset_kept, reads_written, opens_kept, opens_written, few_parameters, frame_kept}
 use Rattle.ob_coherent_places_laws.proofs.Carrying.{noted_alike}
 use Rattle.ob_coherent_places_laws.proofs.Getting.{objects_low}
-use Rattle.ob_coherent_returns_laws.proofs.Below.{is_far}
 use Rattle.ob_coherent_returns_laws.proofs.Returned.{back_to, Returned, to_returning, same_gift}
 use Rattle.ob_coherent_returns_laws.proofs.Lent.{state_of, back_owners, back_kept, back_shared, back_stands}
 
@@ -253,7 +247,7 @@ module _ (table : ClassTable) (entry : Option ℕ) (beginning : Beginning) (t : 
   fields_now : (n : ℕ) → AllStand table w.objects (field_cell given_notes w.objects n)
   fields_now n = ⊎_elim
       (λ e. subst (λ i. AllStand table w.objects (field_cell given_notes w.objects i)) (same_below ∙ sym e.1)
-          (fields_stand before after l.place (Some (noted l.exit a.cell)) wr table back_is (k.whole.fields (self_of h.frame.slots))))
+      (fields_stand before after l.place (Some (noted l.exit a.cell)) wr table back_is (k.whole.fields (self_of h.frame.slots))))
       (λ e j x set. k.whole.fields n j x (sym (other_field n j e.1) ∙ set))
       (eqb_tells n (self_of h.frame.slots))
 
@@ -413,19 +407,25 @@ module _ (table : ClassTable) (entry : Option ℕ) (beginning : Beginning) (t : 
   await_too : (r : Option ℕ) (gift : Option ResolvedType) → AwaitsResult (body_of table h.frame wt.parts) wt.context h r gift
       → AwaitsResult (body_of table h.frame wt.parts) wt.context waiting_on r gift
   await_too None None b = tt
-  await_too (Some i) (Some of) b = (b.0, b.1, b.2, λ x set. ⊎_elim
-      (λ e. ap (λ (y : Cell). is_reference y.note.kind) (some_same x (noted l.exit a.cell)
-          (sym set ∙ written_that before after l.place (Some (noted l.exit a.cell)) wr (slot i) e))
-          ∙ b.3 a.cell (subst (λ p. cell_at before p ≡ Some a.cell) (sym e) found))
-      (λ e. b.3 x (sym (wr.others (slot i) e) ∙ set))
-      (place_is (slot i) l.place), b.4)
+  await_too (Some i) (Some of) b = (
+    b.0,
+    b.1,
+    b.2,
+    λ x set. ⊎_elim
+        (λ e. ap (λ (y : Cell). is_reference y.note.kind) (some_same x (noted l.exit a.cell)
+        (sym set ∙ written_that before after l.place (Some (noted l.exit a.cell)) wr (slot i) e))
+        ∙ b.3 a.cell (subst (λ p. cell_at before p ≡ Some a.cell) (sym e) found))
+        (λ e. b.3 x (sym (wr.others (slot i) e) ∙ set))
+        (place_is (slot i) l.place),
+    b.4,
+  )
   await_too None (Some of) b = absurd b
   await_too (Some i) None b = absurd b
 
   held_too : AreHeld wt.holdings given_slots (λ p. not (is_result h.result p))
   held_too j x free set = ⊎_elim
       (λ e. subst (HoldsSo (wt.holdings j)) (some_same (noted l.exit a.cell) x (sym (written_that before after l.place (Some (noted l.exit a.cell)) wr (slot j) e) ∙ set))
-          (let r = wt.held j a.cell free (subst (λ p. cell_at before p ≡ Some a.cell) (sym e) found) in record { kind = r.kind; refers = r.refers }))
+      (let r = wt.held j a.cell free (subst (λ p. cell_at before p ≡ Some a.cell) (sym e) found) in record { kind = r.kind; refers = r.refers }))
       (λ e. wt.held j x free (sym (wr.others (slot j) e) ∙ set))
       (place_is (slot j) l.place)
 
@@ -440,12 +440,12 @@ module _ (table : ClassTable) (entry : Option ℕ) (beginning : Beginning) (t : 
     says = record {
       slots = λ j e. ⊎_elim
           (λ i. subst (SaysOf N (wt.context (slot j))) (sym (written_that before after l.place (Some (noted l.exit a.cell)) wr (slot j) i))
-              (subst (λ p. SaysOf N (wt.context p) (Some (noted l.exit a.cell))) (sym i) says_back))
+          (subst (λ p. SaysOf N (wt.context p) (Some (noted l.exit a.cell))) (sym i) says_back))
           (λ i. subst (SaysOf N (wt.context (slot j))) (sym (wr.others (slot j) i)) (wt.says.slots j (settled_too (slot j) i e)))
           (place_is (slot j) l.place);
       fields = λ j there e. ⊎_elim
           (λ i. subst (SaysOf N (wt.context (field j))) (sym (written_that before after l.place (Some (noted l.exit a.cell)) wr (field j) i))
-              (subst (λ p. SaysOf N (wt.context p) (Some (noted l.exit a.cell))) (sym i) says_back))
+          (subst (λ p. SaysOf N (wt.context p) (Some (noted l.exit a.cell))) (sym i) says_back))
           (λ i. subst (SaysOf N (wt.context (field j))) (sym (wr.others (field j) i)) (wt.says.fields j
           (subst (λ n. available (body_of table h.frame wt.parts) j (state_number (nth_object w.objects n).state) ≡ true) same_below there) (settled_too (field j) i e)))
           (place_is (field j) l.place);
@@ -493,9 +493,11 @@ module _ (table : ClassTable) (entry : Option ℕ) (beginning : Beginning) (t : 
   keeps_below : (j : ℕ) (x : Cell) → h.frame.slots j ≡ Some x → KeepsArgument (λ n. owners n d) x (given_slots j)
   keeps_below j x set = ⊎_elim
       (λ e. subst (KeepsArgument (λ n. owners n d) x) (sym (written_that before after l.place (Some (noted l.exit a.cell)) wr (slot j) e))
-          (let same : a.cell ≡ x = some_same a.cell x (sym found ∙ ap (cell_at before) (sym e) ∙ set) in
-          (ap (λ (y : Cell). y.value) same, ap (λ (y : Cell). y.note.kind) same,
-          λ held. inr (λ n refers. let none = gone_shared held n (ap (λ (y : Cell). y.value) same ∙ refers) in let o = owners_less n in omega (arith, o, none)))))
+      (let same : a.cell ≡ x = some_same a.cell x (sym found ∙ ap (cell_at before) (sym e) ∙ set) in (
+        ap (λ (y : Cell). y.value) same,
+        ap (λ (y : Cell). y.note.kind) same,
+        λ held. inr (λ n refers. let none = gone_shared held n (ap (λ (y : Cell). y.value) same ∙ refers) in let o = owners_less n in omega (arith, o, none)),
+      )))
       (λ e. keeps_itself (λ n. owners n d) x (given_slots j) (wr.others (slot j) e ∙ set))
       (place_is (slot j) l.place)
 

@@ -1,51 +1,48 @@
 -- A return hands a value over: its place keeps what a giver keeps, and the frame leaves with the value.
-use Rattle.std.proofs.Common.{◌≡◌, ◌≢◌, ℕ, zero, suc, ◌+◌, ◌<◌, ◌≤◌, ◌⊎◌, inl, inr, ⊎_elim, Bool, true, false, List, [], ◌∷◌, length, Option, Some, None, slice_get, refl, sym, ap, ◌∙◌, subst, arith, true≢false}
-use Rattle.std.proofs.lemmas.Bool.{both_ways, cases_Bool, cases_lt}
-use Rattle.ob_base.specs.Limits.{most_slots}
+use Rattle.std.proofs.Common.{◌≡◌, ℕ, ◌+◌, ◌<◌, ◌≤◌, ◌⊎◌, inl, inr, ⊎_elim, true, false, List, [], ◌∷◌, length, Option, Some, refl, sym, ap, ◌∙◌, subst, arith, true≢false}
+use Rattle.std.proofs.lemmas.Bool.{both_ways, cases_lt}
 use Rattle.ob_perm.specs.States.{States}
 use Rattle.ob_perm.specs.Permissions.{Permission, owned, shared, unowned, owns, is_unowned, kept, fits}
 use Rattle.ob_table.specs.Tables.{ClassTable}
 use Rattle.ob_table.specs.declared.contract.ResolvedType.{ResolvedType}
 use Rattle.ob_table_spec.specs.Conditions.{IsClassTable}
 use Rattle.ob_table_spec.specs.WellFormed.{kind_of_resolved, serves_as}
-use Rattle.ob_heap_spec.specs.Values.{Value, reference}
+use Rattle.ob_heap_spec.specs.Values.{reference}
 use Rattle.ob_heap_spec.specs.Objects.{state_number}
 use Rattle.ob_silica.specs.Terms.{SilicaTerms}
 use Rattle.ob_silica_places.specs.Converting.{converted}
-use Rattle.ob_silica_places.specs.Known.{Known, known, permission_of_type}
-use Rattle.ob_silica_places.specs.Places.{Location, slot, field, this, same_location}
+use Rattle.ob_silica_places.specs.Known.{permission_of_type}
+use Rattle.ob_silica_places.specs.Places.{Location, this}
 use Rattle.ob_silica_steps.specs.Cells.{Cell, noted, permission_in}
-use Rattle.ob_silica_steps.specs.Configurations.{SlotCells, How, by_receiver, by_this, by_new, Rest, Waiting, Control, runs, leaves, Configuration}
+use Rattle.ob_silica_steps.specs.Configurations.{Rest, Waiting, Control, runs, leaves, Configuration}
 use Rattle.ob_silica_steps.specs.Here.{Here, here, self_of, hand}
 use Rattle.ob_silica_steps.specs.Here.{counted as counts_as}
 use Rattle.ob_silica_steps.specs.Binding.{bound_cell}
-use Rattle.ob_flow_spec.specs.Contexts.{BodyFrame, Context, put, with_permission, permission_on, permission_at, known_as, is_tested}
+use Rattle.ob_flow_spec.specs.Contexts.{BodyFrame, with_permission, permission_on, permission_at, is_tested}
 use Rattle.ob_flow_spec.specs.Joining.{same_mode}
 use Rattle.ob_flow_spec.specs.Returning.{tests_ended}
 use Rattle.ob_flow_spec.specs.Uses.{after_give}
-use Rattle.ob_places_laws.specs.Serving.{Allows}
-use Rattle.ob_places_laws.proofs.Permissions.{owner_is, fits_shared}
-use Rattle.ob_places_laws.proofs.Conversions.{converted_owns, converted_no_say}
-use Rattle.ob_coherent_spec.specs.Counting.{nth_object, field_cell, Counted, any, in_cell, in_slots, in_waiting, in_control, in_all, owners, references}
-use Rattle.ob_coherent_spec.specs.Runs.{times, around, constructing_at, constructing_among, constructions, tested_places}
+use Rattle.ob_places_laws.proofs.Permissions.{fits_shared}
+use Rattle.ob_places_laws.proofs.Conversions.{converted_no_say}
+use Rattle.ob_coherent_spec.specs.Counting.{nth_object, field_cell, Counted, any, in_cell, in_waiting, in_control, in_all, owners, references}
+use Rattle.ob_coherent_spec.specs.Runs.{around, constructing_at, constructing_among, tested_places}
 use Rattle.ob_coherent_spec.specs.Standing.{RefersToShared, Stands, AllStand, IsObjectInRun, NeedsOwner, HasItsState}
-use Rattle.ob_coherent_spec.specs.Saying.{SaysOf, Says, every}
+use Rattle.ob_coherent_spec.specs.Saying.{Says, every}
 use Rattle.ob_coherent_spec.specs.Remaining.{BodyParts, body_of, IsPlaceIn}
-use Rattle.ob_coherent_spec.specs.OpenTests.{AreOpen}
 use Rattle.ob_coherent_spec.specs.Waiting.{gives_back_as, tests_of, AllWait}
-use Rattle.ob_coherent_spec.specs.Coherent.{Beginning, Holds, IsGivenBack, LeavesSo, IsRunning, IsLeaving}
-use Rattle.ob_coherent_frames_laws.specs.Steps.{moved_to, KeepsWhole, KeepsQuietly}
+use Rattle.ob_coherent_spec.specs.Coherent.{Beginning, IsGivenBack, LeavesSo, IsRunning, IsLeaving}
+use Rattle.ob_coherent_frames_laws.specs.Steps.{moved_to, KeepsQuietly}
 use Rattle.ob_coherent_frames_laws.proofs.Entered.{innermost_in_progress}
 use Rattle.ob_coherent_frames_laws.proofs.Quiet.{EndsSame, ends_itself, quiet_whole, quiet_shares}
 use Rattle.ob_coherent_frames_laws.proofs.Whole.{whole_kept}
-use Rattle.ob_coherent_counting_laws.proofs.Cells.{cell_counted, counted_cell}
+use Rattle.ob_coherent_counting_laws.proofs.Cells.{cell_counted}
 use Rattle.ob_coherent_counting_laws.proofs.Places.{in_slot}
 use Rattle.ob_coherent_counting_laws.proofs.Frames.{constructing_by}
 use Rattle.ob_coherent_counting_laws.proofs.Whole.{all_but_here, place_and_waiting}
 use Rattle.ob_coherent_counting_laws.proofs.Low.{place_low, set_slot_low}
 use Rattle.ob_coherent_counting_laws.proofs.Permitting.{hand_counts}
 use Rattle.ob_coherent_places_laws.specs.Placed.{cell_at, Written, Found, Sits}
-use Rattle.ob_coherent_places_laws.proofs.Reading.{place_is, kind_in_run}
+use Rattle.ob_coherent_places_laws.proofs.Reading.{place_is}
 use Rattle.ob_coherent_places_laws.proofs.Standing.{reference_is, needs_stay, stands_stay, says_less}
 use Rattle.ob_coherent_places_laws.proofs.Objects.{comes_sets}
 use Rattle.ob_coherent_places_laws.proofs.Writing.{hand_written, hand_world, hand_shares, hand_disowns_none, stays_leaves}
@@ -205,7 +202,7 @@ module _ (table : ClassTable) (t : IsClassTable table) (entry : Option ℕ) (beg
     newly_shared = λ n unset set. let r = hand_shares of p u.cell (here c) n unset set in ⊎_elim
         (λ o. gone r.1 o n r.0)
         (λ o. absurd (both_ways _ unset (subst (RefersToShared c.world.objects) r.0
-            ((found_stands table t c.frame k.whole.parts (here c) k.context sits p u).marked o))))
+        ((found_stands table t c.frame k.whole.parts (here c) k.context sits p u).marked o))))
         (owner_or_shared r.1);
     newly_disowned = λ n unset set. absurd (both_ways _ (hand_disowns_none of p u.cell (here c) n ∙ unset) set);
   }
@@ -270,8 +267,11 @@ module _ (table : ClassTable) (t : IsClassTable table) (entry : Option ℕ) (beg
         (λ held. ⊎_elim
         (λ e. ⊎_elim
         (λ was. inl (ap permission_in (subst (λ q. cell_at (here c) q ≡ Some u.cell) (sym e) u.is) ∙ was))
-        (λ none. inr (innermost_in_progress table entry beginning c k.whole old, none (self_of c.frame.slots)
-        (ap (λ (x : Cell). x.value) (some_same u.cell k.whole.frame.this (sym (subst (λ q. cell_at (here c) q ≡ Some u.cell) (sym e) u.is) ∙ k.whole.frame.set)) ∙ k.whole.frame.refers)))
+        (λ none. inr (
+          innermost_in_progress table entry beginning c k.whole old,
+          none (self_of c.frame.slots)
+              (ap (λ (x : Cell). x.value) (some_same u.cell k.whole.frame.this (sym (subst (λ q. cell_at (here c) q ≡ Some u.cell) (sym e) u.is) ∙ k.whole.frame.set)) ∙ k.whole.frame.refers),
+        ))
         (newly (sym (ap permission_in (Rattle.ob_coherent_places_laws.proofs.Keeping.written_that (here c) after p (Some (noted (kept u.cell.note.permission w) u.cell)) wr this e)) ∙ held)))
         (λ e. inl (ap permission_in (sym (wr.others this e)) ∙ held))
         (place_is this p));

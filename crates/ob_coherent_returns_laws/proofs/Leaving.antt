@@ -1,5 +1,5 @@
 -- Where all tests of a frame that leaves have ended: the run ends, or what was lent goes back.
-use Rattle.std.proofs.Common.{◌≡◌, ◌≢◌, ℕ, zero, suc, ◌+◌, ◌<◌, ◌≤◌, ◌⊎◌, inl, inr, ⊎_elim, Bool, true, false, List, [], ◌∷◌, length, map, Option, Some, None, slice_get, refl, sym, ap, ◌∙◌, subst, arith}
+use Rattle.std.proofs.Common.{◌≡◌, ◌≢◌, ℕ, zero, suc, ◌+◌, ◌≤◌, ◌⊎◌, inl, inr, ⊎_elim, true, false, List, [], ◌∷◌, length, map, Option, Some, None, slice_get, refl, sym, ap, ◌∙◌, subst, arith}
 use Rattle.std.specs.Option.{option_map_or}
 use Rattle.std.proofs.lemmas.Bool.{both_ways, cases_Bool, cases_lt, and_from}
 use Rattle.ob_perm.specs.Permissions.{Permission, owned, shared, unowned, owns, matches}
@@ -9,26 +9,24 @@ use Rattle.ob_table.specs.declared.contract.Field.{Field}
 use Rattle.ob_table.specs.declared.seen.Kind.{Kind}
 use Rattle.ob_table_spec.specs.Conditions.{IsClassTable}
 use Rattle.ob_table_spec.specs.WellFormed.{kind_of_resolved}
-use Rattle.ob_table.specs.declared.contract.Param.{Param}
 use Rattle.ob_heap_spec.specs.Objects.{is_available, state_number}
 use Rattle.ob_silica_places.specs.Known.{Known, known}
-use Rattle.ob_silica_places.specs.Places.{Location, slot, field, this}
+use Rattle.ob_silica_places.specs.Places.{Location, slot, field}
 use Rattle.ob_silica_places.specs.Parameters.{Parameter, parameter_of, parameters, all_parameters, this_parameter}
-use Rattle.ob_silica_steps.specs.Cells.{Cell, permission_in, value_in}
+use Rattle.ob_silica_steps.specs.Cells.{Cell, value_in}
 use Rattle.ob_silica_steps.specs.Configurations.{How, by_receiver, by_this, by_new, Rest, Waiting, leaves, Configuration}
 use Rattle.ob_silica_steps.specs.Here.{here, self_of}
 use Rattle.ob_silica_steps.specs.Returning.{left_world}
 use Rattle.ob_flow_spec.specs.Contexts.{BodyFrame, Context, permission_on, permission_at, is_held_as, is_owned_asset, owns_asset, exit_of_field, available}
 use Rattle.ob_flow_spec.specs.Returning.{tests_ended}
 use Rattle.ob_flow_laws.specs.Laws.{MeetsExit}
-use Rattle.ob_flow_laws.proofs.Held.{held_known, matches_shared}
 use Rattle.ob_places_laws.specs.Serving.{Allows}
 use Rattle.ob_places_laws.proofs.Serves.{allows_matched}
 use Rattle.ob_coherent_spec.specs.Counting.{nth_object, in_cell}
 use Rattle.ob_coherent_spec.specs.Runs.{tested_places}
-use Rattle.ob_coherent_spec.specs.Standing.{Stands, NeedsOwner, HasItsState}
-use Rattle.ob_coherent_spec.specs.Saying.{Agrees, SaysOf, Says, own_cell, every}
-use Rattle.ob_coherent_spec.specs.Remaining.{BodyParts, body_of}
+use Rattle.ob_coherent_spec.specs.Standing.{Stands, NeedsOwner}
+use Rattle.ob_coherent_spec.specs.Saying.{SaysOf, own_cell}
+use Rattle.ob_coherent_spec.specs.Remaining.{body_of}
 use Rattle.ob_coherent_spec.specs.Waiting.{has_lent, Lends, AllLend}
 use Rattle.ob_coherent_spec.specs.Coherent.{Beginning, LeavesSo, IsLeaving, LeavesWith, IsReturning, HasEnded}
 use Rattle.ob_coherent_counting_laws.proofs.Cells.{shared_none}

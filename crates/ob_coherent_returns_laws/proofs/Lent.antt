@@ -1,32 +1,30 @@
 -- What a place gets back that was lent: who owns what, and that it stands.
-use Rattle.std.proofs.Common.{◌≡◌, ◌≢◌, ℕ, zero, suc, ◌+◌, ◌<◌, ◌≤◌, ◌⊎◌, inl, inr, ⊎_elim, Bool, true, false, List, [], ◌∷◌, length, Option, Some, None, slice_get, refl, sym, ap, ◌∙◌, subst, arith}
-use Rattle.std.proofs.lemmas.Bool.{both_ways, cases_Bool, cases_lt}
+use Rattle.std.proofs.Common.{◌≡◌, ◌≢◌, ℕ, ◌+◌, ◌<◌, ◌≤◌, ◌⊎◌, inl, inr, ⊎_elim, true, false, List, [], ◌∷◌, length, Option, Some, refl, sym, ap, ◌∙◌, subst, arith}
+use Rattle.std.proofs.lemmas.Bool.{cases_lt}
 use Rattle.std.proofs.lemmas.Bool.Decides.{eqb_tells}
 use Rattle.ob_perm.specs.States.{States, states_max}
 use Rattle.ob_perm.specs.Permissions.{Permission, owned, shared, unowned, owns}
-use Rattle.ob_perm.specs.Masks.{permission_of}
 use Rattle.ob_table.specs.Tables.{ClassTable}
 use Rattle.ob_table.specs.declared.seen.Kind.{Kind}
 use Rattle.ob_table.specs.declared.seen.Kind.TheVariants.{Int, Bool as BoolKind, Text, Reference}
 use Rattle.ob_table_spec.specs.Conditions.{IsClassTable}
-use Rattle.ob_table_spec.specs.WellFormed.{kind_of_resolved, serves_as}
+use Rattle.ob_table_spec.specs.WellFormed.{serves_as}
 use Rattle.ob_heap_spec.specs.Values.{Value, int_value, bool_value, text_value, reference}
 use Rattle.ob_heap_spec.specs.Objects.{Object, state_number}
 use Rattle.ob_heap_spec.specs.Worlds.{World}
-use Rattle.ob_silica_places.specs.Parameters.{Parameter, all_parameters}
 use Rattle.ob_silica_steps.specs.Cells.{Cell, noted}
-use Rattle.ob_silica_steps.specs.Configurations.{SlotCells, How, by_receiver, by_this, by_new, SilicaFrame, Waiting, Notes, Configuration}
+use Rattle.ob_silica_steps.specs.Configurations.{How, by_receiver, by_this, by_new, SilicaFrame, Waiting, Notes, Configuration}
 use Rattle.ob_silica_steps.specs.Here.{self_of}
 use Rattle.ob_flow_spec.specs.Joining.{same_mode}
-use Rattle.ob_places_laws.specs.Serving.{Allows, AreAmong}
+use Rattle.ob_places_laws.specs.Serving.{AreAmong}
 use Rattle.ob_coherent_spec.specs.Counting.{nth_object, in_cell}
 use Rattle.ob_coherent_spec.specs.Runs.{entered_at, entered_among, entries, constructing_at, constructing_among, constructions}
 use Rattle.ob_coherent_spec.specs.Standing.{IsOfKind, RefersToShared, is_in, RefersToIn, Stands, NeedsOwner, HasItsState}
 use Rattle.ob_coherent_spec.specs.Remaining.{BodyParts}
 use Rattle.ob_coherent_spec.specs.Waiting.{tests_of, is_on_this, IsApart, Serves, AllWait}
 use Rattle.ob_coherent_spec.specs.Coherent.{Beginning, LeavesWith}
-use Rattle.ob_coherent_counting_laws.proofs.Cells.{unowned_none, shared_none, cell_alike, cell_noted_none, counted_cell}
-use Rattle.ob_coherent_counting_laws.proofs.Frames.{entered_by, entered_other, constructing_by, constructing_other, constructing_here}
+use Rattle.ob_coherent_counting_laws.proofs.Cells.{shared_none, cell_alike, cell_noted_none}
+use Rattle.ob_coherent_counting_laws.proofs.Frames.{entered_by, entered_other, constructing_other, constructing_here}
 use Rattle.ob_coherent_places_laws.proofs.Getting.{seen_small}
 use Rattle.ob_coherent_returns_laws.proofs.Returned.{back_to, Returned}
 

@@ -1,30 +1,28 @@
 -- The slots of a frame that waited, once the result has come.
-use Rattle.std.proofs.Common.{◌≡◌, ◌≢◌, ℕ, zero, suc, ◌+◌, ◌<◌, ◌≤◌, ◌⊎◌, inl, inr, ⊎_elim, Bool, true, false, not, ◌&&◌, ◌||◌, nat_eq, List, [], ◌∷◌, length, Option, Some, None, refl, sym, ap, ◌∙◌, subst, arith}
-use Rattle.std.proofs.lemmas.Bool.{both_ways, cases_Bool, and_right}
+use Rattle.std.proofs.Common.{◌≡◌, ◌≢◌, ℕ, ◌+◌, ◌<◌, ◌≤◌, ⊎_elim, true, false, not, nat_eq, List, [], length, Option, Some, None, refl, sym, ap, ◌∙◌, subst, arith}
+use Rattle.std.proofs.lemmas.Bool.{both_ways, and_right}
 use Rattle.std.proofs.lemmas.Bool.Decides.{eqb_tells}
 use Rattle.ob_base.specs.Limits.{most_slots}
-use Rattle.ob_perm.specs.Permissions.{owns}
 use Rattle.ob_table.specs.Tables.{ClassTable}
 use Rattle.ob_table.specs.declared.contract.ResolvedType.{ResolvedType}
-use Rattle.ob_table.specs.declared.contract.ResolvedType.TheVariants.{Reference as TypedReference, Int as IntType, Bool as BoolType, Text as TextType}
 use Rattle.ob_table.specs.declared.seen.Kind.{Kind}
 use Rattle.ob_table.specs.declared.seen.Kind.TheVariants.{Int, Bool as BoolKind, Text, Reference}
 use Rattle.ob_table_spec.specs.WellFormed.{kind_of_resolved, is_reference}
 use Rattle.ob_heap_spec.specs.Values.{Value, int_value, bool_value, text_value, reference, referred}
 use Rattle.ob_heap_spec.specs.Objects.{Object}
-use Rattle.ob_silica_places.specs.Known.{Known, at}
-use Rattle.ob_silica_places.specs.Places.{Location, slot, field, this}
+use Rattle.ob_silica_places.specs.Known.{at}
+use Rattle.ob_silica_places.specs.Places.{slot, field}
 use Rattle.ob_silica_steps.specs.Cells.{Cell}
-use Rattle.ob_silica_steps.specs.Configurations.{SlotCells, How, by_receiver, by_this, by_new, Waiting}
+use Rattle.ob_silica_steps.specs.Configurations.{SlotCells, How, Waiting}
 use Rattle.ob_silica_steps.specs.Returning.{with_result}
 use Rattle.ob_silica_formed.specs.Holdings.{Holdings, held as held_as}
-use Rattle.ob_flow_spec.specs.Contexts.{BodyFrame, Context, known_as, is_field, is_tested}
+use Rattle.ob_flow_spec.specs.Contexts.{BodyFrame, Context, known_as, is_tested}
 use Rattle.ob_coherent_spec.specs.Counting.{Counted, in_cell, in_slots}
 use Rattle.ob_coherent_spec.specs.Runs.{tested_places}
 use Rattle.ob_coherent_spec.specs.Standing.{IsOfKind, Stands, AllStand}
 use Rattle.ob_coherent_spec.specs.Saying.{SaysOf, every}
 use Rattle.ob_coherent_spec.specs.Remaining.{HoldsSo, AreHeld}
-use Rattle.ob_coherent_spec.specs.Waiting.{is_lent, is_result, is_on_this, is_settled, AwaitsResult}
+use Rattle.ob_coherent_spec.specs.Waiting.{is_result, is_on_this, is_settled, AwaitsResult}
 use Rattle.ob_coherent_spec.specs.Coherent.{IsGivenBack}
 use Rattle.ob_coherent_counting_laws.proofs.Sums.{at_same, at_other}
 use Rattle.ob_coherent_counting_laws.proofs.Cells.{cell_plain}
@@ -120,12 +118,12 @@ module _ (table : ClassTable) (objects : List Object) (N : ℕ → Type 0) (b : 
           (eqb_tells j k);
       says = λ j. ⊎_elim
           (λ e. subst (λ i. SaysOf N (g (slot i)) (at h.frame.slots k (Some x) i)) (sym e.1)
-              (subst (SaysOf N (g (slot k))) (sym (at_same h.frame.slots k (Some x))) (subst (λ y. SaysOf N y (Some x)) (sym told) given)))
+          (subst (SaysOf N (g (slot k))) (sym (at_same h.frame.slots k (Some x))) (subst (λ y. SaysOf N y (Some x)) (sym told) given)))
           (λ e. subst (SaysOf N (g (slot j))) (sym (other j e.1)) (says j (slot_settled how h (Some k) is loans j e.0)))
           (eqb_tells j k);
       held = λ j y f set. ⊎_elim
           (λ e. subst (λ i. HoldsSo (holdings i) y) (sym e.1)
-              (subst (HoldsSo (holdings k)) (some_same x y (sym (at_same h.frame.slots k (Some x)) ∙ ap (at h.frame.slots k (Some x)) (sym e.1) ∙ set)) holds_result))
+          (subst (HoldsSo (holdings k)) (some_same x y (sym (at_same h.frame.slots k (Some x)) ∙ ap (at h.frame.slots k (Some x)) (sym e.1) ∙ set)) holds_result))
           (λ e. held j y (out j e.0) (sym (other j e.1) ∙ set))
           (eqb_tells j k);
       tested = λ j t. other j (λ e. both_ways _ untested (subst (λ i. is_tested (tested_places h.outer) (slot i) ≡ true) e t));

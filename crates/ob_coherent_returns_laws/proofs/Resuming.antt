@@ -1,14 +1,12 @@
 -- A frame that waited goes on, once everything that it had lent is given back.
-use Rattle.std.proofs.Common.{◌≡◌, ◌≢◌, ℕ, zero, suc, ◌+◌, ◌<◌, ◌≤◌, ◌⊎◌, inl, inr, ⊎_elim, Bool, true, false, List, [], ◌∷◌, length, Option, Some, None, slice_get, option_map, unwrap_or, refl, sym, ap, ◌∙◌, subst, arith, ne_eqb}
+use Rattle.std.proofs.Common.{◌≡◌, ◌≢◌, ℕ, zero, suc, ◌+◌, ◌<◌, ◌≤◌, ◌⊎◌, inl, inr, ⊎_elim, true, false, List, [], ◌∷◌, length, Option, Some, None, slice_get, option_map, refl, sym, ap, ◌∙◌, subst, arith, ne_eqb}
 use Rattle.std.specs.Prelude.{⊤}
 use Rattle.std.specs.Option.{option_map_or, option_and_then}
-use Rattle.std.proofs.lemmas.Bool.{both_ways, cases_Bool, cases_lt, or_right, or_left}
-use Rattle.std.proofs.lemmas.Bool.Decides.{eqb_tells}
+use Rattle.std.proofs.lemmas.Bool.{cases_lt, or_right}
 use Rattle.std.proofs.lemmas.List.{length-map}
 use Rattle.std.proofs.lemmas.Option.{slice_get_within}
-use Rattle.ob_perm.specs.States.{no_states}
-use Rattle.ob_perm.specs.Permissions.{Permission, owns, shared}
-use Rattle.ob_perm.specs.Masks.{permission_of, states_of}
+use Rattle.ob_perm.specs.Permissions.{Permission, owns}
+use Rattle.ob_perm.specs.Masks.{permission_of}
 use Rattle.ob_table.specs.Tables.{ClassTable, contract_at}
 use Rattle.ob_table.specs.declared.contract.Contract.{Contract}
 use Rattle.ob_table.specs.declared.contract.Field.{Field}
@@ -19,27 +17,26 @@ use Rattle.ob_table.specs.declared.contract.Signature.{Signature}
 use Rattle.ob_table_spec.specs.Conditions.{IsClassTable}
 use Rattle.ob_table_spec.specs.WellFormed.{kind_of_resolved}
 use Rattle.ob_heap_spec.specs.Values.{reference}
-use Rattle.ob_heap_spec.specs.Objects.{Object, is_available, state_number, has_field}
+use Rattle.ob_heap_spec.specs.Objects.{Object, is_available, state_number}
 use Rattle.ob_heap_spec.specs.Contents.{object_at}
 use Rattle.ob_heap_spec.specs.Worlds.{World}
-use Rattle.ob_silica_places.specs.Known.{Known, known, permission_of_type}
+use Rattle.ob_silica_places.specs.Known.{known, permission_of_type}
 use Rattle.ob_silica_places.specs.Places.{Location, slot, field, this, same_location}
 use Rattle.ob_silica_places.specs.Parameters.{Parameter, parameter_of, all_parameters}
 use Rattle.ob_silica_steps.specs.Cells.{Cell, permission_in}
-use Rattle.ob_silica_steps.specs.Configurations.{SlotCells, How, by_receiver, by_this, by_new, SilicaFrame, Ends, plain_end, test_end, lock_end, Rest, Waiting, runs, leaves, Notes, Configuration}
-use Rattle.ob_silica_steps.specs.Here.{Here, here, self_of, field_of, field_value, read}
+use Rattle.ob_silica_steps.specs.Configurations.{SlotCells, How, by_receiver, by_this, by_new, SilicaFrame, Ends, plain_end, test_end, lock_end, Rest, Waiting, runs, Notes, Configuration}
+use Rattle.ob_silica_steps.specs.Here.{here, self_of, field_of, field_value, read}
 use Rattle.ob_silica_steps.specs.Returning.{with_result, resumes}
-use Rattle.ob_silica_steps.specs.Starting.{declared_note}
-use Rattle.ob_flow_spec.specs.Contexts.{BodyFrame, Context, available, field_count, type_of_field, listed_at, exit_of_field, permission_at, is_field, is_tested}
+use Rattle.ob_flow_spec.specs.Contexts.{BodyFrame, available, listed_at, exit_of_field, permission_at, is_tested}
 use Rattle.ob_flow_spec.specs.Joining.{same_mode}
-use Rattle.ob_coherent_spec.specs.Counting.{nth_object, field_cell, Counted, any, in_cell, in_slots, in_objects, in_handles, in_waiting, in_all, owners, references}
-use Rattle.ob_coherent_spec.specs.Runs.{times, around, entered_at, entered_among, entries, constructing_at, constructing_among, constructions, tested_places, tested_before, tests_in, tests_among, open_tests, locks, locks_around, locks_among, locks_entry}
+use Rattle.ob_coherent_spec.specs.Counting.{nth_object, field_cell, Counted, any, in_cell, in_slots, in_objects, in_handles, in_waiting, in_all, owners}
+use Rattle.ob_coherent_spec.specs.Runs.{times, entered_at, entered_among, entries, constructing_at, constructing_among, constructions, tested_places, tested_before, tests_in, tests_among, open_tests, locks, locks_around, locks_among, locks_entry}
 use Rattle.ob_coherent_spec.specs.Standing.{NeedsOwner, HasItsState}
-use Rattle.ob_coherent_spec.specs.Saying.{SaysOf, Says, own_cell, own_object, every}
-use Rattle.ob_coherent_spec.specs.Remaining.{BodyParts, body_of}
+use Rattle.ob_coherent_spec.specs.Saying.{SaysOf, Says, every}
+use Rattle.ob_coherent_spec.specs.Remaining.{body_of}
 use Rattle.ob_coherent_spec.specs.OpenTests.{IsTestOf, IsOpen, AreOpen}
 use Rattle.ob_coherent_spec.specs.Waiting.{IsFrame, tests_of, SharesThis, is_result, is_on_this, is_settled, waiting_here, gives_back_as, AwaitsResult, IsApart, Waits, AllWait}
-use Rattle.ob_coherent_spec.specs.Coherent.{Beginning, outermost, BeganSo, IsAsDeclared, Holds, IsRunning, IsCoherent, running, StepsSo}
+use Rattle.ob_coherent_spec.specs.Coherent.{Beginning, IsAsDeclared, Holds, IsRunning, IsCoherent, running, StepsSo}
 use Rattle.ob_coherent_frames_laws.specs.Steps.{KeepsArgument}
 use Rattle.ob_coherent_frames_laws.proofs.Near.{IsNear, frame_with, all_near, each_self, keeps_itself}
 use Rattle.ob_coherent_frames_laws.proofs.Whole.{began_kept}
@@ -48,7 +45,7 @@ use Rattle.ob_coherent_counting_laws.proofs.Frames.{entered_by, entered_other, c
 use Rattle.ob_coherent_places_laws.proofs.Reading.{available_is, field_is}
 use Rattle.ob_coherent_frames_laws.proofs.Whole.{entered_same, constructing_same}
 use Rattle.ob_coherent_returns_laws.proofs.Result.{SlotsNow, slots_now, slot_settled, field_settled}
-use Rattle.ob_coherent_returns_laws.proofs.Below.{far_tests, far_entered, with_progress, progressed, all_progressed, is_far}
+use Rattle.ob_coherent_returns_laws.proofs.Below.{far_tests, with_progress, all_progressed}
 use Rattle.ob_coherent_returns_laws.proofs.Returned.{back_to, Returned, left_progress, left_is, left_times, left_aside}
 
 some_same : {A : Type 0} (x y : A) → Some x ≡ Some y → x ≡ y

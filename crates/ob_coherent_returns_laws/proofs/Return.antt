@@ -1,77 +1,73 @@
 -- The step of a return: the frame leaves with its result.
 use Rattle.std.proofs.Common.{◌≡◌, ◌≢◌, ℕ, zero, suc, ◌+◌, ◌<◌, ◌≤◌, ◌⊎◌, inl, inr, ⊎_elim, Bool, true, false, not, ◌&&◌, ◌||◌, nat_eq, List, [], ◌∷◌, length, Option, Some, None, option_map, slice_get, is_some, refl, sym, ap, ◌∙◌, subst, arith, eq-eqb, true≢false}
-use Rattle.std.specs.Prelude.{IsSomeAnd, IfSome, IsSome, ◌==◌, if◌then◌else◌}
-use Rattle.std.specs.Option.{option_map_or}
-use Rattle.std.proofs.lemmas.Bool.{both_ways, cases_Bool, cases_lt, and_from, or_right, or_left}
+use Rattle.std.specs.Prelude.{IfSome, ◌==◌, if◌then◌else◌}
+use Rattle.std.proofs.lemmas.Bool.{both_ways, cases_Bool, and_from, or_right, or_left}
 use Rattle.ob_base.specs.declared.fault.Span.{Span}
 use Rattle.ob_base.specs.declared.id.StateId.{StateId}
 use Rattle.ob_base.specs.declared.permission.Mode.{Mode}
 use Rattle.ob_base.specs.declared.permission.Mode.TheVariants.{Owned, Shared, Unowned}
-use Rattle.ob_perm.specs.States.{States, states_max, stateless}
+use Rattle.ob_perm.specs.States.{States}
 use Rattle.ob_perm.specs.Permissions.{Permission, owned, shared, unowned, owns, is_unowned, kept, fits}
 use Rattle.ob_perm.specs.Masks.{states_of, held, permission_of}
 use Rattle.ob_perm.proofs.SetLemmas.{all_below_from}
-use Rattle.ob_table.specs.Tables.{ClassTable, contract_at, signature_of, signature_at}
+use Rattle.ob_table.specs.Tables.{ClassTable, contract_at}
 use Rattle.ob_table.specs.declared.contract.Contract.{Contract}
-use Rattle.ob_table.specs.declared.contract.Field.{Field}
 use Rattle.ob_table.specs.declared.contract.ResolvedType.{ResolvedType}
 use Rattle.ob_table.specs.declared.contract.ResolvedType.TheVariants.{Reference as TypedReference}
-use Rattle.ob_table.specs.declared.contract.Signature.{Signature}
 use Rattle.ob_table.specs.declared.seen.Kind.{Kind}
 use Rattle.ob_table.specs.declared.seen.Kind.TheVariants.{Reference}
 use Rattle.ob_table_spec.specs.Conditions.{IsClassTable, IsConstructor}
 use Rattle.ob_table_spec.specs.WellFormed.{kind_of_resolved, serves_as}
-use Rattle.ob_heap_spec.specs.Values.{Value, reference}
-use Rattle.ob_heap_spec.specs.Objects.{Object, is_available, state_number, has_field, has_all_values}
+use Rattle.ob_heap_spec.specs.Values.{Value}
+use Rattle.ob_heap_spec.specs.Objects.{Object, state_number, has_field, has_all_values}
 use Rattle.ob_heap_spec.specs.Contents.{IsStateOf}
 use Rattle.ob_heap_spec.specs.GoingWrong.{has_its_state, is_finished, is_within}
-use Rattle.ob_silica.specs.Slots.{slots_of_form, slots_of_place}
+use Rattle.ob_silica.specs.Slots.{slots_of_form}
 use Rattle.ob_silica.specs.Terms.{SilicaTerms, and_term, return_form}
 use Rattle.ob_silica.specs.declared.place.Operand.{Operand}
 use Rattle.ob_silica_places.specs.Converting.{converted}
-use Rattle.ob_silica_places.specs.Known.{Known, known, permission_of_type}
+use Rattle.ob_silica_places.specs.Known.{Known, permission_of_type}
 use Rattle.ob_silica_places.specs.Places.{Location, slot, field, this, same_location, located}
 use Rattle.ob_silica_steps.specs.Binding.{bound_cell}
-use Rattle.ob_silica_steps.specs.Cells.{Cell, noted, permission_in}
-use Rattle.ob_silica_steps.specs.Configurations.{SilicaProgram, How, by_receiver, by_this, by_new, SilicaFrame, Rest, Control, runs, leaves, Configuration, NextStep, goes, stuck}
-use Rattle.ob_silica_steps.specs.Here.{Here, here, if_there, self_of, self, read, hand}
+use Rattle.ob_silica_steps.specs.Cells.{Cell, permission_in}
+use Rattle.ob_silica_steps.specs.Configurations.{SilicaProgram, How, by_receiver, by_this, by_new, SilicaFrame, Rest, Control, runs, leaves, Configuration, NextStep, stuck}
+use Rattle.ob_silica_steps.specs.Here.{here, if_there, self_of, self, read, hand}
 use Rattle.ob_silica_steps.specs.Here.{counted as counts_as}
-use Rattle.ob_silica_steps.specs.Returning.{exits_are_within, leaves_with, gives_this, gives_value, gives_none, gives, return_step}
+use Rattle.ob_silica_steps.specs.Returning.{exits_are_within, leaves_with, gives_none, gives}
 use Rattle.ob_silica_steps.specs.Steps.{act}
 use Rattle.ob_silica_formed.specs.Points.{IsReturnedAs}
 use Rattle.ob_flow_spec.specs.Contexts.{BodyFrame, constructs, available, Context, put, with_permission, permission_on, permission_at, is_set, is_held_as, is_owned_asset, is_tested}
-use Rattle.ob_flow_spec.specs.Joining.{same_mode}
-use Rattle.ob_flow_spec.specs.Returning.{result_parameter, value_returned, tests_ended}
+use Rattle.ob_flow_spec.specs.Returning.{value_returned, tests_ended}
 use Rattle.ob_flow_spec.specs.Uses.{after_give}
 use Rattle.ob_flow_laws.specs.Laws.{MeetsExit, MeetsExits}
 use Rattle.ob_flow_laws.specs.Returning.{CanGiveValue, CanReturn}
 use Rattle.ob_flow_laws.proofs.Returning.{tested_owns}
 use Rattle.ob_flow_laws.proofs.Held.{held_known}
 use Rattle.ob_places_laws.specs.Serving.{Allows}
-use Rattle.ob_places_laws.proofs.Permissions.{kept_owns, same_mode_owns}
+use Rattle.ob_places_laws.proofs.Permissions.{same_mode_owns}
 use Rattle.ob_places_laws.proofs.Serves.{fits_allowed}
 use Rattle.ob_places_laws.proofs.Conversions.{converted_same, serves_itself}
 use Rattle.ob_places_laws.proofs.Tables.{there_is, there_from, contract_is, signature_from, constructor_is}
-use Rattle.ob_coherent_spec.specs.Counting.{nth_object, field_cell, Counted, any, in_cell, in_control, in_all, owners, references}
-use Rattle.ob_coherent_spec.specs.Runs.{times, around, constructing_at, constructing_among, tested_places}
-use Rattle.ob_coherent_spec.specs.Standing.{Stands, IsObjectInRun, NeedsOwner, HasItsState}
+use Rattle.ob_coherent_spec.specs.Counting.{nth_object, Counted, any, in_control, in_all, owners}
+use Rattle.ob_coherent_spec.specs.Runs.{around, constructing_at, constructing_among, tested_places}
+use Rattle.ob_coherent_spec.specs.Standing.{IsObjectInRun, NeedsOwner, HasItsState}
 use Rattle.ob_coherent_spec.specs.Saying.{Agrees, SaysOf, Says, own_object, own_cell, every}
 use Rattle.ob_coherent_spec.specs.Remaining.{BodyParts, IsCheckedProgram, body_of, static_of, IsPlaceIn, Remains}
 use Rattle.ob_coherent_spec.specs.OpenTests.{AreOpen}
-use Rattle.ob_coherent_spec.specs.Waiting.{SharesThis, gives_back_by, gives_back_as}
-use Rattle.ob_coherent_spec.specs.Coherent.{Beginning, IsGivenBack, LeavesSo, IsRunning, IsLeaving, IsCoherent, leaving, StepsSo}
-use Rattle.ob_coherent_frames_laws.specs.Steps.{moved_to, KeepsWhole, KeepsQuietly}
+use Rattle.ob_coherent_spec.specs.Waiting.{gives_back_by}
+use Rattle.ob_coherent_spec.specs.Coherent.{Beginning, IsGivenBack, LeavesSo, IsRunning, IsLeaving, leaving, StepsSo}
+use Rattle.ob_coherent_frames_laws.specs.Steps.{moved_to, KeepsQuietly}
 use Rattle.ob_coherent_frames_laws.proofs.Near.{keeps_itself}
 use Rattle.ob_coherent_frames_laws.proofs.Quiet.{EndsSame, ends_itself, quiet_whole, quiet_shares}
 use Rattle.ob_coherent_frames_laws.proofs.Whole.{whole_kept}
 use Rattle.ob_coherent_counting_laws.proofs.Whole.{all_but_here}
 use Rattle.ob_coherent_places_laws.specs.Placed.{cell_at, Found, Sits}
-use Rattle.ob_coherent_places_laws.proofs.Reading.{read_is, place_is, self_is, field_is, available_is}
+use Rattle.ob_coherent_places_laws.proofs.Reading.{read_is, place_is, self_is, available_is}
 use Rattle.ob_coherent_places_laws.proofs.Writing.{stays_leaves, stays_itself}
 use Rattle.ob_coherent_places_laws.proofs.Finding.{found, found_at, found_stands, counts_is, agrees_allows}
 use Rattle.ob_coherent_places_laws.proofs.Keeping.{put_that, put_other}
 use Rattle.ob_coherent_places_laws.proofs.Getting.{bound_stands, objects_low}
-use Rattle.ob_coherent_places_laws.proofs.Handing.{said_fits, sits_holding}
+use Rattle.ob_coherent_places_laws.proofs.Handing.{said_fits}
 use Rattle.ob_coherent_remaining_laws.proofs.Remaining.{first_formed, first_slots, first_passes}
 use Rattle.ob_coherent_tests_laws.proofs.Operands.{place_inside, kind_found}
 use Rattle.ob_coherent_tests_laws.proofs.Unchanged.{remains_so, opens_so}
@@ -456,8 +452,8 @@ module _ (table : ClassTable) (t : IsClassTable table) (entry : Option ℕ) (beg
     leaves_made = handed_leaves table t entry beginning c k (and_term (return_form value) span rest) outer so this
         (let x = k.whole.frame.params in omega (arith, x)) v gift v_serves v_fit (gives_made c.frame.how c.frame k.whole.parts made)
         (λ q e. ap (λ y. owns (permission_on y)) (put_other k.context this (with_permission (kept (permission_at k.context this) exit) (k.context this)) q
-            (⊎_elim (λ i. absurd (both_ways _ untested (subst (λ r. is_tested (tested_places outer) r ≡ true) i e))) (λ i. i) (place_is q this)))
-            ∙ ap (λ (g : Context). owns (permission_at g q)) (sym made_context) ∙ tested_owns b (tested_places outer) k.context value can q e)
+        (⊎_elim (λ i. absurd (both_ways _ untested (subst (λ r. is_tested (tested_places outer) r ≡ true) i e))) (λ i. i) (place_is q this)))
+        ∙ ap (λ (g : Context). owns (permission_at g q)) (sym made_context) ∙ tested_owns b (tested_places outer) k.context value can q e)
         made_left placed
 
     pub made_steps : StepsSo table entry beginning (if_there (contract_at table c.frame.contract) (λ own. if_there (self (here c)) (λ o.

@@ -1,12 +1,12 @@
 -- The silent steps of a return, once all tests have ended: the run ends, a loan goes back, or the frame that waits goes on.
-use Rattle.std.proofs.Common.{◌≡◌, ℕ, List, [], ◌∷◌, Option, Some, None, refl, sym, ap, ◌∙◌, subst}
+use Rattle.std.proofs.Common.{◌≡◌, ℕ, List, [], ◌∷◌, Option, refl, sym, ap, ◌∙◌, subst}
 use Rattle.ob_table.specs.Tables.{ClassTable}
 use Rattle.ob_table_spec.specs.Conditions.{IsClassTable}
 use Rattle.ob_heap_spec.specs.Worlds.{World}
 use Rattle.ob_silica_steps.specs.Cells.{Cell}
 use Rattle.ob_silica_steps.specs.Configurations.{SilicaFrame, Loan, Waiting, Rest, Control, runs, leaves, Notes, Configuration}
 use Rattle.ob_silica_steps.specs.Returning.{gives_back, goes_back, leave_step}
-use Rattle.ob_coherent_spec.specs.Coherent.{Beginning, IsRunning, IsLeaving, IsReturning, IsCoherent, running, leaving, returning, StepsSo}
+use Rattle.ob_coherent_spec.specs.Coherent.{Beginning, IsLeaving, IsReturning, IsCoherent, running, leaving, returning, StepsSo}
 use Rattle.ob_coherent_returns_laws.proofs.Leaving.{ends_alone, leaving_returns}
 use Rattle.ob_coherent_returns_laws.proofs.Returned.{back_to, Returned, from_returning}
 use Rattle.ob_coherent_returns_laws.proofs.Resuming.{resumes_so}
