@@ -7,7 +7,7 @@ use Rattle.ob_base.specs.declared.id.ContractId.{ContractId}
 use Rattle.ob_base.specs.declared.permission.Perm.{Perm}
 use Rattle.ob_base.specs.declared.permission.Mode.{Mode}
 use Rattle.ob_base.specs.declared.permission.Mode.TheVariants.{Owned, Shared, Unowned}
-use Rattle.ob_perm.specs.States.{States, states_max, stateless, all_states, all_below}
+use Rattle.ob_perm.specs.States.{States, states_max, all_states, no_states}
 use Rattle.ob_perm.specs.Permissions.{Permission, owned, shared, unowned, owns, kept, fits, possible}
 use Rattle.ob_perm.specs.Masks.{states_of, held, permission_of}
 use Rattle.ob_table.specs.Tables.{ClassTable, contract_at}
@@ -57,6 +57,7 @@ use Rattle.ob_coherent_places_laws.proofs.Finding.{own_state_low, state_possible
 use Rattle.ob_coherent_places_laws.proofs.Getting.{bound_stands, objects_low}
 use Rattle.ob_coherent_tests_laws.proofs.Tested.{test_not_made}
 use Rattle.ob_coherent_returns_laws.proofs.Leaving.{made_of}
+use Rattle.std.proofs.lemmas.Option.{slice_get_past}
 
 some_same : {A : Type 0} (x y : A) → Some x ≡ Some y → x ≡ y
 some_same x y e = cc
@@ -270,7 +271,7 @@ module _ (table : ClassTable) (t : IsClassTable table) (entry : Option ℕ) (beg
       where
         low_field : j < field_count b
         low_field = ⊎_elim (λ z. z) (λ past. absurd (true≢false (sym there
-            ∙ ap (λ x. option_map_or (λ (y : Field). states_of y.available) x Rattle.ob_perm.specs.States.no_states own_state) (Rattle.std.proofs.lemmas.Option.slice_get_past k.whole.parts.own.fields j past))))
+            ∙ ap (λ x. option_map_or (λ (y : Field). states_of y.available) x no_states own_state) (slice_get_past k.whole.parts.own.fields j past))))
             (cases_lt j (length k.whole.parts.own.fields))
 
     -- slots past the body's aren't known

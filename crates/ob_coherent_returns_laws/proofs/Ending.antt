@@ -17,7 +17,7 @@ use Rattle.ob_silica_steps.specs.Configurations.{by_new, Ends, plain_end, test_e
 use Rattle.ob_silica_steps.specs.Here.{Here, here, self_of, set_permission}
 use Rattle.ob_silica_steps.specs.Returning.{leave_step}
 use Rattle.ob_silica_steps.specs.Testing.{end_branch}
-use Rattle.ob_flow_spec.specs.Contexts.{BodyFrame, Context, available, put, now, with_permission, permission_on, permission_at, is_held_as, is_owned_asset, is_tested}
+use Rattle.ob_flow_spec.specs.Contexts.{BodyFrame, Context, now, with_permission, permission_on, permission_at, is_held_as, is_owned_asset, is_tested, exit_of_field}
 use Rattle.ob_flow_spec.specs.Joining.{same_mode}
 use Rattle.ob_flow_spec.specs.Returning.{tests_ended}
 use Rattle.ob_flow_laws.specs.Laws.{MeetsExit}
@@ -70,7 +70,7 @@ leaves_same b how g j s e l = record {
   itself = λ old. meets_same b g j this (permission_of b.signature.exit) (e this) (l.itself old);
   given = λ new. ap (λ y. owns (permission_on y)) (e this) ∙ l.given new;
   others = λ k past. ap (λ y. is_owned_asset b.table y) (e (slot k)) ∙ l.others k past;
-  fields = λ k there. ap (λ y. is_held_as y (Rattle.ob_flow_spec.specs.Contexts.exit_of_field b b.signature k)) (e (field k)) ∙ l.fields k there;
+  fields = λ k there. ap (λ y. is_held_as y (exit_of_field b b.signature k)) (e (field k)) ∙ l.fields k there;
 }
 
 -- ending one test and then the others ends all

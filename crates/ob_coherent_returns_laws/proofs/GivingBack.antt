@@ -11,7 +11,7 @@ use Rattle.ob_table.specs.declared.contract.ResolvedType.{ResolvedType}
 use Rattle.ob_table_spec.specs.Conditions.{IsClassTable}
 use Rattle.ob_table_spec.specs.WellFormed.{kind_of_resolved, is_reference}
 use Rattle.ob_heap_spec.specs.Values.{reference}
-use Rattle.ob_heap_spec.specs.Objects.{state_number}
+use Rattle.ob_heap_spec.specs.Objects.{state_number, is_available}
 use Rattle.ob_heap_spec.specs.Worlds.{World}
 use Rattle.ob_silica_places.specs.Known.{Known, known}
 use Rattle.ob_silica_places.specs.Places.{Location, slot, field, this, same_location}
@@ -19,7 +19,7 @@ use Rattle.ob_silica_steps.specs.Cells.{Cell, noted, permission_in}
 use Rattle.ob_silica_steps.specs.Configurations.{SlotCells, How, by_receiver, by_this, by_new, SilicaFrame, Loan, Waiting, Notes, Configuration}
 use Rattle.ob_silica_steps.specs.Here.{Here, self_of, set_permission}
 use Rattle.ob_silica_steps.specs.Returning.{without_owner, unlends}
-use Rattle.ob_flow_spec.specs.Contexts.{BodyFrame, Context, available, permission_on, permission_at, is_field, is_tested}
+use Rattle.ob_flow_spec.specs.Contexts.{available, permission_on, permission_at, is_field, exit_of_field}
 use Rattle.ob_flow_spec.specs.Joining.{same_mode}
 use Rattle.ob_flow_spec.specs.Uses.{kind_known}
 use Rattle.ob_places_laws.specs.Serving.{Allows}
@@ -27,11 +27,11 @@ use Rattle.ob_places_laws.proofs.Serves.{allows_itself}
 use Rattle.ob_places_laws.proofs.Permissions.{same_mode_itself}
 use Rattle.ob_coherent_spec.specs.Counting.{nth_object, field_cell, Counted, any, in_cell, in_slots, in_objects, in_handles, in_waiting, in_all, owners, references}
 use Rattle.ob_coherent_spec.specs.Runs.{times, entered_at, entered_among, entries, constructing_at, constructing_among, constructions, open_tests}
-use Rattle.ob_coherent_spec.specs.Standing.{Stands, AllStand, IsObjectInRun, NeedsOwner, HasItsState}
+use Rattle.ob_coherent_spec.specs.Standing.{Stands, AllStand, IsObjectInRun, NeedsOwner, HasItsState, HandlesStand}
 use Rattle.ob_coherent_spec.specs.Saying.{SaysOf}
 use Rattle.ob_coherent_spec.specs.Remaining.{body_of, HoldsSo, AreHeld}
 use Rattle.ob_coherent_spec.specs.Waiting.{IsFrame, tests_of, SharesThis, is_lent, has_lent, is_result, is_on_this, is_settled, gives_back_as, AwaitsResult, IsLoan, AreLoans, LendNoField, IsApart, Waits, AllWait}
-use Rattle.ob_coherent_spec.specs.Coherent.{Beginning, IsAsDeclared, Holds, LeavesWith, IsCoherent, returning, StepsSo}
+use Rattle.ob_coherent_spec.specs.Coherent.{Beginning, IsAsDeclared, Holds, LeavesWith, returning, StepsSo, IsGivenBack, outermost, BeganSo}
 use Rattle.ob_coherent_frames_laws.specs.Steps.{KeepsArgument}
 use Rattle.ob_coherent_frames_laws.proofs.Near.{IsNear, frame_with, all_near, each_self, keeps_itself}
 use Rattle.ob_coherent_frames_laws.proofs.Entered.{has_entry, is_entered}
@@ -43,6 +43,7 @@ use Rattle.ob_coherent_counting_laws.proofs.Frames.{tests_in_same}
 use Rattle.ob_coherent_counting_laws.proofs.Sums.{at_other}
 use Rattle.ob_coherent_counting_laws.proofs.Low.{set_slot_low, field_low}
 use Rattle.ob_coherent_counting_laws.proofs.Lending.{unlent, unlent_with, unlent_self}
+use Rattle.ob_coherent_counting_laws.proofs.Objects.{note_other_object}
 use Rattle.ob_coherent_places_laws.specs.Placed.{cell_at, Written, IsAlike}
 use Rattle.ob_coherent_places_laws.proofs.Reading.{read_is, place_is, same_place, kind_in_run, same_field_cell}
 use Rattle.ob_coherent_places_laws.proofs.Writing.{permission_written, permission_world}
@@ -51,6 +52,7 @@ use Rattle.ob_coherent_places_laws.proofs.Carrying.{noted_alike}
 use Rattle.ob_coherent_places_laws.proofs.Getting.{objects_low}
 use Rattle.ob_coherent_returns_laws.proofs.Returned.{back_to, Returned, to_returning, same_gift}
 use Rattle.ob_coherent_returns_laws.proofs.Lent.{state_of, back_owners, back_kept, back_shared, back_stands}
+use Rattle.ob_silica_steps.specs.Starting.{declared_note}
 
 some_same : {A : Type 0} (x y : A) → Some x ≡ Some y → x ≡ y
 some_same x y e = cc
@@ -281,7 +283,7 @@ module _ (table : ClassTable) (entry : Option ℕ) (beginning : Beginning) (t : 
       omega (arith, x2, y, z, y2, z2, none, new)))
       (λ e. let o = k.whole.declared n below (sym (entries_same n) ∙ none) (sym (constructions_same n) ∙ new) in record {
         placed = o.placed;
-        fields = λ j x at there. subst (SaysOf N (Some (Rattle.ob_silica_steps.specs.Starting.declared_note x.of))) (sym (other_field n j e.1)) (o.fields j x at there);
+        fields = λ j x at there. subst (SaysOf N (Some (declared_note x.of))) (sym (other_field n j e.1)) (o.fields j x at there);
       })
       (eqb_tells n (self_of h.frame.slots))
 
@@ -514,8 +516,8 @@ module _ (table : ClassTable) (entry : Option ℕ) (beginning : Beginning) (t : 
       (λ n. tests_of n h.frame.slots h.outer + tests_of n f.slots []) (λ n. tests_of n given_slots h.outer + tests_of n left_slots []) hs
       same_below (λ j x le set. keeps_below j x set) wt.cells (inl refl) (λ n b. balanced n) (inl refl) (each_self (λ n. ⊤) (λ n. tt) hs) k.whole.waiting.1))
 
-  began : (gs : List Waiting) → gs ≡ hs → Rattle.ob_coherent_spec.specs.Coherent.BeganSo table beginning (Rattle.ob_coherent_spec.specs.Coherent.outermost h.frame gs)
-      → Rattle.ob_coherent_spec.specs.Coherent.BeganSo table beginning (Rattle.ob_coherent_spec.specs.Coherent.outermost (frame_with h.frame given_slots) gs)
+  began : (gs : List Waiting) → gs ≡ hs → BeganSo table beginning (outermost h.frame gs)
+      → BeganSo table beginning (outermost (frame_with h.frame given_slots) gs)
   began gs e b = began_kept table w.objects beginning h.frame wt.parts given_slots (λ n. owners n d) gs wt.frame (λ j x le set. keeps_below j x set) b
 
   whole_after : Holds table entry beginning d
@@ -529,7 +531,7 @@ module _ (table : ClassTable) (entry : Option ℕ) (beginning : Beginning) (t : 
     assets = λ n needs. let o = owners_kept n needs in let has = k.whole.assets n needs in omega (arith, o, has);
     slots = slots_mine;
     fields = fields_now;
-    handles = subst (Rattle.ob_coherent_spec.specs.Standing.HandlesStand w.objects) (sym wr.stays.handles) k.whole.handles;
+    handles = subst (HandlesStand w.objects) (sym wr.stays.handles) k.whole.handles;
     objects = objects_now;
     declared = declared_now;
     progress = λ n. entries_same n ∙ k.whole.progress n;
@@ -555,7 +557,7 @@ module _ (table : ClassTable) (entry : Option ℕ) (beginning : Beginning) (t : 
       → field_cell (set_permission p l.exit before).notes w.objects (self_of f.slots) j ≡ field_cell notes w.objects (self_of f.slots) j
   field_mine (slot i) far j = refl
   field_mine (field i) far j = same_field_cell notes (set_permission (field i) l.exit before).notes w.objects w.objects (self_of f.slots) j refl
-      (Rattle.ob_coherent_counting_laws.proofs.Objects.note_other_object notes (self_of h.frame.slots) i
+      (note_other_object notes (self_of h.frame.slots) i
       (known (notes.fields (self_of h.frame.slots) i).kind l.exit) (self_of f.slots) j (λ e. far refl (sym e)))
 
   pub gives_one : Returned table entry beginning (frame_with f left_slots) result waiting_on hs given_notes w
@@ -563,7 +565,7 @@ module _ (table : ClassTable) (entry : Option ℕ) (beginning : Beginning) (t : 
   gives_one = record {
     whole = whole_after;
     returned = k.returned;
-    given = subst (Rattle.ob_coherent_spec.specs.Coherent.IsGivenBack N result) (sym (same_gift f.how f left_slots k.whole.parts)) k.given;
+    given = subst (IsGivenBack N result) (sym (same_gift f.how f left_slots k.whole.parts)) k.given;
     none = λ j out n needs. ⊎_elim
         (λ e. subst (λ i. in_cell owns n (left_slots i) ≡ 0) (sym e.1) (ap (in_cell owns n) that_slot ∙ cell_noted_none owns n unowned a.given refl))
         (λ e. ap (in_cell owns n) (other_slot j e.1) ∙ k.none j (ap (λ ms. has_lent ms j) lent ∙ (let z : same_location (slot j) (slot l.param) ≡ false = e.0 in rw z out)) n needs)
@@ -571,11 +573,11 @@ module _ (table : ClassTable) (entry : Option ℕ) (beginning : Beginning) (t : 
     exits = λ j p x had at set. let ne : j ≢ l.param = λ e. both_ways _ loans_are.2 (subst (λ i. has_lent ls i ≡ true) e had) in
         k.exits j p x (ap (λ ms. has_lent ms j) lent ∙ or_right (same_location (slot j) (slot l.param)) (has_lent ls j) had) at (sym (other_slot j ne) ∙ set);
     placed = subst (λ n. HasItsState table (nth_object w.objects n)) (sym same_mine) k.placed;
-    fields = λ j x at there. subst (λ n. SaysOf N (Some (known (kind_of_resolved x.of) (Rattle.ob_flow_spec.specs.Contexts.exit_of_field (body_of table f k.whole.parts) k.whole.parts.signature j)))
+    fields = λ j x at there. subst (λ n. SaysOf N (Some (known (kind_of_resolved x.of) (exit_of_field (body_of table f k.whole.parts) k.whole.parts.signature j)))
         (field_cell given_notes w.objects n j)) (sym same_mine)
-        (subst (SaysOf N (Some (known (kind_of_resolved x.of) (Rattle.ob_flow_spec.specs.Contexts.exit_of_field (body_of table f k.whole.parts) k.whole.parts.signature j))))
+        (subst (SaysOf N (Some (known (kind_of_resolved x.of) (exit_of_field (body_of table f k.whole.parts) k.whole.parts.signature j))))
         (sym (field_mine l.place far_field j))
-        (k.fields j x at (subst (λ n. Rattle.ob_heap_spec.specs.Objects.is_available (nth_object w.objects n).state x ≡ true) same_mine there)));
+        (k.fields j x at (subst (λ n. is_available (nth_object w.objects n).state x ≡ true) same_mine there)));
     shares = λ old held. ⊎_elim
         (λ e. absurd (let z : unowned ≡ shared = sym (ap permission_in (ap left_slots e.1 ∙ that_slot)) ∙ held in cc))
         (λ e. let s = k.shares old (ap permission_in (sym (other_slot 0 e.1)) ∙ held) in (

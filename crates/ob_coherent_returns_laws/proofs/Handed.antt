@@ -1,7 +1,7 @@
 -- A return hands a value over: its place keeps what a giver keeps, and the frame leaves with the value.
 use Rattle.std.proofs.Common.{◌≡◌, ℕ, ◌+◌, ◌<◌, ◌≤◌, ◌⊎◌, inl, inr, ⊎_elim, true, false, List, [], ◌∷◌, length, Option, Some, refl, sym, ap, ◌∙◌, subst, arith, true≢false}
 use Rattle.std.proofs.lemmas.Bool.{both_ways, cases_lt}
-use Rattle.ob_perm.specs.States.{States}
+use Rattle.ob_perm.specs.States.{states_max}
 use Rattle.ob_perm.specs.Permissions.{Permission, owned, shared, unowned, owns, is_unowned, kept, fits}
 use Rattle.ob_table.specs.Tables.{ClassTable}
 use Rattle.ob_table.specs.declared.contract.ResolvedType.{ResolvedType}
@@ -26,7 +26,7 @@ use Rattle.ob_places_laws.proofs.Permissions.{fits_shared}
 use Rattle.ob_places_laws.proofs.Conversions.{converted_no_say}
 use Rattle.ob_coherent_spec.specs.Counting.{nth_object, field_cell, Counted, any, in_cell, in_waiting, in_control, in_all, owners, references}
 use Rattle.ob_coherent_spec.specs.Runs.{around, constructing_at, constructing_among, tested_places}
-use Rattle.ob_coherent_spec.specs.Standing.{RefersToShared, Stands, AllStand, IsObjectInRun, NeedsOwner, HasItsState}
+use Rattle.ob_coherent_spec.specs.Standing.{RefersToShared, Stands, AllStand, IsObjectInRun, NeedsOwner, HasItsState, IsOfKind}
 use Rattle.ob_coherent_spec.specs.Saying.{Says, every}
 use Rattle.ob_coherent_spec.specs.Remaining.{BodyParts, body_of, IsPlaceIn}
 use Rattle.ob_coherent_spec.specs.Waiting.{gives_back_as, tests_of, AllWait}
@@ -43,11 +43,11 @@ use Rattle.ob_coherent_counting_laws.proofs.Low.{place_low, set_slot_low}
 use Rattle.ob_coherent_counting_laws.proofs.Permitting.{hand_counts}
 use Rattle.ob_coherent_places_laws.specs.Placed.{cell_at, Written, Found, Sits}
 use Rattle.ob_coherent_places_laws.proofs.Reading.{place_is}
-use Rattle.ob_coherent_places_laws.proofs.Standing.{reference_is, needs_stay, stands_stay, says_less}
+use Rattle.ob_coherent_places_laws.proofs.Standing.{reference_is, needs_stay, stands_stay, says_less, has_state_same}
 use Rattle.ob_coherent_places_laws.proofs.Objects.{comes_sets}
 use Rattle.ob_coherent_places_laws.proofs.Writing.{hand_written, hand_world, hand_shares, hand_disowns_none, stays_leaves}
 use Rattle.ob_coherent_places_laws.proofs.Finding.{counts_is, found_stands, room_noted}
-use Rattle.ob_coherent_places_laws.proofs.Keeping.{slots_stand, fields_stand, in_run_written, says_written, unset_kept, opens_kept, opens_written}
+use Rattle.ob_coherent_places_laws.proofs.Keeping.{slots_stand, fields_stand, in_run_written, says_written, unset_kept, opens_kept, opens_written, written_that}
 use Rattle.ob_coherent_places_laws.proofs.Carrying.{noted_alike, kept_mode, kept_is_shared, kept_stands}
 use Rattle.ob_coherent_places_laws.proofs.Getting.{given_refers, bound_stands, objects_low}
 use Rattle.ob_coherent_places_laws.proofs.Handing.{bound_says, counted_serves, gives_shared, carry_arguments}
@@ -118,7 +118,7 @@ module _ (table : ClassTable) (t : IsClassTable table) (entry : Option ℕ) (beg
   marked e n is lt = ap (λ v. (nth_object v.objects n).shared) (hand_world of p u.cell (here c)) ∙ comes_sets of u.cell.value c.world n lt is e
 
   there : (n : ℕ) → u.cell.value ≡ reference n → n < length c.world.objects
-  there n e = (reference_is table c.world.objects u.cell.note.kind n (subst (Rattle.ob_coherent_spec.specs.Standing.IsOfKind table c.world.objects u.cell.note.kind) e
+  there n e = (reference_is table c.world.objects u.cell.note.kind n (subst (IsOfKind table c.world.objects u.cell.note.kind) e
       (found_stands table t c.frame k.whole.parts (here c) k.context sits p u).kind)).2
 
   marks_value : w ≡ shared → RefersToShared after.world.objects u.cell.value
@@ -175,8 +175,8 @@ module _ (table : ClassTable) (t : IsClassTable table) (entry : Option ℕ) (beg
   result_stands = bound_stands table t after.world.objects u.cell (counts_as (here c) p u.cell) w (kind_of_resolved of) low serves (counts_is (here c) p u.cell)
       marks_value fit (stands_stay table (here c) after wr.stays u.cell (found_stands table t c.frame k.whole.parts (here c) k.context sits p u))
     where
-      low : (n : ℕ) → n < length after.world.objects → state_number (nth_object after.world.objects n).state < Rattle.ob_perm.specs.States.states_max
-      low n lt = subst (λ s. state_number s < Rattle.ob_perm.specs.States.states_max) (sym (wr.stays.states n))
+      low : (n : ℕ) → n < length after.world.objects → state_number (nth_object after.world.objects n).state < states_max
+      low n lt = subst (λ s. state_number s < states_max) (sym (wr.stays.states n))
           (objects_low table t c.notes c.world.objects k.whole.objects n (let e = wr.stays.count in omega (arith, e, lt)))
 
   run_now : IsObjectInRun table after.notes (self_of after.slots) (nth_object after.world.objects (self_of after.slots))
@@ -261,7 +261,7 @@ module _ (table : ClassTable) (t : IsClassTable table) (entry : Option ℕ) (beg
     leaves_so = subst (λ s. LeavesSo b c.frame.how (tests_ended (tested_places outer) (after_give k.context p w)) (state_number s))
         (sym (ap (λ n. (nth_object after.world.objects n).state) wr.stays.this ∙ wr.stays.states (self_of c.frame.slots))) left;
     placed = subst (λ n. HasItsState table (nth_object after.world.objects n)) (sym wr.stays.this)
-        (Rattle.ob_coherent_places_laws.proofs.Standing.has_state_same table (nth_object c.world.objects (self_of c.frame.slots))
+        (has_state_same table (nth_object c.world.objects (self_of c.frame.slots))
         (nth_object after.world.objects (self_of c.frame.slots)) (wr.stays.contracts (self_of c.frame.slots)) (wr.stays.states (self_of c.frame.slots)) placed);
     shares = λ old. quiet_shares table entry beginning c after (leaves (Some result) outer) k.whole same_ends quietly k.shares
         (λ held. ⊎_elim
@@ -272,7 +272,7 @@ module _ (table : ClassTable) (t : IsClassTable table) (entry : Option ℕ) (beg
           none (self_of c.frame.slots)
               (ap (λ (x : Cell). x.value) (some_same u.cell k.whole.frame.this (sym (subst (λ q. cell_at (here c) q ≡ Some u.cell) (sym e) u.is) ∙ k.whole.frame.set)) ∙ k.whole.frame.refers),
         ))
-        (newly (sym (ap permission_in (Rattle.ob_coherent_places_laws.proofs.Keeping.written_that (here c) after p (Some (noted (kept u.cell.note.permission w) u.cell)) wr this e)) ∙ held)))
+        (newly (sym (ap permission_in (written_that (here c) after p (Some (noted (kept u.cell.note.permission w) u.cell)) wr this e)) ∙ held)))
         (λ e. inl (ap permission_in (sym (wr.others this e)) ∙ held))
         (place_is this p));
     unreferred = references_kept;

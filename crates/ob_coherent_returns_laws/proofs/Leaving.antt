@@ -3,8 +3,8 @@ use Rattle.std.proofs.Common.{◌≡◌, ◌≢◌, ℕ, zero, suc, ◌+◌, ◌
 use Rattle.std.specs.Option.{option_map_or}
 use Rattle.std.proofs.lemmas.Bool.{both_ways, cases_Bool, cases_lt, and_from}
 use Rattle.ob_perm.specs.Permissions.{Permission, owned, shared, unowned, owns, matches}
-use Rattle.ob_perm.specs.Masks.{permission_of}
-use Rattle.ob_table.specs.Tables.{ClassTable}
+use Rattle.ob_perm.specs.Masks.{permission_of, states_of}
+use Rattle.ob_table.specs.Tables.{ClassTable, contract_at}
 use Rattle.ob_table.specs.declared.contract.Field.{Field}
 use Rattle.ob_table.specs.declared.seen.Kind.{Kind}
 use Rattle.ob_table_spec.specs.Conditions.{IsClassTable}
@@ -17,7 +17,7 @@ use Rattle.ob_silica_steps.specs.Cells.{Cell, value_in}
 use Rattle.ob_silica_steps.specs.Configurations.{How, by_receiver, by_this, by_new, Rest, Waiting, leaves, Configuration}
 use Rattle.ob_silica_steps.specs.Here.{here, self_of}
 use Rattle.ob_silica_steps.specs.Returning.{left_world}
-use Rattle.ob_flow_spec.specs.Contexts.{BodyFrame, Context, permission_on, permission_at, is_held_as, is_owned_asset, owns_asset, exit_of_field, available}
+use Rattle.ob_flow_spec.specs.Contexts.{BodyFrame, Context, permission_on, is_held_as, is_owned_asset, exit_of_field, available, is_asset}
 use Rattle.ob_flow_spec.specs.Returning.{tests_ended}
 use Rattle.ob_flow_laws.specs.Laws.{MeetsExit}
 use Rattle.ob_places_laws.specs.Serving.{Allows}
@@ -32,6 +32,9 @@ use Rattle.ob_coherent_spec.specs.Coherent.{Beginning, LeavesSo, IsLeaving, Leav
 use Rattle.ob_coherent_counting_laws.proofs.Cells.{shared_none}
 use Rattle.ob_coherent_places_laws.proofs.Reading.{kind_in_run}
 use Rattle.ob_coherent_remaining_laws.proofs.Following.{owner_is_asset}
+use Rattle.ob_table.specs.declared.contract.Contract.{Contract}
+use Rattle.std.proofs.lemmas.List.{length-map}
+use Rattle.ob_perm.specs.States.{no_states}
 
 -- The run ends where no frame waits.
 pub ends_alone : (table : ClassTable) (entry : Option ℕ) (beginning : Beginning) (c : Configuration)
@@ -77,7 +80,7 @@ owns_none table t N None (Some x) stands none s n needs = ⊎_elim
     (cases_lt 0 (in_cell owns n (Some x)))
 owns_none table t N (Some y) (Some x) stands none s n needs = ⊎_elim
     (λ has. absurd (both_ways _ none (and_from (owns y.permission) _ (s.owner n needs has)
-    (subst (λ kind. Rattle.ob_flow_spec.specs.Contexts.is_asset table kind ≡ true) s.known.0
+    (subst (λ kind. is_asset table kind ≡ true) s.known.0
     (owner_is_asset table t N n x (stands x refl) needs has)))))
     (λ zero. omega arith)
     (cases_lt 0 (in_cell owns n (Some x)))
@@ -175,7 +178,7 @@ module _ (table : ClassTable) (entry : Option ℕ) (beginning : Beginning) (c : 
 
       past : slice_get (all_parameters c.frame.contract k.whole.parts.signature) (suc j) ≡ None → length k.whole.parts.signature.params ≤ j
       past e = let most = nothing_past (parameters k.whole.parts.signature) j e in
-          let same = Rattle.std.proofs.lemmas.List.length-map k.whole.parts.signature.params parameter_of in omega arith
+          let same = length-map k.whole.parts.signature.params parameter_of in omega arith
 
       by_parameter : (x : Option Parameter) → slice_get (all_parameters c.frame.contract k.whole.parts.signature) (suc j) ≡ x
           → in_cell owns n (c.frame.slots (suc j)) ≡ 0
@@ -202,14 +205,14 @@ module _ (table : ClassTable) (entry : Option ℕ) (beginning : Beginning) (c : 
       (exit_of_field (body_of table c.frame k.whole.parts) k.whole.parts.signature j) (kind_of_resolved f.of) kinds (l.fields j open') (k.says.fields j open' refl)
     where
       open' : available (body_of table c.frame k.whole.parts) j (state_number (nth_object c.world.objects (self_of c.frame.slots)).state) ≡ true
-      open' = subst (λ (x : Option Field). option_map_or (λ (y : Field). Rattle.ob_perm.specs.Masks.states_of y.available) x Rattle.ob_perm.specs.States.no_states
+      open' = subst (λ (x : Option Field). option_map_or (λ (y : Field). states_of y.available) x no_states
           (state_number (nth_object c.world.objects (self_of c.frame.slots)).state) ≡ true) (sym e) there
 
-      same_fields : (g : Field) (own : _) → Rattle.ob_table.specs.Tables.contract_at table (nth_object c.world.objects (self_of c.frame.slots)).contract ≡ Some own
+      same_fields : (g : Field) (own : _) → contract_at table (nth_object c.world.objects (self_of c.frame.slots)).contract ≡ Some own
           → slice_get own.fields j ≡ Some g → g ≡ f
       same_fields g own is at' = let same : own ≡ k.whole.parts.own = some_same own k.whole.parts.own
-          (sym is ∙ ap (Rattle.ob_table.specs.Tables.contract_at table) k.whole.frame.contract ∙ k.whole.frame.own) in
-          some_same g f (sym at' ∙ ap (λ (d : Rattle.ob_table.specs.declared.contract.Contract.Contract). slice_get d.fields j) same ∙ e)
+          (sym is ∙ ap (contract_at table) k.whole.frame.contract ∙ k.whole.frame.own) in
+          some_same g f (sym at' ∙ ap (λ (d : Contract). slice_get d.fields j) same ∙ e)
 
       kinds : (z : Cell) → own_cell (here c) j ≡ Some z → z.note.kind ≡ kind_of_resolved f.of
       kinds z is = let run = k.whole.objects (self_of c.frame.slots) k.whole.frame.there in

@@ -23,7 +23,7 @@ use Rattle.ob_heap_spec.specs.Worlds.{World}
 use Rattle.ob_silica_places.specs.Known.{known, permission_of_type}
 use Rattle.ob_silica_places.specs.Places.{Location, slot, field, this, same_location}
 use Rattle.ob_silica_places.specs.Parameters.{Parameter, parameter_of, all_parameters}
-use Rattle.ob_silica_steps.specs.Cells.{Cell, permission_in}
+use Rattle.ob_silica_steps.specs.Cells.{Cell, permission_in, object_in}
 use Rattle.ob_silica_steps.specs.Configurations.{SlotCells, How, by_receiver, by_this, by_new, SilicaFrame, Ends, plain_end, test_end, lock_end, Rest, Waiting, runs, Notes, Configuration}
 use Rattle.ob_silica_steps.specs.Here.{here, self_of, field_of, field_value, read}
 use Rattle.ob_silica_steps.specs.Returning.{with_result, resumes}
@@ -35,14 +35,14 @@ use Rattle.ob_coherent_spec.specs.Standing.{NeedsOwner, HasItsState}
 use Rattle.ob_coherent_spec.specs.Saying.{SaysOf, Says, every}
 use Rattle.ob_coherent_spec.specs.Remaining.{body_of}
 use Rattle.ob_coherent_spec.specs.OpenTests.{IsTestOf, IsOpen, AreOpen}
-use Rattle.ob_coherent_spec.specs.Waiting.{IsFrame, tests_of, SharesThis, is_result, is_on_this, is_settled, waiting_here, gives_back_as, AwaitsResult, IsApart, Waits, AllWait}
+use Rattle.ob_coherent_spec.specs.Waiting.{IsFrame, tests_of, SharesThis, is_result, is_on_this, gives_back_as, AwaitsResult, IsApart, Waits, AllWait, has_lent}
 use Rattle.ob_coherent_spec.specs.Coherent.{Beginning, IsAsDeclared, Holds, IsRunning, IsCoherent, running, StepsSo}
 use Rattle.ob_coherent_frames_laws.specs.Steps.{KeepsArgument}
 use Rattle.ob_coherent_frames_laws.proofs.Near.{IsNear, frame_with, all_near, each_self, keeps_itself}
 use Rattle.ob_coherent_frames_laws.proofs.Whole.{began_kept}
 use Rattle.ob_coherent_counting_laws.proofs.Places.{no_slots}
 use Rattle.ob_coherent_counting_laws.proofs.Frames.{entered_by, entered_other, constructing_by, tests_other, tests_in_same, self_same}
-use Rattle.ob_coherent_places_laws.proofs.Reading.{available_is, field_is}
+use Rattle.ob_coherent_places_laws.proofs.Reading.{available_is, field_is, same_place}
 use Rattle.ob_coherent_frames_laws.proofs.Whole.{entered_same, constructing_same}
 use Rattle.ob_coherent_returns_laws.proofs.Result.{SlotsNow, slots_now, slot_settled, field_settled}
 use Rattle.ob_coherent_returns_laws.proofs.Below.{far_tests, with_progress, all_progressed}
@@ -104,7 +104,7 @@ module _ (b : BodyFrame) (notes : Notes) (w : World) (ps : List ℕ) (old new : 
   )
     where
       is_first : (p : Location) (outer : List Location) → is_tested (p ∷ outer) p ≡ true
-      is_first p outer = rw (Rattle.ob_coherent_places_laws.proofs.Reading.same_place p) refl
+      is_first p outer = rw (same_place p) refl
   open_too (lock_end p n) outer keep a = (
     a.0,
     test_too p n n refl (λ j e. keep j (subst (λ q. is_tested (q ∷ outer) (slot j) ≡ true) (sym e) (is_first (slot j) outer))) a.1,
@@ -112,7 +112,7 @@ module _ (b : BodyFrame) (notes : Notes) (w : World) (ps : List ℕ) (old new : 
   )
     where
       is_first : (p : Location) (outer : List Location) → is_tested (p ∷ outer) p ≡ true
-      is_first p outer = rw (Rattle.ob_coherent_places_laws.proofs.Reading.same_place p) refl
+      is_first p outer = rw (same_place p) refl
 
   later : (e : Ends) (outer : List Location) (p : Location) → is_tested outer p ≡ true → is_tested (tested_before e outer) p ≡ true
   later plain_end outer p t = t
@@ -167,7 +167,7 @@ module _ (table : ClassTable) (entry : Option ℕ) (beginning : Beginning) (t : 
   zero_same = now_is.params 0 (omega arith)
 
   same_self : self_of new_slots ≡ self_of h.frame.slots
-  same_self = self_same h.frame.slots new_slots (ap Rattle.ob_silica_steps.specs.Cells.object_in zero_same)
+  same_self = self_same h.frame.slots new_slots (ap object_in zero_same)
 
   -- owners and references
   parts_before : (counts : Counted) (n : ℕ) → in_all counts n (back_to f result h hs notes w) ≡ in_slots counts n f.slots + in_objects counts n notes w.objects
@@ -184,7 +184,7 @@ module _ (table : ClassTable) (entry : Option ℕ) (beginning : Beginning) (t : 
   same_counts counts n v e = let a = parts_before counts n in let b = parts_after counts n v e in let d = now_is.count counts n in omega (arith, a, b, d)
 
   callee_none : (n : ℕ) → NeedsOwner table w.objects n → in_slots owns n f.slots ≡ 0
-  callee_none n needs = no_slots owns n f.slots (λ j. k.none j (ap (λ ls. Rattle.ob_coherent_spec.specs.Waiting.has_lent ls j) loans) n needs)
+  callee_none n needs = no_slots owns n f.slots (λ j. k.none j (ap (λ ls. has_lent ls j) loans) n needs)
 
   -- transactions in progress
   entries_before : (n : ℕ) → entries n (back_to f result h hs notes w) ≡ entered_at n f.how f.slots + (entered_at n h.frame.how h.frame.slots + entered_among n hs)

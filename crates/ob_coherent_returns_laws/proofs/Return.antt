@@ -1,5 +1,5 @@
 -- The step of a return: the frame leaves with its result.
-use Rattle.std.proofs.Common.{◌≡◌, ◌≢◌, ℕ, zero, suc, ◌+◌, ◌<◌, ◌≤◌, ◌⊎◌, inl, inr, ⊎_elim, Bool, true, false, not, ◌&&◌, ◌||◌, nat_eq, List, [], ◌∷◌, length, Option, Some, None, option_map, slice_get, is_some, refl, sym, ap, ◌∙◌, subst, arith, eq-eqb, true≢false}
+use Rattle.std.proofs.Common.{◌≡◌, ◌≢◌, ℕ, ◌+◌, ◌<◌, ◌≤◌, ◌⊎◌, inl, inr, ⊎_elim, Bool, true, false, not, nat_eq, List, [], ◌∷◌, length, Option, Some, None, option_map, is_some, refl, sym, ap, ◌∙◌, subst, arith, eq-eqb, true≢false, ne_eqb}
 use Rattle.std.specs.Prelude.{IfSome, ◌==◌, if◌then◌else◌}
 use Rattle.std.proofs.lemmas.Bool.{both_ways, cases_Bool, and_from, or_right, or_left}
 use Rattle.ob_base.specs.declared.fault.Span.{Span}
@@ -35,8 +35,8 @@ use Rattle.ob_silica_steps.specs.Here.{here, if_there, self_of, self, read, hand
 use Rattle.ob_silica_steps.specs.Here.{counted as counts_as}
 use Rattle.ob_silica_steps.specs.Returning.{exits_are_within, leaves_with, gives_none, gives}
 use Rattle.ob_silica_steps.specs.Steps.{act}
-use Rattle.ob_silica_formed.specs.Points.{IsReturnedAs}
-use Rattle.ob_flow_spec.specs.Contexts.{BodyFrame, constructs, available, Context, put, with_permission, permission_on, permission_at, is_set, is_held_as, is_owned_asset, is_tested}
+use Rattle.ob_silica_formed.specs.Points.{IsReturnedAs, NamesWhatIsThere}
+use Rattle.ob_flow_spec.specs.Contexts.{BodyFrame, available, Context, with_permission, permission_on, permission_at, is_set, is_held_as, is_owned_asset, is_tested, possible_under, exit_of_field}
 use Rattle.ob_flow_spec.specs.Returning.{value_returned, tests_ended}
 use Rattle.ob_flow_spec.specs.Uses.{after_give}
 use Rattle.ob_flow_laws.specs.Laws.{MeetsExit, MeetsExits}
@@ -51,7 +51,7 @@ use Rattle.ob_places_laws.proofs.Tables.{there_is, there_from, contract_is, sign
 use Rattle.ob_coherent_spec.specs.Counting.{nth_object, Counted, any, in_control, in_all, owners}
 use Rattle.ob_coherent_spec.specs.Runs.{around, constructing_at, constructing_among, tested_places}
 use Rattle.ob_coherent_spec.specs.Standing.{IsObjectInRun, NeedsOwner, HasItsState}
-use Rattle.ob_coherent_spec.specs.Saying.{Agrees, SaysOf, Says, own_object, own_cell, every}
+use Rattle.ob_coherent_spec.specs.Saying.{Agrees, own_cell, AgreesWith}
 use Rattle.ob_coherent_spec.specs.Remaining.{BodyParts, IsCheckedProgram, body_of, static_of, IsPlaceIn, Remains}
 use Rattle.ob_coherent_spec.specs.OpenTests.{AreOpen}
 use Rattle.ob_coherent_spec.specs.Waiting.{gives_back_by}
@@ -74,6 +74,7 @@ use Rattle.ob_coherent_tests_laws.proofs.Unchanged.{remains_so, opens_so}
 use Rattle.ob_coherent_returns_laws.proofs.Returned.{same_gift}
 use Rattle.ob_coherent_returns_laws.proofs.Handed.{handed_leaves}
 use Rattle.ob_coherent_returns_laws.proofs.AtReturn.{value_within, owned_given, untested_made, exits_within, state_left, field_left, others_left, left_so, none_known}
+use Rattle.ob_silica_formed.specs.Holdings.{kind_of_operand}
 
 some_same : {A : Type 0} (x y : A) → Some x ≡ Some y → x ≡ y
 some_same x y e = cc
@@ -218,7 +219,7 @@ module _ (table : ClassTable) (t : IsClassTable table) (entry : Option ℕ) (beg
   -- A return of a value.
 
   module _ (o : Operand) (of : ResolvedType) (some : value ≡ Some o) (result : k.whole.parts.signature.result ≡ Some of) where
-    formed : (IsPlaceIn b (located o)) × (kind : Kind) × (Rattle.ob_silica_formed.specs.Holdings.kind_of_operand (static_of b) k.holdings o ≡ Some kind)
+    formed : (IsPlaceIn b (located o)) × (kind : Kind) × (kind_of_operand (static_of b) k.holdings o ≡ Some kind)
         × (serves_as table (kind_of_resolved of) kind ≡ true)
     formed =
         let y = first_formed b k.holdings k.context (return_form value) span rest outer remains in
@@ -227,7 +228,7 @@ module _ (table : ClassTable) (t : IsClassTable table) (entry : Option ℕ) (beg
         (subst (λ v. IsReturnedAs (static_of b) k.holdings (option_map kind_of_resolved k.whole.parts.signature.result) v) some y.returns) in
         let at = there_is _ _ returns in (
           place_inside b o.place (subst (λ v. slots_of_form (return_form v) ≤ b.slots) some few)
-              (subst (λ v. Rattle.ob_silica_formed.specs.Points.NamesWhatIsThere (static_of b) k.holdings (return_form v)) some y.numbers),
+              (subst (λ v. NamesWhatIsThere (static_of b) k.holdings (return_form v)) some y.numbers),
           at.0,
           at.1,
           at.2,
@@ -338,7 +339,7 @@ module _ (table : ClassTable) (t : IsClassTable table) (entry : Option ℕ) (beg
     kept_none p shared e = refl
     kept_none p unowned e = absurd (true≢false e)
 
-    can_be : Rattle.ob_flow_spec.specs.Contexts.possible_under b (permission_at (tests_ended (tested_places outer) k.context) this) (state_number object.state) ≡ true
+    can_be : possible_under b (permission_at (tests_ended (tested_places outer) k.context) this) (state_number object.state) ≡ true
     can_be = state_left table t entry beginning c k outer around_is opens k.context (λ q a e. e) met (λ m. ap (λ x. owns (permission_on x)) this_ended ∙ owner_before)
 
     -- the object has all its values, and a state if there are any
@@ -358,11 +359,11 @@ module _ (table : ClassTable) (t : IsClassTable table) (entry : Option ℕ) (beg
         ended_set false e x i s = ap is_set (sym (ap (λ z. if z then with_permission shared (k.context (field j)) else k.context (field j)) e) ∙ i) ∙ s
 
         held : is_set (k.context (field j)) ≡ true
-        held = let h = held_known (tests_ended (tested_places outer) k.context (field j)) (Rattle.ob_flow_spec.specs.Contexts.exit_of_field b b.signature j)
+        held = let h = held_known (tests_ended (tested_places outer) k.context (field j)) (exit_of_field b b.signature j)
             (field_left table t entry beginning c k outer around_is opens k.context (λ q a e. e) met can_be j available_now) in
             ended_set (is_tested (tested_places outer) (field j)) refl (Some h.0) h.1 refl
 
-        some_value : (x : Option Value) → object.fields j ≡ x → (y : Known) → Rattle.ob_coherent_spec.specs.Saying.AgreesWith y (option_map (λ z. record { value = z; note = c.notes.fields (self_of c.frame.slots) j }) x) → is_some x ≡ true
+        some_value : (x : Option Value) → object.fields j ≡ x → (y : Known) → AgreesWith y (option_map (λ z. record { value = z; note = c.notes.fields (self_of c.frame.slots) j }) x) → is_some x ≡ true
         some_value None e y a = absurd a
         some_value (Some x) e y a = refl
 
@@ -380,7 +381,7 @@ module _ (table : ClassTable) (t : IsClassTable table) (entry : Option ℕ) (beg
     stateless_or (Some s) e = inr refl
     stateless_or None e = ⊎_elim
         (λ z. inl z)
-        (λ z. absurd (both_ways _ z (subst (λ s. Rattle.ob_flow_spec.specs.Contexts.possible_under b (permission_at (tests_ended (tested_places outer) k.context) this) (state_number s) ≡ true) e can_be)))
+        (λ z. absurd (both_ways _ z (subst (λ s. possible_under b (permission_at (tests_ended (tested_places outer) k.context) this) (state_number s) ≡ true) e can_be)))
         (met.made (k.whole.frame.constructs made)).in_state
 
     its_state : has_its_state k.whole.parts.own object ≡ true
@@ -423,10 +424,10 @@ module _ (table : ClassTable) (t : IsClassTable table) (entry : Option ℕ) (beg
     meets_other q unowned ne m = ap (λ y. is_owned_asset table y) (other_ended q ne) ∙ m
 
     next_slot : (j : ℕ) → same_location (slot (j + 1)) this ≡ false
-    next_slot j = Rattle.std.proofs.Common.ne_eqb (j + 1) 0 (λ e. (let z : j + 1 ≡ 0 = e in omega (arith, z)))
+    next_slot j = ne_eqb (j + 1) 0 (λ e. (let z : j + 1 ≡ 0 = e in omega (arith, z)))
 
     later_slot : (n j : ℕ) → n < j → same_location (slot j) this ≡ false
-    later_slot n j more = Rattle.std.proofs.Common.ne_eqb j 0 (λ e. (let z : j ≡ 0 = e in omega (arith, z, more)))
+    later_slot n j more = ne_eqb j 0 (λ e. (let z : j ≡ 0 = e in omega (arith, z, more)))
 
     given_none : owns (permission_at (tests_ended (tested_places outer) (after_give k.context this exit)) this) ≡ false
     given_none = ap (λ z. owns (permission_on (if z then with_permission shared (after_give k.context this exit this) else after_give k.context this exit this))) untested
@@ -444,7 +445,7 @@ module _ (table : ClassTable) (t : IsClassTable table) (entry : Option ℕ) (beg
       given = λ m. given_none;
       others = λ j more. ap (λ y. is_owned_asset table y) (other_ended (slot j) (later_slot _ j more))
           ∙ others_left table t entry beginning c k outer around_is opens k.context (λ q a e. e) met (none_known table t entry beginning c k outer around_is opens) j more;
-      fields = λ j there. ap (λ y. is_held_as y (Rattle.ob_flow_spec.specs.Contexts.exit_of_field b b.signature j)) (other_ended (field j) refl)
+      fields = λ j there. ap (λ y. is_held_as y (exit_of_field b b.signature j)) (other_ended (field j) refl)
           ∙ field_left table t entry beginning c k outer around_is opens k.context (λ q a e. e) met can_be j there;
     }
 
