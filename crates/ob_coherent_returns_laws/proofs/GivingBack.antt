@@ -61,7 +61,8 @@ slot_same : (j i : ℕ) → slot j ≡ slot i → j ≡ i
 slot_same j i e = cc
 
 -- what is said of a place that has the permission and the kind that are known of it
-says_given : (N : ℕ → Type 0) (y : Option Known) (x : Cell) (q : Permission) → kind_known y ≡ x.note.kind → permission_on y ≡ q
+says_given : (N : ℕ → Type 0) (y : Option Known) (x : Cell) (q : Permission) → kind_known y ≡ x.note.kind
+    → permission_on y ≡ q
     → SaysOf N y (Some (noted q x))
 says_given N None x q kind e = record {
   known = tt;
@@ -72,7 +73,8 @@ says_given N (Some y) x q kind e = record {
   owner = λ n needs has. ap owns e ∙ (counted_cell owns n (noted q x) has).0;
 }
 
-unowned_stands : (table : ClassTable) (objects : List _) (y : Cell) → Stands table objects y → Stands table objects (noted unowned y)
+unowned_stands : (table : ClassTable) (objects : List _) (y : Cell) → Stands table objects y → Stands table objects
+    (noted unowned y)
 unowned_stands table objects y s = record {
   kind = s.kind;
   marked = λ e. absurd (let z : unowned ≡ shared = e in cc);
@@ -98,8 +100,10 @@ then_false : (a b : Bool) → (a || b) ≡ false → b ≡ false
 then_false false b e = e
 then_false true b e = absurd (cc)
 
-module _ (table : ClassTable) (entry : Option ℕ) (beginning : Beginning) (t : IsClassTable table) (f : SilicaFrame) (result : Option Cell)
-    (h : Waiting) (hs : List Waiting) (notes : Notes) (w : World) (k : Returned table entry beginning f result h hs notes w)
+module _ (table : ClassTable) (entry : Option ℕ) (beginning : Beginning) (t : IsClassTable table) (f : SilicaFrame)
+    (result : Option Cell)
+    (h : Waiting) (hs : List Waiting) (notes : Notes) (w : World) (k : Returned table entry beginning f result h hs
+    notes w)
     (l : Loan) (ls : List Loan) (lent : h.loans ≡ l ∷ ls) where
   abbrev c : Configuration
   c = back_to f result h hs notes w
@@ -107,7 +111,8 @@ module _ (table : ClassTable) (entry : Option ℕ) (beginning : Beginning) (t : 
   abbrev N : ℕ → Type 0
   N = NeedsOwner table w.objects
 
-  abbrev wt : Waits table N (back_to f result h hs notes w) f k.whole.parts (self_of f.slots ∷ []) (λ n. tests_of n f.slots []) h
+  abbrev wt : Waits table N (back_to f result h hs notes w) f k.whole.parts (self_of f.slots ∷ []) (λ n. tests_of n
+      f.slots []) h
   wt = k.whole.waiting.0
 
   abbrev before : Here
@@ -135,7 +140,12 @@ module _ (table : ClassTable) (entry : Option ℕ) (beginning : Beginning) (t : 
   after = record { slots = given_slots; notes = given_notes; world = w }
 
   wr : Written l.place (Some (noted l.exit a.cell)) before after
-  wr = subst (λ v. Written l.place (Some (noted l.exit a.cell)) before (record { slots = given_slots; notes = given_notes; world = v }))
+  wr = subst (λ v. Written l.place (Some (noted l.exit a.cell)) before (record {
+    slots = given_slots;
+    notes =
+        given_notes;
+    world = v;
+  }))
       (permission_world l.place l.exit before) (permission_written l.place l.exit a.cell before found)
 
   abbrev d : Configuration
@@ -147,7 +157,12 @@ module _ (table : ClassTable) (entry : Option ℕ) (beginning : Beginning) (t : 
   abbrev mine : Here
   mine = record { slots = f.slots; notes = notes; world = w }
 
-  wf : Written (slot l.param) (Some (noted unowned a.given)) mine (record { slots = left_slots; notes = notes; world = w })
+  wf : Written (slot l.param) (Some (noted unowned a.given)) mine (record {
+    slots = left_slots;
+    notes = notes;
+    world =
+        w;
+  })
   wf = permission_written (slot l.param) unowned a.given mine a.found
 
   -- places and slots
@@ -170,7 +185,8 @@ module _ (table : ClassTable) (entry : Option ℕ) (beginning : Beginning) (t : 
       ap (λ (x : Cell). x.note.kind) (some_same a.given r.0 (sym a.found ∙ r.1)) ∙ r.2
 
   lent_first : (ms : List Loan) → ms ≡ l ∷ ls → has_lent ms l.param ≡ true
-  lent_first ms e = ap (λ xs. has_lent xs l.param) e ∙ or_left (same_location (slot l.param) (slot l.param)) (has_lent ls l.param) (eq-eqb l.param l.param refl)
+  lent_first ms e = ap (λ xs. has_lent xs l.param) e ∙ or_left (same_location (slot l.param) (slot l.param))
+      (has_lent ls l.param) (eq-eqb l.param l.param refl)
 
   left_with : LeavesWith N (permission_of a.parameter.exit) a.given
   left_with = k.exits l.param a.parameter a.given (lent_first h.loans lent) a.param a.found
@@ -178,12 +194,15 @@ module _ (table : ClassTable) (entry : Option ℕ) (beginning : Beginning) (t : 
   -- the object isn't under construction, since two places refer to it
   referred_twice : (n : ℕ) → a.cell.value ≡ reference n → 1 < references n c
   referred_twice n e =
-      let x : in_cell any n (cell_at before l.place) ≡ 1 = ap (in_cell any n) found ∙ cell_counted any n a.cell refl e in
-      let y : in_cell any n (f.slots l.param) ≡ 1 = ap (in_cell any n) a.found ∙ cell_counted any n a.given refl (a.same ∙ e) in
+      let x : in_cell any n (cell_at before l.place) ≡ 1 = ap (in_cell any n) found ∙ cell_counted any n a.cell refl e
+      in
+      let y : in_cell any n (f.slots l.param) ≡ 1 = ap (in_cell any n) a.found ∙ cell_counted any n a.given refl (a.same
+      ∙ e) in
       let p = in_place any n l.place before (low_of l.place a.cell found) in
       let q = in_slot any n f.slots l.param few in
       let s : references n c ≡ in_slots any n f.slots + in_objects any n notes w.objects
-      + (in_cell any n result + (in_slots any n h.frame.slots + in_waiting any n hs) + in_handles any n notes.handles) = refl in
+      + (in_cell any n result + (in_slots any n h.frame.slots + in_waiting any n hs) + in_handles any n notes.handles) =
+      refl in
       let r : in_here any n before ≡ in_slots any n h.frame.slots + in_objects any n notes w.objects = refl in
       omega (arith, x, y, p, q, s, r)
 
@@ -194,29 +213,36 @@ module _ (table : ClassTable) (entry : Option ℕ) (beginning : Beginning) (t : 
       (cases_lt 0 (constructing_among n (h ∷ hs))))
 
   stands_back : Stands table w.objects (noted l.exit a.cell)
-  stands_back = back_stands table t w.objects a.cell a.given (kind_of_resolved a.parameter.of) (permission_of a.parameter.exit) l.exit
+  stands_back = back_stands table t w.objects a.cell a.given (kind_of_resolved a.parameter.of) (permission_of
+      a.parameter.exit) l.exit
       a.same given_kind a.serves left_with (stands_at l.place a.cell found) stands_given
       (objects_low table t notes w.objects k.whole.objects) state
 
   -- owners and references
-  counted : (counts : Counted) (n : ℕ) → in_all counts n d + in_cell counts n (Some a.cell) + in_cell counts n (Some a.given)
-      ≡ in_all counts n c + in_cell counts n (Some (noted l.exit a.cell)) + in_cell counts n (Some (noted unowned a.given))
-  counted counts n = unlent_with counts n c h l ls hs result refl refl (low_of l.place a.cell found) few wt.frame.there a.cell a.given found a.found
+  counted : (counts : Counted) (n : ℕ) → in_all counts n d + in_cell counts n (Some a.cell) + in_cell counts n
+      (Some a.given)
+      ≡ in_all counts n c + in_cell counts n (Some (noted l.exit a.cell)) + in_cell counts n
+      (Some (noted unowned a.given))
+  counted counts n = unlent_with counts n c h l ls hs result refl refl (low_of l.place a.cell found) few wt.frame.there
+      a.cell a.given found a.found
 
   owners_less : (n : ℕ) → owners n d ≤ owners n c
   owners_less n = let x = counted owns n in let y = unowned_none n a.cell a.lent in
       let z = cell_noted_none owns n unowned a.given refl in
-      let o = back_owners N n a.cell a.given l.exit a.same (permission_of a.parameter.exit) a.serves.mode left_with in omega (arith, x, y, z, o)
+      let o = back_owners N n a.cell a.given l.exit a.same (permission_of a.parameter.exit) a.serves.mode left_with in
+      omega (arith, x, y, z, o)
 
   owners_kept : (n : ℕ) → N n → owners n c ≤ owners n d
   owners_kept n needs = let x = counted owns n in let y = unowned_none n a.cell a.lent in
       let z = cell_noted_none owns n unowned a.given refl in
-      let o = back_kept N n a.cell a.given l.exit a.same (permission_of a.parameter.exit) a.serves.mode left_with needs in omega (arith, x, y, z, o)
+      let o = back_kept N n a.cell a.given l.exit a.same (permission_of a.parameter.exit) a.serves.mode left_with needs
+      in omega (arith, x, y, z, o)
 
   references_same : (n : ℕ) → references n d ≡ references n c
   references_same n = let x = counted any n in
       let y : in_cell any n (Some (noted l.exit a.cell)) ≡ in_cell any n (Some a.cell) = refl in
-      let z : in_cell any n (Some (noted unowned a.given)) ≡ in_cell any n (Some a.given) = refl in omega (arith, x, y, z)
+      let z : in_cell any n (Some (noted unowned a.given)) ≡ in_cell any n (Some a.given) = refl in omega
+      (arith, x, y, z)
 
   -- objects of frames
   same_mine : self_of left_slots ≡ self_of f.slots
@@ -240,7 +266,8 @@ module _ (table : ClassTable) (entry : Option ℕ) (beginning : Beginning) (t : 
   open_same n = let y = tests_in_same n h.frame.slots given_slots h.outer same_below in omega (arith, y)
 
   -- fields of objects
-  other_field : (n j : ℕ) → n ≢ self_of h.frame.slots → field_cell given_notes w.objects n j ≡ field_cell notes w.objects n j
+  other_field : (n j : ℕ) → n ≢ self_of h.frame.slots → field_cell given_notes w.objects n j ≡ field_cell notes
+      w.objects n j
   other_field n j ne = same_field_cell notes given_notes w.objects w.objects n j refl (wr.stays.notes n j ne)
 
   back_is : (z : Cell) → Some (noted l.exit a.cell) ≡ Some z → Stands table w.objects z
@@ -249,13 +276,15 @@ module _ (table : ClassTable) (entry : Option ℕ) (beginning : Beginning) (t : 
   fields_now : (n : ℕ) → AllStand table w.objects (field_cell given_notes w.objects n)
   fields_now n = ⊎_elim
       (λ e. subst (λ i. AllStand table w.objects (field_cell given_notes w.objects i)) (same_below ∙ sym e.1)
-      (fields_stand before after l.place (Some (noted l.exit a.cell)) wr table back_is (k.whole.fields (self_of h.frame.slots))))
+      (fields_stand before after l.place (Some (noted l.exit a.cell)) wr table back_is (k.whole.fields
+      (self_of h.frame.slots))))
       (λ e j x set. k.whole.fields n j x (sym (other_field n j e.1) ∙ set))
       (eqb_tells n (self_of h.frame.slots))
 
   run_now : IsObjectInRun table given_notes (self_of given_slots) (nth_object w.objects (self_of given_slots))
   run_now = in_run_written before after l.place (Some (noted l.exit a.cell)) wr table run (λ j z e s.
-      let r = kind_in_run table notes w.objects (self_of h.frame.slots) run j a.cell (subst (λ p. cell_at before p ≡ Some a.cell) e found) in
+      let r = kind_in_run table notes w.objects (self_of h.frame.slots) run j a.cell (subst (λ p. cell_at before p ≡
+      Some a.cell) e found) in
       (r.1, r.2, r.3, ap (λ (y : Cell). y.note.kind) (sym (some_same (noted l.exit a.cell) z s)) ∙ r.4))
 
   objects_now : (n : ℕ) → n < length w.objects → IsObjectInRun table given_notes n (nth_object w.objects n)
@@ -276,30 +305,39 @@ module _ (table : ClassTable) (entry : Option ℕ) (beginning : Beginning) (t : 
   declared_now n below none new = ⊎_elim
       (λ e. absurd (let x = has_entry table N c h.frame wt.parts _ _ hs k.whole.waiting.1 in
       let y = entries_same n in let z = constructions_same n in
-      let x2 : 0 < entered_at n h.frame.how h.frame.slots + entered_among n hs + (constructing_at n h.frame.how h.frame.slots + constructing_among n hs) =
-      subst (λ i. 0 < entered_at i h.frame.how h.frame.slots + entered_among i hs + (constructing_at i h.frame.how h.frame.slots + constructing_among i hs)) (sym e.1) x in
-      let y2 : entries n c ≡ entered_at n f.how f.slots + (entered_at n h.frame.how h.frame.slots + entered_among n hs) = refl in
-      let z2 : constructions n c ≡ constructing_at n f.how f.slots + (constructing_at n h.frame.how h.frame.slots + constructing_among n hs) = refl in
+      let x2 : 0 < entered_at n h.frame.how h.frame.slots + entered_among n hs + (constructing_at n h.frame.how
+      h.frame.slots + constructing_among n hs) =
+      subst (λ i. 0 < entered_at i h.frame.how h.frame.slots + entered_among i hs + (constructing_at i h.frame.how
+      h.frame.slots + constructing_among i hs)) (sym e.1) x in
+      let y2 : entries n c ≡ entered_at n f.how f.slots + (entered_at n h.frame.how h.frame.slots + entered_among n hs)
+      = refl in
+      let z2 : constructions n c ≡ constructing_at n f.how f.slots + (constructing_at n h.frame.how h.frame.slots +
+      constructing_among n hs) = refl in
       omega (arith, x2, y, z, y2, z2, none, new)))
       (λ e. let o = k.whole.declared n below (sym (entries_same n) ∙ none) (sym (constructions_same n) ∙ new) in record {
         placed = o.placed;
-        fields = λ j x at there. subst (SaysOf N (Some (declared_note x.of))) (sym (other_field n j e.1)) (o.fields j x at there);
+        fields = λ j x at there. subst (SaysOf N (Some (declared_note x.of))) (sym (other_field n j e.1))
+            (o.fields j x at there);
       })
       (eqb_tells n (self_of h.frame.slots))
 
   -- the frame that leaves
   frame_mine : IsFrame table w.objects (frame_with f left_slots) k.whole.parts
   frame_mine = frame_kept table f k.whole.parts mine (record { slots = left_slots; notes = notes; world = w }) wf.stays
-      (slots_kept mine (record { slots = left_slots; notes = notes; world = w }) (slot l.param) (Some (noted unowned a.given)) wf (length k.whole.parts.signature.params)
+      (slots_kept mine (record { slots = left_slots; notes = notes; world = w }) (slot l.param)
+      (Some (noted unowned a.given)) wf (length k.whole.parts.signature.params)
       (λ i e le. noted_alike a.given unowned (cell_at mine (slot l.param)) a.found))
-      (unset_kept mine (record { slots = left_slots; notes = notes; world = w }) (slot l.param) (Some (noted unowned a.given)) wf k.whole.parts.slots
+      (unset_kept mine (record { slots = left_slots; notes = notes; world = w }) (slot l.param)
+      (Some (noted unowned a.given)) wf k.whole.parts.slots
       (λ i e. let low = few_parameters f k.whole.parts l.param a.parameter a.param in let more = k.whole.frame.params in
       let same = slot_same l.param i e in omega (arith, low, more, same)) k.whole.frame.unset)
       k.whole.frame
 
   slots_mine : AllStand table w.objects left_slots
-  slots_mine = slots_stand mine (record { slots = left_slots; notes = notes; world = w }) (slot l.param) (Some (noted unowned a.given)) wf table
-      (λ z e. subst (Stands table w.objects) (some_same (noted unowned a.given) z e) (unowned_stands table w.objects a.given stands_given))
+  slots_mine = slots_stand mine (record { slots = left_slots; notes = notes; world = w }) (slot l.param)
+      (Some (noted unowned a.given)) wf table
+      (λ z e. subst (Stands table w.objects) (some_same (noted unowned a.given) z e) (unowned_stands table w.objects
+      a.given stands_given))
       k.whole.slots
 
   other_slot : (j : ℕ) → j ≢ l.param → left_slots j ≡ f.slots j
@@ -309,20 +347,24 @@ module _ (table : ClassTable) (entry : Option ℕ) (beginning : Beginning) (t : 
   that_slot = wf.itself
 
   -- the frame that waits
-  alike_below : (n : ℕ) → (i : ℕ) → l.place ≡ slot i → i ≤ n → IsAlike (cell_at before l.place) (Some (noted l.exit a.cell))
+  alike_below : (n : ℕ) → (i : ℕ) → l.place ≡ slot i → i ≤ n → IsAlike (cell_at before l.place)
+      (Some (noted l.exit a.cell))
   alike_below n i e le = noted_alike a.cell l.exit (cell_at before l.place) found
 
   place_inside : (p : Location) (x : Cell) → cell_at before p ≡ Some x → (i : ℕ) → p ≡ slot i → i < wt.parts.slots
   place_inside p x e i is = ⊎_elim (λ below. below)
-      (λ past. absurd (let none = wt.frame.unset i past in let some : h.frame.slots i ≡ Some x = subst (λ q. cell_at before q ≡ Some x) is e in cc))
+      (λ past. absurd (let none = wt.frame.unset i past in let some : h.frame.slots i ≡ Some x = subst
+      (λ q. cell_at before q ≡ Some x) is e in cc))
       (cases_lt i wt.parts.slots)
 
   unset_below : (j : ℕ) → wt.parts.slots ≤ j → given_slots j ≡ None
-  unset_below = unset_kept before after l.place (Some (noted l.exit a.cell)) wr wt.parts.slots (place_inside l.place a.cell found) wt.frame.unset
+  unset_below = unset_kept before after l.place (Some (noted l.exit a.cell)) wr wt.parts.slots (place_inside l.place
+      a.cell found) wt.frame.unset
 
   frame_below : IsFrame table w.objects (frame_with h.frame given_slots) wt.parts
   frame_below = frame_kept table h.frame wt.parts before after wr.stays
-      (slots_kept before after l.place (Some (noted l.exit a.cell)) wr (length wt.parts.signature.params) (alike_below (length wt.parts.signature.params)))
+      (slots_kept before after l.place (Some (noted l.exit a.cell)) wr (length wt.parts.signature.params)
+      (alike_below (length wt.parts.signature.params)))
       unset_below wt.frame
 
   cells_below : AllStand table w.objects given_slots
@@ -341,19 +383,23 @@ module _ (table : ClassTable) (entry : Option ℕ) (beginning : Beginning) (t : 
   -- a constructor's `this` isn't lent
   not_made : h.frame.how ≡ by_new → l.place ≢ this
   not_made made e = let owner = wt.owns_made made in
-      let none : owns (permission_in (h.frame.slots 0)) ≡ false = ap (λ x. owns (permission_in x)) (found_this e) ∙ ap owns a.lent in both_ways _ none owner
+      let none : owns (permission_in (h.frame.slots 0)) ≡ false = ap (λ x. owns (permission_in x)) (found_this e)
+      ∙ ap owns a.lent in both_ways _ none owner
 
   gone_shared : l.exit ≡ shared → (n : ℕ) → a.cell.value ≡ reference n → owners n c ≤ 0
-  gone_shared e n refers = a.gone n (a.same ∙ refers) (back_shared N a.given l.exit (permission_of a.parameter.exit) e a.serves.mode left_with)
+  gone_shared e n refers = a.gone n (a.same ∙ refers) (back_shared N a.given l.exit (permission_of a.parameter.exit) e
+      a.serves.mode left_with)
 
   this_refers : l.place ≡ this → a.cell.value ≡ reference (self_of h.frame.slots)
-  this_refers e = ap (λ (x : Cell). x.value) (some_same a.cell wt.frame.this (sym (found_this e) ∙ wt.frame.set)) ∙ wt.frame.refers
+  this_refers e = ap (λ (x : Cell). x.value) (some_same a.cell wt.frame.this (sym (found_this e) ∙ wt.frame.set))
+      ∙ wt.frame.refers
 
   shares_below : SharesThis (frame_with h.frame given_slots) d 0
   shares_below held = ⊎_elim
       (λ e. let s = wt.shares (ap permission_in (sym e) ∙ held) in (
         subst (λ n. 0 < times n w.progress) (sym same_below) s.0,
-        ⊎_elim (λ less. inl (subst (λ n. owners n d ≤ 0) (sym same_below) (let o = owners_less (self_of h.frame.slots) in omega (arith, o, less))))
+        ⊎_elim (λ less. inl (subst (λ n. owners n d ≤ 0) (sym same_below) (let o = owners_less (self_of h.frame.slots)
+            in omega (arith, o, less))))
             (λ z. inr (z.0, subst (λ n. 0 < times n w.locked) (sym same_below) z.1)) s.1,
       ))
       (λ e. let is : l.exit ≡ shared = ap permission_in (sym e.1) ∙ held in
@@ -363,14 +409,17 @@ module _ (table : ClassTable) (entry : Option ℕ) (beginning : Beginning) (t : 
             (λ old. let x = is_entered table N c h.frame wt.parts _ _ hs old k.whole.waiting.1 in
             let y = k.whole.progress (self_of h.frame.slots) in
             let z : entries (self_of h.frame.slots) c ≡ entered_at (self_of h.frame.slots) f.how f.slots
-            + (entered_at (self_of h.frame.slots) h.frame.how h.frame.slots + entered_among (self_of h.frame.slots) hs) = refl in omega (arith, x, y, z))
+            + (entered_at (self_of h.frame.slots) h.frame.how h.frame.slots + entered_among (self_of h.frame.slots) hs)
+            = refl in omega (arith, x, y, z))
             (is_new h.frame.how)),
-        inl (subst (λ n. owners n d ≤ 0) (sym same_below) (let o = owners_less (self_of h.frame.slots) in omega (arith, o, none))),
+        inl (subst (λ n. owners n d ≤ 0) (sym same_below) (let o = owners_less (self_of h.frame.slots) in omega
+            (arith, o, none))),
       ))
       this_below
 
   -- what its context says
-  settled_too : (p : Location) → same_location p l.place ≡ false → not (is_lent ls p || (is_result h.result p || (is_on_this f.how && is_field p))) ≡ true
+  settled_too : (p : Location) → same_location p l.place ≡ false → not (is_lent ls p || (is_result h.result p ||
+      (is_on_this f.how && is_field p))) ≡ true
       → is_settled f.how h p ≡ true
   settled_too p ne e = rw (lent, ne) e
 
@@ -385,13 +434,15 @@ module _ (table : ClassTable) (entry : Option ℕ) (beginning : Beginning) (t : 
   loans_too (m ∷ ms) out unhad b = (
     record {
       cell = b.0.cell;
-      place = reads_written before after l.place (Some (noted l.exit a.cell)) wr table wt.frame.there run run_now m.place
+      place = reads_written before after l.place (Some (noted l.exit a.cell)) wr table wt.frame.there run run_now
+          m.place
           (differs l.place m.place (first_false _ _ out)) ∙ b.0.place;
       lent = b.0.lent;
       parameter = b.0.parameter;
       param = b.0.param;
       given = b.0.given;
-      found = other_slot m.param (λ e. both_ways _ (first_false _ _ unhad) (eq-eqb l.param m.param (sym e))) ∙ b.0.found;
+      found = other_slot m.param (λ e. both_ways _ (first_false _ _ unhad) (eq-eqb l.param m.param (sym e)))
+          ∙ b.0.found;
       same = b.0.same;
       serves = b.0.serves;
       kind = b.0.kind;
@@ -406,7 +457,8 @@ module _ (table : ClassTable) (entry : Option ℕ) (beginning : Beginning) (t : 
   abbrev pub waiting_on : Waiting
   waiting_on = record h { frame = record h.frame { slots = given_slots }; loans = ls }
 
-  await_too : (r : Option ℕ) (gift : Option ResolvedType) → AwaitsResult (body_of table h.frame wt.parts) wt.context h r gift
+  await_too : (r : Option ℕ) (gift : Option ResolvedType) → AwaitsResult (body_of table h.frame wt.parts) wt.context h r
+      gift
       → AwaitsResult (body_of table h.frame wt.parts) wt.context waiting_on r gift
   await_too None None b = tt
   await_too (Some i) (Some of) b = (
@@ -426,35 +478,46 @@ module _ (table : ClassTable) (entry : Option ℕ) (beginning : Beginning) (t : 
 
   held_too : AreHeld wt.holdings given_slots (λ p. not (is_result h.result p))
   held_too j x free set = ⊎_elim
-      (λ e. subst (HoldsSo (wt.holdings j)) (some_same (noted l.exit a.cell) x (sym (written_that before after l.place (Some (noted l.exit a.cell)) wr (slot j) e) ∙ set))
-      (let r = wt.held j a.cell free (subst (λ p. cell_at before p ≡ Some a.cell) (sym e) found) in record { kind = r.kind; refers = r.refers }))
+      (λ e. subst (HoldsSo (wt.holdings j)) (some_same (noted l.exit a.cell) x (sym (written_that before after l.place
+      (Some (noted l.exit a.cell)) wr (slot j) e) ∙ set))
+      (let r = wt.held j a.cell free (subst (λ p. cell_at before p ≡ Some a.cell) (sym e) found) in record
+      { kind = r.kind; refers = r.refers }))
       (λ e. wt.held j x free (sym (wr.others (slot j) e) ∙ set))
       (place_is (slot j) l.place)
 
-  waits_on : Waits table N d (frame_with f left_slots) k.whole.parts (self_of left_slots ∷ []) (λ n. tests_of n left_slots []) waiting_on
+  waits_on : Waits table N d (frame_with f left_slots) k.whole.parts (self_of left_slots ∷ []) (λ n. tests_of n
+      left_slots []) waiting_on
   waits_on = record {
     parts = wt.parts;
     context = wt.context;
     holdings = wt.holdings;
     frame = frame_below;
-    owns_made = λ made. ⊎_elim (λ e. ap (λ x. owns (permission_in x)) e ∙ wt.owns_made made) (λ e. absurd (not_made made e.0)) this_below;
+    owns_made = λ made. ⊎_elim (λ e. ap (λ x. owns (permission_in x)) e ∙ wt.owns_made made)
+        (λ e. absurd (not_made made e.0)) this_below;
     cells = cells_below;
     says = record {
       slots = λ j e. ⊎_elim
-          (λ i. subst (SaysOf N (wt.context (slot j))) (sym (written_that before after l.place (Some (noted l.exit a.cell)) wr (slot j) i))
+          (λ i. subst (SaysOf N (wt.context (slot j))) (sym (written_that before after l.place
+          (Some (noted l.exit a.cell)) wr (slot j) i))
           (subst (λ p. SaysOf N (wt.context p) (Some (noted l.exit a.cell))) (sym i) says_back))
-          (λ i. subst (SaysOf N (wt.context (slot j))) (sym (wr.others (slot j) i)) (wt.says.slots j (settled_too (slot j) i e)))
+          (λ i. subst (SaysOf N (wt.context (slot j))) (sym (wr.others (slot j) i)) (wt.says.slots j
+          (settled_too (slot j) i e)))
           (place_is (slot j) l.place);
       fields = λ j there e. ⊎_elim
-          (λ i. subst (SaysOf N (wt.context (field j))) (sym (written_that before after l.place (Some (noted l.exit a.cell)) wr (field j) i))
+          (λ i. subst (SaysOf N (wt.context (field j))) (sym (written_that before after l.place
+          (Some (noted l.exit a.cell)) wr (field j) i))
           (subst (λ p. SaysOf N (wt.context p) (Some (noted l.exit a.cell))) (sym i) says_back))
           (λ i. subst (SaysOf N (wt.context (field j))) (sym (wr.others (field j) i)) (wt.says.fields j
-          (subst (λ n. available (body_of table h.frame wt.parts) j (state_number (nth_object w.objects n).state) ≡ true) same_below there) (settled_too (field j) i e)))
+          (subst (λ n. available (body_of table h.frame wt.parts) j (state_number (nth_object w.objects n).state) ≡
+          true) same_below there) (settled_too (field j) i e)))
           (place_is (field j) l.place);
       mode = λ e. ⊎_elim
-          (λ i. ap (λ x. same_mode (permission_at wt.context this) (permission_in x)) (written_that before after l.place (Some (noted l.exit a.cell)) wr this i)
-          ∙ ap (λ p. same_mode (permission_at wt.context p) l.exit) i ∙ ap (λ q. same_mode q l.exit) a.exit ∙ same_mode_itself l.exit)
-          (λ i. ap (λ x. same_mode (permission_at wt.context this) (permission_in x)) (wr.others this i) ∙ wt.says.mode (settled_too this i e))
+          (λ i. ap (λ x. same_mode (permission_at wt.context this) (permission_in x)) (written_that before after l.place
+          (Some (noted l.exit a.cell)) wr this i)
+          ∙ ap (λ p. same_mode (permission_at wt.context p) l.exit) i ∙ ap (λ q. same_mode q l.exit) a.exit
+          ∙ same_mode_itself l.exit)
+          (λ i. ap (λ x. same_mode (permission_at wt.context this) (permission_in x)) (wr.others this i) ∙ wt.says.mode
+          (settled_too this i e))
           (place_is this l.place);
     };
     held = held_too;
@@ -466,13 +529,15 @@ module _ (table : ClassTable) (entry : Option ℕ) (beginning : Beginning) (t : 
     open_slots = wt.open_slots;
     loans = loans_too ls loans_are.1 loans_are.2 loans_are.3;
     lent_slots = λ e. (subst LendNoField lent (wt.lent_slots e)).1;
-    placed = λ other old. subst (λ n. HasItsState table (nth_object w.objects n)) (sym same_below) (wt.placed other old);
+    placed = λ other old. subst (λ n. HasItsState table (nth_object w.objects n)) (sym same_below) (wt.placed other
+        old);
     apart = subst (λ n. IsApart f.how n (self_of left_slots ∷ []) (self_of left_slots)) (sym same_below)
         (subst (λ n. IsApart f.how (self_of h.frame.slots) (n ∷ []) n) (sym same_mine) wt.apart);
     back = wt.back;
     no_constructor = wt.no_constructor;
     result = await_too h.result (gives_back_as (frame_with f left_slots) k.whole.parts)
-        (subst (AwaitsResult (body_of table h.frame wt.parts) wt.context h h.result) (sym (same_gift f.how f left_slots k.whole.parts)) wt.result);
+        (subst (AwaitsResult (body_of table h.frame wt.parts) wt.context h h.result) (sym (same_gift f.how f left_slots
+        k.whole.parts)) wt.result);
     shares = shares_below;
     share_entered = wt.share_entered;
   }
@@ -494,31 +559,41 @@ module _ (table : ClassTable) (entry : Option ℕ) (beginning : Beginning) (t : 
 
   keeps_below : (j : ℕ) (x : Cell) → h.frame.slots j ≡ Some x → KeepsArgument (λ n. owners n d) x (given_slots j)
   keeps_below j x set = ⊎_elim
-      (λ e. subst (KeepsArgument (λ n. owners n d) x) (sym (written_that before after l.place (Some (noted l.exit a.cell)) wr (slot j) e))
+      (λ e. subst (KeepsArgument (λ n. owners n d) x) (sym (written_that before after l.place
+      (Some (noted l.exit a.cell)) wr (slot j) e))
       (let same : a.cell ≡ x = some_same a.cell x (sym found ∙ ap (cell_at before) (sym e) ∙ set) in (
         ap (λ (y : Cell). y.value) same,
         ap (λ (y : Cell). y.note.kind) same,
-        λ held. inr (λ n refers. let none = gone_shared held n (ap (λ (y : Cell). y.value) same ∙ refers) in let o = owners_less n in omega (arith, o, none)),
+        λ held. inr (λ n refers. let none = gone_shared held n (ap (λ (y : Cell). y.value) same ∙ refers) in let o =
+            owners_less n in omega (arith, o, none)),
       )))
       (λ e. keeps_itself (λ n. owners n d) x (given_slots j) (wr.others (slot j) e ∙ set))
       (place_is (slot j) l.place)
 
-  balanced : (n : ℕ) → owners n d + (tests_of n h.frame.slots h.outer + tests_of n f.slots []) ≤ owners n c + (tests_of n given_slots h.outer + tests_of n left_slots [])
-  balanced n = let x = owners_less n in let y = tests_in_same n h.frame.slots given_slots h.outer same_below in omega (arith, x, y)
+  balanced : (n : ℕ) → owners n d + (tests_of n h.frame.slots h.outer + tests_of n f.slots []) ≤ owners n c +
+      (tests_of n given_slots h.outer + tests_of n left_slots [])
+  balanced n = let x = owners_less n in let y = tests_in_same n h.frame.slots given_slots h.outer same_below in omega
+      (arith, x, y)
 
-  waiting_below : AllWait table N d (frame_with h.frame given_slots) wt.parts (self_of given_slots ∷ (self_of left_slots ∷ []))
+  waiting_below : AllWait table N d (frame_with h.frame given_slots) wt.parts (self_of given_slots ∷ (self_of left_slots
+      ∷ []))
       (λ n. tests_of n given_slots h.outer + tests_of n left_slots []) hs
-  waiting_below = subst (λ n. AllWait table N d (frame_with h.frame given_slots) wt.parts (n ∷ (self_of left_slots ∷ []))
+  waiting_below = subst (λ n. AllWait table N d (frame_with h.frame given_slots) wt.parts
+      (n ∷ (self_of left_slots ∷ []))
       (λ n. tests_of n given_slots h.outer + tests_of n left_slots []) hs) (sym same_below)
       (subst (λ n. AllWait table N d (frame_with h.frame given_slots) wt.parts (self_of h.frame.slots ∷ (n ∷ []))
       (λ n. tests_of n given_slots h.outer + tests_of n left_slots []) hs) (sym same_mine)
-      (all_near table (self_of h.frame.slots) (λ n. ⊤) N N c d near h.frame wt.parts given_slots (self_of h.frame.slots ∷ (self_of f.slots ∷ []))
-      (λ n. tests_of n h.frame.slots h.outer + tests_of n f.slots []) (λ n. tests_of n given_slots h.outer + tests_of n left_slots []) hs
-      same_below (λ j x le set. keeps_below j x set) wt.cells (inl refl) (λ n b. balanced n) (inl refl) (each_self (λ n. ⊤) (λ n. tt) hs) k.whole.waiting.1))
+      (all_near table (self_of h.frame.slots) (λ n. ⊤) N N c d near h.frame wt.parts given_slots (self_of h.frame.slots
+      ∷ (self_of f.slots ∷ []))
+      (λ n. tests_of n h.frame.slots h.outer + tests_of n f.slots []) (λ n. tests_of n given_slots h.outer + tests_of n
+      left_slots []) hs
+      same_below (λ j x le set. keeps_below j x set) wt.cells (inl refl) (λ n b. balanced n) (inl refl)
+      (each_self (λ n. ⊤) (λ n. tt) hs) k.whole.waiting.1))
 
   began : (gs : List Waiting) → gs ≡ hs → BeganSo table beginning (outermost h.frame gs)
       → BeganSo table beginning (outermost (frame_with h.frame given_slots) gs)
-  began gs e b = began_kept table w.objects beginning h.frame wt.parts given_slots (λ n. owners n d) gs wt.frame (λ j x le set. keeps_below j x set) b
+  began gs e b = began_kept table w.objects beginning h.frame wt.parts given_slots (λ n. owners n d) gs wt.frame
+      (λ j x le set. keeps_below j x set) b
 
   whole_after : Holds table entry beginning d
   unfolding waits_on
@@ -548,15 +623,18 @@ module _ (table : ClassTable) (entry : Option ℕ) (beginning : Beginning) (t : 
   far_field : is_field l.place ≡ true → self_of h.frame.slots ≢ self_of f.slots
   far_field e same = by_how f.how refl wt.apart
     where
-      by_how : (how : How) → f.how ≡ how → IsApart how (self_of h.frame.slots) (self_of f.slots ∷ []) (self_of f.slots) → ⊥
+      by_how : (how : How) → f.how ≡ how → IsApart how (self_of h.frame.slots) (self_of f.slots ∷ []) (self_of f.slots)
+          → ⊥
       by_how by_this called apart = both_ways _ (subst LendNoField lent (wt.lent_slots called)).0 e
       by_how by_receiver called apart = apart.0 same
       by_how by_new called apart = apart.0 same
 
   field_mine : (p : Location) → (is_field p ≡ true → self_of h.frame.slots ≢ self_of f.slots) → (j : ℕ)
-      → field_cell (set_permission p l.exit before).notes w.objects (self_of f.slots) j ≡ field_cell notes w.objects (self_of f.slots) j
+      → field_cell (set_permission p l.exit before).notes w.objects (self_of f.slots) j ≡ field_cell notes w.objects
+      (self_of f.slots) j
   field_mine (slot i) far j = refl
-  field_mine (field i) far j = same_field_cell notes (set_permission (field i) l.exit before).notes w.objects w.objects (self_of f.slots) j refl
+  field_mine (field i) far j = same_field_cell notes (set_permission (field i) l.exit before).notes w.objects w.objects
+      (self_of f.slots) j refl
       (note_other_object notes (self_of h.frame.slots) i
       (known (notes.fields (self_of h.frame.slots) i).kind l.exit) (self_of f.slots) j (λ e. far refl (sym e)))
 
@@ -567,31 +645,40 @@ module _ (table : ClassTable) (entry : Option ℕ) (beginning : Beginning) (t : 
     returned = k.returned;
     given = subst (IsGivenBack N result) (sym (same_gift f.how f left_slots k.whole.parts)) k.given;
     none = λ j out n needs. ⊎_elim
-        (λ e. subst (λ i. in_cell owns n (left_slots i) ≡ 0) (sym e.1) (ap (in_cell owns n) that_slot ∙ cell_noted_none owns n unowned a.given refl))
-        (λ e. ap (in_cell owns n) (other_slot j e.1) ∙ k.none j (ap (λ ms. has_lent ms j) lent ∙ (let z : same_location (slot j) (slot l.param) ≡ false = e.0 in rw z out)) n needs)
+        (λ e. subst (λ i. in_cell owns n (left_slots i) ≡ 0) (sym e.1) (ap (in_cell owns n) that_slot ∙ cell_noted_none
+        owns n unowned a.given refl))
+        (λ e. ap (in_cell owns n) (other_slot j e.1) ∙ k.none j (ap (λ ms. has_lent ms j) lent
+        ∙ (let z : same_location (slot j) (slot l.param) ≡ false = e.0 in rw z out)) n needs)
         (eqb_tells j l.param);
-    exits = λ j p x had at set. let ne : j ≢ l.param = λ e. both_ways _ loans_are.2 (subst (λ i. has_lent ls i ≡ true) e had) in
-        k.exits j p x (ap (λ ms. has_lent ms j) lent ∙ or_right (same_location (slot j) (slot l.param)) (has_lent ls j) had) at (sym (other_slot j ne) ∙ set);
+    exits = λ j p x had at set. let ne : j ≢ l.param = λ e. both_ways _ loans_are.2 (subst (λ i. has_lent ls i ≡ true) e
+        had) in
+        k.exits j p x (ap (λ ms. has_lent ms j) lent ∙ or_right (same_location (slot j) (slot l.param)) (has_lent ls j)
+        had) at (sym (other_slot j ne) ∙ set);
     placed = subst (λ n. HasItsState table (nth_object w.objects n)) (sym same_mine) k.placed;
-    fields = λ j x at there. subst (λ n. SaysOf N (Some (known (kind_of_resolved x.of) (exit_of_field (body_of table f k.whole.parts) k.whole.parts.signature j)))
+    fields = λ j x at there. subst (λ n. SaysOf N (Some (known (kind_of_resolved x.of) (exit_of_field (body_of table f
+        k.whole.parts) k.whole.parts.signature j)))
         (field_cell given_notes w.objects n j)) (sym same_mine)
-        (subst (SaysOf N (Some (known (kind_of_resolved x.of) (exit_of_field (body_of table f k.whole.parts) k.whole.parts.signature j))))
+        (subst (SaysOf N (Some (known (kind_of_resolved x.of) (exit_of_field (body_of table f k.whole.parts)
+        k.whole.parts.signature j))))
         (sym (field_mine l.place far_field j))
         (k.fields j x at (subst (λ n. is_available (nth_object w.objects n).state x ≡ true) same_mine there)));
     shares = λ old held. ⊎_elim
         (λ e. absurd (let z : unowned ≡ shared = sym (ap permission_in (ap left_slots e.1 ∙ that_slot)) ∙ held in cc))
         (λ e. let s = k.shares old (ap permission_in (sym (other_slot 0 e.1)) ∙ held) in (
           subst (λ n. 0 < times n w.progress) (sym same_mine) s.0,
-          ⊎_elim (λ less. inl (subst (λ n. owners n d ≤ 0) (sym same_mine) (let o = owners_less (self_of f.slots) in omega (arith, o, less))))
+          ⊎_elim (λ less. inl (subst (λ n. owners n d ≤ 0) (sym same_mine) (let o = owners_less (self_of f.slots) in
+              omega (arith, o, less))))
               (λ z. inr (z.0, subst (λ n. 0 < times n w.locked) (sym same_mine) z.1)) s.1,
         ))
         (eqb_tells 0 l.param);
-    unreferred = λ n has. let x = references_same n in let y = constructing_below n in let one = k.unreferred n (omega (arith, y, has)) in omega (arith, x, one);
+    unreferred = λ n has. let x = references_same n in let y = constructing_below n in let one = k.unreferred n
+        (omega (arith, y, has)) in omega (arith, x, one);
     lends = k.lends;
   }
 
 -- One loan goes back after another.
-pub unlends_so : (table : ClassTable) (entry : Option ℕ) (beginning : Beginning) → IsClassTable table → (f : SilicaFrame) (result : Option Cell)
+pub unlends_so : (table : ClassTable) (entry : Option ℕ) (beginning : Beginning) → IsClassTable table
+    → (f : SilicaFrame) (result : Option Cell)
     (h : Waiting) (hs : List Waiting) (notes : Notes) (w : World) → Returned table entry beginning f result h hs notes w
     → (l : Loan) (ls : List Loan) → h.loans ≡ l ∷ ls
     → StepsSo table entry beginning (unlends result h l ls hs (back_to f result h hs notes w))
