@@ -1,7 +1,9 @@
 -- Statements that neither declare nor stage: calls, ends, names, and the branches of tests.
 use Rattle.std.proofs.Common.{◌≡◌, ℕ, ◌<◌, Bool, true, false, ◌&&◌, ◌||◌, nat_eq, List, [], ◌∷◌, ◌++◌, length, Option, Some, None, option_map, option_and_then, IfSome, IsSomeAnd, refl, sym, ap, ◌∙◌, subst, ◌⊎◌, inl, inr, true≢false, is_some, eqb-true}
 use Rattle.std.proofs.lemmas.Bool.{or_parts, or_left, or_right}
+use Rattle.std.proofs.lemmas.Str.{IsUtf8-nil, is_utf8-from_IsUtf8}
 use Rattle.std.specs.Prelude.{⊤, IsTrue}
+use Rattle.ob_base.specs.Names.{is_text}
 use Rattle.ob_base.specs.declared.fault.Span.{Span}
 use Rattle.ob_base.specs.declared.id.StateId.{StateId}
 use Rattle.ob_base.specs.declared.permission.Perm.{Perm}
@@ -71,6 +73,10 @@ revert_runs o span used there k = record {
   follows = ((λ t. refl), tt, tt);
   after = λ d. absurd (true≢false (or_parts true false d).0);
 }
+
+-- the text of a `revert` that has none
+empty_is_text : IsTrue (is_text [])
+empty_is_text = is_utf8-from_IsUtf8 [] IsUtf8-nil
 
 -- a block of its own
 pub record BlockMade (f : StaticFrame) (g : Holdings) (used : List ℕ) (ts : SilicaTerms) (ends : Bool) : Type 0 where
@@ -167,7 +173,7 @@ module _ (f : StaticFrame) (outer : List ℕ) (p : Point) (ws : LocalKinds) (row
   revert_made : (text : Option Expression) (x : SilicaTerms) → LowersRevert (around f p span) p.used text x → IfSome text (IsValue f ws Text) → EndMade x
   revert_made None x (k, free, is) made =
       let apart : among k p.used ≡ false = free_among k p.used free in
-      let plain : Plain f h (const_form k (TextConstant [])) = const_plain k (TextConstant []) (own_slot s k apart) (s.quiet.by k apart refl) in
+      let plain : Plain f h (const_form k (TextConstant [])) = const_plain k (TextConstant []) empty_is_text (own_slot s k apart) (s.quiet.by k apart refl) in
       let first : Leaves f h (one_term (const_form k (TextConstant [])) span) p.used ([] ++ []) = set_leaves f span p.used [] k (Some Text) false plain refl refl refl apart s.quiet in
       let g = after_terms f (one_term (const_form k (TextConstant [])) span) h in
       let there : kind_of_place f g (Slot k) ≡ Some Text = ap (λ (i : Holdings). (i k).kind) (set_after f span k (Some Text) plain refl refl) ∙ ap (λ (o : SlotContent). o.kind) (set_at k (held (Some Text)) h) in

@@ -30,7 +30,7 @@ use Rattle.ob_silica.specs.declared.term.SilicaOperator.{SilicaOperator}
 use Rattle.ob_silica.specs.declared.term.SilicaOperator.TheVariants.{Unary, Binary}
 use Rattle.ob_silica_places.specs.Known.{kind_of_operator}
 use Rattle.ob_silica_formed.specs.Holdings.{SlotContent, held, Holdings, kind_of_place, kind_of_operand, slot_of_place, slot_written, kind_written, kind_of_result, after_terms, terms_end, joined}
-use Rattle.ob_silica_formed.specs.Points.{IsPlace, HasKind, HaveOperands, ArePassed}
+use Rattle.ob_silica_formed.specs.Points.{IsConstant, IsPlace, HasKind, HaveOperands, ArePassed}
 use Rattle.ob_lower_spec.specs.Points.{IsFree, Temporary, in_use, references, SlotVariable, locals_of, slot_of, place_seen, AroundExpression}
 use Rattle.ob_lower_spec.specs.ExpressionTerms.{Lowered, LoweredArguments, operand, into, LowersName, IsCall, calls_this, calls_other, copied_into, logical_into, LowersExpression, LowersArguments}
 use Rattle.ob_lower_formed.proofs.Sets.{among, free_among, among_left, among_split, apart_both, slots_made, made_append, references_append, Within, within_self, within_left, within_right, within_first, within_second}
@@ -318,9 +318,9 @@ op_plain k o a b line pa pb have own quiet = record {
   goes_on = refl;
 }
 
-pub const_plain : {f : StaticFrame} {g : Holdings} (k : ℕ) (value : _) → f.params < k → (g k).refers ≡ false → Plain f g (const_form k value)
-const_plain k value own quiet = record {
-  made = record { numbers = tt; kinds = tt; results = tt; params = own; references = quiet; bodies = tt; returns = tt };
+pub const_plain : {f : StaticFrame} {g : Holdings} (k : ℕ) (value : _) → IsConstant value → f.params < k → (g k).refers ≡ false → Plain f g (const_form k value)
+const_plain k value is own quiet = record {
+  made = record { numbers = tt; kinds = is; results = tt; params = own; references = quiet; bodies = tt; returns = tt };
   within = tt;
   follows = tt;
   behind = refl;
@@ -428,21 +428,21 @@ module _ (f : StaticFrame) (vs : List SlotVariable) (ws : LocalKinds) (agree : (
       (into_gave at no_terms [] (copy_form (Slot k) o) k false o.span kind s (none_leaves f h used s.quiet) (fresh_none used) apart
       (copy_plain k o kind holds.is er (own_slot s k apart) (s.quiet.by k apart refl)) refl holds.is er)
 
-  const_made : {h : Holdings} {used : List ℕ} (k : ℕ) (value : _) (l : Lowered) (span : Span) (of kind : Kind) → Stands f vs used h → IsFree k used
+  const_made : {h : Holdings} {used : List ℕ} (k : ℕ) (value : _) (l : Lowered) (span : Span) (of kind : Kind) → IsConstant value → Stands f vs used h → IsFree k used
       → l ≡ into (here f vs at) no_terms [] (const_form k value) k false span → kind_written f h (const_form k value) ≡ Some of → is_reference of ≡ false
       → Some of ≡ Some kind → Gave f h used l kind
-  const_made {h} {used} k value l span of kind s free is ek plain e =
+  const_made {h} {used} k value l span of kind ranged s free is ek plain e =
       let apart : among k used ≡ false = free_among k used free in
       gave_by l (into (here f vs at) no_terms [] (const_form k value) k false span) kind of is e
       (into_gave at no_terms [] (const_form k value) k false span of s (none_leaves f h used s.quiet) (fresh_none used) apart
-      (const_plain k value (own_slot s k apart) (s.quiet.by k apart refl)) refl ek plain)
+      (const_plain k value ranged (own_slot s k apart) (s.quiet.by k apart refl)) refl ek plain)
 
   mutual
     pub expression_made : (e : Expression) (l : Lowered) (used : List ℕ) (h : Holdings) (kind : Kind) → LowersExpression (here f vs at) used e l
         → IsWellFormedExpression f ws e → Stands f vs used h → kind_of_expression f ws e ≡ Some kind → Gave f h used l kind
-    expression_made (resolved_number z span) l used h kind (k, free, is) made s ek = const_made k (IntConstant z) l span Int kind s free is refl refl ek
-    expression_made (resolved_text z span) l used h kind (k, free, is) made s ek = const_made k (TextConstant z) l span Text kind s free is refl refl ek
-    expression_made (resolved_bool z span) l used h kind (k, free, is) made s ek = const_made k (BoolConstant z) l span BoolKind kind s free is refl refl ek
+    expression_made (resolved_number z span) l used h kind (k, free, is) made s ek = const_made k (IntConstant z) l span Int kind made s free is refl refl ek
+    expression_made (resolved_text z span) l used h kind (k, free, is) made s ek = const_made k (TextConstant z) l span Text kind made s free is refl refl ek
+    expression_made (resolved_bool z span) l used h kind (k, free, is) made s ek = const_made k (BoolConstant z) l span BoolKind kind tt s free is refl refl ek
     expression_made (resolved_seen seen span) l used h kind (of, eo, place, ep, low) made s ek =
         gave_by l l kind of refl (sym eo ∙ sym (seen_agree seen.of) ∙ ek)
         (name_made (is_reference of) of (operand place span) l s (name_holds seen.of place of s ep eo) refl low)

@@ -3,6 +3,8 @@
 use Rattle.std.specs.Prelude.{◌≡◌, ◌≢◌, ℕ, ◌+◌, ◌<◌, Bool, true, false, not, ◌&&◌, ◌||◌, nat_eq, List, [], ◌∷◌, ◌++◌, map, length, Option, Some, None, option_map, option_and_then, slice_get, IsTrue, IsSome, IsSomeAnd, IfSome, slice_index_or, ⊤, if◌then◌else◌}
 use Rattle.std.specs.Option.{option_map_or}
 use Rattle.std.specs.List.{range_with_len}
+use Rattle.ob_base.specs.Names.{is_text}
+use Rattle.ob_base.specs.Numbers.{is_int}
 use Rattle.ob_base.specs.declared.id.ContractId.{ContractId}
 use Rattle.ob_table.specs.Expressions.{Expression, resolved_number, resolved_text, resolved_bool, resolved_seen, resolved_unary, resolved_binary, resolved_logical, resolved_call, resolved_new, Arguments, no_arguments, and_argument}
 use Rattle.ob_table.specs.Statements.{GivenField, Statement, resolved_declare, resolved_assign, resolved_stage, resolved_change, resolved_discard, resolved_test, resolved_if, resolved_return, resolved_revert, resolved_disown, resolved_assert, Block, resolved_block, Otherwise, no_otherwise, otherwise_block, Statements, no_statements, and_statement, ResolvedBody}
@@ -136,11 +138,11 @@ abbrev pub is_constructor : ClassTable → ContractId → ℕ → Bool
 is_constructor table id tx = option_map_or (λ c. not c.interface && nat_eq tx 0) (contract_at table id) false
 
 abbrev mutual
-  -- an expression is made as it must be: each name stands for something, and each operand has the kind that its place
-  -- needs
+  -- an expression is made as it must be: a number is one of 64 bits and a text has at most 1,024 bytes, each name
+  -- stands for something, and each operand has the kind that its place needs
   pub IsWellFormedExpression : StaticFrame → LocalKinds → Expression → Type 0
-  IsWellFormedExpression f ls (resolved_number value span) = ⊤
-  IsWellFormedExpression f ls (resolved_text value span) = ⊤
+  IsWellFormedExpression f ls (resolved_number value span) = IsTrue (is_int value)
+  IsWellFormedExpression f ls (resolved_text value span) = IsTrue (is_text value)
   IsWellFormedExpression f ls (resolved_bool value span) = ⊤
   IsWellFormedExpression f ls (resolved_seen seen span) = IsSome (kind_of_seen f ls seen.of)
   IsWellFormedExpression f ls (resolved_unary operator sign operand span) =

@@ -17,7 +17,7 @@ made = record {
     slots = omega arith;
     few = few_slots;
   };
-  kinds = (tt, tt, (refl, tt, (tt, tt, ((refl, refl), tt, (tt, tt, ((tt, λ i j d lt within. absurd (omega arith)), tt, (tt, tt, ((refl, tt), tt, (tt, tt, ((refl, refl), tt, ((refl, refl), tt, (tt, tt, (tt, tt, tt)))))))))))));
+  kinds = (tt, tt, (refl, tt, (tt, tt, ((refl, refl), tt, (tt, tt, ((tt, λ i j d lt within. absurd (omega arith)), tt, (tt, tt, ((refl, tt), tt, (refl, tt, ((refl, refl), tt, ((refl, refl), tt, (tt, tt, (tt, tt, tt)))))))))))));
   results = (tt, tt, (tt, tt, (tt, tt, (tt, tt, (tt, tt, (tt, tt, (tt, tt, (tt, tt, (tt, tt, (tt, tt, (tt, tt, (tt, tt, (tt, tt, tt)))))))))))));
   params = (tt, tt, (tt, tt, (tt, tt, (omega arith, tt, (tt, tt, (tt, tt, (tt, tt, (omega arith, tt, (omega arith, tt, (omega arith, tt, (tt, tt, (tt, tt, (tt, tt, tt)))))))))))));
   references = (tt, tt, (tt, tt, (tt, tt, (tt, tt, (tt, tt, (tt, tt, (tt, tt, (refl, tt, (refl, tt, (refl, tt, (tt, tt, (tt, tt, (tt, tt, tt)))))))))))));
@@ -33,5 +33,6 @@ returns c = record {
   short = λ h. omega (arith, h.numbers.slots);
   dropping = λ h. omega (arith, h.params.0);
   losing = λ h. true≢false h.references.2.0;
+  large = λ h. true≢false (sym h.kinds.0);
   returning = λ h. true≢false (sym h.returns.0);
 }
