@@ -134,11 +134,11 @@ module _ (table : ClassTable) (entry : Option ℕ) (beginning : Beginning) (t : 
   abbrev after : Here
   after = with_locked changed ls
 
-  abbrev d : Configuration
-  d = moved_to c after (leaves k.result outer)
+  abbrev next : Configuration
+  next = moved_to c after (leaves k.result outer)
 
-  wr : Written p (Some (noted shared a.cell)) (here c) changed
-  wr = subst (λ v. Written p (Some (noted shared a.cell)) (here c)
+  written : Written p (Some (noted shared a.cell)) (here c) changed
+  written = subst (λ v. Written p (Some (noted shared a.cell)) (here c)
       (record {
         slots = (set_permission p shared (here c)).slots;
         notes = (set_permission p shared (here c)).notes;
@@ -147,36 +147,36 @@ module _ (table : ClassTable) (entry : Option ℕ) (beginning : Beginning) (t : 
       (permission_world p shared (here c)) (permission_written p shared a.cell (here c) found)
 
   same_self : self_of changed.slots ≡ self_of c.frame.slots
-  same_self = wr.stays.this
+  same_self = written.stays.this
 
   around_is : around c.control ≡ r ∷ outer
   around_is = ap around k.control ∙ lists
 
   -- counts
   here_same : (counts : Counted) (n : ℕ) → in_here counts n (set_permission p shared (here c)) ≡ in_here counts n
-      (here d)
+      (here next)
   here_same counts n = ap (λ (v : World). in_slots counts n (set_permission p shared (here c)).slots + in_objects counts
       n (set_permission p shared (here c)).notes v.objects)
       (permission_world p shared (here c))
 
-  counted : (counts : Counted) (n : ℕ) → in_all counts n d + in_cell counts n (Some a.cell) ≡ in_all counts n c +
+  counted : (counts : Counted) (n : ℕ) → in_all counts n next + in_cell counts n (Some a.cell) ≡ in_all counts n c +
       in_cell counts n (Some (noted shared a.cell))
-  counted counts n = let x = all_but_here counts n c d refl wr.stays.handles in
+  counted counts n = let x = all_but_here counts n c next refl written.stays.handles in
       let y = permission_counts p shared (here c) (place_low table t c.world.objects c.frame k.whole.parts k.whole.frame
       p a.inside) k.whole.frame.there a.cell found counts n in
       let z = here_same counts n in
       let v : in_control counts n c.control ≡ in_cell counts n k.result = ap (in_control counts n) k.control in omega
       (arith, x, y, z, v)
 
-  owners_ended : (n : ℕ) → owners n d + one_if (nat_eq m n) ≡ owners n c
+  owners_ended : (n : ℕ) → owners n next + one_if (nat_eq m n) ≡ owners n c
   owners_ended n = let x = counted owns n in let y = owner_counts a.cell m n owning a.object in
       let z = shared_none n (noted shared a.cell) refl in omega (arith, x, y, z)
 
-  references_same : (n : ℕ) → references n d ≡ references n c
+  references_same : (n : ℕ) → references n next ≡ references n c
   references_same n = let x = counted any n in let y : in_cell any n (Some (noted shared a.cell)) ≡ in_cell any n
       (Some a.cell) = refl in omega (arith, x, y)
 
-  none_left : owners m d ≡ 0
+  none_left : owners m next ≡ 0
   none_left = let x = owners_ended m in let one = one_same m in let most = k.whole.one_owner m in omega (
     arith,
     x,
@@ -206,7 +206,7 @@ module _ (table : ClassTable) (entry : Option ℕ) (beginning : Beginning) (t : 
 
   run_now : IsObjectInRun table changed.notes (self_of changed.slots) (nth_object c.world.objects
       (self_of changed.slots))
-  run_now = in_run_written (here c) changed p (Some (noted shared a.cell)) wr table run (λ j z e s.
+  run_now = in_run_written (here c) changed p (Some (noted shared a.cell)) written table run (λ j z e s.
       let x = kind_in_run table c.notes c.world.objects (self_of c.frame.slots) run j a.cell
       (subst (λ q. cell_at (here c) q ≡ Some a.cell) e found) in
       (x.1, x.2, x.3, ap (λ (y : Cell). y.note.kind) (sym (some_same (noted shared a.cell) z s)) ∙ x.4))
@@ -218,28 +218,28 @@ module _ (table : ClassTable) (entry : Option ℕ) (beginning : Beginning) (t : 
       contracts = λ n. refl;
       states = λ n ne. refl;
       fields = λ n j ne. refl;
-      notes = wr.stays.notes;
+      notes = written.stays.notes;
       shared = λ n e. e;
       disowned = λ n e. e;
-      handles = wr.stays.handles;
+      handles = written.stays.handles;
       progress = refl;
     };
     free = inl refl;
     this = same_self;
-    arguments = λ j x le set. carry_arguments (λ n. owners n d) (here c) changed p a.cell shared wr found
-        (λ e. inr (λ n refers. subst (λ i. owners i d ≡ 0) (reference_same m n (sym a.object ∙ refers)) none_left)) j x
+    arguments = λ j x le set. carry_arguments (λ n. owners n next) (here c) changed p a.cell shared written found
+        (λ e. inr (λ n refers. subst (λ i. owners i next ≡ 0) (reference_same m n (sym a.object ∙ refers)) none_left)) j x
         set;
-    unset = unset_kept (here c) changed p (Some (noted shared a.cell)) wr k.whole.parts.slots
+    unset = unset_kept (here c) changed p (Some (noted shared a.cell)) written k.whole.parts.slots
         (λ j e. subst (IsPlaceIn b) e a.inside) k.whole.frame.unset;
-    slots = slots_stand (here c) changed p (Some (noted shared a.cell)) wr table shared_stands k.whole.slots;
+    slots = slots_stand (here c) changed p (Some (noted shared a.cell)) written table shared_stands k.whole.slots;
     fields = subst (λ n. AllStand table c.world.objects (field_cell changed.notes c.world.objects n)) same_self
-        (fields_stand (here c) changed p (Some (noted shared a.cell)) wr table shared_stands (k.whole.fields
+        (fields_stand (here c) changed p (Some (noted shared a.cell)) written table shared_stands (k.whole.fields
         (self_of c.frame.slots)));
     object = subst (λ n. IsObjectInRun table changed.notes n (nth_object c.world.objects n)) same_self run_now;
     one_owner = λ n. let e = owners_ended n in let most = k.whole.one_owner n in omega (arith, e, most);
     disowned = λ n e f. let none = k.whole.disowned n e f in let x = owners_ended n in omega (arith, none, x);
     shared = λ n e has. ⊎_elim
-        (λ i. absurd (let none = subst (λ j. owners j d ≡ 0) i.1 none_left in omega (arith, none, has)))
+        (λ i. absurd (let none = subst (λ j. owners j next ≡ 0) i.1 none_left in omega (arith, none, has)))
         (λ i. let other = ap one_if i.0 in let x = owners_ended n in let y = ends n in let z = locks_tested n
         c.frame.slots r.ends in let v = tests_tested n c.frame.slots r.ends in
         ⊎_elim (λ locked. inl (let u = unlocks n in omega (arith, other, y, z, u, locked)))
@@ -254,7 +254,7 @@ module _ (table : ClassTable) (entry : Option ℕ) (beginning : Beginning) (t : 
         let same = tests_of_same n c.frame.slots changed.slots outer same_self in
         let z = ap (λ l. tests_of n c.frame.slots l) around_is in omega (arith, x, y, more, same, z);
     lock_ends = λ n has. ⊎_elim
-        (λ i. inr (subst (λ j. owners j d ≡ 0) i.1 none_left))
+        (λ i. inr (subst (λ j. owners j next ≡ 0) i.1 none_left))
         (λ i. inl (let other = ap one_if i.0 in let x = ends n in let y = locks_tested n c.frame.slots r.ends in let v =
         unlocks n in omega (arith, other, x, y, v, has)))
         (eqb_tells m n);
@@ -263,20 +263,20 @@ module _ (table : ClassTable) (entry : Option ℕ) (beginning : Beginning) (t : 
     locked_once = λ n. let x = k.whole.locked_once n in let y = locks_less n in omega (arith, x, y);
   }
 
-  shares_now : c.frame.how ≢ by_new → SharesThis (record c.frame { slots = after.slots }) d 0
+  shares_now : c.frame.how ≢ by_new → SharesThis (record c.frame { slots = after.slots }) next 0
   shares_now old held = ⊎_elim
       (λ e. (
         subst (λ n. 0 < times n c.world.progress) (sym same_self) (busy (sym e)),
-        inl (subst (λ n. owners n d ≤ 0) (sym same_self) (let none = subst (λ n. owners n d ≡ 0) (this_is (sym e))
+        inl (subst (λ n. owners n next ≤ 0) (sym same_self) (let none = subst (λ n. owners n next ≡ 0) (this_is (sym e))
             none_left in omega (arith, none))),
       ))
-      (λ e. let s = k.shares old (ap permission_in (sym (wr.others this e)) ∙ held) in (
+      (λ e. let s = k.shares old (ap permission_in (sym (written.others this e)) ∙ held) in (
         subst (λ n. 0 < times n c.world.progress) (sym same_self) s.0,
         ⊎_elim
-            (λ few. inl (subst (λ n. owners n d ≤ 0) (sym same_self) (let x = owners_ended (self_of c.frame.slots) in
+            (λ few. inl (subst (λ n. owners n next ≤ 0) (sym same_self) (let x = owners_ended (self_of c.frame.slots) in
             omega (arith, x, few))))
             (λ z. ⊎_elim
-            (λ i. inl (subst (λ n. owners n d ≤ 0) (i.1 ∙ sym same_self) (omega (arith, none_left))))
+            (λ i. inl (subst (λ n. owners n next ≤ 0) (i.1 ∙ sym same_self) (omega (arith, none_left))))
             (λ i. inr (
               z.0,
               subst (λ n. 0 < times n ls) (sym same_self)
@@ -319,7 +319,7 @@ module _ (table : ClassTable) (entry : Option ℕ) (beginning : Beginning) (t : 
       (place_is q p)
 
   -- The frame leaves with one test less.
-  pub test_left : IsLeaving table entry beginning d
+  pub test_left : IsLeaving table entry beginning next
   test_left = record {
     whole = whole_kept table entry beginning c after (leaves k.result outer) t k.whole keeps;
     result = k.result;
@@ -329,11 +329,11 @@ module _ (table : ClassTable) (entry : Option ℕ) (beginning : Beginning) (t : 
     given = subst (IsGivenBack N k.result) (sym (same_gift c.frame.how c.frame after.slots k.whole.parts)) k.given;
     context = now k.context p shared;
     says = says_locked b N (now k.context p shared) changed ls every
-        (says_written (here c) changed p (Some (noted shared a.cell)) wr b N k.context (with_permission shared
+        (says_written (here c) changed p (Some (noted shared a.cell)) written b N k.context (with_permission shared
         (k.context p))
         (says_shared (k.context p) owner (said p found)) (λ e. tells_shared (k.context p) owner) k.says);
-    opens = opens_locked b changed ls outer (opens_kept b (here c) changed wr.stays outer
-        (opens_written table outer (here c) changed p (Some (noted shared a.cell)) wr k.whole.frame.there run run_now
+    opens = opens_locked b changed ls outer (opens_kept b (here c) changed written.stays outer
+        (opens_written table outer (here c) changed p (Some (noted shared a.cell)) written k.whole.frame.there run run_now
         (λ e. noted_alike a.cell shared (cell_at (here c) p) found))
         (subst (AreOpen b (here c)) lists k.opens).2);
     still = still_now;

@@ -96,8 +96,8 @@ module _ (table : ClassTable) (t : IsClassTable table) (entry : Option ℕ) (beg
   abbrev result : Cell
   result = bound_cell of u.cell.value
 
-  abbrev d : Configuration
-  d = moved_to c after (leaves (Some result) outer)
+  abbrev next : Configuration
+  next = moved_to c after (leaves (Some result) outer)
 
   abbrev sits : Sits table c.frame k.whole.parts (here c) k.context
   sits = record {
@@ -115,8 +115,8 @@ module _ (table : ClassTable) (t : IsClassTable table) (entry : Option ℕ) (beg
       ∙ ap (λ z. same_mode (permission_at k.context this) (permission_in z)) (sym u.is ∙ ap (cell_at (here c)) e)
       ∙ k.says.mode refl
 
-  wr : Written p (Some (noted (kept u.cell.note.permission w) u.cell)) (here c) after
-  wr = hand_written of p u.cell (here c) u.is
+  written : Written p (Some (noted (kept u.cell.note.permission w) u.cell)) (here c) after
+  written = hand_written of p u.cell (here c) u.is
 
   -- where Shared is wanted the value refers to an object that is marked
   refers : w ≡ shared → (n : ℕ) × (u.cell.value ≡ reference n)
@@ -141,18 +141,18 @@ module _ (table : ClassTable) (t : IsClassTable table) (entry : Option ℕ) (beg
   gives_owner e = (counted_serves table (here c) p u.cell (kind_of_resolved of) w fit e).0
 
   -- counts
-  counted : (counts : Counted) (n : ℕ) → in_all counts n d + in_cell counts n (Some u.cell)
+  counted : (counts : Counted) (n : ℕ) → in_all counts n next + in_cell counts n (Some u.cell)
       ≡ in_all counts n c + in_cell counts n (Some (noted (kept u.cell.note.permission w) u.cell)) + in_cell counts n
       (Some result)
-  counted counts n = let x = all_but_here counts n c d refl wr.stays.handles in
+  counted counts n = let x = all_but_here counts n c next refl written.stays.handles in
       let y = hand_counts of p (here c) (place_low table t c.world.objects c.frame k.whole.parts k.whole.frame p inside)
       k.whole.frame.there u.cell u.is counts n in
       let v : in_control counts n c.control ≡ 0 = ap (in_control counts n) so in omega (arith, x, y, v)
 
-  fewer : (n : ℕ) → owners n d ≤ owners n c
+  fewer : (n : ℕ) → owners n next ≤ owners n c
   fewer n = let x = counted owns n in let y = given_fewer n u.cell result w refl gives_owner refl in omega (arith, x, y)
 
-  keeps_owner : (n : ℕ) → NeedsOwner table after.world.objects n → owners n c ≤ owners n d
+  keeps_owner : (n : ℕ) → NeedsOwner table after.world.objects n → owners n c ≤ owners n next
   keeps_owner n needs = let x = counted owns n in
       let y = given_same n u.cell result w refl gives_owner refl (λ e is. both_ways _ needs.unshared (marked e n is
       (there n is))) in omega (arith, x, y)
@@ -176,13 +176,13 @@ module _ (table : ClassTable) (t : IsClassTable table) (entry : Option ℕ) (beg
       by_permission shared e = inr refl
       by_permission unowned e = absurd (true≢false e)
 
-  gone : w ≡ shared → owns u.cell.note.permission ≡ true → (n : ℕ) → u.cell.value ≡ reference n → owners n d ≡ 0
+  gone : w ≡ shared → owns u.cell.note.permission ≡ true → (n : ℕ) → u.cell.value ≡ reference n → owners n next ≡ 0
   gone e owner n is = let x = counted owns n in let y = gives_shared n u.cell result w e refl in
       let one = cell_counted owns n u.cell owner is in let most = k.whole.one_owner n in
       let y0 = y.0 in let y1 = y.1 in omega (arith, x, y0, y1, one, most)
 
   newly : kept u.cell.note.permission w ≡ shared → (u.cell.note.permission ≡ shared) ⊎ ((n : ℕ) → u.cell.value ≡
-      reference n → owners n d ≡ 0)
+      reference n → owners n next ≡ 0)
   newly e = ⊎_elim (λ y. inl y) (λ y. ⊎_elim (λ o. inr (gone y o)) (λ o. inl o) (owner_or_shared y)) (kept_is_shared
       u.cell.note.permission w e)
 
@@ -190,43 +190,43 @@ module _ (table : ClassTable) (t : IsClassTable table) (entry : Option ℕ) (beg
   z_stands : (z : Cell) → Some (noted (kept u.cell.note.permission w) u.cell) ≡ Some z → Stands table
       after.world.objects z
   z_stands z e = subst (Stands table after.world.objects) (some_same (noted (kept u.cell.note.permission w) u.cell) z e)
-      (kept_stands table (here c) after wr.stays u.cell w marked refers (found_stands table t c.frame k.whole.parts
+      (kept_stands table (here c) after written.stays u.cell w marked refers (found_stands table t c.frame k.whole.parts
       (here c) k.context sits p u))
 
   result_stands : Stands table after.world.objects result
   result_stands = bound_stands table t after.world.objects u.cell (counts_as (here c) p u.cell) w (kind_of_resolved of)
       low serves (counts_is (here c) p u.cell)
-      marks_value fit (stands_stay table (here c) after wr.stays u.cell (found_stands table t c.frame k.whole.parts
+      marks_value fit (stands_stay table (here c) after written.stays u.cell (found_stands table t c.frame k.whole.parts
       (here c) k.context sits p u))
     where
       low : (n : ℕ) → n < length after.world.objects → state_number (nth_object after.world.objects n).state <
           states_max
-      low n lt = subst (λ s. state_number s < states_max) (sym (wr.stays.states n))
-          (objects_low table t c.notes c.world.objects k.whole.objects n (let e = wr.stays.count in omega
+      low n lt = subst (λ s. state_number s < states_max) (sym (written.stays.states n))
+          (objects_low table t c.notes c.world.objects k.whole.objects n (let e = written.stays.count in omega
           (arith, e, lt)))
 
   run_now : IsObjectInRun table after.notes (self_of after.slots) (nth_object after.world.objects (self_of after.slots))
-  run_now = in_run_written (here c) after p (Some (noted (kept u.cell.note.permission w) u.cell)) wr table
+  run_now = in_run_written (here c) after p (Some (noted (kept u.cell.note.permission w) u.cell)) written table
       (k.whole.objects (self_of c.frame.slots) k.whole.frame.there)
       (room_noted table t c.frame k.whole.parts (here c) k.context sits p u.cell (kept u.cell.note.permission w) u.is)
 
   quietly : KeepsQuietly table c k.whole.parts after (leaves (Some result) outer)
   quietly = record {
-    others = stays_leaves c after wr.stays;
-    state = wr.stays.states (self_of c.frame.slots);
-    locks = wr.stays.locked;
-    this = wr.stays.this;
-    arguments = λ j x le set. carry_arguments (λ n. owners n d) (here c) after p u.cell (kept u.cell.note.permission w)
-        wr u.is newly j x set;
-    unset = unset_kept (here c) after p (Some (noted (kept u.cell.note.permission w) u.cell)) wr k.whole.parts.slots
+    others = stays_leaves c after written.stays;
+    state = written.stays.states (self_of c.frame.slots);
+    locks = written.stays.locked;
+    this = written.stays.this;
+    arguments = λ j x le set. carry_arguments (λ n. owners n next) (here c) after p u.cell (kept u.cell.note.permission w)
+        written u.is newly j x set;
+    unset = unset_kept (here c) after p (Some (noted (kept u.cell.note.permission w) u.cell)) written k.whole.parts.slots
         (λ j e. subst (IsPlaceIn b) e inside) k.whole.frame.unset;
-    slots = slots_stand (here c) after p (Some (noted (kept u.cell.note.permission w) u.cell)) wr table z_stands
+    slots = slots_stand (here c) after p (Some (noted (kept u.cell.note.permission w) u.cell)) written table z_stands
         k.whole.slots;
     fields = subst (λ n. AllStand table after.world.objects (field_cell after.notes after.world.objects n))
-        wr.stays.this
-        (fields_stand (here c) after p (Some (noted (kept u.cell.note.permission w) u.cell)) wr table z_stands
+        written.stays.this
+        (fields_stand (here c) after p (Some (noted (kept u.cell.note.permission w) u.cell)) written table z_stands
         (k.whole.fields (self_of c.frame.slots)));
-    object = subst (λ n. IsObjectInRun table after.notes n (nth_object after.world.objects n)) wr.stays.this run_now;
+    object = subst (λ n. IsObjectInRun table after.notes n (nth_object after.world.objects n)) written.stays.this run_now;
     fewer = fewer;
     keeps_owner = keeps_owner;
     newly_shared = λ n unset set. let r = hand_shares of p u.cell (here c) n unset set in ⊎_elim
@@ -245,21 +245,21 @@ module _ (table : ClassTable) (t : IsClassTable table) (entry : Option ℕ) (beg
 
   -- what the context says
   says_now : Says b (NeedsOwner table after.world.objects) (after_give k.context p w) after every
-  says_now = says_written (here c) after p (Some (noted (kept u.cell.note.permission w) u.cell)) wr b (NeedsOwner table
+  says_now = says_written (here c) after p (Some (noted (kept u.cell.note.permission w) u.cell)) written b (NeedsOwner table
       after.world.objects) k.context
       (with_permission (kept (permission_at k.context p) w) (k.context p))
       (kept_says (NeedsOwner table c.world.objects) (NeedsOwner table after.world.objects) (k.context p) u.note u.cell w
       u.told u.kind u.permission u.owner
-      (needs_stay table (here c) after wr.stays))
+      (needs_stay table (here c) after written.stays))
       (λ e. ap (λ y. same_mode (permission_on (with_permission (kept (permission_on y) w) y))
       (kept u.cell.note.permission w)) u.told
       ∙ kept_mode u.note.permission u.cell.note.permission w
       (ap (λ y. same_mode (permission_on y) u.cell.note.permission) (sym u.told) ∙ found_mode e))
       (says_less b (NeedsOwner table c.world.objects) (NeedsOwner table after.world.objects) (needs_stay table (here c)
-      after wr.stays) k.context (here c) every k.says)
+      after written.stays) k.context (here c) every k.says)
 
   -- no object under construction gets a reference more
-  references_kept : (n : ℕ) → 0 < constructing_among n c.stack → references n d ≤ 1
+  references_kept : (n : ℕ) → 0 < constructing_among n c.stack → references n next ≤ 1
   references_kept n has =
       let x = counted any n in
       let same : in_cell any n (Some (noted (kept u.cell.note.permission w) u.cell)) ≡ in_cell any n (Some u.cell) =
@@ -280,7 +280,7 @@ module _ (table : ClassTable) (t : IsClassTable table) (entry : Option ℕ) (beg
       → LeavesSo b c.frame.how (tests_ended (tested_places outer) (after_give k.context p w))
       (state_number (nth_object c.world.objects (self_of c.frame.slots)).state)
       → HasItsState table (nth_object c.world.objects (self_of c.frame.slots))
-      → IsLeaving table entry beginning d
+      → IsLeaving table entry beginning next
   handed_leaves gift still left placed = record {
     whole = whole_kept table entry beginning c after (leaves (Some result) outer) t k.whole
         (quiet_whole table entry beginning c after (leaves (Some result) outer) k.whole same_ends quietly);
@@ -293,8 +293,8 @@ module _ (table : ClassTable) (t : IsClassTable table) (entry : Option ℕ) (beg
         (bound_says (NeedsOwner table after.world.objects) of u.cell.value);
     context = after_give k.context p w;
     says = says_now;
-    opens = opens_kept b (here c) after wr.stays outer
-        (opens_written table outer (here c) after p (Some (noted (kept u.cell.note.permission w) u.cell)) wr
+    opens = opens_kept b (here c) after written.stays outer
+        (opens_written table outer (here c) after p (Some (noted (kept u.cell.note.permission w) u.cell)) written
         k.whole.frame.there
         (k.whole.objects (self_of c.frame.slots) k.whole.frame.there) run_now (λ e. noted_alike u.cell
         (kept u.cell.note.permission w) (cell_at (here c) p) u.is))
@@ -302,12 +302,12 @@ module _ (table : ClassTable) (t : IsClassTable table) (entry : Option ℕ) (beg
     still = still;
     leaves_so = subst (λ s. LeavesSo b c.frame.how (tests_ended (tested_places outer) (after_give k.context p w))
         (state_number s))
-        (sym (ap (λ n. (nth_object after.world.objects n).state) wr.stays.this ∙ wr.stays.states
+        (sym (ap (λ n. (nth_object after.world.objects n).state) written.stays.this ∙ written.stays.states
         (self_of c.frame.slots))) left;
-    placed = subst (λ n. HasItsState table (nth_object after.world.objects n)) (sym wr.stays.this)
+    placed = subst (λ n. HasItsState table (nth_object after.world.objects n)) (sym written.stays.this)
         (has_state_same table (nth_object c.world.objects (self_of c.frame.slots))
-        (nth_object after.world.objects (self_of c.frame.slots)) (wr.stays.contracts (self_of c.frame.slots))
-        (wr.stays.states (self_of c.frame.slots)) placed);
+        (nth_object after.world.objects (self_of c.frame.slots)) (written.stays.contracts (self_of c.frame.slots))
+        (written.stays.states (self_of c.frame.slots)) placed);
     shares = λ old. quiet_shares table entry beginning c after (leaves (Some result) outer) k.whole same_ends quietly
         k.shares
         (λ held. ⊎_elim
@@ -321,8 +321,8 @@ module _ (table : ClassTable) (t : IsClassTable table) (entry : Option ℕ) (beg
               ∙ k.whole.frame.refers),
         ))
         (newly (sym (ap permission_in (written_that (here c) after p (Some (noted (kept u.cell.note.permission w)
-        u.cell)) wr this e)) ∙ held)))
-        (λ e. inl (ap permission_in (sym (wr.others this e)) ∙ held))
+        u.cell)) written this e)) ∙ held)))
+        (λ e. inl (ap permission_in (sym (written.others this e)) ∙ held))
         (place_is this p));
     unreferred = references_kept;
     lends = k.lends;

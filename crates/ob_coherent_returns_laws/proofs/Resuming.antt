@@ -86,8 +86,7 @@ module _ (b : BodyFrame) (notes : Notes) (w : World) (ps : List ℕ) (old new : 
     old) where
   reads_too : (p : Location) → ((j : ℕ) → p ≡ slot j → new j ≡ old j) → read b.table (record {
     slots = new;
-    notes =
-        notes;
+    notes = notes;
     world = with_progress w ps;
   }) p
       ≡ read b.table (record { slots = old; notes = notes; world = w }) p
@@ -102,8 +101,7 @@ module _ (b : BodyFrame) (notes : Notes) (w : World) (ps : List ℕ) (old new : 
     inside = a.inside;
     cell = a.cell;
     found = reads_too p keep ∙ a.found;
-    object =
-        a.object ∙ ap reference e;
+    object = a.object ∙ ap reference e;
   }
 
   open_too : (e : Ends) (outer : List Location) → ((j : ℕ) → is_tested (tested_before e outer) (slot j) ≡ true
@@ -177,8 +175,7 @@ module _ (table : ClassTable) (entry : Option ℕ) (beginning : Beginning) (t : 
     frame = frame_with h.frame new_slots;
     control = runs h.terms h.outer;
     stack = hs;
-    notes =
-        notes;
+    notes = notes;
     world = v;
   }
 

@@ -46,8 +46,7 @@ returning_steps table entry beginning t c result h hs control stack =
       control = control;
       stack = stack;
       notes = c.notes;
-      world =
-          c.world;
+      world = c.world;
     }
 
 -- the step of a frame that leaves, all of whose tests have ended
