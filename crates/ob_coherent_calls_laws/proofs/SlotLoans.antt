@@ -1,7 +1,7 @@
 -- The loans of slots alone, as a call on `this` has them.
-use Rattle.std.proofs.Common.{◌≡◌, ℕ, zero, suc, ◌+◌, ◌<◌, Bool, true, false, ◌&&◌, ◌||◌, List, [], ◌∷◌, ◌++◌, Option, Some, None, refl, sym, ap, subst, ◌∙◌, arith, ⊎_elim, eq-eqb, true≢false}
+use Rattle.std.proofs.Common.{◌≡◌, ℕ, zero, suc, ◌+◌, Bool, true, false, ◌||◌, List, [], ◌∷◌, ◌++◌, Some, refl, sym, ap, subst, ◌∙◌, arith, eq-eqb, true≢false}
 use Rattle.std.specs.Prelude.{slice_get, nat_eq, if◌then◌else◌}
-use Rattle.std.proofs.lemmas.Bool.{cases_Bool, both_ways, or_left, or_right, or_parts}
+use Rattle.std.proofs.lemmas.Bool.{or_left, or_right, or_parts}
 use Rattle.std.proofs.lemmas.Option.{same_Some}
 use Rattle.ob_perm.specs.Permissions.{Permission, owned, shared, unowned, owns, is_unowned}
 use Rattle.ob_perm.specs.Masks.{permission_of}
@@ -49,7 +49,8 @@ test_no_field (r ∷ outer) e = (
 fewer_lent : (l : Loan) (ls more : List Loan) (p : Location) → (is_lent ls p ≡ false → is_lent more p ≡ false)
     → is_lent (l ∷ ls) p ≡ false → (q : Location) → is_lent (if_slot q l more) p ≡ false
 fewer_lent l ls more p rest e (slot k) =
-    let parts = or_parts (same_location p l.place) (is_lent ls p) e in ap (λ b. b || is_lent more p) parts.0 ∙ rest parts.1
+    let parts = or_parts (same_location p l.place) (is_lent ls p) e in ap (λ b. b || is_lent more p) parts.0
+    ∙ rest parts.1
 fewer_lent l ls more p rest e (field k) = rest (or_parts (same_location p l.place) (is_lent ls p) e).1
 
 pub slot_not_lent : (ls : List Loan) (p : Location) → is_lent ls p ≡ false → is_lent (slot_loans ls) p ≡ false
@@ -79,7 +80,8 @@ pub slots_lent : (ls : List Loan) (j : ℕ) → is_lent (slot_loans ls) (slot j)
 slots_lent [] j e = refl
 slots_lent (l ∷ ls) j e = slot_is_lent l ls (slot_loans ls) j (slots_lent ls j) l.place refl e
 
-no_field_first : (l : Loan) (more : List Loan) → LendNoField more → (q : Location) → l.place ≡ q → LendNoField (if_slot q l more)
+no_field_first : (l : Loan) (more : List Loan) → LendNoField more → (q : Location) → l.place ≡ q
+    → LendNoField (if_slot q l more)
 no_field_first l more rest (slot k) is = (ap is_field is, rest)
 no_field_first l more rest (field k) is = rest
 
@@ -102,7 +104,8 @@ module _ (table : ClassTable) (c : Configuration) (callee : SilicaFrame) (called
     same = a.same;
     serves = a.serves;
     kind = ap (λ q. kind_known (j q)) is ∙ ap kind_known (same k) ∙ ap (λ q. kind_known (g q)) (sym is) ∙ a.kind;
-    exit = ap (λ q. permission_on (j q)) is ∙ ap permission_on (same k) ∙ ap (λ q. permission_on (g q)) (sym is) ∙ a.exit;
+    exit = ap (λ q. permission_on (j q)) is ∙ ap permission_on (same k) ∙ ap (λ q. permission_on (g q)) (sym is)
+        ∙ a.exit;
     gone = a.gone;
   }
 
@@ -114,7 +117,12 @@ module _ (table : ClassTable) (c : Configuration) (callee : SilicaFrame) (called
     where
       by_place : AreLoans table c callee called tests h j (slot_loans ls) → (q : Location) → l.place ≡ q
           → AreLoans table c callee called tests h j (if_slot q l (slot_loans ls))
-      by_place more (slot k) is = (loan_of_slot l k is a.0, slot_not_lent ls l.place a.1, slot_has_not ls l.param a.2, more)
+      by_place more (slot k) is = (
+        loan_of_slot l k is a.0,
+        slot_not_lent ls l.place a.1,
+        slot_has_not ls l.param a.2,
+        more,
+      )
       by_place more (field k) is = more
 
 -- What comes back is lent.
@@ -135,16 +143,24 @@ wanted_slot_lent table c parts known (r ∷ rs) [] n j p passed keeps e wants ou
 wanted_slot_lent table c parts known (r ∷ rs) (q ∷ ps) n zero p passed keeps e wants out =
     let same : q ≡ p = same_Some q p e in
     let wants_q : wants_owner q ≡ true = subst (λ z. wants_owner z ≡ true) (sym same) wants in
-    let out_q : owns (permission_of q.exit) ≡ true = subst (λ (z : Parameter). owns (permission_of z.exit) ≡ true) (sym same) out in
-    subst (λ w. has_lent (slot_loans ((if w then (record { place = r.location; param = n;
-    exit = converted table (kind_of_resolved q.of) (kind_known (known r.location)) (permission_of q.exit) } ∷ []) else [])
+    let out_q : owns (permission_of q.exit) ≡ true = subst (λ (z : Parameter). owns (permission_of z.exit) ≡ true)
+    (sym same) out in
+    subst (λ w. has_lent (slot_loans ((if w then (record {
+      place = r.location;
+      param = n;
+      exit = converted table (kind_of_resolved q.of) (kind_known (known r.location)) (permission_of q.exit);
+    } ∷ []) else [])
     ++ lent_all table known rs ps (suc n))) (n + 0) ≡ true) (sym wants_q) (by_place r.location refl wants_q out_q)
   where
     by_place : (l : Location) → r.location ≡ l → wants_owner q ≡ true → owns (permission_of q.exit) ≡ true
-        → has_lent (if_slot l (record { place = r.location; param = n;
-        exit = converted table (kind_of_resolved q.of) (kind_known (known r.location)) (permission_of q.exit) })
+        → has_lent (if_slot l (record {
+          place = r.location;
+          param = n;
+          exit = converted table (kind_of_resolved q.of) (kind_known (known r.location)) (permission_of q.exit);
+        })
         (slot_loans (lent_all table known rs ps (suc n)))) (n + 0) ≡ true
-    by_place (slot k) is w o = or_left (nat_eq (n + 0) n) (has_lent (slot_loans (lent_all table known rs ps (suc n))) (n + 0))
+    by_place (slot k) is w o = or_left (nat_eq (n + 0) n)
+        (has_lent (slot_loans (lent_all table known rs ps (suc n))) (n + 0))
         (eq-eqb (n + 0) n (omega arith))
     by_place (field k) is w o = absurd (owner_or_not (permission_of q.exit) o (keeps.0 (ap is_field is) w))
 wanted_slot_lent table c parts known (r ∷ rs) (q ∷ ps) n (suc j) p passed keeps e wants out =
@@ -153,15 +169,22 @@ wanted_slot_lent table c parts known (r ∷ rs) (q ∷ ps) n (suc j) p passed ke
     (let z : suc n + j ≡ n + suc j = omega arith in z) rest)
   where
     by_place : (l : Location) → has_lent (slot_loans (lent_all table known rs ps (suc n))) (n + suc j) ≡ true
-        → has_lent (if_slot l (record { place = r.location; param = n;
-        exit = converted table (kind_of_resolved q.of) (kind_known (known r.location)) (permission_of q.exit) })
+        → has_lent (if_slot l (record {
+          place = r.location;
+          param = n;
+          exit = converted table (kind_of_resolved q.of) (kind_known (known r.location)) (permission_of q.exit);
+        })
         (slot_loans (lent_all table known rs ps (suc n)))) (n + suc j) ≡ true
-    by_place (slot k) h = or_right (nat_eq (n + suc j) n) (has_lent (slot_loans (lent_all table known rs ps (suc n))) (n + suc j)) h
+    by_place (slot k) h = or_right (nat_eq (n + suc j) n)
+        (has_lent (slot_loans (lent_all table known rs ps (suc n))) (n + suc j)) h
     by_place (field k) h = h
 
     by_want : (w : Bool) → has_lent (slot_loans (lent_all table known rs ps (suc n))) (n + suc j) ≡ true
-        → has_lent (slot_loans ((if w then (record { place = r.location; param = n;
-        exit = converted table (kind_of_resolved q.of) (kind_known (known r.location)) (permission_of q.exit) } ∷ []) else [])
+        → has_lent (slot_loans ((if w then (record {
+          place = r.location;
+          param = n;
+          exit = converted table (kind_of_resolved q.of) (kind_known (known r.location)) (permission_of q.exit);
+        } ∷ []) else [])
         ++ lent_all table known rs ps (suc n))) (n + suc j) ≡ true
     by_want true h = by_place r.location h
     by_want false h = h

@@ -21,8 +21,8 @@ use Rattle.ob_coherent_spec.specs.Counting.{nth_object, in_cell, references}
 use Rattle.ob_coherent_spec.specs.Runs.{times, entered_at, constructing_among}
 use Rattle.ob_coherent_spec.specs.Standing.{Stands, NeedsOwner, HasItsState}
 use Rattle.ob_coherent_spec.specs.Saying.{SaysOf, own_cell}
-use Rattle.ob_coherent_spec.specs.Remaining.{body_of}
-use Rattle.ob_coherent_spec.specs.Waiting.{SharesThis, has_lent, gives_back_as, IsApart, AllLend}
+use Rattle.ob_coherent_spec.specs.Remaining.{BodyParts, body_of}
+use Rattle.ob_coherent_spec.specs.Waiting.{SharesThis, has_lent, gives_back_by, gives_back_as, IsApart, AllLend}
 use Rattle.ob_coherent_spec.specs.Coherent.{Beginning, Holds, IsGivenBack, LeavesWith, IsReturning}
 use Rattle.ob_coherent_counting_laws.proofs.Numbers.{without_times, without_other}
 use Rattle.ob_coherent_counting_laws.proofs.Frames.{entered_here, entered_other}
@@ -108,6 +108,13 @@ module _ (table : ClassTable) (entry : Option ℕ) (beginning : Beginning) (f : 
     unreferred = r.unreferred;
     lends = r.lends;
   }
+
+-- what a frame gives back doesn't depend on its slots
+pub same_gift : (how : How) (f : SilicaFrame) (slots : SlotCells) (parts : BodyParts)
+    → gives_back_by how (record f { slots = slots }) parts ≡ gives_back_by how f parts
+same_gift by_receiver f slots parts = refl
+same_gift by_this f slots parts = refl
+same_gift by_new f slots parts = refl
 
 -- Progress.
 
