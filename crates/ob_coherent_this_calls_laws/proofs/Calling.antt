@@ -29,13 +29,14 @@ use Rattle.ob_silica_places.specs.Known.{Known, known}
 use Rattle.ob_silica_places.specs.Places.{Location, slot, field, this, all_located}
 use Rattle.ob_silica_places.specs.Parameters.{Parameter, parameters, this_parameter, all_parameters, parameter_of}
 use Rattle.ob_silica_steps.specs.Cells.{Cell, permission_in}
-use Rattle.ob_silica_steps.specs.Configurations.{SilicaProgram, SilicaFrame, by_this, by_new, Loan, Rest, Waiting, runs, Configuration}
+use Rattle.ob_silica_steps.specs.Configurations.{SilicaProgram, SilicaFrame, by_this, by_new, Loan, Rest, Waiting, runs, Configuration, NextStep}
 use Rattle.ob_silica_steps.specs.Here.{here, self_of, if_there, with_unit, with_fuel_left}
 use Rattle.ob_silica_steps.specs.Binding.{Bound, unbound, bound_cell, bind_all, slot_loans, without_field_loans}
 use Rattle.ob_silica_steps.specs.Calling.{entered_with}
-use Rattle.ob_silica_steps.specs.Entering.{calls_this}
+use Rattle.ob_silica_steps.specs.Entering.{are_within, calls_this}
 use Rattle.ob_silica_steps.specs.Steps.{act}
 use Rattle.ob_silica_formed.specs.Holdings.{held as held_as, held_at_start, after_form, kind_of_result, with_slot_if}
+use Rattle.ob_silica_formed.specs.Points.{ArePassed}
 use Rattle.ob_flow_spec.specs.Contexts.{BodyFrame, Context, constructs, available, field_count, entry_of_field, exit_of_field, type_of_field, possible_under, permission_at, maybe_there, field_known, beginning as beginning_context}
 use Rattle.ob_flow_spec.specs.Joining.{same_mode}
 use Rattle.ob_flow_spec.specs.Binding.{reads_of, given_all, passed, with_result}
@@ -71,7 +72,7 @@ use Rattle.ob_coherent_calls_laws.proofs.Beginning.{Begins, begins_to_run}
 use Rattle.ob_coherent_calls_laws.proofs.BindingAll.{are_once, bind_all_steps}
 use Rattle.ob_coherent_calls_laws.proofs.Called.{left_waiting, called_on, called_owners, called_references, called_fewer, called_entries, called_constructions, called_whole}
 use Rattle.ob_coherent_calls_laws.proofs.Caller.{caller_waits, caller_parts}
-use Rattle.ob_coherent_calls_laws.proofs.Entered.{begins_stand, begins_held, begins_frame, begins_says}
+use Rattle.ob_coherent_calls_laws.proofs.Entered.{begins_self, begins_stand, begins_held, begins_frame, begins_says}
 use Rattle.ob_coherent_calls_laws.proofs.Lending.{backs_settled, backs_are, all_loans}
 use Rattle.ob_coherent_calls_laws.proofs.Passing.{places_of_reads, args_passed, same_give_back}
 use Rattle.ob_coherent_calls_laws.proofs.Running.{running_sits, running_one, running_placed, running_finished, running_binds, running_references}
@@ -105,8 +106,9 @@ slots_left b s g (Some m) (Some of) j = refl
 fields_come : (b : BodyFrame) (s : Signature) (g : Context) (result : Option ℕ) (of : Option ResolvedType) (f : ℕ)
     → f < field_count b → with_result (fields_left b s g) result of (field f)
     ≡ Some (known (kind_of_resolved (type_of_field b f)) (exit_of_field b s f))
-fields_come b s g result of f low = at result of ∙ ap (λ z. if z
-    then Some (known (kind_of_resolved (type_of_field b f)) (exit_of_field b s f)) else None) (below f (field_count b) low)
+fields_come b s g result of f low = at result of
+    ∙ ap (λ z. if z then Some (known (kind_of_resolved (type_of_field b f)) (exit_of_field b s f)) else None)
+    (below f (field_count b) low)
   where
     below : (m n : ℕ) → m < n → nat_lt m n ≡ true
     below m n lt = grind arith
@@ -120,8 +122,8 @@ fields_come b s g result of f low = at result of ∙ ap (λ z. if z
 no_new : (x : by_this ≡ by_new) → ⊥
 no_new x = cc
 
-module _ (program : SilicaProgram) (is : IsCheckedProgram program) (entry : Option ℕ) (beginning : Beginning) (c : Configuration)
-    (k : IsRunning program.table entry beginning c) (result : Option ℕ) (tx : TxId)
+module _ (program : SilicaProgram) (is : IsCheckedProgram program) (entry : Option ℕ) (beginning : Beginning)
+    (c : Configuration) (k : IsRunning program.table entry beginning c) (result : Option ℕ) (tx : TxId)
     (args : List Operand) (span : Span) (rest : SilicaTerms) (outer : List Rest)
     (so : c.control ≡ runs (and_term (call_this_form result tx args) span rest) outer) where
   abbrev bf : BodyFrame
@@ -161,8 +163,13 @@ module _ (program : SilicaProgram) (is : IsCheckedProgram program) (entry : Opti
   -- the number is that of no constructor
   plain_number : nat_eq tx.0 0 ≡ false
   plain_number =
-      sym (ap (λ (o : Option Contract). option_map_or (λ (x : Contract). not x.interface && nat_eq tx.0 0) o false) k.whole.frame.own
-      ∙ ap (λ b. not b && nat_eq tx.0 0) k.whole.frame.class) ∙ formed.bodies
+      sym (ap (λ (o : Option Contract). option_map_or (λ (x : Contract). not x.interface && nat_eq tx.0 0) o false)
+      k.whole.frame.own ∙ ap (λ b. not b && nat_eq tx.0 0) k.whole.frame.class) ∙ formed.bodies
+
+  -- what follows once all is bound
+  abbrev goes_on : Signature → Bound → NextStep
+  goes_on s b = with_unit b.from.world
+      (λ w. calls_this program (entered_with c (without_field_loans b) rest outer result w) c.frame tx s)
 
   module _ (s : Signature) (es : signature_of program.table c.frame.contract tx ≡ Some s) where
     own_signature : signature_at k.whole.parts.own tx ≡ Some s
@@ -181,7 +188,8 @@ module _ (program : SilicaProgram) (is : IsCheckedProgram program) (entry : Opti
     remains = rest_after after (first.passes.signed s own_signature).1
 
     body : Begins program c.frame.contract tx k.whole.parts.own s
-    body = begins_to_run program is c.frame.contract tx k.whole.parts.own s k.whole.frame.own k.whole.frame.class own_signature
+    body = begins_to_run program is c.frame.contract tx k.whole.parts.own s k.whole.frame.own k.whole.frame.class
+        own_signature
 
     transaction : IsTransaction program.table k.whole.parts.own s
     transaction = transaction_is program.table k.whole.parts.own
@@ -194,20 +202,23 @@ module _ (program : SilicaProgram) (is : IsCheckedProgram program) (entry : Opti
     -- What is passed.
 
     this_kind : (x : Cell) → c.frame.slots 0 ≡ Some x → x.note.kind ≡ Reference c.frame.contract
-    this_kind x e = ap (λ (z : Cell). z.note.kind) (same_Some x k.whole.frame.this (sym e ∙ k.whole.frame.set)) ∙ k.whole.frame.kind
+    this_kind x e = ap (λ (z : Cell). z.note.kind) (same_Some x k.whole.frame.this (sym e ∙ k.whole.frame.set))
+        ∙ k.whole.frame.kind
 
-    all_passed : ArePassedTo program.table c k.whole.parts (reads_with_this span args) (all_parameters c.frame.contract s)
+    all_passed : ArePassedTo program.table c k.whole.parts (reads_with_this span args)
+        (all_parameters c.frame.contract s)
     all_passed = (
       (let low = k.whole.frame.params in omega (arith, low)),
       λ x e. subst (λ z. serves_as program.table (Reference c.frame.contract) z ≡ true) (sym (this_kind x e))
           (serves_itself program.table (Reference c.frame.contract)),
       args_passed program.table is.table entry beginning c k s.params args few_operands formed.numbers.1
           (if_there_so (signature_of program.table c.frame.contract tx)
-          (λ s. Rattle.ob_silica_formed.specs.Points.ArePassed (static_of bf) k.holdings s.params args) s es formed.kinds),
+          (λ s. ArePassed (static_of bf) k.holdings s.params args) s es formed.kinds),
     )
 
     takes : is_some result ≡ is_some s.result
-    takes = if_there_so (signature_of program.table c.frame.contract tx) (λ s. is_some result ≡ is_some s.result) s es formed.results
+    takes = if_there_so (signature_of program.table c.frame.contract tx) (λ s. is_some result ≡ is_some s.result) s es
+        formed.results
 
     few_params : suc (length (parameters s)) ≤ most_slots
     few_params =
@@ -233,7 +244,13 @@ module _ (program : SilicaProgram) (is : IsCheckedProgram program) (entry : Opti
       binds = a.binds
 
       abbrev callee : SilicaFrame
-      callee = record { slots = b.slots; contract = c.frame.contract; tx = tx; how = by_this; share_entered = c.frame.share_entered }
+      callee = record {
+        slots = b.slots;
+        contract = c.frame.contract;
+        tx = tx;
+        how = by_this;
+        share_entered = c.frame.share_entered;
+      }
 
       abbrev called : BodyParts
       called = record { own = k.whole.parts.own; signature = s; slots = body.slots }
@@ -249,22 +266,24 @@ module _ (program : SilicaProgram) (is : IsCheckedProgram program) (entry : Opti
 
       -- The frame of the callee.
 
-      first_slot : b.slots 0 ≡ Some (bound_cell (TypedReference c.frame.contract s.entry) (reference (self_of c.frame.slots)))
+      first_slot : b.slots 0
+          ≡ Some (bound_cell (TypedReference c.frame.contract s.entry) (reference (self_of c.frame.slots)))
       first_slot = a.first k.whole.frame.this k.whole.frame.set
           ∙ ap (λ v. Some (bound_cell (TypedReference c.frame.contract s.entry) v)) k.whole.frame.refers
 
       begun : BeginsOn program.table w.objects callee s (permission_of s.entry) (self_of c.frame.slots)
       begun = record {
         this = first_slot;
-        stands = a.binds.bound 0 (bound_cell (TypedReference c.frame.contract s.entry) (reference (self_of c.frame.slots))) first_slot;
+        stands = a.binds.bound 0
+            (bound_cell (TypedReference c.frame.contract s.entry) (reference (self_of c.frame.slots))) first_slot;
         bound = a.bound.1;
-        unset = λ j low. a.binds.above j (let same : length (parameters s) ≡ length s.params = length-map s.params parameter_of in
+        unset = λ j low. a.binds.above j
+            (let same : length (parameters s) ≡ length s.params = length-map s.params parameter_of in
             omega (arith, low, same));
       }
 
       self_is : self_of callee.slots ≡ self_of c.frame.slots
-      self_is = Rattle.ob_coherent_calls_laws.proofs.Entered.begins_self program.table w.objects callee s (permission_of s.entry)
-          (self_of c.frame.slots) begun
+      self_is = begins_self program.table w.objects callee s (permission_of s.entry) (self_of c.frame.slots) begun
 
       callee_frame : IsFrame program.table w.objects callee called
       callee_frame = begins_frame program.table w.objects callee s (permission_of s.entry) (self_of c.frame.slots) begun
@@ -358,7 +377,8 @@ module _ (program : SilicaProgram) (is : IsCheckedProgram program) (entry : Opti
       held_on : (z : Option ℕ) → result ≡ z → (j : ℕ) → is_result z (slot j) ≡ false
           → with_slot_if z (held_as (kind_of_result (static_of bf) c.frame.contract tx)) k.holdings j ≡ k.holdings j
       held_on None i j e = refl
-      held_on (Some m) i j e = ap (λ x. if x then held_as (kind_of_result (static_of bf) c.frame.contract tx) else k.holdings j) e
+      held_on (Some m) i j e =
+          ap (λ x. if x then held_as (kind_of_result (static_of bf) c.frame.contract tx) else k.holdings j) e
 
       result_kind : (of : ResolvedType) → s.result ≡ Some of
           → kind_of_result (static_of bf) c.frame.contract tx ≡ Some (kind_of_resolved of)
@@ -369,7 +389,8 @@ module _ (program : SilicaProgram) (is : IsCheckedProgram program) (entry : Opti
           → after_form (static_of bf) form k.holdings j ≡ held_as (Some (kind_of_resolved of))
       result_held j of i e =
           ap (λ z. with_slot_if z (held_as (kind_of_result (static_of bf) c.frame.contract tx)) k.holdings j) i
-          ∙ ap (λ x. if x then held_as (kind_of_result (static_of bf) c.frame.contract tx) else k.holdings j) (eq-eqb j j refl)
+          ∙ ap (λ x. if x then held_as (kind_of_result (static_of bf) c.frame.contract tx) else k.holdings j)
+          (eq-eqb j j refl)
           ∙ ap held_as (result_kind of e)
 
       awaits : AwaitsResult bf after waiting_frame result (gives_back_as callee called)
@@ -385,8 +406,8 @@ module _ (program : SilicaProgram) (is : IsCheckedProgram program) (entry : Opti
           callee called body.terms rest outer result (slot_loans b.loans) w same_outer refl grows
           a.binds.stays.locked fewer (λ m none. all_owners m ∙ none) after
           (after_form (static_of bf) form k.holdings) settled (λ j e. held_on result refl j e) result_held remains
-          (λ e. test_no_field outer can.untested) lending (λ e. lend_no_field b.loans) (a.binds.stays.this ∙ sym self_is)
-          (λ e. come_back) (λ e. not_made) awaits (λ e. refl)
+          (λ e. test_no_field outer can.untested) lending (λ e. lend_no_field b.loans)
+          (a.binds.stays.this ∙ sym self_is) (λ e. come_back) (λ e. not_made) awaits (λ e. refl)
 
       waiting_parts : waiting.parts ≡ k.whole.parts
       unfolding waiting
@@ -394,12 +415,15 @@ module _ (program : SilicaProgram) (is : IsCheckedProgram program) (entry : Opti
           callee called body.terms rest outer result (slot_loans b.loans) w same_outer refl grows
           a.binds.stays.locked fewer (λ m none. all_owners m ∙ none) after
           (after_form (static_of bf) form k.holdings) settled (λ j e. held_on result refl j e) result_held remains
-          (λ e. test_no_field outer can.untested) lending (λ e. lend_no_field b.loans) (a.binds.stays.this ∙ sym self_is)
-          (λ e. come_back) (λ e. not_made) awaits (λ e. refl)
+          (λ e. test_no_field outer can.untested) lending (λ e. lend_no_field b.loans)
+          (a.binds.stays.this ∙ sym self_is) (λ e. come_back) (λ e. not_made) awaits (λ e. refl)
 
       -- each owner that comes back is lent
       lends : Lends program.table c.frame.contract tx by_this waiting_frame
-      lends = record { owners = λ own2 s2 e1 e2 j p e out ne. owner_lent own2 s2 e1 e2 j p e out; made = λ e. absurd (no_new e) }
+      lends = record {
+        owners = λ own t ec et j p e out not_this. owner_lent own t ec et j p e out;
+        made = λ e. absurd (no_new e);
+      }
         where
           keeps : KeepsFields (reads_with_this span args) (all_parameters c.frame.contract s)
           keeps = (λ at_field wants. absurd (true≢false (sym at_field)), can.keeps)
@@ -411,16 +435,18 @@ module _ (program : SilicaProgram) (is : IsCheckedProgram program) (entry : Opti
               (all_parameters c.frame.contract s) 0)) m ≡ true) (let z : 0 + j ≡ j = omega arith in z)
               (wanted_slot_lent program.table c k.whole.parts k.context (reads_with_this span args)
               (all_parameters c.frame.contract s) 0 j p all_passed keeps e
-              (exit_owner_came program.table p (each_at (IsParameter program.table) (all_parameters c.frame.contract s) j p
+              (exit_owner_came program.table p (each_at (IsParameter program.table)
+              (all_parameters c.frame.contract s) j p
               (all_are program.table c.frame.contract k.whole.parts.own s k.whole.frame.own transaction) e) out) out))
 
-          owner_lent : (own2 : Contract) (s2 : Signature) → contract_at program.table c.frame.contract ≡ Some own2
-              → signature_at own2 tx ≡ Some s2 → (j : ℕ) (p : Parameter)
-              → slice_get (all_parameters c.frame.contract s2) j ≡ Some p
+          owner_lent : (own : Contract) (t : Signature) → contract_at program.table c.frame.contract ≡ Some own
+              → signature_at own tx ≡ Some t → (j : ℕ) (p : Parameter)
+              → slice_get (all_parameters c.frame.contract t) j ≡ Some p
               → owns (permission_of p.exit) ≡ true → has_lent (slot_loans b.loans) j ≡ true
-          owner_lent own2 s2 e1 e2 j p e out =
-              let same_own : own2 ≡ k.whole.parts.own = same_Some own2 k.whole.parts.own (sym e1 ∙ k.whole.frame.own) in
-              let same : s2 ≡ s = same_Some s2 s (sym e2 ∙ ap (λ (x : Contract). signature_at x tx) same_own ∙ own_signature) in
+          owner_lent own t ec et j p e out =
+              let same_own : own ≡ k.whole.parts.own = same_Some own k.whole.parts.own (sym ec ∙ k.whole.frame.own) in
+              let same : t ≡ s = same_Some t s
+              (sym et ∙ ap (λ (x : Contract). signature_at x tx) same_own ∙ own_signature) in
               at_number j p (subst (λ z. slice_get (all_parameters c.frame.contract z) j ≡ Some p) same e) out
 
       -- The callee runs.
@@ -429,7 +455,8 @@ module _ (program : SilicaProgram) (is : IsCheckedProgram program) (entry : Opti
       whole = called_whole program.table is.table entry beginning c k b given nb binds
           callee body.terms rest outer result (slot_loans b.loans) w same_outer refl refl (λ m. refl) (λ m. refl) grows
           (λ m. ⊤) any_stays apart_stays
-          called callee_frame (begins_stand program.table w.objects callee s (permission_of s.entry) (self_of c.frame.slots) begun)
+          called callee_frame
+          (begins_stand program.table w.objects callee s (permission_of s.entry) (self_of c.frame.slots) begun)
           waiting waiting_parts entered_so entered_once
 
       abbrev called_frame : BodyFrame
@@ -462,9 +489,11 @@ module _ (program : SilicaProgram) (is : IsCheckedProgram program) (entry : Opti
           beginning_field called_frame j x.0 x.1 plain_number in
           subst (λ y. SaysOf (NeedsOwner program.table w.objects) y (own_cell (here d) j)) (sym known_is)
           (subst (λ i. SaysOf (NeedsOwner program.table w.objects)
-          (Some (known (kind_of_resolved x.0.of) (entry_of_field called_frame s j))) (field_cell b.from.notes w.objects i j)) (sym same)
-          (held_says (NeedsOwner program.table w.objects) (given (field j)) (own_cell b.from j) (entry_of_field called_frame s j)
-          (kind_of_resolved x.0.of) (declared_kind j x.0 x.1) (can.enters j low maybe) (a.binds.sits.says.fields j there refl)))
+          (Some (known (kind_of_resolved x.0.of) (entry_of_field called_frame s j)))
+          (field_cell b.from.notes w.objects i j)) (sym same)
+          (held_says (NeedsOwner program.table w.objects) (given (field j)) (own_cell b.from j)
+          (entry_of_field called_frame s j) (kind_of_resolved x.0.of) (declared_kind j x.0 x.1)
+          (can.enters j low maybe) (a.binds.sits.says.fields j there refl)))
         where
           below : (fields : List Field) (j : ℕ) (x : Field) → slice_get fields j ≡ Some x → j < length fields
           below [] j x e = absurd (cc)
@@ -474,10 +503,12 @@ module _ (program : SilicaProgram) (is : IsCheckedProgram program) (entry : Opti
           declared_kind : (j : ℕ) (x : Field) → slice_get k.whole.parts.own.fields j ≡ Some x → (z : Cell)
               → own_cell b.from j ≡ Some z → z.note.kind ≡ kind_of_resolved x.of
           declared_kind j x e z i =
-              let r = kind_in_run program.table b.from.notes b.from.world.objects (self_of b.from.slots) a.binds.sits.object j z i in
+              let r = kind_in_run program.table b.from.notes b.from.world.objects (self_of b.from.slots)
+              a.binds.sits.object j z i in
               let own : a.binds.sits.object.own ≡ k.whole.parts.own =
               same_Some a.binds.sits.object.own k.whole.parts.own
-              (sym a.binds.sits.object.contract ∙ ap (contract_at program.table) a.binds.sits.frame.contract ∙ k.whole.frame.own) in
+              (sym a.binds.sits.object.contract
+              ∙ ap (contract_at program.table) a.binds.sits.frame.contract ∙ k.whole.frame.own) in
               r.4 ∙ ap (λ (y : Field). kind_of_resolved y.of) (same_Some r.1 x
               (sym r.2 ∙ ap (λ (y : Contract). slice_get y.fields j) own ∙ e))
 
@@ -485,8 +516,9 @@ module _ (program : SilicaProgram) (is : IsCheckedProgram program) (entry : Opti
       entered_shared : permission_of s.entry ≡ shared → permission_in (b.from.slots 0) ≡ shared
       entered_shared e = mode_shared (permission_in (b.from.slots 0))
           (subst (λ p. same_mode p (permission_in (b.from.slots 0)) ≡ true)
-          (first_shared k.context (record { location = this; span = span }) (reads_of args) (this_parameter c.frame.contract s)
-          (parameters s) can.once e (known (Reference c.frame.contract) k.remains.itself.0) k.remains.itself.1)
+          (first_shared k.context (record { location = this; span = span }) (reads_of args)
+          (this_parameter c.frame.contract s) (parameters s) can.once e
+          (known (Reference c.frame.contract) k.remains.itself.0) k.remains.itself.1)
           (a.binds.sits.says.mode refl))
 
       shares_now : SharesThis callee d 0
@@ -515,18 +547,18 @@ module _ (program : SilicaProgram) (is : IsCheckedProgram program) (entry : Opti
         held = begins_held program.table w.objects callee s (permission_of s.entry) (self_of c.frame.slots) begun;
         remains = body.remains;
         opens = tt;
-        placed = λ ne. subst (λ i. HasItsState program.table (nth_object w.objects i)) (a.binds.stays.this ∙ sym self_is)
-            (a.binds.sits.placed not_made);
+        placed = λ ne. subst (λ i. HasItsState program.table (nth_object w.objects i))
+            (a.binds.stays.this ∙ sym self_is) (a.binds.sits.placed not_made);
         shares = shares_now;
         owns_made = λ e. absurd (no_new e);
         unreferred = λ m some.
             let new = called_constructions program.table is.table entry beginning c k b given nb binds
-            callee body.terms rest outer result (slot_loans b.loans) w same_outer refl refl (λ m. refl) (λ m. refl) grows
-            (λ m. ⊤) any_stays apart_stays m in
+            callee body.terms rest outer result (slot_loans b.loans) w same_outer refl refl (λ m. refl) (λ m. refl)
+            grows (λ m. ⊤) any_stays apart_stays m in
             let old : 0 < constructions m c = omega (arith, some, new) in
             let refs = called_references program.table is.table entry beginning c k b given nb binds
-            callee body.terms rest outer result (slot_loans b.loans) w same_outer refl refl (λ m. refl) (λ m. refl) grows
-            (λ m. ⊤) any_stays apart_stays m in
+            callee body.terms rest outer result (slot_loans b.loans) w same_outer refl refl (λ m. refl) (λ m. refl)
+            grows (λ m. ⊤) any_stays apart_stays m in
             let kept = a.binds.refers m old in
             let was = running_references program.table is.table entry beginning c k m in
             let less = k.unreferred m old in
@@ -534,15 +566,14 @@ module _ (program : SilicaProgram) (is : IsCheckedProgram program) (entry : Opti
         lends = (lends, k.lends);
       }
 
-      within : Rattle.ob_silica_steps.specs.Entering.are_within program.table w.objects b.slots 0 (all_parameters c.frame.contract s)
-          ≡ true
+      within : are_within program.table w.objects b.slots 0 (all_parameters c.frame.contract s) ≡ true
       within = are_all_within program.table w.objects b.slots 0 (all_parameters c.frame.contract s) a.bound
 
       entered : StepsSo program.table entry beginning
           (calls_this program (entered_with c (without_field_loans b) rest outer result w) c.frame tx s)
       entered = subst (StepsSo program.table entry beginning)
-          (sym (call_this_enters program (entered_with c (without_field_loans b) rest outer result w) c.frame tx s body.terms
-          within body.found))
+          (sym (call_this_enters program (entered_with c (without_field_loans b) rest outer result w) c.frame tx s
+          body.terms within body.found))
           (running callee_runs)
 
     -- The step.
@@ -556,16 +587,17 @@ module _ (program : SilicaProgram) (is : IsCheckedProgram program) (entry : Opti
 
     signed_so : StepsSo program.table entry beginning
         (bind_all program.table (unbound (here c)) (this ∷ all_located args) 0 (all_parameters c.frame.contract s)
-        (λ b. with_unit b.from.world (λ w. calls_this program (entered_with c (without_field_loans b) rest outer result w) c.frame tx s)))
+        (goes_on s))
     signed_so = subst (λ ls. StepsSo program.table entry beginning
         (bind_all program.table (unbound (here c)) (this ∷ ls) 0 (all_parameters c.frame.contract s)
-        (λ b. with_unit b.from.world (λ w. calls_this program (entered_with c (without_field_loans b) rest outer result w) c.frame tx s))))
+        (goes_on s)))
         (sym (places_of_reads args))
         (bind_all_steps program.table is.table c k.whole.parts (tested_places outer)
-        (running_one program.table is.table entry beginning c k) (running_placed program.table is.table entry beginning c k)
+        (running_one program.table is.table entry beginning c k)
+        (running_placed program.table is.table entry beginning c k)
         (running_finished program.table is.table entry beginning c k)
         (StepsSo program.table entry beginning)
-        (λ b. with_unit b.from.world (λ w. calls_this program (entered_with c (without_field_loans b) rest outer result w) c.frame tx s))
+        (goes_on s)
         k.context (reads_with_this span args) (all_parameters c.frame.contract s) (unbound (here c)) k.context 0
         (running_binds program.table is.table entry beginning c k 0) (let most = few_params in omega (arith, most))
         (λ q. refl) (λ q. refl) can.gives all_passed once
@@ -577,5 +609,5 @@ module _ (program : SilicaProgram) (is : IsCheckedProgram program) (entry : Opti
       let s = some_is (signature_of program.table c.frame.contract tx) formed.numbers.0 in
       subst (λ z. StepsSo program.table entry beginning (if_there z (λ s.
       bind_all program.table (unbound (here c)) (this ∷ all_located args) 0 (all_parameters c.frame.contract s)
-      (λ b. with_unit b.from.world (λ w. calls_this program (entered_with c (without_field_loans b) rest outer result w) c.frame tx s)))))
+      (goes_on s))))
       (sym s.1) (signed_so s.0 s.1)

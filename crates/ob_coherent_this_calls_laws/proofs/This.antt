@@ -89,8 +89,8 @@ first_shared g r rs p ps once wants y set =
     let w : kept (permission_at g r.location) (permission_of_type p.of) ≡ shared =
     kept_where_shared (permission_at g r.location) (permission_of_type p.of) wants in
     all_shared (given_to g r.location p) rs ps r.location
-    (ap (λ b. permission_on (if b then with_permission (kept (permission_at g r.location) (permission_of_type p.of)) (g r.location)
-    else g r.location)) (same_place r.location)
+    (ap (λ b. permission_on (if b then with_permission (kept (permission_at g r.location) (permission_of_type p.of))
+    (g r.location) else g r.location)) (same_place r.location)
     ∙ ap (λ z. permission_on (with_permission (kept (permission_at g r.location) (permission_of_type p.of)) z)) set
     ∙ w)
     (none_after (λ l. is_given_owning l (r ∷ rs) (p ∷ ps)) (r ∷ []) rs ps r.location once.1
