@@ -88,6 +88,14 @@ module _ (table : ClassTable) (made : IsClassTable table) (entry : Option ℕ) (
   slot_plain j none x e = ⊎_elim
       (λ r. absurd (both_ways _ none ((k.held j x refl e).refers r))) (λ r. r) (cases_Bool (is_reference x.note.kind))
 
+  -- what the slot of a result holds while places are bound is no reference
+  pub result_plain : (result : Option ℕ) → IfSome result (λ j. (k.holdings j).refers ≡ false) → (j : ℕ) (x : Cell)
+      → result ≡ Some j → b.from.slots j ≡ Some x → (m : ℕ) → x.value ≢ reference m
+  result_plain result none j x is e m refers =
+      let r = was_set table c k.whole.parts b g n binds (slot j) x e in
+      let no : (k.holdings j).refers ≡ false = subst (λ o. IfSome o (λ j. (k.holdings j).refers ≡ false)) is none in
+      plain_value table c.world.objects r.0 (k.whole.slots j r.0 r.1) (slot_plain j no r.0 r.1) m (sym r.2 ∙ refers)
+
   pub awaits_result : (h : Waiting) → h.frame.slots ≡ b.from.slots → h.outer ≡ k.outer → (given : Context) (result : Option ℕ)
       (of : Option ResolvedType) → is_some result ≡ is_some of
       → IfSome result (λ j. length k.whole.parts.signature.params < j) → slots_of_result result ≤ k.whole.parts.slots
