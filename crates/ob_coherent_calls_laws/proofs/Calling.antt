@@ -66,7 +66,8 @@ use Rattle.ob_coherent_tests_laws.proofs.Unchanged.{remains_so}
 use Rattle.ob_coherent_places_laws.specs.Placed.{cell_at, Found}
 use Rattle.ob_coherent_places_laws.proofs.Alike.{reads_alike}
 use Rattle.ob_coherent_places_laws.proofs.Finding.{found_at, found_read, found_stands, sits_read}
-use Rattle.ob_coherent_places_laws.proofs.Objects.{is_there, read_objects, read_marks}
+use Rattle.ob_coherent_counting_laws.proofs.Objects.{object_there}
+use Rattle.ob_coherent_counting_laws.proofs.Marking.{read_objects, read_keeps}
 use Rattle.ob_coherent_places_laws.proofs.Standing.{refers_is}
 use Rattle.ob_coherent_calls_laws.specs.Binds.{in_both, in_rest, Binds, lent_all, ArePassedTo, AllBound, places_of}
 use Rattle.ob_coherent_calls_laws.specs.Lending.{AreBack, GivesBack, GiveBack, HasBound}
@@ -241,10 +242,10 @@ module _ (program : SilicaProgram) (is : IsCheckedProgram program) (entry : Opti
         objects = read_objects (with_unit_taken b.from.world fuel) n
 
         locked : wr.locked ≡ b.from.world.locked
-        locked = (read_marks (with_unit_taken b.from.world fuel) n).locked
+        locked = (read_keeps (with_unit_taken b.from.world fuel) n).locked
 
         progress : wr.progress ≡ b.from.world.progress
-        progress = (read_marks (with_unit_taken b.from.world fuel) n).progress
+        progress = (read_keeps (with_unit_taken b.from.world fuel) n).progress
 
         binds : Binds program.table c k.whole.parts b given (0 + length (all_parameters contract s))
         binds = a.binds
@@ -502,7 +503,7 @@ module _ (program : SilicaProgram) (is : IsCheckedProgram program) (entry : Opti
         entered = subst (StepsSo program.table entry beginning)
             (sym (call_enters program (entered_with c b rest outer result (with_unit_taken b.from.world fuel)) contract tx s n
             (nth_object wr.objects n) own ans.number ans.signature body.terms idle
-            (is_there wr.objects n (let low = of_object.0 in let same = a.binds.stays.count in
+            (object_there wr.objects n (let low = of_object.0 in let same = a.binds.stays.count in
             let e = ap (λ (os : List Object). length os) objects in omega (arith, low, same, e)))
             ec ans.found ans.there
             (within program is entry beginning c k contract tx s own b given (0 + length (all_parameters contract s)) binds past n
