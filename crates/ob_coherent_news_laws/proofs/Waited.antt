@@ -19,6 +19,9 @@ use Rattle.ob_coherent_counting_laws.proofs.Objects.{no_object, make_length, mak
 use Rattle.ob_coherent_frames_laws.proofs.Near.{IsNear, frame_near, all_stand_near, says_near, opens_near, shares_near}
 use Rattle.ob_coherent_places_laws.proofs.Standing.{needs_before, has_state_same}
 
+not_on_this : (how : How) → how ≡ by_new → how ≡ by_this → ⊥
+not_on_this how e i = (let z : by_this ≡ by_new = sym i ∙ e in cc)
+
 -- Two configurations between which an object is made.
 pub record IsMadeBetween (table : ClassTable) (o : Object) (c d : Configuration) : Type 0 where
   pub objects : d.world.objects ≡ c.world.objects ++ o ∷ []
@@ -60,14 +63,14 @@ module _ (table : ClassTable) (o : Object) (c d : Configuration) (between : IsMa
   low_ne m low e = omega (arith, low, e)
 
   -- The caller goes on waiting, for a callee whose slots may differ, where its loans are what they must be.
-  abbrev pub waits_made : (callee next : SilicaFrame) (called : BodyParts) (tests more : ℕ → ℕ) (h : Waiting)
+  pub waits_made : (callee next : SilicaFrame) (called : BodyParts) (tests more : ℕ → ℕ) (h : Waiting)
       → callee.how ≡ by_new → next.how ≡ by_new → next.contract ≡ callee.contract
       → self_of next.slots ≡ self_of callee.slots
       → ((m : ℕ) → m < length c.world.objects → owners m d + tests m ≤ owners m c + more m)
       → (w : Waits table (NeedsOwner table c.world.objects) c callee called (self_of callee.slots ∷ []) tests h)
-      → AreLoans table d next called more (waiting_here d.notes d.world h) w.context h.loans
+      → (g : Context) → w.context ≡ g → AreLoans table d next called more (waiting_here d.notes d.world h) g h.loans
       → Waits table (NeedsOwner table d.world.objects) d next called (self_of next.slots ∷ []) more h
-  waits_made callee next called tests more h how how_next contract self balanced w loans = record {
+  waits_made callee next called tests more h how how_next contract self balanced w g told loans = record {
     parts = w.parts;
     context = w.context;
     holdings = w.holdings;
@@ -85,9 +88,9 @@ module _ (table : ClassTable) (o : Object) (c d : Configuration) (between : IsMa
     remains = w.remains;
     opens = opens_near table (length c.world.objects) _ _ _ c d between_near (body_of table h.frame w.parts) h h.outer refl
         w.frame.there (inl (low_ne (self_of h.frame.slots) w.frame.there)) w.opens;
-    open_slots = λ e. absurd (let z : by_this ≡ by_new = sym e ∙ how_next in cc);
-    loans = loans;
-    lent_slots = λ e. absurd (let z : by_this ≡ by_new = sym e ∙ how_next in cc);
+    open_slots = λ e. absurd (not_on_this next.how how_next e);
+    loans = subst (λ z. AreLoans table d next called more (waiting_here d.notes d.world h) z h.loans) (sym told) loans;
+    lent_slots = λ e. absurd (not_on_this next.how how_next e);
     placed = λ other plain. has_state_same table (nth_object c.world.objects (self_of h.frame.slots))
         (nth_object d.world.objects (self_of h.frame.slots))
         (ap (λ (o : Object). o.contract) (old_object _ w.frame.there))
@@ -96,13 +99,13 @@ module _ (table : ClassTable) (o : Object) (c d : Configuration) (between : IsMa
     apart = subst (λ x. Rattle.ob_coherent_spec.specs.Waiting.IsApart x (self_of h.frame.slots) (self_of next.slots ∷ [])
         (self_of next.slots)) (how ∙ sym how_next)
         (subst (λ i. Rattle.ob_coherent_spec.specs.Waiting.IsApart callee.how (self_of h.frame.slots) (i ∷ []) i) (sym self) w.apart);
-    back = λ e. absurd (let z : by_this ≡ by_new = sym e ∙ how_next in cc);
-    no_constructor = λ e. absurd (let z : by_this ≡ by_new = sym e ∙ how_next in cc);
+    back = λ e. absurd (not_on_this next.how how_next e);
+    no_constructor = λ e. absurd (not_on_this next.how how_next e);
     result = subst (Rattle.ob_coherent_spec.specs.Waiting.AwaitsResult (body_of table h.frame w.parts) w.context h h.result)
         gift_same w.result;
     shares = shares_near table (length c.world.objects) _ _ _ c d between_near h.frame _ _ w.frame.there
         (balanced _ w.frame.there) w.frame.there w.shares;
-    share_entered = λ e. absurd (let z : by_this ≡ by_new = sym e ∙ how_next in cc);
+    share_entered = λ e. absurd (not_on_this next.how how_next e);
   }
     where
       state : (nth_object d.world.objects (length c.world.objects)).state ≡ (nth_object c.world.objects (length c.world.objects)).state
@@ -114,3 +117,14 @@ module _ (table : ClassTable) (o : Object) (c d : Configuration) (between : IsMa
       gift_same = ap (λ x. gives_back_by x callee called) how
           ∙ ap (λ id. Some (TypedReference id called.signature.exit)) (sym contract)
           ∙ sym (ap (λ x. gives_back_by x next called) how_next)
+
+  pub waits_made_parts : (callee next : SilicaFrame) (called : BodyParts) (tests more : ℕ → ℕ) (h : Waiting)
+      (how : callee.how ≡ by_new) (how_next : next.how ≡ by_new) (contract : next.contract ≡ callee.contract)
+      (self : self_of next.slots ≡ self_of callee.slots)
+      (balanced : (m : ℕ) → m < length c.world.objects → owners m d + tests m ≤ owners m c + more m)
+      (w : Waits table (NeedsOwner table c.world.objects) c callee called (self_of callee.slots ∷ []) tests h)
+      (g : Context) (told : w.context ≡ g)
+      (loans : AreLoans table d next called more (waiting_here d.notes d.world h) g h.loans)
+      → (waits_made callee next called tests more h how how_next contract self balanced w g told loans).parts ≡ w.parts
+  unfolding waits_made
+  waits_made_parts callee next called tests more h how how_next contract self balanced w g told loans = refl
