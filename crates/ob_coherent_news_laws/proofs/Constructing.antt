@@ -74,7 +74,7 @@ module _ (program : SilicaProgram) (is : IsCheckedProgram program) (entry : Opti
     (rest : SilicaTerms) (outer : List Rest) (result : Option ℕ) (loans : List Loan) (same_outer : outer ≡ k.outer)
     (wr : World) (objects : wr.objects ≡ b.from.world.objects) (locked : wr.locked ≡ b.from.world.locked)
     (progress : wr.progress ≡ b.from.world.progress) where
-  pub begins : Begins program contract constructor_id own s
+  abbrev pub begins : Begins program contract constructor_id own s
   begins = begins_to_run program is contract constructor_id own s ec class es
 
   abbrev pub called : BodyParts

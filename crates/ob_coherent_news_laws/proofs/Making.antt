@@ -72,7 +72,8 @@ use Rattle.ob_coherent_calls_laws.proofs.Untested.{awaits_result, result_plain}
 use Rattle.ob_coherent_calls_laws.proofs.Within.{are_all_within}
 use Rattle.ob_coherent_news_laws.proofs.Made.{made_frame, from_fields, made_owners, next_is}
 use Rattle.ob_coherent_news_laws.proofs.Constructing.{begins, constructor_runs}
-use Rattle.ob_coherent_news_laws.proofs.Waited.{IsMadeBetween, waits_made, waits_made_parts}
+use Rattle.ob_coherent_frames_laws.proofs.Near.{read_near}
+use Rattle.ob_coherent_news_laws.proofs.Waited.{IsMadeBetween, between_near, low_ne, waits_made, waits_made_parts}
 
 some_is : {A : Type 0} (o : Option A) → IsSome o → (x : A) × (o ≡ Some x)
 some_is (Some x) h = (x, refl)
@@ -252,3 +253,194 @@ module _ (program : SilicaProgram) (is : IsCheckedProgram program) (entry : Opti
           (λ q. reads_alike b.from wr refl program.table q
           ∙ sits_read program.table is.table c.frame k.whole.parts b.from given a.binds.sits q)
           (has_bound (unmade_cell contract (length wr.objects))) (reads_of args) (parameters s) 1 a.lent back gives_back once)
+
+      between : IsMadeBetween program.table (unfinished contract) d0 d
+      between = record {
+        objects = refl;
+        state = refl;
+        notes = refl;
+        locked = refl;
+        progress = refl;
+        fields = from_fields program.table is.table entry beginning c k b given (1 + length (parameters s)) binds unset contract own ec
+            class body.terms rest outer (Some to) b.loans same_outer wr refl refl refl;
+      }
+
+      self_low : self_of b.from.slots < length wr.objects
+      self_low = let there = k.whole.frame.there in let same = a.binds.stays.count in
+          subst (λ i. i < length wr.objects) (sym a.binds.stays.this) (omega (arith, there, same))
+
+      reads_made : (q : Location) → Rattle.ob_silica_steps.specs.Here.read program.table (waiting_here d.notes d.world h) q
+          ≡ Rattle.ob_silica_steps.specs.Here.read program.table (waiting_here d0.notes d0.world h) q
+      reads_made q = read_near program.table (length wr.objects) (λ m. m < length wr.objects)
+          (NeedsOwner program.table d0.world.objects) (NeedsOwner program.table d.world.objects) d0 d
+          (between_near program.table (unfinished contract) d0 d between) h q self_low
+          (λ e. low_ne program.table (unfinished contract) d0 d between (self_of b.from.slots) self_low)
+
+      lending : AreLoans program.table d callee called (λ m. tests_of m callee.slots [])
+          (waiting_here d.notes d.world h) after b.loans
+      lending = subst (AreLoans program.table d callee called (λ m. tests_of m callee.slots [])
+          (waiting_here d.notes d.world h) after) (sym a.loans)
+          (all_loans program.table d callee called (λ m. tests_of m callee.slots [])
+          (waiting_here d.notes d.world h) k.context after b
+          (λ q. reads_made q ∙ reads_alike b.from wr refl program.table q
+          ∙ sits_read program.table is.table c.frame k.whole.parts b.from given a.binds.sits q)
+          (has_bound (new_cell contract (length wr.objects))) (reads_of args) (parameters s) 1 a.lent back gives_back once)
+
+      -- The caller.
+
+      settled : (q : Location) → is_settled by_new h q ≡ true → after q ≡ given q
+      settled q e =
+          let parts = settled_parts by_new h q e in
+          result_other (passed bf k.context (reads_of args) (parameters s)) (Some to) (Some (TypedReference contract s.exit)) q parts.1
+          ∙ backs_settled bf k.context given (reads_of args) (parameters s) 1 q
+          (subst (λ ls. is_lent ls q ≡ false) a.loans parts.0)
+
+      held_on : (j : ℕ) → is_result (Some to) (slot j) ≡ false → after_form (static_of bf) form k.holdings j ≡ k.holdings j
+      held_on j e = ap (λ x. if x then held_as (Some (Reference contract)) else k.holdings j) e
+
+      result_held : (j : ℕ) (of : ResolvedType) → Some to ≡ Some j → Some (TypedReference contract s.exit) ≡ Some of
+          → after_form (static_of bf) form k.holdings j ≡ held_as (Some (kind_of_resolved of))
+      result_held j of i e =
+          ap (λ x. if x then held_as (Some (Reference contract)) else k.holdings j)
+          (eq-eqb j to (sym (same_Some to j i)))
+          ∙ ap (λ t. held_as (Some (kind_of_resolved t))) (same_Some (TypedReference contract s.exit) of e)
+
+      awaits : AwaitsResult bf after h (Some to) (gives_back_as unmade called)
+      awaits = awaits_result program.table is.table entry beginning c k b given (1 + length (parameters s)) binds h refl same_outer
+          (passed bf k.context (reads_of args) (parameters s)) (Some to) (Some (TypedReference contract s.exit)) refl formed.params
+          few_result formed.references
+
+      progress_same : (m : ℕ) → times m c.world.progress ≤ times m wr.progress
+      progress_same m = let e = ap (times m) a.binds.stays.progress in omega (arith, e)
+
+      apart : self_of b.from.slots ≢ length wr.objects
+      apart e = let low = self_low in omega (arith, e, low)
+
+      unmade_waiting : Waits program.table (NeedsOwner program.table wr.objects) d0 unmade called (self_of unmade.slots ∷ [])
+          (λ m. tests_of m unmade.slots []) h
+      unmade_waiting = caller_waits program.table is.table entry beginning c k b given (1 + length (parameters s)) binds
+          unmade called body.terms rest outer (Some to) b.loans wr same_outer refl progress_same a.binds.stays.locked
+          unmade_fewer (λ m none. unmade_owners m ∙ none) after (after_form (static_of bf) form k.holdings) settled held_on
+          result_held remains (λ e. absurd (cc)) unmade_lending (λ e. absurd (cc)) (apart, tt) (λ e. absurd (cc))
+          (λ e. absurd (cc)) awaits (λ e. absurd (cc))
+
+      unmade_parts : unmade_waiting.parts ≡ k.whole.parts
+      unfolding unmade_waiting
+      unmade_parts = caller_parts program.table is.table entry beginning c k b given (1 + length (parameters s)) binds
+          unmade called body.terms rest outer (Some to) b.loans wr same_outer refl progress_same a.binds.stays.locked
+          unmade_fewer (λ m none. unmade_owners m ∙ none) after (after_form (static_of bf) form k.holdings) settled held_on
+          result_held remains (λ e. absurd (cc)) unmade_lending (λ e. absurd (cc)) (apart, tt) (λ e. absurd (cc))
+          (λ e. absurd (cc)) awaits (λ e. absurd (cc))
+
+      unmade_context : unmade_waiting.context ≡ after
+      unfolding unmade_waiting
+      unmade_context = caller_context program.table is.table entry beginning c k b given (1 + length (parameters s)) binds
+          unmade called body.terms rest outer (Some to) b.loans wr same_outer refl progress_same a.binds.stays.locked
+          unmade_fewer (λ m none. unmade_owners m ∙ none) after (after_form (static_of bf) form k.holdings) settled held_on
+          result_held remains (λ e. absurd (cc)) unmade_lending (λ e. absurd (cc)) (apart, tt) (λ e. absurd (cc))
+          (λ e. absurd (cc)) awaits (λ e. absurd (cc))
+
+      waiting : Waits program.table (NeedsOwner program.table d.world.objects) d callee called (self_of callee.slots ∷ [])
+          (λ m. tests_of m callee.slots []) h
+      waiting = waits_made program.table (unfinished contract) d0 d between unmade callee called (λ m. tests_of m unmade.slots [])
+          (λ m. tests_of m callee.slots []) h refl refl refl refl balanced unmade_waiting after unmade_context lending
+
+      waiting_parts : waiting.parts ≡ k.whole.parts
+      unfolding waiting
+      waiting_parts = waits_made_parts program.table (unfinished contract) d0 d between unmade callee called
+          (λ m. tests_of m unmade.slots []) (λ m. tests_of m callee.slots []) h refl refl refl refl balanced unmade_waiting after
+          unmade_context lending ∙ unmade_parts
+
+      -- each owner that comes back is lent
+      lends : Lends program.table contract constructor_id by_new h
+      lends = record { owners = owner_lent; made = λ e. subst (λ ls. has_lent ls 0 ≡ false) (sym a.loans)
+          (later_param program.table k.context (reads_of args) (parameters s) 1 0 (omega arith)) }
+        where
+          at_number : (j : ℕ) (p : Parameter) → slice_get (all_parameters contract s) j ≡ Some p
+              → owns (permission_of p.exit) ≡ true → j ≢ 0 → has_lent b.loans j ≡ true
+          at_number zero p e out ne = absurd (ne refl)
+          at_number (suc j) p e out ne = subst (λ ls. has_lent ls (suc j) ≡ true) (sym a.loans)
+              (subst (λ m. has_lent (lent_all program.table k.context (reads_of args) (parameters s) 1) m ≡ true)
+              (let z : 1 + j ≡ suc j = omega arith in z)
+              (wanted_lent program.table c k.whole.parts k.context (reads_of args) (parameters s) 1 j p all_passed e
+              (exit_owner_came program.table p (each_at (IsParameter program.table) (parameters s) j p
+              (parameters_are program.table own s makes.signature) e) out)))
+
+          owner_lent : (own2 : Contract) (s2 : Signature) → contract_at program.table contract ≡ Some own2
+              → signature_at own2 constructor_id ≡ Some s2 → (j : ℕ) (p : Parameter)
+              → slice_get (all_parameters contract s2) j ≡ Some p → owns (permission_of p.exit) ≡ true
+              → (by_new ≡ by_new → j ≢ 0) → has_lent b.loans j ≡ true
+          owner_lent own2 s2 e1 e2 j p e out ne =
+              let same_own : own2 ≡ own = same_Some own2 own (sym e1 ∙ ec) in
+              let same : s2 ≡ s = same_Some s2 s (sym e2 ∙ ap (λ (x : Contract). slice_get x.transactions 0) same_own ∙ es) in
+              at_number j p (subst (λ z. slice_get (all_parameters contract z) j ≡ Some p) same e) out (ne refl)
+
+      runs_now : IsRunning program.table entry beginning d
+      runs_now = constructor_runs program is entry beginning c k b given (1 + length (parameters s)) binds unset contract own ec
+          class s es makes past a.bound rest outer (Some to) b.loans same_outer wr refl refl refl waiting waiting_parts lends
+
+      enters_so : are_within program.table wr.objects b.slots 1 (parameters s) ≡ true
+      enters_so = are_all_within program.table wr.objects b.slots 1 (parameters s) a.bound
+
+      -- there is a next number, or the run aborts
+      made_so : StepsSo program.table entry beginning
+          (makes_object program (entered_with c b rest outer (Some to) (with_unit_taken b.from.world fuel)) contract constructor_id s)
+      made_so = ⊎_elim
+          (λ full. subst (λ z. StepsSo program.table entry beginning (if z then abort_step by_full wr else room)) (sym full) tt)
+          (λ some. subst (λ z. StepsSo program.table entry beginning (if z then abort_step by_full wr else room)) (sym some)
+          (subst (λ z. StepsSo program.table entry beginning (if z then into else stuck)) (sym enters_so)
+          (subst (λ z. StepsSo program.table entry beginning (if_there z (λ (terms : SilicaTerms). goes (record {
+            frame = callee;
+            control = runs terms [];
+            stack = h ∷ c.stack;
+            notes = b.from.notes;
+            world = make_object wr (unfinished contract);
+          })))) (sym body.found) (running runs_now))))
+          (cases_Bool (nat_le most_objects (length b.from.world.objects)))
+        where
+          into : NextStep
+          into = enters program (entered_new (record (entered_with c b rest outer (Some to) (with_unit_taken b.from.world fuel)) {
+            world = wr }) contract) contract constructor_id by_new false
+
+          room : NextStep
+          room = if are_within program.table wr.objects b.slots 1 (parameters s) then into else stuck
+
+    -- The step.
+
+    after_unit : (b : Bound) (a : AllBound program.table c k.whole.parts k.context k.context (unbound (here c)) (reads_of args)
+        (parameters s) 1 b) (fuel : ℕ) → StepsSo program.table entry beginning (with_fuel_left fuel b.from.world
+        (λ w. makes_object program (entered_with c b rest outer (Some to) w) contract constructor_id s))
+    after_unit b a zero = tt
+    after_unit b a (suc fuel) = made_so b a fuel
+
+    bound_so : StepsSo program.table entry beginning
+        (bind_all program.table (unbound (here c)) (all_located args) 1 (parameters s)
+        (λ b. with_unit b.from.world (λ w. makes_object program (entered_with c b rest outer (Some to) w) contract constructor_id s)))
+    bound_so = subst (λ ls. StepsSo program.table entry beginning
+        (bind_all program.table (unbound (here c)) ls 1 (parameters s)
+        (λ b. with_unit b.from.world (λ w. makes_object program (entered_with c b rest outer (Some to) w) contract constructor_id s))))
+        (sym (places_of_reads args))
+        (bind_all_steps program.table is.table c k.whole.parts (tested_places outer)
+        (running_one program.table is.table entry beginning c k) (running_placed program.table is.table entry beginning c k)
+        (running_finished program.table is.table entry beginning c k)
+        (StepsSo program.table entry beginning)
+        (λ b. with_unit b.from.world (λ w. makes_object program (entered_with c b rest outer (Some to) w) contract constructor_id s))
+        k.context (reads_of args) (parameters s) (unbound (here c)) k.context 1
+        (running_binds program.table is.table entry beginning c k 1) (let most = few_params in omega (arith, most))
+        (λ q. refl) (λ q. refl) can.gives all_passed once
+        (λ b a. after_unit b a b.from.world.fuel))
+
+    signed_so : StepsSo program.table entry beginning (new_step program to contract (all_located args) rest outer c)
+    signed_so = subst (λ z. StepsSo program.table entry beginning (if_there z (λ s.
+        bind_all program.table (unbound (here c)) (all_located args) 1 (parameters s)
+        (λ b. with_unit b.from.world (λ w. makes_object program (entered_with c b rest outer (Some to) w) contract constructor_id s)))))
+        (sym made_at) bound_so
+
+  -- A `new` isn't stuck: it aborts, or the constructor runs and the caller waits.
+  pub new_steps : StepsSo program.table entry beginning (act program (new_form to contract args) rest outer c)
+  new_steps =
+      let own = some_is (contract_at program.table contract) formed.numbers.0 in
+      let class : own.0.interface ≡ false =
+          if_there_so (contract_at program.table contract) (λ (x : Contract). x.interface ≡ false) own.0 own.1 formed.bodies in
+      let made = has_constructor program.table own.0 (contract_is program.table is.table contract own.0 own.1) class in
+      signed_so own.0 own.1 class made.0 made.1 made.2
