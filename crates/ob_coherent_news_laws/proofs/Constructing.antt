@@ -1,46 +1,44 @@
 -- The constructor of a new object runs.
-use Rattle.std.proofs.Common.{◌≡◌, ◌≢◌, ℕ, zero, suc, ◌+◌, ◌<◌, ◌≤◌, Bool, true, false, List, [], ◌∷◌, ◌++◌, length, map, Option, Some, None, refl, sym, ap, subst, ◌∙◌, arith, ⊎_elim, ◌⊎◌, inl, inr, true≢false, eq-eqb}
-use Rattle.std.specs.Prelude.{nat_eq, slice_get, option_map, if◌then◌else◌}
+use Rattle.std.proofs.Common.{◌≡◌, ℕ, suc, ◌<◌, ◌≤◌, true, false, List, [], ◌∷◌, ◌++◌, length, Option, Some, None, refl, sym, ap, subst, ◌∙◌, arith, ⊎_elim, eq-eqb}
+use Rattle.std.specs.Prelude.{option_map, if◌then◌else◌}
 use Rattle.std.proofs.lemmas.Bool.Decides.{eqb_tells}
 use Rattle.std.proofs.lemmas.List.{length-map}
 use Rattle.ob_base.specs.declared.id.ContractId.{ContractId}
 use Rattle.ob_perm.specs.States.{States, only, stateless}
-use Rattle.ob_perm.specs.Permissions.{owned, owns}
+use Rattle.ob_perm.specs.Permissions.{owned}
 use Rattle.ob_table.specs.Tables.{ClassTable, contract_at, signature_at}
 use Rattle.ob_table.specs.declared.contract.Contract.{Contract}
 use Rattle.ob_table.specs.declared.contract.Signature.{Signature}
 use Rattle.ob_table.specs.declared.seen.Kind.TheVariants.{Reference}
 use Rattle.ob_table_spec.specs.Conditions.{IsConstructor}
-use Rattle.ob_heap_spec.specs.Values.{reference}
 use Rattle.ob_heap_spec.specs.Objects.{Object, unfinished, state_number, seen_state, seen_between}
 use Rattle.ob_heap_spec.specs.Worlds.{World, make_object}
 use Rattle.ob_silica.specs.Terms.{SilicaTerms}
-use Rattle.ob_silica_places.specs.Known.{Known, at}
+use Rattle.ob_silica_places.specs.Known.{Known}
 use Rattle.ob_silica_places.specs.Parameters.{Parameter, parameters, parameter_of}
 use Rattle.ob_silica_steps.specs.Calling.{constructor_id}
-use Rattle.ob_silica_steps.specs.Cells.{Cell}
 use Rattle.ob_silica_steps.specs.Configurations.{SilicaProgram, SlotCells, SilicaFrame, by_new, Loan, Rest, Configuration}
-use Rattle.ob_silica_steps.specs.Here.{Here, here, self_of}
+use Rattle.ob_silica_steps.specs.Here.{here, self_of}
 use Rattle.ob_silica_steps.specs.Binding.{Bound, bound_cell}
 use Rattle.ob_silica_steps.specs.Entering.{new_cell}
 use Rattle.ob_silica_formed.specs.Holdings.{held_at_start}
 use Rattle.ob_flow_spec.specs.Contexts.{BodyFrame, Context, available, field_known, beginning}
 use Rattle.ob_places_laws.proofs.Beginnings.{this_of_constructor, beginning_unset}
 use Rattle.ob_places_laws.proofs.Conversions.{serves_itself}
-use Rattle.ob_coherent_spec.specs.Counting.{any, one_if, nth_object, field_cell, in_cell, references}
+use Rattle.ob_coherent_spec.specs.Counting.{nth_object, field_cell, references}
 use Rattle.ob_coherent_spec.specs.Runs.{constructions}
 use Rattle.ob_coherent_spec.specs.Standing.{AllStand, Stands, IsOfKind, RefersToIn, NeedsOwner}
 use Rattle.ob_coherent_spec.specs.Saying.{SaysOf, own_object, own_cell}
 use Rattle.ob_coherent_spec.specs.Remaining.{IsCheckedProgram, BodyParts, body_of}
-use Rattle.ob_coherent_spec.specs.Waiting.{IsFrame, tests_of, SharesThis, Lends, Waits}
+use Rattle.ob_coherent_spec.specs.Waiting.{IsFrame, tests_of, Lends, Waits}
 use Rattle.ob_coherent_spec.specs.Coherent.{Beginning, Holds, IsRunning}
 use Rattle.ob_coherent_counting_laws.proofs.Numbers.{one_same, one_other}
 use Rattle.ob_coherent_counting_laws.proofs.Sums.{at_same, at_other}
 use Rattle.ob_coherent_places_laws.proofs.Standing.{made_stands}
-use Rattle.ob_coherent_calls_laws.specs.Bound.{IsBoundTo, AreBound}
-use Rattle.ob_coherent_calls_laws.specs.Binds.{in_both, in_rest, Binds}
+use Rattle.ob_coherent_calls_laws.specs.Bound.{AreBound}
+use Rattle.ob_coherent_calls_laws.specs.Binds.{Binds}
 use Rattle.ob_coherent_calls_laws.specs.Entered.{BeginsOn}
-use Rattle.ob_coherent_calls_laws.proofs.Entered.{begins_self, begins_stand, begins_held, begins_frame, begins_says}
+use Rattle.ob_coherent_calls_laws.proofs.Entered.{begins_stand, begins_held, begins_frame, begins_says}
 use Rattle.ob_coherent_calls_laws.proofs.Beginning.{Begins, begins_to_run}
 use Rattle.ob_coherent_calls_laws.proofs.Running.{running_references}
 use Rattle.ob_coherent_calls_laws.proofs.Receiving.{bound_slots}
@@ -137,10 +135,10 @@ module _ (program : SilicaProgram) (is : IsCheckedProgram program) (entry : Opti
       → SaysOf (NeedsOwner program.table w.objects) (field_known bf j) (own_cell (here d) j)
   fields_say j can =
       let top : available bf j stateless ≡ true =
-          subst (λ (o : Object). available bf j (state_number o.state) ≡ true) object_is can in
+      subst (λ (o : Object). available bf j (state_number o.state) ≡ true) object_is can in
       let none : field_cell b.from.notes w.objects (length wr.objects) j ≡ None =
-          ap (λ (o : Object). option_map (λ v. record { value = v; note = b.from.notes.fields (length wr.objects) j })
-          (o.fields j)) object_is in
+      ap (λ (o : Object). option_map (λ v. record { value = v; note = b.from.notes.fields (length wr.objects) j })
+      (o.fields j)) object_is in
       subst (λ y. SaysOf (NeedsOwner program.table w.objects) y (own_cell (here d) j)) (sym (beginning_unset bf j refl top))
       (subst (SaysOf (NeedsOwner program.table w.objects) None) (sym none)
       (record { known = tt; owner = λ m must some. absurd (omega arith) }))
@@ -157,23 +155,23 @@ module _ (program : SilicaProgram) (is : IsCheckedProgram program) (entry : Opti
     referred_once : (m : ℕ) → 0 < constructions m d → references m d ≤ 1
     referred_once m some =
         let refs = made_references program.table is.table entry beginning_of c k b g nb binds unset contract own ec class begins.terms
-            rest outer result loans same_outer wr objects locked progress m in
+        rest outer result loans same_outer wr objects locked progress m in
         let new = made_constructions program.table is.table entry beginning_of c k b g nb binds unset contract own ec class begins.terms
-            rest outer result loans same_outer wr objects locked progress m in
+        rest outer result loans same_outer wr objects locked progress m in
         ⊎_elim
         (λ same. subst (λ i. references i d ≤ 1) (sym same.1)
-            (let first = made_references program.table is.table entry beginning_of c k b g nb binds unset contract own ec class
-            begins.terms rest outer result loans same_outer wr objects locked progress (length wr.objects) in
-            let none = none_refer program.table is.table entry beginning_of c k b g nb binds unset contract own ec class begins.terms
-            rest outer result loans same_outer wr objects locked progress in
-            let one = one_same (length wr.objects) in omega (arith, first, none, one)))
+        (let first = made_references program.table is.table entry beginning_of c k b g nb binds unset contract own ec class
+        begins.terms rest outer result loans same_outer wr objects locked progress (length wr.objects) in
+        let none = none_refer program.table is.table entry beginning_of c k b g nb binds unset contract own ec class begins.terms
+        rest outer result loans same_outer wr objects locked progress in
+        let one = one_same (length wr.objects) in omega (arith, first, none, one)))
         (λ other.
-            let zero = one_other (length wr.objects) m (λ e. other.1 (sym e)) in
-            let old : 0 < constructions m c = omega (arith, some, new, zero) in
-            let kept = binds.refers m old in
-            let was = running_references program.table is.table entry beginning_of c k m in
-            let few = k.unreferred m old in
-            omega (arith, refs, kept, was, few, zero))
+        let zero = one_other (length wr.objects) m (λ e. other.1 (sym e)) in
+        let old : 0 < constructions m c = omega (arith, some, new, zero) in
+        let kept = binds.refers m old in
+        let was = running_references program.table is.table entry beginning_of c k m in
+        let few = k.unreferred m old in
+        omega (arith, refs, kept, was, few, zero))
         (eqb_tells m (length wr.objects))
 
     pub constructor_runs : IsRunning program.table entry beginning_of d
@@ -182,8 +180,14 @@ module _ (program : SilicaProgram) (is : IsCheckedProgram program) (entry : Opti
       terms = begins.terms;
       outer = [];
       control = refl;
-      context = beginning (record { table = program.table; here = contract; own = own; tx = constructor_id; signature = s;
-          slots = begins.slots });
+      context = beginning (record {
+        table = program.table;
+        here = contract;
+        own = own;
+        tx = constructor_id;
+        signature = s;
+        slots = begins.slots;
+      });
       says = begins_says program.table w.objects callee s (owned (only stateless)) (length wr.objects) begun
           (NeedsOwner program.table w.objects) (here d) bf refl refl refl
           (ap (λ (y : Known). y.permission) (this_of_constructor bf refl)) fields_say;

@@ -1,33 +1,29 @@
 -- What is so of the whole where a `new` has bound its places, and its constructor begins with the next object.
-use Rattle.std.proofs.Common.{◌≡◌, ◌≢◌, ℕ, zero, suc, ◌+◌, ◌<◌, ◌≤◌, Bool, true, false, List, [], ◌∷◌, ◌++◌, length, Option, Some, None, refl, sym, ap, subst, ◌∙◌, arith, ⊎_elim, ◌⊎◌, inl, inr, true≢false}
+use Rattle.std.proofs.Common.{◌≡◌, ◌≢◌, ℕ, ◌+◌, ◌<◌, ◌≤◌, true, false, List, [], ◌∷◌, length, Option, Some, None, refl, sym, ap, subst, ◌∙◌, arith, ⊎_elim, ◌⊎◌, inl, inr, true≢false}
 use Rattle.std.specs.Prelude.{nat_eq, slice_get, ⊤}
 use Rattle.std.proofs.lemmas.Bool.{cases_Bool, both_ways, cases_lt}
 use Rattle.std.proofs.lemmas.Bool.Decides.{eqb_tells}
-use Rattle.std.proofs.lemmas.Option.{same_Some}
 use Rattle.ob_base.specs.declared.id.ContractId.{ContractId}
-use Rattle.ob_perm.specs.States.{only}
-use Rattle.ob_perm.specs.Permissions.{owned, shared, unowned, owns}
+use Rattle.ob_perm.specs.Permissions.{owns}
 use Rattle.ob_table.specs.Tables.{ClassTable, contract_at}
 use Rattle.ob_table.specs.declared.contract.Contract.{Contract}
 use Rattle.ob_table_spec.specs.Conditions.{IsClassTable}
-use Rattle.ob_heap_spec.specs.Values.{Value, reference}
 use Rattle.ob_heap_spec.specs.Objects.{Object, unfinished}
 use Rattle.ob_heap_spec.specs.Worlds.{World, make_object}
 use Rattle.ob_silica.specs.Terms.{SilicaTerms}
 use Rattle.ob_silica_places.specs.Known.{at}
-use Rattle.ob_silica_places.specs.Places.{Location, slot}
+use Rattle.ob_silica_places.specs.Places.{slot}
 use Rattle.ob_silica_steps.specs.Calling.{constructor_id}
-use Rattle.ob_silica_steps.specs.Cells.{Cell}
-use Rattle.ob_silica_steps.specs.Configurations.{SlotCells, SilicaFrame, by_new, Loan, Rest, Waiting, runs, Configuration}
-use Rattle.ob_silica_steps.specs.Here.{Here, here, self_of}
+use Rattle.ob_silica_steps.specs.Configurations.{SlotCells, SilicaFrame, by_new, Loan, Rest, Waiting, Configuration}
+use Rattle.ob_silica_steps.specs.Here.{here, self_of}
 use Rattle.ob_silica_steps.specs.Binding.{Bound}
 use Rattle.ob_silica_steps.specs.Entering.{new_cell}
 use Rattle.ob_flow_spec.specs.Contexts.{Context}
 use Rattle.ob_coherent_spec.specs.Counting.{Counted, any, one_if, nth_object, field_cell, in_cell, in_slots, in_objects, in_handles, in_waiting, owners, references}
-use Rattle.ob_coherent_spec.specs.Runs.{times, around, entries, constructing_among, constructions, locks, tests_in, tests_around, open_tests}
+use Rattle.ob_coherent_spec.specs.Runs.{times, around, entries, constructions, locks, open_tests}
 use Rattle.ob_coherent_spec.specs.Standing.{AllStand, NeedsOwner, IsObjectInRun, Stands}
 use Rattle.ob_coherent_spec.specs.Remaining.{BodyParts}
-use Rattle.ob_coherent_spec.specs.Waiting.{IsFrame, tests_of, IsNotAmong, Waits, AllWait}
+use Rattle.ob_coherent_spec.specs.Waiting.{IsFrame, tests_of, Waits, AllWait}
 use Rattle.ob_coherent_spec.specs.Coherent.{Beginning, Holds, IsRunning}
 use Rattle.ob_coherent_counting_laws.proofs.Frames.{tests_in_same}
 use Rattle.ob_coherent_counting_laws.proofs.Objects.{no_object, make_length, make_same, make_other, field_cell_same}
@@ -35,15 +31,13 @@ use Rattle.ob_coherent_counting_laws.proofs.Places.{no_objects, objects_make}
 use Rattle.ob_coherent_counting_laws.proofs.NextNumber.{stands_there, cell_past, slots_past, references_past, owners_past}
 use Rattle.ob_coherent_counting_laws.proofs.Numbers.{one_same, one_other}
 use Rattle.ob_coherent_counting_laws.proofs.Entering.{entered_below, constructing_below, tests_below, locks_below, this_more, some_slots}
-use Rattle.ob_coherent_frames_laws.specs.Steps.{KeepsArgument}
 use Rattle.ob_coherent_frames_laws.proofs.Near.{IsNear, frame_with, EachSelf, KeepsArguments, all_near_under}
 use Rattle.ob_coherent_frames_laws.proofs.Objects.{ObjectHolds, ObjectsHold, objects_hold}
 use Rattle.ob_coherent_frames_laws.proofs.Entered.{innermost_has_entry}
 use Rattle.ob_coherent_frames_laws.proofs.Whole.{began_kept}
-use Rattle.ob_coherent_places_laws.specs.Placed.{cell_at}
 use Rattle.ob_coherent_places_laws.proofs.Keeping.{argument_kept}
 use Rattle.ob_coherent_places_laws.proofs.Standing.{all_stand_stay, made_stands, needs_before}
-use Rattle.ob_coherent_calls_laws.specs.Binds.{in_frame, in_both, in_rest, Binds}
+use Rattle.ob_coherent_calls_laws.specs.Binds.{in_both, in_rest, Binds}
 use Rattle.ob_coherent_calls_laws.proofs.Called.{left_waiting, called_on}
 use Rattle.ob_coherent_calls_laws.proofs.Running.{running_owners, running_references}
 
@@ -52,8 +46,10 @@ each_there : (table : ClassTable) (N : ℕ → Type 0) (c : Configuration) (call
     (above : List ℕ) (tests : ℕ → ℕ) (hs : List Waiting) → AllWait table N c callee called above tests hs
     → EachSelf (λ m. m < length c.world.objects) hs
 each_there table N c callee called above tests [] w = tt
-each_there table N c callee called above tests (h ∷ hs) (w, ws) = (w.frame.there,
-    each_there table N c h.frame w.parts (self_of h.frame.slots ∷ above) _ hs ws)
+each_there table N c callee called above tests (h ∷ hs) (w, ws) = (
+  w.frame.there,
+  each_there table N c h.frame w.parts (self_of h.frame.slots ∷ above) _ hs ws,
+)
 
 -- the frame of the constructor
 abbrev pub made_frame : SlotCells → ContractId → ℕ → SilicaFrame
@@ -132,7 +128,7 @@ module _ (table : ClassTable) (made : IsClassTable table) (entry : Option ℕ) (
       let one = slots_past table b.from.world.objects next low b.from.slots binds.sits.slots in
       let two = slots_past table b.from.world.objects next low b.slots binds.bound in
       let three = no_objects any next b.from.notes b.from.world.objects
-          (λ i j. cell_past table b.from.world.objects next low (field_cell b.from.notes b.from.world.objects i j) (from_fields i j)) in
+      (λ i j. cell_past table b.from.world.objects next low (field_cell b.from.notes b.from.world.objects i j) (from_fields i j)) in
       let all = no_references in let is = running_references table made entry beginning c k next in
       omega (arith, one, two, three, all, is)
 
@@ -297,7 +293,7 @@ module _ (table : ClassTable) (made : IsClassTable table) (entry : Option ℕ) (
     declared = λ none new.
         let has = innermost_has_entry table entry beginning c k.whole in
         let some : 0 < entries (self_of b.from.slots) c + constructions (self_of b.from.slots) c =
-            subst (λ i. 0 < entries i c + constructions i c) (sym self_left) has in
+        subst (λ i. 0 < entries i c + constructions i c) (sym self_left) has in
         let e = made_entries (self_of b.from.slots) in let f = made_constructions (self_of b.from.slots) in
         absurd (omega (arith, some, e, f, none, new));
   })
@@ -365,9 +361,12 @@ module _ (table : ClassTable) (made : IsClassTable table) (entry : Option ℕ) (
       locked_once = λ m. let same = made_locks m in let most = k.whole.locked_once m in omega (arith, same, most);
       parts = called;
       frame = frame;
-      waiting = (waiting, subst (λ p. AllWait table (NeedsOwner table w.objects) d (frame_with c.frame b.from.slots) p
-          (self_of b.from.slots ∷ self_of callee.slots ∷ [])
-          (λ m. tests_of m b.from.slots outer + tests_of m callee.slots []) c.stack) (sym same_parts) made_below);
+      waiting = (
+        waiting,
+        subst (λ p. AllWait table (NeedsOwner table w.objects) d (frame_with c.frame b.from.slots) p
+            (self_of b.from.slots ∷ self_of callee.slots ∷ [])
+            (λ m. tests_of m b.from.slots outer + tests_of m callee.slots []) c.stack) (sym same_parts) made_below,
+      );
       began = began_kept table c.world.objects beginning c.frame k.whole.parts b.from.slots (λ m. owners m d) c.stack
           k.whole.frame made_arguments k.whole.began;
     }
@@ -386,7 +385,7 @@ module _ (table : ClassTable) (made : IsClassTable table) (entry : Option ℕ) (
         disowned_old m on off other = ⊎_elim
             (λ low.
             let was : (nth_object c.world.objects m).disowned ≡ true =
-                sym (binds.disowned m) ∙ sym (ap (λ (o : Object). o.disowned) (old_object m (was_low m low))) ∙ on in
+            sym (binds.disowned m) ∙ sym (ap (λ (o : Object). o.disowned) (old_object m (was_low m low))) ∙ on in
             let none = k.whole.disowned m was (not_was_shared m off) in let less = made_fewer m other in
             omega (arith, none, less))
             (λ past. absurd (true≢false (sym on ∙ ap (λ (o : Object). o.disowned) (past_unfinished m other past))))
@@ -412,10 +411,10 @@ module _ (table : ClassTable) (made : IsClassTable table) (entry : Option ℕ) (
             let low = low_from m must.there other in
             let was = k.whole.assets m (was_needed m low must) in
             let from : NeedsOwner table b.from.world.objects m = needs_before table b.from.world.objects w.objects m
-                (let e = binds.stays.count in omega (arith, low, e))
-                (ap (λ (o : Object). o.contract) (old_object m (was_low m low)))
-                (λ e. ap (λ (o : Object). o.shared) (old_object m (was_low m low)) ∙ e)
-                (λ e. ap (λ (o : Object). o.disowned) (old_object m (was_low m low)) ∙ e) must in
+            (let e = binds.stays.count in omega (arith, low, e))
+            (ap (λ (o : Object). o.contract) (old_object m (was_low m low)))
+            (λ e. ap (λ (o : Object). o.shared) (old_object m (was_low m low)) ∙ e)
+            (λ e. ap (λ (o : Object). o.disowned) (old_object m (was_low m low)) ∙ e) must in
             let more = binds.assets m from in
             let is = made_owners m in let old = running_owners table made entry beginning c k m in
             omega (arith, was, more, is, old)

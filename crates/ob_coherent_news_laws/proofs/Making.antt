@@ -1,6 +1,6 @@
 -- The step of a `new`.
-use Rattle.std.proofs.Common.{◌≡◌, ◌≢◌, ℕ, zero, suc, ◌+◌, ◌<◌, ◌≤◌, Bool, true, false, List, [], ◌∷◌, ◌++◌, map, length, Option, Some, None, Ok, refl, sym, ap, subst, ◌∙◌, arith, ⊎_elim, ◌⊎◌, inl, inr, true≢false, eq-eqb}
-use Rattle.std.specs.Prelude.{nat_eq, nat_le, slice_get, max, IsSome, if◌then◌else◌}
+use Rattle.std.proofs.Common.{◌≡◌, ◌≢◌, ℕ, zero, suc, ◌+◌, ◌<◌, ◌≤◌, true, false, List, [], ◌∷◌, length, Option, Some, None, Ok, refl, sym, ap, subst, ◌∙◌, arith, ⊎_elim, true≢false, eq-eqb}
+use Rattle.std.specs.Prelude.{nat_le, slice_get, max, IsSome, if◌then◌else◌}
 use Rattle.std.specs.Option.{option_and_then}
 use Rattle.std.proofs.lemmas.Bool.{cases_Bool}
 use Rattle.std.proofs.lemmas.List.{length-map}
@@ -10,7 +10,7 @@ use Rattle.ob_base.specs.declared.fault.Span.{Span}
 use Rattle.ob_base.specs.declared.id.ContractId.{ContractId}
 use Rattle.ob_perm.specs.Permissions.{unowned, owns}
 use Rattle.ob_perm.specs.Masks.{permission_of}
-use Rattle.ob_table.specs.Tables.{ClassTable, contract_at, signature_at, signature_of}
+use Rattle.ob_table.specs.Tables.{contract_at, signature_at, signature_of}
 use Rattle.ob_table.specs.declared.contract.Contract.{Contract}
 use Rattle.ob_table.specs.declared.contract.ResolvedType.{ResolvedType}
 use Rattle.ob_table.specs.declared.contract.ResolvedType.TheVariants.{Reference as TypedReference}
@@ -19,7 +19,7 @@ use Rattle.ob_table.specs.declared.seen.Kind.TheVariants.{Reference}
 use Rattle.ob_table_spec.specs.Conditions.{IsConstructor}
 use Rattle.ob_table_spec.specs.WellFormed.{kind_of_resolved, constructor_at}
 use Rattle.ob_heap_spec.specs.Values.{reference}
-use Rattle.ob_heap_spec.specs.Objects.{Object, unfinished}
+use Rattle.ob_heap_spec.specs.Objects.{unfinished}
 use Rattle.ob_heap_spec.specs.Worlds.{World, next_item, with_read, with_unit_taken, make_object, by_full}
 use Rattle.ob_silica.specs.Terms.{SilicaForm, new_form, SilicaTerms, and_term}
 use Rattle.ob_silica.specs.Slots.{slots_of_form, slots_of_result, slots_of_operands}
@@ -29,15 +29,15 @@ use Rattle.ob_silica_places.specs.Places.{Location, slot, all_located}
 use Rattle.ob_silica_places.specs.Parameters.{Parameter, parameters, all_parameters, parameter_of}
 use Rattle.ob_silica_steps.specs.Calling.{constructor_id, new_step, entered_with}
 use Rattle.ob_silica_steps.specs.Cells.{Cell, cell}
-use Rattle.ob_silica_steps.specs.Configurations.{SilicaProgram, SilicaFrame, by_new, Loan, Rest, Waiting, runs, Configuration, NextStep, goes, abort_step, stuck}
+use Rattle.ob_silica_steps.specs.Configurations.{SilicaProgram, SilicaFrame, by_new, Rest, Waiting, runs, Configuration, NextStep, goes, abort_step, stuck}
 use Rattle.ob_silica_steps.specs.Here.{Here, here, self_of, if_there, with_unit, with_fuel_left}
-use Rattle.ob_silica_steps.specs.Binding.{Bound, unbound, bound_cell, bind_all}
+use Rattle.ob_silica_steps.specs.Binding.{Bound, unbound, bind_all}
 use Rattle.ob_silica_steps.specs.Entering.{are_within, enters, new_cell, entered_new, makes_object}
 use Rattle.ob_silica_steps.specs.Steps.{act}
-use Rattle.ob_silica_formed.specs.Holdings.{Holdings, held as held_as, after_form}
+use Rattle.ob_silica_formed.specs.Holdings.{held as held_as, after_form}
 use Rattle.ob_silica_formed.specs.Points.{ArePassed}
-use Rattle.ob_flow_spec.specs.Contexts.{BodyFrame, Context, constructs}
-use Rattle.ob_flow_spec.specs.Binding.{wants_owner, reads_of, given_all, passed}
+use Rattle.ob_flow_spec.specs.Contexts.{BodyFrame, Context}
+use Rattle.ob_flow_spec.specs.Binding.{reads_of, given_all, passed}
 use Rattle.ob_flow_spec.specs.Calling.{after_new}
 use Rattle.ob_flow_spec.specs.Deriving.{derive, constructor}
 use Rattle.ob_flow_laws.specs.Calling.{CanMake}
@@ -46,19 +46,19 @@ use Rattle.ob_places_laws.specs.Passing.{IsParameter}
 use Rattle.ob_places_laws.proofs.Tables.{contract_is, has_constructor, signature_from, each_at, if_there_so}
 use Rattle.ob_coherent_remaining_laws.proofs.Knowing.{KnowsIf, form_knows}
 use Rattle.ob_coherent_remaining_laws.proofs.Remaining.{IsFirst, first_formed, first_slots, first_passes, rest_remains}
-use Rattle.ob_coherent_spec.specs.Counting.{any, one_if, nth_object, field_cell, in_cell, in_slots, in_objects, in_handles, owners}
+use Rattle.ob_coherent_spec.specs.Counting.{in_cell, in_handles, owners}
 use Rattle.ob_coherent_spec.specs.Runs.{times, tested_places}
-use Rattle.ob_coherent_spec.specs.Standing.{AllStand, NeedsOwner}
+use Rattle.ob_coherent_spec.specs.Standing.{NeedsOwner}
 use Rattle.ob_coherent_spec.specs.Remaining.{IsCheckedProgram, BodyParts, body_of, static_of, IsWellFormedForm, Remains}
 use Rattle.ob_coherent_spec.specs.Waiting.{has_lent, is_lent, AreLoans, gives_back_as, AwaitsResult, is_settled, is_result, Lends, tests_of, waiting_here, Waits}
-use Rattle.ob_coherent_spec.specs.Coherent.{Beginning, IsRunning, IsCoherent, running, StepsSo}
+use Rattle.ob_coherent_spec.specs.Coherent.{Beginning, IsRunning, running, StepsSo}
 use Rattle.ob_coherent_tests_laws.proofs.Unchanged.{remains_so}
 use Rattle.ob_coherent_counting_laws.proofs.Entering.{this_more, some_slots}
 use Rattle.ob_coherent_counting_laws.proofs.Numbers.{one_other}
-use Rattle.ob_coherent_counting_laws.proofs.Sums.{at_same, at_other}
+use Rattle.ob_coherent_counting_laws.proofs.Sums.{at_other}
 use Rattle.ob_coherent_places_laws.proofs.Alike.{reads_alike}
 use Rattle.ob_coherent_places_laws.proofs.Finding.{sits_read}
-use Rattle.ob_coherent_calls_laws.specs.Binds.{in_both, in_rest, Binds, lent_all, ArePassedTo, AreOnce, AllBound, places_of}
+use Rattle.ob_coherent_calls_laws.specs.Binds.{in_both, in_rest, Binds, lent_all, ArePassedTo, AreOnce, AllBound}
 use Rattle.ob_coherent_calls_laws.specs.Lending.{AreBack, GiveBack, HasBound}
 use Rattle.ob_coherent_calls_laws.proofs.After.{kinds_given, sets_given, result_other, settled_parts, backs_beside}
 use Rattle.ob_coherent_calls_laws.proofs.Beginning.{Begins, begins_to_run}
@@ -70,8 +70,8 @@ use Rattle.ob_coherent_calls_laws.proofs.Passing.{places_of_reads, args_passed, 
 use Rattle.ob_coherent_calls_laws.proofs.Running.{running_owners, running_one, running_placed, running_finished, running_binds}
 use Rattle.ob_coherent_calls_laws.proofs.Untested.{awaits_result, result_plain}
 use Rattle.ob_coherent_calls_laws.proofs.Within.{are_all_within}
-use Rattle.ob_coherent_news_laws.proofs.Made.{made_frame, from_fields, made_owners, next_is}
-use Rattle.ob_coherent_news_laws.proofs.Constructing.{begins, constructor_runs}
+use Rattle.ob_coherent_news_laws.proofs.Made.{made_frame, from_fields, made_owners}
+use Rattle.ob_coherent_news_laws.proofs.Constructing.{constructor_runs}
 use Rattle.ob_coherent_frames_laws.proofs.Near.{read_near}
 use Rattle.ob_coherent_news_laws.proofs.Waited.{IsMadeBetween, between_near, low_ne, waits_made, waits_made_parts}
 
@@ -214,7 +214,7 @@ module _ (program : SilicaProgram) (is : IsCheckedProgram program) (entry : Opti
       balanced : (m : ℕ) → m < length wr.objects → owners m d + tests_of m unmade.slots [] ≤ owners m d0 + tests_of m callee.slots []
       balanced m low =
           let now = made_owners program.table is.table entry beginning c k b given (1 + length (parameters s)) binds unset contract own ec
-              class body.terms rest outer (Some to) b.loans same_outer wr refl refl refl m in
+          class body.terms rest outer (Some to) b.loans same_outer wr refl refl refl m in
           let was = unmade_owners m in
           let none = one_other (length wr.objects) m (λ e. omega (arith, e, low)) in
           omega (arith, now, was, none)
@@ -353,8 +353,11 @@ module _ (program : SilicaProgram) (is : IsCheckedProgram program) (entry : Opti
 
       -- each owner that comes back is lent
       lends : Lends program.table contract constructor_id by_new h
-      lends = record { owners = owner_lent; made = λ e. subst (λ ls. has_lent ls 0 ≡ false) (sym a.loans)
-          (later_param program.table k.context (reads_of args) (parameters s) 1 0 (omega arith)) }
+      lends = record {
+        owners = owner_lent;
+        made = λ e. subst (λ ls. has_lent ls 0 ≡ false) (sym a.loans)
+            (later_param program.table k.context (reads_of args) (parameters s) 1 0 (omega arith));
+      }
         where
           at_number : (j : ℕ) (p : Parameter) → slice_get (all_parameters contract s) j ≡ Some p
               → owns (permission_of p.exit) ≡ true → j ≢ 0 → has_lent b.loans j ≡ true
@@ -400,7 +403,8 @@ module _ (program : SilicaProgram) (is : IsCheckedProgram program) (entry : Opti
         where
           into : NextStep
           into = enters program (entered_new (record (entered_with c b rest outer (Some to) (with_unit_taken b.from.world fuel)) {
-            world = wr }) contract) contract constructor_id by_new false
+            world = wr;
+          }) contract) contract constructor_id by_new false
 
           room : NextStep
           room = if are_within program.table wr.objects b.slots 1 (parameters s) then into else stuck
@@ -441,6 +445,6 @@ module _ (program : SilicaProgram) (is : IsCheckedProgram program) (entry : Opti
   new_steps =
       let own = some_is (contract_at program.table contract) formed.numbers.0 in
       let class : own.0.interface ≡ false =
-          if_there_so (contract_at program.table contract) (λ (x : Contract). x.interface ≡ false) own.0 own.1 formed.bodies in
+      if_there_so (contract_at program.table contract) (λ (x : Contract). x.interface ≡ false) own.0 own.1 formed.bodies in
       let made = has_constructor program.table own.0 (contract_is program.table is.table contract own.0 own.1) class in
       signed_so own.0 own.1 class made.0 made.1 made.2

@@ -1,12 +1,9 @@
 -- A caller that waits goes on waiting where an object is made.
-use Rattle.std.proofs.Common.{◌≡◌, ◌≢◌, ℕ, zero, suc, ◌+◌, ◌<◌, ◌≤◌, Bool, true, false, List, [], ◌∷◌, ◌++◌, length, Option, Some, None, refl, sym, ap, subst, ◌∙◌, arith, ⊎_elim, ◌⊎◌, inl, inr, true≢false}
+use Rattle.std.proofs.Common.{◌≡◌, ◌≢◌, ℕ, ◌+◌, ◌<◌, ◌≤◌, true, List, [], ◌∷◌, ◌++◌, length, Some, None, refl, sym, ap, subst, ◌∙◌, arith, ⊎_elim, inl, true≢false}
 use Rattle.std.proofs.lemmas.Bool.{cases_lt}
-use Rattle.ob_base.specs.declared.id.ContractId.{ContractId}
 use Rattle.ob_table.specs.Tables.{ClassTable}
-use Rattle.ob_table.specs.declared.contract.ResolvedType.{ResolvedType}
 use Rattle.ob_table.specs.declared.contract.ResolvedType.TheVariants.{Reference as TypedReference}
-use Rattle.ob_heap_spec.specs.Objects.{Object, unfinished}
-use Rattle.ob_heap_spec.specs.Worlds.{World, make_object}
+use Rattle.ob_heap_spec.specs.Objects.{Object}
 use Rattle.ob_silica_steps.specs.Configurations.{SilicaFrame, How, by_this, by_new, Loan, Waiting, Configuration}
 use Rattle.ob_silica_steps.specs.Here.{self_of}
 use Rattle.ob_flow_spec.specs.Contexts.{Context}
