@@ -189,3 +189,7 @@ module _ (table : ClassTable) (made : IsClassTable table) (entry : Option ℕ) (
     pub caller_parts : caller_waits.parts ≡ k.whole.parts
     unfolding caller_waits
     caller_parts = refl
+
+    pub caller_context : caller_waits.context ≡ after
+    unfolding caller_waits
+    caller_context = refl
