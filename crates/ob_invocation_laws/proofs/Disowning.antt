@@ -68,7 +68,7 @@ set_elsewhere (q ∷ objects) (suc n) zero p other = refl
 set_elsewhere (q ∷ objects) (suc n) (suc k) p other = set_elsewhere objects n k p (grind arith)
 
 -- reading changes no object
-read_objects : (w : World) (n : ℕ) → (read_object w n).objects ≡ w.objects
+pub read_objects : (w : World) (n : ℕ) → (read_object w n).objects ≡ w.objects
 read_objects w n = either (is_made w n)
   where
     either : (b : Bool) → (if b then w else with_read w (object_item n)).objects ≡ w.objects
@@ -197,7 +197,7 @@ goes_quietly table content name h objects rest are there marks = record {
 no_owner : (a b : Bool) (n : ℕ) → n ≡ (if a && b then 1 else 0) → (a && b) ≡ false → n ≡ 1 → ⊥
 no_owner a b n is fails one = absurd (let none : n ≡ 0 = rw fails at is in omega arith)
 
-neither : (a b : Bool) → b ≡ false → (a && b) ≡ false
+pub neither : (a b : Bool) → b ≡ false → (a && b) ≡ false
 neither true b is = is
 neither false b is = refl
 
@@ -208,7 +208,7 @@ marked_by p is = rw is (either p.shared)
     either true = refl
     either false = refl
 
-some_same : (o p : Object) → Some o ≡ Some p → o ≡ p
+pub some_same : (o p : Object) → Some o ≡ Some p → o ≡ p
 some_same o p same = cc
 
 -- a handle that isn't Owned leaves the objects

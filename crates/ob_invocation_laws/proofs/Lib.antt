@@ -4,3 +4,6 @@ pub mod Taking
 pub mod Handles
 pub mod Owners
 pub mod Disowning
+pub mod Marking
+pub mod Puts
+pub mod Giving
