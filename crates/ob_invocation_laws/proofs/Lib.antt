@@ -7,3 +7,4 @@ pub mod Disowning
 pub mod Marking
 pub mod Puts
 pub mod Giving
+pub mod Shown
