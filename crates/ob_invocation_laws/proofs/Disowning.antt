@@ -163,7 +163,7 @@ one_or_none n h = by_test (nat_eq h.object n && is_owned h.mode) (owners_in n (S
 -- A `disown`, by what becomes of the objects.
 
 -- only the object of an Owned handle gains a mark, and it does
-record Marks (content : Content) (h : Handle) (after : List Object) : Type 0 where
+pub record Marks (content : Content) (h : Handle) (after : List Object) : Type 0 where
   pub objects : AreMarkedFrom content.objects after
   pub gained : (n : ℕ) (o p : Object) → object_at content.objects n ≡ Some o → object_at after n ≡ Some p
       → is_marked o ≡ false → is_marked p ≡ true → owners_in n (Some h) ≡ 1
@@ -248,7 +248,7 @@ marks_of_owned content h after owns d = record {
   owned = λ n p is one. owned_at h after content.objects d n p is one (nat_eq h.object n) refl;
 }
 
-by_mode : (content : Content) (h : Handle) (b : Bool) → is_owned h.mode ≡ b
+pub by_mode : (content : Content) (h : Handle) (b : Bool) → is_owned h.mode ≡ b
     → Marks content h (if b then mark_disowned h.object (still_world content) else still_world content).objects
 by_mode content h true owns =
     marks_of_owned content h (mark_disowned h.object (still_world content)).objects owns

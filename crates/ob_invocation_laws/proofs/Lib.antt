@@ -8,3 +8,4 @@ pub mod Marking
 pub mod Puts
 pub mod Giving
 pub mod Shown
+pub mod Still
