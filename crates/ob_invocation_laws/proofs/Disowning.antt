@@ -17,14 +17,9 @@ use Rattle.ob_rest_laws.specs.Laws.{is_shared_by_handle, IsMarkedFrom, AreMarked
 use Rattle.ob_rest_laws.proofs.Ways.{fails_by_none}
 use Rattle.ob_rest_laws.proofs.Counting.{owners_add_up}
 use Rattle.ob_rest_laws.proofs.Changing.{same_fields, rests_after}
-use Rattle.ob_invocation_spec.specs.Requests.{disown_request}
-use Rattle.ob_invocation_spec.specs.Handles.{NamedHandle, handle_name, handle_at, without_handle}
-use Rattle.ob_invocation_spec.specs.Checks.{reads_of, with_found}
-use Rattle.ob_invocation_spec.specs.Refusals.{handle_check}
-use Rattle.ob_invocation_spec.specs.Entering.{Meaning}
-use Rattle.ob_invocation_spec.specs.Invocation.{still_world, disowned_world, disown_handle, invoke}
-use Rattle.ob_invocation_laws.specs.Laws.{AreHandles, owners_in, LeavesAtRest}
-use Rattle.ob_invocation_laws.proofs.Following.{of_checks, of_found, is_there}
+use Rattle.ob_invocation_spec.specs.Handles.{NamedHandle, handle_at, without_handle}
+use Rattle.ob_invocation_spec.specs.Invocation.{still_world, disowned_world}
+use Rattle.ob_invocation_laws.specs.Laws.{AreHandles, owners_in}
 use Rattle.ob_invocation_laws.proofs.Owners.{gone_counts}
 
 -- Objects and marks.
@@ -263,15 +258,3 @@ disown_rests table content name h rest are there =
     rests_after table content _ rest
     (goes_quietly table content name h (disowned_world content h).objects rest are there
     (by_mode content h (is_owned h.mode) refl))
-
-pub disown_leaves_at_rest : (meaning : Meaning) (table : ClassTable) (content : Content) (who on : List ℕ) (fuel : ℕ)
-    → IsAtRest table content → AreHandles content.objects content.handles
-    → LeavesAtRest table (invoke meaning table content (record { who = who; operation = disown_request on }) fuel)
-disown_leaves_at_rest meaning table content who on fuel rest are =
-    let name = handle_name who on in
-    of_checks (LeavesAtRest table) content (handle_check content name ∷ [])
-    (λ reads. with_found (handle_at content name) (λ h. disown_handle content name h reads)) (λ refusal reads. rest)
-    (λ passed. of_found (LeavesAtRest table) (handle_at content name)
-    (λ h. disown_handle content name h (reads_of (handle_check content name ∷ [])))
-    (λ lost. absurd (is_there content name [] (handle_at content name) refl passed lost))
-    (λ h there. disown_rests table content name h rest are there))

@@ -1,9 +1,7 @@
 -- A store at rest stays so by a `give`.
-use Rattle.std.proofs.Common.{◌≡◌, ◌∙◌, ◌⊎◌, inl, inr, ℕ, ◌+◌, ◌≤◌, ◌<◌, Bool, true, false, List, [], ◌∷◌, ◌++◌, length, Option, Some, None, refl, sym, ap, subst, arith}
-use Rattle.std.specs.Prelude.{cond, not, ◌&&◌, ◌||◌, nat_eq, nat_lt, nat_le, is_some, is_none, if◌then◌else◌}
+use Rattle.std.proofs.Common.{◌≡◌, ◌∙◌, ◌⊎◌, inl, inr, ℕ, ◌+◌, ◌<◌, Bool, true, false, List, [], ◌∷◌, ◌++◌, Option, Some, None, refl, sym, arith}
+use Rattle.std.specs.Prelude.{not, ◌&&◌, ◌||◌, nat_eq, nat_lt, is_some, if◌then◌else◌}
 use Rattle.std.specs.Ordering.{eq_by_cmp}
-use Rattle.std.specs.FinMap.Entries.{find as find_key}
-use Rattle.std.specs.Option.{option_map_or}
 use Rattle.ob_base.specs.declared.permission.Mode.{Mode}
 use Rattle.ob_base.specs.declared.permission.Mode.TheVariants.{Owned, Shared, Unowned}
 use Rattle.ob_table.specs.Tables.{ClassTable}
@@ -26,7 +24,7 @@ use Rattle.ob_invocation_spec.specs.Invocation.{still_world, giver_after, puts_o
 use Rattle.ob_invocation_spec.specs.Entering.{handle_in}
 use Rattle.ob_invocation_laws.specs.Laws.{AreHandles, owners_in}
 use Rattle.ob_invocation_laws.proofs.Disowning.{neither, some_same}
-use Rattle.ob_invocation_laws.proofs.Handles.{found_put, names_total, put_in_order}
+use Rattle.ob_invocation_laws.proofs.Handles.{found_put, put_in_order}
 use Rattle.ob_invocation_laws.proofs.Owners.{put_counts}
 use Rattle.ob_invocation_laws.proofs.Marking.{Shares, puts_share}
 use Rattle.ob_invocation_laws.proofs.Puts.{found_shared, puts_shared, owners_change}
@@ -202,7 +200,7 @@ module _ (table : ClassTable) (content : Content) (on new : HandleName) (h : Han
   gave n g not =
       let first = rw there at (put_counts n content.handles (on, g) are.order) in
       let second = put_counts n (put_handle content.handles (on, g)) (new, given)
-          (put_in_order content.handles (on, g) are.order) in
+      (put_in_order content.handles (on, g) are.order) in
       omega (arith, first, second, none_owned n g not, new_none n g not)
 
   -- and where it stays
@@ -256,20 +254,20 @@ give_quietly table content on new h Owned rest are there free served =
     same_owners_rest table content (mark_puts (still_world content) puts).objects puts
     (puts_share (still_world content) puts)
     (λ n. (let count = gave table content on new h Owned rest are there free served n
-        (record { object = h.object; mode = Unowned }) refl in
-        let same : owners_in n (Some h) ≡ owners_in n (Some (record { object = h.object; mode = Owned })) =
-            rw (owned_serves h.mode served) refl in
-        omega (arith, count, same)))
+    (record { object = h.object; mode = Unowned }) refl in
+    let same : owners_in n (Some h) ≡ owners_in n (Some (record { object = h.object; mode = Owned })) =
+    rw (owned_serves h.mode served) refl in
+    omega (arith, count, same)))
     (λ n. none_shared (nat_eq h.object n))
 give_quietly table content on new h Shared rest are there free served =
     let puts = giving on new h.object Shared in
     shared_rest table content (mark_puts (still_world content) puts).objects puts
     (puts_share (still_world content) puts) rest on h there (shared_serves h.mode served)
     (λ n. (let count = gave table content on new h Shared rest are there free served n
-        (record { object = h.object; mode = Shared }) refl in
-        let none = none_owned table content on new h Shared rest are there free served n
-            (record { object = h.object; mode = Shared }) refl in
-        omega (arith, count, none)))
+    (record { object = h.object; mode = Shared }) refl in
+    let none = none_owned table content on new h Shared rest are there free served n
+    (record { object = h.object; mode = Shared }) refl in
+    omega (arith, count, none)))
     (λ n. both_shared (nat_eq h.object n))
 give_quietly table content on new h Unowned rest are there free served =
     let puts = giving on new h.object Unowned in

@@ -1,8 +1,7 @@
 -- What marks of sharing leave: objects are as they were but for their marks, and stay objects of their contracts.
-use Rattle.std.proofs.Common.{◌≡◌, ◌∙◌, ℕ, zero, suc, ◌<◌, Bool, true, false, List, [], ◌∷◌, length, Option, Some, None, refl, sym, ap, subst, arith}
-use Rattle.std.specs.Prelude.{cond, ◌&&◌, ◌||◌, nat_eq, slice_get, slice_set, if◌then◌else◌, All, IsSomeAnd, IfSome, is_some}
+use Rattle.std.proofs.Common.{◌≡◌, ◌∙◌, ℕ, zero, suc, Bool, true, false, List, [], ◌∷◌, length, Option, Some, None, refl, sym, ap, subst, arith}
+use Rattle.std.specs.Prelude.{◌&&◌, ◌||◌, nat_eq, slice_get, slice_set, if◌then◌else◌, All, IsSomeAnd, IfSome}
 use Rattle.std.specs.Option.{option_map_or}
-use Rattle.std.specs.List.{list_any}
 use Rattle.std.proofs.lemmas.List.Elements.{All-cons}
 use Rattle.ob_table.specs.Tables.{ClassTable, contract_at}
 use Rattle.ob_table.specs.declared.contract.Contract.{Contract}
@@ -10,7 +9,7 @@ use Rattle.ob_table.specs.declared.contract.Field.{Field}
 use Rattle.ob_table.specs.declared.contract.ResolvedType.{ResolvedType}
 use Rattle.ob_table.specs.declared.contract.ResolvedType.TheVariants.{Int, Bool as BoolKind, Text, Reference}
 use Rattle.ob_heap_spec.specs.Values.{Value, int_value, bool_value, text_value, reference}
-use Rattle.ob_heap_spec.specs.Objects.{Object, has_field}
+use Rattle.ob_heap_spec.specs.Objects.{Object}
 use Rattle.ob_heap_spec.specs.Contents.{object_at, IsObjectOf, IsObject, IsValueOf}
 use Rattle.ob_heap_spec.specs.Worlds.{World, read_object, set_object}
 use Rattle.ob_heap_spec.specs.Marks.{mark_shared}
@@ -133,30 +132,30 @@ put_shares w h = by_mode (is_shared h.1.mode) refl
 -- the marks of one handle, and then of others
 module _ (w v x : List Object) (h : NamedHandle) (puts : List NamedHandle)
     (first : Shares w v (λ n. nat_eq h.1.object n && is_shared h.1.mode)) (rest : Shares v x (is_shared_by_handle puts))
-    where
-  front : (a b : Bool) → (a || b) ≡ false → a ≡ false
-  front true b is = absurd cc
-  front false b is = refl
+  where
+    front : (a b : Bool) → (a || b) ≡ false → a ≡ false
+    front true b is = absurd cc
+    front false b is = refl
 
-  second : (a b : Bool) → (a || b) ≡ false → b ≡ false
-  second true b is = absurd cc
-  second false b is = is
+    second : (a b : Bool) → (a || b) ≡ false → b ≡ false
+    second true b is = absurd cc
+    second false b is = is
 
-  at_one : (n : ℕ) (p : Object) → object_at x n ≡ Some p → (b : Bool)
-      → (nat_eq h.1.object n && is_shared h.1.mode) ≡ b → (b || is_shared_by_handle puts n) ≡ true → p.shared ≡ true
-  at_one n p there true here is =
-      let was = was_there v x n p rest.marked there in
-      let m = was.2 in
-      m.shared (first.these n was.0 here was.1)
-  at_one n p there false here is = rest.these n p is there
+    at_one : (n : ℕ) (p : Object) → object_at x n ≡ Some p → (b : Bool)
+        → (nat_eq h.1.object n && is_shared h.1.mode) ≡ b → (b || is_shared_by_handle puts n) ≡ true → p.shared ≡ true
+    at_one n p there true here is =
+        let was = was_there v x n p rest.marked there in
+        let m = was.2 in
+        m.shared (first.these n was.0 here was.1)
+    at_one n p there false here is = rest.these n p is there
 
-  both_share : Shares w x (is_shared_by_handle (h ∷ puts))
-  both_share = record {
-    marked = all_marked_then w v x first.marked rest.marked;
-    these = λ n p is there. at_one n p there (nat_eq h.1.object n && is_shared h.1.mode) refl is;
-    others = λ n is. rest.others n (second (nat_eq h.1.object n && is_shared h.1.mode) (is_shared_by_handle puts n) is)
-        ∙ first.others n (front (nat_eq h.1.object n && is_shared h.1.mode) (is_shared_by_handle puts n) is);
-  }
+    both_share : Shares w x (is_shared_by_handle (h ∷ puts))
+    both_share = record {
+      marked = all_marked_then w v x first.marked rest.marked;
+      these = λ n p is there. at_one n p there (nat_eq h.1.object n && is_shared h.1.mode) refl is;
+      others = λ n is. rest.others n (second (nat_eq h.1.object n && is_shared h.1.mode) (is_shared_by_handle puts n) is)
+          ∙ first.others n (front (nat_eq h.1.object n && is_shared h.1.mode) (is_shared_by_handle puts n) is);
+    }
 
 -- the marks of handles that are put: each object that a Shared one is on has its mark, the others are as they were
 pub puts_share : (w : World) (puts : List NamedHandle)

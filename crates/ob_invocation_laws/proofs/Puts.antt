@@ -1,22 +1,20 @@
 -- What handles become where some are put: how many there are, which are Shared, and how many owners they carry.
-use Rattle.std.proofs.Common.{◌≡◌, ◌∙◌, ◌⊎◌, inl, inr, ℕ, zero, suc, ◌+◌, ◌≤◌, ◌<◌, Bool, true, false, List, [], ◌∷◌, length, Option, Some, None, refl, sym, ap, subst, arith}
-use Rattle.std.specs.Prelude.{T, cond, not, ◌&&◌, ◌||◌, nat_eq, is_some, is_none, if◌then◌else◌, All, AllPairs}
-use Rattle.std.specs.Ordering.{is_eq, eq_by_cmp}
-use Rattle.std.specs.List.{list_any}
+use Rattle.std.proofs.Common.{◌≡◌, ◌⊎◌, inl, inr, ℕ, ◌+◌, Bool, true, false, List, [], ◌∷◌, length, Some, refl, arith}
+use Rattle.std.specs.Prelude.{cond, ◌&&◌, ◌||◌, nat_eq, is_some, AllPairs}
+use Rattle.std.specs.Ordering.{eq_by_cmp}
 use Rattle.std.specs.declared.cmp.Ordering.{Ordering}
 use Rattle.std.specs.declared.cmp.Ordering.TheVariants.{Less, Equal, Greater}
 use Rattle.std.specs.FinMap.Entries.{find as find_key, length-put, by_order}
 use Rattle.ob_table.specs.Tables.{ClassTable}
 use Rattle.ob_heap_spec.specs.Objects.{Object}
-use Rattle.ob_heap_spec.specs.Contents.{HandleName, Handle, Content, IsHandle, name_order}
+use Rattle.ob_heap_spec.specs.Contents.{HandleName, Handle, Content, name_order}
 use Rattle.ob_rest_spec.specs.Modes.{is_shared}
 use Rattle.ob_rest_spec.specs.Incoming.{owners}
 use Rattle.ob_rest_laws.specs.Laws.{handle_owners, is_shared_by_handle, AreMarkedFrom}
 use Rattle.ob_rest_laws.proofs.Counting.{owners_add_up}
 use Rattle.ob_rest_laws.proofs.Changing.{same_fields}
-use Rattle.ob_invocation_spec.specs.Handles.{NamedHandle, handle_at, put_handle, put_handles}
-use Rattle.ob_invocation_laws.specs.Laws.{AreHandles}
-use Rattle.ob_invocation_laws.proofs.Handles.{names_total, Before, head_of, tail_of, pairs_back}
+use Rattle.ob_invocation_spec.specs.Handles.{NamedHandle, put_handle, put_handles}
+use Rattle.ob_invocation_laws.proofs.Handles.{names_total, Before, pairs_back}
 
 -- How many handles there are.
 

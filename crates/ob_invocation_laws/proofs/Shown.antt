@@ -5,7 +5,6 @@ use Rattle.std.specs.Ordering.{eq_by_cmp}
 use Rattle.std.specs.FinMap.Entries.{find as find_key}
 use Rattle.std.specs.Option.{option_map_or}
 use Rattle.std.specs.List.{enumerate_from, cons_option}
-use Rattle.ob_base.specs.Optional.{◌>>=◌}
 use Rattle.ob_table.specs.Tables.{ClassTable, contract_at}
 use Rattle.ob_table.specs.declared.contract.Contract.{Contract}
 use Rattle.ob_table.specs.declared.contract.Field.{Field}
@@ -16,10 +15,10 @@ use Rattle.ob_heap_spec.specs.Objects.{Object}
 use Rattle.ob_heap_spec.specs.Contents.{HandleName, Handle, Content, IsHandle, IsObject, IsObjectOf, object_at, name_order}
 use Rattle.ob_rest_spec.specs.Modes.{is_owned}
 use Rattle.ob_rest_spec.specs.References.{FieldReference, reference_of, available_value, references_of, field_references}
-use Rattle.ob_rest_spec.specs.Incoming.{StorePlace, stored_field, stored_handle, IncomingReference, incoming_by_field, incoming_by_handle, fields_onto, handles_onto, owner_of}
+use Rattle.ob_rest_spec.specs.Incoming.{IncomingReference, incoming_by_field, incoming_by_handle, fields_onto, handles_onto, owner_of}
 use Rattle.ob_invocation_spec.specs.Handles.{NamedHandle, handle_at}
 use Rattle.ob_invocation_spec.specs.Replies.{ShownPlace, shown_field, shown_handle}
-use Rattle.ob_invocation_spec.specs.Showing.{contract_of_object, shown_at, shown_place, shown_object}
+use Rattle.ob_invocation_spec.specs.Showing.{contract_of_object, shown_at, shown_place}
 use Rattle.ob_invocation_laws.proofs.Handles.{head_of, tail_of}
 use Rattle.ob_invocation_laws.proofs.Marking.{item_of}
 
@@ -183,13 +182,13 @@ owner_is_shown table content n r found lost =
     let fields = fields_onto table content.objects n in
     let handles = handles_onto content.handles n in
     let each = each_append (IsShown table content.objects) (map incoming_by_field fields)
-        (map incoming_by_handle handles)
-        (each_map (InField table content.objects) (IsShown table content.objects) incoming_by_field fields
-        (field_shown table content.objects)
-        (each_filter (InField table content.objects) (λ r. nat_eq r.object n) (field_references table content.objects)
-        (objects_so table content.objects 0 content.objects
-        (λ k o e. ap (object_at content.objects) (let z : 0 + k ≡ k = omega arith in z) ∙ e))))
-        (each_handle table content.objects handles) in
+    (map incoming_by_handle handles)
+    (each_map (InField table content.objects) (IsShown table content.objects) incoming_by_field fields
+    (field_shown table content.objects)
+    (each_filter (InField table content.objects) (λ r. nat_eq r.object n) (field_references table content.objects)
+    (objects_so table content.objects 0 content.objects
+    (λ k o e. ap (object_at content.objects) (let z : 0 + k ≡ k = omega arith in z) ∙ e))))
+    (each_handle table content.objects handles) in
     let shown = each_found (IsShown table content.objects) (λ r. is_owned r.mode)
-        (map incoming_by_field fields ++ map incoming_by_handle handles) r each found in
+    (map incoming_by_field fields ++ map incoming_by_handle handles) r each found in
     absurd (let gone = sym shown.1 ∙ lost in cc)

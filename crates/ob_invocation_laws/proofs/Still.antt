@@ -1,5 +1,5 @@
 -- A request that runs nothing doesn't go wrong, and keeps a store at rest.
-use Rattle.std.proofs.Common.{◌≡◌, ◌∙◌, ℕ, ◌+◌, ◌≤◌, ◌<◌, Bool, true, false, List, [], ◌∷◌, ◌++◌, length, Option, Some, None, refl, sym, ap, subst, arith}
+use Rattle.std.proofs.Common.{◌≡◌, ℕ, ◌+◌, ◌≤◌, ◌<◌, Bool, true, false, List, [], ◌∷◌, ◌++◌, length, Option, Some, None, refl, arith}
 use Rattle.std.specs.Prelude.{cond, not, ◌&&◌, nat_le, is_some, IsTrue, All, AllPairs, filter, slice_get}
 use Rattle.std.specs.Ordering.{eq_by_cmp}
 use Rattle.std.specs.List.{list_all}
@@ -19,8 +19,8 @@ use Rattle.ob_rest_spec.specs.Incoming.{IncomingReference, owner_of}
 use Rattle.ob_rest_spec.specs.AtRest.{IsAtRest, IsStoreAtRest}
 use Rattle.ob_rest_laws.specs.Laws.{AreMarkedFrom}
 use Rattle.ob_invocation_spec.specs.Requests.{Request, HasLabels, Operation, new_request, call_request, disown_request, give_request, see_request, owner_request, names_in, GiveRequest}
-use Rattle.ob_invocation_spec.specs.Replies.{Refusal, refused, ok_shown, ok_place, Invocation, invoked}
-use Rattle.ob_invocation_spec.specs.Handles.{NamedHandle, handle_name, handle_at, are_handles_full, put_handle, put_handles, without_handle, mark_puts}
+use Rattle.ob_invocation_spec.specs.Replies.{ok_shown, ok_place}
+use Rattle.ob_invocation_spec.specs.Handles.{NamedHandle, handle_name, handle_at, put_handle, put_handles, without_handle, mark_puts}
 use Rattle.ob_invocation_spec.specs.Checks.{refusal_of, left_as_it_was}
 use Rattle.ob_invocation_spec.specs.Refusals.{give_checks}
 use Rattle.ob_invocation_spec.specs.Entering.{Meaning, handle_in}
@@ -32,7 +32,7 @@ use Rattle.ob_invocation_laws.proofs.Handles.{Before, puts_keep, put_in_order, w
 use Rattle.ob_invocation_laws.proofs.Disowning.{by_mode, disown_rests}
 use Rattle.ob_invocation_laws.proofs.Marking.{same_length, objects_stay, item_of, all_of, puts_share}
 use Rattle.ob_invocation_laws.proofs.Puts.{length_put}
-use Rattle.ob_invocation_laws.proofs.Giving.{MayGive, may_give, content_with, give_rests}
+use Rattle.ob_invocation_laws.proofs.Giving.{may_give, give_rests}
 use Rattle.ob_invocation_laws.proofs.Shown.{found_object, object_is_shown, owner_is_shown}
 
 -- What a store holds.
@@ -162,10 +162,10 @@ give_keeps table content who r h reads store who_label on to into passed there =
     let puts = puts_of_give who r h in
     let below = found_object content.objects (handle_name who r.on) content.handles h store.is_content.handles there in
     let all = giver_is_handle content.objects (handle_name who r.on) h.object r.mode
-        (handle_in (handle_name r.to r.into) h.object r.mode) who_label on below
-        (record { who = to; name = into; object = below }) in
+    (handle_in (handle_name r.to r.into) h.object r.mode) who_label on below
+    (record { who = to; name = into; object = below }) in
     let few = giver_few content.handles (handle_name who r.on) h.object r.mode
-        (handle_in (handle_name r.to r.into) h.object r.mode) h are.order there in
+    (handle_in (handle_name r.to r.into) h.object r.mode) h are.order there in
     let room = not_full (length content.handles) may.room in
     let marks = puts_share (still_world content) puts in
     store_stays table content (mark_puts (still_world content) puts).objects (put_handles content.handles puts) store

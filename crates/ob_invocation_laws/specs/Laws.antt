@@ -6,7 +6,7 @@ use Rattle.ob_table.specs.Tables.{ClassTable}
 use Rattle.ob_heap_spec.specs.Objects.{Object}
 use Rattle.ob_heap_spec.specs.Contents.{HandleName, Handle, Content, IsHandle, name_order}
 use Rattle.ob_rest_spec.specs.Modes.{is_owned}
-use Rattle.ob_rest_spec.specs.AtRest.{IsAtRest, IsStoreAtRest}
+use Rattle.ob_rest_spec.specs.AtRest.{IsStoreAtRest}
 use Rattle.ob_invocation_spec.specs.Handles.{NamedHandle, handle_at}
 use Rattle.ob_invocation_spec.specs.Requests.{Operation, new_request, call_request}
 use Rattle.ob_invocation_spec.specs.Replies.{Reply, refused, is_ok, Invocation, invoked, goes_wrong}
@@ -54,11 +54,6 @@ found_without content gone name = if eq_by_cmp name_order gone name then None el
 abbrev pub owners_in : ℕ → Option Handle → ℕ
 owners_in n None = 0
 owners_in n (Some h) = if nat_eq h.object n && is_owned h.mode then 1 else 0
-
--- a request doesn't go wrong, and leaves the store at rest
-abbrev pub LeavesAtRest : ClassTable → Invocation → Type 0
-LeavesAtRest table (invoked i) = IsAtRest table i.content
-LeavesAtRest table goes_wrong = ⊥
 
 -- a request doesn't go wrong, and what the store holds after it is at rest
 abbrev pub KeepsStoreAtRest : ClassTable → Invocation → Type 0
