@@ -9,3 +9,4 @@ pub mod Puts
 pub mod Giving
 pub mod Shown
 pub mod Still
+pub mod Kept

@@ -1,6 +1,8 @@
 -- What the laws of the invocation say (this project's own).
-use Rattle.std.specs.Prelude.{ℕ, nat_eq, ◌&&◌, ◌≡◌, Bool, true, false, List, Option, Some, None, All, AllPairs, if◌then◌else◌, ⊤}
+use Rattle.std.specs.Prelude.{ℕ, ◌+◌, nat_eq, not, ◌&&◌, ◌≡◌, Bool, true, false, List, [], ◌∷◌, Option, Some, None, All, AllPairs, if◌then◌else◌, ⊤}
 use Rattle.std.specs.Ordering.{eq_by_cmp}
+use Rattle.std.specs.List.{list_any}
+use Rattle.std.specs.FinMap.Entries.{where_key}
 use Rattle.std.specs.declared.cmp.Ordering.TheVariants.{Less}
 use Rattle.ob_table.specs.Tables.{ClassTable}
 use Rattle.ob_heap_spec.specs.Objects.{Object}
@@ -54,6 +56,19 @@ found_without content gone name = if eq_by_cmp name_order gone name then None el
 abbrev pub owners_in : ℕ → Option Handle → ℕ
 owners_in n None = 0
 owners_in n (Some h) = if nat_eq h.object n && is_owned h.mode then 1 else 0
+
+-- whether a handle is put under a name
+abbrev pub is_put : List NamedHandle → HandleName → Bool
+is_put puts name = list_any (λ p. eq_by_cmp name_order p.0 name) puts
+
+-- the handles under whose names no other one is put
+abbrev pub kept_handles : List NamedHandle → List NamedHandle → List NamedHandle
+kept_handles handles puts = where_key name_order (λ name. not (is_put puts name)) handles
+
+-- how many owners of the object of a number there are in handles that are put, of each name in the last one
+abbrev pub put_owners : List NamedHandle → ℕ → ℕ
+put_owners [] n = 0
+put_owners (p ∷ puts) n = (if is_put puts p.0 then 0 else owners_in n (Some p.1)) + put_owners puts n
 
 -- a request doesn't go wrong, and what the store holds after it is at rest
 abbrev pub KeepsStoreAtRest : ClassTable → Invocation → Type 0
