@@ -10,3 +10,4 @@ pub mod Giving
 pub mod Shown
 pub mod Still
 pub mod Kept
+pub mod Entered
