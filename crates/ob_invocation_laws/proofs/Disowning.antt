@@ -17,14 +17,9 @@ use Rattle.ob_rest_laws.specs.Laws.{is_shared_by_handle, IsMarkedFrom, AreMarked
 use Rattle.ob_rest_laws.proofs.Ways.{fails_by_none}
 use Rattle.ob_rest_laws.proofs.Counting.{owners_add_up}
 use Rattle.ob_rest_laws.proofs.Changing.{same_fields, rests_after}
-use Rattle.ob_invocation_spec.specs.Requests.{disown_request}
-use Rattle.ob_invocation_spec.specs.Handles.{NamedHandle, handle_name, handle_at, without_handle}
-use Rattle.ob_invocation_spec.specs.Checks.{reads_of, with_found}
-use Rattle.ob_invocation_spec.specs.Refusals.{handle_check}
-use Rattle.ob_invocation_spec.specs.Entering.{Meaning}
-use Rattle.ob_invocation_spec.specs.Invocation.{still_world, disowned_world, disown_handle, invoke}
-use Rattle.ob_invocation_laws.specs.Laws.{AreHandles, owners_in, LeavesAtRest}
-use Rattle.ob_invocation_laws.proofs.Following.{of_checks, of_found, is_there}
+use Rattle.ob_invocation_spec.specs.Handles.{NamedHandle, handle_at, without_handle}
+use Rattle.ob_invocation_spec.specs.Invocation.{still_world, disowned_world}
+use Rattle.ob_invocation_laws.specs.Laws.{AreHandles, owners_in}
 use Rattle.ob_invocation_laws.proofs.Owners.{gone_counts}
 
 -- Objects and marks.
@@ -68,7 +63,7 @@ set_elsewhere (q ∷ objects) (suc n) zero p other = refl
 set_elsewhere (q ∷ objects) (suc n) (suc k) p other = set_elsewhere objects n k p (grind arith)
 
 -- reading changes no object
-read_objects : (w : World) (n : ℕ) → (read_object w n).objects ≡ w.objects
+pub read_objects : (w : World) (n : ℕ) → (read_object w n).objects ≡ w.objects
 read_objects w n = either (is_made w n)
   where
     either : (b : Bool) → (if b then w else with_read w (object_item n)).objects ≡ w.objects
@@ -163,7 +158,7 @@ one_or_none n h = by_test (nat_eq h.object n && is_owned h.mode) (owners_in n (S
 -- A `disown`, by what becomes of the objects.
 
 -- only the object of an Owned handle gains a mark, and it does
-record Marks (content : Content) (h : Handle) (after : List Object) : Type 0 where
+pub record Marks (content : Content) (h : Handle) (after : List Object) : Type 0 where
   pub objects : AreMarkedFrom content.objects after
   pub gained : (n : ℕ) (o p : Object) → object_at content.objects n ≡ Some o → object_at after n ≡ Some p
       → is_marked o ≡ false → is_marked p ≡ true → owners_in n (Some h) ≡ 1
@@ -197,7 +192,7 @@ goes_quietly table content name h objects rest are there marks = record {
 no_owner : (a b : Bool) (n : ℕ) → n ≡ (if a && b then 1 else 0) → (a && b) ≡ false → n ≡ 1 → ⊥
 no_owner a b n is fails one = absurd (let none : n ≡ 0 = rw fails at is in omega arith)
 
-neither : (a b : Bool) → b ≡ false → (a && b) ≡ false
+pub neither : (a b : Bool) → b ≡ false → (a && b) ≡ false
 neither true b is = is
 neither false b is = refl
 
@@ -208,7 +203,7 @@ marked_by p is = rw is (either p.shared)
     either true = refl
     either false = refl
 
-some_same : (o p : Object) → Some o ≡ Some p → o ≡ p
+pub some_same : (o p : Object) → Some o ≡ Some p → o ≡ p
 some_same o p same = cc
 
 -- a handle that isn't Owned leaves the objects
@@ -248,7 +243,7 @@ marks_of_owned content h after owns d = record {
   owned = λ n p is one. owned_at h after content.objects d n p is one (nat_eq h.object n) refl;
 }
 
-by_mode : (content : Content) (h : Handle) (b : Bool) → is_owned h.mode ≡ b
+pub by_mode : (content : Content) (h : Handle) (b : Bool) → is_owned h.mode ≡ b
     → Marks content h (if b then mark_disowned h.object (still_world content) else still_world content).objects
 by_mode content h true owns =
     marks_of_owned content h (mark_disowned h.object (still_world content)).objects owns
@@ -263,15 +258,3 @@ disown_rests table content name h rest are there =
     rests_after table content _ rest
     (goes_quietly table content name h (disowned_world content h).objects rest are there
     (by_mode content h (is_owned h.mode) refl))
-
-pub disown_leaves_at_rest : (meaning : Meaning) (table : ClassTable) (content : Content) (who on : List ℕ) (fuel : ℕ)
-    → IsAtRest table content → AreHandles content.objects content.handles
-    → LeavesAtRest table (invoke meaning table content (record { who = who; operation = disown_request on }) fuel)
-disown_leaves_at_rest meaning table content who on fuel rest are =
-    let name = handle_name who on in
-    of_checks (LeavesAtRest table) content (handle_check content name ∷ [])
-    (λ reads. with_found (handle_at content name) (λ h. disown_handle content name h reads)) (λ refusal reads. rest)
-    (λ passed. of_found (LeavesAtRest table) (handle_at content name)
-    (λ h. disown_handle content name h (reads_of (handle_check content name ∷ [])))
-    (λ lost. absurd (is_there content name [] (handle_at content name) refl passed lost))
-    (λ h there. disown_rests table content name h rest are there))

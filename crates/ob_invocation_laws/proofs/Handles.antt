@@ -89,14 +89,14 @@ pairs (h ∷ handles) is =
     let p = all_true (below_all name_order h.0 handles) (is_sorted name_order handles) is in
     AllPairs-cons Before h handles (below h handles p.0) (pairs handles p.1)
 
-pairs_back : (handles : List NamedHandle) → AllPairs Before handles → T (is_sorted name_order handles)
+pub pairs_back : (handles : List NamedHandle) → AllPairs Before handles → T (is_sorted name_order handles)
 pairs_back [] all = tt
 pairs_back (h ∷ handles) all =
     both_true (below_all name_order h.0 handles) (is_sorted name_order handles)
     (below_back h handles (head_before h handles all)) (pairs_back handles (tail_pairs h handles all))
 
 -- a handle that is put keeps the order
-put_in_order : (handles : List NamedHandle) (h : NamedHandle) → AllPairs Before handles
+pub put_in_order : (handles : List NamedHandle) (h : NamedHandle) → AllPairs Before handles
     → AllPairs Before (put_handle handles h)
 put_in_order handles h all =
     pairs (put_handle handles h) (is_sorted-put name_order names_total h.0 h.1 handles (pairs_back handles all))

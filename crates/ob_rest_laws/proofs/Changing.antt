@@ -101,7 +101,7 @@ any_mapped t f q (x ∷ xs) =
     any_one f q x (filter t xs) (t x) ∙ ap (λ rest. (t x && q (f x)) || rest) (any_mapped t f q xs)
 
 -- whether an object is referred to as shared by a field
-is_shared_by_field : ClassTable → List Object → ℕ → Bool
+pub is_shared_by_field : ClassTable → List Object → ℕ → Bool
 is_shared_by_field table objects n =
     list_any (λ r. nat_eq r.object n && is_shared r.perm.mode) (field_references table objects)
 
@@ -113,7 +113,7 @@ unfolding is_shared_by_field
 same_shared_fields table content after n all = rw (same_fields table content.objects after.objects all) refl
 
 -- whether it is referred to as shared is asked of fields and of handles
-shared_places : (table : ClassTable) (content : Content) (n : ℕ)
+pub shared_places : (table : ClassTable) (content : Content) (n : ℕ)
     → list_any (λ r. is_shared r.mode) (incoming_references table content n)
     ≡ (is_shared_by_field table content.objects n || is_shared_by_handle content.handles n)
 unfolding is_shared_by_field
