@@ -4,3 +4,4 @@ pub mod Ending
 pub mod Resting
 pub mod Settling
 pub mod Entries
+pub mod Starting
