@@ -5,3 +5,4 @@ pub mod Resting
 pub mod Settling
 pub mod Entries
 pub mod Starting
+pub mod Firsts
