@@ -6,3 +6,4 @@ pub mod Settling
 pub mod Entries
 pub mod Starting
 pub mod Firsts
+pub mod Whole
