@@ -4,3 +4,6 @@ pub mod Ending
 pub mod Resting
 pub mod Settling
 pub mod Entries
+pub mod Starting
+pub mod Firsts
+pub mod Whole

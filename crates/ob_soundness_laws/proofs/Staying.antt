@@ -44,7 +44,7 @@ use Rattle.ob_coherent_counting_laws.proofs.Objects.{edit_length, edit_keeps, ma
 use Rattle.ob_coherent_counting_laws.proofs.Marking.{Keeps, read_objects, comes_keeps, mark_disowned_keeps}
 use Rattle.ob_soundness_laws.specs.Running.{GoesOrEnds}
 
-below_or_not : (n m : ℕ) → (n < m) ⊎ (m ≤ n)
+pub below_or_not : (n m : ℕ) → (n < m) ⊎ (m ≤ n)
 below_or_not n m = go (nat_le m n) refl
   where
     go : (b : Bool) → nat_le m n ≡ b → (n < m) ⊎ (m ≤ n)
