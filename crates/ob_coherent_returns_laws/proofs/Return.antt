@@ -33,7 +33,7 @@ use Rattle.ob_silica_steps.specs.Cells.{Cell, permission_in}
 use Rattle.ob_silica_steps.specs.Configurations.{SilicaProgram, How, by_receiver, by_this, by_new, SilicaFrame, Rest, Control, runs, leaves, Configuration, NextStep, stuck}
 use Rattle.ob_silica_steps.specs.Here.{here, if_there, self_of, self, read, hand}
 use Rattle.ob_silica_steps.specs.Here.{counted as counts_as}
-use Rattle.ob_silica_steps.specs.Returning.{exits_are_within, leaves_with, gives_none, gives}
+use Rattle.ob_silica_steps.specs.Returning.{exits_are_within, leaves_with, gives_none, gives_result}
 use Rattle.ob_silica_steps.specs.Steps.{act}
 use Rattle.ob_silica_formed.specs.Points.{IsReturnedAs, NamesWhatIsThere}
 use Rattle.ob_flow_spec.specs.Contexts.{BodyFrame, available, Context, with_permission, permission_on, permission_at, is_set, is_held_as, is_owned_asset, is_tested, possible_under, exit_of_field}
@@ -357,7 +357,7 @@ module _ (table : ClassTable) (t : IsClassTable table) (entry : Option ℕ) (beg
 
     say : is_unowned exit ≡ false
     say = has_a_say k.whole.parts.signature.exit.mode (states_of k.whole.parts.signature.exit.states) (made_signature
-        made).gives
+        made).exit_not_unowned
 
     -- `this` owns before, and not after
     owner_before : owns (permission_at k.context this) ≡ true
@@ -547,11 +547,11 @@ pub return_keeps : (program : SilicaProgram) (entry : Option ℕ) (beginning : B
     → StepsSo program.table entry beginning (act program (return_form value) rest outer c)
 return_keeps program entry beginning c value span rest outer checked k so =
     subst (λ y. StepsSo program.table entry beginning (if_there y (λ s.
-    if exits_are_within program.table c s then gives program s s.result (option_map located value) outer c else stuck)))
+    if exits_are_within program.table c s then gives_result program s s.result (option_map located value) outer c else stuck)))
     (sym (signature_from program.table c.frame.contract c.frame.tx k.whole.parts.own k.whole.frame.own
     ∙ k.whole.frame.signature))
     (subst (λ y. StepsSo program.table entry beginning (if y
-    then gives program k.whole.parts.signature k.whole.parts.signature.result (option_map located value) outer c else
+    then gives_result program k.whole.parts.signature k.whole.parts.signature.result (option_map located value) outer c else
     stuck))
     (sym (within program.table checked.table entry beginning c k value span rest outer so))
     (by_result k.whole.parts.signature.result refl value refl returns))
@@ -577,7 +577,7 @@ return_keeps program entry beginning c value span rest outer checked k so =
         → value ≡ v
         → IsReturnedAs (static_of (body_of program.table c.frame k.whole.parts)) k.holdings (option_map kind_of_resolved
         result) v
-        → StepsSo program.table entry beginning (gives program k.whole.parts.signature result (option_map located v)
+        → StepsSo program.table entry beginning (gives_result program k.whole.parts.signature result (option_map located v)
         outer c)
     by_result None e None i r = by_how c.frame.how refl i e
     by_result None e (Some o) i r = absurd r

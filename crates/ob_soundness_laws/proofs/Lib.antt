@@ -1,3 +1,4 @@
+pub mod Keeping
 pub mod Many
 pub mod Staying
 pub mod Ending
