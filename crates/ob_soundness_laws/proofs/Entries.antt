@@ -29,7 +29,7 @@ use Rattle.ob_soundness_laws.proofs.Resting.{Each}
 -- Checks.
 
 -- where no check refuses, none holds
-each_passes : (checks : List Check) → refusal_of checks ≡ None → Each (λ (c : Check). c.holds ≡ false) checks
+pub each_passes : (checks : List Check) → refusal_of checks ≡ None → Each (λ (c : Check). c.holds ≡ false) checks
 each_passes [] e = tt
 each_passes (c ∷ checks) e = go c.holds refl (each_passes checks)
   where
@@ -38,7 +38,7 @@ each_passes (c ∷ checks) e = go c.holds refl (each_passes checks)
     go true is rest = absurd (let z = rw is at e in cc)
     go false is rest = (is, rest (rw is at e))
 
-each_after : {A : Type 0} (P : A → Type 0) (xs ys : List A) → Each P (xs ++ ys) → Each P ys
+pub each_after : {A : Type 0} (P : A → Type 0) (xs ys : List A) → Each P (xs ++ ys) → Each P ys
 each_after P [] ys a = a
 each_after P (x ∷ xs) ys a = each_after P xs ys a.1
 
