@@ -11,3 +11,4 @@ pub mod Shown
 pub mod Still
 pub mod Kept
 pub mod Entered
+pub mod Used
