@@ -1,6 +1,6 @@
 -- What a `new` or a `call` has that isn't refused: none of its checks holds, and each handle that it uses is there.
-use Rattle.std.proofs.Common.{◌≡◌, ◌∙◌, ℕ, suc, ◌+◌, ◌≤◌, ◌<◌, Bool, true, false, List, [], ◌∷◌, ◌++◌, Option, Some, None, refl, sym, ap, subst, arith}
-use Rattle.std.specs.Prelude.{not, nat_eq, zip, is_some, filter_map, option_to_list, if◌then◌else◌, ⊤}
+use Rattle.std.proofs.Common.{◌≡◌, ℕ, Bool, true, false, List, [], ◌∷◌, ◌++◌, Option, Some, None, refl, sym, subst}
+use Rattle.std.specs.Prelude.{not, zip, is_some, filter_map, ⊤}
 use Rattle.std.specs.List.{cons_option}
 use Rattle.ob_base.specs.Optional.{◌>>=◌, where_true}
 use Rattle.ob_base.specs.declared.id.ContractId.{ContractId}
@@ -21,7 +21,7 @@ use Rattle.ob_invocation_spec.specs.Requests.{Argument, int_argument, bool_argum
 use Rattle.ob_invocation_spec.specs.Replies.{no_contract, not_main, no_transaction, arg_count, arg_kind, permission, repeated, into_missing, into_needless, into_taken, handles_full}
 use Rattle.ob_invocation_spec.specs.Handles.{handle_name, handle_at, are_handles_full}
 use Rattle.ob_invocation_spec.specs.Checks.{Check, check, refusal_of}
-use Rattle.ob_invocation_spec.specs.Entries.{HandleUse, Entry, mode_of_result, entry_of_new, used_as_receiver, entry_of_call, used_for, use_of_argument, argument_uses, handle_uses}
+use Rattle.ob_invocation_spec.specs.Entries.{HandleUse, Entry, mode_of_result, entry_of_new, used_as_receiver, entry_of_call, used_for, use_of_argument, handle_uses}
 use Rattle.ob_invocation_spec.specs.Refusals.{handle_check, argument_checks, is_no_contract, is_not_main, is_no_transaction, has_other_count, has_other_kind, lacks_permission, repeats_object, lacks_into, has_needless_into, is_taken, making_checks, into_checks, entry_checks, found_checks, new_checks, call_checks}
 use Rattle.ob_invocation_laws.proofs.Giving.{passes}
 
@@ -163,28 +163,28 @@ pub of_new : (table : ClassTable) (who : List ℕ) (r : NewRequest) (e : Entry) 
     → NewEntry table who r e
 of_new table who r e is =
     let contract = bound (contract_named table.contracts r.contract)
-        (λ contract. constructor_at table contract >>= λ s.
-        Some (record {
-          who = who;
-          contract = contract;
-          tx = record { 0 = 0 };
-          signature = s;
-          receiver = None;
-          given = Some s.exit.mode;
-          args = r.args;
-          into = r.into;
-        })) e is in
+    (λ contract. constructor_at table contract >>= λ s.
+    Some (record {
+      who = who;
+      contract = contract;
+      tx = record { 0 = 0 };
+      signature = s;
+      receiver = None;
+      given = Some s.exit.mode;
+      args = r.args;
+      into = r.into;
+    })) e is in
     let s = bound (constructor_at table contract.0)
-        (λ s. Some (record {
-          who = who;
-          contract = contract.0;
-          tx = record { 0 = 0 };
-          signature = s;
-          receiver = None;
-          given = Some s.exit.mode;
-          args = r.args;
-          into = r.into;
-        })) e contract.2 in
+    (λ s. Some (record {
+      who = who;
+      contract = contract.0;
+      tx = record { 0 = 0 };
+      signature = s;
+      receiver = None;
+      given = Some s.exit.mode;
+      args = r.args;
+      into = r.into;
+    })) e contract.2 in
     record {
       contract = contract.0;
       signature = s.0;

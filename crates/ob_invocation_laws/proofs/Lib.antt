@@ -12,3 +12,4 @@ pub mod Still
 pub mod Kept
 pub mod Entered
 pub mod Used
+pub mod Ended

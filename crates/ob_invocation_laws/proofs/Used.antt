@@ -1,35 +1,30 @@
 -- What handles become where a `new` or a `call` is done: how many owners they carry, and that they are few, and handles.
-use Rattle.std.proofs.Common.{◌≡◌, ◌∙◌, ◌⊎◌, inl, inr, ℕ, zero, suc, ◌+◌, ◌≤◌, ◌<◌, Bool, true, false, List, [], ◌∷◌, ◌++◌, length, Option, Some, None, refl, sym, ap, subst, arith}
-use Rattle.std.specs.Prelude.{cond, not, ◌&&◌, ◌||◌, nat_eq, nat_lt, nat_le, is_some, flat_map, count_by, if◌then◌else◌, IsTrue, All, AllPairs, ⊤}
-use Rattle.std.specs.Ordering.{is_eq, eq_by_cmp}
+use Rattle.std.proofs.Common.{◌≡◌, ◌∙◌, ◌⊎◌, inl, inr, ℕ, ◌+◌, ◌≤◌, Bool, true, false, List, [], ◌∷◌, ◌++◌, Option, Some, None, refl, sym, ap, arith}
+use Rattle.std.specs.Prelude.{cond, not, ◌&&◌, ◌||◌, nat_eq, nat_lt, count_by, if◌then◌else◌, ⊤}
+use Rattle.std.specs.Ordering.{eq_by_cmp}
 use Rattle.std.specs.List.{list_any}
-use Rattle.std.specs.FinMap.Entries.{find as find_key, where_key}
+use Rattle.std.specs.FinMap.Entries.{find as find_key}
 use Rattle.std.proofs.lemmas.List.Recursion.{is_count_by}
-use Rattle.std.proofs.lemmas.List.Sums.{fold-append}
-use Rattle.ob_base.specs.Limits.{most_handles}
-use Rattle.ob_base.specs.Names.{is_label}
 use Rattle.ob_base.specs.declared.permission.Mode.{Mode}
-use Rattle.ob_base.specs.declared.permission.Mode.TheVariants.{Owned, Shared, Unowned}
+use Rattle.ob_base.specs.declared.permission.Mode.TheVariants.{Shared}
 use Rattle.ob_table.specs.Tables.{ClassTable}
 use Rattle.ob_heap_spec.specs.Values.{Value, int_value, bool_value, text_value, reference}
-use Rattle.ob_heap_spec.specs.Objects.{Object}
-use Rattle.ob_heap_spec.specs.Contents.{HandleName, Handle, Content, IsHandle, name_order}
+use Rattle.ob_heap_spec.specs.Contents.{HandleName, Handle, Content, name_order}
 use Rattle.ob_rest_spec.specs.Modes.{is_owned, is_shared}
 use Rattle.ob_rest_laws.specs.Laws.{handle_owners}
-use Rattle.ob_invocation_spec.specs.Handles.{NamedHandle, handle_name, handle_at, put_handle, put_handles, are_handles_full}
+use Rattle.ob_invocation_spec.specs.Handles.{NamedHandle, handle_name, handle_at, put_handles}
 use Rattle.ob_invocation_spec.specs.Entries.{HandleUse, Entry, handle_uses}
-use Rattle.ob_invocation_spec.specs.Refusals.{times_used, is_repeated, repeats_object}
+use Rattle.ob_invocation_spec.specs.Refusals.{times_used, is_repeated}
 use Rattle.ob_invocation_spec.specs.Entering.{handle_in, put_after_use, put_given, put_into, puts_after}
 use Rattle.ob_invocation_laws.specs.Laws.{AreHandles, owners_in, is_put, kept_handles, put_owners, returned_owners, puts_of_uses}
 use Rattle.ob_invocation_laws.proofs.Disowning.{neither}
-use Rattle.ob_invocation_laws.proofs.Handles.{Before, head_of, tail_of, found_put, puts_keep, put_in_order}
 use Rattle.ob_invocation_laws.proofs.Kept.{one_name_tested, puts_count}
 use Rattle.ob_invocation_laws.proofs.Entered.{MayEnter, AreFound}
 
 -- What becomes of the handle of a use.
 
 -- a use leaves its handle, or changes its mode: to one that owns only where it was used as the owner
-use_put : (u : HandleUse) → (put_after_use u ≡ [])
+pub use_put : (u : HandleUse) → (put_after_use u ≡ [])
     ⊎ ((m : Mode) × (put_after_use u ≡ handle_in u.name u.handle.object m ∷ [])
     × ((is_owned u.entry.mode ≡ true) ⊎ (is_owned m ≡ false)))
 use_put u = go (is_owned u.handle.mode) (is_owned u.entry.mode) (is_shared u.entry.mode) refl
@@ -148,14 +143,14 @@ uses_count content (u ∷ uses) more n found once new =
       | inl is ↦ rw is (omega (arith, rest))
       | inr some ↦ rw some.1 (
           let first = last_of (is_put (puts_of_uses uses ++ more) u.name)
-              (owners_in n (Some (record { object = u.handle.object; mode = some.0 })))
-              (elim some.2 [
-                | inl owns ↦ inl (any_append (puts_of_uses uses) more u.name
-                    ∙ neither_put (is_put (puts_of_uses uses) u.name) (is_put more u.name)
-                    (not_put content u.name u.handle uses found.0 found.1 (once.0 owns))
-                    (new u.name u.handle found.0))
-                | inr other ↦ inr (rw (neither (nat_eq u.handle.object n) (is_owned some.0) other) refl)
-              ]) in
+          (owners_in n (Some (record { object = u.handle.object; mode = some.0 })))
+          (elim some.2 [
+            | inl owns ↦ inl (any_append (puts_of_uses uses) more u.name
+                ∙ neither_put (is_put (puts_of_uses uses) u.name) (is_put more u.name)
+                (not_put content u.name u.handle uses found.0 found.1 (once.0 owns))
+                (new u.name u.handle found.0))
+            | inr other ↦ inr (rw (neither (nat_eq u.handle.object n) (is_owned some.0) other) refl)
+          ]) in
           omega (arith, rest, first))
     ]
   where
@@ -244,7 +239,7 @@ kept_same (g ∷ handles) puts p none =
     by_test true is found rest = absurd cc
     by_test false is found rest =
         let test : is_put (puts ++ p ∷ []) g.0 ≡ is_put puts g.0 =
-            any_append puts (p ∷ []) g.0 ∙ ap (λ b. is_put puts g.0 || (b || false)) is ∙ same_test (is_put puts g.0) in
+        any_append puts (p ∷ []) g.0 ∙ ap (λ b. is_put puts g.0 || (b || false)) is ∙ same_test (is_put puts g.0) in
         (λ i. cond (not (test i)) (g ∷ rest found i) (rest found i))
 
 -- Owners that handles carry where a `new` or a `call` is done.
@@ -264,7 +259,7 @@ owners_after table content e result n are found may =
     let uses = puts_of_uses (handle_uses content e) in
     let all = puts_count n content.handles (puts_after content e result) are.order in
     let puts = uses_count content (handle_uses content e) (put_into e result) n found (once_used table content e may)
-        (into_new table content e result may) in
+    (into_new table content e result may) in
     let kept = ap (λ hs. handle_owners hs n) (kept_as (into_put e result)) in
     omega (arith, all, puts, kept)
   where
