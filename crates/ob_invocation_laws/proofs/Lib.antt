@@ -13,3 +13,4 @@ pub mod Kept
 pub mod Entered
 pub mod Used
 pub mod Ended
+pub mod Lent
