@@ -147,7 +147,7 @@ pub record NewEntry (table : ClassTable) (who : List ℕ) (r : NewRequest) (e : 
   }
 
 -- a thing that something follows from is there
-bound : {A B : Type 0} (x : Option A) (f : A → Option B) (b : B) → (x >>= f) ≡ Some b
+pub bound : {A B : Type 0} (x : Option A) (f : A → Option B) (b : B) → (x >>= f) ≡ Some b
     → (a : A) × (x ≡ Some a) × (f a ≡ Some b)
 bound None f b is = absurd cc
 bound (Some a) f b is = (a, refl, is)
@@ -156,7 +156,7 @@ tested : {A : Type 0} (t : Bool) (x y : A) → where_true t x ≡ Some y → (t 
 tested true x y is = (refl, let same : y ≡ x = cc in same)
 tested false x y is = absurd cc
 
-some_one : {A : Type 0} (x y : A) → Some x ≡ Some y → y ≡ x
+pub some_one : {A : Type 0} (x y : A) → Some x ≡ Some y → y ≡ x
 some_one x y is = cc
 
 pub of_new : (table : ClassTable) (who : List ℕ) (r : NewRequest) (e : Entry) → entry_of_new table who r ≡ Some e

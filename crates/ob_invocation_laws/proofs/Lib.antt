@@ -14,3 +14,4 @@ pub mod Entered
 pub mod Used
 pub mod Ended
 pub mod Lent
+pub mod Arguments
