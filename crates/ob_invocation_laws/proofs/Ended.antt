@@ -156,12 +156,12 @@ uses_few handles (u ∷ uses) order named = elim (use_put u) [
 
 -- handles stay as few as there may be
 pub few_after : (table : ClassTable) (content : Content) (e : Entry) (result : Option Value)
-    → AreHandles content.objects content.handles → AreFound content (handle_uses content e) → MayEnter table content e
+    → AllPairs Before content.handles → AreFound content (handle_uses content e) → MayEnter table content e
     → length content.handles ≤ most_handles
     → length (put_handles content.handles (puts_after content e result)) ≤ most_handles
-few_after table content e result are found may few =
+few_after table content e result order found may few =
     let uses = puts_of_uses (handle_uses content e) in
-    let same = uses_few content.handles (handle_uses content e) are.order
+    let same = uses_few content.handles (handle_uses content e) order
     (named_first content (handle_uses content e) found) in
     let apart = fold-append put_handle content.handles uses (put_into e result) in
     elim (into_put e result) [
@@ -209,5 +209,5 @@ store_after table content e result w store found may who label objects longer fe
       };
       at_rest = rest;
       few_objects = omega (arith, same, few);
-      few_handles = few_after table content e result before found may store.few_handles;
+      few_handles = few_after table content e result before.order found may store.few_handles;
     }

@@ -1,5 +1,5 @@
 -- Handles that are lent while a `new` or a `call` runs: those that its uses change. The others are kept.
-use Rattle.std.proofs.Common.{◌≡◌, ◌∙◌, ℕ, zero, suc, ◌+◌, ◌≤◌, ◌<◌, Bool, true, false, List, [], ◌∷◌, ◌++◌, Option, Some, None, refl, sym, ap, subst, arith}
+use Rattle.std.proofs.Common.{◌≡◌, ◌∙◌, ℕ, zero, suc, ◌+◌, ◌≤◌, ◌<◌, Bool, true, false, List, [], ◌∷◌, Option, Some, None, refl, sym, ap, subst, arith}
 use Rattle.std.specs.Prelude.{cond, not, ◌&&◌, ◌||◌, nat_eq, slice_get, option_to_list, if◌then◌else◌, AllPairs}
 use Rattle.std.specs.Ordering.{is_eq, eq_by_cmp, ordering_reverse}
 use Rattle.std.specs.Option.{option_map_or}
@@ -26,6 +26,7 @@ use Rattle.ob_invocation_laws.proofs.Owners.{counted}
 use Rattle.ob_invocation_laws.proofs.Marking.{item_of}
 use Rattle.ob_invocation_laws.proofs.Kept.{one_name_tested}
 use Rattle.ob_invocation_laws.proofs.Entered.{MayEnter, AreFound}
+use Rattle.ob_invocation_laws.proofs.Used.{any_append}
 
 -- Marks that are there already.
 
@@ -213,17 +214,6 @@ changed_put u = go (is_owned u.handle.mode && is_owned u.entry.mode) (is_shared 
     go false true = refl
     go false false = refl
 
-put_of_both : (puts more : List NamedHandle) (name : HandleName)
-    → is_put (puts ++ more) name ≡ (is_put puts name || is_put more name)
-put_of_both [] more name = refl
-put_of_both (p ∷ puts) more name =
-    under (eq_by_cmp name_order p.0 name) (is_put (puts ++ more) name) (is_put puts name) (is_put more name)
-    (put_of_both puts more name)
-  where
-    under : (a b c d : Bool) → b ≡ (c || d) → (a || b) ≡ ((a || c) || d)
-    under true b c d same = refl
-    under false b c d same = same
-
 -- the names of the uses that change their handles are those under which handles are put
 pub use_is_put : (uses : List HandleUse) (k : ℕ) (u : HandleUse) → slice_get uses k ≡ Some u → changes u ≡ true
     → is_put (puts_of_uses uses) u.name ≡ true
@@ -238,7 +228,7 @@ use_is_put (v ∷ uses) zero u there is =
     here : changes v ≡ true → is_put (puts_of_uses (v ∷ uses)) v.name ≡ true
     here is = rw (changed_put v, is, tied) refl
 use_is_put (v ∷ uses) (suc k) u there is =
-    put_of_both (put_after_use v) (puts_of_uses uses) u.name
+    any_append (put_after_use v) (puts_of_uses uses) u.name
     ∙ later (is_put (put_after_use v) u.name) (is_put (puts_of_uses uses) u.name) (use_is_put uses k u there is)
   where
     later : (a b : Bool) → b ≡ true → (a || b) ≡ true
@@ -322,7 +312,7 @@ put_by_use content (u ∷ uses) name found put =
         || is_put (puts_of_uses uses) name) ≡ true
     parts put =
         ap (λ puts. is_put puts name || is_put (puts_of_uses uses) name) (sym (changed_put u))
-        ∙ sym (put_of_both (put_after_use u) (puts_of_uses uses) name) ∙ put
+        ∙ sym (any_append (put_after_use u) (puts_of_uses uses) name) ∙ put
 
     by_change : (a b : Bool) → changes u ≡ a → eq_by_cmp name_order u.name name ≡ b
         → (is_put (if a then handle_in u.name u.handle.object (mode_after u) ∷ [] else []) name

@@ -15,3 +15,4 @@ pub mod Used
 pub mod Ended
 pub mod Lent
 pub mod Arguments
+pub mod Keeping

@@ -97,7 +97,8 @@ none_repeated all (u ∷ uses) none fewer =
 
 -- Owners in what handles become.
 
-any_append : (puts more : List NamedHandle) (name : HandleName)
+-- a handle is put in one of two lists
+pub any_append : (puts more : List NamedHandle) (name : HandleName)
     → is_put (puts ++ more) name ≡ (is_put puts name || is_put more name)
 any_append [] more name = refl
 any_append (p ∷ puts) more name =
