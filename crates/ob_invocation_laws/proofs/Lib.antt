@@ -11,3 +11,8 @@ pub mod Shown
 pub mod Still
 pub mod Kept
 pub mod Entered
+pub mod Used
+pub mod Ended
+pub mod Lent
+pub mod Arguments
+pub mod Keeping

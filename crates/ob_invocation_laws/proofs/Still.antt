@@ -86,7 +86,7 @@ first_label name names all = both (is_label name) (list_all is_label names) all
 -- `disown`.
 
 -- fewer are left
-length_left : (test : NamedHandle → Bool) (handles : List NamedHandle) → length (filter test handles) ≤ length handles
+pub length_left : (test : NamedHandle → Bool) (handles : List NamedHandle) → length (filter test handles) ≤ length handles
 length_left test handles =
     let both = length-filter_both test (λ h. not (test h)) (λ h. refl) handles in omega (arith, both)
 
@@ -144,7 +144,7 @@ giver_is_handle objects name n Shared put who label below is =
 giver_is_handle objects name n Unowned put who label below is = only objects put is
 
 -- how many handles there are once the giver's has changed, and one was made
-giver_few : (handles : List NamedHandle) (name : HandleName) (n : ℕ) (mode : Mode) (put : NamedHandle) (h : Handle)
+pub giver_few : (handles : List NamedHandle) (name : HandleName) (n : ℕ) (mode : Mode) (put : NamedHandle) (h : Handle)
     → AllPairs Before handles → find_key name_order name handles ≡ Some h
     → length (put_handles handles (giver_after name n mode ++ put ∷ [])) ≤ length handles + 1
 giver_few handles name n Owned put h order there = changed_and_one handles (handle_in name n Unowned) put h order there

@@ -1,9 +1,10 @@
 -- What the laws of the invocation say (this project's own).
-use Rattle.std.specs.Prelude.{ℕ, ◌+◌, nat_eq, not, ◌&&◌, ◌≡◌, Bool, true, false, List, [], ◌∷◌, Option, Some, None, All, AllPairs, flat_map, if◌then◌else◌, ⊤}
+use Rattle.std.specs.Prelude.{ℕ, ◌+◌, ◌≤◌, length, nat_eq, not, ◌&&◌, ◌≡◌, Bool, true, false, List, [], ◌∷◌, Option, Some, None, All, AllPairs, flat_map, if◌then◌else◌, ⊤}
 use Rattle.std.specs.Ordering.{eq_by_cmp}
 use Rattle.std.specs.List.{list_any}
 use Rattle.std.specs.FinMap.Entries.{where_key}
 use Rattle.std.specs.declared.cmp.Ordering.TheVariants.{Less}
+use Rattle.ob_base.specs.Limits.{most_handles}
 use Rattle.ob_table.specs.Tables.{ClassTable}
 use Rattle.ob_heap_spec.specs.Objects.{Object}
 use Rattle.ob_heap_spec.specs.Contents.{HandleName, Handle, Content, IsHandle, name_order}
@@ -86,3 +87,13 @@ puts_of_uses uses = flat_map put_after_use uses
 abbrev pub KeepsStoreAtRest : ClassTable → Invocation → Type 0
 KeepsStoreAtRest table (invoked i) = IsStoreAtRest table i.content
 KeepsStoreAtRest table goes_wrong = ⊥
+
+-- handles are few, and stand in the order of their names, each once
+pub record AreKeptInOrder (handles : List NamedHandle) : Type 0 where
+  pub order : AllPairs (λ a b. name_order a.0 b.0 ≡ Less) handles
+  pub few : length handles ≤ most_handles
+
+-- so do those after a request
+abbrev pub KeepsHandles : Invocation → Type 0
+KeepsHandles (invoked i) = AreKeptInOrder i.content.handles
+KeepsHandles goes_wrong = ⊤

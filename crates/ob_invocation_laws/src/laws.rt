@@ -9,7 +9,7 @@ ghost use Rattle.ob_invocation_spec.specs.Requests.{Request, HasLabels};
 ghost use Rattle.ob_invocation_spec.specs.Handles.{NamedHandle, handle_at, put_handle, put_handles, without_handle};
 ghost use Rattle.ob_invocation_spec.specs.Entering.{Meaning};
 ghost use Rattle.ob_invocation_spec.specs.Invocation.{invoke};
-ghost use Rattle.ob_invocation_laws.specs.Laws.{LeavesUnlessDone, TakesNothingIfRefused, TakesNothing, runs, AreHandles, found_after_put, found_without, owners_in, KeepsStoreAtRest};
+ghost use Rattle.ob_invocation_laws.specs.Laws.{LeavesUnlessDone, TakesNothingIfRefused, TakesNothing, runs, AreHandles, found_after_put, found_without, owners_in, KeepsStoreAtRest, AreKeptInOrder, KeepsHandles};
 
 /// A request that is refused or aborted leaves what the store holds.
 pub fn only_done_requests_change_the_store()
@@ -60,4 +60,11 @@ pub fn still_requests_keep_rest()
     ensures { (meaning : Meaning) (table : ClassTable) (content : Content) (request : Request) (fuel : ℕ)
         → IsStoreAtRest table content → HasLabels request → runs request.operation ≡ false
         → KeepsStoreAtRest table (invoke meaning table content request fuel) }
+{}
+
+/// However a request is answered, the handles after it stand in the order of their names, each once, and are no more than
+/// there may be, if they were so before it.
+pub fn requests_keep_handles_few()
+    ensures { (meaning : Meaning) (table : ClassTable) (content : Content) (request : Request) (fuel : ℕ)
+        → AreKeptInOrder content.handles → KeepsHandles (invoke meaning table content request fuel) }
 {}
