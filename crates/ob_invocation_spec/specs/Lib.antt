@@ -1,0 +1,10 @@
+pub mod Requests
+pub mod Replies
+pub mod Handles
+pub mod Entries
+pub mod Checks
+pub mod Refusals
+pub mod Entering
+pub mod Showing
+pub mod Invocation
+pub mod SourceInvocation

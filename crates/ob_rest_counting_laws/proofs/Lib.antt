@@ -1,0 +1,4 @@
+pub mod Lists
+pub mod Fields
+pub mod Handles
+pub mod Ending

@@ -1,0 +1,4 @@
+pub mod Ways
+pub mod OneOwner
+pub mod FirstFailing
+pub mod Owner

@@ -1,0 +1,29 @@
+//! Laws of a store at rest.
+ghost use Rattle.std.specs.Prelude.{◌≡◌, ◌↔◌, ℕ, slice_get, None};
+ghost use Rattle.ob_table.specs.Tables.{ClassTable};
+ghost use Rattle.ob_heap_spec.specs.Contents.{Content};
+ghost use Rattle.ob_rest_spec.specs.Incoming.{owning_places, owner_of};
+ghost use Rattle.ob_rest_spec.specs.AtRest.{IsAtRest, first_failing_object, EachAssetHasOneOwner};
+ghost use Rattle.ob_rest_laws.specs.Laws.{FailsInNoWay};
+
+/// A store is at rest exactly where each of its objects fails in none of the six ways.
+pub fn at_rest_is_asked_way_by_way()
+    ensures { (table : ClassTable) (content : Content) → IsAtRest table content ↔ FailsInNoWay table content }
+{}
+
+/// In a store at rest each asset that is marked neither as shared nor as disowned has exactly one owner.
+pub fn assets_have_one_owner()
+    ensures { (table : ClassTable) (content : Content) → IsAtRest table content → EachAssetHasOneOwner table content }
+{}
+
+/// A store is at rest exactly where no object is the first that fails.
+pub fn first_failing_object_is_told()
+    ensures { (table : ClassTable) (content : Content)
+        → (first_failing_object table content ≡ None) ↔ IsAtRest table content }
+{}
+
+/// The owner of an object is the first of its owning places; it has none where there are none.
+pub fn owner_is_first_owning_place()
+    ensures { (table : ClassTable) (content : Content) (n : ℕ)
+        → owner_of table content n ≡ slice_get (owning_places table content n) 0 }
+{}
