@@ -112,7 +112,7 @@ module _ (table : ClassTable) (made : IsClassTable table) (entry : Option ℕ) (
   called_constructions m =
       let e = constructing_below m c (left_waiting c b rest outer result loans) refl self_left in omega (arith, e)
 
-  locked_same : w.locked ≡ c.world.locked
+  pub locked_same : w.locked ≡ c.world.locked
   locked_same = locked ∙ binds.stays.locked
 
   -- Frames that wait.
@@ -181,18 +181,18 @@ module _ (table : ClassTable) (made : IsClassTable table) (entry : Option ℕ) (
       (λ m. tests_of m callee.slots []) (left_waiting c b rest outer result loans))
       (same_parts : waiting.parts ≡ k.whole.parts)
       (entered : (m : ℕ) → entries m d ≡ times m w.progress) (once : (m : ℕ) → entries m d ≤ 1) where
-    needs_before : (m : ℕ) → NeedsOwner table w.objects m → NeedsOwner table b.from.world.objects m
+    pub needs_before : (m : ℕ) → NeedsOwner table w.objects m → NeedsOwner table b.from.world.objects m
     needs_before m must = subst (λ os. NeedsOwner table os m) objects must
 
-    was_needed : (m : ℕ) → NeedsOwner table w.objects m → NeedsOwner table c.world.objects m
+    pub was_needed : (m : ℕ) → NeedsOwner table w.objects m → NeedsOwner table c.world.objects m
     was_needed m must = called_near.needs m
         (let e = ap (λ (os : List Object). length os) objects in let same = binds.stays.count in let low = must.there in
         omega (arith, e, same, low)) must
 
-    shared_as : (m : ℕ) → (nth_object w.objects m).shared ≡ (nth_object b.from.world.objects m).shared
+    pub shared_as : (m : ℕ) → (nth_object w.objects m).shared ≡ (nth_object b.from.world.objects m).shared
     shared_as m = ap (λ os. (nth_object os m).shared) objects
 
-    pub called_whole : Holds table entry beginning d
+    abbrev pub called_whole : Holds table entry beginning d
     called_whole = record {
       one_owner = λ m. let less = called_fewer m in let most = k.whole.one_owner m in omega (arith, less, most);
       disowned = λ m yes no.

@@ -11,3 +11,4 @@ pub mod Beginning
 pub mod Passing
 pub mod Untested
 pub mod Stepping
+pub mod Receiving
