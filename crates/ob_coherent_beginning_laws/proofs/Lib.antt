@@ -1,3 +1,4 @@
 pub mod Lists
 pub mod Rests
 pub mod Totals
+pub mod Stored
