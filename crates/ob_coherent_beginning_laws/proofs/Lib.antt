@@ -2,3 +2,4 @@ pub mod Lists
 pub mod Rests
 pub mod Totals
 pub mod Stored
+pub mod Passed
