@@ -3,3 +3,4 @@ pub mod Rests
 pub mod Totals
 pub mod Stored
 pub mod Passed
+pub mod Checked
