@@ -4,3 +4,5 @@ pub mod Totals
 pub mod Stored
 pub mod Passed
 pub mod Checked
+pub mod Whole
+pub mod Call

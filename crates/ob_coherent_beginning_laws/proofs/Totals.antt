@@ -151,7 +151,7 @@ module _ (n : ℕ) where
       let x : nat_lt 1 (uses_of n us) ≡ false = ap (nat_lt 1) (sym y) ∙ z in
       grind (arith, x)
 
-use_at : (table : ClassTable) (content : Content) (entry : Option ℕ) (us : List HandleUse) (k : ℕ) (u : HandleUse)
+pub use_at : (table : ClassTable) (content : Content) (entry : Option ℕ) (us : List HandleUse) (k : ℕ) (u : HandleUse)
     → AreUses table content entry us → slice_get us k ≡ Some u → IsUse table content entry u
 use_at table content entry [] k u all e = absurd (cc)
 use_at table content entry (v ∷ us) zero u all e = subst (IsUse table content entry) (same_Some v u e) all.0
