@@ -6,3 +6,4 @@ pub mod Passed
 pub mod Checked
 pub mod Whole
 pub mod Call
+pub mod CallBegins
