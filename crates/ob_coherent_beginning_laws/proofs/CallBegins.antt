@@ -45,6 +45,7 @@ use Rattle.ob_invocation_spec.specs.Refusals.{entry_checks, use_serves, receiver
 use Rattle.ob_invocation_spec.specs.Entering.{is_outside_use, first_outside_use, is_locked_at_entry, with_entry_lock, entry_world}
 use Rattle.ob_coherent_beginning_laws.specs.Uses.{note_of, handle_notes, locked_at_entry, sharing_uses, AreUses}
 use Rattle.ob_coherent_beginning_laws.specs.Marked.{AreMarked}
+use Rattle.ob_coherent_beginning_laws.specs.Starts.{call_beginning, CallStarts}
 use Rattle.ob_coherent_beginning_laws.specs.Passed.{ArePassed, uses_in}
 use Rattle.ob_coherent_beginning_laws.proofs.Lists.{find_none}
 use Rattle.ob_coherent_beginning_laws.proofs.Passed.{passed_many, passed_newly, passed_marks, passed_marked}
@@ -215,11 +216,122 @@ named_is table is id own name tx s ec class some found es zero_is =
         let p = position-Some (λ (z : Signature). bytes_eq name z.name) own.transactions k s i in
         ap (λ (z : Signature). bytes_eq name z.name) (sym (get_or_from_slice_get own.transactions k s s at_k)) ∙ p.1
 
--- What a call from outside comes to: its receiver is a handle's object, and it begins coherently or aborts.
-pub CallStarts : SilicaProgram → Content → ℕ → Entry → Type 0
-CallStarts program content fuel e =
-    (u : HandleUse) × (e.receiver ≡ Some u)
-    × StepsSo program.table (locked_at_entry e.receiver)
-    (record { contract = e.contract; tx = e.tx; how = by_receiver; from = 0; values = reference u.handle.object ∷ values_of content e })
-    (started_call program e.contract e.tx u.handle.object (values_of content e)
-    (first_notes program.table content.objects (handle_notes content e)) (entry_world content fuel e))
+-- A call of a handle's object, by its parts.
+
+-- what it enters
+abbrev pub entered : List ℕ → CallRequest → Handle → Object → TxId → Signature → Entry
+entered who r h o tx s = record {
+  who = who;
+  contract = o.contract;
+  tx = tx;
+  signature = s;
+  receiver = Some (used_as_receiver (handle_name who r.on) h o.contract s);
+  given = mode_of_result s.result;
+  args = r.args;
+  into = r.into;
+}
+
+module _ (program : SilicaProgram) (is : IsCheckedProgram program) (content : Content)
+    (rest : IsStoreAtRest program.table content) (who : List ℕ) (r : CallRequest) (named : r.tx ≢ []) (h : Handle)
+    (eh : handle_at content (handle_name who r.on) ≡ Some h) (o : Object) (eo : object_at content.objects h.object ≡ Some o)
+    (own : Contract) (ec : contract_at program.table o.contract ≡ Some own) (tx : TxId)
+    (et : transaction_named own r.tx ≡ Some tx) (s : Signature) (es : signature_at own tx ≡ Some s)
+    (public : s.private ≡ false)
+    (passed : refusal_of (entry_checks program.table content (entered who r h o tx s)) ≡ None)
+    (inside : first_outside_use program.table content (entered who r h o tx s) ≡ None) where
+  abbrev e : Entry
+  e = entered who r h o tx s
+
+  abbrev u : HandleUse
+  u = used_as_receiver (handle_name who r.on) h o.contract s
+
+  abbrev arg_uses : List (Option HandleUse)
+  arg_uses = uses_for program.table content who s.params r.args
+
+  abbrev xs : List (Option HandleUse)
+  xs = Some u ∷ arg_uses
+
+  ok : IsAllowed program.table content (entered who r h o tx s)
+  ok = allowed program.table content (entered who r h o tx s) passed
+
+  uses_same : handle_uses content (entered who r h o tx s) ≡ uses_in xs
+  uses_same = ap (λ us. u ∷ us) (uses_are program.table content who s.params r.args)
+
+  object_is : (h.object < length content.objects) × (nth_object content.objects h.object ≡ o)
+  object_is = object_found content.objects h.object o eo
+
+  class : own.interface ≡ false
+  class = (there_so (contract_at program.table o.contract) (λ c. IsObjectOf content.objects c o) own ec
+      (each_at (IsObject program.table content.objects) content.objects h.object o rest.is_content.objects eo)).contract
+
+  other : tx.0 ≢ 0
+  other = named_is program.table is.table o.contract own r.tx tx s ec class named et es
+
+  no_list : s.listed ≡ []
+  no_list = (transaction_is program.table own (contract_is program.table is.table o.contract own ec) tx s (inr other) es).private public
+
+  all_passed : ArePassed program.table content.objects (reference h.object ∷ values_of content (entered who r h o tx s))
+      (this_parameter o.contract s ∷ parameters s) xs
+  all_passed = (
+    (refl, refl, object_is.0, subst (λ (z : Object). serves_as program.table (Reference o.contract) (Reference z.contract) ≡ true)
+        (sym object_is.1) (serves_itself program.table (Reference o.contract))),
+    args_passed program.table content who s.params r.args ok.count ok.kinds,
+  )
+
+  outside : list_any (is_outside_use program.table content.objects) (uses_in xs) ≡ false
+  outside = ap (list_any (is_outside_use program.table content.objects)) (sym uses_same)
+      ∙ find_none (is_outside_use program.table content.objects) (handle_uses content (entered who r h o tx s)) inside
+
+  used : AreUses program.table content (locked_at_entry (Some u)) (uses_in xs)
+  used =
+      let states = or_parts (is_outside_use program.table content.objects u)
+          (list_any (is_outside_use program.table content.objects) (uses_in arg_uses)) outside in
+      (receiver_used program.table content rest (locked_at_entry (Some u)) u eh
+      (and_parts (receiver_serves u) true ok.receiver).0 states.0 refl,
+      arguments_used program.table content rest (locked_at_entry (Some u)) who s.params r.args
+      (ap (list_all use_serves) (sym (uses_are program.table content who s.params r.args)) ∙ ok.args) states.1)
+
+  once : list_any (is_repeated (uses_in xs)) (uses_in xs) ≡ false
+  once = subst (λ us. list_any (is_repeated us) us ≡ false) uses_same ok.once
+
+  pub parts_begin : (fuel : ℕ) → CallStarts program content fuel (entered who r h o tx s)
+  parts_begin fuel = (u, refl, subst (λ us. StepsSo program.table (locked_at_entry (Some u))
+      (call_beginning content (entered who r h o tx s) h.object)
+      (started_call program o.contract tx h.object (values_of content (entered who r h o tx s))
+      (first_notes program.table content.objects (map (note_of us) content.handles))
+      (entry_world content fuel (entered who r h o tx s)))) (sym uses_same)
+      (call_starts program is content rest u (locked_at_entry (Some u)) refl h.object object_is.0 o.contract tx own s
+      (values_of content (entered who r h o tx s)) xs all_passed used once
+      (ap (λ (z : Object). z.contract) object_is.1) ec class es other no_list fuel))
+
+-- A call that is found, isn't refused and passes the entry test begins coherently, or aborts.
+pub call_begins : (program : SilicaProgram) → IsCheckedProgram program → (content : Content)
+    → IsStoreAtRest program.table content → (who : List ℕ) (r : CallRequest) (e : Entry) → r.tx ≢ []
+    → entry_of_call program.table content who r ≡ Some e → refusal_of (entry_checks program.table content e) ≡ None
+    → first_outside_use program.table content e ≡ None → (fuel : ℕ) → CallStarts program content fuel e
+call_begins program is content rest who r e named found =
+    let one = found_then (handle_at content (handle_name who r.on)) (λ h.
+        object_at content.objects h.object >>= λ o.
+        contract_at program.table o.contract >>= λ own.
+        transaction_named own r.tx >>= λ tx.
+        signature_at own tx >>= λ s.
+        where_true (not s.private) (entered who r h o tx s)) e found in
+    let two = found_then (object_at content.objects one.0.object) (λ o.
+        contract_at program.table o.contract >>= λ own.
+        transaction_named own r.tx >>= λ tx.
+        signature_at own tx >>= λ s.
+        where_true (not s.private) (entered who r one.0 o tx s)) e one.2 in
+    let three = found_then (contract_at program.table two.0.contract) (λ own.
+        transaction_named own r.tx >>= λ tx.
+        signature_at own tx >>= λ s.
+        where_true (not s.private) (entered who r one.0 two.0 tx s)) e two.2 in
+    let four = found_then (transaction_named three.0 r.tx) (λ tx.
+        signature_at three.0 tx >>= λ s.
+        where_true (not s.private) (entered who r one.0 two.0 tx s)) e three.2 in
+    let five = found_then (signature_at three.0 four.0) (λ s.
+        where_true (not s.private) (entered who r one.0 two.0 four.0 s)) e four.2 in
+    let six = where_then (not five.0.private) (entered who r one.0 two.0 four.0 five.0) e five.2 in
+    subst (λ (e : Entry). refusal_of (entry_checks program.table content e) ≡ None
+    → first_outside_use program.table content e ≡ None → (fuel : ℕ) → CallStarts program content fuel e) six.1
+    (λ passed inside fuel. parts_begin program is content rest who r named one.0 one.1 two.0 two.1 three.0 three.1 four.0 four.1
+    five.0 five.1 (not_true five.0.private six.0) passed inside fuel)
