@@ -7,3 +7,4 @@ pub mod Checked
 pub mod Whole
 pub mod Call
 pub mod CallBegins
+pub mod New
