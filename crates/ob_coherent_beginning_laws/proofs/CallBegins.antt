@@ -181,7 +181,7 @@ module _ (program : SilicaProgram) (is : IsCheckedProgram program) (content : Co
 
 -- What a call enters.
 
-found_then : {A B : Type 0} (o : Option A) (f : A → Option B) (y : B) → (o >>= f) ≡ Some y
+pub found_then : {A B : Type 0} (o : Option A) (f : A → Option B) (y : B) → (o >>= f) ≡ Some y
     → (x : A) × (o ≡ Some x) × (f x ≡ Some y)
 found_then None f y e = absurd (cc)
 found_then (Some x) f y e = (x, refl, e)

@@ -8,3 +8,4 @@ pub mod Whole
 pub mod Call
 pub mod CallBegins
 pub mod New
+pub mod NewBegins
