@@ -1,39 +1,34 @@
 -- What is so of the whole where a call has bound its places and its body begins.
-use Rattle.std.proofs.Common.{◌≡◌, ◌≢◌, ℕ, zero, suc, ◌+◌, ◌<◌, ◌≤◌, Bool, true, false, List, [], ◌∷◌, length, Option, Some, None, refl, sym, ap, subst, ◌∙◌, arith, ⊎_elim, ◌⊎◌, inl, inr}
+use Rattle.std.proofs.Common.{◌≡◌, ◌≢◌, ℕ, ◌+◌, ◌<◌, ◌≤◌, true, false, List, [], ◌∷◌, length, Option, refl, sym, ap, subst, ◌∙◌, arith, ⊎_elim, ◌⊎◌, inl, inr}
 use Rattle.std.proofs.lemmas.Bool.{cases_Bool, both_ways}
-use Rattle.std.proofs.lemmas.Option.{same_Some}
-use Rattle.ob_perm.specs.Permissions.{shared, owns}
+use Rattle.ob_perm.specs.Permissions.{owns}
 use Rattle.ob_table.specs.Tables.{ClassTable}
 use Rattle.ob_table_spec.specs.Conditions.{IsClassTable}
-use Rattle.ob_heap_spec.specs.Values.{reference}
 use Rattle.ob_heap_spec.specs.Objects.{Object}
 use Rattle.ob_heap_spec.specs.Worlds.{World}
 use Rattle.ob_silica.specs.Terms.{SilicaTerms}
-use Rattle.ob_silica_places.specs.Places.{Location, slot}
-use Rattle.ob_silica_steps.specs.Cells.{Cell}
+use Rattle.ob_silica_places.specs.Places.{slot}
 use Rattle.ob_silica_steps.specs.Configurations.{SilicaFrame, Loan, Rest, Waiting, runs, Configuration}
-use Rattle.ob_silica_steps.specs.Here.{Here, here, self_of}
+use Rattle.ob_silica_steps.specs.Here.{self_of}
 use Rattle.ob_silica_steps.specs.Binding.{Bound}
 use Rattle.ob_flow_spec.specs.Contexts.{Context}
-use Rattle.ob_coherent_spec.specs.Counting.{Counted, any, nth_object, field_cell, in_slots, in_objects, in_handles, in_waiting, owners, references}
-use Rattle.ob_coherent_spec.specs.Runs.{times, around, entered_at, entered_among, entries, constructing_at, constructing_among, constructions, locks, tests_in, tests_around, open_tests}
-use Rattle.ob_coherent_spec.specs.Standing.{AllStand, NeedsOwner}
+use Rattle.ob_coherent_spec.specs.Counting.{any, nth_object, field_cell, in_slots, in_objects, in_handles, owners, references}
+use Rattle.ob_coherent_spec.specs.Runs.{times, around, entered_at, entries, constructing_at, constructions, locks, open_tests}
+use Rattle.ob_coherent_spec.specs.Standing.{AllStand, NeedsOwner, IsObjectInRun}
 use Rattle.ob_coherent_spec.specs.Remaining.{BodyParts}
-use Rattle.ob_coherent_spec.specs.Waiting.{IsFrame, tests_of, IsNotAmong, Waits, AllWait}
+use Rattle.ob_coherent_spec.specs.Waiting.{IsFrame, tests_of, Waits, AllWait}
 use Rattle.ob_coherent_spec.specs.Coherent.{Beginning, Holds, IsRunning}
 use Rattle.ob_coherent_counting_laws.proofs.Frames.{tests_in_same}
 use Rattle.ob_coherent_counting_laws.proofs.Entering.{entered_below, constructing_below, tests_below, locks_below}
-use Rattle.ob_coherent_frames_laws.specs.Steps.{KeepsArgument}
 use Rattle.ob_coherent_frames_laws.proofs.Near.{IsNear, frame_with, EachSelf, KeepsArguments, all_near_under}
 use Rattle.ob_coherent_frames_laws.proofs.After.{near_after}
 use Rattle.ob_coherent_frames_laws.proofs.Objects.{ObjectHolds, ObjectsHold, objects_hold}
 use Rattle.ob_coherent_frames_laws.proofs.Entered.{innermost_has_entry}
 use Rattle.ob_coherent_frames_laws.proofs.Whole.{began_kept}
-use Rattle.ob_coherent_places_laws.specs.Placed.{cell_at}
 use Rattle.ob_coherent_places_laws.proofs.Writing.{stays_leaves}
 use Rattle.ob_coherent_places_laws.proofs.Keeping.{argument_kept}
-use Rattle.ob_coherent_calls_laws.specs.Binds.{in_frame, in_both, in_rest, Binds}
-use Rattle.ob_coherent_calls_laws.proofs.Running.{running_owners, running_references}
+use Rattle.ob_coherent_calls_laws.specs.Binds.{in_both, in_rest, Binds}
+use Rattle.ob_coherent_calls_laws.proofs.Running.{running_owners}
 
 -- the frame of a configuration, left with what is bound, waits
 abbrev pub left_waiting : Configuration → Bound → SilicaTerms → List Rest → Option ℕ → List Loan → Waiting
@@ -46,7 +41,8 @@ left_waiting c b rest outer result loans = record {
 }
 
 -- the configuration in which a called body begins above it
-abbrev pub called_on : Configuration → Bound → SilicaFrame → SilicaTerms → SilicaTerms → List Rest → Option ℕ → List Loan
+abbrev pub called_on : Configuration → Bound → SilicaFrame → SilicaTerms → SilicaTerms → List Rest → Option ℕ
+    → List Loan
     → World → Configuration
 called_on c b callee terms rest outer result loans w = record {
   frame = callee;
@@ -59,7 +55,8 @@ called_on c b callee terms rest outer result loans w = record {
 module _ (table : ClassTable) (made : IsClassTable table) (entry : Option ℕ) (beginning : Beginning) (c : Configuration)
     (k : IsRunning table entry beginning c) (b : Bound) (g : Context) (n : ℕ)
     (binds : Binds table c k.whole.parts b g n)
-    (callee : SilicaFrame) (terms rest : SilicaTerms) (outer : List Rest) (result : Option ℕ) (loans : List Loan) (w : World)
+    (callee : SilicaFrame) (terms rest : SilicaTerms) (outer : List Rest) (result : Option ℕ) (loans : List Loan)
+    (w : World)
     (same_outer : outer ≡ k.outer) (objects : w.objects ≡ b.from.world.objects)
     (locked : w.locked ≡ b.from.world.locked)
     (bound_owners : (m : ℕ) → in_slots owns m callee.slots ≡ in_slots owns m b.slots)
@@ -102,7 +99,8 @@ module _ (table : ClassTable) (made : IsClassTable table) (entry : Option ℕ) (
 
   pub called_locks : (m : ℕ) → locks entry m d ≡ locks entry m c
   called_locks m =
-      let e = locks_below m c (left_waiting c b rest outer result loans) refl self_left entry outer_around in omega (arith, e)
+      let e = locks_below m c (left_waiting c b rest outer result loans) refl self_left entry outer_around in omega
+      (arith, e)
 
   pub called_entries : (m : ℕ) → entries m d ≡ entered_at m callee.how callee.slots + entries m c
   called_entries m =
@@ -117,7 +115,8 @@ module _ (table : ClassTable) (made : IsClassTable table) (entry : Option ℕ) (
 
   -- Frames that wait.
 
-  pub called_near : IsNear table (self_of c.frame.slots) stays (NeedsOwner table c.world.objects) (NeedsOwner table w.objects) c d
+  pub called_near : IsNear table (self_of c.frame.slots) stays (NeedsOwner table c.world.objects)
+      (NeedsOwner table w.objects) c d
   called_near = near_after table stays c d c.frame b.from (stays_leaves c b.from binds.stays) objects refl
       (λ m stay some. let more = progress m in omega (arith, some, more))
       (λ m some. inl (subst (λ ls. 0 < times m ls) (sym locked_same) some)) k.whole.fields
@@ -142,7 +141,8 @@ module _ (table : ClassTable) (made : IsClassTable table) (entry : Option ℕ) (
       (λ m. tests_of m b.from.slots outer + tests_of m callee.slots []) c.stack self_left called_arguments k.whole.slots
       (inl refl)
       (λ m below. let less = called_fewer m in let same = tests_left m in omega (arith, less, same))
-      (inl (ap (λ os. (nth_object os (self_of c.frame.slots)).state) objects ∙ binds.stays.states (self_of c.frame.slots)))
+      (inl (ap (λ os. (nth_object os (self_of c.frame.slots)).state) objects
+      ∙ binds.stays.states (self_of c.frame.slots)))
       each_stays
       (λ m stay a. ((λ e. a.0 (e ∙ self_left)), (apart m stay a.0, tt)))
       k.whole.waiting
@@ -154,13 +154,14 @@ module _ (table : ClassTable) (made : IsClassTable table) (entry : Option ℕ) (
   changed m (inr past) below = absurd (let e = ap (λ (os : List Object). length os) objects in
       let same = binds.stays.count in omega (arith, past, below, e, same))
   changed m (inl is) below = subst (ObjectHolds table d) (sym (is ∙ sym self_left)) (record {
-    stand = subst (λ os. AllStand table os (field_cell b.from.notes os (self_of b.from.slots))) (sym objects) binds.sits.fields;
-    object = subst (λ os. Rattle.ob_coherent_spec.specs.Standing.IsObjectInRun table b.from.notes (self_of b.from.slots)
+    stand = subst (λ os. AllStand table os (field_cell b.from.notes os (self_of b.from.slots)))
+        (sym objects) binds.sits.fields;
+    object = subst (λ os. IsObjectInRun table b.from.notes (self_of b.from.slots)
         (nth_object os (self_of b.from.slots))) (sym objects) binds.sits.object;
     declared = λ none new.
         let has = innermost_has_entry table entry beginning c k.whole in
         let some : 0 < entries (self_of b.from.slots) c + constructions (self_of b.from.slots) c =
-            subst (λ i. 0 < entries i c + constructions i c) (sym self_left) has in
+        subst (λ i. 0 < entries i c + constructions i c) (sym self_left) has in
         let e = called_entries (self_of b.from.slots) in let f = called_constructions (self_of b.from.slots) in
         absurd (omega (arith, some, e, f, none, new));
   })
@@ -171,12 +172,15 @@ module _ (table : ClassTable) (made : IsClassTable table) (entry : Option ℕ) (
       (λ m ne. inl (ap (λ os. (nth_object os (self_of c.frame.slots)).state) objects
       ∙ binds.stays.states (self_of c.frame.slots)))
       changed
-      (λ m below ne none new. let e = called_entries m in let f = called_constructions m in
-      ((let z : entries m c ≡ 0 = omega (arith, e, none) in z), (let z : constructions m c ≡ 0 = omega (arith, f, new) in z)))
+      (λ m below ne none new. let e = called_entries m in let f = called_constructions m in (
+        (let z : entries m c ≡ 0 = omega (arith, e, none) in z),
+        (let z : constructions m c ≡ 0 = omega (arith, f, new) in z),
+      ))
 
   -- The whole.
 
-  module _ (called : BodyParts) (frame : IsFrame table w.objects callee called) (stand : AllStand table w.objects callee.slots)
+  module _ (called : BodyParts) (frame : IsFrame table w.objects callee called)
+      (stand : AllStand table w.objects callee.slots)
       (waiting : Waits table (NeedsOwner table w.objects) d callee called (self_of callee.slots ∷ [])
       (λ m. tests_of m callee.slots []) (left_waiting c b rest outer result loans))
       (same_parts : waiting.parts ≡ k.whole.parts)
@@ -197,10 +201,10 @@ module _ (table : ClassTable) (made : IsClassTable table) (entry : Option ℕ) (
       one_owner = λ m. let less = called_fewer m in let most = k.whole.one_owner m in omega (arith, less, most);
       disowned = λ m yes no.
           let was : (nth_object c.world.objects m).disowned ≡ true =
-              sym (binds.disowned m) ∙ ap (λ os. (nth_object os m).disowned) (sym objects) ∙ yes in
+          sym (binds.disowned m) ∙ ap (λ os. (nth_object os m).disowned) (sym objects) ∙ yes in
           let not : (nth_object c.world.objects m).shared ≡ false =
-              ⊎_elim (λ z. absurd (both_ways _ no (called_near.shared m z))) (λ z. z)
-              (cases_Bool (nth_object c.world.objects m).shared) in
+          ⊎_elim (λ z. absurd (both_ways _ no (called_near.shared m z))) (λ z. z)
+          (cases_Bool (nth_object c.world.objects m).shared) in
           let none = k.whole.disowned m was not in let less = called_fewer m in omega (arith, none, less);
       shared = λ m yes some. ⊎_elim
           (λ was. let less = called_fewer m in ⊎_elim
@@ -227,9 +231,12 @@ module _ (table : ClassTable) (made : IsClassTable table) (entry : Option ℕ) (
       locked_once = λ m. let same = called_locks m in let most = k.whole.locked_once m in omega (arith, same, most);
       parts = called;
       frame = frame;
-      waiting = (waiting, subst (λ p. AllWait table (NeedsOwner table w.objects) d (frame_with c.frame b.from.slots) p
-          (self_of b.from.slots ∷ self_of callee.slots ∷ [])
-          (λ m. tests_of m b.from.slots outer + tests_of m callee.slots []) c.stack) (sym same_parts) called_below);
+      waiting = (
+        waiting,
+        subst (λ p. AllWait table (NeedsOwner table w.objects) d (frame_with c.frame b.from.slots) p
+            (self_of b.from.slots ∷ self_of callee.slots ∷ [])
+            (λ m. tests_of m b.from.slots outer + tests_of m callee.slots []) c.stack) (sym same_parts) called_below,
+      );
       began = began_kept table c.world.objects beginning c.frame k.whole.parts b.from.slots (λ m. owners m d) c.stack
           k.whole.frame called_arguments k.whole.began;
     }

@@ -12,3 +12,6 @@ pub mod Passing
 pub mod Untested
 pub mod Stepping
 pub mod Receiving
+pub mod After
+pub mod Calling
+pub mod SlotLoans

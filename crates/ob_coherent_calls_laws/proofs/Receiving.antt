@@ -1,58 +1,54 @@
 -- The body of the object that is called begins.
-use Rattle.std.proofs.Common.{◌≡◌, ◌≢◌, ℕ, zero, suc, ◌+◌, ◌<◌, ◌≤◌, Bool, true, false, ◌&&◌, List, [], ◌∷◌, map, length, Option, Some, None, refl, sym, ap, subst, ◌∙◌, arith, ⊎_elim, ◌⊎◌, inl, inr, true≢false, eqb-true, add-one}
+use Rattle.std.proofs.Common.{◌≡◌, ◌≢◌, ℕ, suc, ◌+◌, ◌<◌, ◌≤◌, true, false, List, [], ◌∷◌, length, Option, Some, refl, sym, ap, subst, ◌∙◌, arith, ⊎_elim, ◌⊎◌, inl, inr, true≢false, eqb-true}
 use Rattle.std.specs.Prelude.{nat_eq, slice_get}
 use Rattle.std.specs.Option.{option_map_or}
-use Rattle.std.proofs.lemmas.Bool.{cases_Bool, both_ways}
+use Rattle.std.proofs.lemmas.Bool.{cases_Bool}
 use Rattle.std.proofs.lemmas.List.{length-map}
-use Rattle.std.proofs.lemmas.Option.{same_Some}
 use Rattle.ob_base.specs.declared.id.ContractId.{ContractId}
 use Rattle.ob_base.specs.declared.id.TxId.{TxId}
 use Rattle.ob_perm.specs.States.{States}
 use Rattle.ob_perm.specs.Permissions.{Permission, owned, shared, unowned, owns, is_shared}
 use Rattle.ob_perm.specs.Masks.{permission_of}
-use Rattle.ob_table.specs.Tables.{ClassTable, contract_at, signature_at}
+use Rattle.ob_table.specs.Tables.{ClassTable, contract_at}
 use Rattle.ob_table.specs.declared.contract.Contract.{Contract}
 use Rattle.ob_table.specs.declared.contract.Field.{Field}
-use Rattle.ob_table.specs.declared.contract.ResolvedType.{ResolvedType}
 use Rattle.ob_table.specs.declared.contract.ResolvedType.TheVariants.{Int as IntType, Reference as TypedReference}
 use Rattle.ob_table.specs.declared.contract.Listed.{Listed}
 use Rattle.ob_table.specs.declared.contract.Signature.{Signature}
 use Rattle.ob_table.specs.declared.seen.Kind.TheVariants.{Reference}
 use Rattle.ob_table_spec.specs.WellFormed.{kind_of_resolved, serves_as}
-use Rattle.ob_heap_spec.specs.Values.{Value, reference}
+use Rattle.ob_heap_spec.specs.Values.{reference}
 use Rattle.ob_heap_spec.specs.Objects.{Object, state_number, seen_state}
 use Rattle.ob_heap_spec.specs.Contents.{IsStateOf}
 use Rattle.ob_heap_spec.specs.Worlds.{World}
 use Rattle.ob_heap_spec.specs.Marks.{is_in_progress, enter}
 use Rattle.ob_silica.specs.Terms.{SilicaTerms}
-use Rattle.ob_silica_places.specs.Known.{known, at}
-use Rattle.ob_silica_places.specs.Places.{field}
+use Rattle.ob_silica_places.specs.Known.{known, at, Known, permission_of_type}
 use Rattle.ob_silica_places.specs.Parameters.{Parameter, parameters, all_parameters, parameter_of}
-use Rattle.ob_silica_steps.specs.Cells.{Cell, cell, permission_in}
-use Rattle.ob_silica_steps.specs.Configurations.{SilicaProgram, SlotCells, SilicaFrame, by_receiver, by_new, Loan, Rest, Configuration}
-use Rattle.ob_silica_steps.specs.Here.{here, self_of, field_of}
+use Rattle.ob_silica_steps.specs.Cells.{permission_in}
+use Rattle.ob_silica_steps.specs.Configurations.{SilicaProgram, SlotCells, SilicaFrame, by_receiver, Loan, Rest, Configuration}
+use Rattle.ob_silica_steps.specs.Here.{here, self_of}
 use Rattle.ob_silica_steps.specs.Binding.{Bound, bound_cell}
 use Rattle.ob_silica_steps.specs.Entering.{are_within, this_cell}
 use Rattle.ob_silica_steps.specs.Starting.{declared_note}
 use Rattle.ob_silica_formed.specs.Holdings.{held_at_start}
 use Rattle.ob_flow_spec.specs.Contexts.{BodyFrame, Context, available, type_of_field, entry_of_field, listed_at, field_known, beginning, constructs}
 use Rattle.ob_places_laws.specs.Serving.{AllowsState}
-use Rattle.ob_places_laws.specs.Answering.{Answers, HasAnswer}
+use Rattle.ob_places_laws.specs.Answering.{HasAnswer}
 use Rattle.ob_places_laws.proofs.Beginnings.{this_of_transaction, beginning_field}
 use Rattle.ob_places_laws.proofs.Conversions.{serves_itself}
 use Rattle.ob_places_laws.proofs.Dispatch.{answer_entry_mode, answer_parameters}
 use Rattle.ob_places_laws.proofs.Permissions.{same_mode_owns, same_mode_shares}
 use Rattle.ob_places_laws.proofs.SeenStates.{converted_allows_state}
 use Rattle.ob_places_laws.proofs.Tables.{there_is}
-use Rattle.ob_coherent_spec.specs.Counting.{any, nth_object, in_slots, owners}
+use Rattle.ob_coherent_spec.specs.Counting.{any, nth_object, in_slots, owners, one_if, field_cell}
 use Rattle.ob_coherent_spec.specs.Runs.{times, entered_at, entries, constructions}
-use Rattle.ob_coherent_spec.specs.Standing.{RefersToShared, RefersToIn, Stands, AllStand, HasItsState, NeedsOwner}
-use Rattle.ob_coherent_spec.specs.Saying.{SaysOf, own_object, own_cell, every}
+use Rattle.ob_coherent_spec.specs.Standing.{RefersToIn, Stands, HasItsState, NeedsOwner}
+use Rattle.ob_coherent_spec.specs.Saying.{SaysOf, own_object, own_cell}
 use Rattle.ob_coherent_spec.specs.Remaining.{IsCheckedProgram, BodyParts, body_of}
-use Rattle.ob_coherent_spec.specs.Waiting.{IsFrame, tests_of, SharesThis, Lends, Waits, AllWait}
+use Rattle.ob_coherent_spec.specs.Waiting.{IsFrame, tests_of, SharesThis, Lends, Waits}
 use Rattle.ob_coherent_spec.specs.Coherent.{Beginning, IsAsDeclared, Holds, IsRunning}
-use Rattle.ob_coherent_counting_laws.proofs.Frames.{entered_here}
-use Rattle.ob_coherent_counting_laws.proofs.Numbers.{not_among_times, times_same, one_same}
+use Rattle.ob_coherent_counting_laws.proofs.Numbers.{not_among_times, times_same}
 use Rattle.ob_coherent_counting_laws.proofs.Entering.{this_alike, some_slots}
 use Rattle.ob_coherent_counting_laws.proofs.Sums.{at_same, at_other}
 use Rattle.ob_coherent_frames_laws.proofs.Apart.{apart_from_idle}
@@ -60,13 +56,16 @@ use Rattle.ob_coherent_frames_laws.proofs.Near.{EachSelf}
 use Rattle.ob_coherent_frames_laws.proofs.Others.{declared_near}
 use Rattle.ob_coherent_places_laws.proofs.Reading.{available_is, field_is, field_of_is}
 use Rattle.ob_coherent_calls_laws.specs.Bound.{IsBoundTo, AreBound}
-use Rattle.ob_coherent_calls_laws.specs.Binds.{in_both, in_rest, Binds}
+use Rattle.ob_coherent_calls_laws.specs.Binds.{Binds}
 use Rattle.ob_coherent_calls_laws.specs.Entered.{BeginsOn}
 use Rattle.ob_coherent_calls_laws.proofs.Within.{are_all_within}
 use Rattle.ob_coherent_calls_laws.proofs.Entered.{begins_self, begins_stand, begins_held, begins_frame, begins_says}
 use Rattle.ob_coherent_calls_laws.proofs.Beginning.{Begins, begins_to_run}
-use Rattle.ob_coherent_calls_laws.proofs.Running.{running_references}
-use Rattle.ob_coherent_calls_laws.proofs.Called.{left_waiting, called_on, called_owners, called_references, called_tests, called_entries, called_constructions, called_near, called_whole}
+use Rattle.ob_coherent_calls_laws.proofs.Running.{zero_or_more, running_references}
+use Rattle.ob_coherent_calls_laws.proofs.Called.{left_waiting, called_on, called_references, called_tests, called_entries, called_constructions, called_near, called_whole}
+use Rattle.std.proofs.lemmas.Bool.Decides.{eqb_tells}
+use Rattle.ob_coherent_places_laws.proofs.Standing.{has_state_same}
+use Rattle.ob_coherent_counting_laws.proofs.Cells.{one_if_most}
 
 -- bound slots, where those from a number on are the same
 pub bound_slots : (table : ClassTable) (objects : List Object) (slots more : SlotCells) (k : ℕ) (ps : List Parameter)
@@ -85,10 +84,6 @@ allows_from unowned s h = tt
 allows_to : (p : Permission) (s : ℕ) (a : States) → p ≡ owned a → AllowsState p s → a s ≡ true
 allows_to p s a e h = subst (λ q. AllowsState q s) e h
 
-zero_or_more : (n : ℕ) → (n ≡ 0) ⊎ (0 < n)
-zero_or_more zero = inl refl
-zero_or_more (suc n) = inr (omega arith)
-
 shared_so : (p : Permission) → is_shared p ≡ true → p ≡ shared
 shared_so (owned a) e = absurd (true≢false (sym e))
 shared_so shared e = refl
@@ -96,25 +91,30 @@ shared_so unowned e = absurd (true≢false (sym e))
 
 -- a field that isn't listed is entered as it's declared
 unlisted_entry : (b : BodyFrame) (s : Signature) (j : ℕ) (f : Field) → s.listed ≡ [] → slice_get b.own.fields j ≡ Some f
-    → entry_of_field b s j ≡ Rattle.ob_silica_places.specs.Known.permission_of_type f.of
+    → entry_of_field b s j ≡ permission_of_type f.of
 unlisted_entry b s j f none e =
     ap (λ ls. option_map_or (λ (l : Listed). permission_of l.entry) (listed_at ls j)
-    (Rattle.ob_silica_places.specs.Known.permission_of_type (type_of_field b j))) none
-    ∙ ap (λ o. Rattle.ob_silica_places.specs.Known.permission_of_type (option_map_or (λ (x : Field). x.of) o IntType)) e
+    (permission_of_type (type_of_field b j))) none
+    ∙ ap (λ o. permission_of_type (option_map_or (λ (x : Field). x.of) o IntType)) e
 
-module _ (program : SilicaProgram) (is : IsCheckedProgram program) (entry : Option ℕ) (beginning_of : Beginning) (c : Configuration)
-    (k : IsRunning program.table entry beginning_of c) (contract : ContractId) (tx : TxId) (asked : Signature) (own : Contract)
+module _ (program : SilicaProgram) (is : IsCheckedProgram program) (entry : Option ℕ) (beginning_of : Beginning)
+    (c : Configuration)
+    (k : IsRunning program.table entry beginning_of c) (contract : ContractId) (tx : TxId) (asked : Signature)
+    (own : Contract)
     (b : Bound) (g : Context) (nb : ℕ) (binds : Binds program.table c k.whole.parts b g nb)
     (past : nb ≤ suc (length (parameters asked)))
     (n : ℕ) (there : n < length c.world.objects)
     (first : b.slots 0 ≡ Some (bound_cell (TypedReference contract asked.entry) (reference n)))
     (bound : AreBound program.table b.from.world.objects b.slots 0 (all_parameters contract asked))
     (wr : World) (objects : wr.objects ≡ b.from.world.objects) (locked : wr.locked ≡ b.from.world.locked)
-    (progress : wr.progress ≡ b.from.world.progress) (idle : is_in_progress wr n ≡ false) (not_new : constructions n c ≡ 0)
+    (progress : wr.progress ≡ b.from.world.progress) (idle : is_in_progress wr n ≡ false)
+    (not_new : constructions n c ≡ 0)
     (ec : contract_at program.table (nth_object wr.objects n).contract ≡ Some own) (class : own.interface ≡ false)
     (serves : serves_as program.table (Reference contract) (Reference (nth_object wr.objects n).contract) ≡ true)
-    (ans : HasAnswer program.table contract (nth_object wr.objects n).contract own tx asked) (public : asked.private ≡ false)
-    (rest : SilicaTerms) (outer : List Rest) (result : Option ℕ) (loans : List Loan) (same_outer : outer ≡ k.outer) where
+    (ans : HasAnswer program.table contract (nth_object wr.objects n).contract own tx asked)
+    (public : asked.private ≡ false)
+    (rest : SilicaTerms) (outer : List Rest) (result : Option ℕ) (loans : List Loan)
+    (same_outer : outer ≡ k.outer) where
   abbrev pub o : Object
   o = nth_object wr.objects n
 
@@ -148,7 +148,8 @@ module _ (program : SilicaProgram) (is : IsCheckedProgram program) (entry : Opti
   no_entries = k.whole.progress n ∙ idle_times
 
   apart_so : (self_of c.frame.slots ≢ n) × EachSelf (λ m. m ≢ n) c.stack
-  apart_so = apart_from_idle program.table (NeedsOwner program.table c.world.objects) c c.frame k.whole.parts _ _ c.stack n
+  apart_so = apart_from_idle program.table
+      (NeedsOwner program.table c.world.objects) c c.frame k.whole.parts _ _ c.stack n
       (let one = no_entries in omega (arith, one, not_new)) k.whole.waiting
 
   placed_now : HasItsState program.table (nth_object c.world.objects n)
@@ -161,16 +162,19 @@ module _ (program : SilicaProgram) (is : IsCheckedProgram program) (entry : Opti
   state_same = ap (λ os. (nth_object os n).state) objects ∙ binds.stays.states n
 
   placed_then : HasItsState program.table (nth_object wr.objects n)
-  placed_then = Rattle.ob_coherent_places_laws.proofs.Standing.has_state_same program.table (nth_object c.world.objects n)
+  placed_then = has_state_same program.table
+      (nth_object c.world.objects n)
       (nth_object wr.objects n) contract_same state_same placed_now
 
   there_now : n < length wr.objects
-  there_now = let e = ap (λ (os : List Object). length os) objects in let same = binds.stays.count in omega (arith, there, e, same)
+  there_now = let e = ap (λ (os : List Object). length os) objects in let same = binds.stays.count in omega
+      (arith, there, e, same)
 
   -- `this` of the body.
 
   stands_first : Stands program.table wr.objects (bound_cell (TypedReference contract asked.entry) (reference n))
-  stands_first = subst (λ os. Stands program.table os (bound_cell (TypedReference contract asked.entry) (reference n))) (sym objects)
+  stands_first = subst (λ os. Stands program.table os
+      (bound_cell (TypedReference contract asked.entry) (reference n))) (sym objects)
       (binds.bound 0 (bound_cell (TypedReference contract asked.entry) (reference n)) first)
 
   shared_asked : permission_of ans.signature.entry ≡ shared → permission_of asked.entry ≡ shared
@@ -190,10 +194,12 @@ module _ (program : SilicaProgram) (is : IsCheckedProgram program) (entry : Opti
       in_state a e =
           let x = there_is (contract_at program.table o.contract) (λ y. IsStateOf y o.state) placed_then in
           let old : AllowsState (permission_of asked.entry) (seen_state program.table contract o) =
-              allows_from (permission_of asked.entry) (seen_state program.table contract o) (λ q i. stands_first.states q i) in
+          allows_from (permission_of asked.entry) (seen_state program.table contract o)
+          (λ q i. stands_first.states q i) in
           allows_to (permission_of s.entry) (seen_state program.table o.contract o) a e
           (subst (λ q. AllowsState q (seen_state program.table o.contract o)) (sym ans.answers.entry)
-          (converted_allows_state program.table is.table x.0 o x.1 x.2 contract o.contract (permission_of asked.entry) serves
+          (converted_allows_state program.table is.table x.0 o x.1 x.2 contract o.contract
+          (permission_of asked.entry) serves
           (serves_itself program.table (Reference o.contract)) old))
 
   same_parameters : parameters ans.signature ≡ parameters asked
@@ -210,12 +216,16 @@ module _ (program : SilicaProgram) (is : IsCheckedProgram program) (entry : Opti
       (bound_slots program.table wr.objects b.slots callee.slots 1 (parameters asked) slots_after
       (subst (λ os. AreBound program.table os b.slots 1 (parameters asked)) (sym objects) bound.1))
 
-  pub within : are_within program.table wr.objects callee.slots 0 (all_parameters (nth_object wr.objects n).contract ans.signature) ≡ true
-  within = are_all_within program.table wr.objects callee.slots 0 (all_parameters o.contract s) (record {
-    value = reference n;
-    set = at_same b.slots 0 (Some (this_cell o.contract s.entry n));
-    stands = this_stands;
-  }, bound_after)
+  pub within : are_within program.table wr.objects callee.slots 0
+      (all_parameters (nth_object wr.objects n).contract ans.signature) ≡ true
+  within = are_all_within program.table wr.objects callee.slots 0 (all_parameters o.contract s) (
+    record {
+      value = reference n;
+      set = at_same b.slots 0 (Some (this_cell o.contract s.entry n));
+      stands = this_stands;
+    },
+    bound_after,
+  )
 
   pub begun : BeginsOn program.table wr.objects callee ans.signature (permission_of ans.signature.entry) n
   begun = record {
@@ -237,7 +247,8 @@ module _ (program : SilicaProgram) (is : IsCheckedProgram program) (entry : Opti
       (cases_Bool (nat_eq ans.number.0 0))
 
   pub callee_frame : IsFrame program.table w.objects callee called
-  callee_frame = begins_frame program.table wr.objects callee s (permission_of s.entry) n begun own begins.slots ec class
+  callee_frame = begins_frame program.table wr.objects callee s
+      (permission_of s.entry) n begun own begins.slots ec class
       ans.there begins.few begins.params refl
       (λ e. absurd (ans.no_constructor (eqb-true ans.number.0 0 e))) (λ e. absurd (cc)) (λ e. no_list)
 
@@ -267,7 +278,8 @@ module _ (program : SilicaProgram) (is : IsCheckedProgram program) (entry : Opti
   d = called_on c b callee begins.terms rest outer result loans w
 
   entries_now : (m : ℕ) → entries m d ≡ entered_at m callee.how callee.slots + entries m c
-  entries_now = called_entries program.table is.table entry beginning_of c k b g nb binds callee begins.terms rest outer result
+  entries_now = called_entries program.table is.table entry beginning_of c k b g nb binds callee begins.terms rest
+      outer result
       loans w same_outer objects locked bound_owners bound_references progress_grows (λ m. m ≢ n) each_apart apart_stays
 
   pub entered_so : (m : ℕ) → entries m d ≡ times m w.progress
@@ -275,41 +287,48 @@ module _ (program : SilicaProgram) (is : IsCheckedProgram program) (entry : Opti
       let e = entries_now m in
       let same = k.whole.progress m in
       let p = ap (times m) (progress ∙ binds.stays.progress) in
-      let i : entered_at m by_receiver callee.slots ≡ Rattle.ob_coherent_spec.specs.Counting.one_if (nat_eq n m) =
-          ap (λ x. Rattle.ob_coherent_spec.specs.Counting.one_if (nat_eq x m)) self_is in
+      let i : entered_at m by_receiver callee.slots ≡ one_if (nat_eq n m) =
+      ap (λ x. one_if (nat_eq x m)) self_is in
       omega (arith, e, same, p, i)
 
   pub entered_once : (m : ℕ) → entries m d ≤ 1
   entered_once m = ⊎_elim
       (λ same. let e = entries_now m in
       let none = subst (λ j. entries j c ≡ 0) same.1 no_entries in
-      let one = Rattle.ob_coherent_counting_laws.proofs.Cells.one_if_most (nat_eq (self_of callee.slots) m) in
+      let one = one_if_most (nat_eq (self_of callee.slots) m) in
       omega (arith, e, none, one))
       (λ other. let e = entries_now m in
       let most = k.whole.entered_once m in
       let i : entered_at m by_receiver callee.slots ≡ 0 =
-          ap (λ x. Rattle.ob_coherent_spec.specs.Counting.one_if (nat_eq x m)) self_is
-          ∙ ap Rattle.ob_coherent_spec.specs.Counting.one_if other.0 in
+      ap (λ x. one_if (nat_eq x m)) self_is
+      ∙ ap one_if other.0 in
       omega (arith, e, most, i))
-      (Rattle.std.proofs.lemmas.Bool.Decides.eqb_tells n m)
+      (eqb_tells n m)
 
   -- The configuration runs.
 
-  module _ (waiting : Waits program.table (NeedsOwner program.table w.objects) d callee called (self_of callee.slots ∷ [])
+  module _ (waiting : Waits program.table (NeedsOwner program.table w.objects) d callee called
+      (self_of callee.slots ∷ [])
       (λ m. tests_of m callee.slots []) (left_waiting c b rest outer result loans))
       (same_parts : waiting.parts ≡ k.whole.parts)
-      (lend : Lends program.table (nth_object wr.objects n).contract ans.number by_receiver (left_waiting c b rest outer result loans)) where
+      (lend : Lends program.table (nth_object wr.objects n).contract ans.number by_receiver
+      (left_waiting c b rest outer result loans)) where
     abbrev whole : Holds program.table entry beginning_of d
-    whole = called_whole program.table is.table entry beginning_of c k b g nb binds callee begins.terms rest outer result
-        loans w same_outer objects locked bound_owners bound_references progress_grows (λ m. m ≢ n) each_apart apart_stays
-        called callee_frame (begins_stand program.table wr.objects callee s (permission_of s.entry) n begun) waiting same_parts
+    whole = called_whole program.table is.table entry beginning_of c k b g nb binds callee begins.terms rest outer
+        result
+        loans w same_outer objects locked bound_owners bound_references progress_grows
+        (λ m. m ≢ n) each_apart apart_stays
+        called callee_frame (begins_stand program.table wr.objects callee s
+        (permission_of s.entry) n begun) waiting same_parts
         entered_so entered_once
 
     declared_now : IsAsDeclared program.table (NeedsOwner program.table w.objects) b.from.notes w.objects n
-    declared_now = declared_near program.table (self_of c.frame.slots) (λ m. m ≢ n) (NeedsOwner program.table c.world.objects)
+    declared_now = declared_near program.table (self_of c.frame.slots) (λ m. m ≢ n)
+        (NeedsOwner program.table c.world.objects)
         (NeedsOwner program.table w.objects) c d
         (called_near program.table is.table entry beginning_of c k b g nb binds callee begins.terms rest outer result
-        loans w same_outer objects locked bound_owners bound_references progress_grows (λ m. m ≢ n) each_apart apart_stays)
+        loans w same_outer objects locked bound_owners bound_references progress_grows
+        (λ m. m ≢ n) each_apart apart_stays)
         n there (λ e. apart_so.0 (sym e)) (k.whole.declared n there no_entries not_new)
 
     abbrev bf : BodyFrame
@@ -319,34 +338,40 @@ module _ (program : SilicaProgram) (is : IsCheckedProgram program) (entry : Opti
         → SaysOf (NeedsOwner program.table w.objects) (field_known bf j) (own_cell (here d) j)
     fields_say j can =
         let can_n : available bf j (state_number (nth_object wr.objects n).state) ≡ true =
-            subst (λ i. available bf j (state_number (nth_object wr.objects i).state) ≡ true) self_is can in
+        subst (λ i. available bf j (state_number (nth_object wr.objects i).state) ≡ true) self_is can in
         let f = field_is own (nth_object wr.objects n).state j
-            (sym (available_is bf j (nth_object wr.objects n).state) ∙ can_n) in
+        (sym (available_is bf j (nth_object wr.objects n).state) ∙ can_n) in
         let says = declared_now.fields j f.0 (field_of_is program.table (nth_object wr.objects n) own j ec ∙ f.1) f.2 in
         let known_is : field_known bf j ≡ Some (declared_note f.0.of) =
-            beginning_field bf j f.0 f.1 plain_number
-            ∙ ap (λ p. Some (known (kind_of_resolved f.0.of) p)) (unlisted_entry bf s j f.0 no_list f.1) in
+        beginning_field bf j f.0 f.1 plain_number
+        ∙ ap (λ p. Some (known (kind_of_resolved f.0.of) p)) (unlisted_entry bf s j f.0 no_list f.1) in
         subst (λ y. SaysOf (NeedsOwner program.table w.objects) y (own_cell (here d) j)) (sym known_is)
         (subst (λ i. SaysOf (NeedsOwner program.table w.objects) (Some (declared_note f.0.of))
-        (Rattle.ob_coherent_spec.specs.Counting.field_cell b.from.notes w.objects i j)) (sym self_is) says)
+        (field_cell b.from.notes w.objects i j)) (sym self_is) says)
 
     shares_now : SharesThis callee d 0
     shares_now e =
         let is_entry : permission_of ans.signature.entry ≡ shared = sym (ap permission_in begun.this) ∙ e in
         let marked : (nth_object w.objects n).shared ≡ true = this_stands.marked is_entry in
-        let more = times_same n wr.progress in
-        (subst (λ i. 0 < times i w.progress) (sym self_is) (omega (arith, more)),
-        subst (λ i. (owners i d ≤ 0) ⊎ ((callee.share_entered ≡ true) × (0 < times i w.locked))) (sym self_is)
-        (⊎_elim (λ none. inl (omega (arith, none)))
-        (λ some. inr (ap is_shared is_entry, ⊎_elim (λ l. l)
-        (λ t.
-        let same = called_tests program.table is.table entry beginning_of c k b g nb binds callee begins.terms rest outer result
-            loans w same_outer objects locked bound_owners bound_references progress_grows (λ m. m ≢ n) each_apart apart_stays n in
-        let busy = k.whole.tested n (omega (arith, t, same)) in
-        let quiet = idle_times in
-        absurd (omega (arith, busy, quiet)))
-        (whole.shared n marked some)))
-        (zero_or_more (owners n d))))
+        let more = times_same n wr.progress in (
+          subst (λ i. 0 < times i w.progress) (sym self_is) (omega (arith, more)),
+          subst (λ i. (owners i d ≤ 0) ⊎ ((callee.share_entered ≡ true) × (0 < times i w.locked))) (sym self_is)
+              (⊎_elim (λ none. inl (omega (arith, none)))
+              (λ some. inr (
+                ap is_shared is_entry,
+                ⊎_elim (λ l. l)
+                    (λ t.
+                    let same = called_tests program.table is.table entry beginning_of c k b g nb binds callee
+                    begins.terms rest outer result
+                    loans w same_outer objects locked bound_owners bound_references progress_grows
+                    (λ m. m ≢ n) each_apart apart_stays n in
+                    let busy = k.whole.tested n (omega (arith, t, same)) in
+                    let quiet = idle_times in
+                    absurd (omega (arith, busy, quiet)))
+                    (whole.shared n marked some),
+              ))
+              (zero_or_more (owners n d))),
+        )
 
     pub receiver_runs : IsRunning program.table entry beginning_of d
     receiver_runs = record {
@@ -354,11 +379,18 @@ module _ (program : SilicaProgram) (is : IsCheckedProgram program) (entry : Opti
       terms = begins.terms;
       outer = [];
       control = refl;
-      context = beginning (record { table = program.table; here = (nth_object wr.objects n).contract; own = own; tx = ans.number;
-          signature = ans.signature; slots = begins.slots });
+      context = beginning (record {
+        table = program.table;
+        here = (nth_object wr.objects n).contract;
+        own = own;
+        tx = ans.number;
+        signature = ans.signature;
+        slots = begins.slots;
+      });
       says = begins_says program.table wr.objects callee s (permission_of s.entry) n begun
           (NeedsOwner program.table w.objects) (here d) bf refl refl refl
-          (ap (λ (y : Rattle.ob_silica_places.specs.Known.Known). y.permission) (this_of_transaction bf plain_number)) fields_say;
+          (ap (λ (y : Known). y.permission)
+          (this_of_transaction bf plain_number)) fields_say;
       holdings = held_at_start (nth_object wr.objects n).contract ans.signature.params;
       held = begins_held program.table wr.objects callee s (permission_of s.entry) n begun;
       remains = begins.remains;
@@ -367,11 +399,15 @@ module _ (program : SilicaProgram) (is : IsCheckedProgram program) (entry : Opti
       shares = shares_now;
       owns_made = λ e. absurd (cc);
       unreferred = λ m some.
-          let new = called_constructions program.table is.table entry beginning_of c k b g nb binds callee begins.terms rest outer result
-              loans w same_outer objects locked bound_owners bound_references progress_grows (λ m. m ≢ n) each_apart apart_stays m in
+          let new = called_constructions program.table is.table entry beginning_of c k b g nb binds callee
+          begins.terms rest outer result
+          loans w same_outer objects locked bound_owners bound_references progress_grows
+          (λ m. m ≢ n) each_apart apart_stays m in
           let old : 0 < constructions m c = omega (arith, some, new) in
-          let refs = called_references program.table is.table entry beginning_of c k b g nb binds callee begins.terms rest outer result
-              loans w same_outer objects locked bound_owners bound_references progress_grows (λ m. m ≢ n) each_apart apart_stays m in
+          let refs = called_references program.table is.table entry beginning_of c k b g nb binds callee begins.terms
+          rest outer result
+          loans w same_outer objects locked bound_owners bound_references progress_grows
+          (λ m. m ≢ n) each_apart apart_stays m in
           let kept = binds.refers m old in
           let was = running_references program.table is.table entry beginning_of c k m in
           let few = k.unreferred m old in

@@ -1,6 +1,6 @@
 -- What an operator gives of operands of its kinds: a value of its kind, or no result that is an `int`.
-use Rattle.std.proofs.Common.{◌≡◌, ℕ, ℤ, Bool, true, false, List, refl, sym, arith, ⊎_elim, true≢false}
-use Rattle.std.specs.Prelude.{pos, ◌+ℤ◌, ◌-ℤ◌, ◌*ℤ◌, neg_ℤ, int_div, int_rem, if◌then◌else◌}
+use Rattle.std.proofs.Common.{◌≡◌, ℕ, ℤ, Bool, true, false, List, refl, sym, ⊎_elim, true≢false}
+use Rattle.std.specs.Prelude.{pos, ◌+ℤ◌, ◌-ℤ◌, ◌*ℤ◌, neg_ℤ, int_div, int_rem}
 use Rattle.std.specs.Ordering.{int_eq}
 use Rattle.std.proofs.lemmas.Bool.{cases_Bool}
 use Rattle.ob_base.specs.Numbers.{is_int}
@@ -24,7 +24,8 @@ Gives table objects kind overflows = Unit {0}
 Gives table objects kind other_kinds = ⊥
 
 -- what serves where a kind is wanted that is no reference's is of that kind
-pub plain_serves : (table : ClassTable) (wanted has : Kind) → is_reference wanted ≡ false → serves_as table wanted has ≡ true → has ≡ wanted
+pub plain_serves : (table : ClassTable) (wanted has : Kind) → is_reference wanted ≡ false
+    → serves_as table wanted has ≡ true → has ≡ wanted
 plain_serves table (Reference i) has e s = absurd (true≢false e)
 plain_serves table Int Int e s = refl
 plain_serves table Int (Reference c) e s = absurd (true≢false (sym s))
@@ -75,8 +76,10 @@ module _ (table : ClassTable) (objects : List Object) where
   unary_given Negate (reference n) is = absurd is
 
   -- two values of one kind that is no reference's are compared
-  compared : (operator : BinaryOperator) (kind : Kind) (x y : Value) → is_reference kind ≡ false → IsOfKind table objects kind x
-      → IsOfKind table objects kind y → ((a b : ℤ) → Gives table objects BoolKind (between operator (int_value a) (int_value b)))
+  compared : (operator : BinaryOperator) (kind : Kind) (x y : Value) → is_reference kind ≡ false
+      → IsOfKind table objects kind x
+      → IsOfKind table objects kind y → ((a b : ℤ)
+      → Gives table objects BoolKind (between operator (int_value a) (int_value b)))
       → ((a b : Bool) → Gives table objects BoolKind (between operator (bool_value a) (bool_value b)))
       → ((a b : List ℕ) → Gives table objects BoolKind (between operator (text_value a) (text_value b)))
       → Gives table objects BoolKind (between operator x y)
@@ -103,15 +106,18 @@ module _ (table : ClassTable) (objects : List Object) where
   compared operator Text (bool_value x) y e is js i b s = absurd is
   compared operator Text (reference x) y e is js i b s = absurd is
 
-  pub equal_given : (kind : Kind) (x y : Value) → is_reference kind ≡ false → IsOfKind table objects kind x → IsOfKind table objects kind y
+  pub equal_given : (kind : Kind) (x y : Value) → is_reference kind ≡ false → IsOfKind table objects kind x
+      → IsOfKind table objects kind y
       → Gives table objects BoolKind (between Equal x y)
   equal_given kind x y e is js = compared Equal kind x y e is js (λ a b. tt) (λ a b. tt) (λ a b. tt)
 
-  pub not_equal_given : (kind : Kind) (x y : Value) → is_reference kind ≡ false → IsOfKind table objects kind x → IsOfKind table objects kind y
+  pub not_equal_given : (kind : Kind) (x y : Value) → is_reference kind ≡ false → IsOfKind table objects kind x
+      → IsOfKind table objects kind y
       → Gives table objects BoolKind (between NotEqual x y)
   not_equal_given kind x y e is js = compared NotEqual kind x y e is js (λ a b. tt) (λ a b. tt) (λ a b. tt)
 
-  between_numbers : (operator : BinaryOperator) (x y : ℤ) → Gives table objects (kind_of_binary operator) (between operator (int_value x) (int_value y))
+  between_numbers : (operator : BinaryOperator) (x y : ℤ)
+      → Gives table objects (kind_of_binary operator) (between operator (int_value x) (int_value y))
   between_numbers Add x y = int_given (x +ℤ y)
   between_numbers Sub x y = int_given (x -ℤ y)
   between_numbers Mul x y = int_given (x *ℤ y)
@@ -124,7 +130,8 @@ module _ (table : ClassTable) (objects : List Object) where
   between_numbers Greater x y = tt
   between_numbers GreaterEqual x y = tt
 
-  pub binary_given : (operator : BinaryOperator) (x y : Value) → IsOfKind table objects Int x → IsOfKind table objects Int y
+  pub binary_given : (operator : BinaryOperator) (x y : Value) → IsOfKind table objects Int x
+      → IsOfKind table objects Int y
       → Gives table objects (kind_of_binary operator) (between operator x y)
   binary_given operator (int_value x) (int_value y) is js = between_numbers operator x y
   binary_given operator (int_value x) (bool_value y) is js = absurd js

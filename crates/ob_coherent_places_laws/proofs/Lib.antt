@@ -10,3 +10,4 @@ pub mod Handing
 pub mod Holding
 pub mod Alike
 pub mod Changed
+pub mod Filling

@@ -2,3 +2,11 @@ pub mod Leaving
 pub mod Result
 pub mod Below
 pub mod Returned
+pub mod Resuming
+pub mod Lent
+pub mod GivingBack
+pub mod Ending
+pub mod Silent
+pub mod Handed
+pub mod AtReturn
+pub mod Return

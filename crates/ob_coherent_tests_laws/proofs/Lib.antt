@@ -8,3 +8,4 @@ pub mod Locking
 pub mod Tested
 pub mod Popping
 pub mod Opening
+pub mod Testing

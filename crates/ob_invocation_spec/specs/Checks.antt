@@ -28,15 +28,14 @@ reads_of (c ∷ checks) = c.reads ++ (if c.holds then [] else reads_of checks)
 abbrev pub left_as_it_was : Content → Reply → List ReadItem → Invocation
 left_as_it_was content reply reads = invoked (record { reply = reply; content = content; taken = 0; reads = reads })
 
--- the request is refused, or else this follows
-abbrev pub refused_or : Content → Option Refusal → List ReadItem → Invocation → Invocation
+-- the request is refused, or else this follows, with what was read
+abbrev pub refused_or : Content → Option Refusal → List ReadItem → (List ReadItem → Invocation) → Invocation
 refused_or content (Some refusal) reads go = left_as_it_was content (refused refusal) reads
-refused_or content None reads go = go
+refused_or content None reads go = go reads
 
--- the request is refused by the first check that holds; else this follows, with what was read by the checks
+-- the request is refused by the first check that holds; else this follows, with what the checks have read
 abbrev pub unless_refused : Content → List Check → (List ReadItem → Invocation) → Invocation
-unless_refused content checks go =
-    let reads = reads_of checks in refused_or content (refusal_of checks) reads (go reads)
+unless_refused content checks go = refused_or content (refusal_of checks) (reads_of checks) go
 
 -- what follows from a thing that the checks have found; without it the request goes wrong
 abbrev pub with_found : {A : Type 0} → Option A → (A → Invocation) → Invocation

@@ -25,7 +25,7 @@ pub record Meaning : Type 0 where
 
 -- The entry test.
 
--- a use that owns its object at the entry finds it in none of the declared states
+-- whether a use that owns its object at the entry finds it in none of the declared states
 abbrev pub is_outside_use : ClassTable → List Object → HandleUse → Bool
 is_outside_use table objects u = not (is_held_within table objects u.contract u.entry (Some u.handle.object))
 

@@ -1,7 +1,8 @@
 -- The handles of a store: how one is found, put and removed, and where its mode serves (Coblenz et al., TOPLAS 42(3),
 -- 2020, "Permissions", for modes; the rest is this project's own).
-use Rattle.std.specs.Prelude.{ℕ, Bool, true, false, not, ◌&&◌, nat_le, List, [], ◌∷◌, length, filter, find, fold, Option, option_map, option_to_list, bytes_eq, if◌then◌else◌}
-use Rattle.std.specs.Ordering.{is_lt}
+use Rattle.std.specs.Prelude.{ℕ, Bool, true, false, not, nat_le, List, ◌∷◌, length, fold, Option, option_map, option_to_list, if◌then◌else◌}
+use Rattle.std.specs.Ordering.{eq_by_cmp}
+use Rattle.std.specs.FinMap.Entries.{find as find_key, put as put_key, where_key}
 use Rattle.ob_base.specs.Limits.{most_handles}
 use Rattle.ob_base.specs.declared.permission.Mode.{Mode}
 use Rattle.ob_base.specs.declared.permission.Mode.TheVariants.{Owned, Shared, Unowned}
@@ -18,13 +19,9 @@ NamedHandle = HandleName × Handle
 abbrev pub handle_name : List ℕ → List ℕ → HandleName
 handle_name who name = record { who = who; name = name }
 
--- whether two names of handles are the same
-abbrev pub same_name : HandleName → HandleName → Bool
-same_name a b = bytes_eq a.who b.who && bytes_eq a.name b.name
-
 -- the handle of a name, if there is one
 abbrev pub handle_at : Content → HandleName → Option Handle
-handle_at content name = option_map (λ h. h.1) (find (λ h. same_name name h.0) content.handles)
+handle_at content name = find_key name_order name content.handles
 
 -- what is read where a handle is looked up for its object: what the name stands for, and the object
 abbrev pub handle_reads : Content → HandleName → List ReadItem
@@ -45,11 +42,7 @@ serves Unowned wanted = false
 
 -- the handles, in the order of their names, with this one among them; another of its name goes
 abbrev pub put_handle : List NamedHandle → NamedHandle → List NamedHandle
-put_handle [] h = h ∷ []
-put_handle (g ∷ handles) h =
-    if is_lt (name_order g.0 h.0) then g ∷ put_handle handles h
-    else if same_name g.0 h.0 then h ∷ handles
-    else h ∷ g ∷ handles
+put_handle handles h = put_key name_order h.0 h.1 handles
 
 -- the handles with these put among them, one after another
 abbrev pub put_handles : List NamedHandle → List NamedHandle → List NamedHandle
@@ -57,7 +50,7 @@ put_handles handles puts = fold put_handle handles puts
 
 -- the handles without that of a name
 abbrev pub without_handle : List NamedHandle → HandleName → List NamedHandle
-without_handle handles name = filter (λ h. not (same_name name h.0)) handles
+without_handle handles name = where_key name_order (λ other. not (eq_by_cmp name_order name other)) handles
 
 -- a reference that is put into a Shared handle marks its object
 abbrev pub mark_put : World → NamedHandle → World

@@ -1,5 +1,7 @@
 -- What a client asks of a store (this project's own).
-use Rattle.std.specs.Prelude.{ℕ, ℤ, Bool, List, Option}
+use Rattle.std.specs.Prelude.{ℕ, ℤ, Bool, List, [], ◌∷◌, ◌++◌, filter_map, Option, Some, None, option_to_list, IsTrue}
+use Rattle.std.specs.List.{list_all}
+use Rattle.ob_base.specs.Names.{is_label}
 use Rattle.ob_base.specs.declared.permission.Mode.{Mode}
 
 -- an argument: a whole number, a truth value, a text by its bytes, the name of a handle of the client, or something
@@ -45,3 +47,25 @@ pub data Operation : Type 0 where
 pub record Request : Type 0 where
   pub who : List ℕ
   pub operation : Operation
+
+-- the name of the handle that an argument is, if it is one
+abbrev pub argument_name : Argument → Option (List ℕ)
+argument_name (handle_argument name) = Some name
+argument_name arg = None
+
+-- the names of the handles among arguments
+abbrev pub argument_names : List Argument → List (List ℕ)
+argument_names args = filter_map argument_name args
+
+-- the names in what is asked: of contracts, transactions, handles and clients
+abbrev pub names_in : Operation → List (List ℕ)
+names_in (new_request r) = r.contract ∷ argument_names r.args ++ option_to_list r.into
+names_in (call_request r) = r.on ∷ r.tx ∷ argument_names r.args ++ option_to_list r.into
+names_in (disown_request on) = on ∷ []
+names_in (give_request r) = r.on ∷ r.to ∷ r.into ∷ []
+names_in (see_request on) = on ∷ []
+names_in (owner_request on) = on ∷ []
+
+-- each name in a request has 1 to 64 bytes of UTF-8
+abbrev pub HasLabels : Request → Type 0
+HasLabels request = IsTrue (list_all is_label (request.who ∷ names_in request.operation))

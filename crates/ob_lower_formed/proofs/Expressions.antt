@@ -1,4 +1,4 @@
--- The terms of an expression are made as they must be.
+-- The terms of an expression are well-formed.
 use Rattle.std.proofs.Common.{◌≡◌, ℕ, ◌<◌, Bool, true, false, ◌&&◌, ◌||◌, List, [], ◌∷◌, ◌++◌, Option, Some, None, option_map, option_and_then, IfSome, IsSomeAnd, IsSome, refl, sym, ap, ◌∙◌, subst, ◌⊎◌, inl, inr, true≢false, is_some}
 use Rattle.std.specs.Prelude.{IsTrue, slice_get, if◌then◌else◌}
 use Rattle.ob_base.specs.declared.fault.Span.{Span}
@@ -20,7 +20,7 @@ use Rattle.ob_table.specs.declared.seen.Kind.TheVariants.{Int, Bool as BoolKind,
 use Rattle.ob_table.specs.declared.seen.Seen.{Seen}
 use Rattle.ob_table.specs.declared.seen.Seen.TheVariants.{This as ThisSeen, Local, Field as FieldSeen}
 use Rattle.ob_table.specs.declared.seen.SeenAt.{SeenAt}
-use Rattle.ob_table_spec.specs.WellFormed.{StaticFrame, LocalKinds, local_kind, kind_of_seen, kind_of_expression, kind_of_unary, kind_of_binary, kind_of_resolved, is_reference, is_constructor, constructor_at, serves_as, ServesAs, HasOperands, PassTo, IsCalled, IsWellFormedExpression, AreMade}
+use Rattle.ob_table_spec.specs.WellFormed.{StaticFrame, LocalKinds, local_kind, kind_of_seen, kind_of_expression, kind_of_unary, kind_of_binary, kind_of_resolved, is_reference, is_constructor, constructor_at, serves_as, ServesAs, HasOperands, PassTo, IsCalled, IsWellFormedExpression, AreWellFormedArguments}
 use Rattle.ob_silica.specs.Terms.{SilicaForm, const_form, op_form, copy_form, new_form, call_this_form, if_form, SilicaTerms, no_terms, one_term, then_terms}
 use Rattle.ob_silica.specs.declared.place.Constant.TheVariants.{Int as IntConstant, Bool as BoolConstant, Text as TextConstant}
 use Rattle.ob_silica.specs.declared.place.Operand.{Operand}
@@ -34,7 +34,7 @@ use Rattle.ob_silica_formed.specs.Points.{IsConstant, IsPlace, HasKind, HaveOper
 use Rattle.ob_lower_spec.specs.Points.{IsFree, Temporary, in_use, references, SlotVariable, locals_of, slot_of, place_seen, AroundExpression}
 use Rattle.ob_lower_spec.specs.ExpressionTerms.{Lowered, LoweredArguments, operand, into, LowersName, IsCall, calls_this, calls_other, copied_into, logical_into, LowersExpression, LowersArguments}
 use Rattle.ob_lower_formed.proofs.Sets.{among, free_among, among_left, among_split, apart_both, slots_made, made_append, references_append, Within, within_self, within_left, within_right, within_first, within_second}
-use Rattle.ob_lower_formed.proofs.Ways.{FormMade, after_then}
+use Rattle.ob_lower_formed.proofs.Ways.{IsWellFormedForm, after_then}
 use Rattle.ob_lower_formed.proofs.Effects.{Quiet, kept_self, after_on, set_at, held_by, either_of, Leaves, runs_of, leaves_of, none_leaves, leaves_more, then_leaves, Plain, set_leaves, set_after, if_runs}
 use Rattle.ob_lower_formed.proofs.Operands.{some_so, and_so, if_so, none_some, some_same, Stands, own_slot, stands_made, Holds, holds_on, place_there, Serving, serving_on, has_kind, Arguments, arguments_on, arguments_pass, arguments_there, Fresh, fresh_none, fresh_append, fresh_apart, Gave, into_gave, copy_plain}
 
@@ -86,7 +86,7 @@ binary_plain o = refl
 pub new_plain : {f : StaticFrame} {h : Holdings} {used : List ℕ} (k : ℕ) (contract : ContractId) (os : List Operand) (s : Signature)
     → constructor_at f.table contract ≡ Some s → Arguments f used h s.params os → f.params < k → (h k).refers ≡ false → Plain f h (new_form k contract os)
 new_plain {f} {h} {used} k contract os s there args own quiet = record {
-  made = record {
+  well_formed = record {
     numbers = (contract_there (contract_at f.table contract) there, arguments_there args);
     kinds = if_so (constructor_at f.table contract) (λ s. ArePassed f h s.params os) s there (arguments_pass args);
     results = tt;
@@ -97,7 +97,7 @@ new_plain {f} {h} {used} k contract os s there args own quiet = record {
   };
   within = tt;
   follows = tt;
-  behind = refl;
+  after = refl;
   goes_on = refl;
 }
   where
@@ -113,7 +113,7 @@ new_plain {f} {h} {used} k contract os s there args own quiet = record {
     no_interface None e = tt
     no_interface (Some c) e = by_interface c.interface (slice_get c.transactions 0) e
 
--- a call that is made as it must be
+-- a well-formed call
 pub record Called (f : StaticFrame) (h : Holdings) (k : Option ℕ) (contract : ContractId) (tx : TxId) (form : SilicaForm) : Type 0 where
   pub plain : Plain f h form
   pub slot : slot_written form ≡ k
@@ -127,7 +127,7 @@ pub call_made : {f : StaticFrame} {vs : List SlotVariable} (ws : LocalKinds) {us
 call_made {f} {vs} ws {used} {h} at agree k receiver contract tx os form s (calls_this) st sig is apart args result own quiet =
     subst (λ c. Called f h k c tx (call_this_form k tx os)) (sym is) (record {
       plain = record {
-        made = record {
+        well_formed = record {
           numbers = (ap is_some here, arguments_there args);
           kinds = if_so (signature_of f.table f.here tx) (λ s. ArePassed f h s.params os) s here (arguments_pass args);
           results = if_so (signature_of f.table f.here tx) (λ s. is_some k ≡ is_some s.result) s here result;
@@ -138,7 +138,7 @@ call_made {f} {vs} ws {used} {h} at agree k receiver contract tx os form s (call
         };
         within = tt;
         follows = tt;
-        behind = refl;
+        after = refl;
         goes_on = refl;
       };
       slot = refl;
@@ -149,7 +149,7 @@ call_made {f} {vs} ws {used} {h} at agree k receiver contract tx os form s (call
     here = ap (λ c. signature_of f.table c tx) (sym is) ∙ sig
 call_made {f} {vs} ws {used} {h} at agree k (Some receiver) contract tx os form s (calls_other {place = place} e) st sig is apart args result own quiet = record {
   plain = record {
-    made = record {
+    well_formed = record {
       numbers = (ap is_some sig, place_there f h place (Reference contract) there.is, arguments_there args);
       kinds = (there.is, if_so (signature_of f.table contract tx) (λ s. ArePassed f h s.params os) s sig (arguments_pass args));
       results = if_so (signature_of f.table contract tx) (λ s. is_some k ≡ is_some s.result) s sig result;
@@ -160,7 +160,7 @@ call_made {f} {vs} ws {used} {h} at agree k (Some receiver) contract tx os form 
     };
     within = tt;
     follows = tt;
-    behind = refl;
+    after = refl;
     goes_on = refl;
   };
   slot = refl;
@@ -246,7 +246,7 @@ module _ (f : StaticFrame) (vs : List SlotVariable) (at : Span) where
         };
       }
 
-  condition_made : {used : List ℕ} {h : Holdings} (o : Operand) (x y : SilicaTerms) (join : Span) → Holds f used h o.place BoolKind → FormMade f h (if_form o x y join)
+  condition_made : {used : List ℕ} {h : Holdings} (o : Operand) (x y : SilicaTerms) (join : Span) → Holds f used h o.place BoolKind → IsWellFormedForm f h (if_form o x y join)
   condition_made {used} {h} o x y join holds = record {
     numbers = place_there f h o.place BoolKind holds.is;
     kinds = has_kind {wanted = BoolKind} o (serving_of o.place BoolKind holds refl);
@@ -311,19 +311,19 @@ parts_leave {f} {h} {x} {y} used a b l m =
 op_plain : {f : StaticFrame} {g : Holdings} (k : ℕ) (o : SilicaOperator) (a b : Operand) (line : ℕ) → IsPlace f a.place → IsPlace f b.place → HaveOperands f g o a b
     → f.params < k → (g k).refers ≡ false → Plain f g (op_form k o a b line)
 op_plain k o a b line pa pb have own quiet = record {
-  made = record { numbers = (pa, pb); kinds = have; results = tt; params = own; references = quiet; bodies = tt; returns = tt };
+  well_formed = record { numbers = (pa, pb); kinds = have; results = tt; params = own; references = quiet; bodies = tt; returns = tt };
   within = tt;
   follows = tt;
-  behind = refl;
+  after = refl;
   goes_on = refl;
 }
 
 pub const_plain : {f : StaticFrame} {g : Holdings} (k : ℕ) (value : _) → IsConstant value → f.params < k → (g k).refers ≡ false → Plain f g (const_form k value)
 const_plain k value is own quiet = record {
-  made = record { numbers = tt; kinds = is; results = tt; params = own; references = quiet; bodies = tt; returns = tt };
+  well_formed = record { numbers = tt; kinds = is; results = tt; params = own; references = quiet; bodies = tt; returns = tt };
   within = tt;
   follows = tt;
-  behind = refl;
+  after = refl;
   goes_on = refl;
 }
 
@@ -490,7 +490,7 @@ module _ (f : StaticFrame) (vs : List SlotVariable) (ws : LocalKinds) (agree : (
         (new_plain k contract x.operands sig.0 sig.1 gx.arguments (own_slot st k apart) (st.quiet.by k apart refl)) refl refl refl)
 
     pub arguments_made : (ps : List Param) (es : Args) (l : LoweredArguments) (used : List ℕ) (h : Holdings) → LowersArguments (here f vs at) used es l
-        → AreMade f ws es → PassTo f ws ps es → Stands f vs used h → GaveAll f h used l ps
+        → AreWellFormedArguments f ws es → PassTo f ws ps es → Stands f vs used h → GaveAll f h used l ps
     arguments_made [] no_arguments l used h is made pass s =
         subst (λ n. GaveAll f h used n []) (sym is) (record { leaves = none_leaves f h used s.quiet; fresh = fresh_none used; arguments = record { by = tt } })
     arguments_made [] (and_argument e es) l used h low made pass s = absurd pass

@@ -258,13 +258,13 @@ transactions_made program clear own w before (t ∷ ts) is e h =
 
 -- Constructors.
 
-abbrev MadeConstructor : Program → Contract → Constructor → Type 0
-MadeConstructor program own m =
+abbrev CleanConstructor : Program → Contract → Constructor → Type 0
+CleanConstructor program own m =
     Each Clean (formals_sites program own true m.params)
     × Each Clean (body_of_params_sites program own nothing m.params m.body) × HasBlockShape m.body
 
 constructors_of_member_made : (program : Program) (own : Contract) (m : Member) → HasMemberShape own.interface m
-    → Each Clean (member_sites program own m) → Each (MadeConstructor program own) (constructors_of_member m)
+    → Each Clean (member_sites program own m) → Each (CleanConstructor program own) (constructors_of_member m)
 constructors_of_member_made program own (state_member name fields span) shape h = tt
 constructors_of_member_made program own (field_member field) shape h = tt
 constructors_of_member_made program own (constructor_member of perm params body span) shape h =
@@ -276,7 +276,7 @@ constructors_of_member_made program own (transaction_member private listed name 
 
 constructor_made : (program : Program) (clear : Clear program) (own : Contract) (w : World program own)
     (m : Constructor) (b : Block) → m.body ≡ b → own.interface ≡ false → constructor_of own ≡ m
-    → MadeConstructor program own m
+    → CleanConstructor program own m
     → IsWellFormed (table_of program) (body_with program own 0 nothing m.params b)
 constructor_made program clear own w m (block_with statements end) e is made h =
     let s = constructor_in_table program own m in
@@ -297,7 +297,7 @@ default_made program own w is made =
     (record { made = tt; ends = λ h. absurd (cc) })
 
 first_made : (program : Program) (clear : Clear program) (own : Contract) (w : World program own)
-    (ms : List Constructor) → constructors_of own ≡ ms → own.interface ≡ false → Each (MadeConstructor program own) ms
+    (ms : List Constructor) → constructors_of own ≡ ms → own.interface ≡ false → Each (CleanConstructor program own) ms
     → IsWellFormed (table_of program) (constructor_body program own (constructor_of own))
 first_made program clear own w [] e is h =
     let d : constructor_of own ≡ default_constructor own =
@@ -316,7 +316,7 @@ bodies_made : (program : Program) (clear : Clear program) (own : Contract) (w : 
     → Each (IsWellFormed (table_of program)) (bodies_of program own)
 bodies_made program clear own w shape h = at own.interface refl
   where
-    constructors : Each (MadeConstructor program own) (constructors_of own)
+    constructors : Each (CleanConstructor program own) (constructors_of own)
     constructors =
         each_filter _ (λ m. same own.name (part_of_named m.of).name) (constructor_forms own)
         (each_flat_map _ constructors_of_member own.members

@@ -29,7 +29,7 @@ use Rattle.ob_resolve_spec.specs.Bodies.{resolved_local, seen_at, resolved_recei
 use Rattle.ob_resolve_spec.specs.Operators.{unary_operator, resolved_between}
 use Rattle.ob_resolve_spec.specs.Shape.{HasExprShape, HasCallShape, HaveExprShapes}
 use Rattle.ob_resolve_spec.specs.TableOf.{param_in_table, transaction_in_table, constructor_in_table, table_of}
-use Rattle.ob_table_spec.specs.WellFormed.{StaticFrame, LocalKinds, kind_of_unary as unary_there, kind_of_seen, kind_of_expression, serves_as, ServesAs, is_reference, PassTo, IsCalled, constructor_at, IsWellFormedExpression, AreMade, IsValue, kind_of_resolved}
+use Rattle.ob_table_spec.specs.WellFormed.{StaticFrame, LocalKinds, kind_of_unary as unary_there, kind_of_seen, kind_of_expression, serves_as, ServesAs, is_reference, PassTo, IsCalled, constructor_at, IsWellFormedExpression, AreWellFormedArguments, IsValue, kind_of_resolved}
 use Rattle.ob_resolve_laws.proofs.Each.{Each, each_left, each_right, each_at}
 use Rattle.ob_resolve_laws.proofs.Clean.{Clean}
 use Rattle.ob_resolve_laws.proofs.LookUps.{some_value}
@@ -65,7 +65,7 @@ ArgsFact h s no_exprs = Unit {0}
 ArgsFact h s (and_expr e es) = ExprFact h s e × ArgsFact h s es
 
 pub args_made : (h : Here) (s : Scope) (es : Exprs) → ArgsFact h s es
-    → AreMade (frame h) (by_number s.variables) (resolved_args h.around s es)
+    → AreWellFormedArguments (frame h) (by_number s.variables) (resolved_args h.around s es)
 args_made h s no_exprs f = tt
 args_made h s (and_expr e es) f = (f.0.made, args_made h s es f.1)
 

@@ -1,10 +1,10 @@
 //! Laws of a store at rest.
-ghost use Rattle.std.specs.Prelude.{◌≡◌, ◌↔◌, ℕ, slice_get, None};
+ghost use Rattle.std.specs.Prelude.{◌≡◌, ◌↔◌, ◌+◌, ℕ, slice_get, None};
 ghost use Rattle.ob_table.specs.Tables.{ClassTable};
 ghost use Rattle.ob_heap_spec.specs.Contents.{Content};
-ghost use Rattle.ob_rest_spec.specs.Incoming.{owning_places, owner_of};
+ghost use Rattle.ob_rest_spec.specs.Incoming.{owning_places, owner_of, owners};
 ghost use Rattle.ob_rest_spec.specs.AtRest.{IsAtRest, first_failing_object, EachAssetHasOneOwner};
-ghost use Rattle.ob_rest_laws.specs.Laws.{FailsInNoWay};
+ghost use Rattle.ob_rest_laws.specs.Laws.{FailsInNoWay, field_owners, handle_owners, ChangesQuietly};
 
 /// A store is at rest exactly where each of its objects fails in none of the six ways.
 pub fn at_rest_is_asked_way_by_way()
@@ -22,8 +22,20 @@ pub fn first_failing_object_is_told()
         → (first_failing_object table content ≡ None) ↔ IsAtRest table content }
 {}
 
+/// The owning places of an object are the fields and the handles that own it.
+pub fn owners_add_up()
+    ensures { (table : ClassTable) (content : Content) (n : ℕ) → owners table content n
+        ≡ field_owners table content.objects n + handle_owners content.handles n }
+{}
+
 /// The owner of an object is the first of its owning places; it has none where there are none.
 pub fn owner_is_first_owning_place()
     ensures { (table : ClassTable) (content : Content) (n : ℕ)
         → owner_of table content n ≡ slice_get (owning_places table content n) 0 }
+{}
+
+/// A store at rest stays so where objects gain marks at most, and owners and Shared handles change with the marks.
+pub fn quiet_changes_keep_rest()
+    ensures { (table : ClassTable) (content after : Content) → IsAtRest table content
+        → ChangesQuietly table content after → IsAtRest table after }
 {}

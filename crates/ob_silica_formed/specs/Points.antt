@@ -122,7 +122,8 @@ IsMovedTo f h to None from = ⊥
 IsMovedTo f h to (Some contract) from = HasKind f h (Reference contract) from
 
 -- A constant is a value of its kind, and each operand of a form has the kind that the form needs; there are as many
--- arguments as parameters beside `this`, and no field is given twice.
+-- arguments as parameters beside `this`, and no field is given twice. Of a `new` of an interface, which has no constructor,
+-- nothing is asked here: `NamesBody` rules it out.
 abbrev pub HasKinds : StaticFrame → Holdings → SilicaForm → Type 0
 HasKinds f h (const_form k value) = IsConstant value
 HasKinds f h (op_form k operator a b line) = HaveOperands f h operator a b

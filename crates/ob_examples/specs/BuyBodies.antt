@@ -1,4 +1,4 @@
--- Bodies of the vending machine's `buy` that aren't well-formed, each by one point (this project's own).
+-- A body of the vending machine's `buy` that is well-formed, and bodies that aren't, each by one point (this project's own).
 use Rattle.std.specs.Prelude.{pos, ◌^◌, [], ◌∷◌, Some}
 use Rattle.ob_examples.specs.Written.{contract_number}
 use Rattle.ob_silica.specs.Terms.{const_form, move_form, drop_form, return_form, no_terms, SilicaBody}
@@ -8,8 +8,8 @@ use Rattle.ob_examples.specs.WrittenTerms.{field_on, slot_on, on, terms_body}
 use Rattle.ob_examples.specs.VendingMachineTerms.{buy_terms}
 
 -- the body as it is lowered
-abbrev pub buy_made : SilicaBody
-buy_made = terms_body 2 1 buy_terms 6
+abbrev pub buy_lowered : SilicaBody
+buy_lowered = terms_body 2 1 buy_terms 6
 
 -- the same with a slot too few
 abbrev pub buy_short : SilicaBody
