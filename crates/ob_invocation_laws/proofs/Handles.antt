@@ -94,7 +94,7 @@ pairs_back (h ∷ handles) all =
     (below_back h handles (head_before h handles all)) (pairs_back handles (tail_pairs h handles all))
 
 -- a handle that is put keeps the order
-put_in_order : (handles : List NamedHandle) (h : NamedHandle) → AllPairs Before handles
+pub put_in_order : (handles : List NamedHandle) (h : NamedHandle) → AllPairs Before handles
     → AllPairs Before (put_handle handles h)
 put_in_order handles h all =
     pairs (put_handle handles h) (is_sorted-put name_order names_total h.0 h.1 handles (pairs_back handles all))

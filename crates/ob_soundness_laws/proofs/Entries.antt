@@ -123,11 +123,11 @@ pub data ArgumentsFit (table : ClassTable) (content : Content) (who : List ℕ) 
       → value_of content who arg ≡ Some v → is_of_type table content.objects p.of v ≡ true
       → ArgumentsFit table content who ps args vs → ArgumentsFit table content who (p ∷ ps) (arg ∷ args) (v ∷ vs)
 
-or_false : (a b : Bool) → (a || b) ≡ false → (a ≡ false) × (b ≡ false)
+pub or_false : (a b : Bool) → (a || b) ≡ false → (a ≡ false) × (b ≡ false)
 or_false true b e = absurd cc
 or_false false b e = (refl, e)
 
-not_false : (a : Bool) → not a ≡ false → a ≡ true
+pub not_false : (a : Bool) → not a ≡ false → a ≡ true
 not_false true e = refl
 not_false false e = absurd cc
 

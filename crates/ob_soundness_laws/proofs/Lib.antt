@@ -7,3 +7,4 @@ pub mod Entries
 pub mod Starting
 pub mod Firsts
 pub mod Whole
+pub mod Puts
