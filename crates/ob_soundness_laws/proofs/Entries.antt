@@ -55,12 +55,12 @@ module _ (table : ClassTable) (content : Content) (e : Entry) where
   }
 
   pub has_passed : IsEntered table content e → HasPassed table content e
-  has_passed (by_request_new who r is passed within) =
+  has_passed (by_request_new who r labels is passed within) =
       let all = each_after _ (argument_checks content who r.args)
       (check no_contract (is_no_contract table r.contract) ∷ check not_main (is_not_main table r.contract)
       ∷ found_checks table content (entry_of_new table who r)) (each_passes (new_checks table content who r) passed) in
       entry_passes (subst (λ x. Each (λ (c : Check). c.holds ≡ false) (found_checks table content x)) is all.1.1)
-  has_passed (by_request_call who r is passed within) =
+  has_passed (by_request_call who r labels is passed within) =
       let all = each_after _ (argument_checks content who r.args)
       (check no_transaction (is_no_transaction (entry_of_call table content who r))
       ∷ found_checks table content (entry_of_call table content who r)) (each_passes (call_checks table content who r) passed).1 in

@@ -169,7 +169,7 @@ module _ (program : SilicaProgram) (content : Content) (fuel : ℕ) (e : Entry) 
       (λ u at owned. refl))))
 
 pub runs_start : RunsStart
-runs_start program content fuel e (by_request_new who r is passed within) =
-    new_starts program content fuel e (by_request_new who r is passed within) (enters_new program.table content e who r is)
-runs_start program content fuel e (by_request_call who r is passed within) =
-    call_starts program content fuel e (by_request_call who r is passed within) (enters_call program.table content e who r is)
+runs_start program content fuel e (by_request_new who r labels is passed within) =
+    new_starts program content fuel e (by_request_new who r labels is passed within) (enters_new program.table content e who r is)
+runs_start program content fuel e (by_request_call who r labels is passed within) =
+    call_starts program content fuel e (by_request_call who r labels is passed within) (enters_call program.table content e who r is)

@@ -72,14 +72,14 @@ module _ (program : SilicaProgram) (checked : IsCheckedProgram program) (lowered
     where
       by_entry : IsEntered program.table content e
           → EndsAs program (started program content fuel e) (run_entry (source_meaning program.table fuel) content fuel e)
-      by_entry (by_request_new who r is passed within) =
+      by_entry (by_request_new who r labels is passed within) =
           let n = enters_new program.table content e who r is in
           subst (λ (x : Option HandleUse). EndsAs program (started_on program e x (values_of content e)
           (Rattle.ob_silica_steps.specs.Starting.first_notes program.table (entry_world content fuel e).objects (handles_in_run content e)) (entry_world content fuel e))
           (run_on_receiver (source_meaning program.table fuel) e x (values_of content e) (entry_world content fuel e))) (sym n.receiver)
           (news_keep_meaning program e.contract (values_of content e) (handles_in_run content e) (entry_world content fuel e) fuel
           lowered enough (subst (λ (s : Option Signature). IfSome s (λ s. length (values_of content e) ≡ length s.params)) (sym n.constructor) count))
-      by_entry (by_request_call who r is passed within) =
+      by_entry (by_request_call who r labels is passed within) =
           let n = enters_call program.table content e who r is in
           subst (λ (x : Option HandleUse). EndsAs program (started_on program e x (values_of content e)
           (Rattle.ob_silica_steps.specs.Starting.first_notes program.table (entry_world content fuel e).objects (handles_in_run content e)) (entry_world content fuel e))
@@ -243,14 +243,15 @@ main_enters table made content who r named main = go (contract_named table.contr
 module _ (keep : StepsKeep) (begins : BeginsSo) (ends : EndsSo) (still : StillLeavesAtRest) where
   no_new_goes_wrong : (program : SilicaProgram) (content : Content) (who : List ℕ) (r : NewRequest) (fuel : ℕ)
       → IsCheckedProgram program → IsLoweredProgram program → IsStoreAtRest program.table content
+      → HasLabels (record { who = who; operation = new_request r })
       → LeavesAtRest program.table (invoke_new (source_meaning program.table fuel) program.table content fuel who r)
-  no_new_goes_wrong program content who r fuel checked lowered rests =
+  no_new_goes_wrong program content who r fuel checked lowered rests labels =
       refused_leaves keep begins ends program checked lowered content rests fuel (refusal_of (new_checks program.table content who r))
       (reads_of (new_checks program.table content who r))
       (λ reads. with_found (entry_of_new program.table who r) (enter_entry (source_meaning program.table fuel) program.table content fuel reads))
       (λ passed. found_leaves keep begins ends program checked lowered content rests fuel (entry_of_new program.table who r)
       (reads_of (new_checks program.table content who r))
-      (λ e is within. by_request_new who r is passed within)
+      (λ e is within. by_request_new who r labels is passed within)
       (let all = each_after _ (argument_checks content who r.args)
       (check no_contract (is_no_contract program.table r.contract) ∷ check not_main (is_not_main program.table r.contract)
       ∷ found_checks program.table content (entry_of_new program.table who r)) (each_passes (new_checks program.table content who r) passed) in
@@ -258,14 +259,15 @@ module _ (keep : StepsKeep) (begins : BeginsSo) (ends : EndsSo) (still : StillLe
 
   no_call_goes_wrong : (program : SilicaProgram) (content : Content) (who : List ℕ) (r : CallRequest) (fuel : ℕ)
       → IsCheckedProgram program → IsLoweredProgram program → IsStoreAtRest program.table content
+      → HasLabels (record { who = who; operation = call_request r })
       → LeavesAtRest program.table (invoke_call (source_meaning program.table fuel) program.table content fuel who r)
-  no_call_goes_wrong program content who r fuel checked lowered rests =
+  no_call_goes_wrong program content who r fuel checked lowered rests labels =
       refused_leaves keep begins ends program checked lowered content rests fuel (refusal_of (call_checks program.table content who r))
       (reads_of (call_checks program.table content who r))
       (λ reads. with_found (entry_of_call program.table content who r) (enter_entry (source_meaning program.table fuel) program.table content fuel reads))
       (λ passed. found_leaves keep begins ends program checked lowered content rests fuel (entry_of_call program.table content who r)
       (reads_of (call_checks program.table content who r))
-      (λ e is within. by_request_call who r is passed within)
+      (λ e is within. by_request_call who r labels is passed within)
       (let all = each_after _ (argument_checks content who r.args)
       (check no_transaction (is_no_transaction (entry_of_call program.table content who r))
       ∷ found_checks program.table content (entry_of_call program.table content who r))
@@ -280,10 +282,12 @@ module _ (keep : StepsKeep) (begins : BeginsSo) (ends : EndsSo) (still : StillLe
           → LeavesAtRest program.table (invoke_operation (source_meaning program.table fuel) program.table content fuel request.who request.operation)
       go (new_request r) is = subst (λ (o : Operation). LeavesAtRest program.table
           (invoke_operation (source_meaning program.table fuel) program.table content fuel request.who o)) (sym is)
-          (no_new_goes_wrong program content request.who r fuel checked lowered rests)
+          (no_new_goes_wrong program content request.who r fuel checked lowered rests
+          (subst (λ (o : Operation). HasLabels (record { who = request.who; operation = o })) is labels))
       go (call_request r) is = subst (λ (o : Operation). LeavesAtRest program.table
           (invoke_operation (source_meaning program.table fuel) program.table content fuel request.who o)) (sym is)
-          (no_call_goes_wrong program content request.who r fuel checked lowered rests)
+          (no_call_goes_wrong program content request.who r fuel checked lowered rests
+          (subst (λ (o : Operation). HasLabels (record { who = request.who; operation = o })) is labels))
       go (disown_request on) is = still (source_meaning program.table fuel) program.table content request fuel checked.table rests labels (ap runs is)
       go (give_request r) is = still (source_meaning program.table fuel) program.table content request fuel checked.table rests labels (ap runs is)
       go (see_request on) is = still (source_meaning program.table fuel) program.table content request fuel checked.table rests labels (ap runs is)

@@ -25,7 +25,7 @@ use Rattle.ob_coherent_spec.specs.Remaining.{IsCheckedProgram}
 use Rattle.ob_table_spec.specs.Conditions.{IsClassTable}
 use Rattle.ob_rest_spec.specs.Modes.{is_owned}
 use Rattle.ob_rest_spec.specs.AtRest.{IsStoreAtRest}
-use Rattle.ob_invocation_spec.specs.Requests.{NewRequest, CallRequest, Request, HasLabels}
+use Rattle.ob_invocation_spec.specs.Requests.{NewRequest, CallRequest, new_request, call_request, Request, HasLabels}
 use Rattle.ob_invocation_spec.specs.Replies.{Invocation, invoked, goes_wrong}
 use Rattle.ob_invocation_spec.specs.Handles.{NamedHandle, handle_name, handle_at, are_handles_full, put_handles, mark_puts}
 use Rattle.ob_invocation_spec.specs.Entries.{HandleUse, Entry, mode_of_result, entry_of_new, entry_of_call, used_as_receiver, values_of, handle_uses}
@@ -97,10 +97,12 @@ started program content fuel e = started_on program e e.receiver (values_of cont
 
 -- A `new` or a `call` enters this: no check refuses it, and the entry test finds each object within.
 pub data IsEntered (table : ClassTable) (content : Content) (e : Entry) : Type 0 where
-  by_request_new : (who : List ℕ) (r : NewRequest) → entry_of_new table who r ≡ Some e
+  by_request_new : (who : List ℕ) (r : NewRequest) → HasLabels (record { who = who; operation = new_request r })
+      → entry_of_new table who r ≡ Some e
       → refusal_of (new_checks table content who r) ≡ None → first_outside_use table content e ≡ None
       → IsEntered table content e
-  by_request_call : (who : List ℕ) (r : CallRequest) → entry_of_call table content who r ≡ Some e
+  by_request_call : (who : List ℕ) (r : CallRequest) → HasLabels (record { who = who; operation = call_request r })
+      → entry_of_call table content who r ≡ Some e
       → refusal_of (call_checks table content who r) ≡ None → first_outside_use table content e ≡ None
       → IsEntered table content e
 
