@@ -1,10 +1,11 @@
 -- What is known of what a request enters: which checks it has passed, and what it is.
 use Rattle.std.proofs.Common.{◌≡◌, ℕ, zero, suc, ◌+◌, Bool, true, false, cond, not, List, [], ◌∷◌, ◌++◌, length, Option, Some, None, refl, sym, ap, subst, ◌∙◌, arith, ⊎_elim}
-use Rattle.std.specs.Prelude.{◌==◌, ◌||◌, zip, filter_map, flat_map, ⊤}
+use Rattle.std.specs.Prelude.{◌==◌, ◌||◌, ◌&&◌, IsTrue, zip, filter_map, flat_map, ⊤}
 use Rattle.std.specs.Option.{option_map_or, option_and_then}
 use Rattle.std.specs.List.{list_any, cons_option}
 use Rattle.std.proofs.lemmas.Bool.{cases_Bool}
 use Rattle.std.proofs.lemmas.Bool.Decides.{nat_tests}
+use Rattle.ob_base.specs.Names.{is_label}
 use Rattle.ob_base.specs.Optional.{◌>>=◌, where_true}
 use Rattle.ob_base.specs.declared.id.ContractId.{ContractId}
 use Rattle.ob_base.specs.declared.id.TxId.{TxId}
@@ -17,7 +18,7 @@ use Rattle.ob_heap_spec.specs.Values.{Value}
 use Rattle.ob_heap_spec.specs.Objects.{Object}
 use Rattle.ob_heap_spec.specs.Contents.{Handle, Content, object_at}
 use Rattle.ob_heap_spec.specs.Dispatch.{transaction_named}
-use Rattle.ob_invocation_spec.specs.Requests.{Argument, NewRequest, CallRequest}
+use Rattle.ob_invocation_spec.specs.Requests.{Argument, NewRequest, CallRequest, call_request, HasLabels}
 use Rattle.ob_invocation_spec.specs.Handles.{handle_name, handle_at}
 use Rattle.ob_invocation_spec.specs.Entries.{Entry, entry_of_new, entry_of_call, value_of, values_of}
 use Rattle.ob_invocation_spec.specs.Checks.{Check, check, refusal_of}
@@ -76,6 +77,15 @@ where_so : {A : Type 0} (t : Bool) (x y : A) → where_true t x ≡ Some y → x
 where_so true x y e = cc
 where_so false x y e = absurd cc
 
+third : (a b c d : Bool) → IsTrue (a && (b && (c && d))) → IsTrue c
+third true true true d h = h_true
+  where
+    h_true : IsTrue true
+    h_true = refl
+third true true false d h = h
+third true false c d h = absurd (let z : false ≡ true = h in cc)
+third false b c d h = absurd (let z : false ≡ true = h in cc)
+
 module _ (table : ClassTable) (content : Content) (e : Entry) where
   pub enters_new : (who : List ℕ) (r : NewRequest) → entry_of_new table who r ≡ Some e → EntersNew table e
   enters_new who r is =
@@ -93,8 +103,9 @@ module _ (table : ClassTable) (content : Content) (e : Entry) where
       } ≡ e = cc in
       subst (EntersNew table) same (record { receiver = refl; constructor = s.1; tx = refl; given = refl })
 
-  pub enters_call : (who : List ℕ) (r : CallRequest) → entry_of_call table content who r ≡ Some e → EntersCall table content e
-  enters_call who r is =
+  pub enters_call : (who : List ℕ) (r : CallRequest) → HasLabels (record { who = who; operation = call_request r })
+      → entry_of_call table content who r ≡ Some e → EntersCall table content e
+  enters_call who r labels is =
       let h = bound (handle_at content (handle_name who r.on)) _ e is in
       let o = bound (object_at content.objects h.0.object) _ e h.2 in
       let own = bound (contract_at table o.0.contract) _ e o.2 in
@@ -109,6 +120,9 @@ module _ (table : ClassTable) (content : Content) (e : Entry) where
         contract = refl;
         own = own.0;
         is_own = own.1;
+        asked = r.tx;
+        label = third (is_label who) (is_label r.on) (is_label r.tx) _ labels;
+        named = tx.1;
         signature = s.1;
         receiver = refl;
         given = refl;

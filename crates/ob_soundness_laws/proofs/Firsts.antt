@@ -172,4 +172,4 @@ pub runs_start : RunsStart
 runs_start program content fuel e (by_request_new who r labels is passed within) =
     new_starts program content fuel e (by_request_new who r labels is passed within) (enters_new program.table content e who r is)
 runs_start program content fuel e (by_request_call who r labels is passed within) =
-    call_starts program content fuel e (by_request_call who r labels is passed within) (enters_call program.table content e who r is)
+    call_starts program content fuel e (by_request_call who r labels is passed within) (enters_call program.table content e who r labels is)

@@ -8,3 +8,4 @@ pub mod Starting
 pub mod Firsts
 pub mod Whole
 pub mod Puts
+pub mod Bodies

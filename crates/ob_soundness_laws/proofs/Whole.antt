@@ -80,7 +80,7 @@ module _ (program : SilicaProgram) (checked : IsCheckedProgram program) (lowered
           (news_keep_meaning program e.contract (values_of content e) (handles_in_run content e) (entry_world content fuel e) fuel
           lowered enough (subst (λ (s : Option Signature). IfSome s (λ s. length (values_of content e) ≡ length s.params)) (sym n.constructor) count))
       by_entry (by_request_call who r labels is passed within) =
-          let n = enters_call program.table content e who r is in
+          let n = enters_call program.table content e who r labels is in
           subst (λ (x : Option HandleUse). EndsAs program (started_on program e x (values_of content e)
           (Rattle.ob_silica_steps.specs.Starting.first_notes program.table (entry_world content fuel e).objects (handles_in_run content e)) (entry_world content fuel e))
           (run_on_receiver (source_meaning program.table fuel) e x (values_of content e) (entry_world content fuel e))) (sym n.receiver)

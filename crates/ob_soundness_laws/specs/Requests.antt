@@ -1,6 +1,8 @@
 -- How a request's run begins and what it leaves (Coblenz et al., TOPLAS 42(3), 2020, "Permissions"; what handles carry while a
 -- run lasts is this project's own).
-use Rattle.std.specs.Prelude.{◌≡◌, ℕ, ◌≤◌, Bool, true, false, List, [], ◌∷◌, length, map, flat_map, Option, Some, None, if◌then◌else◌, ⊤}
+use Rattle.std.specs.Prelude.{◌≡◌, ℕ, ◌≤◌, Bool, true, false, List, [], ◌∷◌, length, map, flat_map, Option, Some, None, if◌then◌else◌, IsTrue, ⊤}
+use Rattle.ob_base.specs.Names.{is_label}
+use Rattle.ob_heap_spec.specs.Dispatch.{transaction_named}
 use Rattle.ob_base.specs.Limits.{most_objects}
 use Rattle.std.specs.List.{list_any}
 use Rattle.std.specs.Ordering.{eq_by_cmp}
@@ -218,6 +220,9 @@ pub record EntersCall (table : ClassTable) (content : Content) (e : Entry) : Typ
   pub contract : object.contract ≡ e.contract
   pub own : Contract
   pub is_own : contract_at table e.contract ≡ Some own
+  pub asked : List ℕ
+  pub label : IsTrue (is_label asked)
+  pub named : transaction_named own asked ≡ Some e.tx
   pub signature : signature_at own e.tx ≡ Some e.signature
   pub receiver : e.receiver ≡ Some (used_as_receiver name handle e.contract e.signature)
   pub given : e.given ≡ mode_of_result e.signature.result
