@@ -9,3 +9,4 @@ pub mod Firsts
 pub mod Whole
 pub mod Puts
 pub mod Bodies
+pub mod Left
