@@ -26,14 +26,14 @@ begins_with_letter (b ∷ bytes) = is_letter b
 abbrev pub is_word : List ℕ → Bool
 is_word bytes = begins_with_letter bytes && list_all is_letter_or_digit bytes
 
--- a word of at most 64 bytes
+-- a word of at most `longest_name` bytes
 abbrev pub is_name : List ℕ → Bool
 is_name bytes = nat_le (length bytes) longest_name && is_word bytes
 
--- 1 to 64 bytes of UTF-8
+-- 1 to `longest_name` bytes of UTF-8
 abbrev pub is_label : List ℕ → Bool
 is_label bytes = nat_le 1 (length bytes) && nat_le (length bytes) longest_name && is_utf8 bytes
 
--- at most 1,024 bytes of UTF-8
+-- at most `longest_string` bytes of UTF-8
 abbrev pub is_text : List ℕ → Bool
 is_text bytes = nat_le (length bytes) longest_string && is_utf8 bytes

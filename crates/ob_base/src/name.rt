@@ -74,7 +74,7 @@ fn is_utf8(bytes: &[u8]) -> bool
 }
 
 /// The name of a contract, a field, a transaction or a parameter: a letter or `_`, and then letters,
-/// digits and `_` (ASCII), of 1 to 64 bytes. A reserved word is a name here too.
+/// digits and `_` (ASCII), of 1 to `LONGEST_NAME` bytes. A reserved word is a name here too.
 #[derive(Debug, Drop)]
 pub struct Name {
     bytes: Items<u8>,
@@ -122,7 +122,7 @@ impl Duplicate for Name {
     }
 }
 
-/// A client's name, or the name that it gives to a handle: 1 to 64 bytes of UTF-8.
+/// A client's name, or the name that it gives to a handle: 1 to `LONGEST_NAME` bytes of UTF-8.
 #[derive(Debug, Drop)]
 pub struct Label {
     bytes: Items<u8>,
@@ -170,7 +170,7 @@ impl Duplicate for Label {
     }
 }
 
-/// A value of the language's type `string`: at most 1,024 bytes of UTF-8.
+/// A value of the language's type `string`: at most `LONGEST_STRING` bytes of UTF-8.
 #[derive(Debug, Drop)]
 pub struct Text {
     bytes: Items<u8>,

@@ -1,8 +1,8 @@
 -- All places are handed over to their parameters.
-use Rattle.std.proofs.Common.{◌≡◌, ◌≢◌, ℕ, suc, ◌+◌, ◌<◌, ◌≤◌, Bool, true, false, ◌&&◌, ◌||◌, List, [], ◌∷◌, ◌++◌, append_assoc, length, Option, Some, None, refl, sym, ap, subst, ◌∙◌, arith, ⊎_elim, ◌⊎◌, inl, inr, true≢false}
-use Rattle.std.specs.Prelude.{map, if◌then◌else◌}
-use Rattle.std.proofs.lemmas.Bool.{cases_Bool, both_ways, or_left, or_right}
-use Rattle.std.proofs.lemmas.Option.{none-some}
+use Rattle.std.proofs.Common.{◌≡◌, ◌≢◌, ℕ, suc, ◌+◌, ◌<◌, ◌≤◌, Bool, true, false, ◌&&◌, ◌||◌, List, [], ◌∷◌, ◌++◌, append_assoc, length, Option, Some, None, refl, sym, ap, subst, ◌∙◌, arith, ⊎_elim, append-nil}
+use Rattle.std.specs.Prelude.{if◌then◌else◌}
+use Rattle.std.proofs.lemmas.Bool.{both_ways, or_left, or_right, or_parts}
+use Rattle.std.proofs.lemmas.Option.{none-some, same_Some}
 use Rattle.ob_base.specs.Limits.{most_slots}
 use Rattle.ob_perm.specs.Permissions.{Permission, unowned, owns, kept}
 use Rattle.ob_table.specs.Tables.{ClassTable}
@@ -10,12 +10,12 @@ use Rattle.ob_table.specs.declared.seen.Kind.{Kind}
 use Rattle.ob_table_spec.specs.Conditions.{IsClassTable}
 use Rattle.ob_table_spec.specs.WellFormed.{kind_of_resolved, serves_as}
 use Rattle.ob_heap_spec.specs.Values.{reference}
-use Rattle.ob_silica_places.specs.Known.{Known, permission_of_type, at}
+use Rattle.ob_silica_places.specs.Known.{Known, permission_of_type}
 use Rattle.ob_silica_places.specs.Places.{Location, this, same_location}
 use Rattle.ob_silica_places.specs.Parameters.{Parameter}
 use Rattle.ob_silica_steps.specs.Cells.{Cell, noted}
-use Rattle.ob_silica_steps.specs.Configurations.{Loan, Configuration, NextStep}
-use Rattle.ob_silica_steps.specs.Here.{here, read, if_there}
+use Rattle.ob_silica_steps.specs.Configurations.{Configuration, NextStep}
+use Rattle.ob_silica_steps.specs.Here.{here, if_there}
 use Rattle.ob_silica_steps.specs.Binding.{Bound, bound_cell, bind_one, bind_all, loan_of}
 use Rattle.ob_flow_spec.specs.Contexts.{Context, TestedPlaces, constructs, now, with_permission, permission_at, is_set}
 use Rattle.ob_flow_spec.specs.Uses.{Read, kind_known, given_to}
@@ -24,33 +24,35 @@ use Rattle.ob_flow_laws.specs.Binding.{EachOnceAfter, EachOnce, CanGiveAll}
 use Rattle.ob_places_laws.proofs.Permissions.{kept_owner}
 use Rattle.ob_coherent_spec.specs.Counting.{nth_object}
 use Rattle.ob_coherent_spec.specs.Runs.{constructions}
-use Rattle.ob_coherent_spec.specs.Standing.{HasItsState, NeedsOwner}
+use Rattle.ob_coherent_spec.specs.Standing.{HasItsState, Stands}
 use Rattle.ob_coherent_spec.specs.Remaining.{BodyParts, body_of, IsPlaceIn}
 use Rattle.ob_perm.specs.Permissions.{owns}
 use Rattle.ob_coherent_counting_laws.proofs.Sums.{at_same, at_other}
-use Rattle.ob_coherent_places_laws.specs.Placed.{cell_at, Stays, Sits, Found}
+use Rattle.ob_coherent_places_laws.specs.Placed.{cell_at, Stays}
 use Rattle.ob_coherent_places_laws.proofs.Reading.{place_is, same_place}
 use Rattle.ob_coherent_places_laws.proofs.Writing.{stays_itself, stays_onward}
 use Rattle.ob_coherent_places_laws.proofs.Standing.{stands_stay}
 use Rattle.ob_coherent_places_laws.proofs.Finding.{found_at, found_read}
-use Rattle.ob_coherent_calls_laws.specs.Bound.{IsBoundTo, AreBound}
-use Rattle.ob_coherent_calls_laws.specs.Binds.{in_frame, in_both, in_rest, Binds, IsLent, AreLent, lent_all, AreOnce, ArePassedTo, places_of, AllBound}
+use Rattle.ob_coherent_calls_laws.specs.Binds.{in_frame, in_rest, Binds, lent_all, AreOnce, ArePassedTo, places_of, AllBound}
 use Rattle.ob_coherent_calls_laws.proofs.Binding.{bind_next, next_same, next_other, next_bound, next_stays}
 
 -- Kinds, and what is known to be set, stay where a permission changes.
 
-kind_put : (b : Bool) (w : Permission) (x y : Option Known) → x ≡ y → kind_known (if b then with_permission w x else y) ≡ kind_known y
+kind_put : (b : Bool) (w : Permission) (x y : Option Known) → x ≡ y
+    → kind_known (if b then with_permission w x else y) ≡ kind_known y
 kind_put true w None y e = ap kind_known e
 kind_put true w (Some z) y e = ap kind_known e
 kind_put false w x y e = refl
 
-pub kind_now : (g : Context) (p : Location) (w : Permission) (q : Location) → kind_known (now g p w q) ≡ kind_known (g q)
+pub kind_now : (g : Context) (p : Location) (w : Permission) (q : Location)
+    → kind_known (now g p w q) ≡ kind_known (g q)
 kind_now g p w q = ⊎_elim
     (λ e. kind_put (same_location q p) w (g p) (g q) (ap g (sym e)))
     (λ e. ap (λ b. kind_known (if b then with_permission w (g p) else g q)) e)
     (place_is q p)
 
-set_put : (b : Bool) (w : Permission) (x y : Option Known) → x ≡ y → is_set (if b then with_permission w x else y) ≡ is_set y
+set_put : (b : Bool) (w : Permission) (x y : Option Known) → x ≡ y
+    → is_set (if b then with_permission w x else y) ≡ is_set y
 set_put true w None y e = ap is_set e
 set_put true w (Some z) y e = ap is_set e
 set_put false w x y e = refl
@@ -79,7 +81,8 @@ once_from owning before [] ps once says = tt
 once_from owning before (r ∷ rs) [] once says = tt
 once_from owning before (r ∷ rs) (p ∷ ps) once says = (
   λ wants. free_after owning (r ∷ before) rs r.location once.1
-      (says r.location (or_left (same_location r.location r.location && wants_owner p) (is_given_owning r.location rs ps)
+      (says r.location (or_left (same_location r.location r.location && wants_owner p)
+      (is_given_owning r.location rs ps)
       (ap (λ b. b && wants_owner p) (same_place r.location) ∙ wants)))
       (or_left (same_location r.location r.location) (is_among r.location before) (same_place r.location)),
   once_from owning (r ∷ before) rs ps once.1
@@ -88,6 +91,20 @@ once_from owning before (r ∷ rs) (p ∷ ps) once says = (
 
 pub are_once : (rs : List Read) (ps : List Parameter) → EachOnce rs ps → AreOnce rs ps
 are_once rs ps once = once_from (λ p. is_given_owning p rs ps) [] rs ps once (λ l given. given)
+
+-- a place that has a cell while places are bound had one with that value and kind
+pub was_set : (table : ClassTable) (c : Configuration) (parts : BodyParts) (b : Bound) (g : Context) (n : ℕ)
+    → Binds table c parts b g n → (q : Location) (y : Cell) → cell_at b.from q ≡ Some y
+    → (x : Cell) × (cell_at (here c) q ≡ Some x) × (y.value ≡ x.value) × (y.note.kind ≡ x.note.kind)
+was_set table c parts b g n k q y e = by_cell (cell_at (here c) q) refl
+  where
+    by_cell : (o : Option Cell) → cell_at (here c) q ≡ o
+        → (x : Cell) × (cell_at (here c) q ≡ Some x) × (y.value ≡ x.value) × (y.note.kind ≡ x.note.kind)
+    by_cell None i = absurd (none-some y (sym (k.unset q i) ∙ e))
+    by_cell (Some x) i =
+        let r = k.alike q x i in
+        let same : r.0 ≡ y = same_Some r.0 y (sym r.1 ∙ e) in
+        (x, i, ap (λ (z : Cell). z.value) (sym same) ∙ r.2, ap (λ (z : Cell). z.note.kind) (sym same) ∙ r.3)
 
 -- All places.
 
@@ -98,56 +115,52 @@ module _ (table : ClassTable) (made : IsClassTable table) (c : Configuration) (p
     (finished : (q : Location) (x : Cell) → IsPlaceIn (body_of table c.frame parts) q
     → (constructs (body_of table c.frame parts) ≡ true → same_location q this ≡ false) → cell_at (here c) q ≡ Some x
     → (m : ℕ) → 0 < constructions m c → x.value ≢ reference m) where
-  -- a place that has a cell had one with that value and kind
-  was_set : (b : Bound) (g : Context) (n : ℕ) → Binds table c parts b g n → (q : Location) (y : Cell)
-      → cell_at b.from q ≡ Some y
-      → (x : Cell) × (cell_at (here c) q ≡ Some x) × (y.value ≡ x.value) × (y.note.kind ≡ x.note.kind)
-  was_set b g n k q y e = by_cell (cell_at (here c) q) refl
-    where
-      by_cell : (o : Option Cell) → cell_at (here c) q ≡ o
-          → (x : Cell) × (cell_at (here c) q ≡ Some x) × (y.value ≡ x.value) × (y.note.kind ≡ x.note.kind)
-      by_cell None i = absurd (none-some y (sym (k.unset q i) ∙ e))
-      by_cell (Some x) i =
-          let r = k.alike q x i in
-          let same : r.0 ≡ y = Rattle.std.proofs.lemmas.Option.same_Some r.0 y (sym r.1 ∙ e) in
-          (x, i, ap (λ (z : Cell). z.value) (sym same) ∙ r.2, ap (λ (z : Cell). z.note.kind) (sym same) ∙ r.3)
-
   -- what is bound of the first place and of those after it
-  bound_first : (known g : Context) (b : Bound) (r : Read) (rs : List Read) (p : Parameter) (ps : List Parameter) (n : ℕ)
+  bound_first : (known g : Context) (b : Bound) (r : Read) (rs : List Read) (p : Parameter) (ps : List Parameter)
+      (n : ℕ)
       (x : Cell) (next : Bound) → kind_known (known r.location) ≡ x.note.kind → is_set (known r.location) ≡ true
       → cell_at (bind_one table b r.location x n p).from r.location
       ≡ Some (noted (kept x.note.permission (permission_of_type p.of)) x)
       → ((q : Location) → same_location q r.location ≡ false
       → cell_at (bind_one table b r.location x n p).from q ≡ cell_at b.from q)
-      → Rattle.ob_coherent_spec.specs.Standing.Stands table (bind_one table b r.location x n p).from.world.objects
+      → Stands table (bind_one table b r.location x n p).from.world.objects
       (bound_cell p.of x.value)
       → Stays b.from (bind_one table b r.location x n p).from
       → (wants_owner p ≡ true → is_among r.location rs ≡ false)
+      → ((y : Cell) → cell_at (here c) r.location ≡ Some y → x.value ≡ y.value)
       → AllBound table c parts known (given_to g r.location p) (bind_one table b r.location x n p) rs ps (suc n) next
       → AllBound table c parts known g b (r ∷ rs) (p ∷ ps) n next
-  bound_first known g b r rs p ps n x next kind set same other stands stays once a = record {
+  bound_first known g b r rs p ps n x next kind set same other stands stays once first a = record {
     binds = subst (Binds table c parts next (given_all (given_to g r.location p) rs ps))
         (let e : suc n + length ps ≡ n + suc (length ps) = omega arith in e) a.binds;
     stays = stays_onward b.from (bind_one table b r.location x n p).from next.from stays a.stays;
-    bound = (record {
-      value = x.value;
-      set = slot_is;
-      stands = stands_stay table (bind_one table b r.location x n p).from next.from a.stays (bound_cell p.of x.value) stands;
-    }, a.bound);
+    bound = (
+      record {
+        value = x.value;
+        set = slot_is;
+        stands = stands_stay table (bind_one table b r.location x n p).from next.from a.stays
+            (bound_cell p.of x.value) stands;
+      },
+      a.bound,
+    );
     before = λ k lt. a.before k (omega (arith, lt))
         ∙ at_other b.slots n (Some (bound_cell p.of x.value)) k (λ e. omega (arith, e, lt));
     untouched = λ q none. apart q none;
     loans = a.loans ∙ append_assoc b.loans (loan_of table r.location n p x.note) (lent_all table known rs ps (suc n))
         ∙ ap (λ (k : Kind). b.loans ++ (loan_of table r.location n p (record { kind = k; permission = unowned })
         ++ lent_all table known rs ps (suc n))) (sym kind);
-    lent = (λ wants. record {
-      cell = noted (kept x.note.permission (permission_of_type p.of)) x;
-      is = a.untouched r.location (once wants) ∙ same;
-      lent = kept_owner x.note.permission (permission_of_type p.of) wants;
-      kind = sym kind;
-      known = set;
-      given = slot_is;
-    }, a.lent);
+    lent = (
+      λ wants. record {
+        cell = noted (kept x.note.permission (permission_of_type p.of)) x;
+        is = a.untouched r.location (once wants) ∙ same;
+        lent = kept_owner x.note.permission (permission_of_type p.of) wants;
+        kind = sym kind;
+        known = set;
+        given = slot_is;
+      },
+      a.lent,
+    );
+    first = λ y e. slot_is ∙ ap (λ v. Some (bound_cell p.of v)) (first y e);
   }
     where
       slot_is : next.slots n ≡ Some (bound_cell p.of x.value)
@@ -155,11 +168,12 @@ module _ (table : ClassTable) (made : IsClassTable table) (c : Configuration) (p
 
       apart : (q : Location) → is_among q (r ∷ rs) ≡ false → cell_at next.from q ≡ cell_at b.from q
       apart q none =
-          let parts = Rattle.std.proofs.lemmas.Bool.or_parts (same_location q r.location) (is_among q rs) none in
+          let parts = or_parts (same_location q r.location) (is_among q rs) none in
           a.untouched q parts.1 ∙ other q parts.0
 
   -- What follows the binding of all places follows from what it comes to.
-  pub bind_all_steps : (P : NextStep → Type 0) (go : Bound → NextStep) (known : Context) (rs : List Read) (ps : List Parameter)
+  pub bind_all_steps : (P : NextStep → Type 0) (go : Bound → NextStep) (known : Context) (rs : List Read)
+      (ps : List Parameter)
       (b : Bound) (g : Context) (n : ℕ) → Binds table c parts b g n → n + length ps ≤ most_slots
       → ((q : Location) → kind_known (known q) ≡ kind_known (g q)) → ((q : Location) → is_set (known q) ≡ is_set (g q))
       → CanGiveAll (body_of table c.frame parts) ts g rs ps → ArePassedTo table c parts rs ps → AreOnce rs ps
@@ -171,21 +185,22 @@ module _ (table : ClassTable) (made : IsClassTable table) (c : Configuration) (p
     bound = tt;
     before = λ k lt. refl;
     untouched = λ q none. refl;
-    loans = sym (Rattle.std.proofs.Common.append-nil b.loans);
+    loans = sym (append-nil b.loans);
     lent = tt;
+    first = tt;
   })
   bind_all_steps P go known [] (p ∷ ps) b g n k few kinds sets can passed once done = absurd passed
   bind_all_steps P go known (r ∷ rs) [] b g n k few kinds sets can passed once done = absurd passed
   bind_all_steps P go known (r ∷ rs) (p ∷ ps) b g n k few kinds sets can passed once done =
       let u = found_at table made c.frame parts b.from g k.sits r.location can.0.usable.readable in
-      let was = was_set b g n k r.location u.cell u.is in
+      let was = was_set table c parts b g n k r.location u.cell u.is in
       let low : n < most_slots = omega (arith, few) in
       let serves : serves_as table (kind_of_resolved p.of) u.cell.note.kind ≡ true =
-          ap (serves_as table (kind_of_resolved p.of)) was.3 ∙ passed.1 was.0 was.1 in
+      ap (serves_as table (kind_of_resolved p.of)) was.3 ∙ passed.1 was.0 was.1 in
       let old : (m : ℕ) → 0 < constructions m c → u.cell.value ≢ reference m =
-          λ m some e. finished r.location was.0 passed.0 can.0.usable.spares_this was.1 m some (sym was.2 ∙ e) in
+      λ m some e. finished r.location was.0 passed.0 can.0.usable.spares_this was.1 m some (sym was.2 ∙ e) in
       let kind : kind_known (known r.location) ≡ u.cell.note.kind =
-          kinds r.location ∙ ap kind_known u.told ∙ sym u.kind in
+      kinds r.location ∙ ap kind_known u.told ∙ sym u.kind in
       let set : is_set (known r.location) ≡ true = sets r.location ∙ ap is_set u.told in
       subst (λ z. P (if_there z (λ x. bind_all table (bind_one table b r.location x n p) (places_of rs) (suc n) ps go)))
       (sym (found_read table made c.frame parts b.from g k.sits r.location u))
@@ -200,4 +215,6 @@ module _ (table : ClassTable) (made : IsClassTable table) (c : Configuration) (p
       (next_other table made c parts ts one placed b g n k r.location p passed.0 low can.0 u serves old)
       (next_bound table made c parts ts one placed b g n k r.location p passed.0 low can.0 u serves old)
       (next_stays table made c parts ts one placed b g n k r.location p passed.0 low can.0 u serves old)
-      once.0 a)))
+      once.0
+      (λ y e. was.2 ∙ ap (λ (z : Cell). z.value)
+      (same_Some was.0 y (sym was.1 ∙ e))) a)))

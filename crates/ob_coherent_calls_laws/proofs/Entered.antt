@@ -1,54 +1,40 @@
 -- What is so of a frame whose body begins: of its slots and parameters, and what its first context says.
-use Rattle.std.proofs.Common.{◌≡◌, ◌≢◌, ℕ, zero, suc, ◌+◌, ◌<◌, ◌≤◌, Bool, true, false, ◌&&◌, List, [], ◌∷◌, map, length, Option, Some, None, refl, sym, ap, subst, ◌∙◌, arith, ⊎_elim, ◌⊎◌, inl, inr, eq-eqb, true≢false, add-one}
-use Rattle.std.specs.Prelude.{nat_eq, slice_get, option_map, unwrap_or, if◌then◌else◌}
-use Rattle.std.proofs.lemmas.Bool.{cases_Bool, both_ways, ne_eqb}
+use Rattle.std.proofs.Common.{◌≡◌, ◌≢◌, ℕ, zero, suc, ◌+◌, ◌<◌, ◌≤◌, true, false, List, [], ◌∷◌, map, length, Option, Some, None, refl, sym, ap, subst, ◌∙◌, arith, ⊎_elim, add-one}
+use Rattle.std.specs.Prelude.{nat_eq, slice_get, unwrap_or}
+use Rattle.std.proofs.lemmas.Bool.{ne_eqb}
 use Rattle.std.proofs.lemmas.Bool.Decides.{eqb_tells}
 use Rattle.std.proofs.lemmas.Option.{same_Some}
 use Rattle.ob_base.specs.Limits.{most_slots}
-use Rattle.ob_perm.specs.States.{States}
-use Rattle.ob_perm.specs.Permissions.{Permission, owned, shared, unowned, owns}
+use Rattle.ob_perm.specs.Permissions.{Permission, owns}
 use Rattle.ob_table.specs.Tables.{ClassTable, contract_at, signature_at}
 use Rattle.ob_table.specs.declared.contract.Contract.{Contract}
 use Rattle.ob_table.specs.declared.contract.Param.{Param}
 use Rattle.ob_table.specs.declared.contract.ResolvedType.{ResolvedType}
-use Rattle.ob_table.specs.declared.contract.ResolvedType.TheVariants.{Reference as TypedReference}
 use Rattle.ob_table.specs.declared.contract.Signature.{Signature}
-use Rattle.ob_table.specs.declared.seen.Kind.{Kind}
 use Rattle.ob_table.specs.declared.seen.Kind.TheVariants.{Reference}
-use Rattle.ob_table_spec.specs.WellFormed.{kind_of_resolved, is_reference}
-use Rattle.ob_heap_spec.specs.Values.{Value, reference}
+use Rattle.ob_table_spec.specs.WellFormed.{kind_of_resolved}
+use Rattle.ob_heap_spec.specs.Values.{reference}
 use Rattle.ob_heap_spec.specs.Objects.{Object, state_number}
-use Rattle.ob_silica_places.specs.Known.{Known, known, permission_of_type}
-use Rattle.ob_silica_places.specs.Places.{Location, slot, field}
+use Rattle.ob_silica_places.specs.Known.{known, permission_of_type}
+use Rattle.ob_silica_places.specs.Places.{slot}
 use Rattle.ob_silica_places.specs.Parameters.{Parameter, parameter_of, parameters, this_parameter, all_parameters}
 use Rattle.ob_silica_steps.specs.Cells.{Cell, cell, object_in, permission_in}
-use Rattle.ob_silica_steps.specs.Configurations.{SlotCells, SilicaFrame, How, by_this, by_new}
+use Rattle.ob_silica_steps.specs.Configurations.{SlotCells, SilicaFrame, by_this, by_new}
 use Rattle.ob_silica_steps.specs.Binding.{bound_cell}
 use Rattle.ob_silica_steps.specs.Here.{Here, self_of}
-use Rattle.ob_silica_formed.specs.Holdings.{SlotContent, Holdings, held, with_slot, params_held, held_at_start}
+use Rattle.ob_silica_formed.specs.Holdings.{held, params_held, held_at_start}
 use Rattle.ob_flow_spec.specs.Contexts.{BodyFrame, constructs, available, known_as, params_known, this_known, field_known, beginning}
 use Rattle.ob_flow_spec.specs.Joining.{same_mode}
-use Rattle.ob_places_laws.specs.Serving.{Allows}
-use Rattle.ob_coherent_spec.specs.Counting.{nth_object, in_cell}
+use Rattle.ob_places_laws.proofs.Permissions.{same_mode_itself}
+use Rattle.ob_places_laws.proofs.Serves.{allows_itself}
+use Rattle.ob_coherent_spec.specs.Counting.{nth_object}
 use Rattle.ob_coherent_spec.specs.Standing.{AllStand, Stands}
-use Rattle.ob_coherent_spec.specs.Saying.{AgreesWith, Agrees, SaysOf, Says, own_object, own_cell, every}
-use Rattle.ob_coherent_spec.specs.Remaining.{BodyParts, body_of, HoldsSo, AreHeld}
+use Rattle.ob_coherent_spec.specs.Saying.{SaysOf, Says, own_object, own_cell, every}
+use Rattle.ob_coherent_spec.specs.Remaining.{HoldsSo, AreHeld}
 use Rattle.ob_coherent_spec.specs.Waiting.{IsFrame}
 use Rattle.ob_coherent_counting_laws.proofs.Cells.{counted_cell}
 use Rattle.ob_coherent_calls_laws.specs.Bound.{IsBoundTo, AreBound}
 use Rattle.ob_coherent_calls_laws.specs.Entered.{BeginsOn}
-
--- Permissions.
-
-allows_itself : (p : Permission) → Allows p p
-allows_itself (owned a) = (a, refl, λ i low e. e)
-allows_itself shared = refl
-allows_itself unowned = tt
-
-mode_itself : (p : Permission) → same_mode p p ≡ true
-mode_itself (owned a) = refl
-mode_itself shared = refl
-mode_itself unowned = refl
 
 not_first : (k : ℕ) → nat_eq (suc k) 0 ≡ false
 not_first k = ne_eqb (suc k) 0 (λ e. omega arith)
@@ -174,8 +160,11 @@ module _ (table : ClassTable) (objects : List Object) (f : SilicaFrame) (s : Sig
     where
       argument : (k : ℕ) (p : Parameter) → slice_get (all_parameters f.contract s) k ≡ Some p
           → (x : Cell) × (f.slots k ≡ Some x) × (x.note.kind ≡ kind_of_resolved p.of)
-      argument zero p e = (cell (reference n) (Reference f.contract) q, begins.this,
-          ap (λ (r : Parameter). kind_of_resolved r.of) (same_Some (this_parameter f.contract s) p e))
+      argument zero p e = (
+        cell (reference n) (Reference f.contract) q,
+        begins.this,
+        ap (λ (r : Parameter). kind_of_resolved r.of) (same_Some (this_parameter f.contract s) p e),
+      )
       argument (suc k) p e =
           let b = bound_at table objects f.slots 1 (parameters s) begins.bound k p e in
           (bound_cell p.of b.value, ap f.slots (let z : suc k ≡ 1 + k = omega arith in z) ∙ b.set, refl)
@@ -188,13 +177,15 @@ module _ (table : ClassTable) (objects : List Object) (f : SilicaFrame) (s : Sig
   begins_says N h b slots here signature permission fields = record {
     slots = λ k free. subst (λ (t : SlotCells). SaysOf N (beginning b (slot k)) (t k)) (sym slots) (slot_says k);
     fields = λ k there free. fields k there;
-    mode = λ free. subst (λ (t : SlotCells). same_mode (this_known b).permission (permission_in (t 0)) ≡ true) (sym slots)
+    mode = λ free. subst (λ (t : SlotCells). same_mode (this_known b).permission (permission_in (t 0)) ≡ true)
+        (sym slots)
         (subst (λ y. same_mode (this_known b).permission (permission_in y) ≡ true) (sym begins.this)
-        (subst (λ p. same_mode p q ≡ true) (sym permission) (mode_itself q)));
+        (subst (λ p. same_mode p q ≡ true) (sym permission) (same_mode_itself q)));
   }
     where
       this_is : this_known b ≡ known (Reference f.contract) q
-      this_is = ap (λ c. known (Reference c) (this_known b).permission) here ∙ ap (known (Reference f.contract)) permission
+      this_is = ap (λ c. known (Reference c) (this_known b).permission) here
+          ∙ ap (known (Reference f.contract)) permission
 
       slot_says : (k : ℕ) → SaysOf N (beginning b (slot k)) (f.slots k)
       slot_says zero = subst (λ y. SaysOf N (Some y) (f.slots 0)) (sym this_is)
@@ -202,5 +193,6 @@ module _ (table : ClassTable) (objects : List Object) (f : SilicaFrame) (s : Sig
             known = (refl, allows_itself q);
             owner = λ m must some. (counted_cell owns m (cell (reference n) (Reference f.contract) q) some).0;
           }))
-      slot_says (suc k) = rw (not_first k) (subst (λ (r : Signature). SaysOf N (params_known 1 r.params (suc k)) (f.slots (suc k))) (sym signature)
+      slot_says (suc k) = rw (not_first k)
+          (subst (λ (r : Signature). SaysOf N (params_known 1 r.params (suc k)) (f.slots (suc k))) (sym signature)
           (params_say table objects N f.slots 1 s.params begins.bound begins_unset (suc k) (omega arith)))

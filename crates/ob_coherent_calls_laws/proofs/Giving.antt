@@ -1,12 +1,10 @@
 -- What a place keeps that is given to a parameter, and what the parameter gets.
-use Rattle.std.proofs.Common.{◌≡◌, ◌≢◌, ℕ, ◌<◌, Bool, true, false, ◌&&◌, List, length, Option, Some, None, refl, sym, ap, subst, ◌∙◌, arith, ⊎_elim, ◌⊎◌, inl, inr, true≢false}
-use Rattle.std.proofs.lemmas.Bool.{both_ways, and_from, and_parts}
+use Rattle.std.proofs.Common.{◌≡◌, ℕ, ◌<◌, true, false, List, Option, Some, refl, sym, ap, subst, ◌∙◌, ⊎_elim, ◌⊎◌, inl, inr, true≢false}
 use Rattle.ob_base.specs.declared.id.ContractId.{ContractId}
 use Rattle.ob_base.specs.declared.permission.Perm.{Perm}
 use Rattle.ob_perm.specs.States.{States, no_states}
 use Rattle.ob_perm.specs.Permissions.{Permission, owned, shared, unowned, owns, is_unowned, fits, kept}
 use Rattle.ob_table.specs.Tables.{ClassTable, contract_at}
-use Rattle.ob_table.specs.declared.contract.Contract.{Contract}
 use Rattle.ob_table.specs.declared.contract.ResolvedType.{ResolvedType}
 use Rattle.ob_table.specs.declared.contract.ResolvedType.TheVariants.{Int as IntType, Bool as BoolType, Text as TextType, Reference as TypedReference}
 use Rattle.ob_table.specs.declared.seen.Kind.{Kind}
@@ -31,7 +29,7 @@ use Rattle.ob_places_laws.proofs.Tables.{there_is}
 use Rattle.ob_coherent_spec.specs.Counting.{nth_object, in_cell}
 use Rattle.ob_coherent_spec.specs.Standing.{IsOfKind, RefersToShared, RefersToIn, Stands, HasItsState}
 use Rattle.ob_coherent_spec.specs.Saying.{SaysOf}
-use Rattle.ob_coherent_counting_laws.proofs.Cells.{cell_uncounted, counted_cell}
+use Rattle.ob_coherent_counting_laws.proofs.Cells.{counted_cell}
 
 -- What is kept.
 
@@ -56,10 +54,14 @@ kept_says N M y note x w told kind serves owner fewer =
   where
     by_want : (w : Permission)
         → SaysOf M (Some (known note.kind (kept note.permission w))) (Some (noted (kept x.note.permission w) x))
-    by_want (owned a) = record { known = (kind, tt);
-      owner = λ n must some. absurd (true≢false (sym (counted_cell owns n (noted unowned x) some).0)) }
-    by_want shared = record { known = (kind, refl);
-      owner = λ n must some. absurd (true≢false (sym (counted_cell owns n (noted shared x) some).0)) }
+    by_want (owned a) = record {
+      known = (kind, tt);
+      owner = λ n must some. absurd (true≢false (sym (counted_cell owns n (noted unowned x) some).0));
+    }
+    by_want shared = record {
+      known = (kind, refl);
+      owner = λ n must some. absurd (true≢false (sym (counted_cell owns n (noted shared x) some).0));
+    }
     by_want unowned = record { known = (kind, serves); owner = λ n must some. owner n (fewer n must) some }
 
 pub kept_mode : (p q w : Permission) → same_mode p q ≡ true → same_mode (kept p w) (kept q w) ≡ true
@@ -110,12 +112,17 @@ module _ (table : ClassTable) (is : IsClassTable table) (objects : List Object) 
       → IsOfKind table objects l v
   kind_serves l k v e h = ⊎_elim
       (λ same. subst (λ z. IsOfKind table objects z v) (sym same) h)
-      (λ r. subst (λ z. IsOfKind table objects z v) (sym r.2) (up r.0 r.1 v r.4 (subst (λ z. IsOfKind table objects z v) r.3 h)))
+      (λ r. subst (λ z. IsOfKind table objects z v) (sym r.2)
+      (up r.0 r.1 v r.4 (subst (λ z. IsOfKind table objects z v) r.3 h)))
       (serves_is table l k e)
     where
-      up : (i c : ContractId) (v : Value) → is_implemented table c i ≡ true → IsOfKind table objects (Reference c) v → IsOfKind table objects (Reference i) v
-      up i c (reference n) e h = (h.0, serves_onward table is (Reference i) (Reference c)
-          (Reference (nth_object objects n).contract) (serves_implementing table i c e) h.1)
+      up : (i c : ContractId) (v : Value) → is_implemented table c i ≡ true → IsOfKind table objects (Reference c) v
+          → IsOfKind table objects (Reference i) v
+      up i c (reference n) e h = (
+        h.0,
+        serves_onward table is (Reference i) (Reference c)
+            (Reference (nth_object objects n).contract) (serves_implementing table i c e) h.1,
+      )
       up i c (int_value z) e h = h
       up i c (bool_value z) e h = h
       up i c (text_value z) e h = h
@@ -152,7 +159,8 @@ module _ (table : ClassTable) (is : IsClassTable table) (objects : List Object) 
     states = in_states of e f;
   }
     where
-      run_fits : (of : ResolvedType) → fits (converted table x.note.kind (kind_of_resolved of) p) (permission_of_type of) ≡ true
+      run_fits : (of : ResolvedType) → fits (converted table x.note.kind (kind_of_resolved of) p)
+          (permission_of_type of) ≡ true
           → fits (converted table x.note.kind (kind_of_resolved of) v) (permission_of_type of) ≡ true
       run_fits of f = fits_allowed (converted table x.note.kind (kind_of_resolved of) p)
           (converted table x.note.kind (kind_of_resolved of) v) (permission_of_type of)
@@ -175,5 +183,6 @@ module _ (table : ClassTable) (is : IsClassTable table) (objects : List Object) 
       in_states TextType e f a w = absurd (cc)
       in_states (TypedReference d q) e f a w =
           bound_in x.note.kind d x.value x.note.permission a s.kind e (λ b i. s.states b i) placed
-          (note_fits (TypedReference d q) a w (subst (λ z. fits (converted table x.note.kind (Reference d) v) z ≡ true) w
+          (note_fits (TypedReference d q) a w
+          (subst (λ z. fits (converted table x.note.kind (Reference d) v) z ≡ true) w
           (run_fits (TypedReference d q) f)))

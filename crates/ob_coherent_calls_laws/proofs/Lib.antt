@@ -5,3 +5,13 @@ pub mod Binding
 pub mod BindingAll
 pub mod Running
 pub mod Lending
+pub mod Called
+pub mod Caller
+pub mod Beginning
+pub mod Passing
+pub mod Untested
+pub mod Stepping
+pub mod Receiving
+pub mod After
+pub mod Calling
+pub mod SlotLoans

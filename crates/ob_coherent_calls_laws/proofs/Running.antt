@@ -1,43 +1,44 @@
 -- What a configuration that runs tells where a call begins to bind.
-use Rattle.std.proofs.Common.{◌≡◌, ◌≢◌, ℕ, zero, suc, ◌+◌, ◌<◌, ◌≤◌, Bool, true, false, List, [], ◌∷◌, length, Option, Some, None, refl, sym, ap, subst, ◌∙◌, arith, ⊎_elim, ◌⊎◌, inl, inr, eq-eqb, true≢false}
-use Rattle.std.specs.Prelude.{nat_eq}
+use Rattle.std.proofs.Common.{◌≡◌, ◌≢◌, ℕ, zero, suc, ◌+◌, ◌<◌, ◌≤◌, true, false, List, [], ◌∷◌, length, Option, Some, refl, sym, ap, subst, ◌∙◌, arith, ⊎_elim, ◌⊎◌, inl, inr, eq-eqb}
 use Rattle.std.proofs.lemmas.Bool.{both_ways}
-use Rattle.std.proofs.lemmas.Bool.Decides.{eqb_tells}
 use Rattle.ob_base.specs.Limits.{most_slots}
 use Rattle.ob_perm.specs.Permissions.{shared, owns}
 use Rattle.ob_table.specs.Tables.{ClassTable}
 use Rattle.ob_table_spec.specs.Conditions.{IsClassTable}
-use Rattle.ob_heap_spec.specs.Values.{Value, reference, nothing}
+use Rattle.ob_heap_spec.specs.Values.{reference}
 use Rattle.ob_heap_spec.specs.Objects.{Object}
 use Rattle.ob_silica_places.specs.Places.{Location, slot, field, this, same_location}
 use Rattle.ob_silica_steps.specs.Cells.{Cell}
 use Rattle.ob_silica_steps.specs.Configurations.{SlotCells, How, by_receiver, by_this, by_new, SilicaFrame, Waiting, Configuration}
-use Rattle.ob_silica_steps.specs.Here.{Here, here, self_of}
+use Rattle.ob_silica_steps.specs.Here.{here, self_of}
 use Rattle.ob_silica_steps.specs.Binding.{unbound}
 use Rattle.ob_flow_spec.specs.Contexts.{constructs}
 use Rattle.ob_places_laws.proofs.Tables.{contract_is}
-use Rattle.ob_coherent_spec.specs.Counting.{fields_counted, any, nth_object, in_cell, in_slots, in_waiting, in_control, owners, references}
+use Rattle.ob_coherent_spec.specs.Counting.{fields_counted, any, nth_object, in_cell, in_waiting, in_control, owners, references}
 use Rattle.ob_coherent_spec.specs.Runs.{entered_at, entered_among, entries, constructing_at, constructing_among, constructions}
-use Rattle.ob_coherent_spec.specs.Standing.{HasItsState, NeedsOwner}
+use Rattle.ob_coherent_spec.specs.Standing.{HasItsState}
 use Rattle.ob_coherent_spec.specs.Remaining.{BodyParts, body_of, IsPlaceIn}
-use Rattle.ob_coherent_spec.specs.Waiting.{IsFrame, is_on_this, IsApart, Waits, AllWait}
-use Rattle.ob_coherent_spec.specs.Coherent.{Beginning, Holds, IsRunning}
+use Rattle.ob_coherent_spec.specs.Waiting.{IsFrame, is_on_this, IsApart, AllWait}
+use Rattle.ob_coherent_spec.specs.Coherent.{Beginning, IsRunning}
 use Rattle.ob_coherent_counting_laws.proofs.Cells.{cell_counted}
 use Rattle.ob_coherent_counting_laws.proofs.Numbers.{one_of}
 use Rattle.ob_coherent_counting_laws.proofs.Places.{few_fields, in_slot, in_two_slots, in_field_of}
 use Rattle.ob_coherent_counting_laws.proofs.Entering.{some_slots, nothing_counts}
 use Rattle.ob_coherent_places_laws.specs.Placed.{cell_at, Sits}
 use Rattle.ob_coherent_places_laws.proofs.Writing.{stays_itself}
-use Rattle.ob_coherent_calls_laws.specs.Binds.{in_frame, in_both, in_rest, Binds}
+use Rattle.ob_coherent_calls_laws.specs.Binds.{in_frame, in_rest, Binds}
+use Rattle.std.proofs.lemmas.Option.{same_Some}
 
 -- A frame that is entered or under construction.
 
-entered_is : (n : ℕ) (how : How) (slots : SlotCells) → 0 < entered_at n how slots → (how ≡ by_receiver) × (self_of slots ≡ n)
+entered_is : (n : ℕ) (how : How) (slots : SlotCells) → 0 < entered_at n how slots → (how ≡ by_receiver)
+    × (self_of slots ≡ n)
 entered_is n by_receiver slots some = (refl, one_of (self_of slots) n some)
 entered_is n by_this slots some = absurd (omega arith)
 entered_is n by_new slots some = absurd (omega arith)
 
-constructing_is : (n : ℕ) (how : How) (slots : SlotCells) → 0 < constructing_at n how slots → (how ≡ by_new) × (self_of slots ≡ n)
+constructing_is : (n : ℕ) (how : How) (slots : SlotCells) → 0 < constructing_at n how slots → (how ≡ by_new)
+    × (self_of slots ≡ n)
 constructing_is n by_new slots some = (refl, one_of (self_of slots) n some)
 constructing_is n by_this slots some = absurd (omega arith)
 constructing_is n by_receiver slots some = absurd (omega arith)
@@ -50,7 +51,7 @@ on_this_or_not by_new = inr refl
 same_apart : (how : How) (n m : ℕ) (above : List ℕ) → how ≡ by_this → IsApart how n above m → n ≡ m
 same_apart how n m above e a = subst (λ x. IsApart x n above m) e a
 
-zero_or_more : (n : ℕ) → (n ≡ 0) ⊎ (0 < n)
+pub zero_or_more : (n : ℕ) → (n ≡ 0) ⊎ (0 < n)
 zero_or_more zero = inl refl
 zero_or_more (suc n) = inr (omega arith)
 
@@ -63,7 +64,8 @@ placed_among : (table : ClassTable) (N : ℕ → Type 0) (c : Configuration) (ca
 placed_among table N c callee called above tests [] placed waits n some = absurd (omega arith)
 placed_among table N c callee called above tests (h ∷ hs) placed (w, ws) n some =
     ⊎_elim
-    (λ none. placed_among table N c h.frame w.parts (self_of h.frame.slots ∷ above) _ hs below ws n (omega (arith, some, none)))
+    (λ none. placed_among table N c h.frame w.parts (self_of h.frame.slots ∷ above) _ hs below ws n
+    (omega (arith, some, none)))
     (λ more. let r = entered_is n h.frame.how h.frame.slots more in
     subst (λ m. HasItsState table (nth_object c.world.objects m)) r.1
     (below (λ e. (let z : by_receiver ≡ by_new = sym r.0 ∙ e in cc))))
@@ -78,13 +80,15 @@ placed_among table N c callee called above tests (h ∷ hs) placed (w, ws) n som
         (on_this_or_not callee.how)
 
 -- a frame's own object is referred to by its slot 0
-refers_itself : (table : ClassTable) (objects : List Object) (f : SilicaFrame) (parts : BodyParts) → IsFrame table objects f parts
+refers_itself : (table : ClassTable) (objects : List Object) (f : SilicaFrame) (parts : BodyParts)
+    → IsFrame table objects f parts
     → in_cell any (self_of f.slots) (f.slots 0) ≡ 1
 refers_itself table objects f parts a = ap (in_cell any (self_of f.slots)) a.set
     ∙ cell_counted any (self_of f.slots) a.this refl a.refers
 
 -- frames under construction are referred to
-constructing_refer : (table : ClassTable) (N : ℕ → Type 0) (c : Configuration) (callee : SilicaFrame) (called : BodyParts)
+constructing_refer : (table : ClassTable) (N : ℕ → Type 0) (c : Configuration) (callee : SilicaFrame)
+    (called : BodyParts)
     (above : List ℕ) (tests : ℕ → ℕ) (hs : List Waiting) → AllWait table N c callee called above tests hs → (n : ℕ)
     → 0 < constructing_among n hs → 0 < in_waiting any n hs
 constructing_refer table N c callee called above tests [] waits n some = absurd (omega arith)
@@ -116,10 +120,12 @@ module _ (table : ClassTable) (made : IsClassTable table) (entry : Option ℕ) (
   running_control = ap (in_control owns zero) k.control
 
   pub running_owners : (m : ℕ) → owners m c ≡ in_frame owns m (here c) + in_rest owns m c
-  running_owners m = let none : in_control owns m c.control ≡ 0 = ap (in_control owns m) k.control in omega (arith, none)
+  running_owners m = let none : in_control owns m c.control ≡ 0 = ap (in_control owns m) k.control in omega
+      (arith, none)
 
   pub running_references : (m : ℕ) → references m c ≡ in_frame any m (here c) + in_rest any m c
-  running_references m = let none : in_control any m c.control ≡ 0 = ap (in_control any m) k.control in omega (arith, none)
+  running_references m = let none : in_control any m c.control ≡ 0 = ap (in_control any m) k.control in omega
+      (arith, none)
 
   pub running_one : (m : ℕ) → in_frame owns m (here c) + in_rest owns m c ≤ 1
   running_one m = let most = k.whole.one_owner m in let is = running_owners m in omega (arith, most, is)
@@ -130,7 +136,8 @@ module _ (table : ClassTable) (made : IsClassTable table) (entry : Option ℕ) (
   running_placed m low none = ⊎_elim
       (λ outside. (k.whole.declared m low outside none).placed)
       (λ inside. ⊎_elim
-      (λ other. placed_among table _ c c.frame k.whole.parts _ _ c.stack k.placed k.whole.waiting m (omega (arith, inside, other)))
+      (λ other. placed_among table _ c c.frame k.whole.parts _ _ c.stack k.placed k.whole.waiting m
+      (omega (arith, inside, other)))
       (λ here. let r = entered_is m c.frame.how c.frame.slots here in
       subst (λ i. HasItsState table (nth_object c.world.objects i)) r.1
       (k.placed (λ e. (let z : by_receiver ≡ by_new = sym r.0 ∙ e in cc))))
@@ -139,14 +146,16 @@ module _ (table : ClassTable) (made : IsClassTable table) (entry : Option ℕ) (
 
   -- no place but its own `this` refers to an object under construction
   pub running_finished : (q : Location) (x : Cell) → IsPlaceIn (body_of table c.frame k.whole.parts) q
-      → (constructs (body_of table c.frame k.whole.parts) ≡ true → same_location q this ≡ false) → cell_at (here c) q ≡ Some x
+      → (constructs (body_of table c.frame k.whole.parts) ≡ true → same_location q this ≡ false)
+      → cell_at (here c) q ≡ Some x
       → (m : ℕ) → 0 < constructions m c → x.value ≢ reference m
   running_finished q x inside spares e m some refers =
       let few = k.unreferred m some in
       let all = running_references m in
       ⊎_elim
       (λ other.
-      let more = constructing_refer table _ c c.frame k.whole.parts _ _ c.stack k.whole.waiting m (omega (arith, some, other)) in
+      let more = constructing_refer table _ c c.frame k.whole.parts _ _ c.stack k.whole.waiting m
+      (omega (arith, some, other)) in
       let place = at_place q inside e in
       omega (arith, few, all, more, place))
       (λ own. let r = constructing_is m c.frame.how c.frame.slots own in
@@ -162,7 +171,8 @@ module _ (table : ClassTable) (made : IsClassTable table) (entry : Option ℕ) (
 
       low_field : (j : ℕ) → j < length k.whole.parts.own.fields → j < fields_counted
       low_field j lt = few_fields j
-          (let few = (contract_is table made c.frame.contract k.whole.parts.own k.whole.frame.own).few_fields in omega (arith, few, lt))
+          (let few = (contract_is table made c.frame.contract k.whole.parts.own k.whole.frame.own).few_fields in
+          omega (arith, few, lt))
 
       at_place : (p : Location) → IsPlaceIn (body_of table c.frame k.whole.parts) p → cell_at (here c) p ≡ Some x
           → 1 ≤ in_frame any m (here c)
@@ -171,21 +181,22 @@ module _ (table : ClassTable) (made : IsClassTable table) (entry : Option ℕ) (
           let low = in_slot any m c.frame.slots j (low_slot j lt) in omega (arith, is, low)
       at_place (field j) lt i =
           let is : in_cell any m (cell_at (here c) (field j)) ≡ 1 = ap (in_cell any m) i ∙ counted in
-          let low = in_field_of any m c.notes c.world.objects (self_of c.frame.slots) j (low_field j lt) in omega (arith, is, low)
+          let low = in_field_of any m c.notes c.world.objects (self_of c.frame.slots) j (low_field j lt) in omega
+          (arith, is, low)
 
       at_two : (p : Location) → IsPlaceIn (body_of table c.frame k.whole.parts) p → cell_at (here c) p ≡ Some x
           → same_location p this ≡ false → self_of c.frame.slots ≡ m → 2 ≤ in_frame any m (here c)
       at_two (slot j) lt i other self =
           let is : in_cell any m (c.frame.slots j) ≡ 1 = ap (in_cell any m) i ∙ counted in
           let first = subst (λ n. in_cell any n (c.frame.slots 0) ≡ 1) self
-              (refers_itself table c.world.objects c.frame k.whole.parts k.whole.frame) in
+          (refers_itself table c.world.objects c.frame k.whole.parts k.whole.frame) in
           let low = in_two_slots any m c.frame.slots j 0 (low_slot j lt) some_slots
-              (λ z. both_ways _ other (eq-eqb j 0 z)) in
+          (λ z. both_ways _ other (eq-eqb j 0 z)) in
           omega (arith, is, first, low)
       at_two (field j) lt i other self =
           let is : in_cell any m (cell_at (here c) (field j)) ≡ 1 = ap (in_cell any m) i ∙ counted in
           let first = subst (λ n. in_cell any n (c.frame.slots 0) ≡ 1) self
-              (refers_itself table c.world.objects c.frame k.whole.parts k.whole.frame) in
+          (refers_itself table c.world.objects c.frame k.whole.parts k.whole.frame) in
           let low = in_field_of any m c.notes c.world.objects (self_of c.frame.slots) j (low_field j lt) in
           let zero = in_slot any m c.frame.slots 0 some_slots in
           omega (arith, is, first, low, zero)
@@ -198,7 +209,7 @@ module _ (table : ClassTable) (made : IsClassTable table) (entry : Option ℕ) (
     alike = λ q z e. (z, e, refl, refl);
     unset = λ q none. none;
     shares = λ q x y ex ey e. inl (subst (λ (z : Cell). z.note.permission ≡ shared)
-        (sym (Rattle.std.proofs.lemmas.Option.same_Some x y (sym ex ∙ ey))) e);
+        (sym (same_Some x y (sym ex ∙ ey))) e);
     fewer = λ m. let none = nothing_counts owns m in omega (arith, none);
     assets = λ m must. omega arith;
     newly = λ m no yes. absurd (both_ways _ no yes);

@@ -1,30 +1,27 @@
 -- The objects of owning parameters are in their declared states.
-use Rattle.std.proofs.Common.{◌≡◌, ℕ, zero, suc, ◌<◌, Bool, true, false, not, ◌&&◌, ◌||◌, List, [], ◌∷◌, length, Option, Some, None, refl, sym, ap, subst, ◌∙◌, arith, ⊎_elim}
-use Rattle.std.specs.Prelude.{option_and_then}
+use Rattle.std.proofs.Common.{◌≡◌, ℕ, suc, true, false, not, List, [], ◌∷◌, refl, ap, ◌∙◌, ⊎_elim}
 use Rattle.std.specs.Option.{option_map_or}
 use Rattle.std.proofs.lemmas.Bool.{cases_Bool, or_right, and_from}
 use Rattle.ob_base.specs.declared.id.ContractId.{ContractId}
 use Rattle.ob_base.specs.declared.permission.Perm.{Perm}
 use Rattle.ob_base.specs.declared.permission.Mode.{Mode}
 use Rattle.ob_base.specs.declared.permission.Mode.TheVariants.{Owned, Shared, Unowned}
-use Rattle.ob_perm.specs.Permissions.{Permission, owned, shared, unowned, owns}
+use Rattle.ob_perm.specs.Permissions.{owned, owns}
 use Rattle.ob_perm.specs.Masks.{states_of, held, permission_of}
 use Rattle.ob_table.specs.Tables.{ClassTable}
 use Rattle.ob_table.specs.declared.contract.ResolvedType.{ResolvedType}
 use Rattle.ob_table.specs.declared.contract.ResolvedType.TheVariants.{Int, Bool as BoolKind, Text, Reference}
 use Rattle.ob_heap_spec.specs.Values.{Value, int_value, bool_value, text_value, reference, referred}
 use Rattle.ob_heap_spec.specs.Objects.{Object, is_in_states}
-use Rattle.ob_heap_spec.specs.Contents.{object_at}
 use Rattle.ob_heap_spec.specs.GoingWrong.{is_held_within, is_within}
 use Rattle.ob_silica_places.specs.Parameters.{Parameter}
-use Rattle.ob_silica_steps.specs.Cells.{Cell, value_in}
+use Rattle.ob_silica_steps.specs.Cells.{value_in}
 use Rattle.ob_silica_steps.specs.Configurations.{SlotCells}
 use Rattle.ob_silica_steps.specs.Binding.{bound_cell}
 use Rattle.ob_silica_steps.specs.Entering.{are_within}
-use Rattle.ob_coherent_spec.specs.Counting.{nth_object}
 use Rattle.ob_coherent_spec.specs.Standing.{Stands}
 use Rattle.ob_coherent_counting_laws.proofs.Objects.{object_there}
-use Rattle.ob_coherent_calls_laws.specs.Bound.{IsBoundTo, AreBound}
+use Rattle.ob_coherent_calls_laws.specs.Bound.{AreBound}
 
 -- an owner's permission is that of its states
 owned_states : (p : Perm) → owns (permission_of p) ≡ true → permission_of p ≡ owned (states_of p.states)

@@ -33,10 +33,13 @@ in_both counts n b = in_frame counts n b.from + in_slots counts n b.slots
 abbrev pub in_rest : Counted → ℕ → Configuration → ℕ
 in_rest counts n c = in_waiting counts n c.stack + in_handles counts n c.notes.handles
 
--- What is bound from a configuration, where the caller's context is this by now and slots below a number may be bound. The
--- caller's places keep values and kinds; objects gain no owners, and those that must have one keep it; where a place or a mark
+-- What is bound from a configuration, where the caller's context is this by now and slots below a number may be
+-- bound. The
+-- caller's places keep values and kinds; objects gain no owners, and those that must have one keep it; where a place
+-- or a mark
 -- has come to be Shared no owner is left; and no object under construction is referred to once more.
-pub record Binds (table : ClassTable) (c : Configuration) (parts : BodyParts) (b : Bound) (g : Context) (n : ℕ) : Type 0 where
+pub record Binds (table : ClassTable) (c : Configuration) (parts : BodyParts) (b : Bound) (g : Context)
+    (n : ℕ) : Type 0 where
   pub stays : Stays (here c) b.from
   pub sits : Sits table c.frame parts b.from g
   pub alike : (q : Location) → IsAlike (cell_at (here c) q) (cell_at b.from q)
@@ -46,7 +49,8 @@ pub record Binds (table : ClassTable) (c : Configuration) (parts : BodyParts) (b
       → (x.note.permission ≡ shared) ⊎ ((m : ℕ) → x.value ≡ reference m → in_both owns m b + in_rest owns m c ≡ 0)
   pub fewer : (m : ℕ) → in_both owns m b ≤ in_frame owns m (here c)
   pub assets : (m : ℕ) → NeedsOwner table b.from.world.objects m → in_frame owns m (here c) ≤ in_both owns m b
-  pub newly : (m : ℕ) → (nth_object c.world.objects m).shared ≡ false → (nth_object b.from.world.objects m).shared ≡ true
+  pub newly : (m : ℕ) → (nth_object c.world.objects m).shared ≡ false
+      → (nth_object b.from.world.objects m).shared ≡ true
       → in_both owns m b + in_rest owns m c ≡ 0
   pub disowned : (m : ℕ) → (nth_object b.from.world.objects m).disowned ≡ (nth_object c.world.objects m).disowned
   pub refers : (m : ℕ) → 0 < constructions m c → in_both any m b ≡ in_frame any m (here c)
@@ -94,13 +98,22 @@ ArePassedTo table c parts (r ∷ rs) (p ∷ ps) =
     × ((x : Cell) → cell_at (here c) r.location ≡ Some x → serves_as table (kind_of_resolved p.of) x.note.kind ≡ true)
     × ArePassedTo table c parts rs ps
 
+-- the slot of the first parameter has the value of the first place
+abbrev pub HasFirst : Configuration → Bound → List Read → List Parameter → ℕ → Type 0
+HasFirst c b [] ps n = ⊤
+HasFirst c b (r ∷ rs) [] n = ⊤
+HasFirst c b (r ∷ rs) (p ∷ ps) n =
+    (x : Cell) → cell_at (here c) r.location ≡ Some x → b.slots n ≡ Some (bound_cell p.of x.value)
+
 -- the places that are read
 abbrev pub places_of : List Read → List Location
 places_of rs = map (λ (r : Read). r.location) rs
 
--- What the binding of these places to these parameters comes to, from what was bound before with the first context; the kinds
+-- What the binding of these places to these parameters comes to, from what was bound before with the first context;
+-- the kinds
 -- that are known are those of the other one.
-pub record AllBound (table : ClassTable) (c : Configuration) (parts : BodyParts) (known g : Context) (b : Bound) (rs : List Read)
+pub record AllBound (table : ClassTable) (c : Configuration) (parts : BodyParts) (known g : Context) (b : Bound)
+    (rs : List Read)
     (ps : List Parameter) (n : ℕ) (next : Bound) : Type 0 where
   pub binds : Binds table c parts next (given_all g rs ps) (n + length ps)
   pub stays : Stays b.from next.from
@@ -109,3 +122,4 @@ pub record AllBound (table : ClassTable) (c : Configuration) (parts : BodyParts)
   pub untouched : (q : Location) → is_among q rs ≡ false → cell_at next.from q ≡ cell_at b.from q
   pub loans : next.loans ≡ b.loans ++ lent_all table known rs ps n
   pub lent : AreLent known next rs ps n
+  pub first : HasFirst c next rs ps n

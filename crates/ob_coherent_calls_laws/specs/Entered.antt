@@ -12,9 +12,11 @@ use Rattle.ob_silica_steps.specs.Configurations.{SilicaFrame}
 use Rattle.ob_coherent_spec.specs.Standing.{Stands}
 use Rattle.ob_coherent_calls_laws.specs.Bound.{AreBound}
 
--- A frame begins the body of a signature on the object of a number: slot 0 has `this` with a permission, the slots after it
+-- A frame begins the body of a signature on the object of a number: slot 0 has `this` with a permission, the slots
+-- after it
 -- have the parameters, and no other slot is set.
-pub record BeginsOn (table : ClassTable) (objects : List Object) (f : SilicaFrame) (s : Signature) (q : Permission) (n : ℕ)
+pub record BeginsOn (table : ClassTable) (objects : List Object) (f : SilicaFrame) (s : Signature) (q : Permission)
+    (n : ℕ)
     : Type 0 where
   pub this : f.slots 0 ≡ Some (cell (reference n) (Reference f.contract) q)
   pub stands : Stands table objects (cell (reference n) (Reference f.contract) q)

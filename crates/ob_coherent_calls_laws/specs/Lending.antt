@@ -1,6 +1,7 @@
--- What a call lends, and what its places get back (Coblenz et al., TOPLAS 42(3), 2020, "Silica"; the statements are this
+-- What a call lends, and what its places get back (Coblenz et al., TOPLAS 42(3), 2020, "Silica"; the statements are
+-- this
 -- project's own).
-use Rattle.std.specs.Prelude.{◌≡◌, ℕ, suc, Bool, true, List, [], ◌∷◌, Some, slice_get, ⊤}
+use Rattle.std.specs.Prelude.{◌≡◌, ℕ, suc, true, List, [], ◌∷◌, Some, slice_get, ⊤}
 use Rattle.ob_perm.specs.Permissions.{owns}
 use Rattle.ob_perm.specs.Masks.{permission_of}
 use Rattle.ob_table.specs.Tables.{ClassTable}
@@ -32,7 +33,8 @@ pub record GivesBack (table : ClassTable) (called : List Parameter) (known : Con
     : Type 0 where
   pub parameter : Parameter
   pub is : slice_get called n ≡ Some parameter
-  pub serves : Serves table (kind_of_resolved parameter.of) (permission_of parameter.exit) (kind_known (known r.location))
+  pub serves : Serves table (kind_of_resolved parameter.of) (permission_of parameter.exit)
+      (kind_known (known r.location))
       (converted table (kind_of_resolved p.of) (kind_known (known r.location)) (permission_of p.exit))
 
 -- the same of each parameter that wants an owner, from a number on

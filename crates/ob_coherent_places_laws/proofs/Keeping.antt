@@ -194,7 +194,9 @@ OpensKept table outer h after = (q : Location) (z : Cell) → is_tested (tested_
     → read table h q ≡ Some z
     → (y : Cell) × (read table after q ≡ Some y) × (y.value ≡ z.value)
 
-module _ (b : BodyFrame) (h after : Here) (s : Stays h after) where
+module _ (b : BodyFrame) (h after : Here) (same_this : self_of after.slots ≡ self_of h.slots)
+    (marks_stay : (n : ℕ) → (nth_object h.world.objects n).shared ≡ true
+    → (nth_object after.world.objects n).shared ≡ true) where
   test_kept : (p : Location) (n m : ℕ) → m ≡ n
       → ((z : Cell) → read b.table h p ≡ Some z → (y : Cell) × (read b.table after p ≡ Some y) × (y.value ≡ z.value))
       → IsTestOf b h p n → IsTestOf b after p m
@@ -216,10 +218,10 @@ module _ (b : BodyFrame) (h after : Here) (s : Stays h after) where
   open_kept plain_end kept a = a
   open_kept (test_end p) kept a = (
     a.0,
-    test_kept p (self_of h.slots) (self_of after.slots) s.this (kept p (inl refl)) a.1,
-    ap (λ i. (nth_object after.world.objects i).shared) s.this ∙ s.shared (self_of h.slots) a.2,
+    test_kept p (self_of h.slots) (self_of after.slots) same_this (kept p (inl refl)) a.1,
+    ap (λ i. (nth_object after.world.objects i).shared) same_this ∙ marks_stay (self_of h.slots) a.2,
   )
-  open_kept (lock_end p n) kept a = (a.0, test_kept p n n refl (kept p (inr (n, refl))) a.1, s.shared n a.2)
+  open_kept (lock_end p n) kept a = (a.0, test_kept p n n refl (kept p (inr (n, refl))) a.1, marks_stay n a.2)
 
   later : (ends : Ends) (ps : List Location) (q : Location) → is_tested ps q ≡ true
       → is_tested (tested_before ends ps) q ≡ true
@@ -227,13 +229,19 @@ module _ (b : BodyFrame) (h after : Here) (s : Stays h after) where
   later (test_end p) ps q e = or_right (same_location q p) (is_tested ps q) e
   later (lock_end p n) ps q e = or_right (same_location q p) (is_tested ps q) e
 
-  pub opens_kept : (outer : List Rest) → OpensKept b.table outer h after → AreOpen b h outer → AreOpen b after outer
-  opens_kept [] kept a = tt
-  opens_kept (r ∷ outer) kept a = (
+  -- tests stay open where `this` and marks stay
+  pub opens_kept_by : (outer : List Rest) → OpensKept b.table outer h after → AreOpen b h outer → AreOpen b after outer
+  opens_kept_by [] kept a = tt
+  opens_kept_by (r ∷ outer) kept a = (
     open_kept r.ends (λ p which z e. kept p z (tested_here r.ends (tested_places outer) p which) e) a.0,
     a.1,
-    opens_kept outer (λ q z t e. kept q z (later r.ends (tested_places outer) q t) e) a.2,
+    opens_kept_by outer (λ q z t e. kept q z (later r.ends (tested_places outer) q t) e) a.2,
   )
+
+pub opens_kept : (b : BodyFrame) (h after : Here) → Stays h after → (outer : List Rest)
+    → OpensKept b.table outer h after
+    → AreOpen b h outer → AreOpen b after outer
+opens_kept b h after s = opens_kept_by b h after s.this s.shared
 
 pub opens_onward : (table : ClassTable) (outer : List Rest) (h1 h2 h3 : Here) → OpensKept table outer h1 h2
     → OpensKept table outer h2 h3 → OpensKept table outer h1 h3

@@ -9,3 +9,5 @@ pub mod Getting
 pub mod Handing
 pub mod Holding
 pub mod Alike
+pub mod Changed
+pub mod Filling

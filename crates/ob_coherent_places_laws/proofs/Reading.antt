@@ -22,7 +22,7 @@ use Rattle.ob_coherent_spec.specs.Counting.{nth_object, field_cell}
 use Rattle.ob_coherent_spec.specs.Standing.{IsObjectInRun}
 use Rattle.ob_coherent_spec.specs.Saying.{own_object}
 use Rattle.ob_coherent_places_laws.specs.Placed.{cell_at}
-use Rattle.ob_coherent_places_laws.proofs.Objects.{is_there}
+use Rattle.ob_coherent_counting_laws.proofs.Objects.{object_there}
 
 -- Places.
 
@@ -92,7 +92,7 @@ value_read table notes n o r k = ap
 
 -- the object of `this`
 pub self_is : (h : Here) → self_of h.slots < length h.world.objects → self h ≡ Some (own_object h)
-self_is h lt = is_there h.world.objects (self_of h.slots) lt
+self_is h lt = object_there h.world.objects (self_of h.slots) lt
 
 -- a frame reads what stands at a place
 pub read_is : (table : ClassTable) (h : Here) → self_of h.slots < length h.world.objects

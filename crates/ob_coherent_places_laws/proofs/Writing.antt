@@ -17,7 +17,9 @@ use Rattle.ob_silica_steps.specs.Here.{Here, here, self_of, with_field_note, set
 use Rattle.ob_coherent_spec.specs.Counting.{nth_object, field_cell}
 use Rattle.ob_coherent_frames_laws.specs.Steps.{LeavesOthers}
 use Rattle.ob_coherent_places_laws.specs.Placed.{cell_at, Stays, Written, SameMarks, SameCells}
-use Rattle.ob_coherent_places_laws.proofs.Objects.{at_same, at_that, at_other, edit_count, edit_same, edit_other, edit_each, edit_rest, IsMarked, comes_marks, comes_keeps_owner, comes_newly_shared, mark_disowned_marks, mark_disowned_keeps_shares}
+use Rattle.ob_coherent_counting_laws.proofs.Objects.{edit_length, edit_same, edit_other, edit_locked, edit_progress}
+use Rattle.ob_coherent_counting_laws.proofs.Marking.{Keeps, mark_disowned_keeps, mark_disowned_shared, comes_keeps, comes_disowned}
+use Rattle.ob_coherent_places_laws.proofs.Objects.{at_same, at_that, at_other, edit_each, comes_newly_shared}
 use Rattle.ob_coherent_places_laws.proofs.Reading.{self_same, field_cell_is, field_cell_from, same_field_cell}
 
 -- What stays.
@@ -68,12 +70,12 @@ stays_leaves c h a = record {
 
 -- Marks.
 
-pub marks_stay : (h : Here) (w : World) → IsMarked h.world w → Stays h (record h { world = w })
+pub marks_stay : (h : Here) (w : World) → Keeps h.world w → Stays h (record h { world = w })
 marks_stay h w m = record {
   this = refl;
   count = m.count;
-  contracts = m.contracts;
-  states = m.states;
+  contracts = m.contract;
+  states = m.state;
   fields = λ n k ne. ap (λ (f : ℕ → Option Value). f k) (m.fields n);
   notes = λ n k ne. refl;
   shared = m.shared;
@@ -83,7 +85,7 @@ marks_stay h w m = record {
   progress = m.progress;
 }
 
-pub marks_same_cells : (h : Here) (w : World) → IsMarked h.world w → SameCells h (record h { world = w })
+pub marks_same_cells : (h : Here) (w : World) → Keeps h.world w → SameCells h (record h { world = w })
 marks_same_cells h w m = record { stays = marks_stay h w m; same = places }
   where
     places : (q : Location) → cell_at (record h { world = w }) q ≡ cell_at h q
@@ -162,7 +164,7 @@ put_other xs k v n ne = rw (ne_eqb n k ne)
 pub field_stays : (k : ℕ) (x : Cell) (h : Here) → Stays h (set_field k x h)
 field_stays k x h = let n = self_of h.slots in let f = with_field k x.value in record {
   this = refl;
-  count = edit_count f n h.world;
+  count = edit_length f n h.world;
   contracts = edit_each (λ o p. p.contract ≡ o.contract) f n h.world (λ o. refl) (λ o. refl);
   states = edit_each (λ o p. p.state ≡ o.state) f n h.world (λ o. refl) (λ o. refl);
   fields = λ m j ne. ap (λ (o : Object). o.fields j) (edit_other f n h.world m ne);
@@ -170,8 +172,8 @@ field_stays k x h = let n = self_of h.slots in let f = with_field k x.value in r
   shared = edit_each (λ o p. o.shared ≡ true → p.shared ≡ true) f n h.world (λ o e. e) (λ o e. e);
   disowned = edit_each (λ o p. o.disowned ≡ true → p.disowned ≡ true) f n h.world (λ o e. e) (λ o e. e);
   handles = refl;
-  locked = edit_rest (λ v. v.locked) f n h.world (λ os. refl);
-  progress = edit_rest (λ v. v.progress) f n h.world (λ os. refl);
+  locked = edit_locked f n h.world;
+  progress = edit_progress f n h.world;
 }
 
 pub field_written : (k : ℕ) (x : Cell) (h : Here) → self_of h.slots < length h.world.objects
@@ -262,7 +264,7 @@ permission_marks p q h = record {
 pub hand_written : (of : ResolvedType) (p : Location) (x : Cell) (h : Here) → cell_at h p ≡ Some x
     → Written p (Some (noted (kept x.note.permission (permission_of_type of)) x)) h (hand of p x h)
 hand_written of p x h e =
-    let m = marks_same_cells h (comes_into of x.value h.world) (comes_marks of x.value h.world) in
+    let m = marks_same_cells h (comes_into of x.value h.world) (comes_keeps of x.value h.world) in
     written_after h (record h { world = comes_into of x.value h.world }) (hand of p x h) p _ m
     (permission_written p (kept x.note.permission (permission_of_type of)) x
     (record h { world = comes_into of x.value h.world }) (m.same p ∙ e))
@@ -283,14 +285,14 @@ hand_shares of p x h n unset set = comes_newly_shared of x.value h.world n unset
 pub hand_disowns_none : (of : ResolvedType) (p : Location) (x : Cell) (h : Here) (n : ℕ)
     → (nth_object (hand of p x h).world.objects n).disowned ≡ (nth_object h.world.objects n).disowned
 hand_disowns_none of p x h n = ap (λ (w : World). (nth_object w.objects n).disowned) (hand_world of p x h)
-    ∙ comes_keeps_owner of x.value h.world n
+    ∙ comes_disowned of x.value h.world n
 
 -- An object is disowned.
 
 pub disown_written : (n : ℕ) (p : Location) (x : Cell) (h : Here) → cell_at h p ≡ Some x
     → Written p (Some (noted unowned x)) h (set_permission p unowned (record h { world = mark_disowned n h.world }))
 disown_written n p x h e =
-    let m = marks_same_cells h (mark_disowned n h.world) (mark_disowned_marks n h.world) in
+    let m = marks_same_cells h (mark_disowned n h.world) (mark_disowned_keeps n h.world) in
     written_after h (record h { world = mark_disowned n h.world }) _ p _ m
     (permission_written p unowned x (record h { world = mark_disowned n h.world }) (m.same p ∙ e))
 
@@ -299,4 +301,4 @@ pub disown_shares_none : (n : ℕ) (p : Location) (h : Here) (m : ℕ)
     (nth_object h.world.objects m).shared
 disown_shares_none n p h m = ap (λ (w : World). (nth_object w.objects m).shared)
     (permission_world p unowned (record h { world = mark_disowned n h.world }))
-    ∙ mark_disowned_keeps_shares n h.world m
+    ∙ mark_disowned_shared n h.world m

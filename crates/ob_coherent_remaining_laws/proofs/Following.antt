@@ -1,29 +1,28 @@
 -- What is so under one context and holdings is so under those that may stand for them.
-use Rattle.std.proofs.Common.{◌≡◌, ◌⊎◌, inl, inr, ⊎_elim, ℕ, ◌<◌, ◌≤◌, Bool, true, false, List, length, Option, Some, None, refl, sym, ap, ◌∙◌, subst, arith}
-use Rattle.std.specs.Prelude.{◌&&◌, nat_eq, nat_lt, nat_le}
-use Rattle.std.specs.Option.{option_map_or}
-use Rattle.std.proofs.lemmas.Bool.{both_ways, cases_Bool, and_parts, and_from}
+use Rattle.std.proofs.Common.{◌≡◌, ⊎_elim, ℕ, ◌<◌, ◌≤◌, Bool, true, false, List, Option, Some, None, refl, sym, ap, ◌∙◌, subst, arith}
+use Rattle.std.specs.Prelude.{nat_eq, nat_lt}
+use Rattle.std.proofs.lemmas.Bool.{cases_Bool, and_parts, and_from}
 use Rattle.ob_perm.specs.Permissions.{Permission, owns}
 use Rattle.ob_table.specs.Tables.{ClassTable}
 use Rattle.ob_table.specs.declared.seen.Kind.{Kind}
 use Rattle.ob_table.specs.declared.seen.Kind.TheVariants.{Int, Bool as BoolKind, Text, Reference}
 use Rattle.ob_table_spec.specs.Conditions.{IsClassTable}
 use Rattle.ob_table_spec.specs.WellFormed.{serves_as}
-use Rattle.ob_heap_spec.specs.Values.{Value, int_value, bool_value, text_value, reference, referred}
+use Rattle.ob_heap_spec.specs.Values.{Value, int_value, bool_value, text_value, reference}
 use Rattle.ob_heap_spec.specs.Objects.{Object}
 use Rattle.ob_silica_places.specs.Known.{Known}
 use Rattle.ob_silica_places.specs.Places.{Location, slot, field, this}
 use Rattle.ob_silica_steps.specs.Cells.{Cell, permission_in}
 use Rattle.ob_silica_steps.specs.Configurations.{SlotCells}
-use Rattle.ob_silica_steps.specs.Here.{Here, self_of}
+use Rattle.ob_silica_steps.specs.Here.{Here}
 use Rattle.ob_silica_formed.specs.Holdings.{Holdings}
-use Rattle.ob_flow_spec.specs.Contexts.{BodyFrame, Context, field_count, available, permission_on, permission_at, is_asset, is_owned_asset}
+use Rattle.ob_flow_spec.specs.Contexts.{BodyFrame, Context, field_count, permission_on, permission_at, is_asset, is_owned_asset}
 use Rattle.ob_flow_spec.specs.Joining.{same_mode}
 use Rattle.ob_places_laws.proofs.Conversions.{serves_asset}
-use Rattle.ob_coherent_spec.specs.Counting.{nth_object, field_cell, one_if, refers_to, in_cell}
+use Rattle.ob_coherent_spec.specs.Counting.{nth_object, one_if, refers_to, in_cell}
 use Rattle.ob_coherent_spec.specs.Standing.{IsOfKind, Stands, AllStand, NeedsOwner}
-use Rattle.ob_coherent_spec.specs.Saying.{AgreesWith, Agrees, SaysOf, Says, own_cell, own_object}
-use Rattle.ob_coherent_spec.specs.Remaining.{IsPlaceIn, Leads, HoldsSo, AreHeld, HoldToo}
+use Rattle.ob_coherent_spec.specs.Saying.{Agrees, SaysOf, Says, own_cell}
+use Rattle.ob_coherent_spec.specs.Remaining.{Leads, AreHeld, HoldToo}
 
 -- Owners.
 

@@ -3,3 +3,4 @@ pub mod Knowing
 pub mod Remaining
 pub mod Branches
 pub mod Following
+pub mod Programs

@@ -1,19 +1,18 @@
 -- Frames that wait go on waiting where a call of an object that isn't theirs has ended.
-use Rattle.std.proofs.Common.{◌≡◌, ◌≢◌, ℕ, zero, suc, ◌+◌, ◌<◌, ◌≤◌, ◌⊎◌, inl, inr, ⊎_elim, Bool, true, false, List, [], ◌∷◌, length, Option, Some, None, refl, sym, ap, ◌∙◌, subst, arith}
+use Rattle.std.proofs.Common.{◌≡◌, ◌≢◌, ℕ, ◌+◌, ◌<◌, ◌⊎◌, inl, inr, Bool, List, [], ◌∷◌, refl, sym, ◌∙◌, subst, arith}
 use Rattle.ob_table.specs.Tables.{ClassTable}
 use Rattle.ob_heap_spec.specs.Worlds.{World}
 use Rattle.ob_silica_places.specs.Places.{Location, slot, field}
 use Rattle.ob_silica_steps.specs.Configurations.{How, by_receiver, by_this, by_new, SilicaFrame, Ends, plain_end, test_end, lock_end, Rest, Loan, Waiting, Notes, Configuration}
-use Rattle.ob_silica_steps.specs.Here.{Here, self_of, read}
+use Rattle.ob_silica_steps.specs.Here.{self_of, read}
 use Rattle.ob_flow_spec.specs.Contexts.{BodyFrame, Context}
-use Rattle.ob_coherent_spec.specs.Counting.{owners}
-use Rattle.ob_coherent_spec.specs.Runs.{times, tests_in, tests_among, entered_among, constructing_among}
+use Rattle.ob_coherent_spec.specs.Runs.{times, tests_among, entered_among}
 use Rattle.ob_coherent_spec.specs.Saying.{Says}
 use Rattle.ob_coherent_spec.specs.Remaining.{BodyParts}
 use Rattle.ob_coherent_spec.specs.OpenTests.{IsTestOf, IsOpen, AreOpen}
-use Rattle.ob_coherent_spec.specs.Waiting.{tests_of, SharesThis, waiting_here, is_settled, IsLoan, AreLoans, IsNotAmong, IsApart, Waits, AllWait}
+use Rattle.ob_coherent_spec.specs.Waiting.{tests_of, SharesThis, waiting_here, is_settled, AreLoans, IsNotAmong, IsApart, Waits, AllWait}
 use Rattle.ob_coherent_frames_laws.proofs.Near.{IsAmong}
-use Rattle.ob_coherent_counting_laws.proofs.Frames.{tests_other, entered_other, constructing_other}
+use Rattle.ob_coherent_counting_laws.proofs.Frames.{tests_other, entered_other}
 
 not_that : (n me : ℕ) (above : List ℕ) → IsNotAmong n above → IsAmong me above → n ≢ me
 not_that n me [] a h e = absurd h
@@ -36,21 +35,25 @@ fewer_apart by_new n m above below fewer a = fewer n a
 
 module _ (table : ClassTable) (N : ℕ → Type 0) (c : Configuration) (me : ℕ) where
   pub far_tests : (callee : SilicaFrame) (called : BodyParts) (above : List ℕ) (tests : ℕ → ℕ) (hs : List Waiting)
-      → IsAmong me above → self_of callee.slots ≢ me → AllWait table N c callee called above tests hs → tests_among me hs ≡ 0
+      → IsAmong me above → self_of callee.slots ≢ me → AllWait table N c callee called above tests hs → tests_among me
+      hs ≡ 0
   far_tests callee called above tests [] inside far w = refl
   far_tests callee called above tests (h ∷ hs) inside far (w, ws) =
       let other = is_far callee.how (self_of h.frame.slots) (self_of callee.slots) me above w.apart inside far in
       let none = tests_other me h.frame.slots h.outer other in
-      let rest = far_tests h.frame w.parts (self_of h.frame.slots ∷ above) (λ n. tests_of n h.frame.slots h.outer + tests n) hs (inr inside) other ws in
+      let rest = far_tests h.frame w.parts (self_of h.frame.slots ∷ above) (λ n. tests_of n h.frame.slots h.outer +
+      tests n) hs (inr inside) other ws in
       omega arith
 
   pub far_entered : (callee : SilicaFrame) (called : BodyParts) (above : List ℕ) (tests : ℕ → ℕ) (hs : List Waiting)
-      → IsAmong me above → self_of callee.slots ≢ me → AllWait table N c callee called above tests hs → entered_among me hs ≡ 0
+      → IsAmong me above → self_of callee.slots ≢ me → AllWait table N c callee called above tests hs → entered_among me
+      hs ≡ 0
   far_entered callee called above tests [] inside far w = refl
   far_entered callee called above tests (h ∷ hs) inside far (w, ws) =
       let other = is_far callee.how (self_of h.frame.slots) (self_of callee.slots) me above w.apart inside far in
       let none = entered_other me h.frame.how h.frame.slots other in
-      let rest = far_entered h.frame w.parts (self_of h.frame.slots ∷ above) (λ n. tests_of n h.frame.slots h.outer + tests n) hs (inr inside) other ws in
+      let rest = far_entered h.frame w.parts (self_of h.frame.slots ∷ above) (λ n. tests_of n h.frame.slots h.outer +
+      tests n) hs (inr inside) other ws in
       omega arith
 
 -- Progress.
@@ -69,19 +72,29 @@ read_progressed table notes w ps h (slot k) = refl
 read_progressed table notes w ps h (field k) = refl
 
 module _ (b : BodyFrame) (notes : Notes) (w : World) (ps : List ℕ) (h : Waiting) where
-  test_progressed : (p : Location) (n : ℕ) → IsTestOf b (waiting_here notes w h) p n → IsTestOf b (waiting_here notes (with_progress w ps) h) p n
-  test_progressed p n a = record { inside = a.inside; cell = a.cell; found = read_progressed b.table notes w ps h p ∙ a.found; object = a.object }
+  test_progressed : (p : Location) (n : ℕ) → IsTestOf b (waiting_here notes w h) p n → IsTestOf b (waiting_here notes
+      (with_progress w ps) h) p n
+  test_progressed p n a = record {
+    inside = a.inside;
+    cell = a.cell;
+    found = read_progressed b.table notes w ps h p
+        ∙ a.found;
+    object = a.object;
+  }
 
-  open_progressed : (e : Ends) → IsOpen b (waiting_here notes w h) e → IsOpen b (waiting_here notes (with_progress w ps) h) e
+  open_progressed : (e : Ends) → IsOpen b (waiting_here notes w h) e → IsOpen b (waiting_here notes (with_progress w ps)
+      h) e
   open_progressed plain_end a = tt
   open_progressed (test_end p) a = (a.0, test_progressed p (self_of h.frame.slots) a.1, a.2)
   open_progressed (lock_end p n) a = (a.0, test_progressed p n a.1, a.2)
 
-  pub opens_progressed : (outer : List Rest) → AreOpen b (waiting_here notes w h) outer → AreOpen b (waiting_here notes (with_progress w ps) h) outer
+  pub opens_progressed : (outer : List Rest) → AreOpen b (waiting_here notes w h) outer → AreOpen b (waiting_here notes
+      (with_progress w ps) h) outer
   opens_progressed [] a = tt
   opens_progressed (r ∷ outer) a = (open_progressed r.ends a.0, a.1, opens_progressed outer a.2)
 
-pub says_progressed : (b : BodyFrame) (N : ℕ → Type 0) (g : Context) (notes : Notes) (w : World) (ps : List ℕ) (h : Waiting) (free : Location → Bool)
+pub says_progressed : (b : BodyFrame) (N : ℕ → Type 0) (g : Context) (notes : Notes) (w : World) (ps : List ℕ)
+    (h : Waiting) (free : Location → Bool)
     → Says b N g (waiting_here notes w h) free → Says b N g (waiting_here notes (with_progress w ps) h) free
 says_progressed b N g notes w ps h free s = record { slots = s.slots; fields = s.fields; mode = s.mode }
 
@@ -99,7 +112,8 @@ module _ (table : ClassTable) (N : ℕ → Type 0) (c : Configuration) (ps : Lis
   aside_too how n m above apart inside (inl e) = inl e
   aside_too how n m above apart inside (inr far) = inr (is_far how n m me above apart inside far)
 
-  loans_progressed : (callee : SilicaFrame) (called : BodyParts) (tests : ℕ → ℕ) (h : Waiting) (g : Context) (ls : List Loan)
+  loans_progressed : (callee : SilicaFrame) (called : BodyParts) (tests : ℕ → ℕ) (h : Waiting) (g : Context)
+      (ls : List Loan)
       → AreLoans table c callee called tests (waiting_here c.notes c.world h) g ls
       → AreLoans table (progressed c ps) callee called tests (waiting_here c.notes (with_progress c.world ps) h) g ls
   loans_progressed callee called tests h g [] a = tt
@@ -123,7 +137,8 @@ module _ (table : ClassTable) (N : ℕ → Type 0) (c : Configuration) (ps : Lis
     loans_progressed callee called tests h g ls a.3,
   )
 
-  pub shares_progressed : (f : SilicaFrame) (above : ℕ) → IsAside (self_of f.slots) → SharesThis f c above → SharesThis f (progressed c ps) above
+  pub shares_progressed : (f : SilicaFrame) (above : ℕ) → IsAside (self_of f.slots) → SharesThis f c above → SharesThis
+      f (progressed c ps) above
   shares_progressed f above far s e = (kept_aside (self_of f.slots) far (s e).0, (s e).1)
 
   waits_progressed : (callee : SilicaFrame) (called : BodyParts) (above below : List ℕ) (tests : ℕ → ℕ) (h : Waiting)
@@ -154,7 +169,8 @@ module _ (table : ClassTable) (N : ℕ → Type 0) (c : Configuration) (ps : Lis
   }
 
   -- all frames go on waiting that aren't of the object that is left
-  pub all_progressed : (callee : SilicaFrame) (called : BodyParts) (above below : List ℕ) (tests : ℕ → ℕ) (hs : List Waiting)
+  pub all_progressed : (callee : SilicaFrame) (called : BodyParts) (above below : List ℕ) (tests : ℕ → ℕ)
+      (hs : List Waiting)
       → IsAmong me above → IsAside (self_of callee.slots) → ((i : ℕ) → IsNotAmong i above → IsNotAmong i below)
       → AllWait table N c callee called above tests hs → AllWait table N (progressed c ps) callee called below tests hs
   unfolding waits_progressed

@@ -5,4 +5,8 @@ pub mod Returned
 pub mod Resuming
 pub mod Lent
 pub mod GivingBack
+pub mod Ending
 pub mod Silent
+pub mod Handed
+pub mod AtReturn
+pub mod Return

@@ -1,6 +1,5 @@
 -- A frame that returns to the one that waits, with its parts by name.
-use Rattle.std.proofs.Common.{◌≡◌, ◌≢◌, ℕ, zero, suc, ◌+◌, ◌<◌, ◌≤◌, ◌⊎◌, inl, inr, ⊎_elim, Bool, true, false, List, [], ◌∷◌, length, Option, Some, None, slice_get, refl, sym, ap, ◌∙◌, subst, arith}
-use Rattle.std.proofs.lemmas.Bool.{both_ways, cases_Bool}
+use Rattle.std.proofs.Common.{◌≡◌, ◌≢◌, ℕ, ◌+◌, ◌<◌, ◌≤◌, ◌⊎◌, inl, inr, ⊎_elim, true, false, List, [], ◌∷◌, Option, Some, slice_get, refl, sym, ◌∙◌, subst, arith}
 use Rattle.std.proofs.lemmas.Bool.Decides.{eqb_tells}
 use Rattle.ob_perm.specs.Permissions.{owns}
 use Rattle.ob_perm.specs.Masks.{permission_of}
@@ -21,8 +20,8 @@ use Rattle.ob_coherent_spec.specs.Counting.{nth_object, in_cell, references}
 use Rattle.ob_coherent_spec.specs.Runs.{times, entered_at, constructing_among}
 use Rattle.ob_coherent_spec.specs.Standing.{Stands, NeedsOwner, HasItsState}
 use Rattle.ob_coherent_spec.specs.Saying.{SaysOf, own_cell}
-use Rattle.ob_coherent_spec.specs.Remaining.{body_of}
-use Rattle.ob_coherent_spec.specs.Waiting.{SharesThis, has_lent, gives_back_as, IsApart, AllLend}
+use Rattle.ob_coherent_spec.specs.Remaining.{BodyParts, body_of}
+use Rattle.ob_coherent_spec.specs.Waiting.{SharesThis, has_lent, gives_back_by, gives_back_as, IsApart, AllLend}
 use Rattle.ob_coherent_spec.specs.Coherent.{Beginning, Holds, IsGivenBack, LeavesWith, IsReturning}
 use Rattle.ob_coherent_counting_laws.proofs.Numbers.{without_times, without_other}
 use Rattle.ob_coherent_counting_laws.proofs.Frames.{entered_here, entered_other}
@@ -34,12 +33,14 @@ back_to f result h hs notes w =
     record { frame = f; control = leaves result []; stack = h ∷ hs; notes = notes; world = w }
 
 -- what is so where it returns
-pub record Returned (table : ClassTable) (entry : Option ℕ) (beginning : Beginning) (f : SilicaFrame) (result : Option Cell)
+pub record Returned (table : ClassTable) (entry : Option ℕ) (beginning : Beginning) (f : SilicaFrame) (result : Option
+    Cell)
     (h : Waiting) (hs : List Waiting) (notes : Notes) (w : World) : Type 0 where
   pub whole : Holds table entry beginning (back_to f result h hs notes w)
   pub returned : (x : Cell) → result ≡ Some x → Stands table w.objects x
   pub given : IsGivenBack (NeedsOwner table w.objects) result (gives_back_as f whole.parts)
-  pub none : (k : ℕ) → has_lent h.loans k ≡ false → (n : ℕ) → NeedsOwner table w.objects n → in_cell owns n (f.slots k) ≡ 0
+  pub none : (k : ℕ) → has_lent h.loans k ≡ false → (n : ℕ) → NeedsOwner table w.objects n → in_cell owns n (f.slots k)
+      ≡ 0
   pub exits : (k : ℕ) (p : Parameter) (x : Cell) → has_lent h.loans k ≡ true
       → slice_get (all_parameters f.contract whole.parts.signature) k ≡ Some p → f.slots k ≡ Some x
       → LeavesWith (NeedsOwner table w.objects) (permission_of p.exit) x
@@ -69,7 +70,8 @@ module _ (table : ClassTable) (entry : Option ℕ) (beginning : Beginning) (f : 
   from_returning r = record {
     whole = r.whole;
     returned = λ x e. r.returned x (sym same_result ∙ e);
-    given = subst (λ x. IsGivenBack (NeedsOwner table w.objects) x (gives_back_as f r.whole.parts)) (sym same_result) r.given;
+    given = subst (λ x. IsGivenBack (NeedsOwner table w.objects) x (gives_back_as f r.whole.parts)) (sym same_result)
+        r.given;
     none = λ k out. r.none k (subst (λ (i : Waiting). has_lent i.loans k ≡ false) same_below out);
     exits = λ k p x lent. r.exits k p x (subst (λ (i : Waiting). has_lent i.loans k ≡ true) same_below lent);
     placed = r.placed;
@@ -109,6 +111,13 @@ module _ (table : ClassTable) (entry : Option ℕ) (beginning : Beginning) (f : 
     lends = r.lends;
   }
 
+-- what a frame gives back doesn't depend on its slots
+pub same_gift : (how : How) (f : SilicaFrame) (slots : SlotCells) (parts : BodyParts)
+    → gives_back_by how (record f { slots = slots }) parts ≡ gives_back_by how f parts
+same_gift by_receiver f slots parts = refl
+same_gift by_this f slots parts = refl
+same_gift by_new f slots parts = refl
+
 -- Progress.
 
 -- the transactions in progress when a frame is left
@@ -117,7 +126,8 @@ left_progress by_receiver n ps = without_first n ps
 left_progress by_this n ps = ps
 left_progress by_new n ps = ps
 
-pub left_is : (how : How) (n : ℕ) (w : World) → leaves_progress how n w ≡ with_progress w (left_progress how n w.progress)
+pub left_is : (how : How) (n : ℕ) (w : World) → leaves_progress how n w ≡ with_progress w (left_progress how n
+    w.progress)
 left_is by_receiver n w = refl
 left_is by_this n w = refl
 left_is by_new n w = refl
@@ -133,7 +143,8 @@ left_times by_receiver slots ps n e = ⊎_elim
     let a = without_other (self_of slots) n ps (λ z. far.1 (sym z)) in omega arith)
     (eqb_tells (self_of slots) n)
 
-pub left_aside : (how : How) (n me : ℕ) (ps : List ℕ) → IsApart how n (me ∷ []) me → (left_progress how me ps ≡ ps) ⊎ (n ≢ me)
+pub left_aside : (how : How) (n me : ℕ) (ps : List ℕ) → IsApart how n (me ∷ []) me → (left_progress how me ps ≡ ps) ⊎
+    (n ≢ me)
 left_aside by_receiver n me ps a = inr a.0
 left_aside by_this n me ps a = inl refl
 left_aside by_new n me ps a = inl refl

@@ -7,3 +7,5 @@ pub mod Ending
 pub mod Locking
 pub mod Tested
 pub mod Popping
+pub mod Opening
+pub mod Testing

@@ -1,5 +1,5 @@
 -- A step by which one place of a running frame gets another permission.
-use Rattle.std.proofs.Common.{◌≡◌, ◌≢◌, ℕ, ◌+◌, ◌<◌, ◌≤◌, ◌⊎◌, inl, inr, ⊎_elim, Bool, true, false, List, [], ◌∷◌, length, Option, Some, None, refl, sym, ap, ◌∙◌, subst, arith}
+use Rattle.std.proofs.Common.{◌≡◌, ◌≢◌, ℕ, ◌+◌, ◌<◌, ◌≤◌, ◌⊎◌, inl, inr, ⊎_elim, true, List, length, Option, Some, refl, sym, ap, ◌∙◌, subst, arith}
 use Rattle.std.proofs.lemmas.Bool.{both_ways}
 use Rattle.std.proofs.lemmas.Option.{same_Some}
 use Rattle.ob_perm.specs.Permissions.{Permission, shared, owns}
@@ -8,9 +8,9 @@ use Rattle.ob_table_spec.specs.Conditions.{IsClassTable}
 use Rattle.ob_heap_spec.specs.Values.{reference}
 use Rattle.ob_heap_spec.specs.Worlds.{ReadItem}
 use Rattle.ob_silica.specs.Terms.{SilicaTerms}
-use Rattle.ob_silica_places.specs.Places.{Location, slot, field, this, same_location}
+use Rattle.ob_silica_places.specs.Places.{Location, slot, this}
 use Rattle.ob_silica_steps.specs.Cells.{Cell, noted, permission_in}
-use Rattle.ob_silica_steps.specs.Configurations.{by_new, Rest, Control, runs, Configuration}
+use Rattle.ob_silica_steps.specs.Configurations.{by_new, Rest, Control, runs, Notes, Configuration}
 use Rattle.ob_silica_steps.specs.Here.{Here, here, self_of, set_permission}
 use Rattle.ob_silica_formed.specs.Holdings.{Holdings}
 use Rattle.ob_flow_spec.specs.Contexts.{Context, now}
@@ -21,45 +21,21 @@ use Rattle.ob_coherent_spec.specs.Standing.{Stands, AllStand, IsObjectInRun, Nee
 use Rattle.ob_coherent_spec.specs.Remaining.{body_of, IsPlaceIn, AreHeld}
 use Rattle.ob_coherent_spec.specs.OpenTests.{AreOpen}
 use Rattle.ob_coherent_spec.specs.Saying.{every}
-use Rattle.ob_coherent_spec.specs.Coherent.{Beginning, Holds, IsRunning}
+use Rattle.ob_coherent_spec.specs.Coherent.{Beginning, Holds}
 use Rattle.ob_coherent_counting_laws.proofs.Low.{place_low}
+use Rattle.ob_coherent_counting_laws.proofs.Writing.{in_here}
+use Rattle.ob_coherent_counting_laws.proofs.Cells.{cell_noted}
 use Rattle.ob_coherent_counting_laws.proofs.Permitting.{permission_counts}
 use Rattle.ob_coherent_counting_laws.proofs.Whole.{all_but_here}
 use Rattle.ob_coherent_frames_laws.specs.Steps.{moved_to, moved, KeepsArgument, IsQuietStep}
-use Rattle.ob_coherent_places_laws.specs.Placed.{cell_at, Stays, Written, SameMarks, SameCells, Found, Sits}
+use Rattle.ob_coherent_places_laws.specs.Placed.{cell_at, Written, SameMarks, IsAlike, Found, Sits}
 use Rattle.ob_coherent_places_laws.proofs.Writing.{written_after, permission_written, permission_marks, stays_leaves}
 use Rattle.ob_coherent_places_laws.proofs.Reading.{place_is}
 use Rattle.ob_coherent_places_laws.proofs.Keeping.{argument_kept, opens_kept}
+use Rattle.ob_coherent_places_laws.proofs.Holding.{held_noted}
+use Rattle.ob_coherent_places_laws.proofs.Standing.{stands_stay, needs_stay}
 use Rattle.ob_coherent_places_laws.proofs.Carrying.{carry, carry_opens, carry_kept}
-use Rattle.ob_coherent_tests_laws.proofs.Unchanged.{opens_so}
-
--- the places of a running frame are as its context says
-pub sits_running : (table : ClassTable) (entry : Option ℕ) (beginning : Beginning) (c : Configuration) (k : IsRunning table entry beginning c)
-    → Sits table c.frame k.whole.parts (here c) k.context
-sits_running table entry beginning c k = record {
-  frame = k.whole.frame;
-  slots = k.whole.slots;
-  fields = k.whole.fields (self_of c.frame.slots);
-  object = k.whole.objects (self_of c.frame.slots) k.whole.frame.there;
-  says = k.says;
-  placed = k.placed;
-  owns_made = k.owns_made;
-}
-
--- what a frame works on once these things have been read
-abbrev pub having_read : Configuration → List ReadItem → Here
-having_read c reads = record { slots = c.frame.slots; notes = c.notes; world = record c.world { reads = reads } }
-
--- no place changes by that
-pub reads_leave : (c : Configuration) (reads : List ReadItem) → SameCells (here c) (having_read c reads)
-reads_leave c reads = record {
-  stays = record { this = refl; count = refl; contracts = λ n. refl; states = λ n. refl; fields = λ n k ne. refl; notes = λ n k ne. refl; shared = λ n e. e; disowned = λ n e. e; handles = refl; locked = refl; progress = refl };
-  same = places;
-}
-  where
-    places : (q : Location) → cell_at (having_read c reads) q ≡ cell_at (here c) q
-    places (slot n) = refl
-    places (field n) = refl
+use Rattle.ob_coherent_tests_laws.proofs.Unchanged.{having_read, reads_leave}
 
 -- a place has its permission then
 abbrev pub permitted : Configuration → List ReadItem → Location → Permission → Here
@@ -68,9 +44,11 @@ permitted c reads p q = set_permission p q (having_read c reads)
 module _ (table : ClassTable) (t : IsClassTable table) (entry : Option ℕ) (beginning : Beginning) (c : Configuration)
     (whole : Holds table entry beginning c) (g : Context) (sits : Sits table c.frame whole.parts (here c) g)
     (p : Location) (inside : IsPlaceIn (body_of table c.frame whole.parts) p)
-    (u : Found (NeedsOwner table c.world.objects) (g p) (cell_at (here c) p)) (q w : Permission) (reads : List ReadItem) where
+    (u : Found (NeedsOwner table c.world.objects) (g p) (cell_at (here c) p)) (q w : Permission)
+    (reads : List ReadItem) where
   pub place_written : Written p (Some (noted q u.cell)) (here c) (permitted c reads p q)
-  place_written = written_after (here c) (having_read c reads) (permitted c reads p q) p (Some (noted q u.cell)) (reads_leave c reads)
+  place_written = written_after (here c) (having_read c reads) (permitted c reads p q) p (Some (noted q u.cell))
+      (reads_leave c reads)
       (permission_written p q u.cell (having_read c reads) ((reads_leave c reads).same p ∙ u.is))
 
   -- marks are the same
@@ -84,39 +62,51 @@ module _ (table : ClassTable) (t : IsClassTable table) (entry : Option ℕ) (beg
   place_alike allows stands owner mode spares =
       let same = place_written.stays in
       carry table t c.frame whole.parts (here c) g sits (permitted c reads p q) p inside u q w place_written allows
-      (Rattle.ob_coherent_places_laws.proofs.Standing.stands_stay table (here c) (permitted c reads p q) same (noted q u.cell) stands)
-      (λ n needs has. owner n (Rattle.ob_coherent_places_laws.proofs.Standing.needs_stay table (here c) (permitted c reads p q) same n needs) has)
+      (stands_stay table (here c) (permitted c reads p q) same (noted q u.cell) stands)
+      (λ n needs has. owner n (needs_stay table (here c) (permitted c reads p q) same n needs) has)
       mode spares
 
   -- what the places count then
-  pub counts_after : (counts : Counted) (n : ℕ) (h : Here) → h.slots ≡ (permitted c reads p q).slots → h.notes ≡ (permitted c reads p q).notes
-      → h.world.objects ≡ (permitted c reads p q).world.objects → (control : Control) → in_control counts n control ≡ in_control counts n c.control
-      → in_all counts n (moved_to c h control) + in_cell counts n (Some u.cell) ≡ in_all counts n c + in_cell counts n (Some (noted q u.cell))
+  pub counts_after : (counts : Counted) (n : ℕ) (h : Here) → h.slots ≡ (permitted c reads p q).slots
+      → h.notes ≡ (permitted c reads p q).notes
+      → h.world.objects ≡ (permitted c reads p q).world.objects → (control : Control)
+      → in_control counts n control ≡ in_control counts n c.control
+      → in_all counts n (moved_to c h control) + in_cell counts n (Some u.cell) ≡ in_all counts n c + in_cell counts n
+      (Some (noted q u.cell))
   counts_after counts n h e1 e2 e3 control alike =
-      let rest = all_but_here counts n c (moved_to c h control) refl (ap (λ (x : Rattle.ob_silica_steps.specs.Configurations.Notes). x.handles) e2 ∙ place_written.stays.handles) in
-      let change = permission_counts p q (having_read c reads) (place_low table t c.world.objects c.frame whole.parts whole.frame p inside) whole.frame.there u.cell ((reads_leave c reads).same p ∙ u.is) counts n in
-      let same : Rattle.ob_coherent_counting_laws.proofs.Writing.in_here counts n (here (moved_to c h control)) ≡ Rattle.ob_coherent_counting_laws.proofs.Writing.in_here counts n (permitted c reads p q)
-          = rw (e1, e2, e3) refl in
+      let rest = all_but_here counts n c (moved_to c h control) refl
+      (ap (λ (x : Notes). x.handles) e2 ∙ place_written.stays.handles) in
+      let change = permission_counts p q (having_read c reads)
+      (place_low table t c.world.objects c.frame whole.parts whole.frame p inside) whole.frame.there u.cell
+      ((reads_leave c reads).same p ∙ u.is) counts n in
+      let same : in_here counts n (here (moved_to c h control)) ≡ in_here counts n (permitted c reads p q)
+      = rw (e1, e2, e3) refl in
       omega (arith, rest, change, same, alike)
 
   -- a parameter keeps its value, and is Shared where it was, or where no place owns its object any more
-  pub arguments_after : (left : ℕ → ℕ) → (q ≡ shared → (u.cell.note.permission ≡ shared) ⊎ ((n : ℕ) → u.cell.value ≡ reference n → left n ≡ 0))
-      → (j : ℕ) (x : Cell) → j ≤ length whole.parts.signature.params → c.frame.slots j ≡ Some x → KeepsArgument left x ((permitted c reads p q).slots j)
+  pub arguments_after : (left : ℕ → ℕ) → (q ≡ shared
+      → (u.cell.note.permission ≡ shared) ⊎ ((n : ℕ) → u.cell.value ≡ reference n → left n ≡ 0))
+      → (j : ℕ) (x : Cell) → j ≤ length whole.parts.signature.params → c.frame.slots j ≡ Some x
+      → KeepsArgument left x ((permitted c reads p q).slots j)
   arguments_after left gone j x le e = argument_kept left x ((permitted c reads p q).slots j)
-      (subst (λ y. Rattle.ob_coherent_places_laws.specs.Placed.IsAlike y ((permitted c reads p q).slots j)) e
-      (carry_kept table t c.frame whole.parts (here c) g sits (permitted c reads p q) p q u (length whole.parts.signature.params) place_written j le))
+      (subst (λ y. IsAlike y ((permitted c reads p q).slots j)) e
+      (carry_kept table t c.frame whole.parts (here c) g sits (permitted c reads p q) p q u
+      (length whole.parts.signature.params) place_written j le))
       (λ z set held. ⊎_elim
       (λ i. let was : u.cell ≡ x = same_Some u.cell x (sym u.is ∙ ap (cell_at (here c)) (sym i) ∙ e) in
-      let new : noted q u.cell ≡ z = same_Some (noted q u.cell) z (sym place_written.itself ∙ ap (cell_at (permitted c reads p q)) (sym i) ∙ set) in
+      let new : noted q u.cell ≡ z = same_Some (noted q u.cell) z
+      (sym place_written.itself ∙ ap (cell_at (permitted c reads p q)) (sym i) ∙ set) in
       ⊎_elim
       (λ y. inl (ap (λ (d : Cell). d.note.permission) (sym was) ∙ y))
       (λ y. inr (λ n r. y n (ap (λ (d : Cell). d.value) was ∙ r)))
       (gone (ap (λ (d : Cell). d.note.permission) new ∙ held)))
-      (λ i. let same : z ≡ x = same_Some z x (sym set ∙ place_written.others (slot j) i ∙ e) in inl (ap (λ (d : Cell). d.note.permission) (sym same) ∙ held))
+      (λ i. let same : z ≡ x = same_Some z x (sym set ∙ place_written.others (slot j) i ∙ e) in
+      inl (ap (λ (d : Cell). d.note.permission) (sym same) ∙ held))
       (place_is (slot j) p))
 
   -- the permission on `this` stays, unless it is the place
-  pub this_after : ((permitted c reads p q).slots 0 ≡ c.frame.slots 0) ⊎ ((p ≡ this) × (permission_in ((permitted c reads p q).slots 0) ≡ q))
+  pub this_after : ((permitted c reads p q).slots 0 ≡ c.frame.slots 0)
+      ⊎ ((p ≡ this) × (permission_in ((permitted c reads p q).slots 0) ≡ q))
   this_after = ⊎_elim
       (λ i. inr (sym i, ap permission_in (ap (cell_at (permitted c reads p q)) i ∙ place_written.itself)))
       (λ i. inl (place_written.others this i))
@@ -124,26 +114,30 @@ module _ (table : ClassTable) (t : IsClassTable table) (entry : Option ℕ) (beg
 
   -- slots hold what they did
   pub held_after : (i : Holdings) → AreHeld i c.frame.slots every → AreHeld i (permitted c reads p q).slots every
-  held_after i held j x e set = ⊎_elim
-      (λ same. let new : noted q u.cell ≡ x = same_Some (noted q u.cell) x (sym place_written.itself ∙ ap (cell_at (permitted c reads p q)) (sym same) ∙ set) in
-      let was = held j u.cell refl (ap (cell_at (here c)) same ∙ u.is) in
-      record { kind = λ d y. ap (λ (z : Cell). z.note.kind) (sym new) ∙ was.kind d y; refers = λ y. was.refers (ap (λ (z : Cell). Rattle.ob_table_spec.specs.WellFormed.is_reference z.note.kind) new ∙ y) })
-      (λ ne. held j x refl (sym (place_written.others (slot j) ne) ∙ set))
-      (place_is (slot j) p)
+  held_after i held = held_noted i (here c) (permitted c reads p q) p u.cell q place_written u.is held
 
   module _ (s : Sits table c.frame whole.parts (permitted c reads p q) (now g p w)) where
-    pub fields_after : AllStand table (permitted c reads p q).world.objects (field_cell (permitted c reads p q).notes (permitted c reads p q).world.objects (self_of c.frame.slots))
-    fields_after = subst (λ n. AllStand table (permitted c reads p q).world.objects (field_cell (permitted c reads p q).notes (permitted c reads p q).world.objects n)) place_written.stays.this s.fields
+    pub fields_after : AllStand table (permitted c reads p q).world.objects
+        (field_cell (permitted c reads p q).notes (permitted c reads p q).world.objects (self_of c.frame.slots))
+    fields_after = subst (λ n. AllStand table (permitted c reads p q).world.objects
+        (field_cell (permitted c reads p q).notes (permitted c reads p q).world.objects n)) place_written.stays.this
+        s.fields
 
-    pub object_after : IsObjectInRun table (permitted c reads p q).notes (self_of c.frame.slots) (nth_object (permitted c reads p q).world.objects (self_of c.frame.slots))
-    object_after = subst (λ n. IsObjectInRun table (permitted c reads p q).notes n (nth_object (permitted c reads p q).world.objects n)) place_written.stays.this s.object
+    pub object_after : IsObjectInRun table (permitted c reads p q).notes (self_of c.frame.slots)
+        (nth_object (permitted c reads p q).world.objects (self_of c.frame.slots))
+    object_after = subst (λ n. IsObjectInRun table (permitted c reads p q).notes n
+        (nth_object (permitted c reads p q).world.objects n)) place_written.stays.this s.object
 
-    pub opens_after : (lists : List Rest) → AreOpen (body_of table c.frame whole.parts) (here c) lists → AreOpen (body_of table c.frame whole.parts) (permitted c reads p q) lists
-    opens_after lists a = opens_kept (body_of table c.frame whole.parts) (here c) (permitted c reads p q) place_written.stays lists
-        (carry_opens table t c.frame whole.parts (here c) g sits (permitted c reads p q) p q (now g p w) u lists place_written s) a
+    pub opens_after : (lists : List Rest) → AreOpen (body_of table c.frame whole.parts) (here c) lists
+        → AreOpen (body_of table c.frame whole.parts) (permitted c reads p q) lists
+    opens_after lists a = opens_kept (body_of table c.frame whole.parts) (here c)
+        (permitted c reads p q) place_written.stays lists
+        (carry_opens table t c.frame whole.parts (here c) g sits (permitted c reads p q) p q
+        (now g p w) u lists place_written s) a
 
     -- Where the permission counts as it did, and isn't newly Shared, the step is quiet.
-    pub permitted_quiet : (terms more : SilicaTerms) (outer lists : List Rest) → c.control ≡ runs terms outer → AreOpen (body_of table c.frame whole.parts) (here c) lists
+    pub permitted_quiet : (terms more : SilicaTerms) (outer lists : List Rest) → c.control ≡ runs terms outer
+        → AreOpen (body_of table c.frame whole.parts) (here c) lists
         → owns q ≡ owns u.cell.note.permission → (q ≡ shared → u.cell.note.permission ≡ shared)
         → IsQuietStep table c whole.parts (permitted c reads p q) more lists
     permitted_quiet terms more outer lists so opens alike unshared = record {
@@ -163,16 +157,19 @@ module _ (table : ClassTable) (t : IsClassTable table) (entry : Option ℕ) (beg
       newly_shared = λ n e d. absurd (both_ways _ (marks_same.shared n ∙ e) d);
       newly_disowned = λ n e d. absurd (both_ways _ (marks_same.disowned n ∙ e) d);
       shares = λ e. inl (⊎_elim (λ y. ap permission_in (sym y) ∙ e)
-          (λ y. ap (λ r. permission_in (cell_at (here c) r)) (sym y.0) ∙ ap permission_in u.is ∙ unshared (sym y.1 ∙ e)) this_after);
+          (λ y. ap (λ r. permission_in (cell_at (here c) r)) (sym y.0) ∙ ap permission_in u.is ∙ unshared (sym y.1 ∙ e))
+          this_after);
       unreferred = λ n has. let e = same_references n in omega (arith, e);
     }
       where
         same_owners : (n : ℕ) → owners n (moved c (permitted c reads p q) more lists) ≡ owners n c
         same_owners n =
-            let e = counts_after owns n (permitted c reads p q) refl refl refl (runs more lists) (sym (ap (in_control owns n) so)) in
-            let d = Rattle.ob_coherent_counting_laws.proofs.Cells.cell_noted owns n q u.cell alike in omega (arith, e, d)
+            let e = counts_after owns n (permitted c reads p q) refl refl refl (runs more lists)
+            (sym (ap (in_control owns n) so)) in
+            let d = cell_noted owns n q u.cell alike in omega (arith, e, d)
 
         same_references : (n : ℕ) → in_all any n (moved c (permitted c reads p q) more lists) ≡ in_all any n c
         same_references n =
-            let e = counts_after any n (permitted c reads p q) refl refl refl (runs more lists) (sym (ap (in_control any n) so)) in
-            let d = Rattle.ob_coherent_counting_laws.proofs.Cells.cell_noted any n q u.cell refl in omega (arith, e, d)
+            let e = counts_after any n (permitted c reads p q) refl refl refl (runs more lists)
+            (sym (ap (in_control any n) so)) in
+            let d = cell_noted any n q u.cell refl in omega (arith, e, d)

@@ -1,55 +1,57 @@
 -- The end of a list of terms: the one around it goes on, and a test ends.
-use Rattle.std.proofs.Common.{◌≡◌, ◌≢◌, ℕ, ◌+◌, ◌<◌, ◌≤◌, ◌⊎◌, inl, inr, ⊎_elim, true, false, nat_eq, List, [], ◌∷◌, Option, Some, None, refl, sym, ap, ◌∙◌, subst, arith}
+use Rattle.std.proofs.Common.{◌≡◌, ◌≢◌, ℕ, ◌+◌, ◌<◌, ◌≤◌, inl, inr, ⊎_elim, true, false, nat_eq, List, [], ◌∷◌, Option, refl, sym, ap, ◌∙◌, subst, arith}
 use Rattle.std.proofs.lemmas.Bool.{both_ways}
 use Rattle.std.proofs.lemmas.Bool.Decides.{eqb_tells}
-use Rattle.ob_perm.specs.Permissions.{Permission, shared, owns}
+use Rattle.ob_perm.specs.Permissions.{shared, owns}
 use Rattle.ob_table.specs.Tables.{ClassTable}
 use Rattle.ob_table_spec.specs.Conditions.{IsClassTable}
-use Rattle.ob_heap_spec.specs.Values.{Value, reference}
+use Rattle.ob_heap_spec.specs.Values.{reference}
 use Rattle.ob_heap_spec.specs.Marks.{without_first}
 use Rattle.ob_silica.specs.Terms.{SilicaTerms, no_terms}
-use Rattle.ob_silica_places.specs.Places.{Location, slot, field, this, same_location}
-use Rattle.ob_silica_steps.specs.Cells.{Cell, noted, permission_in}
+use Rattle.ob_silica_places.specs.Places.{Location, this, same_location}
+use Rattle.ob_silica_steps.specs.Cells.{noted, permission_in}
 use Rattle.ob_silica_steps.specs.Configurations.{SilicaProgram, by_new, Ends, plain_end, test_end, lock_end, Rest, Control, runs, Configuration}
 use Rattle.ob_silica_steps.specs.Here.{Here, here, self_of, goes_to}
 use Rattle.ob_silica_steps.specs.Testing.{end_branch}
 use Rattle.ob_silica_steps.specs.Steps.{pop_step}
-use Rattle.ob_silica_formed.specs.Holdings.{Holdings}
 use Rattle.ob_flow_spec.specs.Contexts.{Context, now, permission_at}
-use Rattle.ob_coherent_spec.specs.Counting.{nth_object, one_if, any, in_cell, in_control, owners}
-use Rattle.ob_coherent_spec.specs.Runs.{times, around, locks_at, locks_around, tests_at, tests_around, tests_in, open_tests}
-use Rattle.ob_coherent_spec.specs.Standing.{Stands, RefersToShared, HasItsState, NeedsOwner}
+use Rattle.ob_coherent_spec.specs.Counting.{nth_object, one_if, Counted, in_control, owners}
+use Rattle.ob_coherent_spec.specs.Runs.{times, around, locks_at, locks_around, tests_in, open_tests}
+use Rattle.ob_coherent_spec.specs.Standing.{RefersToShared, HasItsState, NeedsOwner}
 use Rattle.ob_coherent_spec.specs.Saying.{every}
-use Rattle.ob_coherent_spec.specs.Remaining.{IsCheckedProgram, body_of, IsPlaceIn, at_end, StillOwns, Remains}
-use Rattle.ob_coherent_spec.specs.OpenTests.{IsTestOf, IsOpen, AreOpen}
+use Rattle.ob_coherent_spec.specs.Remaining.{IsCheckedProgram, body_of, Leads, at_end}
+use Rattle.ob_coherent_spec.specs.OpenTests.{IsTestOf, IsOpen}
 use Rattle.ob_coherent_spec.specs.Waiting.{SharesThis}
 use Rattle.ob_coherent_spec.specs.Coherent.{Beginning, IsRunning, running, StepsSo}
 use Rattle.ob_coherent_counting_laws.proofs.Cells.{shared_none}
-use Rattle.ob_coherent_counting_laws.proofs.Numbers.{one_same, one_other, without_times}
+use Rattle.ob_coherent_counting_laws.proofs.Numbers.{one_same}
 use Rattle.ob_coherent_counting_laws.proofs.Testing.{tested_at, without_count}
-use Rattle.ob_coherent_frames_laws.specs.Steps.{moved, moved_to, KeepsWhole, IsOwnStep}
+use Rattle.ob_coherent_frames_laws.specs.Steps.{moved, KeepsWhole, IsOwnStep}
 use Rattle.ob_coherent_frames_laws.proofs.Own.{own_step_keeps}
 use Rattle.ob_coherent_places_laws.specs.Placed.{cell_at, Found, Sits}
-use Rattle.ob_coherent_places_laws.proofs.Reading.{place_is}
 use Rattle.ob_coherent_places_laws.proofs.Finding.{found_stands}
 use Rattle.ob_coherent_remaining_laws.proofs.Remaining.{GoesOn, list_ends, ends_inside}
 use Rattle.ob_coherent_remaining_laws.proofs.Following.{held_too}
 use Rattle.ob_coherent_tests_laws.proofs.Unchanged.{remains_so, opens_so, unchanged_keeps}
 use Rattle.ob_coherent_tests_laws.proofs.Locking.{with_locked, opens_locked, says_locked, sits_leads}
-use Rattle.ob_coherent_tests_laws.proofs.Permitted.{sits_running, permitted, place_written, place_alike, this_after, held_after, opens_after}
+use Rattle.ob_coherent_places_laws.proofs.Handing.{sits_holding}
+use Rattle.ob_coherent_tests_laws.proofs.Permitted.{permitted, place_written, place_alike, this_after, held_after, opens_after}
 use Rattle.ob_coherent_tests_laws.proofs.Tested.{tested_found, tested_refers, tested_owner, test_not_made}
-use Rattle.ob_coherent_tests_laws.proofs.Ending.{test_ends, none_left, owners_ended, references_ended}
+use Rattle.ob_coherent_tests_laws.proofs.Ending.{locks_tested, test_ends, none_left, owners_ended, references_ended}
 
 module _ (table : ClassTable) (t : IsClassTable table) (entry : Option ℕ) (beginning : Beginning) (c : Configuration)
     (k : IsRunning table entry beginning c) (rest : SilicaTerms) (e : Ends) (outer : List Rest)
     (so : c.control ≡ runs no_terms (record { terms = rest; ends = e } ∷ outer)) where
   abbrev before : Sits table c.frame k.whole.parts (here c) k.context
-  before = sits_running table entry beginning c k
+  before = sits_holding table entry beginning c k
 
   -- A test ends: its place is Shared again.
-  module _ (p : Location) (m : ℕ) (a : IsTestOf (body_of table c.frame k.whole.parts) (here c) p m) (owner : owns (permission_at k.context p) ≡ true)
-      (marked : (nth_object c.world.objects m).shared ≡ true) (ends : (n : ℕ) → tested_at n c.frame.slots e ≡ one_if (nat_eq m n))
-      (ls : List ℕ) (unlocks : (n : ℕ) → locks_at n e + times n ls ≡ times n c.world.locked) (spares : c.frame.how ≡ by_new → p ≢ this) where
+  module _ (p : Location) (m : ℕ) (a : IsTestOf (body_of table c.frame k.whole.parts) (here c) p m)
+      (owner : owns (permission_at k.context p) ≡ true)
+      (marked : (nth_object c.world.objects m).shared ≡ true)
+      (ends : (n : ℕ) → tested_at n c.frame.slots e ≡ one_if (nat_eq m n))
+      (ls : List ℕ) (unlocks : (n : ℕ) → locks_at n e + times n ls ≡ times n c.world.locked)
+      (spares : c.frame.how ≡ by_new → p ≢ this) where
     abbrev u : Found (NeedsOwner table c.world.objects) (k.context p) (cell_at (here c) p)
     u = tested_found table t c.frame k.whole.parts (here c) k.context before p m a owner
 
@@ -72,7 +74,7 @@ module _ (table : ClassTable) (t : IsClassTable table) (entry : Option ℕ) (beg
         (λ n needs has. absurd (let none = shared_none n (noted shared u.cell) refl in omega (arith, none, has)))
         (λ z. refl) spares
 
-    alike : (counts : Rattle.ob_coherent_spec.specs.Counting.Counted) (n : ℕ) → in_control counts n (runs rest outer) ≡ in_control counts n c.control
+    alike : (counts : Counted) (n : ℕ) → in_control counts n (runs rest outer) ≡ in_control counts n c.control
     alike counts n = sym (ap (in_control counts n) so)
 
     whole_after : KeepsWhole table entry c k.whole.parts now_here (runs rest outer)
@@ -101,9 +103,11 @@ module _ (table : ClassTable) (t : IsClassTable table) (entry : Option ℕ) (beg
           slots = w.slots;
           fields = w.fields;
           object = w.object;
-          placed = λ made. subst (λ n. HasItsState table (nth_object now_here.world.objects n)) w.this (again.placed made);
+          placed = λ made. subst (λ n. HasItsState table (nth_object now_here.world.objects n)) w.this
+              (again.placed made);
           opens = opens_locked (body_of table c.frame k.whole.parts) (permitted c c.world.reads p shared) ls outer
-              (opens_after table t entry beginning c k.whole k.context before p a.inside u shared shared c.world.reads again outer
+              (opens_after table t entry beginning c k.whole k.context before p a.inside u shared shared c.world.reads
+              again outer
               (opens_so table entry beginning c k no_terms (record { terms = rest; ends = e } ∷ outer) so).2);
           shares = shares;
           owns_made = again.owns_made;
@@ -116,20 +120,144 @@ module _ (table : ClassTable) (t : IsClassTable table) (entry : Option ℕ) (beg
           tested = w.tested;
           locked = w.locked;
           locked_once = w.locked_once;
-          unreferred = λ n has. let same = references_ended table t entry beginning c k.whole k.context before p a.inside u m refers owning marked
-              (record { terms = rest; ends = e }) outer (runs rest outer) (ap around so) refl alike ends ls unlocks n in omega (arith, same);
+          unreferred = λ n has. let same = references_ended table t entry beginning c k.whole k.context before p
+              a.inside u m refers owning marked
+              (record { terms = rest; ends = e }) outer (runs rest outer) (ap around so) refl alike ends ls unlocks n in
+              omega (arith, same);
         }
 
     -- It leads to a coherent configuration.
-    pub ends_keep : GoesOn (body_of table c.frame k.whole.parts) k.holdings k.context (record { terms = rest; ends = e }) outer
+    pub ends_keep : GoesOn (body_of table c.frame k.whole.parts) k.holdings k.context
+        (record { terms = rest; ends = e }) outer
         → at_end k.context e ≡ now k.context p shared
         → SharesThis (record c.frame { slots = now_here.slots }) (moved c now_here rest outer) 0
         → IsRunning table entry beginning (moved c now_here rest outer)
     ends_keep on at shares = own_step_keeps table entry beginning c now_here rest outer t k (ends_own shares) on.context
-        (says_locked (body_of table c.frame k.whole.parts) (NeedsOwner table now_here.world.objects) on.context (permitted c c.world.reads p shared) ls every
-        (sits_leads table t c.frame k.whole.parts (permitted c c.world.reads p shared) (now k.context p shared) on.context again
-        (subst (λ (g : Context). Rattle.ob_coherent_spec.specs.Remaining.Leads (body_of table c.frame k.whole.parts) g on.context) at on.leads)))
+        (says_locked (body_of table c.frame k.whole.parts) (NeedsOwner table now_here.world.objects) on.context
+        (permitted c c.world.reads p shared) ls every
+        (sits_leads table t c.frame k.whole.parts (permitted c c.world.reads p shared)
+        (now k.context p shared) on.context again
+        (subst (λ (g : Context). Leads (body_of table c.frame k.whole.parts) g on.context) at on.leads)))
         on.holdings
         (held_too k.holdings on.holdings now_here.slots every on.holds
-        (held_after table t entry beginning c k.whole k.context before p a.inside u shared shared c.world.reads k.holdings k.held))
+        (held_after table t entry beginning c k.whole k.context before p a.inside u shared shared c.world.reads
+        k.holdings k.held))
         on.remains
+
+    same_progress : now_here.world.progress ≡ c.world.progress
+    same_progress = (place_written table t entry beginning c k.whole k.context before p a.inside u shared shared
+        c.world.reads).stays.progress
+
+    same_self : self_of now_here.slots ≡ self_of c.frame.slots
+    same_self = (place_written table t entry beginning c k.whole k.context before p a.inside u shared shared
+        c.world.reads).stays.this
+
+    -- where the test was one of `this`, its object is in progress and no place owns it
+    pub shares_this : m ≡ self_of c.frame.slots → 0 < open_tests (self_of c.frame.slots) c
+        → SharesThis (record c.frame { slots = now_here.slots }) (moved c now_here rest outer) 0
+    shares_this i some held = (
+      subst (λ n. 0 < times n now_here.world.progress) (sym same_self)
+          (subst (λ l. 0 < times (self_of c.frame.slots) l) (sym same_progress)
+          (k.whole.tested (self_of c.frame.slots) some)),
+      inl (subst (λ n. owners n (moved c now_here rest outer) ≤ 0) (i ∙ sym same_self)
+          (let none = left_none in omega (arith, none))),
+    )
+
+    -- where it was one of another place, `this` is as it was
+    pub shares_other : p ≢ this → SharesThis (record c.frame { slots = now_here.slots }) (moved c now_here rest outer) 0
+    shares_other other held =
+        let y = k.shares (⊎_elim (λ i. ap permission_in (sym i) ∙ held) (λ i. absurd (other i.0))
+        (this_after table t entry beginning c k.whole k.context before p a.inside u shared shared c.world.reads)) in (
+          subst (λ n. 0 < times n now_here.world.progress) (sym same_self)
+              (subst (λ l. 0 < times (self_of c.frame.slots) l) (sym same_progress) y.0),
+          ⊎_elim
+              (λ few. inl (subst (λ n. owners n (moved c now_here rest outer) ≤ 0) (sym same_self)
+              (let d = fewer (self_of c.frame.slots) in omega (arith, few, d))))
+              (λ z. ⊎_elim
+              (λ i. inl (subst (λ n. owners n (moved c now_here rest outer) ≤ 0) (i.1 ∙ sym same_self)
+              (let none = left_none in omega (arith, none))))
+              (λ i. inr (
+                z.0,
+                subst (λ n. 0 < times n ls) (sym same_self)
+                    (let one = ap one_if i.0 in let x = ends (self_of c.frame.slots) in
+                    let v = locks_tested (self_of c.frame.slots) c.frame.slots e in
+                    let w = unlocks (self_of c.frame.slots) in let busy = z.1 in omega (arith, one, x, v, w, busy)),
+              ))
+              (eqb_tells m (self_of c.frame.slots)))
+              y.1,
+        )
+
+-- how often an object is locked at least, where a test with its lock ends
+lock_there : (m : ℕ) (locked others : ℕ) → one_if (nat_eq m m) + others ≡ locked → 0 < locked
+lock_there m locked others e = let one = one_same m in omega (arith, e, one)
+
+other_place : (p : Location) → same_location p this ≡ false → p ≢ this
+other_place p e i = both_ways _ e (ap (λ r. same_location r this) i)
+
+-- The end of a list leads to a coherent configuration, in which the list around it goes on.
+pop_ends : (program : SilicaProgram) (entry : Option ℕ) (beginning : Beginning) (c : Configuration) (rest : SilicaTerms)
+    (e : Ends) (outer : List Rest)
+    → IsCheckedProgram program → (k : IsRunning program.table entry beginning c)
+    → c.control ≡ runs no_terms (record { terms = rest; ends = e } ∷ outer)
+    → IsOpen (body_of program.table c.frame k.whole.parts) (here c) e
+    → GoesOn (body_of program.table c.frame k.whole.parts) k.holdings k.context
+    (record { terms = rest; ends = e }) outer
+    → StepsSo program.table entry beginning (goes_to c (end_branch e (here c)) (runs rest outer))
+pop_ends program entry beginning c rest plain_end outer checked k so a on =
+    running (unchanged_keeps program.table entry beginning c k no_terms
+    (record { terms = rest; ends = plain_end } ∷ outer) so checked.table c.world.reads rest outer
+    (opens_so program.table entry beginning c k no_terms (record { terms = rest; ends = plain_end } ∷ outer) so).2
+    (record { locks = λ n. omega arith; tests = λ n. omega arith }) on.context
+    (sits_leads program.table checked.table c.frame k.whole.parts (here c) k.context on.context
+    (sits_holding program.table entry beginning c k) on.leads)
+    on.holdings (held_too k.holdings on.holdings c.frame.slots every on.holds k.held) on.remains)
+pop_ends program entry beginning c rest (test_end p) outer checked k so (is, a, marked) on =
+    let w = (place_written program.table checked.table entry beginning c k.whole k.context
+    (sits_holding program.table entry beginning c k) p a.inside
+    (tested_found program.table checked.table c.frame k.whole.parts (here c) k.context
+    (sits_holding program.table entry beginning c k) p (self_of c.frame.slots) a on.owns) shared shared
+    c.world.reads).stays.locked in
+    let ls : List ℕ = (permitted c c.world.reads p shared).world.locked in
+    let same : (n : ℕ) → 0 + times n ls ≡ times n c.world.locked = λ n. (let z = ap (times n) w in omega (arith, z)) in
+    let some : 0 < open_tests (self_of c.frame.slots) c =
+    (let one = one_same (self_of c.frame.slots) in
+    let b = ap (λ (x : Control). tests_in (self_of c.frame.slots) c.frame.slots (around x)) so in
+    omega (arith, one, b)) in
+    running (ends_keep program.table checked.table entry beginning c k rest (test_end p) outer so p
+    (self_of c.frame.slots) a on.owns marked (λ n. refl)
+    ls same (λ made. absurd (test_not_made program.table entry beginning c k.whole some made)) on refl
+    (shares_this program.table checked.table entry beginning c k rest (test_end p) outer so p
+    (self_of c.frame.slots) a on.owns marked (λ n. refl)
+    ls same (λ made. absurd (test_not_made program.table entry beginning c k.whole some made)) refl some))
+pop_ends program entry beginning c rest (lock_end p m) outer checked k so (other, a, marked) on =
+    let w = (place_written program.table checked.table entry beginning c k.whole k.context
+    (sits_holding program.table entry beginning c k) p a.inside
+    (tested_found program.table checked.table c.frame k.whole.parts (here c) k.context
+    (sits_holding program.table entry beginning c k) p m a on.owns) shared shared c.world.reads).stays.locked in
+    let locked = k.whole.locked m in
+    let lists = ap (λ (x : Control). locks_around m (around x)) so in
+    let one = one_same m in
+    let there : 0 < times m c.world.locked = omega (arith, locked, lists, one) in
+    let less : (n : ℕ) → one_if (nat_eq m n) + times n (without_first m c.world.locked)
+    ≡ times n c.world.locked = λ n. without_count m n c.world.locked there in
+    subst (λ l. StepsSo program.table entry beginning
+    (goes_to c (with_locked (permitted c c.world.reads p shared) (without_first m l)) (runs rest outer))) (sym w)
+    (running (ends_keep program.table checked.table entry beginning c k rest
+    (lock_end p m) outer so p m a on.owns marked (λ n. refl)
+    (without_first m c.world.locked) less (λ made. other_place p other) on refl
+    (shares_other program.table checked.table entry beginning c k rest (lock_end p m) outer so p m a on.owns marked
+    (λ n. refl)
+    (without_first m c.world.locked) less (λ made. other_place p other) (other_place p other))))
+
+pub pop_keeps : (program : SilicaProgram) (entry : Option ℕ) (beginning : Beginning) (c : Configuration)
+    (outer : List Rest)
+    → IsCheckedProgram program → (k : IsRunning program.table entry beginning c) → c.control ≡ runs no_terms outer
+    → StepsSo program.table entry beginning (pop_step outer c)
+pop_keeps program entry beginning c [] checked k so =
+    absurd (ends_inside (body_of program.table c.frame k.whole.parts) k.holdings k.context
+    (remains_so program.table entry beginning c k no_terms [] so))
+pop_keeps program entry beginning c (r ∷ outer) checked k so =
+    pop_ends program entry beginning c r.terms r.ends outer checked k so
+    (opens_so program.table entry beginning c k no_terms (r ∷ outer) so).0
+    (list_ends (body_of program.table c.frame k.whole.parts) k.holdings k.context r outer
+    (remains_so program.table entry beginning c k no_terms (r ∷ outer) so))

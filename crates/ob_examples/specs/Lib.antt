@@ -15,4 +15,7 @@ pub mod ReentryTerms
 pub mod ArithmeticTerms
 pub mod LampTerms
 pub mod Shop
-pub mod MadeTerms
+pub mod BuyBodies
+pub mod Depot
+pub mod StoresAtRest
+pub mod FailingStores

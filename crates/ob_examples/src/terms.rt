@@ -12,7 +12,7 @@ ghost use Rattle.ob_examples.specs.ArithmeticTerms.{arithmetic_terms};
 ghost use Rattle.ob_examples.specs.Lamp.{lamp, by_meaning, number_and_truth, lit_with, reverted};
 ghost use Rattle.ob_examples.specs.LampTerms.{lamp_terms, by_steps};
 ghost use Rattle.ob_lower_spec.specs.BodyTerms.{AllLower};
-ghost use Rattle.ob_examples.specs.MadeTerms.{buy_made, buy_short, buy_dropping, buy_losing, buy_returning};
+ghost use Rattle.ob_examples.specs.BuyBodies.{buy_lowered, buy_short, buy_dropping, buy_losing, buy_large, buy_returning};
 ghost use Rattle.ob_silica_formed.specs.WellFormedTerms.{IsWellFormedTerms};
 
 /// The bodies of small programs may be lowered to the terms that are run elsewhere.
@@ -38,11 +38,13 @@ pub fn lamp_lowers()
 {}
 
 /// The terms of the vending machine's `buy` are well-formed. They aren't with a slot too few; nor is a body that drops
-/// its parameter's slot, one that sets a slot that holds a reference, and one that returns another contract's object.
+/// its parameter's slot, one that sets a slot that holds a reference, one with a number that is no `int`, and one that
+/// returns another contract's object.
 pub fn well_formed_and_other_terms()
-    ensures made { IsWellFormedTerms vending_machine buy_made }
+    ensures well_formed { IsWellFormedTerms vending_machine buy_lowered }
     ensures short { IsWellFormedTerms vending_machine buy_short → ⊥ }
     ensures dropping { IsWellFormedTerms vending_machine buy_dropping → ⊥ }
     ensures losing { IsWellFormedTerms vending_machine buy_losing → ⊥ }
+    ensures large { IsWellFormedTerms vending_machine buy_large → ⊥ }
     ensures returning { IsWellFormedTerms vending_machine buy_returning → ⊥ }
 {}

@@ -8,7 +8,7 @@ ghost use Rattle.ob_machine.specs.Closed.{names_exist, is_closed_program};
 ghost use Rattle.ob_exec.specs.declared.store.Store.{Store};
 
 use crate::find::{handled, transaction_of};
-use crate::{Handle, Store};
+use crate::{Store, StoredHandle};
 use ob_base::{Items, LONGEST_LINE, Label, MOST_HANDLES, Memory, ObjectId};
 use ob_machine::{Plain, PlainTx, Ran, run_plain};
 use ob_wire::{Answer, Cause, Op, Outcome, Refusal, Reply, Request, WireError, read_request};
@@ -68,7 +68,7 @@ fn add_object(
 {
     let object = ObjectId(store.objects.len() as u32);
     store.objects.push(values)?;
-    let handle = Handle {
+    let handle = StoredHandle {
         client: who,
         name: into,
         object,

@@ -4,18 +4,18 @@ ghost use Rattle.std.specs.Option.{option_copied};
 ghost use Rattle.std.specs.Str.{bytes_eq};
 ghost use Rattle.ob_exec.specs.Stored.{is_handle, handled, transaction_of};
 
-use crate::Handle;
+use crate::StoredHandle;
 use ob_base::{Label, ObjectId};
 use ob_machine::PlainTx;
 
-fn is_handle(client: &Label, name: &Label, handle: &Handle) -> bool
+fn is_handle(client: &Label, name: &Label, handle: &StoredHandle) -> bool
     ensures { result ≡ is_handle client.now name.now handle.now }
 {
     client.as_bytes() == handle.client.as_bytes() && name.as_bytes() == handle.name.as_bytes()
 }
 
 /// The object that a client has under a name.
-pub fn handled(handles: &[Handle], client: &Label, name: &Label) -> Option<ObjectId>
+pub fn handled(handles: &[StoredHandle], client: &Label, name: &Label) -> Option<ObjectId>
     ensures { result ≡ handled handles.now client.now name.now }
 {
     for handle in handles {

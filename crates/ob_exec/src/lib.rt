@@ -6,4 +6,4 @@ mod find;
 mod store;
 
 pub use answering::{FUEL, answer, changes_nothing, refused};
-pub use store::{Handle, Store};
+pub use store::{Store, StoredHandle};

@@ -8,12 +8,12 @@ pub struct Store {
     /// The fields' values of each object.
     pub objects: Items<Items<i64>>,
     /// No two have the same client and name.
-    pub handles: Items<Handle>,
+    pub handles: Items<StoredHandle>,
 }
 
 /// A client's name for an object.
 #[derive(Debug, Drop)]
-pub struct Handle {
+pub struct StoredHandle {
     /// The client that it belongs to.
     pub client: Label,
     /// What this client calls the object; other clients may use the name for others.

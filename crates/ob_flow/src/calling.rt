@@ -150,7 +150,7 @@ fn pass_this(
     )
 }
 
-/// Calls a transaction of `this`, whose place in the text is that of the form.
+/// Calls a transaction of `this`, whose span is that of the form.
 pub fn call_this(
     alloc: Global,
     frame: &BodyFrame<'_>,

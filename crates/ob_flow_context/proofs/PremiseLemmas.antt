@@ -19,7 +19,7 @@ holds_by p ps qs false rest e = absurd cc
 
 pub holds_more : (ps qs : List Premise) → first_failing ps ≡ None → first_failing (ps ++ qs) ≡ first_failing qs
 holds_more [] qs e = refl
-holds_more (p ∷ ps) qs e = holds_by p ps qs p.holds (holds_more ps qs) e
+holds_more (p ∷ ps) qs e = holds_by p ps qs p.condition (holds_more ps qs) e
 
 pub one_holds_more : (p : Premise) (qs : List Premise) → first_failing (p ∷ []) ≡ None
     → first_failing (p ∷ qs) ≡ first_failing qs
@@ -36,7 +36,7 @@ fails_by p ps qs f false rest e = e
 
 fails_here : (ps qs : List Premise) (f : ProgramFault) → first_failing ps ≡ Some f → first_failing (ps ++ qs) ≡ Some f
 fails_here [] qs f e = absurd cc
-fails_here (p ∷ ps) qs f e = fails_by p ps qs f p.holds (fails_here ps qs f) e
+fails_here (p ∷ ps) qs f e = fails_by p ps qs f p.condition (fails_here ps qs f) e
 
 pub fails_first : (ps qs : List Premise) (e : TextError) → FailsPremises e ps → FailsPremises e (ps ++ qs)
 fails_first ps qs (Fault f) h = fails_here ps qs f h

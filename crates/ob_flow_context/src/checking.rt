@@ -8,15 +8,12 @@ use ob_base::{ProgramFault, Span, TextError};
 pub type FlowError = TextError;
 
 /// Asks for one premise.
-pub fn must(number: u16, place: Span, holds: bool) -> Result<(), FlowError>
-    ensures { MeetsPremises result (one number place holds) }
+pub fn must(number: u16, span: Span, holds: bool) -> Result<(), FlowError>
+    ensures { MeetsPremises result (one number span holds) }
 {
     if holds {
         Ok(())
     } else {
-        Err(FlowError::Fault(ProgramFault {
-            number,
-            span: place,
-        }))
+        Err(FlowError::Fault(ProgramFault { number, span }))
     }
 }

@@ -51,7 +51,7 @@ fn fills_as(
     }
 }
 
-/// Fills a field from a place, where `this` lets its fields change; the form stands at this place of the text. What the
+/// Fills a field from a place, where `this` lets its fields change; the form stands at this span. What the
 /// field gets is `got`, from the context before.
 #[tactic(auto, using(crate::proofs::PremiseLemmas::premises))]
 pub fn fill(

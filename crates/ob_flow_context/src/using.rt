@@ -41,12 +41,12 @@ pub fn uses_place(frame: &BodyFrame<'_>, context: &Context, read: Operand) -> Re
 }
 
 /// Asks that a permission serves where another is wanted.
-pub fn fitting(permission: Perm, wanted: Perm, place: Span) -> Result<(), FlowError>
-    ensures { MeetsPremises result (fitting (fit_fault (permission_of permission) (permission_of wanted)) place) }
+pub fn fitting(permission: Perm, wanted: Perm, span: Span) -> Result<(), FlowError>
+    ensures { MeetsPremises result (fitting (fit_fault (permission_of permission) (permission_of wanted)) span) }
 {
     match ob_perm::fits(permission, wanted) {
         Ok(()) => Ok(()),
-        Err(cause) => must(cause.number(), place, false),
+        Err(cause) => must(cause.number(), span, false),
     }
 }
 

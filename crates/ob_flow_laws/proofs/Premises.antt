@@ -9,14 +9,14 @@ use Rattle.ob_flow_laws.proofs.Tests.{same_number}
 
 -- None fails where all hold, and the other way round.
 
-first_holds : (p : Premise) (ps : List Premise) → (first_failing ps ≡ None → Hold ps) → (b : Bool) → p.holds ≡ b
+first_holds : (p : Premise) (ps : List Premise) → (first_failing ps ≡ None → Hold ps) → (b : Bool) → p.condition ≡ b
     → (if b then first_failing ps else Some p.fault) ≡ None → Hold (p ∷ ps)
 first_holds p ps go true e f = (e, go f)
 first_holds p ps go false e f = absurd (cc)
 
 pub all_hold : (ps : List Premise) → first_failing ps ≡ None → Hold ps
 all_hold [] f = tt
-all_hold (p ∷ ps) f = first_holds p ps (all_hold ps) p.holds refl f
+all_hold (p ∷ ps) f = first_holds p ps (all_hold ps) p.condition refl f
 
 pub none_fails : (ps : List Premise) → Hold ps → first_failing ps ≡ None
 none_fails [] h = refl
@@ -25,7 +25,7 @@ none_fails (p ∷ ps) h = rw h.0 (none_fails ps h.1)
 -- Checked premises.
 
 then_holds : {A B : Type 0} (p : Premise) (ps : List Premise) (x : A) (f : A → Result B ProgramFault) (y : B)
-    → ((checked ps x >>= f) ≡ Ok y → Hold ps × (f x ≡ Ok y)) → (b : Bool) → p.holds ≡ b
+    → ((checked ps x >>= f) ≡ Ok y → Hold ps × (f x ≡ Ok y)) → (b : Bool) → p.condition ≡ b
     → (unless (if b then first_failing ps else Some p.fault) x >>= f) ≡ Ok y
     → Hold (p ∷ ps) × (f x ≡ Ok y)
 then_holds p ps x f y go true e h = let r = go h in ((e, r.0), r.1)
@@ -35,7 +35,7 @@ then_holds p ps x f y go false e h = absurd (cc)
 pub checked_then : {A B : Type 0} (ps : List Premise) (x : A) (f : A → Result B ProgramFault) (y : B)
     → (checked ps x >>= f) ≡ Ok y → Hold ps × (f x ≡ Ok y)
 checked_then [] x f y h = (tt, h)
-checked_then (p ∷ ps) x f y h = then_holds p ps x f y (checked_then ps x f y) p.holds refl h
+checked_then (p ∷ ps) x f y h = then_holds p ps x f y (checked_then ps x f y) p.condition refl h
 
 ok_again : {A : Type 0} (r : Result A ProgramFault) → (r >>= (λ x. Ok x)) ≡ r
 ok_again (Ok x) = refl

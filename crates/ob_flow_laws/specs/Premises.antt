@@ -5,4 +5,4 @@ use Rattle.ob_flow_spec.specs.Premises.{Premise}
 -- each of these premises holds
 abbrev pub Hold : List Premise → Type 0
 Hold [] = ⊤
-Hold (p ∷ ps) = IsTrue p.holds × Hold ps
+Hold (p ∷ ps) = IsTrue p.condition × Hold ps

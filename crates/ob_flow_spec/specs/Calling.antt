@@ -42,7 +42,7 @@ abbrev pub after_call : BodyFrame → Context → Option ℕ → Operand → Con
 after_call b g k receiver contract s args =
     with_result (passed b g (all_reads receiver args) (all_parameters contract s)) k s.result
 
--- `this` and the arguments of a call on `this`, whose faults about `this` stand at its own place in the text
+-- `this` and the arguments of a call on `this`, whose faults about `this` stand at its own span
 abbrev pub reads_with_this : Span → List Operand → List Read
 reads_with_this at args = record { location = this; span = at } ∷ reads_of args
 

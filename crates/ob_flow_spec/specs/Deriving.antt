@@ -37,7 +37,7 @@ abbrev pub constructor : TxId
 constructor = record { 0 = 0 }
 
 abbrev mutual
-  -- A form, with its place in the text, after a context. A form that names a transaction that the table doesn't have
+  -- A form, with its span, after a context. A form that names a transaction that the table doesn't have
   -- says nothing.
   pub derive : BodyFrame → TestedPlaces → SilicaForm → Span → Context → Derived
   derive b ts unit_form at g = Ok (Some g)

@@ -25,7 +25,7 @@ fills_as b ts g f r (owned a) =
 fills_as b ts g f r shared = gives_place b ts g r (field_parameter b f)
 fills_as b ts g f r unowned = gives_place b ts g r (field_parameter b f)
 
--- filling a field from a place, where `this` lets its fields change; the form stands at this place of the text
+-- filling a field from a place, where `this` lets its fields change; the form stands at this span
 abbrev pub fills_field : BodyFrame → TestedPlaces → Context → Span → ℕ → Read → List Premise
 fills_field b ts g at f r =
     one view_changes at (not (is_unowned (permission_at g this)))

@@ -6,20 +6,20 @@ use Rattle.ob_base.specs.declared.fault.Span.{Span}
 -- a premise, with the fault where it doesn't hold
 pub record Premise : Type 0 where
   pub fault : ProgramFault
-  pub holds : Bool
+  pub condition : Bool
 
--- this must hold, or else there is a fault of this number at this place
+-- this must hold, or else there is a fault of this number at this span
 abbrev pub must : ℕ → Span → Bool → Premise
-must number place holds = record { fault = record { number = number; span = place }; holds = holds }
+must number span condition = record { fault = record { number = number; span = span }; condition = condition }
 
 -- one premise
 abbrev pub one : ℕ → Span → Bool → List Premise
-one number place holds = must number place holds ∷ []
+one number span condition = must number span condition ∷ []
 
 -- the fault of the first premise that doesn't hold, if there is one
 abbrev pub first_failing : List Premise → Option ProgramFault
 first_failing [] = None
-first_failing (p ∷ ps) = if p.holds then first_failing ps else Some p.fault
+first_failing (p ∷ ps) = if p.condition then first_failing ps else Some p.fault
 
 -- premises for each number below n, in order
 abbrev pub each : ℕ → (ℕ → List Premise) → List Premise

@@ -40,8 +40,8 @@ uses_place b g r =
 
 -- a permission serves where another is wanted, or else this is the cause
 abbrev pub fitting : Option FitFault → Span → List Premise
-fitting None place = []
-fitting (Some cause) place = one (fault_number cause) place false
+fitting None span = []
+fitting (Some cause) span = one (fault_number cause) span false
 
 -- whether a place given where a permission is wanted doesn't come back as an owner's: it is shared from then on, or its
 -- owner is gone

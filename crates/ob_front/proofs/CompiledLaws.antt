@@ -13,7 +13,7 @@ use Rattle.ob_lower_functions.proofs.Bodies.{gives_terms}
 use Rattle.ob_front.specs.Lowered.{AreLoweredTo}
 use Rattle.ob_front.specs.Programs.{IsProgram}
 use Rattle.ob_front.specs.Compiled.{IsCompiledProgram}
-use Rattle.ob_front.proofs.StagesLaws.{made}
+use Rattle.ob_front.proofs.StagesLaws.{well_formed}
 use Rattle.ob_front.proofs.ProgramsLaws.{all_numbered}
 
 -- bodies may be lowered to their terms
@@ -34,12 +34,12 @@ all_few table (b ∷ bs) (l ∷ ls) lowered =
 pub accepted_texts_are_compiled_lem : (text : List ℕ) (table : ClassTable) (bodies : List SilicaBody) → IsProgram text table bodies
     → IsCompiledProgram table bodies
 accepted_texts_are_compiled_lem text table bodies is =
-    let known = made text table is.terms.has in
+    let known = well_formed text table is.terms.has in
     let lower = all_lower table table.bodies bodies is.terms.lowered in
     record {
-      lowered = record { table = known.conditions; made = known.bodies; lowered = lower };
+      lowered = record { table = known.conditions; well_formed = known.bodies; lowered = lower };
       each = known.each;
-      made = lowering_makes_all_well table table.bodies bodies known.bodies lower (all_few table table.bodies bodies is.terms.lowered);
+      well_formed = lowering_makes_all_well table table.bodies bodies known.bodies lower (all_few table table.bodies bodies is.terms.lowered);
       states = all_numbered text table bodies is.terms;
       derive = is.derive;
     }

@@ -22,7 +22,7 @@ use Rattle.ob_front.specs.Lowered.{AreLoweredTo, first_slot_past, LacksSlots}
 use Rattle.ob_front.specs.Checked.{AllNumbered, first_flow_fault, FailsPremise}
 use Rattle.ob_front.proofs.MiddleLaws.{some_is, one_lowering, none_past, one_slot_fault, none_fails}
 use Rattle.ob_front.specs.Programs.{HasTerms, HasTermsFault, at_table, at_slot, IsProgram, IsAccepted, HasTextFault, at_terms, at_premise}
-use Rattle.ob_front.proofs.StagesLaws.{one_table, table_or_none, one_table_fault_lem, made}
+use Rattle.ob_front.proofs.StagesLaws.{one_table, table_or_none, one_table_fault_lem, well_formed}
 
 terms_or_slot : (text : List ℕ) (table other : ClassTable) (bodies : List SilicaBody) (fault : ProgramFault) → HasTerms text table bodies → HasTable text other → ¬ (LacksSlots other fault)
 terms_or_slot text table other bodies fault is has lacks =
@@ -102,7 +102,7 @@ premise_told text table bodies Memory terms fails = tt
 -- ---- what the check of permissions needs
 
 pub conditions_met : (text : List ℕ) (table : ClassTable) (bodies : List SilicaBody) → HasTerms text table bodies → IsClassTable table
-conditions_met text table bodies terms = (made text table terms.has).conditions
+conditions_met text table bodies terms = (well_formed text table terms.has).conditions
 
 -- terms of well-formed bodies name states by their numbers
 numbered_of : (table : ClassTable) (bs : List ResolvedBody) (ls : List SilicaBody) → IsClassTable table → All (IsWellFormed table) bs
@@ -117,7 +117,7 @@ numbered_of table (b ∷ bs) (l ∷ ls) is made lowered =
 
 pub all_numbered : (text : List ℕ) (table : ClassTable) (bodies : List SilicaBody) → HasTerms text table bodies → AllNumbered bodies
 all_numbered text table bodies terms =
-    numbered_of table table.bodies bodies (conditions_met text table bodies terms) (made text table terms.has).bodies terms.lowered
+    numbered_of table table.bodies bodies (conditions_met text table bodies terms) (well_formed text table terms.has).bodies terms.lowered
 
 -- ---- the same of a slice of the bodies
 

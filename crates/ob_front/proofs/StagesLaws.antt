@@ -20,7 +20,7 @@ use Rattle.ob_parser_laws.proofs.BracketContracts.{no_bracket_lem, no_generic_le
 use Rattle.ob_table.specs.Tables.{ClassTable}
 use Rattle.ob_resolve_spec.specs.Faults.{HasNoFault}
 use Rattle.ob_resolve_spec.specs.TableOf.{table_of}
-use Rattle.ob_resolve_laws.proofs.TableLaws.{table_conditions_lem, bodies_made_lem, bodies_there_lem}
+use Rattle.ob_resolve_laws.proofs.TableLaws.{table_conditions_lem, bodies_well_formed_lem, bodies_there_lem}
 use Rattle.ob_resolve.specs.Resolving.{IsFirstFault, HasClassTable}
 use Rattle.ob_resolve.proofs.ResolvingLaws.{never_table_and_fault_lem, one_first_fault_lem}
 use Rattle.ob_parser_laws.specs.Brackets.{brackets}
@@ -96,13 +96,13 @@ pub table_is : (text : List ℕ) (tree : List Contract) (table : ClassTable) →
 table_is text tree table is has = record { resolved = record { tree = tree; is = is; clean = has.clean }; is = has.is }
 
 -- a program that is the tree of a text has the shape of one, so its table is well-formed
-made_of : (text : List ℕ) (tree : List Contract) → IsTreeOf text tree → HasNoFault tree → IsWellFormedTable (table_of tree)
-made_of text tree is clean =
+well_formed_of : (text : List ℕ) (tree : List Contract) → IsTreeOf text tree → HasNoFault tree → IsWellFormedTable (table_of tree)
+well_formed_of text tree is clean =
     let shape = tree_shape text is.lexed tree is.spelled is.parsed in
-    record { conditions = table_conditions_lem tree shape clean; bodies = bodies_made_lem tree shape clean; each = bodies_there_lem tree shape clean }
+    record { conditions = table_conditions_lem tree shape clean; bodies = bodies_well_formed_lem tree shape clean; each = bodies_there_lem tree shape clean }
 
-pub made : (text : List ℕ) (table : ClassTable) → HasTable text table → IsWellFormedTable table
-made text table has = subst IsWellFormedTable (sym has.is) (made_of text has.resolved.tree has.resolved.is.of has.resolved.clean)
+pub well_formed : (text : List ℕ) (table : ClassTable) → HasTable text table → IsWellFormedTable table
+well_formed text table has = subst IsWellFormedTable (sym has.is) (well_formed_of text has.resolved.tree has.resolved.is.of has.resolved.clean)
 
 -- ---- laws
 

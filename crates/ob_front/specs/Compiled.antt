@@ -15,6 +15,6 @@ use Rattle.ob_front.specs.Checked.{AllNumbered}
 pub record IsCompiledProgram (table : ClassTable) (bodies : List SilicaBody) : Type 0 where
   pub lowered : IsLoweredProgram (record { table = table; bodies = bodies })
   pub each : HasBodies table
-  pub made : All (IsWellFormedTerms table) bodies
+  pub well_formed : All (IsWellFormedTerms table) bodies
   pub states : AllNumbered bodies
   pub derive : All (Derives table) bodies

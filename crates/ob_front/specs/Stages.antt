@@ -46,13 +46,13 @@ pub record IsWellFormedTable (table : ClassTable) : Type 0 where
   pub bodies : All (IsWellFormed table) table.bodies
   pub each : HasBodies table
 
--- The text has a tree, and the first type parameter or type argument begins at this place, that of the first `[` directly
+-- The text has a tree, and the first type parameter or type argument begins at this span, that of the first `[` directly
 -- after a name. A tree has such a thing exactly where its tokens have such a `[`. Generics aren't built yet.
-pub record HasBracket (text : List ℕ) (place : Span) : Type 0 where
+pub record HasBracket (text : List ℕ) (span : Span) : Type 0 where
   pub tree : List Contract
   pub of : IsTreeOf text tree
   pub more : List Span
-  pub first : brackets of.lexed.tokens ≡ place ∷ more
+  pub first : brackets of.lexed.tokens ≡ span ∷ more
 
 -- The first fault of a text that has no tree: that of its tokens, or, where it has tokens, theirs by the grammar.
 pub data HasTreeFault (text : List ℕ) (fault : ProgramFault) : Type 0 where

@@ -46,7 +46,7 @@ fn plain_tree(alloc: Global, text: &[u8]) -> Result<Tree, CompileError>
 /// or type argument, or of names and types.
 pub fn class_table(alloc: Global, text: &[u8]) -> Result<Table, CompileError>
     ensures table { IfOk result (HasTable text.now) }
-    ensures made { IfOk result IsWellFormedTable }
+    ensures well_formed { IfOk result IsWellFormedTable }
     ensures fault { IfErr result (λ e. OnFault e (HasTableFault text.now)) }
 {
     let tree = plain_tree(alloc, text)?;

@@ -65,50 +65,64 @@ module _ (P : Invocation → Type 0) where
   of_found (Some a) go lost rest = rest a refl
 
 -- where the check of a handle doesn't hold, there is one
-is_there : (content : Content) (name : HandleName) (checks : List Check) (found : Option Handle)
+pub is_there : (content : Content) (name : HandleName) (checks : List Check) (found : Option Handle)
     → handle_at content name ≡ found → refusal_of (handle_check content name ∷ checks) ≡ None → found ≡ None → ⊥
 is_there content name checks found same passed lost =
     let gone : handle_at content name ≡ None = same ∙ lost in
     absurd (let none = rw gone at passed in cc)
 
-module _ (P : Invocation → Type 0) (table : ClassTable) (content : Content) (who : List ℕ)
-    (ways : StillWays P table content who) where
+module _ (P : Invocation → Type 0) (content : Content)
+    (refusals : (refusal : Refusal) (reads : List ReadItem) → P (left_as_it_was content (refused refusal) reads)) where
   -- a request that asks for no run, by its handle
-  of_handle : (name : HandleName) (go : Handle → List ReadItem → Invocation)
+  pub of_handle : (name : HandleName) (go : Handle → List ReadItem → Invocation)
       → ((h : Handle) (reads : List ReadItem) → handle_at content name ≡ Some h → P (go h reads))
       → P (with_handle content name go)
   of_handle name go rest =
       of_checks P content (handle_check content name ∷ [])
-      (λ reads. with_found (handle_at content name) (λ h. go h reads)) ways.refusals
+      (λ reads. with_found (handle_at content name) (λ h. go h reads)) refusals
       (λ passed. of_found P (handle_at content name) (λ h. go h (reads_of (handle_check content name ∷ [])))
       (λ lost. absurd (is_there content name [] (handle_at content name) refl passed lost))
       (λ h there. rest h (reads_of (handle_check content name ∷ [])) there))
 
-  -- a `disown`
-  pub of_disown : (on : List ℕ) → P (invoke_disown content (handle_name who on))
-  of_disown on =
-      of_handle (handle_name who on) (disown_handle content (handle_name who on)) (ways.disowns (handle_name who on))
-
-  -- a `give`
-  pub of_give : (r : GiveRequest) → P (invoke_give content who r)
-  of_give r =
+  -- a `give`, by the giver's handle
+  pub of_giver : (who : List ℕ) (r : GiveRequest)
+      → ((h : Handle) (reads : List ReadItem) → refusal_of (give_checks content who r) ≡ None
+      → handle_at content (handle_name who r.on) ≡ Some h → P (give_from content who r reads h))
+      → P (invoke_give content who r)
+  of_giver who r rest =
       let name = handle_name who r.on in
       of_checks P content (give_checks content who r)
-      (λ reads. with_found (handle_at content (handle_name who r.on)) (give_from content who r reads)) ways.refusals
+      (λ reads. with_found (handle_at content (handle_name who r.on)) (give_from content who r reads)) refusals
       (λ passed. of_found P (handle_at content (handle_name who r.on))
       (give_from content who r (reads_of (give_checks content who r)))
       (λ lost. absurd (is_there content name
       (check permission (gives_too_much content name r.mode) ∷ making_checks content (handle_name r.to r.into))
       (handle_at content name) refl passed lost))
-      (λ h there. ways.gives r h (reads_of (give_checks content who r)) passed there))
+      (λ h there. rest h (reads_of (give_checks content who r)) passed there))
+
+module _ (P : Invocation → Type 0) (table : ClassTable) (content : Content) (who : List ℕ)
+    (ways : StillWays P table content who) where
+  -- a `disown`
+  pub of_disown : (on : List ℕ) → P (invoke_disown content (handle_name who on))
+  of_disown on =
+      of_handle P content ways.refusals (handle_name who on) (disown_handle content (handle_name who on))
+      (ways.disowns (handle_name who on))
+
+  -- a `give`
+  pub of_give : (r : GiveRequest) → P (invoke_give content who r)
+  of_give r = of_giver P content ways.refusals who r (ways.gives r)
 
   -- a `see`
   pub of_see : (on : List ℕ) → P (invoke_see table content (handle_name who on))
-  of_see on = of_handle (handle_name who on) (show_object table content) (ways.sees (handle_name who on))
+  of_see on =
+      of_handle P content ways.refusals (handle_name who on) (show_object table content)
+      (ways.sees (handle_name who on))
 
   -- an `owner`
   pub of_owner : (on : List ℕ) → P (invoke_owner table content (handle_name who on))
-  of_owner on = of_handle (handle_name who on) (show_owner_of table content) (ways.owners (handle_name who on))
+  of_owner on =
+      of_handle P content ways.refusals (handle_name who on) (show_owner_of table content)
+      (ways.owners (handle_name who on))
 
 module _ (P : Invocation → Type 0) (meaning : Meaning) (table : ClassTable) (content : Content) (fuel : ℕ)
     (who : List ℕ) where

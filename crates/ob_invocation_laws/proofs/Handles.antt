@@ -53,10 +53,12 @@ pub tail_of : (P : NamedHandle → Type 0) (h : NamedHandle) (handles : List Nam
 tail_of P h handles all k d inside = all (suc k) d (omega arith)
 
 -- the first is before all others
-pub head_before : (h : NamedHandle) (handles : List NamedHandle) → AllPairs Before (h ∷ handles) → All (Before h) handles
+pub head_before : (h : NamedHandle) (handles : List NamedHandle) → AllPairs Before (h ∷ handles)
+    → All (Before h) handles
 head_before h handles pairs k d inside = pairs 0 (suc k) d (omega arith) (omega arith)
 
-pub tail_pairs : (h : NamedHandle) (handles : List NamedHandle) → AllPairs Before (h ∷ handles) → AllPairs Before handles
+pub tail_pairs : (h : NamedHandle) (handles : List NamedHandle) → AllPairs Before (h ∷ handles)
+    → AllPairs Before handles
 tail_pairs h handles pairs i j d later inside = pairs (suc i) (suc j) d (omega arith) (omega arith)
 
 below : (h : NamedHandle) (handles : List NamedHandle) → T (below_all name_order h.0 handles) → All (Before h) handles
@@ -87,7 +89,7 @@ pairs (h ∷ handles) is =
     let p = all_true (below_all name_order h.0 handles) (is_sorted name_order handles) is in
     AllPairs-cons Before h handles (below h handles p.0) (pairs handles p.1)
 
-pairs_back : (handles : List NamedHandle) → AllPairs Before handles → T (is_sorted name_order handles)
+pub pairs_back : (handles : List NamedHandle) → AllPairs Before handles → T (is_sorted name_order handles)
 pairs_back [] all = tt
 pairs_back (h ∷ handles) all =
     both_true (below_all name_order h.0 handles) (is_sorted name_order handles)

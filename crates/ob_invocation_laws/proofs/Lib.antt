@@ -3,3 +3,11 @@ pub mod Leaving
 pub mod Taking
 pub mod Handles
 pub mod Owners
+pub mod Disowning
+pub mod Marking
+pub mod Puts
+pub mod Giving
+pub mod Shown
+pub mod Still
+pub mod Kept
+pub mod Entered

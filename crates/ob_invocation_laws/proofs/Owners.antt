@@ -18,14 +18,14 @@ one_more : (h : NamedHandle) (handles : List NamedHandle) (b : Bool)
 one_more h handles true = omega arith
 one_more h handles false = omega arith
 
-counted : (n : ℕ) (h : NamedHandle) (handles : List NamedHandle)
+pub counted : (n : ℕ) (h : NamedHandle) (handles : List NamedHandle)
     → handle_owners (h ∷ handles) n ≡ owners_in n (Some h.1) + handle_owners handles n
 counted n h handles =
     let owns = λ (g : NamedHandle). nat_eq g.1.object n && is_owned g.1.mode in
     one_more h (filter owns handles) (owns h)
 
 -- names before all others aren't found there
-not_found : (name : HandleName) (handles : List NamedHandle) → All (λ h. name_order name h.0 ≡ Less) handles
+pub not_found : (name : HandleName) (handles : List NamedHandle) → All (λ h. name_order name h.0 ≡ Less) handles
     → find_key name_order name handles ≡ None
 not_found name [] all = refl
 not_found name (h ∷ handles) all =
@@ -41,7 +41,7 @@ all_kept name (h ∷ handles) all =
     rw here (ap (λ rest. h ∷ rest) (all_kept name handles (tail_of (λ g. name_order name g.0 ≡ Less) h handles all)))
 
 -- what comes before or at the first comes before all others
-before_others : (name : HandleName) (h : NamedHandle) (handles : List NamedHandle) → AllPairs Before (h ∷ handles)
+pub before_others : (name : HandleName) (h : NamedHandle) (handles : List NamedHandle) → AllPairs Before (h ∷ handles)
     → name_order name h.0 ≡ Less → All (λ g. name_order name g.0 ≡ Less) handles
 before_others name h handles pairs first k d inside =
     names_total.trans name h.0 _ first (head_before h handles pairs k d inside)

@@ -1,12 +1,18 @@
 -- What the laws of the invocation say (this project's own).
-use Rattle.std.specs.Prelude.{ℕ, nat_eq, ◌&&◌, ◌≡◌, Bool, true, false, List, Option, Some, None, All, AllPairs, if◌then◌else◌, ⊤}
+use Rattle.std.specs.Prelude.{ℕ, ◌+◌, nat_eq, not, ◌&&◌, ◌≡◌, Bool, true, false, List, [], ◌∷◌, Option, Some, None, All, AllPairs, flat_map, if◌then◌else◌, ⊤}
 use Rattle.std.specs.Ordering.{eq_by_cmp}
+use Rattle.std.specs.List.{list_any}
+use Rattle.std.specs.FinMap.Entries.{where_key}
 use Rattle.std.specs.declared.cmp.Ordering.TheVariants.{Less}
+use Rattle.ob_table.specs.Tables.{ClassTable}
 use Rattle.ob_heap_spec.specs.Objects.{Object}
 use Rattle.ob_heap_spec.specs.Contents.{HandleName, Handle, Content, IsHandle, name_order}
 use Rattle.ob_rest_spec.specs.Modes.{is_owned}
+use Rattle.ob_rest_spec.specs.AtRest.{IsStoreAtRest}
 use Rattle.ob_invocation_spec.specs.Handles.{NamedHandle, handle_at}
 use Rattle.ob_invocation_spec.specs.Requests.{Operation, new_request, call_request}
+use Rattle.ob_invocation_spec.specs.Entries.{HandleUse}
+use Rattle.ob_invocation_spec.specs.Entering.{put_after_use}
 use Rattle.ob_invocation_spec.specs.Replies.{Reply, refused, is_ok, Invocation, invoked, goes_wrong}
 
 -- whether a reply is a refusal
@@ -52,3 +58,31 @@ found_without content gone name = if eq_by_cmp name_order gone name then None el
 abbrev pub owners_in : ℕ → Option Handle → ℕ
 owners_in n None = 0
 owners_in n (Some h) = if nat_eq h.object n && is_owned h.mode then 1 else 0
+
+-- whether a handle is put under a name
+abbrev pub is_put : List NamedHandle → HandleName → Bool
+is_put puts name = list_any (λ p. eq_by_cmp name_order p.0 name) puts
+
+-- the handles under whose names no other one is put
+abbrev pub kept_handles : List NamedHandle → List NamedHandle → List NamedHandle
+kept_handles handles puts = where_key name_order (λ name. not (is_put puts name)) handles
+
+-- how many owners of the object of a number there are in handles that are put, of each name in the last one
+abbrev pub put_owners : List NamedHandle → ℕ → ℕ
+put_owners [] n = 0
+put_owners (p ∷ puts) n = (if is_put puts p.0 then 0 else owners_in n (Some p.1)) + put_owners puts n
+
+-- how many of the owners that go in at the entry come back to their handles, of the object of a number: one of a use of
+-- an Owned handle as the owner, whose exit owns
+abbrev pub returned_owners : List HandleUse → ℕ → ℕ
+returned_owners [] n = 0
+returned_owners (u ∷ uses) n = put_owners (put_after_use u) n + returned_owners uses n
+
+-- what the handles become that a `new` or a `call` uses
+abbrev pub puts_of_uses : List HandleUse → List NamedHandle
+puts_of_uses uses = flat_map put_after_use uses
+
+-- a request doesn't go wrong, and what the store holds after it is at rest
+abbrev pub KeepsStoreAtRest : ClassTable → Invocation → Type 0
+KeepsStoreAtRest table (invoked i) = IsStoreAtRest table i.content
+KeepsStoreAtRest table goes_wrong = ⊥

@@ -3,12 +3,13 @@ ghost use Rattle.std.specs.Prelude.{◌≡◌, ℕ, ◌+◌, false, List, Some, 
 ghost use Rattle.ob_table.specs.Tables.{ClassTable};
 ghost use Rattle.ob_heap_spec.specs.Objects.{Object};
 ghost use Rattle.ob_heap_spec.specs.Contents.{HandleName, Content, IsHandle};
+ghost use Rattle.ob_rest_spec.specs.AtRest.{IsStoreAtRest};
 ghost use Rattle.ob_rest_laws.specs.Laws.{handle_owners};
-ghost use Rattle.ob_invocation_spec.specs.Requests.{Request};
+ghost use Rattle.ob_invocation_spec.specs.Requests.{Request, HasLabels};
 ghost use Rattle.ob_invocation_spec.specs.Handles.{NamedHandle, handle_at, put_handle, put_handles, without_handle};
 ghost use Rattle.ob_invocation_spec.specs.Entering.{Meaning};
 ghost use Rattle.ob_invocation_spec.specs.Invocation.{invoke};
-ghost use Rattle.ob_invocation_laws.specs.Laws.{LeavesUnlessDone, TakesNothingIfRefused, TakesNothing, runs, AreHandles, found_after_put, found_without, owners_in};
+ghost use Rattle.ob_invocation_laws.specs.Laws.{LeavesUnlessDone, TakesNothingIfRefused, TakesNothing, runs, AreHandles, found_after_put, found_without, owners_in, KeepsStoreAtRest};
 
 /// A request that is refused or aborted leaves what the store holds.
 pub fn only_done_requests_change_the_store()
@@ -51,4 +52,12 @@ pub fn handles_carry_owners()
     ensures gone { (content : Content) (n : ℕ) (name : HandleName) → AreHandles content.objects content.handles
         → handle_owners (without_handle content.handles name) n + owners_in n (handle_at content name)
         ≡ handle_owners content.handles n }
+{}
+
+/// A request that runs nothing, a `disown`, a `give`, a `see` or an `owner`, doesn't go wrong on a store at rest, and what
+/// the store holds after it is at rest.
+pub fn still_requests_keep_rest()
+    ensures { (meaning : Meaning) (table : ClassTable) (content : Content) (request : Request) (fuel : ℕ)
+        → IsStoreAtRest table content → HasLabels request → runs request.operation ≡ false
+        → KeepsStoreAtRest table (invoke meaning table content request fuel) }
 {}

@@ -67,8 +67,8 @@ close_none at (a ∷ b ∷ rest) e has = elim (cases_Bool (closes a b)) [
 no_earlier : (a b : ℕ) (rest before after : List ℕ) → closes a b ≡ false → IsFirstClose (b ∷ rest) before after → ¬ (HasClose ((a ∷ before) ++ codes "*"))
 no_earlier a b rest [] after isnt f has =
     let first : b ≡ 42 = cc (f.parts) in
-    let behind : HasClose (b ∷ []) = close_after a b [] isnt (rw first has) in
-    no_close_in_one b behind
+    let left : HasClose (b ∷ []) = close_after a b [] isnt (rw first has) in
+    no_close_in_one b left
 no_earlier a b rest (x ∷ before) after isnt f has =
     let first : b ≡ x = cc (f.parts) in
     f.first (close_after a x (before ++ codes "*") (rw (← first) isnt) has)

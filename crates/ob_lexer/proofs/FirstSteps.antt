@@ -6,7 +6,7 @@ use Rattle.ob_base.specs.Names.{is_letter, is_digit}
 use Rattle.ob_lexer.specs.declared.bytes.Class.TheVariants as class
 use Rattle.ob_lexer.specs.Lexis.{is_blank}
 use Rattle.ob_lexer.specs.Lexing.{class_of, first_step}
-use Rattle.ob_lexer.specs.Reading.{IsUtf8Behind, IsStepAt}
+use Rattle.ob_lexer.specs.Reading.{IsUtf8AfterQuote, IsStepAt}
 use Rattle.ob_lexer.proofs.FirstBytes.{class-blank, class-letter, class-digit}
 use Rattle.ob_lexer.proofs.Pieces.{blank_step, word_step_at, number_step_at, slash_step_at, sign_step_at}
 use Rattle.ob_lexer.proofs.StringSteps.{string_step_at}
@@ -35,6 +35,6 @@ first_at b rest utf8 = elim (cases_Bool (is_blank b)) [
   ]
 ]
 
-pub step_at_front : (text : List ℕ) → 0 < length text → IsUtf8Behind text → IsStepAt text (first_step (get_or text 0 0) (drop 1 text))
+pub step_at_front : (text : List ℕ) → 0 < length text → IsUtf8AfterQuote text → IsStepAt text (first_step (get_or text 0 0) (drop 1 text))
 step_at_front [] some utf8 = absurd (omega arith)
 step_at_front (b ∷ rest) some utf8 = first_at b rest utf8

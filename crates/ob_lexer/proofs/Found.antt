@@ -21,7 +21,7 @@ use Rattle.ob_lexer.specs.Spelling.{spelling_of_word, spelling_of_sign, value_of
 use Rattle.ob_lexer.specs.Lexis.{is_blank, IsBlank, HasClose, IsLineComment, IsBlockComment, IsLexeme, word, digits, sign as sign_lexeme, blank, line_comment, open_comment as comment_mark, open_string as quote_mark, IsLongest, Element, space, comment, token, IsElement, of_line, of_block}
 use Rattle.ob_lexer.specs.Flaws.{Flaw as Fault, Begins, IsCutOff, first_character, bad_character, open_comment, open_string, big_number, long_name, long_string, bad_escape}
 use Rattle.ob_lexer.specs.Lexing.{class_of, or_else, word_of, word_step, number_step, close_of, is_no_newline, pair_of, single_of, pair_at, goes_on, heard_of, text_step, string_from, first_step}
-use Rattle.ob_lexer.specs.Reading.{IsUtf8Behind}
+use Rattle.ob_lexer.specs.Reading.{IsUtf8AfterQuote}
 use Rattle.ob_lexer.proofs.Numbers.{small_some, large_none}
 use Rattle.ob_lexer.proofs.Reserved.{word_of-Some, word_of-spelling, word_is_word, word_is_short}
 use Rattle.ob_lexer.proofs.Runs.{prefix_len-run, take_while-run}
@@ -204,11 +204,11 @@ inside_overflows inside content rest stands long =
     let count : length content ≡ length stands.parts = ap length stands.means ∙ length-map stands.parts value_of_part in
     ap (λ (l : List ℕ). string_from false [] 0 (l ++ rest)) stands.spelled ∙ parts_overflow stands.parts [] 0 rest stands.are (omega arith) (omega (arith, count))
 
-text_found : (content bytes rest : List ℕ) → IsString bytes content → length content ≤ longest_string → IsUtf8Behind (bytes ++ rest) → step_at (bytes ++ rest) ≡ Token (kind.Text content) (length bytes)
+text_found : (content bytes rest : List ℕ) → IsString bytes content → length content ≤ longest_string → IsUtf8AfterQuote (bytes ++ rest) → step_at (bytes ++ rest) ≡ Token (kind.Text content) (length bytes)
 text_found content bytes rest is short utf8 =
     let whole : bytes ++ rest ≡ 34 ∷ (is.inside ++ 34 ∷ rest) = ap (λ (l : List ℕ). l ++ rest) is.quoted ∙ ap (λ (l : List ℕ). 34 ∷ l) (append_assoc is.inside (34 ∷ []) rest) in
-    let behind : IsUtf8 (is.inside ++ 34 ∷ rest) = (subst IsUtf8Behind whole utf8) refl in
-    let text : is_text content ≡ true = content_is_text is.inside content rest behind is.stands short in
+    let after : IsUtf8 (is.inside ++ 34 ∷ rest) = (subst IsUtf8AfterQuote whole utf8) refl in
+    let text : is_text content ≡ true = content_is_text is.inside content rest after is.stands short in
     let count : length is.inside + 2 ≡ length bytes = omega (arith, ap length is.quoted, length-append is.inside (34 ∷ [])) in
     let read : string_from false [] 0 (is.inside ++ 34 ∷ rest) ≡ text_step content (length is.inside + 2) = inside_read is.inside content (34 ∷ rest) is.stands short in
     let token' : text_step content (length is.inside + 2) ≡ Token (kind.Text content) (length is.inside + 2) = rw text refl in
@@ -216,7 +216,7 @@ text_found content bytes rest is short utf8 =
 
 -- ---- a piece is found
 
-pub piece_found : (e : Element) (bytes rest : List ℕ) → IsElement e bytes → IsLongest bytes rest → IsUtf8Behind (bytes ++ rest) → step_at (bytes ++ rest) ≡ step_of e (length bytes)
+pub piece_found : (e : Element) (bytes rest : List ℕ) → IsElement e bytes → IsLongest bytes rest → IsUtf8AfterQuote (bytes ++ rest) → step_at (bytes ++ rest) ≡ step_of e (length bytes)
 piece_found space bytes rest is longest utf8 = blank_found bytes rest is
 piece_found comment bytes rest (of_line is) longest utf8 = line_found bytes rest is longest
 piece_found comment bytes rest (of_block is) longest utf8 = block_found bytes rest is

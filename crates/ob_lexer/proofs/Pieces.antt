@@ -64,12 +64,12 @@ word_leads : (b : ℕ) (rest : List ℕ) → is_letter b ≡ true
     → let w = take_while is_letter_or_digit (b ∷ rest) in IsTrue (is_word w) × Leads (b ∷ rest) w (drop (prefix_len is_letter_or_digit (b ∷ rest)) (b ∷ rest))
 word_leads b rest letter =
     let w = take_while is_letter_or_digit (b ∷ rest) in
-    let behind = drop (prefix_len is_letter_or_digit (b ∷ rest)) (b ∷ rest) in
+    let after = drop (prefix_len is_letter_or_digit (b ∷ rest)) (b ∷ rest) in
     let r = run is_letter_or_digit (b ∷ rest) in
     let first = take_while-first is_letter_or_digit b rest (letter_goes_on b letter) in
     let begins : begins_with_letter w ≡ true = ap begins_with_letter first ∙ letter in
     let is : IsTrue (is_word w) = and_from (begins_with_letter w) (list_all is_letter_or_digit w) begins r.passes in
-    let longest : IsLongest w behind = subst (λ (l : List ℕ). IsLongest l behind) (sym first) (word_longest b (take_while is_letter_or_digit rest) behind (class-letter b letter) r.stops) in
+    let longest : IsLongest w after = subst (λ (l : List ℕ). IsLongest l after) (sym first) (word_longest b (take_while is_letter_or_digit rest) after (class-letter b letter) r.stops) in
     (is, record { parts = r.parts; some = some_bytes b w (take_while is_letter_or_digit rest) first; longest = longest })
 
 long_word : (bytes : List ℕ) → IsTrue (is_word bytes) → is_name bytes ≡ false → longest_name < length bytes
@@ -78,12 +78,12 @@ long_word bytes is isnt = elim (and_cases (nat_le (length bytes) longest_name) (
   | inr no_word ↦ absurd (both_ways (is_word bytes) no_word is)
 ]
 
-word_case : (b : ℕ) (rest w behind : List ℕ) → IsTrue (is_word w) → Leads (b ∷ rest) w behind → (o : Option Word) → word_of w ≡ o
+word_case : (b : ℕ) (rest w after : List ℕ) → IsTrue (is_word w) → Leads (b ∷ rest) w after → (o : Option Word) → word_of w ≡ o
     → IsStepAt (b ∷ rest) (or_else o (cond (is_name w) (Token (kind.Name w) (length w)) (Flaw faults.long_name 0 1)) (λ v. Token (kind.Word v) (length w)))
-word_case b rest w behind is l (Some v) e = piece_at (b ∷ rest) w behind (token (kind.Word v)) (length w) l.parts refl l.some (word_of-Some w v e) l.longest
-word_case b rest w behind is l None e = elim (cases_Bool (is_name w)) [
-  | inl name ↦ rw name (piece_at (b ∷ rest) w behind (token (kind.Name w)) (length w) l.parts refl l.some (refl, name, word_of-None w e) l.longest)
-  | inr long ↦ rw long (flaw_at_first b rest faults.long_name (long_name w behind l.parts is l.longest (long_word w is long) refl))
+word_case b rest w after is l (Some v) e = piece_at (b ∷ rest) w after (token (kind.Word v)) (length w) l.parts refl l.some (word_of-Some w v e) l.longest
+word_case b rest w after is l None e = elim (cases_Bool (is_name w)) [
+  | inl name ↦ rw name (piece_at (b ∷ rest) w after (token (kind.Name w)) (length w) l.parts refl l.some (refl, name, word_of-None w e) l.longest)
+  | inr long ↦ rw long (flaw_at_first b rest faults.long_name (long_name w after l.parts is l.longest (long_word w is long) refl))
 ]
 
 pub word_step_at : (b : ℕ) (rest : List ℕ) → is_letter b ≡ true → IsStepAt (b ∷ rest) (word_step (take_while is_letter_or_digit (b ∷ rest)))
@@ -98,18 +98,18 @@ digits_lead : (b : ℕ) (rest : List ℕ) → is_digit b ≡ true
     → let d = take_while is_digit (b ∷ rest) in IsTrue (is_digits d) × Leads (b ∷ rest) d (drop (prefix_len is_digit (b ∷ rest)) (b ∷ rest))
 digits_lead b rest digit =
     let d = take_while is_digit (b ∷ rest) in
-    let behind = drop (prefix_len is_digit (b ∷ rest)) (b ∷ rest) in
+    let after = drop (prefix_len is_digit (b ∷ rest)) (b ∷ rest) in
     let r = run is_digit (b ∷ rest) in
     let first = take_while-first is_digit b rest digit in
     let some = some_bytes b d (take_while is_digit rest) first in
     let is : IsTrue (is_digits d) = and_from (nat_le 1 (length d)) (list_all is_digit d) (le-leb 1 (length d) some) r.passes in
-    let longest : IsLongest d behind = subst (λ (l : List ℕ). IsLongest l behind) (sym first) (digits_longest b (take_while is_digit rest) behind (class-digit b digit) r.stops) in
+    let longest : IsLongest d after = subst (λ (l : List ℕ). IsLongest l after) (sym first) (digits_longest b (take_while is_digit rest) after (class-digit b digit) r.stops) in
     (is, record { parts = r.parts; some = some; longest = longest })
 
-number_case : (b : ℕ) (rest d behind : List ℕ) → IsTrue (is_digits d) → Leads (b ∷ rest) d behind → IsStepAt (b ∷ rest) (number_step d)
-number_case b rest d behind is l = elim (cases_Bool (nat_lt (value_of_digits d) (2 ^ 63))) [
-  | inl small ↦ rw small (piece_at (b ∷ rest) d behind (token (kind.Number (pos (value_of_digits d)))) (length d) l.parts refl l.some (is, refl, ltb-true (value_of_digits d) (2 ^ 63) small) l.longest)
-  | inr large ↦ rw large (flaw_at_first b rest faults.big_number (big_number d behind l.parts is l.longest (ltb-false (value_of_digits d) (2 ^ 63) large) refl))
+number_case : (b : ℕ) (rest d after : List ℕ) → IsTrue (is_digits d) → Leads (b ∷ rest) d after → IsStepAt (b ∷ rest) (number_step d)
+number_case b rest d after is l = elim (cases_Bool (nat_lt (value_of_digits d) (2 ^ 63))) [
+  | inl small ↦ rw small (piece_at (b ∷ rest) d after (token (kind.Number (pos (value_of_digits d)))) (length d) l.parts refl l.some (is, refl, ltb-true (value_of_digits d) (2 ^ 63) small) l.longest)
+  | inr large ↦ rw large (flaw_at_first b rest faults.big_number (big_number d after l.parts is l.longest (ltb-false (value_of_digits d) (2 ^ 63) large) refl))
 ]
 
 pub number_step_at : (b : ℕ) (rest : List ℕ) → is_digit b ≡ true → IsStepAt (b ∷ rest) (number_step (take_while is_digit (b ∷ rest)))
@@ -225,10 +225,10 @@ line_step : (rest : List ℕ) → IsStepAt (47 ∷ 47 ∷ rest) (Gap (prefix_len
 line_step rest =
     let r = run is_no_newline rest in
     let inside = take_while is_no_newline rest in
-    let behind = drop (prefix_len is_no_newline rest) rest in
+    let after = drop (prefix_len is_no_newline rest) rest in
     let count : prefix_len is_no_newline rest + 2 ≡ length (codes "//" ++ inside) = omega (arith, r.count) in
     let is : IsLineComment (codes "//" ++ inside) = record { inside = inside; marked = refl; on_line = r.passes } in
-    (comment, tt, piece_at (47 ∷ 47 ∷ rest) (codes "//" ++ inside) behind comment (prefix_len is_no_newline rest + 2) (ap (λ (l : List ℕ). 47 ∷ 47 ∷ l) r.parts) count (omega arith) (of_line is) (line_longest inside behind r.stops))
+    (comment, tt, piece_at (47 ∷ 47 ∷ rest) (codes "//" ++ inside) after comment (prefix_len is_no_newline rest + 2) (ap (λ (l : List ℕ). 47 ∷ 47 ∷ l) r.parts) count (omega arith) (of_line is) (line_longest inside after r.stops))
 
 pub slash_step_at : (rest : List ℕ) → IsStepAt (47 ∷ rest) (slash_step rest)
 slash_step_at [] = slash_end
@@ -248,22 +248,22 @@ slash_step_at (m ∷ rest) = elim (cases_Bool (m == 47)) [
 -- ---- a sign
 
 no_sign : (b : ℕ) (rest bytes after : List ℕ) → pair_at b rest ≡ None → single_of b ≡ None → rest ≡ bytes ++ after → (s : Sign) → b ∷ bytes ≡ spelling_of_sign s → IsShaped s → ⊥
-no_sign b rest bytes after pair single behind s is (one c spelled found other) =
+no_sign b rest bytes after pair single left s is (one c spelled found other) =
     let all : b ∷ bytes ≡ c ∷ [] = is ∙ spelled in
     let first : b ≡ c = cc in
     let some : single_of b ≡ Some s = rw first found in
     let both : Some s ≡ None = sym some ∙ single in
     cc
-no_sign b rest bytes after pair single behind s is (two c d spelled found other) =
+no_sign b rest bytes after pair single left s is (two c d spelled found other) =
     let all : b ∷ bytes ≡ c ∷ d ∷ [] = is ∙ spelled in
     let first : b ≡ c = cc in
     let second : bytes ≡ d ∷ [] = cc in
-    let next : rest ≡ d ∷ after = behind ∙ ap (λ (l : List ℕ). l ++ after) second in
+    let next : rest ≡ d ∷ after = left ∙ ap (λ (l : List ℕ). l ++ after) second in
     let none : pair_of b d ≡ None = rw next at pair in
     let some : pair_of b d ≡ Some s = rw first found in
     let both : Some s ≡ None = sym some ∙ none in
     cc
-no_sign b rest bytes after pair single behind s is (slash same) =
+no_sign b rest bytes after pair single left s is (slash same) =
     let all : b ∷ bytes ≡ 47 ∷ [] = is ∙ ap spelling_of_sign same in
     let first : b ≡ 47 = cc in
     let none : single_of 47 ≡ None = rw first at single in
@@ -274,9 +274,9 @@ no_sign_front : (b : ℕ) (rest : List ℕ) → class_of b ≡ class.Other → p
 no_sign_front b rest other pair single [] after parts lexeme = lexeme_some [] lexeme refl
 no_sign_front b rest other pair single (x ∷ bytes) after parts lexeme =
     let first : x ≡ b = cc in
-    let behind : rest ≡ bytes ++ after = cc in
+    let left : rest ≡ bytes ++ after = cc in
     let s = in_known class.Other b bytes other (rw first at lexeme) in
-    no_sign b rest bytes after pair single behind s.0 s.1 (shape s.0)
+    no_sign b rest bytes after pair single left s.0 s.1 (shape s.0)
 
 single_case : (b : ℕ) (rest : List ℕ) → class_of b ≡ class.Other → pair_at b rest ≡ None → (o : Option Sign) → single_of b ≡ o
     → IsStepAt (b ∷ rest) (or_else o (Flaw faults.bad_character 0 (prefix_len goes_on rest + 1)) (λ s. Token (kind.Sign s) 1))

@@ -15,7 +15,7 @@ use Rattle.ob_base.specs.TextErrors.{OnFault}
 use Rattle.ob_lexer.specs.Lexis.{Element, space, comment, token, IsElement, IsLongest, Piece, text_of, ArePieces, token_in, tokens_of, HasTokens}
 use Rattle.ob_lexer.specs.Flaws.{IsFlawed, HasFault, no_utf8, flawed}
 use Rattle.ob_lexer.specs.Lexing.{past, position_after}
-use Rattle.ob_lexer.specs.Reading.{IsUtf8Behind, span_at, fault_after, token_at, TakesUp, BeginsWith}
+use Rattle.ob_lexer.specs.Reading.{IsUtf8AfterQuote, span_at, fault_after, token_at, TakesUp, BeginsWith}
 use Rattle.ob_lexer.proofs.PlaceLemmas.{fold-past, line_within, column_within}
 use Rattle.ob_lexer.proofs.StringTexts.{after_quote}
 
@@ -73,11 +73,11 @@ room_at before rest = record {
 pub has_room : (text : List ℕ) (position : Position) (rest : List ℕ) (tokens : List Token) → IsProgress text position rest tokens → HasRoom text position rest
 has_room text position rest tokens p = rw (p.whole, p.place_is) (room_at (text_of p.pieces) rest)
 
-pub utf8_rest : (before rest : List ℕ) → IsUtf8 (before ++ rest) → IsUtf8Behind rest
+pub utf8_rest : (before rest : List ℕ) → IsUtf8 (before ++ rest) → IsUtf8AfterQuote rest
 utf8_rest before [] utf8 = tt
 utf8_rest before (b ∷ rest) utf8 = λ is. after_quote before rest (subst (λ (x : ℕ). IsUtf8 (before ++ x ∷ rest)) is utf8)
 
-pub utf8_so_far : (text : List ℕ) (position : Position) (rest : List ℕ) (tokens : List Token) → IsUtf8 text → IsProgress text position rest tokens → IsUtf8Behind rest
+pub utf8_so_far : (text : List ℕ) (position : Position) (rest : List ℕ) (tokens : List Token) → IsUtf8 text → IsProgress text position rest tokens → IsUtf8AfterQuote rest
 utf8_so_far text position rest tokens utf8 p = utf8_rest (text_of p.pieces) rest (subst IsUtf8 p.whole utf8)
 
 pub steps : (text : List ℕ) (position : Position) (rest : List ℕ) (tokens new : List Token) (count : ℕ) → IsProgress text position rest tokens → TakesUp position rest tokens new count

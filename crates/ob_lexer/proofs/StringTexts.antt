@@ -37,13 +37,13 @@ AreHigh [] = Unit {0}
 AreHigh (b ∷ bytes) = (128 ≤ b) × AreHigh bytes
 
 -- The parts after such bytes, and what all of them stand for.
-record IsBehind (bytes rest : List ℕ) (parts : List StringPart) : Type 0 where
+record PartsAfter (bytes rest : List ℕ) (parts : List StringPart) : Type 0 where
   after : List StringPart
   are : AreParts after
   spelled : rest ≡ flat_map spelling_of_part after
   means : map value_of_part parts ≡ bytes ++ map value_of_part after
 
-peel : (bytes rest : List ℕ) (parts : List StringPart) → AreHigh bytes → AreParts parts → bytes ++ rest ≡ flat_map spelling_of_part parts → IsBehind bytes rest parts
+peel : (bytes rest : List ℕ) (parts : List StringPart) → AreHigh bytes → AreParts parts → bytes ++ rest ≡ flat_map spelling_of_part parts → PartsAfter bytes rest parts
 peel [] rest parts high are e = record { after = parts; are = are; spelled = e; means = refl }
 peel (b ∷ bytes) rest [] high are e = absurd cc
 peel (b ∷ bytes) rest (itself c ∷ parts) high are e =

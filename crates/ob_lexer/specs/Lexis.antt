@@ -99,7 +99,7 @@ abbrev pub tokens_of : List ℕ → List Piece → List Token
 tokens_of before [] = []
 tokens_of before (p ∷ pieces) = token_in before p.element p.bytes ++ tokens_of (before ++ p.bytes) pieces
 
--- A text of at most 1,048,576 bytes of UTF-8 is made of pieces, and these are the tokens among them and its end.
+-- A text of at most `longest_program` bytes of UTF-8 is made of pieces, and these are the tokens among them and its end.
 pub record HasTokens (text : List ℕ) (lexed : Lexed) : Type 0 where
   pub short : length text ≤ longest_program
   pub utf8 : IsUtf8 text

@@ -12,9 +12,9 @@ use Rattle.ob_lexer.specs.Flaws.{Flaw, flaw_at, Begins}
 use Rattle.ob_lexer.specs.Lexing.{past}
 
 -- what follows a quote at the text's front is UTF-8
-abbrev pub IsUtf8Behind : List ℕ → Type 0
-IsUtf8Behind [] = ⊤
-IsUtf8Behind (b ∷ rest) = b ≡ 34 → IsUtf8 rest
+abbrev pub IsUtf8AfterQuote : List ℕ → Type 0
+IsUtf8AfterQuote [] = ⊤
+IsUtf8AfterQuote (b ∷ rest) = b ≡ 34 → IsUtf8 rest
 
 -- so many bytes at a position
 abbrev pub span_at : Position → ℕ → Span

@@ -7,7 +7,7 @@ ghost use Rattle.ob_base.specs.TextErrors.{OnFault};
 ghost use Rattle.ob_lexer.specs.declared.lexer.Lexed.{Lexed};
 ghost use Rattle.ob_lexer.specs.Lexis.{HasTokens};
 ghost use Rattle.ob_lexer.specs.Flaws.{HasFault};
-ghost use Rattle.ob_lexer.specs.Reading.{IsUtf8Behind, fault_after, TakesUp, BeginsWith};
+ghost use Rattle.ob_lexer.specs.Reading.{IsUtf8AfterQuote, fault_after, TakesUp, BeginsWith};
 
 use crate::Token;
 use crate::position::Position;
@@ -68,7 +68,7 @@ fn take_up(
     tokens: &mut Items<Token>,
 ) -> Result<usize, LexError>
     requires some { 0 < length text.now }
-    requires utf8 { IsUtf8Behind text.now }
+    requires utf8 { IsUtf8AfterQuote text.now }
     requires room { position.offset + length text.now < 2 ^ 31 }
     requires line { position.line ≤ position.offset + 1 }
     requires column { position.column ≤ position.offset + 1 }

@@ -1,7 +1,7 @@
 //! What a text begins with.
 ghost use Rattle.std.specs.Prelude.{◌≡◌, ◌<◌, ◌^◌, length, drop, slice_index, IfOk};
 ghost use Rattle.ob_lexer.specs.Lexing.{number_of, word_step, number_step, slash_step, sign_step, first_step};
-ghost use Rattle.ob_lexer.specs.Reading.{IsUtf8Behind, IsStepAt};
+ghost use Rattle.ob_lexer.specs.Reading.{IsUtf8AfterQuote, IsStepAt};
 
 use crate::bytes::{Class, class_of, close_of, digits_in, going_on, line_len, word_in};
 use crate::signs::{pair_of, single_of};
@@ -95,7 +95,7 @@ fn sign(sign: Sign, length: usize) -> Step
     }
 }
 
-/// Behind a `/`: a comment, or the sign.
+/// After a `/`: a comment, or the sign.
 fn slash_step(rest: &[u8]) -> Step
     requires { length rest.now < 2 ^ 62 }
     ensures { result ≡ slash_step rest.now }
@@ -149,7 +149,7 @@ fn step_of(alloc: Global, text: &[u8]) -> Result<Step, Memory>
 pub fn first_step(alloc: Global, text: &[u8]) -> Result<Step, Memory>
     requires some { 0 < length text.now }
     requires room { length text.now < 2 ^ 62 }
-    requires utf8 { IsUtf8Behind text.now }
+    requires utf8 { IsUtf8AfterQuote text.now }
     ensures { IfOk result (IsStepAt text.now) }
 {
     step_of(alloc, text)

@@ -12,7 +12,7 @@ use Rattle.ob_lower_functions.specs.BodyCode.{body_code}
 use Rattle.ob_lower_functions.proofs.Bodies.{gives_terms, fails_where_full}
 use Rattle.ob_lower_parts.specs.Makes.{StopsWith}
 use Rattle.ob_lower_parts.specs.declared.error.Stopped.{Stopped}
-use Rattle.ob_lower_parts.specs.declared.error.Stopped.TheVariants.{Full, Unmade, Memory}
+use Rattle.ob_lower_parts.specs.declared.error.Stopped.TheVariants.{Full, NotWellFormed, Memory}
 use Rattle.ob_lower.specs.Lowering.{error_of}
 use Rattle.ob_base.specs.TextErrors.{OnFault}
 use Rattle.ob_base.specs.declared.text_error.TextError.{TextError}
@@ -35,7 +35,7 @@ few_slots table body lowered code = (gives_terms table body lowered code).few
 told_of : (table : ClassTable) (body : ResolvedBody) (stopped : Stopped) → StopsWith stopped (body_code table body)
     → OnFault (error_of stopped) (IsSlotFault table body)
 told_of table body (Full place) fails = record { number = refl; place = fails_where_full table body place fails }
-told_of table body Unmade fails = tt
+told_of table body NotWellFormed fails = tt
 told_of table body Memory fails = tt
 
 -- what is told of a body that isn't lowered

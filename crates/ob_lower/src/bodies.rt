@@ -87,7 +87,7 @@ fn lower_with(
 {
     let params = signature.params.as_slice();
     if params.len() >= MOST_SLOTS as usize {
-        return Err(Stopped::Unmade);
+        return Err(Stopped::NotWellFormed);
     }
     let frame = StaticFrame::new(table, body.contract, own, signature);
     let variables = Variables::of_params(alloc, params)?;
@@ -99,16 +99,16 @@ fn lower_body(body: &Body, table: &Table, alloc: Global) -> Result<TermBody, Sto
     ensures { Makes result silica_body_of (body_code table.now (resolved_body_of body.now)) }
 {
     let Some(own) = table.contract(body.contract) else {
-        return Err(Stopped::Unmade);
+        return Err(Stopped::NotWellFormed);
     };
     let Some(signature) = own.signature(body.tx) else {
-        return Err(Stopped::Unmade);
+        return Err(Stopped::NotWellFormed);
     };
     lower_with(body, table, own, signature, alloc)
 }
 
-/// The terms of a body of a class table, or the place at which it needs more slots than it may have. A body that isn't well
-/// made, or has more parameters than there are slots, may count as want of memory.
+/// The terms of a body of a class table, or the place at which it needs more slots than it may have. A body that isn't
+/// well-formed, or has more parameters than there are slots, may count as want of memory.
 pub fn lower(alloc: Global, table: &Table, body: &Body) -> Result<TermBody, LowerError>
     ensures lowered { IfOk result (λ terms. Lowers table.now (resolved_body_of body.now) (silica_body_of terms)) }
     ensures in_order { IfOk result (λ terms. body_code table.now (resolved_body_of body.now) ≡ Ok (silica_body_of terms)) }

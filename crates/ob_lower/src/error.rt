@@ -17,6 +17,6 @@ pub fn error_of(stopped: Stopped) -> LowerError
             number: LIMIT,
             span,
         }),
-        Stopped::Unmade | Stopped::Memory => LowerError::Memory,
+        Stopped::NotWellFormed | Stopped::Memory => LowerError::Memory,
     }
 }

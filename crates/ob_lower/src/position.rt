@@ -66,11 +66,11 @@ impl BlockPosition {
         }
     }
 
-    /// What stands around an expression of a statement at this place.
-    pub fn around<'a>(&'a self, frame: &'a StaticFrame<'a>, place: Span) -> AroundExpression<'a>
-        ensures { result ≡ around_at frame.now self.now place }
+    /// What stands around an expression of a statement at this span.
+    pub fn around<'a>(&'a self, frame: &'a StaticFrame<'a>, span: Span) -> AroundExpression<'a>
+        ensures { result ≡ around_at frame.now self.now span }
     {
-        AroundExpression::new(frame, &self.variables, place)
+        AroundExpression::new(frame, &self.variables, span)
     }
 
     /// How many variables are visible.
@@ -99,7 +99,7 @@ impl BlockPosition {
         ensures { Makes result (λ o. o) (named_code self.now seen) }
     {
         match self.variables.place_seen(seen.of) {
-            None => Err(Stopped::Unmade),
+            None => Err(Stopped::NotWellFormed),
             Some(place) => Ok(Operand {
                 place,
                 span: seen.span,

@@ -93,7 +93,7 @@ fn set_seen(seen: Seen, from: Operand, around: &AroundExpression<'_>) -> Result<
 {
     match (around.kind_of_seen(seen), around.place_seen(seen)) {
         (Some(kind), Some(place)) => Ok(set_place(kind, place, from)),
-        _ => Err(Stopped::Unmade),
+        _ => Err(Stopped::NotWellFormed),
     }
 }
 

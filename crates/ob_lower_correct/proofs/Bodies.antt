@@ -99,16 +99,16 @@ module _ (program : SilicaProgram) (most : ℕ) (calls : Calls) (called : CallsR
 
 -- A body of the table is well-formed, and may be lowered to its terms.
 
-record Made (program : SilicaProgram) (body : ResolvedBody) (lowered : SilicaBody) (contract : ContractId) (own : Contract) (s : Signature) : Type 0 where
+record IsLoweredBody (program : SilicaProgram) (body : ResolvedBody) (lowered : SilicaBody) (contract : ContractId) (own : Contract) (s : Signature) : Type 0 where
   pub same : body.contract ≡ contract
   pub lowers : LowersWith program.table own s body lowered
   pub is_body : IsBodyOf program.table body own s
 
-made_body : (program : SilicaProgram) (body : ResolvedBody) (lowered : SilicaBody) (contract : ContractId) (own : Contract) (tx : TxId) (s : Signature) → IsLoweredProgram program → Lowers program.table body lowered
-    → contract_at program.table contract ≡ Some own → signature_at own tx ≡ Some s → body_at program.table contract tx ≡ Some body → Made program body lowered contract own s
-made_body program body lowered contract own tx s is low eown es eb = by_found (find_pair program.table contract tx program.table.bodies program.bodies is.lowered is.made)
+lowered_body : (program : SilicaProgram) (body : ResolvedBody) (lowered : SilicaBody) (contract : ContractId) (own : Contract) (tx : TxId) (s : Signature) → IsLoweredProgram program → Lowers program.table body lowered
+    → contract_at program.table contract ≡ Some own → signature_at own tx ≡ Some s → body_at program.table contract tx ≡ Some body → IsLoweredBody program body lowered contract own s
+lowered_body program body lowered contract own tx s is low eown es eb = by_found (find_pair program.table contract tx program.table.bodies program.bodies is.lowered is.well_formed)
   where
-    by_found : FoundPair program.table contract tx program.table.bodies program.bodies → Made program body lowered contract own s
+    by_found : FoundPair program.table contract tx program.table.bodies program.bodies → IsLoweredBody program body lowered contract own s
     by_found (no_body none el) = absurd (none_some (sym none ∙ eb))
     by_found (body_pair b l found el names lowers made) =
         let same : b ≡ body = some_same b body (sym found ∙ eb) in
@@ -143,7 +143,7 @@ module _ (program : SilicaProgram) (depth : ℕ) (is : IsLoweredProgram program)
   run = calls_run program (fitting program is) depth
 
   -- with how the body ends, in its frame
-  body_ends_so : (cs : Setting) (h0 : Here) (found : contract_at program.table cs.here ≡ Some cs.own) (finish : Option Value → World → RunOutcome (Option Value)) → body_at program.table cs.here cs.tx ≡ Some body → Made program body lowered cs.here cs.own cs.signature
+  body_ends_so : (cs : Setting) (h0 : Here) (found : contract_at program.table cs.here ≡ Some cs.own) (finish : Option Value → World → RunOutcome (Option Value)) → body_at program.table cs.here cs.tx ≡ Some body → IsLoweredBody program body lowered cs.here cs.own cs.signature
       → Stands program.table depth cs h0 → HoldsFrom h0.slots 1 (parameters cs.signature) args → Finishes program depth (call_at program.table depth) run cs found h0.slots finish (fixed_slots cs.signature) (zero_fixed cs.signature)
       → BodyEndsExactly program (config cs h0 (runs lowered.terms [])) (body_ends program depth (call_at program.table depth) run cs found finish args h0.world >>= (λ r w. gives r (leaves_progress cs.how cs.this w)))
   body_ends_so cs h0 found finish eb made st holds finishes =
@@ -151,7 +151,7 @@ module _ (program : SilicaProgram) (depth : ℕ) (is : IsLoweredProgram program)
       (terms_run program depth (call_at program.table depth) run cs found finish args h0 body lowered eb made.same made.lowers made.is_body st holds finishes)
 
   -- by how its frame was entered
-  how_ends : (how : How) (cs : Setting) (h0 : Here) (found : contract_at program.table cs.here ≡ Some cs.own) → signature_at cs.own cs.tx ≡ Some cs.signature → body_at program.table cs.here cs.tx ≡ Some body → Made program body lowered cs.here cs.own cs.signature
+  how_ends : (how : How) (cs : Setting) (h0 : Here) (found : contract_at program.table cs.here ≡ Some cs.own) → signature_at cs.own cs.tx ≡ Some cs.signature → body_at program.table cs.here cs.tx ≡ Some body → IsLoweredBody program body lowered cs.here cs.own cs.signature
       → Stands program.table depth (with_how cs how) h0 → HoldsFrom h0.slots 1 (parameters cs.signature) args → (how ≡ by_new → cs.tx ≡ constructor_id)
       → BodyEndsExactly program (config (with_how cs how) h0 (runs lowered.terms [])) (run_entered how (call_at program.table depth) (frame_in program.table cs) cs.tx cs.signature args h0.world)
   how_ends by_receiver cs h0 found es eb made st holds constructor =
@@ -186,7 +186,7 @@ bodies_end program body lowered own s args c depth is low begins few =
     let object = called_so (object_at c.world.objects cs.this) (λ o. o.contract ≡ c.frame.contract) begins.object in
     subst (λ control. BodyEndsExactly program (record c { control = control }) (run_entered c.frame.how (call_at program.table depth) (source_frame program.table own c) c.frame.tx s args c.world)) (sym begins.control)
     (how_ends program depth is body lowered args c.frame.how cs (here c) begins.contract begins.signature begins.is_body
-    (made_body program body lowered c.frame.contract own c.frame.tx s is low begins.contract begins.signature begins.is_body)
+    (lowered_body program body lowered c.frame.contract own c.frame.tx s is low begins.contract begins.signature begins.is_body)
     (record { this = begins.this; object = object; noted = begins.noted; fuel = few }) begins.arguments begins.constructor)
 
 pub bodies_keep_meaning : BodiesKeepMeaning

@@ -9,7 +9,7 @@ use Rattle.ob_table.specs.Expressions.{Expression, resolved_number, resolved_tex
 use Rattle.ob_table.specs.Tables.{ClassTable, contract_at, signature_of}
 use Rattle.ob_table.specs.declared.seen.SeenAt.{SeenAt}
 use Rattle.ob_table_spec.specs.WellFormed as made
-use Rattle.ob_table_spec.specs.WellFormed.{kind_of_resolved, local_kind, kind_of_seen, is_reference, IsWellFormedExpression, AreMade, IsCalled, PassTo, constructor_at, kind_of_expression}
+use Rattle.ob_table_spec.specs.WellFormed.{kind_of_resolved, local_kind, kind_of_seen, is_reference, IsWellFormedExpression, AreWellFormedArguments, IsCalled, PassTo, constructor_at, kind_of_expression}
 use Rattle.ob_heap_spec.specs.Values.{Value, int_value, bool_value, text_value, reference}
 use Rattle.ob_heap_spec.specs.Worlds.{World, RunOutcome, gives, ◌>>=◌}
 use Rattle.ob_source_meaning.specs.Frames as meaning
@@ -107,28 +107,28 @@ module _ (program : SilicaProgram) (most : ℕ) (calls : Calls) (called : CallsR
 
   -- `&&` and `||`
 
-  abbrev behind : SilicaTerms → Rest
-  behind rest = record { terms = rest; ends = plain_end }
+  abbrev next : SilicaTerms → Rest
+  next rest = record { terms = rest; ends = plain_end }
 
   if_step : (x : Lowered) (used : List ℕ) (t : Here) (v : Value) (b o : SilicaTerms) (j : Span) (rest : SilicaTerms) (outer : List Rest) → Result x used t v
       → step program (config s t (runs (and_term (if_form x.operand b o j) span rest) outer))
-      ≡ with_truth v (goes (config s t (runs b (behind rest ∷ outer)))) (goes (config s t (runs o (behind rest ∷ outer))))
+      ≡ with_truth v (goes (config s t (runs b (next rest ∷ outer)))) (goes (config s t (runs o (next rest ∷ outer))))
   if_step x used t v b o j rest outer r =
-      read_one (read table t (located x.operand)) v (λ u. with_truth u (goes (config s t (runs b (behind rest ∷ outer)))) (goes (config s t (runs o (behind rest ∷ outer))))) (read_in_slot table (in_slot r))
+      read_one (read table t (located x.operand)) v (λ u. with_truth u (goes (config s t (runs b (next rest ∷ outer)))) (goes (config s t (runs o (next rest ∷ outer))))) (read_in_slot table (in_slot r))
 
   -- the right side's value is copied into the left side's temporary
   copy_back : (x y z : Lowered) (sp : Span) (used : List ℕ) (t : Here) (v : Value) (rest : SilicaTerms) (outer : List Rest) (c : Configuration) (u : Value) (w : World)
       → z.operand.place ≡ x.operand.place → z.made ≡ x.made ++ y.made → Within seen_used used → Fit t → Result x used t v
-      → Reached program most (λ r n. Result y (in_use x.made used) r n) (in_use x.made used) s t (runs (one_term (copy_form x.operand.place y.operand) span) (behind rest ∷ outer)) u w c
+      → Reached program most (λ r n. Result y (in_use x.made used) r n) (in_use x.made used) s t (runs (one_term (copy_form x.operand.place y.operand) span) (next rest ∷ outer)) u w c
       → Reached program most (λ r n. Result z used r n) used s t (runs rest outer) u w c
   copy_back x y z sp used t v rest outer c u w same_place same_made within fit rx r =
       let t2 : Here = record { slots = r.slots; notes = r.notes; world = w } in
       let found_y = there (read table t2 (located y.operand)) u (read_in_slot table (in_slot r.holds)) in
       let cell : Cell = plain_cell found_y.0.value found_y.0.note.kind in
-      let after : Configuration = config s (set_slot rx.slot (Some cell) t2) (runs no_terms (behind rest ∷ outer)) in
-      let first : step program (config s t2 (runs (one_term (copy_form x.operand.place y.operand) span) (behind rest ∷ outer))) ≡ goes after =
-      ap (λ p. if_there (read table t2 (located y.operand)) (λ n. copy_to table (location_of p) n t2 (λ m. goes (config s m (runs no_terms (behind rest ∷ outer)))))) rx.place
-      ∙ ap (λ o. if_there o (λ n. copy_to table (slot rx.slot) n t2 (λ m. goes (config s m (runs no_terms (behind rest ∷ outer)))))) found_y.1 in
+      let after : Configuration = config s (set_slot rx.slot (Some cell) t2) (runs no_terms (next rest ∷ outer)) in
+      let first : step program (config s t2 (runs (one_term (copy_form x.operand.place y.operand) span) (next rest ∷ outer))) ≡ goes after =
+      ap (λ p. if_there (read table t2 (located y.operand)) (λ n. copy_to table (location_of p) n t2 (λ m. goes (config s m (runs no_terms (next rest ∷ outer)))))) rx.place
+      ∙ ap (λ o. if_there o (λ n. copy_to table (slot rx.slot) n t2 (λ m. goes (config s m (runs no_terms (next rest ∷ outer)))))) found_y.1 in
       record {
         slots = at r.slots rx.slot (Some cell);
         notes = r.notes;
@@ -147,7 +147,7 @@ module _ (program : SilicaProgram) (most : ℕ) (calls : Calls) (called : CallsR
   -- the left side's value stays
   left_stays : (x z : Lowered) (used : List ℕ) (t : Here) (v : Value) (rest : SilicaTerms) (outer : List Rest) (c : Configuration) (more : List Temporary)
       → z.operand.place ≡ x.operand.place → z.made ≡ x.made ++ more → Fit t → Result x used t v
-      → Leads program c (goes (config s t (runs no_terms (behind rest ∷ outer))))
+      → Leads program c (goes (config s t (runs no_terms (next rest ∷ outer))))
       → Ends program (Reached program most (λ r n. Result z used r n) used s t (runs rest outer)) c (gives v t.world)
   left_stays x z used t v rest outer c more same_place same_made fit rx leads = record {
     by = record {
@@ -172,7 +172,7 @@ module _ (program : SilicaProgram) (most : ℕ) (calls : Calls) (called : CallsR
   logical_runs And (bool_value true) x y sign sp used t rest outer right w fit rx run_right =
       ends_later program right (reached_closed program most) (one_step program (if_step x used t (bool_value true) (copied_into a x y) no_terms sign rest outer rx))
       (ends_map program right (λ u v r. copy_back x y (logical_into a And x y sign sp) sp used t (bool_value true) rest outer _ u v refl refl w fit rx r)
-      (run_right (one_term (copy_form x.operand.place y.operand) span) (behind rest ∷ outer)))
+      (run_right (one_term (copy_form x.operand.place y.operand) span) (next rest ∷ outer)))
   logical_runs And (bool_value false) x y sign sp used t rest outer right w fit rx run_right =
       left_stays x (logical_into a And x y sign sp) used t (bool_value false) rest outer _ y.made refl refl fit rx
       (one_step program (if_step x used t (bool_value false) (copied_into a x y) no_terms sign rest outer rx))
@@ -185,7 +185,7 @@ module _ (program : SilicaProgram) (most : ℕ) (calls : Calls) (called : CallsR
   logical_runs Or (bool_value false) x y sign sp used t rest outer right w fit rx run_right =
       ends_later program right (reached_closed program most) (one_step program (if_step x used t (bool_value false) no_terms (copied_into a x y) sign rest outer rx))
       (ends_map program right (λ u v r. copy_back x y (logical_into a Or x y sign sp) sp used t (bool_value false) rest outer _ u v refl refl w fit rx r)
-      (run_right (one_term (copy_form x.operand.place y.operand) span) (behind rest ∷ outer)))
+      (run_right (one_term (copy_form x.operand.place y.operand) span) (next rest ∷ outer)))
   logical_runs Or (bool_value true) x y sign sp used t rest outer right w fit rx run_right =
       left_stays x (logical_into a Or x y sign sp) used t (bool_value true) rest outer _ y.made refl refl fit rx
       (one_step program (if_step x used t (bool_value true) no_terms (copied_into a x y) sign rest outer rx))
@@ -248,7 +248,7 @@ module _ (program : SilicaProgram) (most : ℕ) (calls : Calls) (called : CallsR
         (subst (λ o. IsSomeAnd o (λ d. length d.params ≡ length x.operands)) (sym g.1) (as_many F ws a used g.0.params args x lx g.2)) m (fit_on w fit comes))))
 
     pub operands_run : (es : Arguments) (l : LoweredArguments) (used : List ℕ) (h : Here) (rest : SilicaTerms) (outer : List Rest)
-        → LowersArguments a used es l → AreMade F ws es → Within seen_used used → Fit h
+        → LowersArguments a used es l → AreWellFormedArguments F ws es → Within seen_used used → Fit h
         → OperandsRun l used h rest outer (operands_of calls f es ls h.world)
     operands_run no_arguments l used h rest outer is made w fit =
         rw is (record { by = record { slots = h.slots; notes = h.notes; comes = comes_self table most used fit.stands; holds = record { by = tt }; leads = stays program _ } })

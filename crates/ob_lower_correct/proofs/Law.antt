@@ -31,7 +31,7 @@ use Rattle.ob_lower_correct.proofs.OutsideNew.{new_over}
 
 pub fitting : (program : SilicaProgram) → IsLoweredProgram program → Fitting program
 fitting program is = record {
-  bodies = bodies_pair program is.lowered is.made;
+  bodies = bodies_pair program is.lowered is.well_formed;
   agrees = agrees program.table is.table;
   constructors = constructors program.table is.table;
 }

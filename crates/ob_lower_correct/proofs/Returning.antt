@@ -135,10 +135,10 @@ module _ (program : SilicaProgram) (most : ℕ) (calls : Calls) (called : CallsR
 
   return_is : (h : Here) (place : Option Location) (control : Control) (outer : List Rest) → Stands table most s h → Kept fixed start h.slots
       → return_step program place outer (config s h control)
-      ≡ (if is_held_within table h.world.objects s.here s.signature.exit (Some s.this) && may_leave_args table h.world.objects s.signature.params args then returning.gives program s.signature s.signature.result place outer (config s h control) else stuck)
+      ≡ (if is_held_within table h.world.objects s.here s.signature.exit (Some s.this) && may_leave_args table h.world.objects s.signature.params args then returning.gives_result program s.signature s.signature.result place outer (config s h control) else stuck)
   return_is h place control outer st k =
-      ap (λ o. if_there o (λ g. if exits_are_within table (config s h control) g then returning.gives program g g.result place outer (config s h control) else stuck)) signed
-      ∙ ap (λ b. if b then returning.gives program s.signature s.signature.result place outer (config s h control) else stuck) (exits_are h control st k)
+      ap (λ o. if_there o (λ g. if exits_are_within table (config s h control) g then returning.gives_result program g g.result place outer (config s h control) else stuck)) signed
+      ∙ ap (λ b. if b then returning.gives_result program s.signature s.signature.result place outer (config s h control) else stuck) (exits_are h control st k)
 
   -- a value is handed to the caller
   module _ (finish : Option Value → World → RunOutcome (Option Value)) where
@@ -184,7 +184,7 @@ module _ (program : SilicaProgram) (most : ℕ) (calls : Calls) (called : CallsR
       by_test false e t = rw t (record { by = one_step program e })
 
   plain_some : (h : Here) (from : Operand) (o : Option Value) (outer : List Rest) (c : Configuration) (b : Bool) (ro : Option ResolvedType) → IsSome ro → Stands table most s h → E h ≡ b → value_in (read table h (located from)) ≡ o
-      → step program c ≡ (if b then returning.gives program s.signature ro (Some (located from)) outer (config s h (runs no_terms outer)) else stuck)
+      → step program c ≡ (if b then returning.gives_result program s.signature ro (Some (located from)) outer (config s h (runs no_terms outer)) else stuck)
       → Ends program (Left program most calls called s found start plain fixed zero_fixed outer h) c (with_some o (λ v. if_right (is_held_within table h.world.objects s.here s.signature.exit (Some s.this) && may_leave_args table h.world.objects s.signature.params args && may_give table h.world.objects ro (Some v)) (gives (Some v) (result_goes ro (Some v) h.world))))
   plain_some h from o outer c b None is st eb er e = absurd (true≢false (sym is))
   plain_some h from None outer c true (Some kind) is st eb er e = record { by = one_step program (e ∙ not_there (read table h (located from)) _ er) }
@@ -220,15 +220,15 @@ module _ (program : SilicaProgram) (most : ℕ) (calls : Calls) (called : CallsR
     none = λ h span rest outer st k er.
         plain_none h outer _ (E h) s.signature.result er er no_new st refl
         (return_is h None (runs (and_term (return_form None) span rest) outer) outer st k
-        ∙ ap (λ ro. if E h then returning.gives program s.signature ro None outer (config s h (runs (and_term (return_form None) span rest) outer)) else stuck) er
+        ∙ ap (λ ro. if E h then returning.gives_result program s.signature ro None outer (config s h (runs (and_term (return_form None) span rest) outer)) else stuck) er
         ∙ ap (λ n. if E h then n else stuck) (leaves_none s.how h outer (runs (and_term (return_form None) span rest) outer) no_new));
     some = λ h from o span rest outer st k is er. plain_some h from o outer _ (E h) s.signature.result is st refl er (return_is h (Some (located from)) (runs (and_term (return_form (Some from)) span rest) outer) outer st k ∙ same_gives h from outer span rest s.signature.result is);
     unlocks = plain_unlocks;
   }
     where
       same_gives : (h : Here) (from : Operand) (outer : List Rest) (span : Span) (rest : SilicaTerms) (ro : Option ResolvedType) → IsSome ro
-          → (if E h then returning.gives program s.signature ro (Some (located from)) outer (config s h (runs (and_term (return_form (Some from)) span rest) outer)) else stuck)
-          ≡ (if E h then returning.gives program s.signature ro (Some (located from)) outer (config s h (runs no_terms outer)) else stuck)
+          → (if E h then returning.gives_result program s.signature ro (Some (located from)) outer (config s h (runs (and_term (return_form (Some from)) span rest) outer)) else stuck)
+          ≡ (if E h then returning.gives_result program s.signature ro (Some (located from)) outer (config s h (runs no_terms outer)) else stuck)
       same_gives h from outer span rest None is = absurd (true≢false (sym is))
       same_gives h from outer span rest (Some kind) is = refl
 
@@ -275,7 +275,7 @@ module _ (program : SilicaProgram) (most : ℕ) (calls : Calls) (called : CallsR
     none = λ h span rest outer st k er.
         new_none h outer _ (E h) s.signature.result er st refl
         (return_is h None (runs (and_term (return_form None) span rest) outer) outer st k
-        ∙ ap (λ ro. if E h then returning.gives program s.signature ro None outer (config s h (runs (and_term (return_form None) span rest) outer)) else stuck) er
+        ∙ ap (λ ro. if E h then returning.gives_result program s.signature ro None outer (config s h (runs (and_term (return_form None) span rest) outer)) else stuck) er
         ∙ ap (λ how. if E h then returning.gives_none how program s.signature outer (config s h (runs (and_term (return_form None) span rest) outer)) else stuck) is_new);
     some = λ h from o span rest outer st k is er. absurd (true≢false (sym is ∙ ap is_some no_result));
     unlocks = new_unlocks;

@@ -39,7 +39,7 @@ use Rattle.ob_heap_spec.specs.GoingWrong.{is_followed}
 use Rattle.ob_source_meaning.specs.Statements.{run_block, run_otherwise}
 use Rattle.ob_silica.specs.Terms.{change_form}
 use Rattle.ob_silica_steps.specs.Configurations.{stuck}
-use Rattle.ob_lower_spec.specs.Points.{refused_at, place_in, given_before, with_row}
+use Rattle.ob_lower_spec.specs.Points.{refused_at, span_of_terms, given_before, with_row}
 use Rattle.ob_lower_spec.specs.GivenTerms.{LoweredGiven, LowersGiven, given_from, LowersStage}
 use Rattle.ob_lower_correct.proofs.Setting.{placed_declares}
 use Rattle.ob_lower_correct.proofs.Fresh.{Fresh, fresh_append}
@@ -58,14 +58,14 @@ use Rattle.ob_lower_spec.specs.Points.{inside}
 use Rattle.ob_lower_spec.specs.StatementTerms.{LowersStatements, LowersBlock, LowersOtherwise, closing, join_of}
 
 -- the point after a statement, whatever the run
-pub record Behind (params : ℕ) (base : List ℕ) (p q : Point) (ws : made.LocalKinds) (xs : Statements) : Type 0 where
+pub record PointAfter (params : ℕ) (base : List ℕ) (p q : Point) (ws : made.LocalKinds) (xs : Statements) : Type 0 where
   pub placed : Placed params base q ws
   pub row : RowOpen q.row xs
   pub slots : (n k : ℕ) → slot_of p.variables n ≡ Some k → slot_of q.variables n ≡ Some k
   pub kinds : (n k : ℕ) → slot_of p.variables n ≡ Some k → local_kind (locals_of q.variables) n ≡ local_kind (locals_of p.variables) n
   pub drops : (around : List ℕ) → Within around p.used → ((n : ℕ) → Used n p.declared → IsFree n around) → Within around q.used × ((n : ℕ) → Used n q.declared → IsFree n around)
 
-after_passed : (params : ℕ) (base : List ℕ) (p q : Point) (ws : made.LocalKinds) (xs : Statements) → Placed params base p ws → q ≡ passed p → Behind params base p q ws xs
+after_passed : (params : ℕ) (base : List ℕ) (p q : Point) (ws : made.LocalKinds) (xs : Statements) → Placed params base p ws → q ≡ passed p → PointAfter params base p q ws xs
 after_passed params base p q ws xs placed e =
     rw e (record { placed = placed_passed params base placed; row = tt; slots = λ n k h. h; kinds = λ n k h. refl; drops = λ around w d. (w, d) })
 
@@ -79,7 +79,7 @@ slot_kind (v ∷ vs) n k e h = by_number (nat_eq n v.local) (slot_kind vs n k) e
     by_number false rest e h = rest e h
 
 after_declares : (params : ℕ) (base : List ℕ) (p : Point) (ws : made.LocalKinds) (xs : Statements) (local k : ℕ) (of : Kind) → Placed params base p ws → IsFree k p.used → local_kind ws local ≡ None
-    → Behind params base p (declares p (record { local = local; kind = of; slot = k })) (ws ++ (local, of) ∷ []) xs
+    → PointAfter params base p (declares p (record { local = local; kind = of; slot = k })) (ws ++ (local, of) ∷ []) xs
 after_declares params base p ws xs local k of placed free none = record {
   placed = placed_declares params base p ws local k of placed free none;
   row = tt;
@@ -98,11 +98,11 @@ after_declares params base p ws xs local k of placed free none = record {
 placed_row : (params : ℕ) (base : List ℕ) (p : Point) (ws : made.LocalKinds) (row : StagedRow) → Placed params base p ws → Fresh (made_before row) p.used → Placed params base (with_row p row) ws
 placed_row params base p ws row a fresh = record { agree = a.agree; inside = a.inside; apart = a.apart; own = a.own; fixed = a.fixed; row = fresh }
 
-after_row_point : (params : ℕ) (base : List ℕ) (p q : Point) (ws : made.LocalKinds) (xs : Statements) (row : StagedRow) → Placed params base p ws → q ≡ with_row p row → Fresh (made_before row) p.used → RowOpen row xs → Behind params base p q ws xs
+after_row_point : (params : ℕ) (base : List ℕ) (p q : Point) (ws : made.LocalKinds) (xs : Statements) (row : StagedRow) → Placed params base p ws → q ≡ with_row p row → Fresh (made_before row) p.used → RowOpen row xs → PointAfter params base p q ws xs
 after_row_point params base p q ws xs row placed e fresh open' =
     rw e (record { placed = placed_row params base p ws row placed fresh; row = open'; slots = λ n k h. h; kinds = λ n k h. refl; drops = λ around w d. (w, d) })
 
-refused_point : (params : ℕ) (base : List ℕ) (p q : Point) (ws : made.LocalKinds) (xs : Statements) → Placed params base p ws → p.row ≡ refused_row → q ≡ p → Behind params base p q ws xs
+refused_point : (params : ℕ) (base : List ℕ) (p q : Point) (ws : made.LocalKinds) (xs : Statements) → Placed params base p ws → p.row ≡ refused_row → q ≡ p → PointAfter params base p q ws xs
 refused_point params base p q ws xs placed er e =
     rw e (record { placed = placed; row = subst (λ r. RowOpen r xs) (sym er) tt; slots = λ n k h. h; kinds = λ n k h. refl; drops = λ around w d. (w, d) })
 
@@ -130,7 +130,7 @@ module _ (program : SilicaProgram) (most : ℕ) (calls : Calls) (called : CallsR
   params = length s.signature.params
 
   stage_after : (p : Point) (ws : made.LocalKinds) (row : StagedRow) (refusal : Option Span) (given : GivenField) (span : Span) (state : StateId) (xs : Statements) (ts : SilicaTerms) (q : Point) → p.row ≡ row
-      → LowersStage F p row refusal given span ts q → (refusal ≡ None → is_row state xs ≡ true) → RowOpen row (and_statement (resolved_stage state given span) xs) → Places p ws → Behind params fixed p q ws xs
+      → LowersStage F p row refusal given span ts q → (refusal ≡ None → is_row state xs ≡ true) → RowOpen row (and_statement (resolved_stage state given span) xs) → Places p ws → PointAfter params fixed p q ws xs
   stage_after p ws no_row None given span state xs ts q er (x, lx, ets, eq) ok open' placed =
       after_row_point params fixed p q ws xs (staged_row span (given_from given x.operand ∷ []) x.made) placed eq (expression_fresh (around F p span) p.used given.value x lx) (state, ok refl)
   stage_after p ws no_row (Some at) given span state xs ts q er (ets, eq) ok open' placed =
@@ -143,7 +143,7 @@ module _ (program : SilicaProgram) (most : ℕ) (calls : Calls) (called : CallsR
 
   -- the point after a statement
   after_statement : (x : Statement) (xs : Statements) (p q : Point) (ws : made.LocalKinds) (row : List ℕ) (ts : SilicaTerms) → LowersStatement F p x xs ts q → IsStatement F ws row x → RowOpen p.row (and_statement x xs) → Places p ws
-      → Behind params fixed p q (locals_after ws x) xs
+      → PointAfter params fixed p q (locals_after ws x) xs
   after_statement (resolved_declare local name of value span) xs p q ws row ts (k, free, x, lx, ets, eq) ok open' placed = rw eq (after_declares params fixed p ws xs local k of placed free ok.2)
   after_statement (resolved_assign target value span) xs p q ws row ts (x, lx, kind, ek, place, ep, ets, eq) ok open' placed = after_passed params fixed p q ws xs placed eq
   after_statement (resolved_stage state given span) xs p q ws row ts low ok open' placed = stage_after p ws p.row (refused_at state span xs) given span state xs ts q refl low (λ e. not_refused (is_row state xs) refl e) open' placed
@@ -170,7 +170,7 @@ module _ (program : SilicaProgram) (most : ℕ) (calls : Calls) (called : CallsR
       declared_free xs q (locals_after ws x) (made.rest_of_row row x) tr declared around lr ok.2 b.row b.placed more.0 more.1
 
   -- what stands after a statement stands at the point before it
-  narrow : (p q : Point) (ws : made.LocalKinds) (xs : Statements) (ls : meaning.Locals) (t : Here) → Placed params fixed p ws → (ws2 : made.LocalKinds) → Behind params fixed p q ws2 xs → Stand (passed q) ls t → Stand (passed p) ls t
+  narrow : (p q : Point) (ws : made.LocalKinds) (xs : Statements) (ls : meaning.Locals) (t : Here) → Placed params fixed p ws → (ws2 : made.LocalKinds) → PointAfter params fixed p q ws2 xs → Stand (passed q) ls t → Stand (passed p) ls t
   narrow p q ws xs ls t placed ws2 b a = record {
     stands = a.stands;
     visible = record {
@@ -237,13 +237,13 @@ module _ (program : SilicaProgram) (most : ℕ) (calls : Calls) (called : CallsR
   unfollowed (resolved_disown subject span) xs p q ls h ts rest outer low open' a e = absurd (true≢false e)
   unfollowed (resolved_assert subject perm span) xs p q ls h ts rest outer low open' a e = absurd (true≢false e)
 
-  narrow_flow : (p q : Point) (ws ws2 : made.LocalKinds) (xs : Statements) (rest : SilicaTerms) (outer : List Rest) (h : Here) (c : Configuration) → Places p ws → Behind params fixed p q ws2 xs
+  narrow_flow : (p q : Point) (ws ws2 : made.LocalKinds) (xs : Statements) (rest : SilicaTerms) (outer : List Rest) (h : Here) (c : Configuration) → Places p ws → PointAfter params fixed p q ws2 xs
       → (flow : Flow) (w : World) → Flows program most calls called s found start finish fixed zero_fixed (passed q) rest outer h flow w c → Flows program most calls called s found start finish fixed zero_fixed (passed p) rest outer h flow w c
   narrow_flow p q ws ws2 xs rest outer h c placed b (goes_on us) w r =
       record { by = record { slots = r.by.slots; notes = r.by.notes; comes = r.by.comes; holds = narrow p q ws xs us _ placed ws2 b r.by.holds; leads = r.by.leads } }
   narrow_flow p q ws ws2 xs rest outer h c placed b (returns v) w r = record { by = r.by }
 
-  others_run : (xs : Statements) (p q : Point) (ws ws2 : made.LocalKinds) (h : Here) (tr rest : SilicaTerms) (outer : List Rest) (c : Configuration) → Places p ws → Behind params fixed p q ws2 xs
+  others_run : (xs : Statements) (p q : Point) (ws ws2 : made.LocalKinds) (h : Here) (tr rest : SilicaTerms) (outer : List Rest) (c : Configuration) → Places p ws → PointAfter params fixed p q ws2 xs
       → ((us : meaning.Locals) (t : Here) → Stand q us t → Runs (passed q) rest outer t (config s t (runs (then_terms tr rest) outer)) (run_all calls f xs us t.world))
       → (flow : Flow) (w : World) → Flows program most calls called s found start finish fixed zero_fixed q (then_terms tr rest) outer h flow w c → Runs (passed p) rest outer h c (after flow w (λ ls1 w2. run_all calls f xs ls1 w2))
   others_run xs p q ws ws2 h tr rest outer c placed b others (goes_on us) w r =
@@ -253,7 +253,7 @@ module _ (program : SilicaProgram) (most : ℕ) (calls : Calls) (called : CallsR
   others_run xs p q ws ws2 h tr rest outer c placed b others (returns v) w r = record { by = record { by = r.by } }
 
   -- a statement, and then the others
-  list_runs : (x : Statement) (xs : Statements) (p q : Point) (ws ws2 : made.LocalKinds) (ls : meaning.Locals) (h : Here) (tx tr rest : SilicaTerms) (outer : List Rest) (b : Bool) → is_followed x xs ≡ b → Places p ws → Behind params fixed p q ws2 xs
+  list_runs : (x : Statement) (xs : Statements) (p q : Point) (ws ws2 : made.LocalKinds) (ls : meaning.Locals) (h : Here) (tx tr rest : SilicaTerms) (outer : List Rest) (b : Bool) → is_followed x xs ≡ b → Places p ws → PointAfter params fixed p q ws2 xs
       → (is_followed x xs ≡ false → step program (config s h (runs (then_terms tx (then_terms tr rest)) outer)) ≡ stuck)
       → (is_followed x xs ≡ true → Runs q (then_terms tr rest) outer h (config s h (runs (then_terms tx (then_terms tr rest)) outer)) (run calls f x ls h.world))
       → ((us : meaning.Locals) (t : Here) → Stand q us t → Runs (passed q) rest outer t (config s t (runs (then_terms tr rest) outer)) (run_all calls f xs us t.world))
@@ -279,8 +279,8 @@ module _ (program : SilicaProgram) (most : ℕ) (calls : Calls) (called : CallsR
         (record { stands = a.stands; visible = a.visible; row = subst (λ r. RowStands p.variables p.used r ls.staged h) er a.row; kept = a.kept }))
 
     change_by : (p : Point) (ws : made.LocalKinds) (ls : meaning.Locals) (h : Here) (rest : SilicaTerms) (outer : List Rest) (state : StateId) (given : List GivenField) (span : Span) (names : List ℕ) (row : StagedRow) (x : LoweredGiven)
-        → p.row ≡ row → LowersGiven (around F p (place_in row span)) (in_use (made_before row) p.used) given x → made.AreGiven F ws names given → Places p ws → Stand p ls h
-        → Runs (passed p) rest outer h (config s h (runs (then_terms (with_unit (place_in row span) (ended_by (place_in row span) x.terms (change_form state (given_before row ++ x.given)) (made_before row ++ x.made))) rest) outer)) (run calls f (resolved_change state given span) ls h.world)
+        → p.row ≡ row → LowersGiven (around F p (span_of_terms row span)) (in_use (made_before row) p.used) given x → made.AreGiven F ws names given → Places p ws → Stand p ls h
+        → Runs (passed p) rest outer h (config s h (runs (then_terms (with_unit (span_of_terms row span) (ended_by (span_of_terms row span) x.terms (change_form state (given_before row ++ x.given)) (made_before row ++ x.made))) rest) outer)) (run calls f (resolved_change state given span) ls h.world)
     change_by p ws ls h rest outer state given span names no_row x er lx ok placed a =
         change_runs program most calls called s found start finish fixed zero_fixed p ws ls h rest outer state given span span names [] [] x lx ok (placed_row params fixed p ws (staged_row span [] []) placed (record { by = λ n u. absurd u }))
         (staged_at p ls h span (subst (λ r. RowStands p.variables p.used r ls.staged h) er a.row) (record { stands = a.stands; visible = a.visible; row = subst (λ r. RowStands p.variables p.used r ls.staged h) er a.row; kept = a.kept }))

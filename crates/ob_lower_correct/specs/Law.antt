@@ -17,7 +17,7 @@ use Rattle.ob_lower_spec.specs.BodyTerms.{AllLower}
 -- a program whose class table meets the conditions and whose bodies may be lowered to its terms
 pub record IsLoweredProgram (program : SilicaProgram) : Type 0 where
   pub table : IsClassTable program.table
-  pub made : All (IsWellFormed program.table) program.table.bodies
+  pub well_formed : All (IsWellFormed program.table) program.table.bodies
   pub lowered : AllLower program.table program.table.bodies program.bodies
 
 -- After some steps the Silica run ends as the source meaning says: with the same result and the same world, in which

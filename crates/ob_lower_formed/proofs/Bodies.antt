@@ -21,11 +21,11 @@ use Rattle.ob_lower_spec.specs.Points.{locals_of, slot_of}
 use Rattle.ob_lower_spec.specs.StatementTerms.{LowersBlock}
 use Rattle.ob_lower_spec.specs.BodyTerms.{params_from, slots_below, beginning, LowersWith}
 use Rattle.ob_lower_formed.proofs.Sets.{among, by_bool, nat_same}
-use Rattle.ob_lower_formed.proofs.Ways.{FormMade, each_map, end_then}
+use Rattle.ob_lower_formed.proofs.Ways.{IsWellFormedForm, each_map, end_then}
 use Rattle.ob_lower_formed.proofs.Effects.{leaves_of}
 use Rattle.ob_lower_formed.proofs.Operands.{none_some, some_same, Stands}
 use Rattle.ob_lower_formed.proofs.Points.{same_runs, Low}
-use Rattle.ob_lower_formed.proofs.Ending.{BlockMade, return_runs}
+use Rattle.ob_lower_formed.proofs.Ending.{IsWellFormedBlock, return_runs}
 use Rattle.ob_lower_formed.proofs.Statements.{then_none, block_did}
 
 -- The beginning.
@@ -144,8 +144,8 @@ module _ (table : ClassTable) (here : ContractId) (own : Contract) (s : Signatur
   }
 
   -- the terms of a body
-  record BodyMade (lowered : SilicaBody) : Type 0 where
-    each : Each FormMade frame start lowered.terms
+  record IsWellFormedBodyTerms (lowered : SilicaBody) : Type 0 where
+    each : Each IsWellFormedForm frame start lowered.terms
     follows : NoneFollows lowered.terms
     ends : terms_end lowered.terms ≡ true
 
@@ -153,13 +153,13 @@ module _ (table : ClassTable) (here : ContractId) (own : Contract) (s : Signatur
   no_result ss None f e = refl
   no_result ss (Some kind) f e = absurd (true≢false (sym (f refl) ∙ e))
 
-  body_from : (body : ResolvedBody) (lowered : SilicaBody) (block : SilicaTerms) → BlockMade frame start used block (one_ends_there body.statements)
+  body_from : (body : ResolvedBody) (lowered : SilicaBody) (block : SilicaTerms) → IsWellFormedBlock frame start used block (one_ends_there body.statements)
       → (IsSome s.result → one_ends_there body.statements ≡ true) → (c : Bool) → one_ends_there body.statements ≡ c
-      → lowered.terms ≡ then_terms block (if c then no_terms else one_term (return_form None) body.end) → BodyMade lowered
+      → lowered.terms ≡ then_terms block (if c then no_terms else one_term (return_form None) body.end) → IsWellFormedBodyTerms lowered
   body_from body lowered block b returns true e is =
       let same : lowered.terms ≡ block = is ∙ then_none block in
       record {
-        each = subst (λ t. Each FormMade frame start t) (sym same) b.runs.each;
+        each = subst (λ t. Each IsWellFormedForm frame start t) (sym same) b.runs.each;
         follows = subst NoneFollows (sym same) b.runs.follows;
         ends = ap terms_end same ∙ b.ends_so ∙ e;
       }
@@ -167,7 +167,7 @@ module _ (table : ClassTable) (here : ContractId) (own : Contract) (s : Signatur
       let none : option_map kind_of_resolved s.result ≡ None = no_result body.statements s.result returns e in
       let whole = same_runs frame (leaves_of frame b.runs (b.ends_so ∙ e)) (return_runs None body.end used tt (subst (λ r. IsReturnedAs frame (after_terms frame block start) r None) (sym none) tt)) in
       record {
-        each = subst (λ t. Each FormMade frame start t) (sym is) whole.each;
+        each = subst (λ t. Each IsWellFormedForm frame start t) (sym is) whole.each;
         follows = subst NoneFollows (sym is) whole.follows;
         ends = ap terms_end is ∙ end_then block (one_term (return_form None) body.end) ∙ or_right (terms_end block) true refl;
       }
@@ -179,15 +179,15 @@ module _ (table : ClassTable) (here : ContractId) (own : Contract) (s : Signatur
       (subst (λ c. LowersBlock (frame_of table c own s) (beginning s.params) (resolved_block body.statements body.end) low.block) at low.statements)
       (subst (λ c. AreStatements (frame_of table c own s) (typing.params_from 1 s.params) [] body.statements) at made.statements)
       stands_start low_start (λ n. ap (λ l. local_kind l n) (sym (locals_same 1 s.params))) in
-      let m : BodyMade lowered = body_from body lowered low.block block made.returns (one_ends_there body.statements) refl low.terms in
+      let m : IsWellFormedBodyTerms lowered = body_from body lowered low.block block made.returns (one_ends_there body.statements) refl low.terms in
       record {
-        numbers = record { forms = each_map FormMade NamesWhatIsThere frame (λ h form x. x.numbers) start lowered.terms m.each; slots = le_of_eq (sym low.slots); few = few };
-        kinds = each_map FormMade HasKinds frame (λ h form x. x.kinds) start lowered.terms m.each;
-        results = each_map FormMade TakesResult frame (λ h form x. x.results) start lowered.terms m.each;
-        params = each_map FormMade LeavesParams frame (λ h form x. x.params) start lowered.terms m.each;
-        references = each_map FormMade LosesNoReference frame (λ h form x. x.references) start lowered.terms m.each;
-        bodies = each_map FormMade NamesBody frame (λ h form x. x.bodies) start lowered.terms m.each;
-        returns = each_map FormMade ReturnsResult frame (λ h form x. x.returns) start lowered.terms m.each;
+        numbers = record { forms = each_map IsWellFormedForm NamesWhatIsThere frame (λ h form x. x.numbers) start lowered.terms m.each; slots = le_of_eq (sym low.slots); few = few };
+        kinds = each_map IsWellFormedForm HasKinds frame (λ h form x. x.kinds) start lowered.terms m.each;
+        results = each_map IsWellFormedForm TakesResult frame (λ h form x. x.results) start lowered.terms m.each;
+        params = each_map IsWellFormedForm LeavesParams frame (λ h form x. x.params) start lowered.terms m.each;
+        references = each_map IsWellFormedForm LosesNoReference frame (λ h form x. x.references) start lowered.terms m.each;
+        bodies = each_map IsWellFormedForm NamesBody frame (λ h form x. x.bodies) start lowered.terms m.each;
+        returns = each_map IsWellFormedForm ReturnsResult frame (λ h form x. x.returns) start lowered.terms m.each;
         ends = m.ends;
         reached = m.follows;
       }

@@ -11,7 +11,7 @@ use Rattle.ob_silica_formed.specs.Holdings.{SlotContent, held, Holdings, with_sl
 use Rattle.ob_silica_formed.specs.Points.{NoneFollows, NoneFollowsWithin}
 use Rattle.ob_lower_spec.specs.Points.{drops}
 use Rattle.ob_lower_formed.proofs.Sets.{among, by_bool, nat_same, apart_parts, Within, apart_within}
-use Rattle.ob_lower_formed.proofs.Ways.{FormMade, after_then, each_then, end_then, follows_then}
+use Rattle.ob_lower_formed.proofs.Ways.{IsWellFormedForm, after_then, each_then, end_then, follows_then}
 
 -- slots that hold what they held
 pub record Kept (used : List ℕ) (h g : Holdings) : Type 0 where
@@ -113,15 +113,15 @@ after_joined {used} {left} {h} {a} {b} false false x y e = record {
 }
 
 module _ (f : StaticFrame) where
-  -- terms that are made as they must be, after which, where it is reached, slots hold this
+  -- well-formed terms, after which, where it is reached, slots hold this
   pub record Runs (h : Holdings) (ts : SilicaTerms) (used left : List ℕ) : Type 0 where
-    pub each : Each FormMade f h ts
+    pub each : Each IsWellFormedForm f h ts
     pub follows : NoneFollows ts
     pub after : terms_end ts ≡ false → After used left h (after_terms f ts h)
 
   -- the same, and what is after them is reached
   pub record Leaves (h : Holdings) (ts : SilicaTerms) (used left : List ℕ) : Type 0 where
-    pub each : Each FormMade f h ts
+    pub each : Each IsWellFormedForm f h ts
     pub follows : NoneFollows ts
     pub goes_on : terms_end ts ≡ false
     pub after : After used left h (after_terms f ts h)
@@ -142,7 +142,7 @@ module _ (f : StaticFrame) where
   pub then_runs : {h : Holdings} {x y : SilicaTerms} {used mid left more : List ℕ} → Leaves h x used left → Within used mid
       → Runs (after_terms f x h) y mid more → Runs h (then_terms x y) used (left ++ more)
   then_runs {h} {x} {y} {used} {mid} {left} {more} a w b = record {
-    each = each_then f FormMade x y h a.each b.each;
+    each = each_then f IsWellFormedForm x y h a.each b.each;
     follows = follows_then x y a.follows a.goes_on b.follows;
     after = λ e. subst (λ g. After used (left ++ more) h g) (sym (after_then f x y h))
         (after_on a.after w (b.after ((or_parts (terms_end x) (terms_end y) (sym (end_then x y) ∙ e)).1)));
@@ -155,10 +155,10 @@ module _ (f : StaticFrame) where
 
   -- a form without branches that doesn't end
   pub record Plain (h : Holdings) (form : SilicaForm) : Type 0 where
-    pub made : FormMade f h form
-    pub within : EachWithin FormMade f h form
+    pub well_formed : IsWellFormedForm f h form
+    pub within : EachWithin IsWellFormedForm f h form
     pub follows : NoneFollowsWithin form
-    pub behind : after_form f form h ≡ written f form h
+    pub after : after_form f form h ≡ written f form h
     pub goes_on : form_ends form ≡ false
 
   -- one that sets a slot
@@ -166,10 +166,10 @@ module _ (f : StaticFrame) where
       → Plain h form → slot_written form ≡ Some k → kind_written f h form ≡ kind → (held kind).refers ≡ b → among k used ≡ false
       → Quiet used left h → Leaves h (one_term form span) used (left ++ if_refers k b)
   set_leaves {h} {form} span used left k kind b p slot is refers apart quiet = record {
-    each = (p.made, p.within, tt);
+    each = (p.well_formed, p.within, tt);
     follows = ((λ t. absurd (true≢false (sym t ∙ p.goes_on))), p.follows, tt);
     goes_on = or_from (form_ends form) false p.goes_on refl;
-    after = subst (λ g. After used (left ++ if_refers k b) h g) (sym (p.behind ∙ ap (λ o. with_slot_if o (held (kind_written f h form)) h) slot ∙ ap (λ o. with_slot k (held o) h) is))
+    after = subst (λ g. After used (left ++ if_refers k b) h g) (sym (p.after ∙ ap (λ o. with_slot_if o (held (kind_written f h form)) h) slot ∙ ap (λ o. with_slot k (held o) h) is))
         (record { kept = set_kept used k (held kind) h apart; quiet = set_quiet used left k (held kind) h b refers quiet });
   }
 
@@ -177,22 +177,22 @@ module _ (f : StaticFrame) where
       → Plain h form → slot_written form ≡ Some k → kind_written f h form ≡ kind
       → after_terms f (one_term form span) h ≡ with_slot k (held kind) h
   set_after {h} {form} span k kind p slot is =
-      p.behind ∙ ap (λ o. with_slot_if o (held (kind_written f h form)) h) slot ∙ ap (λ o. with_slot k (held o) h) is
+      p.after ∙ ap (λ o. with_slot_if o (held (kind_written f h form)) h) slot ∙ ap (λ o. with_slot k (held o) h) is
 
   -- one that sets none
   pub quiet_leaves : {h : Holdings} {form : SilicaForm} (span : Span) (used left : List ℕ)
       → Plain h form → slot_written form ≡ None → Quiet used left h → Leaves h (one_term form span) used left
   quiet_leaves {h} {form} span used left p slot quiet = record {
-    each = (p.made, p.within, tt);
+    each = (p.well_formed, p.within, tt);
     follows = ((λ t. absurd (true≢false (sym t ∙ p.goes_on))), p.follows, tt);
     goes_on = or_from (form_ends form) false p.goes_on refl;
-    after = subst (λ g. After used left h g) (sym (p.behind ∙ ap (λ o. with_slot_if o (held (kind_written f h form)) h) slot))
+    after = subst (λ g. After used left h g) (sym (p.after ∙ ap (λ o. with_slot_if o (held (kind_written f h form)) h) slot))
         (record { kept = kept_self used h; quiet = quiet });
   }
 
   -- an `if`, and a test
   pub if_runs : {h : Holdings} (a : Operand) (x y : SilicaTerms) (join span : Span) (used left : List ℕ)
-      → FormMade f h (if_form a x y join) → Runs h x used left → Runs h y used left → Runs h (one_term (if_form a x y join) span) used left
+      → IsWellFormedForm f h (if_form a x y join) → Runs h x used left → Runs h y used left → Runs h (one_term (if_form a x y join) span) used left
   if_runs {h} a x y join span used left m r s = record {
     each = (m, (r.each, s.each), tt);
     follows = ((λ t. refl), (r.follows, s.follows), tt);
@@ -200,7 +200,7 @@ module _ (f : StaticFrame) where
   }
 
   pub test_runs : {h : Holdings} (place : Operand) (state : _) (x y : SilicaTerms) (join span : Span) (used left : List ℕ)
-      → FormMade f h (test_form place state x y join) → Runs h x used left → Runs h y used left → Runs h (one_term (test_form place state x y join) span) used left
+      → IsWellFormedForm f h (test_form place state x y join) → Runs h x used left → Runs h y used left → Runs h (one_term (test_form place state x y join) span) used left
   test_runs {h} place state x y join span used left m r s = record {
     each = (m, (r.each, s.each), tt);
     follows = ((λ t. refl), (r.follows, s.follows), tt);
@@ -218,7 +218,7 @@ module _ (f : StaticFrame) where
       go j u l (inl t) = ap (λ c. (if c then held None else h j).refers) t
       go j u l (inr d) = ap (λ c. (if c then held None else h j).refers) d ∙ q.by j u (or_from (nat_eq j k) (among j ks) d l)
 
-  pub drop_made : (h : Holdings) (k : ℕ) → f.params < k → FormMade f h (drop_form k)
+  pub drop_made : (h : Holdings) (k : ℕ) → f.params < k → IsWellFormedForm f h (drop_form k)
   drop_made h k own = record { numbers = tt; kinds = tt; results = tt; params = own; references = tt; bodies = tt; returns = tt }
 
   -- slots that aren't in use are dropped
@@ -245,7 +245,7 @@ module _ (f : StaticFrame) where
   then_dropped {h} {x} span used left own apart a =
       let d = drops_leave span used left (after_terms f x h) own apart a.after.quiet in
       record {
-        each = each_then f FormMade x (drops left span) h a.each d.each;
+        each = each_then f IsWellFormedForm x (drops left span) h a.each d.each;
         follows = follows_then x (drops left span) a.follows a.goes_on d.follows;
         goes_on = end_then x (drops left span) ∙ or_from (terms_end x) (terms_end (drops left span)) a.goes_on d.goes_on;
         after = subst (λ g. After used [] h g) (sym (after_then f x (drops left span) h))

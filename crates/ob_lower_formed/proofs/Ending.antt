@@ -1,7 +1,9 @@
 -- Statements that neither declare nor stage: calls, ends, names, and the branches of tests.
 use Rattle.std.proofs.Common.{◌≡◌, ℕ, ◌<◌, Bool, true, false, ◌&&◌, ◌||◌, nat_eq, List, [], ◌∷◌, ◌++◌, length, Option, Some, None, option_map, option_and_then, IfSome, IsSomeAnd, refl, sym, ap, ◌∙◌, subst, ◌⊎◌, inl, inr, true≢false, is_some, eqb-true}
 use Rattle.std.proofs.lemmas.Bool.{or_parts, or_left, or_right}
+use Rattle.std.proofs.lemmas.Str.{IsUtf8-nil, is_utf8-from_IsUtf8}
 use Rattle.std.specs.Prelude.{⊤, IsTrue}
+use Rattle.ob_base.specs.Names.{is_text}
 use Rattle.ob_base.specs.declared.fault.Span.{Span}
 use Rattle.ob_base.specs.declared.id.StateId.{StateId}
 use Rattle.ob_base.specs.declared.permission.Perm.{Perm}
@@ -26,7 +28,7 @@ use Rattle.ob_lower_spec.specs.ExpressionTerms.{Lowered, LoweredCall, slot_opera
 use Rattle.ob_lower_spec.specs.GivenTerms.{with_unit}
 use Rattle.ob_lower_spec.specs.StatementTerms.{IsNamed, LowersReturn, LowersRevert, join_of}
 use Rattle.ob_lower_formed.proofs.Sets.{among, or_split, free_among, nat_same, within_self, within_right, slots_made}
-use Rattle.ob_lower_formed.proofs.Ways.{FormMade, after_then, end_then}
+use Rattle.ob_lower_formed.proofs.Ways.{IsWellFormedForm, after_then, end_then}
 use Rattle.ob_lower_formed.proofs.Effects.{set_at, Runs, Leaves, runs_of, then_dropped, Plain, set_leaves, set_after, quiet_leaves, drops_leave, if_runs, test_runs}
 use Rattle.ob_lower_formed.proofs.Operands.{some_so, and_so, none_some, Stands, own_slot, stands_on, Holds, place_there, has_kind, Fresh, fresh_apart, Gave, references_in_use}
 use Rattle.ob_lower_formed.proofs.Expressions.{name_holds, serves_bool, serving_of, nothing_within, seen_agree, GaveAll, Called, call_made, const_plain, expression_made, arguments_made}
@@ -72,8 +74,12 @@ revert_runs o span used there k = record {
   after = λ d. absurd (true≢false (or_parts true false d).0);
 }
 
+-- the text of a `revert` that has none
+empty_is_text : IsTrue (is_text [])
+empty_is_text = is_utf8-from_IsUtf8 [] IsUtf8-nil
+
 -- a block of its own
-pub record BlockMade (f : StaticFrame) (g : Holdings) (used : List ℕ) (ts : SilicaTerms) (ends : Bool) : Type 0 where
+pub record IsWellFormedBlock (f : StaticFrame) (g : Holdings) (used : List ℕ) (ts : SilicaTerms) (ends : Bool) : Type 0 where
   pub runs : Runs f g ts used []
   pub ends_so : terms_end ts ≡ ends
 
@@ -141,17 +147,17 @@ module _ (f : StaticFrame) (outer : List ℕ) (p : Point) (ws : LocalKinds) (row
   ends_after : (x y : SilicaTerms) → terms_end y ≡ true → terms_end (then_terms x y) ≡ true
   ends_after x y e = end_then x y ∙ or_right (terms_end x) (terms_end y) e
 
-  record EndMade (x : SilicaTerms) : Type 0 where
+  record IsWellFormedEnd (x : SilicaTerms) : Type 0 where
     runs : Runs f h x p.used []
     ends : terms_end x ≡ true
 
-  return_made : (value : Option Expression) (x : SilicaTerms) → LowersReturn (around f p span) p.used value x → IsReturned f ws f.result value → EndMade x
-  return_made None x is made = subst EndMade (sym is) (record { runs = return_runs None span p.used tt (returned_none f ws h f.result made); ends = refl })
+  return_made : (value : Option Expression) (x : SilicaTerms) → LowersReturn (around f p span) p.used value x → IsReturned f ws f.result value → IsWellFormedEnd x
+  return_made None x is made = subst IsWellFormedEnd (sym is) (record { runs = return_runs None span p.used tt (returned_none f ws h f.result made); ends = refl })
   return_made (Some e) x (y, ly, is) made =
       let r = returned_value f ws f.result e made in
       let v = value_gave r.0 e y ly r.2 in
       let g = after_terms f y.terms h in
-      subst EndMade (sym is) (record {
+      subst IsWellFormedEnd (sym is) (record {
         runs = same_runs f v.1.leaves (return_runs (Some y.operand) span p.used (place_there f g y.operand.place v.0 v.1.holds.is)
             (subst (λ o. IsReturnedAs f g o (Some y.operand)) (sym r.1) (has_kind {wanted = r.0} y.operand (serving_of y.operand.place v.0 v.1.holds v.2))));
         ends = ends_after y.terms (one_term (return_form (Some y.operand)) span) refl;
@@ -164,21 +170,21 @@ module _ (f : StaticFrame) (outer : List ℕ) (p : Point) (ws : LocalKinds) (row
       subst (λ ts. Did f outer p q ws row (resolved_return value span) rest ts h) (sym et)
       (did_passed s low agree b refl refl eq (unit_runs f span e.runs) e.ends)
 
-  revert_made : (text : Option Expression) (x : SilicaTerms) → LowersRevert (around f p span) p.used text x → IfSome text (IsValue f ws Text) → EndMade x
+  revert_made : (text : Option Expression) (x : SilicaTerms) → LowersRevert (around f p span) p.used text x → IfSome text (IsValue f ws Text) → IsWellFormedEnd x
   revert_made None x (k, free, is) made =
       let apart : among k p.used ≡ false = free_among k p.used free in
-      let plain : Plain f h (const_form k (TextConstant [])) = const_plain k (TextConstant []) (own_slot s k apart) (s.quiet.by k apart refl) in
+      let plain : Plain f h (const_form k (TextConstant [])) = const_plain k (TextConstant []) empty_is_text (own_slot s k apart) (s.quiet.by k apart refl) in
       let first : Leaves f h (one_term (const_form k (TextConstant [])) span) p.used ([] ++ []) = set_leaves f span p.used [] k (Some Text) false plain refl refl refl apart s.quiet in
       let g = after_terms f (one_term (const_form k (TextConstant [])) span) h in
       let there : kind_of_place f g (Slot k) ≡ Some Text = ap (λ (i : Holdings). (i k).kind) (set_after f span k (Some Text) plain refl refl) ∙ ap (λ (o : SlotContent). o.kind) (set_at k (held (Some Text)) h) in
-      subst EndMade (sym is) (record {
+      subst IsWellFormedEnd (sym is) (record {
         runs = same_runs f first (revert_runs (slot_operand k span) span p.used tt (and_so (kind_of_place f g (Slot k)) (λ c. IsTrue (serves_as f.table Text c)) Text there refl));
         ends = refl;
       })
   revert_made (Some e) x (y, ly, is) made =
       let v = value_gave Text e y ly made in
       let g = after_terms f y.terms h in
-      subst EndMade (sym is) (record {
+      subst IsWellFormedEnd (sym is) (record {
         runs = same_runs f v.1.leaves (revert_runs y.operand span p.used (place_there f g y.operand.place v.0 v.1.holds.is) (has_kind {wanted = Text} y.operand (serving_of y.operand.place v.0 v.1.holds v.2)));
         ends = ends_after y.terms (one_term (revert_form y.operand) span) refl;
       })
@@ -211,10 +217,10 @@ module _ (f : StaticFrame) (outer : List ℕ) (p : Point) (ws : LocalKinds) (row
   disown_did subject o is et eq refers =
       let n = named (λ c. ⊤) subject o is refers in
       let plain : Plain f h (disown_form o) = record {
-        made = record { numbers = n.there; kinds = n.reference; results = tt; params = tt; references = tt; bodies = tt; returns = tt };
+        well_formed = record { numbers = n.there; kinds = n.reference; results = tt; params = tt; references = tt; bodies = tt; returns = tt };
         within = tt;
         follows = tt;
-        behind = refl;
+        after = refl;
         goes_on = refl;
       } in
       let whole = quiet_leaves f span p.used [] plain refl s.quiet in
@@ -226,10 +232,10 @@ module _ (f : StaticFrame) (outer : List ℕ) (p : Point) (ws : LocalKinds) (row
   assert_did subject perm o is et eq refers =
       let n = named (λ c. IsPermOn c perm) subject o is refers in
       let plain : Plain f h (assert_form o perm) = record {
-        made = record { numbers = (n.there, n.refers); kinds = n.reference; results = tt; params = tt; references = tt; bodies = tt; returns = tt };
+        well_formed = record { numbers = (n.there, n.refers); kinds = n.reference; results = tt; params = tt; references = tt; bodies = tt; returns = tt };
         within = tt;
         follows = tt;
-        behind = refl;
+        after = refl;
         goes_on = refl;
       } in
       let whole = quiet_leaves f span p.used [] plain refl s.quiet in
@@ -239,10 +245,10 @@ module _ (f : StaticFrame) (outer : List ℕ) (p : Point) (ws : LocalKinds) (row
   -- tests
   pub test_did : (subject : SeenAt) (state : StateId) (branch : Block) (other : Otherwise) (o : Operand) (x y : SilicaTerms) → IsNamed (around f p span) subject o
       → ts ≡ with_unit span (one_term (test_form o state x y (join_of branch other)) span) → q ≡ passed p → Refers f ws subject.of (λ c. state.0 < length c.states)
-      → BlockMade f h p.used x (block_ends_there branch) → BlockMade f h p.used y (other_ends_there other) → Done (resolved_test subject state branch other span)
+      → IsWellFormedBlock f h p.used x (block_ends_there branch) → IsWellFormedBlock f h p.used y (other_ends_there other) → Done (resolved_test subject state branch other span)
   test_did subject state branch other o x y is et eq refers bx by' =
       let n = named (λ c. state.0 < length c.states) subject o is refers in
-      let made : FormMade f h (test_form o state x y (join_of branch other)) = record { numbers = (n.there, n.refers); kinds = n.reference; results = tt; params = tt; references = tt; bodies = tt; returns = tt } in
+      let made : IsWellFormedForm f h (test_form o state x y (join_of branch other)) = record { numbers = (n.there, n.refers); kinds = n.reference; results = tt; params = tt; references = tt; bodies = tt; returns = tt } in
       subst (λ ts. Did f outer p q ws row (resolved_test subject state branch other span) rest ts h) (sym et)
       (did_passed s low agree b refl refl eq (unit_runs f span (test_runs f o state x y (join_of branch other) span p.used [] made bx.runs by'.runs))
       (or_false (terms_end x && terms_end y) ∙ ap (λ t. t && terms_end y) bx.ends_so ∙ ap (λ t. block_ends_there branch && t) by'.ends_so))
@@ -281,8 +287,8 @@ module _ (f : StaticFrame) (outer : List ℕ) (p : Point) (ws : LocalKinds) (row
   pub if_did : (condition : Expression) (branch : Block) (other : Otherwise) (c : Lowered) (x y : SilicaTerms) → LowersExpression (around f p span) p.used condition c
       → ts ≡ with_unit span (then_terms c.terms (then_terms (drops_of c.made span) (one_term (if_form c.operand x y (join_of branch other)) span))) → q ≡ passed p
       → IsValue f ws BoolKind condition
-      → ((g : Holdings) → Stands f p.variables p.used g → BlockMade f g p.used x (block_ends_there branch))
-      → ((g : Holdings) → Stands f p.variables p.used g → BlockMade f g p.used y (other_ends_there other)) → Done (resolved_if condition branch other span)
+      → ((g : Holdings) → Stands f p.variables p.used g → IsWellFormedBlock f g p.used x (block_ends_there branch))
+      → ((g : Holdings) → Stands f p.variables p.used g → IsWellFormedBlock f g p.used y (other_ends_there other)) → Done (resolved_if condition branch other span)
   if_did condition branch other c x y lc et eq made blocks others =
       let sx = some_so (kind_of_expression f ws condition) (λ has. IsTrue (serves_as f.table BoolKind has)) made.1 in
       let gx : Gave f h p.used c BoolKind = expression_made f p.variables ws agree span condition c p.used h BoolKind lc made.0 s (sx.1 ∙ ap Some (sym (serves_bool f.table sx.0 sx.2))) in
@@ -292,7 +298,7 @@ module _ (f : StaticFrame) (outer : List ℕ) (p : Point) (ws : LocalKinds) (row
       let bx = blocks g st in
       let by' = others g st in
       let form : SilicaForm = if_form c.operand x y (join_of branch other) in
-      let form_made : FormMade f g form = record {
+      let form_well_formed : IsWellFormedForm f g form = record {
         numbers = place_there f g c.operand.place BoolKind first.holds;
         kinds = and_so (kind_of_place f g c.operand.place) (λ k. IsTrue (serves_as f.table BoolKind k)) BoolKind first.holds refl;
         results = tt;
@@ -302,7 +308,7 @@ module _ (f : StaticFrame) (outer : List ℕ) (p : Point) (ws : LocalKinds) (row
         returns = tt;
       } in
       let whole : Runs f h (then_terms (then_terms c.terms (drops_of c.made span)) (one_term form span)) p.used [] =
-      same_runs f first.leaves (if_runs f c.operand x y (join_of branch other) span p.used [] form_made bx.runs by'.runs) in
+      same_runs f first.leaves (if_runs f c.operand x y (join_of branch other) span p.used [] form_well_formed bx.runs by'.runs) in
       let ends : terms_end (then_terms (then_terms c.terms (drops_of c.made span)) (one_term form span)) ≡ (block_ends_there branch && other_ends_there other) =
       end_then (then_terms c.terms (drops_of c.made span)) (one_term form span) ∙ ap (λ t. t || terms_end (one_term form span)) first.leaves.goes_on
       ∙ or_false (terms_end x && terms_end y) ∙ ap (λ t. t && terms_end y) bx.ends_so ∙ ap (λ t. block_ends_there branch && t) by'.ends_so in

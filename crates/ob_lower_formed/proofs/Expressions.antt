@@ -1,4 +1,4 @@
--- The terms of an expression are made as they must be.
+-- The terms of an expression are well-formed.
 use Rattle.std.proofs.Common.{◌≡◌, ℕ, ◌<◌, Bool, true, false, ◌&&◌, ◌||◌, List, [], ◌∷◌, ◌++◌, Option, Some, None, option_map, option_and_then, IfSome, IsSomeAnd, IsSome, refl, sym, ap, ◌∙◌, subst, ◌⊎◌, inl, inr, true≢false, is_some}
 use Rattle.std.specs.Prelude.{IsTrue, slice_get, if◌then◌else◌}
 use Rattle.ob_base.specs.declared.fault.Span.{Span}
@@ -20,7 +20,7 @@ use Rattle.ob_table.specs.declared.seen.Kind.TheVariants.{Int, Bool as BoolKind,
 use Rattle.ob_table.specs.declared.seen.Seen.{Seen}
 use Rattle.ob_table.specs.declared.seen.Seen.TheVariants.{This as ThisSeen, Local, Field as FieldSeen}
 use Rattle.ob_table.specs.declared.seen.SeenAt.{SeenAt}
-use Rattle.ob_table_spec.specs.WellFormed.{StaticFrame, LocalKinds, local_kind, kind_of_seen, kind_of_expression, kind_of_unary, kind_of_binary, kind_of_resolved, is_reference, is_constructor, constructor_at, serves_as, ServesAs, HasOperands, PassTo, IsCalled, IsWellFormedExpression, AreMade}
+use Rattle.ob_table_spec.specs.WellFormed.{StaticFrame, LocalKinds, local_kind, kind_of_seen, kind_of_expression, kind_of_unary, kind_of_binary, kind_of_resolved, is_reference, is_constructor, constructor_at, serves_as, ServesAs, HasOperands, PassTo, IsCalled, IsWellFormedExpression, AreWellFormedArguments}
 use Rattle.ob_silica.specs.Terms.{SilicaForm, const_form, op_form, copy_form, new_form, call_this_form, if_form, SilicaTerms, no_terms, one_term, then_terms}
 use Rattle.ob_silica.specs.declared.place.Constant.TheVariants.{Int as IntConstant, Bool as BoolConstant, Text as TextConstant}
 use Rattle.ob_silica.specs.declared.place.Operand.{Operand}
@@ -30,11 +30,11 @@ use Rattle.ob_silica.specs.declared.term.SilicaOperator.{SilicaOperator}
 use Rattle.ob_silica.specs.declared.term.SilicaOperator.TheVariants.{Unary, Binary}
 use Rattle.ob_silica_places.specs.Known.{kind_of_operator}
 use Rattle.ob_silica_formed.specs.Holdings.{SlotContent, held, Holdings, kind_of_place, kind_of_operand, slot_of_place, slot_written, kind_written, kind_of_result, after_terms, terms_end, joined}
-use Rattle.ob_silica_formed.specs.Points.{IsPlace, HasKind, HaveOperands, ArePassed}
+use Rattle.ob_silica_formed.specs.Points.{IsConstant, IsPlace, HasKind, HaveOperands, ArePassed}
 use Rattle.ob_lower_spec.specs.Points.{IsFree, Temporary, in_use, references, SlotVariable, locals_of, slot_of, place_seen, AroundExpression}
 use Rattle.ob_lower_spec.specs.ExpressionTerms.{Lowered, LoweredArguments, operand, into, LowersName, IsCall, calls_this, calls_other, copied_into, logical_into, LowersExpression, LowersArguments}
 use Rattle.ob_lower_formed.proofs.Sets.{among, free_among, among_left, among_split, apart_both, slots_made, made_append, references_append, Within, within_self, within_left, within_right, within_first, within_second}
-use Rattle.ob_lower_formed.proofs.Ways.{FormMade, after_then}
+use Rattle.ob_lower_formed.proofs.Ways.{IsWellFormedForm, after_then}
 use Rattle.ob_lower_formed.proofs.Effects.{Quiet, kept_self, after_on, set_at, held_by, either_of, Leaves, runs_of, leaves_of, none_leaves, leaves_more, then_leaves, Plain, set_leaves, set_after, if_runs}
 use Rattle.ob_lower_formed.proofs.Operands.{some_so, and_so, if_so, none_some, some_same, Stands, own_slot, stands_made, Holds, holds_on, place_there, Serving, serving_on, has_kind, Arguments, arguments_on, arguments_pass, arguments_there, Fresh, fresh_none, fresh_append, fresh_apart, Gave, into_gave, copy_plain}
 
@@ -86,7 +86,7 @@ binary_plain o = refl
 pub new_plain : {f : StaticFrame} {h : Holdings} {used : List ℕ} (k : ℕ) (contract : ContractId) (os : List Operand) (s : Signature)
     → constructor_at f.table contract ≡ Some s → Arguments f used h s.params os → f.params < k → (h k).refers ≡ false → Plain f h (new_form k contract os)
 new_plain {f} {h} {used} k contract os s there args own quiet = record {
-  made = record {
+  well_formed = record {
     numbers = (contract_there (contract_at f.table contract) there, arguments_there args);
     kinds = if_so (constructor_at f.table contract) (λ s. ArePassed f h s.params os) s there (arguments_pass args);
     results = tt;
@@ -97,7 +97,7 @@ new_plain {f} {h} {used} k contract os s there args own quiet = record {
   };
   within = tt;
   follows = tt;
-  behind = refl;
+  after = refl;
   goes_on = refl;
 }
   where
@@ -113,7 +113,7 @@ new_plain {f} {h} {used} k contract os s there args own quiet = record {
     no_interface None e = tt
     no_interface (Some c) e = by_interface c.interface (slice_get c.transactions 0) e
 
--- a call that is made as it must be
+-- a well-formed call
 pub record Called (f : StaticFrame) (h : Holdings) (k : Option ℕ) (contract : ContractId) (tx : TxId) (form : SilicaForm) : Type 0 where
   pub plain : Plain f h form
   pub slot : slot_written form ≡ k
@@ -127,7 +127,7 @@ pub call_made : {f : StaticFrame} {vs : List SlotVariable} (ws : LocalKinds) {us
 call_made {f} {vs} ws {used} {h} at agree k receiver contract tx os form s (calls_this) st sig is apart args result own quiet =
     subst (λ c. Called f h k c tx (call_this_form k tx os)) (sym is) (record {
       plain = record {
-        made = record {
+        well_formed = record {
           numbers = (ap is_some here, arguments_there args);
           kinds = if_so (signature_of f.table f.here tx) (λ s. ArePassed f h s.params os) s here (arguments_pass args);
           results = if_so (signature_of f.table f.here tx) (λ s. is_some k ≡ is_some s.result) s here result;
@@ -138,7 +138,7 @@ call_made {f} {vs} ws {used} {h} at agree k receiver contract tx os form s (call
         };
         within = tt;
         follows = tt;
-        behind = refl;
+        after = refl;
         goes_on = refl;
       };
       slot = refl;
@@ -149,7 +149,7 @@ call_made {f} {vs} ws {used} {h} at agree k receiver contract tx os form s (call
     here = ap (λ c. signature_of f.table c tx) (sym is) ∙ sig
 call_made {f} {vs} ws {used} {h} at agree k (Some receiver) contract tx os form s (calls_other {place = place} e) st sig is apart args result own quiet = record {
   plain = record {
-    made = record {
+    well_formed = record {
       numbers = (ap is_some sig, place_there f h place (Reference contract) there.is, arguments_there args);
       kinds = (there.is, if_so (signature_of f.table contract tx) (λ s. ArePassed f h s.params os) s sig (arguments_pass args));
       results = if_so (signature_of f.table contract tx) (λ s. is_some k ≡ is_some s.result) s sig result;
@@ -160,7 +160,7 @@ call_made {f} {vs} ws {used} {h} at agree k (Some receiver) contract tx os form 
     };
     within = tt;
     follows = tt;
-    behind = refl;
+    after = refl;
     goes_on = refl;
   };
   slot = refl;
@@ -246,7 +246,7 @@ module _ (f : StaticFrame) (vs : List SlotVariable) (at : Span) where
         };
       }
 
-  condition_made : {used : List ℕ} {h : Holdings} (o : Operand) (x y : SilicaTerms) (join : Span) → Holds f used h o.place BoolKind → FormMade f h (if_form o x y join)
+  condition_made : {used : List ℕ} {h : Holdings} (o : Operand) (x y : SilicaTerms) (join : Span) → Holds f used h o.place BoolKind → IsWellFormedForm f h (if_form o x y join)
   condition_made {used} {h} o x y join holds = record {
     numbers = place_there f h o.place BoolKind holds.is;
     kinds = has_kind {wanted = BoolKind} o (serving_of o.place BoolKind holds refl);
@@ -311,19 +311,19 @@ parts_leave {f} {h} {x} {y} used a b l m =
 op_plain : {f : StaticFrame} {g : Holdings} (k : ℕ) (o : SilicaOperator) (a b : Operand) (line : ℕ) → IsPlace f a.place → IsPlace f b.place → HaveOperands f g o a b
     → f.params < k → (g k).refers ≡ false → Plain f g (op_form k o a b line)
 op_plain k o a b line pa pb have own quiet = record {
-  made = record { numbers = (pa, pb); kinds = have; results = tt; params = own; references = quiet; bodies = tt; returns = tt };
+  well_formed = record { numbers = (pa, pb); kinds = have; results = tt; params = own; references = quiet; bodies = tt; returns = tt };
   within = tt;
   follows = tt;
-  behind = refl;
+  after = refl;
   goes_on = refl;
 }
 
-pub const_plain : {f : StaticFrame} {g : Holdings} (k : ℕ) (value : _) → f.params < k → (g k).refers ≡ false → Plain f g (const_form k value)
-const_plain k value own quiet = record {
-  made = record { numbers = tt; kinds = tt; results = tt; params = own; references = quiet; bodies = tt; returns = tt };
+pub const_plain : {f : StaticFrame} {g : Holdings} (k : ℕ) (value : _) → IsConstant value → f.params < k → (g k).refers ≡ false → Plain f g (const_form k value)
+const_plain k value is own quiet = record {
+  well_formed = record { numbers = tt; kinds = is; results = tt; params = own; references = quiet; bodies = tt; returns = tt };
   within = tt;
   follows = tt;
-  behind = refl;
+  after = refl;
   goes_on = refl;
 }
 
@@ -428,21 +428,21 @@ module _ (f : StaticFrame) (vs : List SlotVariable) (ws : LocalKinds) (agree : (
       (into_gave at no_terms [] (copy_form (Slot k) o) k false o.span kind s (none_leaves f h used s.quiet) (fresh_none used) apart
       (copy_plain k o kind holds.is er (own_slot s k apart) (s.quiet.by k apart refl)) refl holds.is er)
 
-  const_made : {h : Holdings} {used : List ℕ} (k : ℕ) (value : _) (l : Lowered) (span : Span) (of kind : Kind) → Stands f vs used h → IsFree k used
+  const_made : {h : Holdings} {used : List ℕ} (k : ℕ) (value : _) (l : Lowered) (span : Span) (of kind : Kind) → IsConstant value → Stands f vs used h → IsFree k used
       → l ≡ into (here f vs at) no_terms [] (const_form k value) k false span → kind_written f h (const_form k value) ≡ Some of → is_reference of ≡ false
       → Some of ≡ Some kind → Gave f h used l kind
-  const_made {h} {used} k value l span of kind s free is ek plain e =
+  const_made {h} {used} k value l span of kind ranged s free is ek plain e =
       let apart : among k used ≡ false = free_among k used free in
       gave_by l (into (here f vs at) no_terms [] (const_form k value) k false span) kind of is e
       (into_gave at no_terms [] (const_form k value) k false span of s (none_leaves f h used s.quiet) (fresh_none used) apart
-      (const_plain k value (own_slot s k apart) (s.quiet.by k apart refl)) refl ek plain)
+      (const_plain k value ranged (own_slot s k apart) (s.quiet.by k apart refl)) refl ek plain)
 
   mutual
     pub expression_made : (e : Expression) (l : Lowered) (used : List ℕ) (h : Holdings) (kind : Kind) → LowersExpression (here f vs at) used e l
         → IsWellFormedExpression f ws e → Stands f vs used h → kind_of_expression f ws e ≡ Some kind → Gave f h used l kind
-    expression_made (resolved_number z span) l used h kind (k, free, is) made s ek = const_made k (IntConstant z) l span Int kind s free is refl refl ek
-    expression_made (resolved_text z span) l used h kind (k, free, is) made s ek = const_made k (TextConstant z) l span Text kind s free is refl refl ek
-    expression_made (resolved_bool z span) l used h kind (k, free, is) made s ek = const_made k (BoolConstant z) l span BoolKind kind s free is refl refl ek
+    expression_made (resolved_number z span) l used h kind (k, free, is) made s ek = const_made k (IntConstant z) l span Int kind made s free is refl refl ek
+    expression_made (resolved_text z span) l used h kind (k, free, is) made s ek = const_made k (TextConstant z) l span Text kind made s free is refl refl ek
+    expression_made (resolved_bool z span) l used h kind (k, free, is) made s ek = const_made k (BoolConstant z) l span BoolKind kind tt s free is refl refl ek
     expression_made (resolved_seen seen span) l used h kind (of, eo, place, ep, low) made s ek =
         gave_by l l kind of refl (sym eo ∙ sym (seen_agree seen.of) ∙ ek)
         (name_made (is_reference of) of (operand place span) l s (name_holds seen.of place of s ep eo) refl low)
@@ -490,7 +490,7 @@ module _ (f : StaticFrame) (vs : List SlotVariable) (ws : LocalKinds) (agree : (
         (new_plain k contract x.operands sig.0 sig.1 gx.arguments (own_slot st k apart) (st.quiet.by k apart refl)) refl refl refl)
 
     pub arguments_made : (ps : List Param) (es : Args) (l : LoweredArguments) (used : List ℕ) (h : Holdings) → LowersArguments (here f vs at) used es l
-        → AreMade f ws es → PassTo f ws ps es → Stands f vs used h → GaveAll f h used l ps
+        → AreWellFormedArguments f ws es → PassTo f ws ps es → Stands f vs used h → GaveAll f h used l ps
     arguments_made [] no_arguments l used h is made pass s =
         subst (λ n. GaveAll f h used n []) (sym is) (record { leaves = none_leaves f h used s.quiet; fresh = fresh_none used; arguments = record { by = tt } })
     arguments_made [] (and_argument e es) l used h low made pass s = absurd pass

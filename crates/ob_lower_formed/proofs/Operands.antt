@@ -277,7 +277,7 @@ into_gave {f} {vs} {h} {used} at terms made form k b span kind s l fresh free p 
 pub copy_plain : {f : StaticFrame} {h : Holdings} (k : ℕ) (o : Operand) (kind : Kind) → kind_of_place f h o.place ≡ Some kind → is_reference kind ≡ false
     → f.params < k → (h k).refers ≡ false → Plain f h (copy_form (Slot k) o)
 copy_plain {f} {h} k o kind is plain own quiet = record {
-  made = record {
+  well_formed = record {
     numbers = (tt, place_there f h o.place kind is);
     kinds = (and_so (kind_of_place f h o.place) (λ c. is_reference c ≡ false) kind is plain, tt);
     results = tt;
@@ -288,6 +288,6 @@ copy_plain {f} {h} k o kind is plain own quiet = record {
   };
   within = tt;
   follows = tt;
-  behind = refl;
+  after = refl;
   goes_on = refl;
 }

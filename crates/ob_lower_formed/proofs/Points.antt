@@ -14,7 +14,7 @@ use Rattle.ob_lower_spec.specs.Points.{Temporary, references, SlotVariable, loca
 use Rattle.ob_lower_spec.specs.GivenTerms.{with_unit}
 use Rattle.ob_lower_spec.specs.StatementTerms.{ended_by}
 use Rattle.ob_lower_formed.proofs.Sets.{among, or_split, Within, within_self, within_on}
-use Rattle.ob_lower_formed.proofs.Ways.{FormMade, after_then, each_then, end_then, follows_then}
+use Rattle.ob_lower_formed.proofs.Ways.{IsWellFormedForm, after_then, each_then, end_then, follows_then}
 use Rattle.ob_lower_formed.proofs.Effects.{Kept, Quiet, After, kept_on, differs, if_refers, Runs, Leaves, runs_of, leaves_of, then_dropped}
 use Rattle.ob_lower_formed.proofs.Operands.{Stands, stands_on, Fields, Fresh, fresh_none}
 use Rattle.ob_lower_formed.proofs.Expressions.{nothing_within}
@@ -36,7 +36,7 @@ module _ (f : StaticFrame) where
   pub same_runs : {h : Holdings} {x y : SilicaTerms} {used left more : List ℕ} → Leaves f h x used left → Runs f (after_terms f x h) y used more
       → Runs f h (then_terms x y) used more
   same_runs {h} {x} {y} {used} {left} {more} a b = record {
-    each = each_then f FormMade x y h a.each b.each;
+    each = each_then f IsWellFormedForm x y h a.each b.each;
     follows = follows_then x y a.follows a.goes_on b.follows;
     after = λ e. subst (λ g. After used more h g) (sym (after_then f x y h))
         (after_same a.after (b.after ((or_parts (terms_end x) (terms_end y) (sym (end_then x y) ∙ e)).1)));
@@ -46,7 +46,7 @@ module _ (f : StaticFrame) where
       → Leaves f h (then_terms x y) used more
   same_leaves {h} {x} {y} a b = leaves_of f (same_runs a (runs_of f b)) (end_then x y ∙ or_from (terms_end x) (terms_end y) a.goes_on b.goes_on)
 
-  unit_made : (h : Holdings) → FormMade f h unit_form
+  unit_made : (h : Holdings) → IsWellFormedForm f h unit_form
   unit_made h = record { numbers = tt; kinds = tt; results = tt; params = tt; references = tt; bodies = tt; returns = tt }
 
   pub unit_runs : {h : Holdings} {x : SilicaTerms} {used left : List ℕ} (span : Span) → Runs f h x used left → Runs f h (with_unit span x) used left
@@ -155,7 +155,7 @@ blocked_declares {outer} {p} v b free = record {
 
 -- what a statement does
 pub record Did (f : StaticFrame) (outer : List ℕ) (p q : Point) (ws : LocalKinds) (row : List ℕ) (s : Statement) (rest : Statements) (ts : SilicaTerms) (h : Holdings) : Type 0 where
-  pub each : Each FormMade f h ts
+  pub each : Each IsWellFormedForm f h ts
   pub follows : NoneFollows ts
   pub ends : terms_end ts ≡ ends_there s
   pub kept : ends_there s ≡ false → Kept p.used h (after_terms f ts h)

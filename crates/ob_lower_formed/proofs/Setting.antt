@@ -70,7 +70,7 @@ slot_sets BoolKind k o s real own quiet = copy_sets BoolKind k o s refl own (qui
 slot_sets Text k o s real own quiet = copy_sets Text k o s refl own (quiet refl)
 slot_sets {f} {g} {used} (Reference c) k o s real own quiet = record {
   plain = record {
-    made = record {
+    well_formed = record {
       numbers = (tt, place_there f g o.place s.kind s.holds.is, real);
       kinds = (and_so (kind_of_place f g o.place) (λ d. is_reference d ≡ true) s.kind s.holds.is (serves_reference f.table c s.kind s.serves), has_kind {wanted = Reference c} o s);
       results = tt;
@@ -81,7 +81,7 @@ slot_sets {f} {g} {used} (Reference c) k o s real own quiet = record {
     };
     within = tt;
     follows = tt;
-    behind = refl;
+    after = refl;
     goes_on = refl;
   };
   slot = refl;
@@ -92,7 +92,7 @@ slot_sets {f} {g} {used} (Reference c) k o s real own quiet = record {
 reset_leaves : {f : StaticFrame} {g : Holdings} {form : SilicaForm} (span : Span) (used left : List ℕ) (k : ℕ) (of : Kind) → Sets f g of k form → g k ≡ held (Some of)
     → Quiet used left g → Leaves f g (one_term form span) used left
 reset_leaves {f} {g} {form} span used left k of s e q = record {
-  each = (s.plain.made, s.plain.within, tt);
+  each = (s.plain.well_formed, s.plain.within, tt);
   follows = ((λ t. absurd (true≢false (sym t ∙ s.plain.goes_on))), s.plain.follows, tt);
   goes_on = ap (λ b. b || false) s.plain.goes_on;
   after = subst (λ i. After used left g i) (sym (set_after f span k (Some of) s.plain s.slot s.kind)) (record {
@@ -110,7 +110,7 @@ reset_leaves {f} {g} {form} span used left k of s e q = record {
 copy_field_plain : {f : StaticFrame} {g : Holdings} {used : List ℕ} (of : Kind) (id : FieldId) (o : Operand) → kind_of_place f g (Field id) ≡ Some of → Serving f used g of o.place
     → is_reference of ≡ false → Plain f g (copy_form (Field id) o)
 copy_field_plain {f} {g} of id o e s plain = record {
-  made = record {
+  well_formed = record {
     numbers = (place_there f g (Field id) of e, place_there f g o.place s.kind s.holds.is);
     kinds = (
       and_so (kind_of_place f g o.place) (λ d. is_reference d ≡ false) s.kind s.holds.is (ap is_reference (sym (serves_plain f.table of s.kind s.serves plain)) ∙ plain),
@@ -124,7 +124,7 @@ copy_field_plain {f} {g} of id o e s plain = record {
   };
   within = tt;
   follows = tt;
-  behind = refl;
+  after = refl;
   goes_on = refl;
 }
 
@@ -134,7 +134,7 @@ field_plain Int id o e s = copy_field_plain Int id o e s refl
 field_plain BoolKind id o e s = copy_field_plain BoolKind id o e s refl
 field_plain Text id o e s = copy_field_plain Text id o e s refl
 field_plain {f} {g} (Reference c) id o e s = record {
-  made = record {
+  well_formed = record {
     numbers = (place_there f g (Field id) (Reference c) e, place_there f g o.place s.kind s.holds.is, tt);
     kinds = (
       and_so (kind_of_place f g o.place) (λ d. is_reference d ≡ true) s.kind s.holds.is (serves_reference f.table c s.kind s.serves),
@@ -148,7 +148,7 @@ field_plain {f} {g} (Reference c) id o e s = record {
   };
   within = tt;
   follows = tt;
-  behind = refl;
+  after = refl;
   goes_on = refl;
 }
 

@@ -12,7 +12,7 @@ use Rattle.ob_table_spec.specs.WellFormed.{StaticFrame, LocalKinds, local_kind, 
 use Rattle.ob_silica.specs.Terms.{SilicaForm, bad_row_form, change_form, SilicaTerms, no_terms, one_term}
 use Rattle.ob_silica.specs.declared.place.Given.{Given}
 use Rattle.ob_silica_formed.specs.Holdings.{Holdings, after_terms}
-use Rattle.ob_lower_spec.specs.Points.{Temporary, in_use, references, SlotVariable, locals_of, StagedRow, no_row, staged_row, refused_row, refused_at, place_in, given_before, made_before, Point, with_row, passed, used_at, around}
+use Rattle.ob_lower_spec.specs.Points.{Temporary, in_use, references, SlotVariable, locals_of, StagedRow, no_row, staged_row, refused_row, refused_at, span_of_terms, given_before, made_before, Point, with_row, passed, used_at, around}
 use Rattle.ob_lower_spec.specs.ExpressionTerms.{Lowered, LowersExpression}
 use Rattle.ob_lower_spec.specs.GivenTerms.{with_unit, LoweredGiven, given_from, LowersGiven, LowersFirstStage, LowersStage}
 use Rattle.ob_lower_spec.specs.StatementTerms.{ended_by}
@@ -132,10 +132,10 @@ module _ (f : StaticFrame) (outer : List ℕ) (p : Point) (ws : LocalKinds) (row
     first_did (Some at) eo er (et, eq) =
         let s : Stands f p.variables p.used h = closed_stands a (ap made_before er) in
         let plain : Plain f h bad_row_form = record {
-          made = record { numbers = tt; kinds = tt; results = tt; params = tt; references = tt; bodies = tt; returns = tt };
+          well_formed = record { numbers = tt; kinds = tt; results = tt; params = tt; references = tt; bodies = tt; returns = tt };
           within = tt;
           follows = tt;
-          behind = refl;
+          after = refl;
           goes_on = refl;
         } in
         let l = quiet_leaves f at p.used [] plain refl s.quiet in
@@ -244,11 +244,11 @@ module _ (f : StaticFrame) (outer : List ℕ) (p : Point) (ws : LocalKinds) (row
 
   -- a change of state
   pub change_did : (given : List GivenField) (x : LoweredGiven) → At f p ws row (and_statement (resolved_change state given span) rest) h
-      → LowersGiven (around f p (place_in p.row span)) (used_at p) given x
-      → ts ≡ with_unit (place_in p.row span) (ended_by (place_in p.row span) x.terms (change_form state (given_before p.row ++ x.given)) (made_before p.row ++ x.made))
+      → LowersGiven (around f p (span_of_terms p.row span)) (used_at p) given x
+      → ts ≡ with_unit (span_of_terms p.row span) (ended_by (span_of_terms p.row span) x.terms (change_form state (given_before p.row ++ x.given)) (made_before p.row ++ x.made))
       → q ≡ passed p → state.0 < length f.own.states → AreGiven f ws row given → Did f outer p q ws row (resolved_change state given span) rest ts h
   change_did given x a lx et eq there made =
-      let at : Span = place_in p.row span in
+      let at : Span = span_of_terms p.row span in
       let before : List Temporary = made_before p.row in
       let used : List ℕ = in_use before p.used in
       let gg = given_made f p.variables ws a.agree at given x used h row lx made a.stands in
@@ -258,10 +258,10 @@ module _ (f : StaticFrame) (outer : List ℕ) (p : Point) (ws : LocalKinds) (row
       let once : Once (fields_of (given_before p.row ++ x.given)) = subst Once (sym (fields_append_names (given_before p.row) x.given ∙ ap (λ l. fields_of (given_before p.row) ++ l) gg.names))
       (once_given f ws (fields_of (given_before p.row)) row given a.once (λ y e. row_apart p.row row y a.row_is e) made) in
       let plain : Plain f g form = record {
-        made = record { numbers = (there, fields_there all); kinds = (fields_served all, once_pairs (fields_of (given_before p.row ++ x.given)) once); results = tt; params = tt; references = tt; bodies = tt; returns = tt };
+        well_formed = record { numbers = (there, fields_there all); kinds = (fields_served all, once_pairs (fields_of (given_before p.row ++ x.given)) once); results = tt; params = tt; references = tt; bodies = tt; returns = tt };
         within = tt;
         follows = tt;
-        behind = refl;
+        after = refl;
         goes_on = refl;
       } in
       let first : Leaves f h x.terms p.used (references (before ++ x.made)) = subst (λ l. Leaves f h x.terms p.used l) (sym (references_append before x.made))

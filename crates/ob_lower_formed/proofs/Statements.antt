@@ -1,4 +1,4 @@
--- The terms of statements and blocks are made as they must be.
+-- The terms of statements and blocks are well-formed.
 use Rattle.std.proofs.Common.{◌≡◌, ℕ, ◌<◌, Bool, true, false, ◌||◌, List, [], Some, refl, sym, ap, ◌∙◌, subst, ◌⊎◌, inl, inr, true≢false, if◌then◌else◌}
 use Rattle.std.proofs.lemmas.Bool.{or_parts, or_left}
 use Rattle.ob_base.specs.declared.fault.Span.{Span}
@@ -10,17 +10,17 @@ use Rattle.ob_silica_formed.specs.Points.{NoneFollows}
 use Rattle.ob_lower_spec.specs.Points.{drops, references, locals_of, StagedRow, no_row, staged_row, refused_row, refused_at, made_before, Point, inside}
 use Rattle.ob_lower_spec.specs.StatementTerms.{LowersStatement, LowersStatements, LowersBlock, LowersOtherwise}
 use Rattle.ob_lower_formed.proofs.Sets.{among, by_bool, within_self}
-use Rattle.ob_lower_formed.proofs.Ways.{FormMade, after_then, each_then, end_then, follows_then}
+use Rattle.ob_lower_formed.proofs.Ways.{IsWellFormedForm, after_then, each_then, end_then, follows_then}
 use Rattle.ob_lower_formed.proofs.Effects.{After, kept_self, kept_on, Leaves, runs_of, none_leaves, then_dropped}
 use Rattle.ob_lower_formed.proofs.Operands.{none_some, Stands, own_slot, fresh_none}
 use Rattle.ob_lower_formed.proofs.Points.{Low, RowOpen, At, row_closed, closed_stands, Blocked, Did}
 use Rattle.ob_lower_formed.proofs.Setting.{declare_did, assign_did}
-use Rattle.ob_lower_formed.proofs.Ending.{BlockMade, discard_did, return_did, revert_did, disown_did, assert_did, test_did, if_did}
+use Rattle.ob_lower_formed.proofs.Ending.{IsWellFormedBlock, discard_did, return_did, revert_did, disown_did, assert_did, test_did, if_did}
 use Rattle.ob_lower_formed.proofs.Staging.{stage_did, change_did}
 
 -- what statements of a block do
 pub record AllDid (f : StaticFrame) (outer : List ℕ) (ss : Statements) (ts : SilicaTerms) (declared : List ℕ) (h : Holdings) : Type 0 where
-  pub each : Each FormMade f h ts
+  pub each : Each IsWellFormedForm f h ts
   pub follows : NoneFollows ts
   pub ends : terms_end ts ≡ one_ends_there ss
   pub after : one_ends_there ss ≡ false → After outer declared h (after_terms f ts h)
@@ -72,7 +72,7 @@ module _ (f : StaticFrame) where
   both_did {outer} {p} {q} {ws} {row} {s} {rest} {x} y declared {h} b d ly alone go (inr e) =
       let r = go (d.next e) in
       record {
-        each = each_then f FormMade x y h d.each r.each;
+        each = each_then f IsWellFormedForm x y h d.each r.each;
         follows = follows_then x y d.follows (d.ends ∙ e) r.follows;
         ends = end_then x y ∙ ap (λ t. t || terms_end y) d.ends ∙ ap (λ t. ends_there s || t) r.ends;
         after = λ z. subst (λ g. After outer declared h g) (sym (after_then f x y h)) (record {
@@ -83,16 +83,16 @@ module _ (f : StaticFrame) where
       }
 
   block_from : (g : Holdings) (used : List ℕ) (statements : Statements) (y x : SilicaTerms) (declared : List ℕ) (end : Span) → ((k : ℕ) → among k used ≡ false → f.params < k)
-      → AllDid f used statements y declared g → (c : Bool) → one_ends_there statements ≡ c → x ≡ then_terms y (if c then no_terms else drops declared end) → BlockMade f g used x (one_ends_there statements)
+      → AllDid f used statements y declared g → (c : Bool) → one_ends_there statements ≡ c → x ≡ then_terms y (if c then no_terms else drops declared end) → IsWellFormedBlock f g used x (one_ends_there statements)
   block_from g used statements y x declared end own r true e is =
-      subst (λ t. BlockMade f g used t (one_ends_there statements)) (sym (is ∙ then_none y)) (record {
+      subst (λ t. IsWellFormedBlock f g used t (one_ends_there statements)) (sym (is ∙ then_none y)) (record {
         runs = record { each = r.each; follows = r.follows; after = λ z. absurd (true≢false (sym e ∙ sym r.ends ∙ z)) };
         ends_so = r.ends;
       })
   block_from g used statements y x declared end own r false e is =
       let leaves : Leaves f g y used declared = record { each = r.each; follows = r.follows; goes_on = r.ends ∙ e; after = r.after e } in
       let whole = then_dropped f end used declared own r.apart leaves in
-      subst (λ t. BlockMade f g used t (one_ends_there statements)) (sym is) (record { runs = runs_of f whole; ends_so = whole.goes_on ∙ sym e })
+      subst (λ t. IsWellFormedBlock f g used t (one_ends_there statements)) (sym is) (record { runs = runs_of f whole; ends_so = whole.goes_on ∙ sym e })
 
   closed : {p : Point} {ws : LocalKinds} {row : List ℕ} {h : Holdings} (s : Statement) (rest : Statements) → At f p ws row (and_statement s rest) h
       → ((state : _) (at : Span) → refused_at state at (and_statement s rest) ≡ Some at) → Stands f p.variables p.used h
@@ -137,7 +137,7 @@ module _ (f : StaticFrame) where
         (both_did y declared b d ly made.1 (λ n. statements_did outer q (locals_after ws s) (rest_of_row row s) rest y declared (after_terms f x h) ly made.2 n d.blocked) (by_bool (ends_there s)))
 
     pub block_did : (p : Point) (ws : LocalKinds) (block : Block) (x : SilicaTerms) (g : Holdings) → LowersBlock f p block x → IsBlock f ws block
-        → Stands f p.variables p.used g → Low f p.variables p.used → ((n : ℕ) → local_kind ws n ≡ local_kind (locals_of p.variables) n) → BlockMade f g p.used x (block_ends_there block)
+        → Stands f p.variables p.used g → Low f p.variables p.used → ((n : ℕ) → local_kind ws n ≡ local_kind (locals_of p.variables) n) → IsWellFormedBlock f g p.used x (block_ends_there block)
     block_did p ws (resolved_block statements end) x g (y, declared, ls, et) made s low agree =
         let a : At f (inside p) ws [] statements g = record {
           stands = s;
@@ -154,7 +154,7 @@ module _ (f : StaticFrame) where
         block_from g p.used statements y x declared end (own_slot s) (statements_did p.used (inside p) ws [] statements y declared g ls made a b) (one_ends_there statements) refl et
 
     pub otherwise_did : (p : Point) (ws : LocalKinds) (other : Otherwise) (x : SilicaTerms) (g : Holdings) → LowersOtherwise f p other x → IsOtherwise f ws other
-        → Stands f p.variables p.used g → Low f p.variables p.used → ((n : ℕ) → local_kind ws n ≡ local_kind (locals_of p.variables) n) → BlockMade f g p.used x (other_ends_there other)
+        → Stands f p.variables p.used g → Low f p.variables p.used → ((n : ℕ) → local_kind ws n ≡ local_kind (locals_of p.variables) n) → IsWellFormedBlock f g p.used x (other_ends_there other)
     otherwise_did p ws no_otherwise x g is made s low agree =
-        subst (λ t. BlockMade f g p.used t false) (sym is) (record { runs = runs_of f (none_leaves f g p.used s.quiet); ends_so = refl })
+        subst (λ t. IsWellFormedBlock f g p.used t false) (sym is) (record { runs = runs_of f (none_leaves f g p.used s.quiet); ends_so = refl })
     otherwise_did p ws (otherwise_block block) x g lx made s low agree = block_did p ws block x g lx made s low agree

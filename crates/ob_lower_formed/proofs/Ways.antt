@@ -7,7 +7,7 @@ use Rattle.ob_silica_formed.specs.Holdings.{Holdings, after_form, after_terms, f
 use Rattle.ob_silica_formed.specs.Points.{NoneFollows, NamesWhatIsThere, HasKinds, TakesResult, LeavesParams, LosesNoReference, NamesBody, ReturnsResult}
 
 -- all that is asked of a form where it stands
-pub record FormMade (f : StaticFrame) (h : Holdings) (form : SilicaForm) : Type 0 where
+pub record IsWellFormedForm (f : StaticFrame) (h : Holdings) (form : SilicaForm) : Type 0 where
   pub numbers : NamesWhatIsThere f h form
   pub kinds : HasKinds f h form
   pub results : TakesResult f h form

@@ -15,7 +15,7 @@ use Rattle.ob_silica.specs.Slots.{slots_of_terms}
 use Rattle.ob_lower_spec.specs.Points.{locals_of}
 use Rattle.ob_lower_spec.specs.BodyTerms.{params_from, slots_below, beginning, ending, LowersWith}
 use Rattle.ob_lower_spec.specs.SlotNeeds.{none_staged, needs_of_statements, needs_of_body, first_past}
-use Rattle.ob_lower_functions.specs.Progress.{Stop, full, unmade, ◌>>=◌, found}
+use Rattle.ob_lower_functions.specs.Progress.{Stop, full, not_well_formed, ◌>>=◌, found}
 use Rattle.ob_lower_functions.specs.StatementCode.{block_code}
 use Rattle.ob_lower_functions.specs.BodyCode.{first_position, body_of_terms, code_with}
 use Rattle.ob_lower_functions.specs.Law.{GivesTerms, FailsWhereFull}
@@ -47,7 +47,7 @@ module _ (table : ClassTable) (own : Contract) (s : Signature) (body : ResolvedB
   with_room : (b : Bool) → nat_le (length s.params + 1) most_slots ≡ b
       → Comes (needs_of_body table own s body) (Fits table own s body)
       (if b then block_code (frame_of table body.contract own s) (resolved_block body.statements body.end) (first_position s.params)
-      >>= (λ block. Ok (body_of_terms body (length s.params) (then_terms block (ending body.statements body.end)))) else Err unmade)
+      >>= (λ block. Ok (body_of_terms body (length s.params) (then_terms block (ending body.statements body.end)))) else Err not_well_formed)
   with_room false e = tt
   with_room true e =
       let f = frame_of table body.contract own s in
@@ -71,14 +71,14 @@ module _ (table : ClassTable) (own : Contract) (s : Signature) (body : ResolvedB
 abbrev pub Answer : Option Span → (SilicaBody → Type 0) → Result SilicaBody Stop → Type 0
 Answer past L (Ok l) = L l × (past ≡ None) × (l.slots ≤ most_slots)
 Answer past L (Err (full at)) = past ≡ Some at
-Answer past L (Err unmade) = ⊤
+Answer past L (Err not_well_formed) = ⊤
 
 answered : (table : ClassTable) (own : Contract) (s : Signature) (body : ResolvedBody) (r : Result SilicaBody Stop)
     → Comes (needs_of_body table own s body) (Fits table own s body) r
     → Answer (first_past (needs_of_body table own s body)) (λ l. LowersWith table own s body l) r
 answered table own s body (Ok l) c = let x = c.1 in (x.lowers, c.0, x.few)
 answered table own s body (Err (full at)) c = c
-answered table own s body (Err unmade) c = tt
+answered table own s body (Err not_well_formed) c = tt
 
 by_signature : (table : ClassTable) (own : Contract) (body : ResolvedBody) (o : Option Signature)
     → Answer (option_and_then (λ s. first_past (needs_of_body table own s body)) o) (λ l. IsSomeAnd o (λ s. LowersWith table own s body l))

@@ -14,6 +14,6 @@ pub mod Branches
 pub mod Blocks
 pub mod Bodies
 pub mod Naming
-pub mod MadeExpressions
-pub mod MadeStatements
-pub mod MadeBodies
+pub mod WellFormedExpressions
+pub mod WellFormedStatements
+pub mod WellFormedBodies

@@ -14,7 +14,7 @@ use Rattle.ob_silica.specs.declared.place.Operand.{Operand}
 use Rattle.ob_silica.specs.declared.place.Place.{Place}
 use Rattle.ob_silica.specs.declared.place.Place.TheVariants.{Slot}
 use Rattle.ob_lower_spec.specs.Points.{AroundExpression, SlotVariable, locals_of, slot_of, place_seen}
-use Rattle.ob_lower_functions.specs.Progress.{Stop, full, unmade, ◌>>=◌, found, Slots, next_slot, Progress, into_slot}
+use Rattle.ob_lower_functions.specs.Progress.{Stop, full, not_well_formed, ◌>>=◌, found, Slots, next_slot, Progress, into_slot}
 use Rattle.ob_lower_functions.specs.ExpressionCode.{valued, value}
 use Rattle.ob_lower_functions.proofs.Places.{none_some}
 
@@ -22,13 +22,13 @@ use Rattle.ob_lower_functions.proofs.Places.{none_some}
 abbrev pub Keeps : {A : Type 0} → (A → Type 0) → Result A Stop → Type 0
 Keeps Q (Ok x) = Q x
 Keeps Q (Err (full at)) = ⊤
-Keeps Q (Err unmade) = ⊥
+Keeps Q (Err not_well_formed) = ⊥
 
 pub keeps_bind : {A B : Type 0} (Q : A → Type 0) (R : B → Type 0) (r : Result A Stop) (f : A → Result B Stop)
     → Keeps Q r → ((x : A) → Q x → Keeps R (f x)) → Keeps R (r >>= f)
 keeps_bind Q R (Ok x) f k next = next x k
 keeps_bind Q R (Err (full at)) f k next = tt
-keeps_bind Q R (Err unmade) f k next = absurd k
+keeps_bind Q R (Err not_well_formed) f k next = absurd k
 
 pub keeps_found : {A : Type 0} (o : Option A) → IsSome o → Keeps (λ x. ⊤) (found o)
 keeps_found None is = absurd (true≢false (sym is))

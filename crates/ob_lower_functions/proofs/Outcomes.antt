@@ -5,7 +5,7 @@ use Rattle.std.proofs.lemmas.Bool.{leb-true}
 use Rattle.ob_base.specs.Limits.{most_slots}
 use Rattle.ob_base.specs.declared.fault.Span.{Span}
 use Rattle.ob_lower_spec.specs.SlotNeeds.{SlotNeed, one_more, first_past}
-use Rattle.ob_lower_functions.specs.Progress.{Stop, full, unmade, ◌>>=◌, found, Slots, next_slot}
+use Rattle.ob_lower_functions.specs.Progress.{Stop, full, not_well_formed, ◌>>=◌, found, Slots, next_slot}
 
 -- the first of these, or that of the others
 abbrev or_then : Option Span → Option Span → Option Span
@@ -25,7 +25,7 @@ past_append (need ∷ rest) b = past_step need rest b (nat_le need.slots most_sl
 abbrev pub Comes : {A : Type 0} → List SlotNeed → (A → Type 0) → Result A Stop → Type 0
 Comes ns Q (Ok x) = (first_past ns ≡ None) × Q x
 Comes ns Q (Err (full at)) = first_past ns ≡ Some at
-Comes ns Q (Err unmade) = ⊤
+Comes ns Q (Err not_well_formed) = ⊤
 
 module _ {A B : Type 0} where
   pub comes_bind : (ns ms : List SlotNeed) (Q : A → Type 0) (R : B → Type 0) (r : Result A Stop) (f : A → Result B Stop)
@@ -38,9 +38,9 @@ module _ {A B : Type 0} where
       go : (r : Result B Stop) → Comes ms R r → Comes (ns ++ ms) R r
       go (Ok y) d = (first ∙ d.0, d.1)
       go (Err (full at)) d = first ∙ d
-      go (Err unmade) d = tt
+      go (Err not_well_formed) d = tt
   comes_bind ns ms Q R (Err (full at)) f c next = past_append ns ms ∙ ap (λ o. or_then o (first_past ms)) c
-  comes_bind ns ms Q R (Err unmade) f c next = tt
+  comes_bind ns ms Q R (Err not_well_formed) f c next = tt
 
   -- what follows needs no slot
   pub comes_then : (ns : List SlotNeed) (Q : A → Type 0) (R : B → Type 0) (r : Result A Stop) (f : A → Result B Stop)
@@ -74,4 +74,4 @@ comes_next place s = next_by place s (nat_le (s.top + 1) most_slots) refl
 pub comes_also : {A : Type 0} (ns : List SlotNeed) (Q R : A → Type 0) (r : Result A Stop) → Comes ns Q r → ((x : A) → Q x → R x) → Comes ns R r
 comes_also ns Q R (Ok x) c f = (c.0, f x c.1)
 comes_also ns Q R (Err (full at)) c f = c
-comes_also ns Q R (Err unmade) c f = tt
+comes_also ns Q R (Err not_well_formed) c f = tt

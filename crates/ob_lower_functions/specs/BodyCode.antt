@@ -10,7 +10,7 @@ use Rattle.ob_table_spec.specs.WellFormed.{frame_of}
 use Rattle.ob_silica.specs.Terms.{SilicaTerms, then_terms, SilicaBody}
 use Rattle.ob_silica.specs.Slots.{slots_of}
 use Rattle.ob_lower_spec.specs.BodyTerms.{params_from, ending}
-use Rattle.ob_lower_functions.specs.Progress.{Stop, unmade, ◌>>=◌, found}
+use Rattle.ob_lower_functions.specs.Progress.{Stop, not_well_formed, ◌>>=◌, found}
 use Rattle.ob_lower_functions.specs.StatementCode.{BlockPosition, none_waits, block_code}
 
 -- the position at which a body with these parameters begins
@@ -33,7 +33,7 @@ code_with table own s body =
     if nat_le (length s.params + 1) most_slots then
     block_code (frame_of table body.contract own s) (resolved_block body.statements body.end) (first_position s.params)
     >>= (λ block. Ok (body_of_terms body (length s.params) (then_terms block (ending body.statements body.end))))
-    else Err unmade
+    else Err not_well_formed
 
 -- the body of a constructor or transaction of a class table
 abbrev pub body_code : ClassTable → ResolvedBody → Result SilicaBody Stop

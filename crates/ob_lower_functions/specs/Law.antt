@@ -26,8 +26,8 @@ GivesTerms =
 -- lowering is full where slots run out
 abbrev pub FailsWhereFull : Type 0
 FailsWhereFull =
-    (table : ClassTable) (body : ResolvedBody) (place : Span) → body_code table body ≡ Err (full place)
-    → slots_run_out table body ≡ Some place
+    (table : ClassTable) (body : ResolvedBody) (span : Span) → body_code table body ≡ Err (full span)
+    → slots_run_out table body ≡ Some span
 
 -- A well-formed body has terms where `this` and the parameters have slots and slots don't run out.
 abbrev pub EachHasTerms : Type 0

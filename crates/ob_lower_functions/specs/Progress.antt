@@ -11,7 +11,7 @@ use Rattle.ob_lower_spec.specs.ExpressionTerms.{slot_operand}
 -- variable, or the value of a call, which is so in no body that is well-formed.
 pub data Stop : Type 0 where
   full : Span → Stop
-  unmade : Stop
+  not_well_formed : Stop
 
 infixl 10 ◌>>=◌
 -- what follows, unless lowering stops
@@ -21,7 +21,7 @@ abbrev pub ◌>>=◌ : {A B : Type 0} → Result A Stop → (A → Result B Stop
 
 -- what must be there
 abbrev pub found : {A : Type 0} → Option A → Result A Stop
-found None = Err unmade
+found None = Err not_well_formed
 found (Some x) = Ok x
 
 -- the slots of a statement: how many are in use, and those of its temporaries that are references, in the order made

@@ -7,7 +7,7 @@ ghost use Rattle.ob_lower_functions.specs.Law.{GivesTerms, FailsWhereFull, EachH
 /// Where taking one slot after the other gives terms for a body, these are terms that the lowering relation allows, and
 /// slots don't run out.
 pub fn slots_in_order_lower()
-    ensures gives { GivesTerms }
+    ensures terms { GivesTerms }
 {}
 
 /// Where it needs a slot past the most, the slots of the body run out, and at that place.

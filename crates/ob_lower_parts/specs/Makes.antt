@@ -1,14 +1,14 @@
 -- What lowering makes or why it stops, seen as plain data.
 use Rattle.std.specs.Prelude.{◌≡◌, ⊤, Result, Ok, Err}
 use Rattle.ob_silica.specs.Terms.{SilicaTerms}
-use Rattle.ob_lower_functions.specs.Progress.{Stop, full, unmade, Slots, Progress}
+use Rattle.ob_lower_functions.specs.Progress.{Stop, full, not_well_formed, Slots, Progress}
 use Rattle.ob_lower_parts.specs.declared.error.Stopped.{Stopped}
-use Rattle.ob_lower_parts.specs.declared.error.Stopped.TheVariants.{Full, Unmade, Memory}
+use Rattle.ob_lower_parts.specs.declared.error.Stopped.TheVariants.{Full, NotWellFormed, Memory}
 
 -- lowering stops with this error. Where memory runs out nothing is said
 abbrev pub StopsWith : {A : Type 0} → Stopped → Result A Stop → Type 0
 StopsWith (Full place) code = code ≡ Err (full place)
-StopsWith Unmade code = code ≡ Err unmade
+StopsWith NotWellFormed code = code ≡ Err not_well_formed
 StopsWith Memory code = ⊤
 
 -- what is answered, seen in this way, is what lowering gives

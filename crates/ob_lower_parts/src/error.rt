@@ -8,7 +8,7 @@ pub enum Stopped {
     /// One more slot than there are is needed here.
     Full(Span),
     /// Something isn't there that the body names, which is so in no body that is well-formed.
-    Unmade,
+    NotWellFormed,
     /// Memory ran out.
     Memory,
 }

@@ -42,10 +42,10 @@ pub fn lower_seen(
         (with_value (seen_code around.now seen span (progress out.old slots.old))) }
 {
     let Some(kind) = around.kind_of_seen(seen) else {
-        return Err(Stopped::Unmade);
+        return Err(Stopped::NotWellFormed);
     };
     let Some(place) = around.place_seen(seen) else {
-        return Err(Stopped::Unmade);
+        return Err(Stopped::NotWellFormed);
     };
     lower_name(kind, Operand { place, span }, around, out, slots)
 }
@@ -60,7 +60,7 @@ pub fn lower_receiver(
     match receiver {
         None => Ok(None),
         Some(receiver) => match around.place_seen(receiver.of) {
-            None => Err(Stopped::Unmade),
+            None => Err(Stopped::NotWellFormed),
             Some(place) => Ok(Some(Operand {
                 place,
                 span: receiver.span,

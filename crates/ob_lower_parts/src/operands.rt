@@ -31,7 +31,7 @@ pub fn valued(operand: Option<Operand>) -> Result<Operand, Stopped>
 {
     match operand {
         Some(operand) => Ok(operand),
-        None => Err(Stopped::Unmade),
+        None => Err(Stopped::NotWellFormed),
     }
 }
 

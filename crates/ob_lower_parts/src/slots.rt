@@ -34,14 +34,14 @@ impl Slots {
         }
     }
 
-    /// The next slot, which is needed at this place in the text.
+    /// The next slot, which is needed at this span.
     #[tactic(auto, using(crate::proofs::SlotsLemmas::slots))]
-    pub fn next(&mut self, place: Span) -> Result<u8, Stopped>
-        ensures slot { Makes result (λ k. (self.new, k)) (next_slot place self.old) }
+    pub fn next(&mut self, span: Span) -> Result<u8, Stopped>
+        ensures slot { Makes result (λ k. (self.new, k)) (next_slot span self.old) }
         ensures within { IfOk result (λ k. k < MOST_SLOTS) }
     {
         if self.top >= MOST_SLOTS {
-            return Err(Stopped::Full(place));
+            return Err(Stopped::Full(span));
         }
         let slot = self.top;
         self.top += 1;

@@ -84,11 +84,11 @@ refused_at state at (and_statement (resolved_change next given span) rest) =
     if nat_eq state.0 next.0 then None else Some at
 refused_at state at (and_statement s rest) = Some at
 
--- the place of the terms of a statement: with staged ones before it, that of the first of them
-abbrev pub place_in : StagedRow → Span → Span
-place_in no_row span = span
-place_in (staged_row first given made) span = first
-place_in refused_row span = span
+-- the span of the terms of a statement: with staged ones before it, that of the first of them
+abbrev pub span_of_terms : StagedRow → Span → Span
+span_of_terms no_row span = span
+span_of_terms (staged_row first given made) span = first
+span_of_terms refused_row span = span
 
 -- the fields that are given before a statement
 abbrev pub given_before : StagedRow → List Given

@@ -16,7 +16,7 @@ use Rattle.ob_table.specs.declared.seen.Seen.{Seen}
 use Rattle.ob_table_spec.specs.WellFormed.{StaticFrame, LocalKinds, kind_of_seen, kind_of_expression, is_reference, params_from, frame_of}
 use Rattle.ob_lower_spec.specs.Points.{refused_at}
 
--- a slot that is needed: how many are in use with it, and the place in the text where it is needed
+-- a slot that is needed: how many are in use with it, and the span where it is needed
 pub record SlotNeed : Type 0 where
   pub slots : ℕ
   pub span : Span

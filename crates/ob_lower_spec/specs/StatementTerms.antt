@@ -13,7 +13,7 @@ use Rattle.ob_silica.specs.declared.place.Constant.TheVariants.{Text as TextCons
 use Rattle.ob_silica.specs.declared.place.Operand.{Operand}
 use Rattle.ob_silica.specs.declared.place.Place.{Place}
 use Rattle.ob_silica.specs.declared.place.Place.TheVariants.{Slot, Field}
-use Rattle.ob_lower_spec.specs.Points.{IsFree, drops, drops_of, Temporary, locals_of, place_seen, refused_at, place_in, given_before, made_before, Point, passed, declares, used_at, inside, AroundExpression, around}
+use Rattle.ob_lower_spec.specs.Points.{IsFree, drops, drops_of, Temporary, locals_of, place_seen, refused_at, span_of_terms, given_before, made_before, Point, passed, declares, used_at, inside, AroundExpression, around}
 use Rattle.ob_lower_spec.specs.ExpressionTerms.{Lowered, LoweredCall, operand, slot_operand, kind_around, LowersExpression, LowersDiscarded}
 use Rattle.ob_lower_spec.specs.GivenTerms.{with_unit, LoweredGiven, LowersGiven, LowersStage}
 
@@ -82,8 +82,8 @@ abbrev mutual
   LowersStatement f p (resolved_stage state given span) rest ts q =
       LowersStage f p p.row (refused_at state span rest) given span ts q
   LowersStatement f p (resolved_change state given span) rest ts q =
-      (x : LoweredGiven) × LowersGiven (around f p (place_in p.row span)) (used_at p) given x
-      × (ts ≡ with_unit (place_in p.row span) (ended_by (place_in p.row span) x.terms
+      (x : LoweredGiven) × LowersGiven (around f p (span_of_terms p.row span)) (used_at p) given x
+      × (ts ≡ with_unit (span_of_terms p.row span) (ended_by (span_of_terms p.row span) x.terms
       (change_form state (given_before p.row ++ x.given)) (made_before p.row ++ x.made)))
       × (q ≡ passed p)
   LowersStatement f p (resolved_discard value span) rest ts q =

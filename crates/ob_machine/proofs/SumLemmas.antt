@@ -44,7 +44,7 @@ record Leaves (fields args : List ℤ) (start : ℤ) (more : List PlainAddend) (
   addend : PlainAddend
   there : slice_get more place ≡ Some addend
   on_line : addend.line ≡ line
-  leaves : is_int (run fields args start more (suc place)) ≡ false
+  not_int : is_int (run fields args start more (suc place)) ≡ false
   first : Each fields args start more place
 
 ok_there : (fields args : List ℤ) (start : ℤ) (more : List PlainAddend) (z : ℤ) → added fields args start more ≡ Ok z → Each fields args start more (length more) × (z ≡ run fields args start more (length more))
@@ -74,7 +74,7 @@ err_there fields args start (x ∷ more) line e =
             addend = h.addend;
             there = h.there;
             on_line = h.on_line;
-            leaves = ap is_int (run-more fields args start x more (suc h.place)) ∙ h.leaves;
+            not_int = ap is_int (run-more fields args start x more (suc h.place)) ∙ h.not_int;
             first = each-one_more fields args start x more h.place is h.first;
           }
       | inr isnt ↦
@@ -84,20 +84,20 @@ err_there fields args start (x ∷ more) line e =
             addend = x;
             there = refl;
             on_line = cc;
-            leaves = ap is_int (run-one fields args start x more) ∙ isnt;
+            not_int = ap is_int (run-one fields args start x more) ∙ isnt;
             first = λ k h. absurd (omega arith);
           }
     ]
 
 err_again : (fields args : List ℤ) (start : ℤ) (more : List PlainAddend) (line place : ℕ) (addend : PlainAddend) → slice_get more place ≡ Some addend → addend.line ≡ line → is_int (run fields args start more (suc place)) ≡ false → Each fields args start more place → added fields args start more ≡ Err (Overflow line)
-err_again fields args start [] line place addend there on_line leaves first = absurd cc
-err_again fields args start (x ∷ more) line zero addend there on_line leaves first =
+err_again fields args start [] line place addend there on_line not_int first = absurd cc
+err_again fields args start (x ∷ more) line zero addend there on_line not_int first =
     let same : x ≡ addend = cc in
-    let isnt : is_int (start +ℤ value_of fields args x.term) ≡ false = ap is_int (sym (run-one fields args start x more)) ∙ leaves in
+    let isnt : is_int (start +ℤ value_of fields args x.term) ≡ false = ap is_int (sym (run-one fields args start x more)) ∙ not_int in
     rw isnt (ap (λ (l : ℕ). Err (Overflow l)) (ap (λ (a : PlainAddend). a.line) same ∙ on_line))
-err_again fields args start (x ∷ more) line (suc place) addend there on_line leaves first =
+err_again fields args start (x ∷ more) line (suc place) addend there on_line not_int first =
     rw (each-first fields args start x more place first)
-    (err_again fields args (start +ℤ value_of fields args x.term) more line place addend there on_line (ap is_int (sym (run-more fields args start x more (suc place))) ∙ leaves) (each-rest fields args start x more place first))
+    (err_again fields args (start +ℤ value_of fields args x.term) more line place addend there on_line (ap is_int (sym (run-more fields args start x more (suc place))) ∙ not_int) (each-rest fields args start x more place first))
 
 no_fuel : (fields args : List ℤ) (start : ℤ) (more : List PlainAddend) → added fields args start more ≡ Err Fuel → ⊥
 no_fuel fields args start [] e = absurd cc
@@ -119,7 +119,7 @@ is_sum fields args sum (Err (Overflow line)) e =
       addend = h.addend;
       there = h.there;
       on_line = h.on_line;
-      leaves = rw add-one h.leaves;
+      not_int = rw add-one h.not_int;
       first = λ k less. rw add-one (h.first k less);
     }
 is_sum fields args sum (Err Fuel) e = no_fuel fields args (value_of fields args sum.first) sum.more e
@@ -128,5 +128,5 @@ is_sum fields args sum (Err Fuel) e = no_fuel fields args (value_of fields args 
 pub is_added : (fields args : List ℤ) (sum : PlainSum) (end : Result ℤ Early) → IsSum fields args sum end → sum_of fields args sum ≡ end
 is_added fields args sum (Ok z) h = ok_again fields args (value_of fields args sum.first) sum.more z (λ k less. rw add-one at (h.each k less)) h.whole
 is_added fields args sum (Err (Overflow line)) h =
-    err_again fields args (value_of fields args sum.first) sum.more line h.place h.addend h.there h.on_line (rw add-one at h.leaves) (λ k less. rw add-one at (h.first k less))
+    err_again fields args (value_of fields args sum.first) sum.more line h.place h.addend h.there h.on_line (rw add-one at h.not_int) (λ k less. rw add-one at (h.first k less))
 is_added fields args sum (Err Fuel) h = absurd h

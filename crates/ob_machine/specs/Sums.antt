@@ -31,7 +31,7 @@ pub record LeavesAt (fields args : List ℤ) (sum : PlainSum) (line : ℕ) : Typ
   pub addend : PlainAddend
   pub there : slice_get sum.more place ≡ Some addend
   pub on_line : addend.line ≡ line
-  pub leaves : is_int (prefix_sum fields args sum (place + 1)) ≡ false
+  pub not_int : is_int (prefix_sum fields args sum (place + 1)) ≡ false
   pub first : (k : ℕ) → k < place → IsTrue (is_int (prefix_sum fields args sum (k + 1)))
 
 -- what a sum comes to

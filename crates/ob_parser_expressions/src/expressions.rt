@@ -162,14 +162,14 @@ fn operation(
     ensures few { IfOk result (λ x. x.1 + 1 ≤ room) }
 {
     let (operator, sign, rest) = opens_operator(level, room, tokens)?;
-    let (right, behind, rest) = operand(alloc, level, room - 1, rest)?;
+    let (right, after, rest) = operand(alloc, level, room - 1, rest)?;
     Ok((
         Operation {
             operator,
             sign,
             right,
         },
-        behind,
+        after,
         rest,
     ))
 }
@@ -188,8 +188,8 @@ fn extended(
     ensures few { IfOk result (λ x. x.1 ≤ room) }
 {
     match operation(alloc, level, room, tokens) {
-        Ok((operation, behind, rest)) => match binary(alloc, left, operation) {
-            Ok(expr) => Ok((expr, 1 + behind, rest)),
+        Ok((operation, after, rest)) => match binary(alloc, left, operation) {
+            Ok(expr) => Ok((expr, 1 + after, rest)),
             Err(halt) => Err(halt),
         },
         Err(halt) => Err(halt),

@@ -12,8 +12,8 @@ use Rattle.ob_parser_spec.specs.Rows.{Row, ◌⨟◌, word, flag}
 use Rattle.ob_parser_spec.specs.MemberRows.{member, interface_member, title, body, of_interface, contract_kind, contract}
 use Rattle.ob_parser_spec.specs.Grammar.{HasTree}
 use Rattle.ob_resolve_spec.specs.Shape.{HasMemberShape, HasContractShape, HasShape}
-use Rattle.ob_parser_laws.proofs.TokenNames.{HaveNames, text_names, name_is_text}
-use Rattle.ob_parser_laws.proofs.RowFacts.{Says, never_says, both_say, so_says, name_says, first_says, then_says, each_says, tokens_named}
+use Rattle.ob_parser_laws.proofs.TokenValues.{AreInRange, text_in_range, name_is_text}
+use Rattle.ob_parser_laws.proofs.RowFacts.{Says, never_says, both_say, so_says, name_says, first_says, then_says, each_says, tokens_in_range}
 use Rattle.ob_parser_laws.proofs.MemberShapes.{member_says, interface_member_says}
 
 title_says : (c : Contract) → Says (title c) (IsTrue (is_text c.name))
@@ -55,6 +55,6 @@ kind_says c true is = interface_says c is c.main refl c.implements refl
 pub tree_shape : (text : List ℕ) (lexed : Lexed) (tree : List Contract) → HasTokens text lexed
     → HasTree lexed.tokens tree → HasShape tree
 tree_shape text lexed tree spelled has =
-    let named = tokens_named has.read (subst HaveNames has.all (text_names text lexed spelled)) in
+    let ranges = tokens_in_range has.read (subst AreInRange has.all (text_in_range text lexed spelled)) in
     All-from_recursion HasContractShape tree
-    ((each_says contract HasContractShape (λ c. kind_says c c.interface refl) tree).says has.read named has.spelled)
+    ((each_says contract HasContractShape (λ c. kind_says c c.interface refl) tree).says has.read ranges has.spelled)

@@ -4,7 +4,7 @@ mod BracketExprs
 mod BracketStmts
 mod BracketMembers
 pub mod BracketContracts
-mod TokenNames
+mod TokenValues
 mod RowFacts
 mod ExprShapes
 mod StmtShapes

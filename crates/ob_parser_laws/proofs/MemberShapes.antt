@@ -4,11 +4,9 @@ use Rattle.std.specs.List.{AllByRecursion}
 use Rattle.std.proofs.lemmas.List.Elements.{All-from_recursion}
 use Rattle.ob_base.specs.Names.{is_name}
 use Rattle.ob_tree.specs.Members.{Field, Listed, Member, state_member, field_member, constructor_member, transaction_member}
-use Rattle.ob_tree.specs.Stmts.{Block}
-use Rattle.ob_parser_spec.specs.StmtRows.{block}
 use Rattle.ob_parser_spec.specs.MemberRows.{field, fields_of_state, privacy, member, interface_member}
-use Rattle.ob_resolve_spec.specs.Shape.{HasBlockShape, HasMemberShape}
-use Rattle.ob_parser_laws.proofs.StmtShapes.{block_tells}
+use Rattle.ob_resolve_spec.specs.Shape.{HasMemberShape}
+use Rattle.ob_parser_laws.proofs.StmtShapes.{block_says}
 use Rattle.ob_parser_laws.proofs.RowFacts.{Says, never_says, holds, both_say, so_says, name_says, first_says, then_says, spanning_says, each_says}
 
 -- the name of a field is one
@@ -26,10 +24,6 @@ privacy_says : (private : Bool) (lists : List Listed) → Says (privacy private 
 privacy_says false [] = holds (λ e. refl)
 privacy_says false (l ∷ ls) = never_says
 privacy_says true lists = holds (λ e. absurd cc)
-
--- the operators of a block
-block_says : (b : Block) → Says (block b) (HasBlockShape b)
-block_says b = record { says = λ read names is. block_tells b read is }
 
 pub member_says : (m : Member) → Says (member m) (HasMemberShape false m)
 member_says (state_member part fields span) =

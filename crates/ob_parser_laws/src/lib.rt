@@ -12,9 +12,9 @@ ghost use Rattle.ob_resolve_spec.specs.Generics.{HasNoGenerics};
 ghost use Rattle.ob_resolve_spec.specs.Shape.{HasShape};
 ghost use Rattle.ob_parser_laws.specs.Brackets.{brackets};
 
-/// The tree that the tokens of a text spell has the shape of a program: its names are names, its operators have as many
-/// operands as they need, only private transactions list fields, and an interface isn't main, implements nothing, and
-/// has states and heads alone.
+/// The tree that the tokens of a text spell has the shape of a program: its names are names, its numbers are of 64
+/// bits, its strings are texts of at most 1,024 bytes, its operators have as many operands as they need, only private
+/// transactions list fields, and an interface isn't main, implements nothing, and has states and heads alone.
 pub fn parsed_trees_have_shape()
     ensures { (text : List ℕ) (lexed : Lexed) (tree : List Contract) → HasTokens text lexed → HasTree lexed.tokens tree
         → HasShape tree }

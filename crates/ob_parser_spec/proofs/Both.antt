@@ -64,11 +64,11 @@ first_kept (l ∷ ls) new rest e = refl
 
 -- ---- answers
 
-answered-behind : {A B : Type 0} (room : ℕ) (second : A → B → Row) (q : A → Reader B) (x : A) (y : B) (front back d : List Loaded) (rest : List Token) → deep_part room front ≡ d →
+answered-after : {A B : Type 0} (room : ℕ) (second : A → B → Row) (q : A → Reader B) (x : A) (y : B) (front back d : List Loaded) (rest : List Token) → deep_part room front ≡ d →
     q x (tokens_of back ++ rest) ≡ answered y (deep_part room back) rest → (answered x d (tokens_of back ++ rest) >>= and_after q) ≡ answered (x, y) (deep_part room (front ++ back)) rest
-answered-behind room second q x y front back [] rest e is =
+answered-after room second q x y front back [] rest e is =
     ap (λ r. r >>= (λ z l. done (x, z) l)) is ∙ answered-map (λ z. (x, z)) y (deep_part room back) rest ∙ ap (λ d. answered (x, y) d rest) (sym (deep-none room front back e))
-answered-behind room second q x y front back (l ∷ ls) rest e is =
+answered-after room second q x y front back (l ∷ ls) rest e is =
     ap (λ ts. deep ts) (sym (tokens-append (l ∷ ls) back rest)) ∙ ap (λ d. answered (x, y) d rest) (sym (deep-some room front back l ls e))
 
 module _ {A B : Type 0} (room : ℕ) (first : A → Row) (second : A → B → Row) (p : Reader A) (q : A → Reader B) (first_p more_p first_q more_q : List ℕ) (null_p null_q : Bool)
@@ -82,7 +82,7 @@ module _ {A B : Type 0} (room : ℕ) (first : A → Row) (second : A → B → R
       let before : p (tokens_of front ++ (tokens_of back ++ rest)) ≡ answered pair.0 (deep_part room front) (tokens_of back ++ rest) = a.full pair.0 front (tokens_of back ++ rest) is.3 onward in
       let after : q pair.0 (tokens_of back ++ rest) ≡ answered pair.1 (deep_part room back) rest = (b pair.0).full pair.1 back rest is.4 (ends_after more_p more_q null_q rest ends) in
       let split : tokens_of read ++ rest ≡ tokens_of front ++ (tokens_of back ++ rest) = ap (λ r. tokens_of r ++ rest) is.2 ∙ tokens-append front back rest in
-      let whole = answered-behind room second q pair.0 pair.1 front back (deep_part room front) rest refl after in
+      let whole = answered-after room second q pair.0 pair.1 front back (deep_part room front) rest refl after in
       ap (read_then p q) split ∙ ap (λ r. r >>= and_after q) before ∙ whole ∙ ap (λ r. answered pair (deep_part room r) rest) (sym is.2)
 
   sound_at : (ts : List Token) (x : A) (mid : List Token) (y : B) (rest : List Token) → Sound room first p ts x mid → Sound room (second x) (q x) mid y rest →

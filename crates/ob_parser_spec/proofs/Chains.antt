@@ -88,9 +88,9 @@ module _ (row : ℕ) (operator : Token → Option (Operator × Span)) (operates 
       let under : back ≡ loaded_at (c.1 + 1) t ∷ map (raise (c.1 + 1)) low = is'.2 ∙ ap (λ f. f ++ is'.1) begun ∙ ap (λ b. loaded_at (c.1 + 1) t ∷ b) is'.4.1 in
       let none : c.1 + 1 ≡ c.1 + 1 + 0 = omega arith in
       let raised' : back ≡ map (raise (c.1 + 1)) (free t ∷ low) = under ∙ ap (λ k. loaded_at k t ∷ map (raise (c.1 + 1)) low) none in
-      let behind = raises (c.1 + 1) (span_of_expr x.1.0) low is'.4.2.0 in
+      let after = raises (c.1 + 1) (span_of_expr x.1.0) low is'.4.2.0 in
       let cov : Covers (joined (span_of_expr c.0) (span_of_expr x.1.0)) (front ++ back) =
-      rw under (around_token (span_of_expr c.0) (span_of_expr x.1.0) front (map (raise (c.1 + 1)) low) (loaded_at (c.1 + 1) t) is.0 behind) in
+      rw under (around_token (span_of_expr c.0) (span_of_expr x.1.0) front (map (raise (c.1 + 1)) low) (loaded_at (c.1 + 1) t) is.0 after) in
       let right : placed (suc (level_of x.0.0)) x.1.0 (spelled x.1.0) x.1.1 low = rw op.1 is'.4.2 in
       let sign : token_at (kind.Sign (sign_of_operator x.0.0)) x.0.1 (free t ∷ []) = ap (λ u. free u ∷ []) op.0 in
       let first : placed (left_span x.0.0) c.0 (spelled c.0) c.1 front = rw same is in
@@ -129,10 +129,10 @@ module _ (row : ℕ) (operator : Token → Option (Operator × Span)) (operates 
     back : List Loaded
     parts : read ≡ front ++ back
     operand : at_level (suc row) first front
-    behind : steps first.1 others back
+    after : steps first.1 others back
 
   alone : (c : Counted) (read : List Loaded) → at_level (suc row) c read → Apart c read
-  alone c read is = record { first = c; others = []; is = refl; front = read; back = []; parts = sym (append-nil read); operand = is; behind = refl }
+  alone c read is = record { first = c; others = []; is = refl; front = read; back = []; parts = sym (append-nil read); operand = is; after = refl }
 
   up_to : (n : ℕ) → 7 ≤ n → IsTrue (nat_le (suc row) n)
   up_to n many = le-leb (suc row) n (omega (arith, few, many))
@@ -179,7 +179,7 @@ module _ (row : ℕ) (operator : Token → Option (Operator × Span)) (operates 
         back = a.back ++ back;
         parts = parts ∙ ap (λ f. f ++ back) a.parts ∙ append_assoc a.front a.back back;
         operand = a.operand;
-        behind = steps_snoc a.first a.others x a.back back a.behind (subst (λ (c : Counted). step c.1 x back) a.is is);
+        after = steps_snoc a.first a.others x a.back back a.after (subst (λ (c : Counted). step c.1 x back) a.is is);
       }
 
   apart : ((o : Operator) → level_of o ≡ row → left_span o ≡ row) → (e : Expr) (n : ℕ) (read : List Loaded) → at_level row (e, n) read → Apart (e, n) read
@@ -217,10 +217,10 @@ module _ (row : ℕ) (operator : Token → Option (Operator × Span)) (operates 
     back : List Loaded
     parts : read ≡ front ++ back
     operand : at_level (suc row) first front
-    behind : maybe (step first.1) other back
+    after : maybe (step first.1) other back
 
   whole : (c : Counted) (read : List Loaded) → at_level (suc row) c read → Split c read
-  whole c read is = record { first = c; other = None; is = refl; front = read; back = []; parts = sym (append-nil read); operand = is; behind = refl }
+  whole c read is = record { first = c; other = None; is = refl; front = read; back = []; parts = sym (append-nil read); operand = is; after = refl }
 
   high_whole : (e : Expr) (n : ℕ) (read : List Loaded) → 7 ≤ level e → at_level row (e, n) read → Split (e, n) read
   high_whole e n read many (cov, inl is) = whole (e, n) read (cov, inl (up_to (level e) many, is.1))
@@ -228,8 +228,8 @@ module _ (row : ℕ) (operator : Token → Option (Operator × Span)) (operates 
 
   more_split : (o : Operator) (place : Span) (left right : Expr) (span : Span) (before after n : ℕ) (read front back : List Loaded) → n ≡ before + 1 + after → read ≡ front ++ back →
       Covers span read → at_level (suc row) (left, before) front → step before ((o, place), (right, after)) back → Split (binary_expr o place left right span, n) read
-  more_split o place left right span before after n read front back count parts cov is behind =
-      let joint : Covers (joined (span_of_expr left) (span_of_expr right)) read = rw parts (span_with o place left right before after front back is.0 behind) in
+  more_split o place left right span before after n read front back count parts cov is next =
+      let joint : Covers (joined (span_of_expr left) (span_of_expr right)) read = rw parts (span_with o place left right before after front back is.0 next) in
       let same : span ≡ joined (span_of_expr left) (span_of_expr right) = one_span span (joined (span_of_expr left) (span_of_expr right)) read cov joint in
       record {
         first = (left, before);
@@ -239,7 +239,7 @@ module _ (row : ℕ) (operator : Token → Option (Operator × Span)) (operates 
         back = back;
         parts = parts;
         operand = is;
-        behind = behind;
+        after = next;
       }
 
   split : ((o : Operator) → level_of o ≡ row → left_span o ≡ suc row) → (e : Expr) (n : ℕ) (read : List Loaded) → at_level row (e, n) read → Split (e, n) read
@@ -274,7 +274,7 @@ module _ (row : ℕ) (operator : Token → Option (Operator × Span)) (operates 
       steps_makes : Makes steps_of (then (at_level (suc row)) (λ c. steps c.1)) (at_level row)
       steps_makes = record {
         to = λ parts read is. rw is.2 (chained assoc parts.0 parts.1 is.0 is.1 (lower row parts.0 is.0 is.3) is.4);
-        from = λ c read is. let p = apart assoc c.0 c.1 read is in ((p.first, p.others), p.is, (p.front, p.back, p.parts, p.operand, p.behind));
+        from = λ c read is. let p = apart assoc c.0 c.1 read is in ((p.first, p.others), p.is, (p.front, p.back, p.parts, p.operand, p.after));
       }
 
       pub chain_laws : Laws room (at_level row) (read_chain kinds operator next room) first (more ++ kinds) false
@@ -289,7 +289,7 @@ module _ (row : ℕ) (operator : Token → Option (Operator × Span)) (operates 
       maybe_makes : Makes maybe_of (then (at_level (suc row)) (λ c. maybe (step c.1))) (at_level row)
       maybe_makes = record {
         to = λ parts read is. rw is.2 (maybe_stepped single parts.0 parts.1 is.0 is.1 is.3 is.4);
-        from = λ c read is. let p = split single c.0 c.1 read is in ((p.first, p.other), p.is, (p.front, p.back, p.parts, p.operand, p.behind));
+        from = λ c read is. let p = split single c.0 c.1 read is in ((p.first, p.other), p.is, (p.front, p.back, p.parts, p.operand, p.after));
       }
 
       pub single_laws : Laws room (at_level row) (read_single kinds operator next room) first (more ++ kinds) false

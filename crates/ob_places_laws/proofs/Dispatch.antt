@@ -321,7 +321,7 @@ mode_same p q e = at p.mode p.states q.mode q.states e
 pub transaction_as_came : (table : ClassTable) (c : Contract) (s : Signature) → IsTransaction table c s
     → owns (permission_of s.entry) ≡ false
     → permission_of s.exit ≡ permission_of s.entry
-transaction_as_came table c s is e = leaves_as_came s.entry s.exit is.leaves e
+transaction_as_came table c s is e = leaves_as_came s.entry s.exit is.exit_may_follow e
 
 -- what is asked of an argument, as a parameter
 as_parameter : ResolvedType × Perm → Parameter

@@ -33,7 +33,7 @@ pub this_is_parameter : (table : ClassTable) (id : ContractId) (c : Contract) (s
     → IsTransaction table c s → IsParameter table (this_parameter id s)
 this_is_parameter table id c s e is = record {
   kind = there_from (contract_at table id) (λ x. IsPermOn x s.entry) c e is.signature.entry;
-  exit = (there_from (contract_at table id) (λ x. IsPermOn x s.exit) c e is.signature.exit, is.leaves);
+  exit = (there_from (contract_at table id) (λ x. IsPermOn x s.exit) c e is.signature.exit, is.exit_may_follow);
 }
 
 pub all_are : (table : ClassTable) (id : ContractId) (c : Contract) (s : Signature) → contract_at table id ≡ Some c

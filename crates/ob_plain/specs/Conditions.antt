@@ -48,8 +48,8 @@ are_starts [] (s ∷ starts) = false
 are_starts (f ∷ fields) [] = false
 are_starts (f ∷ fields) (s ∷ starts) = bytes_eq f s.field && are_starts fields starts
 
--- At most 64 fields and 256 transactions, each with distinct names; the constructor has the contract's name and assigns the
--- fields in order; and each transaction meets its own conditions.
+-- At most `most_fields` fields and `most_transactions` transactions, each with distinct names; the constructor has the
+-- contract's name and assigns the fields in order; and each transaction meets its own conditions.
 abbrev pub meets_conditions : ProgramTree → Bool
 meets_conditions p =
     bytes_eq p.constructor p.name && nat_le (length p.fields) most_fields && are_distinct p.fields && are_starts p.fields p.starts

@@ -1,7 +1,7 @@
 -- The bodies of a program without faults are well-formed.
 use Rattle.std.proofs.Common.{◌≡◌, ℕ, suc, ◌+◌, ◌<◌, ◌≤◌, Bool, true, false, List, [], ◌∷◌, ◌++◌, map, length, Option, Some, None, refl, sym, ap, subst, arith, ◌∙◌, cond, append_assoc, length-append}
 use Rattle.std.proofs.lemmas.List.{map-append, length-map}
-use Rattle.std.specs.Prelude.{option_map, slice_get, unwrap_or, is_some, IsSome, if◌then◌else◌}
+use Rattle.std.specs.Prelude.{option_map, slice_get, unwrap_or, is_some, IsSome, IfSome, if◌then◌else◌}
 use Rattle.std.specs.Option.{option_map_or}
 use Rattle.std.specs.List.{flat_map, range_with_len}
 use Rattle.std.proofs.lemmas.List.Elements.{recursion_from_All}
@@ -29,7 +29,7 @@ use Rattle.ob_resolve_spec.specs.MemberSites.{around, formals_sites, listed_site
 use Rattle.ob_resolve_spec.specs.Bodies.{resolved_local, resolved_stmts}
 use Rattle.ob_resolve_spec.specs.Numbers.{contract_id}
 use Rattle.ob_resolve_spec.specs.TableOf.{param_in_table, transaction_in_table, constructor_in_table, signatures_of, contract_in_table, body_with, constructor_body, transaction_bodies, bodies_of, table_of}
-use Rattle.ob_resolve_spec.specs.Shape.{HasMemberShape, HasContractShape}
+use Rattle.ob_resolve_spec.specs.Shape.{HasBlockShape, HaveStmtShapes, HasMemberShape, HasContractShape}
 use Rattle.ob_table_spec.specs.WellFormed.{kind_of_resolved, one_ends_there, params_from, frame_of, AreStatements, IsWellFormed, place_of_body, places_from, HasBodies}
 use Rattle.ob_resolve_laws.proofs.Each.{Each, each_left, each_right, each_both, each_weaker, each_of_flat_map, each_flat_map, each_filter, each_of_both, each_at}
 use Rattle.ob_resolve_laws.proofs.Clean.{Clean}
@@ -112,12 +112,12 @@ pub record BodyFact (program : Program) (own : Contract) (w : World program own)
 
 one_body : (program : Program) (clear : Clear program) (own : Contract) (w : World program own) (s : Signature)
     (k : InferredKind) (formals : List Formal) (statements : Stmts) (end : Span)
-    → Each (λ p. KnownType program p.of) (params_of formals)
+    → HaveStmtShapes statements → Each (λ p. KnownType program p.of) (params_of formals)
     → s.params ≡ map (param_in_table program) (params_of formals) → IsKnownKind program k
     → option_map kind_of_resolved s.result ≡ as_local k
     → Each Clean (body_of_params_sites program own k formals (block_with statements end))
     → BodyFact program own w s k formals statements
-one_body program clear own w s k formals statements end params e known there c =
+one_body program clear own w s k formals statements end shape params e known there c =
     let A = around program own k in
     let S = scope_of_params program formals in
     let h : Here = record {
@@ -132,7 +132,7 @@ one_body program clear own w s k formals statements end params e known there c =
     let good = subst (λ (ps : List TableParam). GoodScope program (length ps) S) (sym e)
     (params_scope program formals params) in
     let sites = stmts_sites A S [] false statements in
-    let f = body_fact h q S statements good (each_left Clean sites _ c) in
+    let f = body_fact h q S statements shape good (each_left Clean sites _ c) in
     let numbered = params_numbered program [] (params_of formals) 1 (omega arith) params ∙ ap (params_from 1) (sym e) in
     record {
       made = subst (λ ls. AreStatements (frame_of (table_of program) (record { 0 = w.number })
@@ -178,6 +178,7 @@ pub record BodySites (program : Program) (own : Contract) (t : Transaction) : Ty
   pub body : Each Clean (option_map_or (body_of_params_sites program own (kind_of_result program t.result) t.params)
       t.body [])
   pub whole : own.interface ≡ false → IsSome t.body
+  pub shape : IfSome t.body HasBlockShape
 
 body_sites_of_member : (program : Program) (own : Contract) (m : Member) → HasMemberShape own.interface m
     → Each Clean (member_sites program own m) → Each (BodySites program own) (transactions_of_member m)
@@ -195,6 +196,7 @@ body_sites_of_member program own (transaction_member private listed name params 
         result = each_right Clean (L ++ F) R lfr;
         body = each_right Clean (L ++ F ++ R) B h;
         whole = shape.whole;
+        shape = shape.operators;
       },
       tt,
     )
@@ -237,6 +239,7 @@ transaction_made program clear own w t k (Some (block_with statements end)) e is
       well_formed_at program own w (k + 1) s (kind_of_result program t.result) t.params (block_with statements end) is
           (after program own k t is at) statements end refl
           (one_body program clear own w s (kind_of_result program t.result) t.params statements end
+          (subst (λ o. IfSome o HasBlockShape) e sites.shape)
           (params_known program own false t.params sites.formals) refl r.kind r.in_table_as c),
       tt,
     )
@@ -255,32 +258,33 @@ transactions_made program clear own w before (t ∷ ts) is e h =
 
 -- Constructors.
 
-abbrev MadeConstructor : Program → Contract → Constructor → Type 0
-MadeConstructor program own m =
+abbrev CleanConstructor : Program → Contract → Constructor → Type 0
+CleanConstructor program own m =
     Each Clean (formals_sites program own true m.params)
-    × Each Clean (body_of_params_sites program own nothing m.params m.body)
+    × Each Clean (body_of_params_sites program own nothing m.params m.body) × HasBlockShape m.body
 
 constructors_of_member_made : (program : Program) (own : Contract) (m : Member) → HasMemberShape own.interface m
-    → Each Clean (member_sites program own m) → Each (MadeConstructor program own) (constructors_of_member m)
+    → Each Clean (member_sites program own m) → Each (CleanConstructor program own) (constructors_of_member m)
 constructors_of_member_made program own (state_member name fields span) shape h = tt
 constructors_of_member_made program own (field_member field) shape h = tt
 constructors_of_member_made program own (constructor_member of perm params body span) shape h =
     let P = perm_sites own perm in
     let F = formals_sites program own true params in
     let B = body_of_params_sites program own nothing params body in
-    ((each_right Clean P F (each_left Clean (P ++ F) B h.1.1), each_right Clean (P ++ F) B h.1.1), tt)
+    ((each_right Clean P F (each_left Clean (P ++ F) B h.1.1), each_right Clean (P ++ F) B h.1.1, shape.1), tt)
 constructors_of_member_made program own (transaction_member private listed name params result body span) shape h = tt
 
 constructor_made : (program : Program) (clear : Clear program) (own : Contract) (w : World program own)
     (m : Constructor) (b : Block) → m.body ≡ b → own.interface ≡ false → constructor_of own ≡ m
-    → MadeConstructor program own m
+    → CleanConstructor program own m
     → IsWellFormed (table_of program) (body_with program own 0 nothing m.params b)
 constructor_made program clear own w m (block_with statements end) e is made h =
     let s = constructor_in_table program own m in
     let at : slice_get (signatures_of program own) 0 ≡ Some s = rw (is, made) refl in
     let c = subst (λ b. Each Clean (body_of_params_sites program own nothing m.params b)) e h.1 in
     well_formed_at program own w 0 s nothing m.params (block_with statements end) is at statements end refl
-    (one_body program clear own w s nothing m.params statements end (params_known program own true m.params h.0)
+    (one_body program clear own w s nothing m.params statements end (subst HasBlockShape e h.2)
+    (params_known program own true m.params h.0)
     refl tt refl c)
 
 default_made : (program : Program) (own : Contract) (w : World program own) → own.interface ≡ false
@@ -293,7 +297,7 @@ default_made program own w is made =
     (record { made = tt; ends = λ h. absurd (cc) })
 
 first_made : (program : Program) (clear : Clear program) (own : Contract) (w : World program own)
-    (ms : List Constructor) → constructors_of own ≡ ms → own.interface ≡ false → Each (MadeConstructor program own) ms
+    (ms : List Constructor) → constructors_of own ≡ ms → own.interface ≡ false → Each (CleanConstructor program own) ms
     → IsWellFormed (table_of program) (constructor_body program own (constructor_of own))
 first_made program clear own w [] e is h =
     let d : constructor_of own ≡ default_constructor own =
@@ -312,7 +316,7 @@ bodies_made : (program : Program) (clear : Clear program) (own : Contract) (w : 
     → Each (IsWellFormed (table_of program)) (bodies_of program own)
 bodies_made program clear own w shape h = at own.interface refl
   where
-    constructors : Each (MadeConstructor program own) (constructors_of own)
+    constructors : Each (CleanConstructor program own) (constructors_of own)
     constructors =
         each_filter _ (λ m. same own.name (part_of_named m.of).name) (constructor_forms own)
         (each_flat_map _ constructors_of_member own.members

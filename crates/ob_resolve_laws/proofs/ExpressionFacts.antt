@@ -27,8 +27,9 @@ use Rattle.ob_resolve_spec.specs.ExpressionSites.{needs, operand_sites, referenc
 use Rattle.ob_resolve_spec.specs.Numbers.{contract_id}
 use Rattle.ob_resolve_spec.specs.Bodies.{resolved_local, seen_at, resolved_receiver, kind_of_receiver, id_of_kind, resolved_expr, resolved_call_at, resolved_args}
 use Rattle.ob_resolve_spec.specs.Operators.{unary_operator, resolved_between}
+use Rattle.ob_resolve_spec.specs.Shape.{HasExprShape, HasCallShape, HaveExprShapes}
 use Rattle.ob_resolve_spec.specs.TableOf.{param_in_table, transaction_in_table, constructor_in_table, table_of}
-use Rattle.ob_table_spec.specs.WellFormed.{StaticFrame, LocalKinds, kind_of_unary as unary_there, kind_of_seen, kind_of_expression, serves_as, ServesAs, is_reference, PassTo, IsCalled, constructor_at, IsWellFormedExpression, AreMade, IsValue, kind_of_resolved}
+use Rattle.ob_table_spec.specs.WellFormed.{StaticFrame, LocalKinds, kind_of_unary as unary_there, kind_of_seen, kind_of_expression, serves_as, ServesAs, is_reference, PassTo, IsCalled, constructor_at, IsWellFormedExpression, AreWellFormedArguments, IsValue, kind_of_resolved}
 use Rattle.ob_resolve_laws.proofs.Each.{Each, each_left, each_right, each_at}
 use Rattle.ob_resolve_laws.proofs.Clean.{Clean}
 use Rattle.ob_resolve_laws.proofs.LookUps.{some_value}
@@ -64,7 +65,7 @@ ArgsFact h s no_exprs = Unit {0}
 ArgsFact h s (and_expr e es) = ExprFact h s e × ArgsFact h s es
 
 pub args_made : (h : Here) (s : Scope) (es : Exprs) → ArgsFact h s es
-    → AreMade (frame h) (by_number s.variables) (resolved_args h.around s es)
+    → AreWellFormedArguments (frame h) (by_number s.variables) (resolved_args h.around s es)
 args_made h s no_exprs f = tt
 args_made h s (and_expr e es) f = (f.0.made, args_made h s es f.1)
 
@@ -363,12 +364,12 @@ from_call : (h : Here) (s : Scope) (c : Call) (span : Span) → CallFact h s c s
 from_call h s c span f = record { made = f.made; known = f.known; there = f.there }
 
 mutual
-  pub expr_fact : (h : Here) (s : Scope) (e : Expr) → GoodScope (program h) h.params s
+  pub expr_fact : (h : Here) (s : Scope) (e : Expr) → HasExprShape e → GoodScope (program h) h.params s
       → Each Clean (expr_sites h.around s e) → ExprFact h s e
-  expr_fact h s (number_expr value span) g c = record { made = tt; known = tt; there = refl }
-  expr_fact h s (text_expr value span) g c = record { made = tt; known = tt; there = refl }
-  expr_fact h s (bool_expr value span) g c = record { made = tt; known = tt; there = refl }
-  expr_fact h s (name_expr name span) g c =
+  expr_fact h s (number_expr value span) shape g c = record { made = shape; known = tt; there = refl }
+  expr_fact h s (text_expr value span) shape g c = record { made = shape; known = tt; there = refl }
+  expr_fact h s (bool_expr value span) shape g c = record { made = tt; known = tt; there = refl }
+  expr_fact h s (name_expr name span) shape g c =
       let k = name_known h.around h.world s h.world.number h.params h.result name.name g
       (name_means a_variable (visible_at h.around s) name c.0) in
       record {
@@ -378,7 +379,7 @@ mutual
         there = k.seen
             ∙ sym (value_as_local (program h) (kind_of_variable h.around s name.name) k.kind);
       }
-  expr_fact h s (this_expr token span) g c =
+  expr_fact h s (this_expr token span) shape g c =
       let k = this_known h.around h.world in
       record {
         made = refl;
@@ -386,8 +387,8 @@ mutual
         there =
             ap as_local (sym k);
       }
-  expr_fact h s (unary_expr operator sign operand span) g c =
-      let f = expr_fact h s operand g c.1 in
+  expr_fact h s (unary_expr operator sign operand span) shape g c =
+      let f = expr_fact h s operand shape.0 g c.1 in
       record {
         made = (
           f.made,
@@ -399,47 +400,47 @@ mutual
         there = ap Some (sym (unary_same operator))
             ∙ sym (value_as_local (program h) (kind_of_unary operator) (unary_value (program h) operator));
       }
-  expr_fact h s (binary_expr operator sign left right span) g c =
+  expr_fact h s (binary_expr operator sign left right span) shape g c =
       let O = operand_sites h.around s operator left right in
       let L = expr_sites h.around s left in
       let R = expr_sites h.around s right in
       let both = each_left Clean (O ++ L) R c in
-      let l = expr_fact h s left g (each_right Clean O L both) in
-      let r = expr_fact h s right g (each_right Clean (O ++ L) R c) in
+      let l = expr_fact h s left shape.0 g (each_right Clean O L both) in
+      let r = expr_fact h s right shape.1 g (each_right Clean (O ++ L) R c) in
       record {
         made = between_made h s operator sign left right span l r (each_left Clean O L both);
         known = known_value (program h) (kind_of_binary operator) (binary_value (program h) operator);
         there = between_same (frame h) (by_number s.variables) operator sign (resolved_expr h.around s left)
             (resolved_expr h.around s right) span;
       }
-  expr_fact h s (call_expr call span) g c = from_call h s call span (call_is h s call span g c)
-  expr_fact h s (new_expr of args span) g c =
+  expr_fact h s (call_expr call span) shape g c = from_call h s call span (call_is h s call span shape g c)
+  expr_fact h s (new_expr of args span) shape g c =
       let P = passing_sites h.around s (part_of_named of).span
       (option_map (λ constructor. constructor.params) (constructed (program h) of)) args in
-      new_fact h s of args span c.0 (args_facts h s args g (each_right Clean P (args_sites h.around s args) c.1))
+      new_fact h s of args span c.0 (args_facts h s args shape g (each_right Clean P (args_sites h.around s args) c.1))
       (each_left Clean P (args_sites h.around s args) c.1)
 
-  call_is : (h : Here) (s : Scope) (call : Call) (span : Span) → GoodScope (program h) h.params s
+  call_is : (h : Here) (s : Scope) (call : Call) (span : Span) → HasCallShape call → GoodScope (program h) h.params s
       → Each Clean (call_sites h.around s call) → CallFact h s call span
-  call_is h s (call_with receiver name args) span g c =
+  call_is h s (call_with receiver name args) span shape g c =
       let C = callee_sites h.around s receiver name in
       let P = passing_sites h.around s name.span (option_map (λ t. t.params) (called_transaction h.around s receiver name.name))
       args in
       let A = args_sites h.around s args in
       let both = each_left Clean (C ++ P) A c in
       call_fact h s receiver name args span g (each_left Clean C P both)
-      (args_facts h s args g (each_right Clean (C ++ P) A c)) (each_right Clean C P both)
+      (args_facts h s args shape g (each_right Clean (C ++ P) A c)) (each_right Clean C P both)
 
-  args_facts : (h : Here) (s : Scope) (es : Exprs) → GoodScope (program h) h.params s
+  args_facts : (h : Here) (s : Scope) (es : Exprs) → HaveExprShapes es → GoodScope (program h) h.params s
       → Each Clean (args_sites h.around s es) → ArgsFact h s es
-  args_facts h s no_exprs g c = tt
-  args_facts h s (and_expr e es) g c = (
-    expr_fact h s e g (each_left Clean (expr_sites h.around s e) (args_sites h.around s es) c),
-    args_facts h s es g (each_right Clean (expr_sites h.around s e) (args_sites h.around s es) c),
+  args_facts h s no_exprs shape g c = tt
+  args_facts h s (and_expr e es) shape g c = (
+    expr_fact h s e shape.0 g (each_left Clean (expr_sites h.around s e) (args_sites h.around s es) c),
+    args_facts h s es shape.1 g (each_right Clean (expr_sites h.around s e) (args_sites h.around s es) c),
   )
 
 -- a value where one of this kind is needed
 pub value_fact : (h : Here) (s : Scope) (wanted : InferredKind) (e : Expr) → IsValueKind (program h) wanted
-    → GoodScope (program h) h.params s → Each Clean (value_sites h.around s wanted e)
+    → HasExprShape e → GoodScope (program h) h.params s → Each Clean (value_sites h.around s wanted e)
     → IsValue (frame h) (by_number s.variables) (resolved_local wanted) (resolved_expr h.around s e)
-value_fact h s wanted e w g c = let f = expr_fact h s e g c.1 in (f.made, serves_here h s wanted e w f c.0)
+value_fact h s wanted e w shape g c = let f = expr_fact h s e shape g c.1 in (f.made, serves_here h s wanted e w f c.0)

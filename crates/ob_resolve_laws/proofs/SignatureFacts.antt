@@ -97,14 +97,14 @@ few_params program own constructor formals h =
 pub record IsHeld (program : Program) (own : Contract) (entry exit : Perm) : Type 0 where
   pub at_entry : IsPermOn (contract_in_table program own) entry
   pub at_exit : IsPermOn (contract_in_table program own) exit
-  pub leaves : MayLeave entry exit
+  pub exit_may_follow : MayLeave entry exit
 
 unowned_held : (program : Program) (own : Contract) → IsHeld program own (perm_of unowned) (perm_of unowned)
 unowned_held program own = record {
   at_entry = perm_is_on program own as_unowned;
   at_exit =
       perm_is_on program own as_unowned;
-  leaves = λ h. refl;
+  exit_may_follow = λ h. refl;
 }
 
 held_by_type : (v : Visible) (t : TypeExpr) (exit : Option PermNode) (span : Span)
@@ -118,7 +118,7 @@ held_by_type v (ref_type (ref_with of perm)) exit span h =
     record {
       at_entry = perm_in_table v.program (Some v.own) v.own perm refl;
       at_exit = perm_in_table v.program (Some v.own) v.own (written_at_end perm exit) refl;
-      leaves = leaves_in_table v.program (Some v.own) v.own perm (written_at_end perm exit) refl k.1.leaves;
+      exit_may_follow = leaves_in_table v.program (Some v.own) v.own perm (written_at_end perm exit) refl k.1.leaves;
     }
 
 held_by_subject : (v : Visible) (t : TypeExpr) (exit : Option PermNode) (subject : Subject)
@@ -236,7 +236,7 @@ listed_is program own name of perm exit types a b =
           ∙ ap (option_map (field_in_table program own)) f.at)
           (listed_as program own of perm (written_at_end perm exit) k f.field.field.of
           (each_at _ (fields_of own) f.number f.field types f.at) s'));
-      leaves = exit_leaves program of perm exit k ks.1;
+      exit_may_follow = exit_leaves program of perm exit k ks.1;
     }
 
 listed_of_ref : (program : Program) (own : Contract) (name : NamePart) (of : Ref) (exit : Option PermNode)

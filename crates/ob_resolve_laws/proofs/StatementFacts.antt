@@ -32,6 +32,7 @@ use Rattle.ob_resolve_spec.specs.StatementSites.{span_of_subject, on_contract, s
 use Rattle.ob_resolve_spec.specs.Faults.{returns_other}
 use Rattle.ob_resolve_spec.specs.Numbers.{state_id, field_id, perm_on}
 use Rattle.ob_resolve_spec.specs.Bodies.{resolved_local, seen_name, seen_subject, resolved_expr, resolved_given, resolved_stmt, block_resolved, else_resolved, resolved_stmts}
+use Rattle.ob_resolve_spec.specs.Shape.{HasExprShape, HaveGivenShapes, HasShapeIf, HasStmtShape, HasBlockShape, HasElseShape, HaveStmtShapes}
 use Rattle.ob_resolve_spec.specs.TableOf.{field_in_table, contract_in_table, table_of}
 use Rattle.ob_table_spec.specs.Conditions.{IsPermOn}
 use Rattle.ob_table_spec.specs.WellFormed.{kind_of_seen, kind_of_resolved, IsTarget, IsGiven, AreGiven, IsLocalKind, IsValue, serves_as, RefersTo, Refers, IsReturned, rest_of_row, locals_after, IsStatement, IsBlock, IsOtherwise, AreStatements}
@@ -132,11 +133,11 @@ not_in_row own (n ∷ row) name r f m (suc k) d l e =
     rest true h = absurd cc
     rest false h = h
 
-given_fact : (h : Here) (s : Scope) (row : List Name) (field : NamePart) (value : Expr)
+given_fact : (h : Here) (s : Scope) (row : List Name) (field : NamePart) (value : Expr) → HasExprShape value
     → GoodScope (program h) h.params s → Each (λ n. is_among n (field_names h.around.own) ≡ true) row
     → Each Clean (given_sites h.around s row field value)
     → IsGiven (frame h) (by_number s.variables) (row_ids h.around.own row) (resolved_given h.around s field value)
-given_fact h s row field value g r c =
+given_fact h s row field value shape g r c =
     let own = h.around.own in
     let f = true_from_not (is_among field.name (field_names own)) c.1.0.not_field in
     let n = field_found (program h) own field.name f in
@@ -144,7 +145,7 @@ given_fact h s row field value g r c =
     let at : slice_get (map (field_in_table (program h) own) (fields_of own)) n.number
     ≡ Some (field_in_table (program h) own n.field) = slice_get-map (field_in_table (program h) own) (fields_of own)
     n.number ∙ ap (option_map (field_in_table (program h) own)) n.at in
-    let v = value_fact h s (kind_of_type (program h) n.field.field.of) value t.value g
+    let v = value_fact h s (kind_of_type (program h) n.field.field.of) value t.value shape g
     (subst (λ k. Each Clean (value_sites h.around s k value)) n.kind c.1.1) in
     let P = λ (x : TableField). IsValue (frame h) (by_number s.variables) (kind_of_resolved x.of)
     (resolved_expr h.around s value) in (
@@ -177,14 +178,15 @@ one_more_given row before g =
     ap (λ ns. row ++ ns) (map-append (λ (b : GivenExpr). b.field.name) before (g ∷ []))
     ∙ sym (append_assoc row (names_given before) (g.field.name ∷ []))
 
-changed : (h : Here) (s : Scope) (row : List Name) (before given : List GivenExpr) → GoodScope (program h) h.params s
+changed : (h : Here) (s : Scope) (row : List Name) (before given : List GivenExpr) → HaveGivenShapes given
+    → GoodScope (program h) h.params s
     → AreFields h.around.own (row ++ names_given before)
     → Each Clean (in_order_after (λ before g. given_sites h.around s (row ++ map (λ b. b.field.name) before) g.field
     g.value) before given)
     → AreGiven (frame h) (by_number s.variables) (row_ids h.around.own (row ++ names_given before))
     (map (λ g. resolved_given h.around s g.field g.value) given)
-changed h s row before [] g r c = tt
-changed h s row before (x ∷ given) g r c =
+changed h s row before [] shape g r c = tt
+changed h s row before (x ∷ given) shape g r c =
     let own = h.around.own in
     let here = each_left Clean (given_sites h.around s (row ++ names_given before) x.field x.value) _ c in
     let rest = each_right Clean (given_sites h.around s (row ++ names_given before) x.field x.value)
@@ -194,24 +196,24 @@ changed h s row before (x ∷ given) g r c =
     let r' = subst (AreFields own) (sym more)
     (each_both (λ n. is_among n (field_names own) ≡ true) (row ++ names_given before) (x.field.name ∷ []) r
     (field_named_there h s (row ++ names_given before) x.field x.value here, tt)) in (
-      given_fact h s (row ++ names_given before) x.field x.value g r here,
+      given_fact h s (row ++ names_given before) x.field x.value shape.0 g r here,
       subst (λ ids. AreGiven (frame h) (by_number s.variables) ids
           (map (λ g. resolved_given h.around s g.field g.value) given)) (ap (row_ids own) more
           ∙ push_row own (row ++ names_given before) x.field.name)
-          (changed h s row (before ++ x ∷ []) given g r' rest),
+          (changed h s row (before ++ x ∷ []) given shape.1 g r' rest),
     )
 
 no_names : (row : List Name) → row ++ names_given [] ≡ row
 no_names row = append-nil row
 
-change_fact : (h : Here) (s : Scope) (row : List Name) (given : List GivenExpr) → GoodScope (program h) h.params s
-    → AreFields h.around.own row → Each Clean (change_sites h.around s row given)
+change_fact : (h : Here) (s : Scope) (row : List Name) (given : List GivenExpr) → HaveGivenShapes given
+    → GoodScope (program h) h.params s → AreFields h.around.own row → Each Clean (change_sites h.around s row given)
     → AreGiven (frame h) (by_number s.variables) (row_ids h.around.own row)
     (map (λ g. resolved_given h.around s g.field g.value) given)
-change_fact h s row given g r c =
+change_fact h s row given shape g r c =
     subst (λ ns. AreGiven (frame h) (by_number s.variables) (row_ids h.around.own ns)
     (map (λ g. resolved_given h.around s g.field g.value) given)) (no_names row)
-    (changed h s row [] given g (subst (AreFields h.around.own) (sym (no_names row)) r) c)
+    (changed h s row [] given shape g (subst (AreFields h.around.own) (sym (no_names row)) r) c)
 
 -- References.
 
@@ -287,44 +289,45 @@ pub record Result (h : Here) : Type 0 where
   pub there : h.result ≡ as_local h.around.result
 
 given_back : (h : Here) (s : Scope) (wanted : InferredKind) (v : Expr) → IsValueKind (program h) wanted
-    → GoodScope (program h) h.params s → differs (program h) wanted (kind_of h.around s v) ≡ false
+    → HasExprShape v → GoodScope (program h) h.params s → differs (program h) wanted (kind_of h.around s v) ≡ false
     → Each Clean (expr_sites h.around s v)
     → IsValue (frame h) (by_number s.variables) (resolved_local wanted) (resolved_expr h.around s v)
-given_back h s wanted v w g d c =
-    let f = expr_fact h s v g c in (
+given_back h s wanted v w shape g d c =
+    let f = expr_fact h s v shape g c in (
       f.made,
       subst (λ o. IsSomeAnd o (λ has. IsTrue (serves_as (table_of (program h)) (resolved_local wanted) has)))
           (sym f.there) (serves_there (program h) wanted (kind_of h.around s v) w f.known d),
     )
 
 returned : (h : Here) (s : Scope) (value : Option Expr) (span : Span) (k : InferredKind) → h.around.result ≡ k
-    → IsKnownKind (program h) k → GoodScope (program h) h.params s → Each Clean (returned_sites h.around s value span)
+    → IsKnownKind (program h) k → HasShapeIf value → GoodScope (program h) h.params s
+    → Each Clean (returned_sites h.around s value span)
     → IsReturned (frame h) (by_number s.variables) (as_local k) (option_map (resolved_expr h.around s) value)
-returned h s None span nothing e w g c = tt
-returned h s (Some v) span nothing e w g c = let f : returns_other (program h) nothing (Some (kind_of h.around s v))
+returned h s None span nothing e w shape g c = tt
+returned h s (Some v) span nothing e w shape g c = let f : returns_other (program h) nothing (Some (kind_of h.around s v))
     ≡ false = subst (λ k. returns_other (program h) k (Some (kind_of h.around s v)) ≡ false) e c.0.type_mismatch in
     absurd (cc)
-returned h s None span unknown e w g c = absurd w
-returned h s (Some v) span unknown e w g c = absurd w
-returned h s None span an_int e w g c = let f : true ≡ false =
+returned h s None span unknown e w shape g c = absurd w
+returned h s (Some v) span unknown e w shape g c = absurd w
+returned h s None span an_int e w shape g c = let f : true ≡ false =
     subst (λ k. returns_other (program h) k None ≡ false) e c.0.type_mismatch in absurd (cc)
-returned h s None span a_bool e w g c = let f : true ≡ false =
+returned h s None span a_bool e w shape g c = let f : true ≡ false =
     subst (λ k. returns_other (program h) k None ≡ false) e c.0.type_mismatch in absurd (cc)
-returned h s None span a_text e w g c = let f : true ≡ false =
+returned h s None span a_text e w shape g c = let f : true ≡ false =
     subst (λ k. returns_other (program h) k None ≡ false) e c.0.type_mismatch in absurd (cc)
-returned h s None span (a_reference n) e w g c = let f : true ≡ false =
+returned h s None span (a_reference n) e w shape g c = let f : true ≡ false =
     subst (λ k. returns_other (program h) k None ≡ false) e c.0.type_mismatch in absurd (cc)
-returned h s (Some v) span an_int e w g c =
-    given_back h s an_int v tt g (subst (λ k. returns_other (program h) k (Some (kind_of h.around s v)) ≡ false) e
+returned h s (Some v) span an_int e w shape g c =
+    given_back h s an_int v tt shape g (subst (λ k. returns_other (program h) k (Some (kind_of h.around s v)) ≡ false) e
     c.0.type_mismatch) c.1
-returned h s (Some v) span a_bool e w g c =
-    given_back h s a_bool v tt g (subst (λ k. returns_other (program h) k (Some (kind_of h.around s v)) ≡ false) e
+returned h s (Some v) span a_bool e w shape g c =
+    given_back h s a_bool v tt shape g (subst (λ k. returns_other (program h) k (Some (kind_of h.around s v)) ≡ false) e
     c.0.type_mismatch) c.1
-returned h s (Some v) span a_text e w g c =
-    given_back h s a_text v tt g (subst (λ k. returns_other (program h) k (Some (kind_of h.around s v)) ≡ false) e
+returned h s (Some v) span a_text e w shape g c =
+    given_back h s a_text v tt shape g (subst (λ k. returns_other (program h) k (Some (kind_of h.around s v)) ≡ false) e
     c.0.type_mismatch) c.1
-returned h s (Some v) span (a_reference n) e w g c =
-    given_back h s (a_reference n) v w g (subst (λ k. returns_other (program h) k (Some (kind_of h.around s v)) ≡ false)
+returned h s (Some v) span (a_reference n) e w shape g c =
+    given_back h s (a_reference n) v w shape g (subst (λ k. returns_other (program h) k (Some (kind_of h.around s v)) ≡ false)
     e c.0.type_mismatch) c.1
 
 -- After a statement.
@@ -375,10 +378,11 @@ nothing_after h s row ended x (and_stmt y ys) e c =
 -- Statements.
 
 mutual
-  stmt_fact : (h : Here) (q : Result h) (s : Scope) (row : List Name) (x : Stmt) → GoodScope (program h) h.params s
+  stmt_fact : (h : Here) (q : Result h) (s : Scope) (row : List Name) (x : Stmt) → HasStmtShape x
+      → GoodScope (program h) h.params s
       → AreFields h.around.own row → Each Clean (stmt_sites h.around s row x)
       → IsStatement (frame h) (by_number s.variables) (row_ids h.around.own row) (resolved_stmt h.around s x)
-  stmt_fact h q s row (declare_stmt of name value span) g r c =
+  stmt_fact h q s row (declare_stmt of name value span) shape g r c =
       let L = local_sites (visible_at h.around s) of in
       let k = local_known h s of (each_left Clean L _ c) in
       let rest = each_right Clean L (declares_name (map (λ v. v.name) s.variables ++ field_names h.around.own) name
@@ -387,22 +391,22 @@ mutual
         k.there,
         omega (arith, first),
         no_number s.count s.variables (s.count + 1) g.within (omega arith),
-        value_fact h s (kind_of_local (program h) of) value k.value g rest.1,
+        value_fact h s (kind_of_local (program h) of) value k.value shape g rest.1,
       )
-  stmt_fact h q s row (assign_stmt name value span) g r c =
+  stmt_fact h q s row (assign_stmt name value span) shape g r c =
       let t = target_known h s name g c.0 c.1.0 in
-      let v = value_fact h s (kind_of_variable h.around s name.name) value t.known.kind g
+      let v = value_fact h s (kind_of_variable h.around s name.name) value t.known.kind shape g
       (subst (λ k. Each Clean (value_sites h.around s k value)) t.kind c.1.1) in (
         t.target,
         some_and _ (resolved_local (kind_of_variable h.around s name.name))
             (λ kind. IsValue (frame h) (by_number s.variables) kind (resolved_expr h.around s value)) t.known.seen v,
       )
-  stmt_fact h q s row (stage_stmt state field value span) g r c =
-      (named_state h.around.own state c.0, given_fact h s row field value g r c.1)
-  stmt_fact h q s row (change_stmt state given span) g r c =
-      (named_state h.around.own state c.0, change_fact h s row given g r c.1)
-  stmt_fact h q s row (call_stmt value span) g r c = (expr_fact h s value g c).made
-  stmt_fact h q s row (test_stmt subject state branch otherwise span) g r c =
+  stmt_fact h q s row (stage_stmt state field value span) shape g r c =
+      (named_state h.around.own state c.0, given_fact h s row field value shape g r c.1)
+  stmt_fact h q s row (change_stmt state given span) shape g r c =
+      (named_state h.around.own state c.0, change_fact h s row given shape g r c.1)
+  stmt_fact h q s row (call_stmt value span) shape g r c = (expr_fact h s value shape g c).made
+  stmt_fact h q s row (test_stmt subject state branch otherwise span) shape g r c =
       let S = subject_sites h.around s subject span in
       let O = on_contract h.around (kind_of_subject h.around s subject) (λ c. names_state c state ∷ []) in
       let B = block_sites h.around s branch in
@@ -411,55 +415,56 @@ mutual
       let so = each_left Clean (S ++ O) B sob in
       let k = subject_known h s subject span g (each_left Clean S O so) in (
         tested h s subject state k (each_right Clean S O so),
-        block_fact h q s branch g (each_right Clean (S ++ O) B sob),
-        else_fact h q (past s (locals_in_block branch)) otherwise
+        block_fact h q s branch shape.0 g (each_right Clean (S ++ O) B sob),
+        else_fact h q (past s (locals_in_block branch)) otherwise shape.1
             (good_past (program h) h.params s (locals_in_block branch) g) (each_right Clean (S ++ O ++ B) E c),
       )
-  stmt_fact h q s row (if_stmt condition branch otherwise span) g r c =
+  stmt_fact h q s row (if_stmt condition branch otherwise span) shape g r c =
       let V = value_sites h.around s a_bool condition in
       let B = block_sites h.around s branch in
       let E = else_sites h.around (past s (locals_in_block branch)) otherwise in
       let vb = each_left Clean (V ++ B) E c in (
-        value_fact h s a_bool condition tt g (each_left Clean V B vb),
-        block_fact h q s branch g (each_right Clean V B vb),
-        else_fact h q (past s (locals_in_block branch)) otherwise
+        value_fact h s a_bool condition tt shape.0 g (each_left Clean V B vb),
+        block_fact h q s branch shape.1 g (each_right Clean V B vb),
+        else_fact h q (past s (locals_in_block branch)) otherwise shape.2
             (good_past (program h) h.params s (locals_in_block branch) g) (each_right Clean (V ++ B) E c),
       )
-  stmt_fact h q s row (return_stmt value span) g r c =
+  stmt_fact h q s row (return_stmt value span) shape g r c =
       subst (λ k. IsReturned (frame h) (by_number s.variables) k (option_map (resolved_expr h.around s) value))
-      (sym q.there) (returned h s value span h.around.result refl q.known g c)
-  stmt_fact h q s row (revert_stmt None span) g r c = tt
-  stmt_fact h q s row (revert_stmt (Some text) span) g r c = value_fact h s a_text text tt g c
-  stmt_fact h q s row (disown_stmt name span) g r c =
+      (sym q.there) (returned h s value span h.around.result refl q.known shape g c)
+  stmt_fact h q s row (revert_stmt None span) shape g r c = tt
+  stmt_fact h q s row (revert_stmt (Some text) span) shape g r c = value_fact h s a_text text tt shape g c
+  stmt_fact h q s row (disown_stmt name span) shape g r c =
       refers_there h s (NameSubject name) (λ c. Unit {0})
       (from_reference h s name (reference_known h s name name.span g c)) tt
-  stmt_fact h q s row (assert_stmt subject perm span) g r c =
+  stmt_fact h q s row (assert_stmt subject perm span) shape g r c =
       asserted h s subject perm (subject_known h s subject (span_of_subject subject) g
       (each_left Clean (subject_sites h.around s subject (span_of_subject subject)) _ c))
 
-  block_fact : (h : Here) (q : Result h) (s : Scope) (b : Block) → GoodScope (program h) h.params s
+  block_fact : (h : Here) (q : Result h) (s : Scope) (b : Block) → HasBlockShape b → GoodScope (program h) h.params s
       → Each Clean (block_sites h.around s b) → IsBlock (frame h) (by_number s.variables) (block_resolved h.around s b)
-  block_fact h q s (block_with statements end) g c = stmts_fact h q s [] false statements g tt c
+  block_fact h q s (block_with statements end) shape g c = stmts_fact h q s [] false statements shape g tt c
 
-  else_fact : (h : Here) (q : Result h) (s : Scope) (e : Else) → GoodScope (program h) h.params s
+  else_fact : (h : Here) (q : Result h) (s : Scope) (e : Else) → HasElseShape e → GoodScope (program h) h.params s
       → Each Clean (else_sites h.around s e) → IsOtherwise (frame h) (by_number s.variables)
       (else_resolved h.around s e)
-  else_fact h q s no_else g c = tt
-  else_fact h q s (else_with block) g c = block_fact h q s block g c
+  else_fact h q s no_else shape g c = tt
+  else_fact h q s (else_with block) shape g c = block_fact h q s block shape g c
 
   stmts_fact : (h : Here) (q : Result h) (s : Scope) (row : List Name) (ended : Bool) (xs : Stmts)
-      → GoodScope (program h) h.params s → AreFields h.around.own row → Each Clean (stmts_sites h.around s row ended xs)
+      → HaveStmtShapes xs → GoodScope (program h) h.params s → AreFields h.around.own row
+      → Each Clean (stmts_sites h.around s row ended xs)
       → AreStatements (frame h) (by_number s.variables) (row_ids h.around.own row) (resolved_stmts h.around s xs)
-  stmts_fact h q s row ended no_stmts g r c = tt
-  stmts_fact h q s row ended (and_stmt x xs) g r c =
+  stmts_fact h q s row ended no_stmts shape g r c = tt
+  stmts_fact h q s row ended (and_stmt x xs) shape g r c =
       let X = stmt_sites h.around s row x in
       let one = each_left Clean X (stmts_sites h.around (after_stmt h.around s x) (row_after row x) (ended || ends x)
       xs) c.1 in
       let a = after_fact h s row x g one in
       let n = next_row h s row x r one in
-      let rest = stmts_fact h q (after_stmt h.around s x) (row_after row x) (ended || ends x) xs a.good n.fields
+      let rest = stmts_fact h q (after_stmt h.around s x) (row_after row x) (ended || ends x) xs shape.1 a.good n.fields
       (each_right Clean X _ c.1) in (
-        stmt_fact h q s row x g r one,
+        stmt_fact h q s row x shape.0 g r one,
         λ e. nothing_after h s (row_after row x) ended x xs (sym (ends_same h.around s x) ∙ e) (each_right Clean X _ c.1),
         subst (λ ids. AreStatements (frame h) (locals_after (by_number s.variables) (resolved_stmt h.around s x)) ids
             (resolved_stmts h.around (after_stmt h.around s x) xs)) n.there
@@ -468,7 +473,7 @@ mutual
       )
 
 -- whole bodies
-pub body_fact : (h : Here) (q : Result h) (s : Scope) (statements : Stmts) → GoodScope (program h) h.params s
-    → Each Clean (stmts_sites h.around s [] false statements)
+pub body_fact : (h : Here) (q : Result h) (s : Scope) (statements : Stmts) → HaveStmtShapes statements
+    → GoodScope (program h) h.params s → Each Clean (stmts_sites h.around s [] false statements)
     → AreStatements (frame h) (by_number s.variables) [] (resolved_stmts h.around s statements)
-body_fact h q s statements g c = stmts_fact h q s [] false statements g tt c
+body_fact h q s statements shape g c = stmts_fact h q s [] false statements shape g tt c

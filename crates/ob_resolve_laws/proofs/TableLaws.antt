@@ -11,14 +11,14 @@ use Rattle.ob_resolve_laws.proofs.Clean.{clean_sites}
 use Rattle.ob_resolve_laws.proofs.TableFacts.{table_is, placed, clear_program}
 use Rattle.ob_resolve_laws.proofs.BodyFacts.{all_bodies_made, bodies_there}
 
--- no condition of a fault holds at any site, so each part of the table is as it must be
+-- the program has its shape (`HasShape`), and no condition of a fault holds at any site, so each part of the table is as it must be
 pub table_conditions_lem : (program : Program) → HasShape program → HasNoFault program → IsClassTable (table_of program)
 table_conditions_lem program shape none = table_is program shape (clean_sites program none)
 
 -- by the sites of each body, at which no condition of a fault holds
-pub bodies_made_lem : (program : Program) → HasShape program → HasNoFault program
+pub bodies_well_formed_lem : (program : Program) → HasShape program → HasNoFault program
     → All (IsWellFormed (table_of program)) (table_of program).bodies
-bodies_made_lem program shape none =
+bodies_well_formed_lem program shape none =
     All-from_recursion (IsWellFormed (table_of program)) (table_of program).bodies
     (all_bodies_made program (clear_program program (clean_sites program none))
     (recursion_from_All HasContractShape program shape) (placed program))

@@ -38,12 +38,12 @@ gives_some own as_unowned h e = absurd cc
 gives_some own as_owner h e = absurd cc
 gives_some own (as_owner_in states) h e = absurd cc
 
-abbrev IsMade : Program → Contract → Constructor → Type 0
-IsMade program own m =
+abbrev IsWellFormedConstructor : Program → Contract → Constructor → Type 0
+IsWellFormedConstructor program own m =
     IsConstructor (table_of program) (contract_in_table program own) (constructor_in_table program own m)
 
-default_is_made : (program : Program) (own : Contract) → IsMade program own (default_constructor own)
-default_is_made program own = record {
+default_is_well_formed : (program : Program) (own : Contract) → IsWellFormedConstructor program own (default_constructor own)
+default_is_well_formed program own = record {
   signature = record {
     few = omega arith;
     params = All-from_recursion _ [] tt;
@@ -56,13 +56,13 @@ default_is_made program own = record {
   public = refl;
   result = refl;
   listed = refl;
-  gives = gives_some own as_owner refl;
+  exit_not_unowned = gives_some own as_owner refl;
 }
 
-constructor_is_made : (program : Program) (own : Contract) (m : Constructor) (span : Span)
+constructor_is_well_formed : (program : Program) (own : Contract) (m : Constructor) (span : Span)
     → Clean (gives_object (known_permission own m.perm) span) → Each Clean (perm_sites own m.perm)
-    → Each Clean (formals_sites program own true m.params) → IsMade program own m
-constructor_is_made program own m span g p f =
+    → Each Clean (formals_sites program own true m.params) → IsWellFormedConstructor program own m
+constructor_is_well_formed program own m span g p f =
     let k = perm_named own m.perm p in
     let u : same_mode as_unowned (written_permission m.perm) ≡ false = rw k at g.bad_exit in
     record {
@@ -78,36 +78,36 @@ constructor_is_made program own m span g p f =
       public = refl;
       result = refl;
       listed = refl;
-      gives = gives_some own (written_permission m.perm) u;
+      exit_not_unowned = gives_some own (written_permission m.perm) u;
     }
 
-made_of_member : (program : Program) (own : Contract) (m : Member) → Each Clean (member_sites program own m)
-    → Each (IsMade program own) (constructors_of_member m)
-made_of_member program own (state_member name fields span) h = tt
-made_of_member program own (field_member field) h = tt
-made_of_member program own (constructor_member of perm params body span) h =
+well_formed_of_member : (program : Program) (own : Contract) (m : Member) → Each Clean (member_sites program own m)
+    → Each (IsWellFormedConstructor program own) (constructors_of_member m)
+well_formed_of_member program own (state_member name fields span) h = tt
+well_formed_of_member program own (field_member field) h = tt
+well_formed_of_member program own (constructor_member of perm params body span) h =
     let both = each_left Clean (perm_sites own perm ++ formals_sites program own true params)
     (body_of_params_sites program own nothing params body) h.1.1 in (
-      constructor_is_made program own (record { of = of; perm = perm; params = params; body = body })
+      constructor_is_well_formed program own (record { of = of; perm = perm; params = params; body = body })
           (span_of_perm span perm) h.1.0
           (each_left Clean (perm_sites own perm) _ both)
           (each_right Clean (perm_sites own perm) (formals_sites program own true params) both),
       tt,
     )
-made_of_member program own (transaction_member private listed name params result body span) h = tt
+well_formed_of_member program own (transaction_member private listed name params result body span) h = tt
 
-first_or : (program : Program) (own : Contract) (ms : List Constructor) → Each (IsMade program own) ms
-    → IsMade program own (unwrap_or (slice_get ms 0) (default_constructor own))
-first_or program own [] h = default_is_made program own
+first_or : (program : Program) (own : Contract) (ms : List Constructor) → Each (IsWellFormedConstructor program own) ms
+    → IsWellFormedConstructor program own (unwrap_or (slice_get ms 0) (default_constructor own))
+first_or program own [] h = default_is_well_formed program own
 first_or program own (m ∷ ms) h = h.0
 
 pub constructor_is : (program : Program) (own : Contract) → Each Clean (flat_map (member_sites program own) own.members)
-    → IsMade program own (constructor_of own)
+    → IsWellFormedConstructor program own (constructor_of own)
 constructor_is program own h =
     first_or program own (constructors_of own)
     (each_filter _ (λ m. same own.name (part_of_named m.of).name) (constructor_forms own)
     (each_flat_map _ constructors_of_member own.members
-    (each_weaker _ _ (made_of_member program own) own.members
+    (each_weaker _ _ (well_formed_of_member program own) own.members
     (each_of_flat_map Clean (member_sites program own) own.members h))))
 
 pub has_constructor : (program : Program) (own : Contract)
@@ -146,7 +146,7 @@ transaction_is program own t name private types l f r =
         exit = held.at_exit;
       };
       name = name;
-      leaves = held.leaves;
+      exit_may_follow = held.exit_may_follow;
       listed = All-from_recursion _ (map (listed_in_table program own) t.listed)
           (listed_are program own t.listed types l);
       distinct = listed_distinct program own t.listed l;

@@ -10,15 +10,16 @@ ghost use Rattle.ob_resolve_spec.specs.TableOf.{table_of};
 ghost use Rattle.ob_table_spec.specs.Conditions.{IsClassTable};
 ghost use Rattle.ob_table_spec.specs.WellFormed.{IsWellFormed, HasBodies};
 
-/// The class table of a program without faults meets the conditions that the later stages need.
+/// The class table of a program without faults, whose tree has the shape of trees of texts (`HasShape`), meets the conditions
+/// that the later stages need.
 pub fn table_conditions()
     ensures { (program : Program) → HasShape program → HasNoFault program → IsClassTable (table_of program) }
 {}
 
-/// The bodies of a program without faults are well-formed, and there is one for each constructor and transaction of its
-/// contracts.
+/// The bodies of a program without faults, whose tree has the shape of trees of texts (`HasShape`), are well-formed, and there
+/// is one for each constructor and transaction of its contracts.
 pub fn well_formed_bodies()
-    ensures made { (program : Program) → HasShape program → HasNoFault program → All (IsWellFormed (table_of program)) (table_of program).bodies }
+    ensures well_formed { (program : Program) → HasShape program → HasNoFault program → All (IsWellFormed (table_of program)) (table_of program).bodies }
     ensures each { (program : Program) → HasShape program → HasNoFault program → HasBodies (table_of program) }
 {}
 

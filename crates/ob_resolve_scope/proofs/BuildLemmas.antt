@@ -14,7 +14,7 @@ use Rattle.ob_resolve_spec.specs.Kinds.{kind_of_type, kinds_of_params}
 use Rattle.ob_resolve_spec.specs.declared.kind.InferredKind.{InferredKind}
 use Rattle.ob_resolve_scope.specs.Numbered.{added, numbered_from, numbered}
 use Rattle.ob_resolve_scope.specs.Types.{program_of, states_named, with_states}
-use Rattle.ob_resolve_scope.specs.Members.{kind_of_declaration, kind_of_node, members_of, heading_of, place_in, places_from, params_of_first}
+use Rattle.ob_resolve_scope.specs.Members.{kind_of_declaration, kind_of_node, members_of, heading_of, position_in, positions_from, params_of_first}
 use Rattle.ob_resolve_scope.proofs.TypesLemmas.{part_of-out}
 use Rattle.ob_resolve_scope.proofs.NumberedLemmas.{numbered_from-push, numbered-push, numbered-append}
 
@@ -189,20 +189,20 @@ pub headings_turn : (program : Program) (xs : List MemberNode) (i : ℕ) (x : Me
 headings_turn program xs i x h is = said_of (heading_of program) transactions_of_member xs i x h is
 
 places-push : (n : ℕ) (ms : List Member) (m : Member)
-    → places_from n (ms ++ m ∷ []) ≡ places_from n ms ++ place_in (n + length ms) m
-places-push n [] m = append-nil (place_in n m) ∙ ap (λ k. place_in k m) (omega arith)
+    → positions_from n (ms ++ m ∷ []) ≡ positions_from n ms ++ position_in (n + length ms) m
+places-push n [] m = append-nil (position_in n m) ∙ ap (λ k. position_in k m) (omega arith)
 places-push n (k ∷ ms) m =
-    ap (λ r. place_in n k ++ r) (places-push (n + 1) ms m
-    ∙ ap (λ j. places_from (n + 1) ms ++ place_in j m) (omega arith))
-    ∙ sym (append_assoc (place_in n k) (places_from (n + 1) ms) (place_in (n + length (k ∷ ms)) m))
+    ap (λ r. position_in n k ++ r) (places-push (n + 1) ms m
+    ∙ ap (λ j. positions_from (n + 1) ms ++ position_in j m) (omega arith))
+    ∙ sym (append_assoc (position_in n k) (positions_from (n + 1) ms) (position_in (n + length (k ∷ ms)) m))
 
 pub places_turn : (xs : List MemberNode) (i : ℕ) (x : MemberNode) → i < length xs → x ≡ get_or xs i x
-    → places_from 0 (map member_of (take (i + 1) xs))
-    ≡ places_from 0 (map member_of (take i xs)) ++ place_in i (member_of x)
+    → positions_from 0 (map member_of (take (i + 1) xs))
+    ≡ positions_from 0 (map member_of (take i xs)) ++ position_in i (member_of x)
 places_turn xs i x h is =
-    ap (places_from 0) (taken member_of xs i x h is)
+    ap (positions_from 0) (taken member_of xs i x h is)
     ∙ places-push 0 (map member_of (take i xs)) (member_of x)
-    ∙ ap (λ k. places_from 0 (map member_of (take i xs)) ++ place_in k (member_of x))
+    ∙ ap (λ k. positions_from 0 (map member_of (take i xs)) ++ position_in k (member_of x))
     (ap (λ k. 0 + k) (length-map (take i xs) member_of ∙ length-take-le i xs (omega arith)) ∙ omega arith)
 
 -- Constructors.

@@ -13,7 +13,7 @@ use Rattle.ob_resolve_spec.specs.Kinds.{kind_of_type}
 use Rattle.ob_resolve_spec.specs.Scopes.{kind_of_field}
 use Rattle.ob_resolve_spec.specs.declared.kind.InferredKind.TheVariants.{Unknown as unknown}
 use Rattle.ob_resolve_scope.specs.Numbered.{find}
-use Rattle.ob_resolve_scope.specs.Members.{members_of, heading_of, transaction_of_member, places_from}
+use Rattle.ob_resolve_scope.specs.Members.{members_of, heading_of, transaction_of_member, positions_from}
 use Rattle.ob_resolve_scope.specs.declared.members.Members.{Members}
 use Rattle.ob_resolve_scope.proofs.NumberedLemmas.{find-numbered, first_named-number}
 
@@ -121,22 +121,22 @@ slice_get-at (y ∷ xs) ys x = slice_get-at xs ys x
 placed : (before ms : List Member) (k : ℕ)
     → slice_get (flat_map transactions_of_member ms) k
     ≡ option_and_then (λ p. option_and_then transaction_of_member (slice_get (before ++ ms) p))
-    (slice_get (places_from (length before) ms) k)
+    (slice_get (positions_from (length before) ms) k)
 placed before [] k = refl
 placed before (m ∷ ms) k =
     by m k
     (λ j. placed (before ++ m ∷ []) ms j
     ∙ ap (λ ns. option_and_then (λ p. option_and_then transaction_of_member (slice_get ns p))
-    (slice_get (places_from (length (before ++ m ∷ [])) ms) j)) (append_assoc before (m ∷ []) ms)
+    (slice_get (positions_from (length (before ++ m ∷ [])) ms) j)) (append_assoc before (m ∷ []) ms)
     ∙ ap (λ n. option_and_then (λ p. option_and_then transaction_of_member (slice_get (before ++ m ∷ ms) p))
-    (slice_get (places_from n ms) j)) (length-append before (m ∷ [])))
+    (slice_get (positions_from n ms) j)) (length-append before (m ∷ [])))
   where
     by : (m : Member) (k : ℕ) → ((k : ℕ) → slice_get (flat_map transactions_of_member ms) k
         ≡ option_and_then (λ p. option_and_then transaction_of_member (slice_get (before ++ m ∷ ms) p))
-        (slice_get (places_from (length before + 1) ms) k))
+        (slice_get (positions_from (length before + 1) ms) k))
         → slice_get (flat_map transactions_of_member (m ∷ ms)) k
         ≡ option_and_then (λ p. option_and_then transaction_of_member (slice_get (before ++ m ∷ ms) p))
-        (slice_get (places_from (length before) (m ∷ ms)) k)
+        (slice_get (positions_from (length before) (m ∷ ms)) k)
     by (state_member name fields span) k rest = rest k
     by (field_member field) k rest = rest k
     by (constructor_member of perm params body span) k rest = rest k
@@ -161,10 +161,10 @@ through_nodes members (Some p) = ap (option_and_then transaction_of_member) (sli
 pub transaction-placed : (c : ContractNode) (k : ℕ)
     → slice_get (transactions_of (contract_of c)) k
     ≡ option_and_then (λ p. option_and_then (λ m. transaction_of_member (member_of m)) (slice_get c.members p))
-    (slice_get (places_from 0 (map member_of c.members)) k)
+    (slice_get (positions_from 0 (map member_of c.members)) k)
 transaction-placed c k =
     placed [] (map member_of c.members) k ∙ through_nodes c.members
-    (slice_get (places_from 0 (map member_of c.members)) k)
+    (slice_get (positions_from 0 (map member_of c.members)) k)
 
 pub ruleset members = (members_at)
 

@@ -35,17 +35,17 @@ transaction_of_member (constructor_member of perm params body span) = None
 transaction_of_member (transaction_member private listed name params result body span) =
     Some (record { private = private; listed = listed; name = name; params = params; result = result; body = body })
 
--- the place of a member, if it is a transaction
-abbrev pub place_in : ℕ → Member → List ℕ
-place_in n (state_member name fields span) = []
-place_in n (field_member field) = []
-place_in n (constructor_member of perm params body span) = []
-place_in n (transaction_member private listed name params result body span) = n ∷ []
+-- the position of a member, if it is a transaction
+abbrev pub position_in : ℕ → Member → List ℕ
+position_in n (state_member name fields span) = []
+position_in n (field_member field) = []
+position_in n (constructor_member of perm params body span) = []
+position_in n (transaction_member private listed name params result body span) = n ∷ []
 
--- the places of the transactions among members, of which the first stands at this place
-abbrev pub places_from : ℕ → List Member → List ℕ
-places_from n [] = []
-places_from n (m ∷ ms) = place_in n m ++ places_from (n + 1) ms
+-- the positions of the transactions among members, of which the first has this position
+abbrev pub positions_from : ℕ → List Member → List ℕ
+positions_from n [] = []
+positions_from n (m ∷ ms) = position_in n m ++ positions_from (n + 1) ms
 
 -- the fields and transactions of a contract by name, with their kinds and places, and the kinds of its
 -- constructor's parameters
@@ -55,7 +55,7 @@ members_of program c = record {
   kinds = map (kind_of_declaration program) (fields_of c);
   transactions = numbered (map (λ t. t.name.name) (transactions_of c));
   headings = map (heading_of program) (transactions_of c);
-  places = places_from 0 c.members;
+  places = positions_from 0 c.members;
   constructor = kinds_of_params program (constructor_of c).params;
 }
 

@@ -10,7 +10,7 @@ ghost use Rattle.ob_resolve_spec.specs.declared.kind.InferredKind.TheVariants.{U
 ghost use Rattle.ob_resolve_scope.specs.Numbered.{find, added, numbered_from, numbered};
 ghost use Rattle.ob_resolve_scope.specs.Types.{program_of};
 ghost use Rattle.ob_resolve_scope.specs.Once.{asked_of, parts_of};
-ghost use Rattle.ob_resolve_scope.specs.Members.{kind_of_declaration, kind_of_node, members_of, heading_of, place_in, places_from, params_of_first};
+ghost use Rattle.ob_resolve_scope.specs.Members.{kind_of_declaration, kind_of_node, members_of, heading_of, position_in, positions_from, params_of_first};
 
 use crate::asked::{Asked, all_asked};
 use crate::members::{Heading, Members};
@@ -308,7 +308,7 @@ fn transactions_of(
 // The place of a member, if it is a transaction.
 #[tactic(auto, using(crate::proofs::BuildLemmas::parts))]
 fn add_place(member: &Member, place: usize, places: &mut Items<usize>) -> Result<(), Memory>
-    ensures { OnOk result (places.new ≡ places.old ++ place_in place (member_of member.now)) }
+    ensures { OnOk result (places.new ≡ places.old ++ position_in place (member_of member.now)) }
 {
     match member {
         Member::Transaction { .. } => Ok(places.push(place)?),
@@ -319,7 +319,7 @@ fn add_place(member: &Member, place: usize, places: &mut Items<usize>) -> Result
 // The places of the members that are transactions.
 #[tactic(auto, using(crate::proofs::BuildLemmas::places_turn))]
 fn places_of(members: &[Member], alloc: Global) -> Result<Items<usize>, Memory>
-    ensures { IfOk result (λ places. places ≡ places_from 0 (map member_of members.now)) }
+    ensures { IfOk result (λ places. places ≡ positions_from 0 (map member_of members.now)) }
 {
     let mut places = Items::new(alloc);
     for place in 0..members.len() {

@@ -14,12 +14,12 @@ use Rattle.ob_resolve_spec.specs.Sites.{Site, declares_name, counts_against_limi
 use Rattle.ob_resolve_spec.specs.MemberSites.{sites_of}
 use Rattle.ob_base.specs.Faults as faults
 
--- 301: the name is nothing visible
+-- `unknown_name`: the name is nothing visible
 abbrev pub is_unknown_name : Site → Bool
 is_unknown_name (names_thing need visible name) = not (is_visible visible name.name)
 is_unknown_name site = false
 
--- 302: a second thing of one name
+-- `duplicate`: a second thing of one name
 abbrev pub is_duplicate : Site → Bool
 is_duplicate (declares_name taken name) = is_among name.name taken
 is_duplicate site = false
@@ -34,7 +34,7 @@ abbrev pub is_known : InferredKind → Bool
 is_known unknown = false
 is_known kind = true
 
--- 303: the name is a visible thing of another kind; `available in` inside a state; `>>` after a value's type; `this`
+-- `wrong_kind`: the name is a visible thing of another kind; `available in` inside a state; `>>` after a value's type; `this`
 -- after another parameter, of a constructor, of a value's type or of another contract's
 abbrev pub is_wrong_kind : Site → Bool
 is_wrong_kind (names_thing need visible name) = is_visible visible name.name && not (means need visible name.name)
@@ -44,12 +44,12 @@ is_wrong_kind (takes_this before constructor of span) = nat_lt 0 before || const
 is_wrong_kind (types_this own kind name) = is_known kind && not (same own name.name)
 is_wrong_kind site = false
 
--- 304: a state that the contract doesn't have
+-- `no_state`: a state that the contract doesn't have
 abbrev pub is_no_state : Site → Bool
 is_no_state (names_state c name) = not (is_among name.name (state_names c))
 is_no_state site = false
 
--- 305: a field that the contract doesn't have
+-- `not_field`: a field that the contract doesn't have
 abbrev pub is_not_field : Site → Bool
 is_not_field (names_field c name) = not (is_among name.name (field_names c))
 is_not_field site = false
@@ -61,7 +61,7 @@ returns_other program nothing (Some kind) = true
 returns_other program result None = true
 returns_other program result (Some kind) = differs program result kind
 
--- 306: a value of another type than is needed, or a listed field of another than it has
+-- `type_mismatch`: a value of another type than is needed, or a listed field of another than it has
 abbrev pub is_type_mismatch : Site → Bool
 is_type_mismatch (has_kind program wanted has span) = differs program wanted has
 is_type_mismatch (needs_reference kind span) = is_no_reference kind
@@ -70,49 +70,49 @@ is_type_mismatch (returns_from_body program result value span) = returns_other p
 is_type_mismatch (lists_field field written span) = not (same_kind field written)
 is_type_mismatch site = false
 
--- 307: another number of arguments than of parameters
+-- `arg_count`: another number of arguments than of parameters
 abbrev pub is_arg_count : Site → Bool
 is_arg_count (passes_arguments args params span) = not (nat_eq args params)
 is_arg_count site = false
 
--- 308: an exit that can't follow its entry, or a constructor that gives Unowned
+-- `bad_exit`: an exit that can't follow its entry, or a constructor that gives Unowned
 abbrev pub is_bad_exit : Site → Bool
 is_bad_exit (leaves_permission (Some entry) (Some exit) span) = not (may_leave entry exit)
 is_bad_exit (gives_object (Some perm) span) = same_mode as_unowned perm
 is_bad_exit site = false
 
--- 309: a contract that is no asset owns one
+-- `non_asset_owner`: a contract that is no asset owns one
 abbrev pub is_non_asset_owner : Site → Bool
 is_non_asset_owner (holds_object own of perm span) = not own.asset && of.asset && is_owning perm
 is_non_asset_owner site = false
 
--- 310: a contract doesn't have what its interface asks
+-- `interface_mismatch`: a contract doesn't have what its interface asks
 abbrev pub is_interface_mismatch : Site → Bool
 is_interface_mismatch (implements_interface program interface own span) = not (meets program interface own)
 is_interface_mismatch site = false
 
--- 311: the first thing past a limit
+-- `limit`: the first thing past a limit
 abbrev pub is_past_limit : Site → Bool
 is_past_limit (counts_against_limit before most span) = nat_eq before most
 is_past_limit site = false
 
--- 312: the end of a body with a result is reached
+-- `missing_return`: the end of a body with a result is reached
 abbrev pub is_missing_return : Site → Bool
 is_missing_return (closes_body nothing ended span) = false
 is_missing_return (closes_body result ended span) = not ended
 is_missing_return site = false
 
--- 313: a statement that isn't reached
+-- `unreachable`: a statement that isn't reached
 abbrev pub is_unreachable : Site → Bool
 is_unreachable (follows_statement ended span) = ended
 is_unreachable site = false
 
--- 314: a second main contract
+-- `two_mains`: a second main contract
 abbrev pub is_second_main : Site → Bool
 is_second_main (is_main before span) = is_not_empty before
 is_second_main site = false
 
--- 315: a parameter is assigned
+-- `assign_parameter`: a parameter is assigned
 abbrev pub is_assigned_parameter : Site → Bool
 is_assigned_parameter (assigns_variable (Some variable) span) = variable.is_param
 is_assigned_parameter site = false

@@ -1,7 +1,9 @@
--- What each tree of a text is like, and its plain data doesn't say: names are names, an operator has as many operands as
--- it needs, and an interface has states and heads alone (the Obsidian language documentation, "Interfaces").
+-- What each tree of a text is like, and its plain data doesn't say: names are names, a number is one of 64 bits and a
+-- string is a text of at most 1,024 bytes, an operator has as many operands as it needs, and an interface has states
+-- and heads alone (the Obsidian language documentation, "Interfaces").
 use Rattle.std.specs.Prelude.{◌≡◌, Bool, true, false, List, [], ◌∷◌, Option, Some, None, IsTrue, IsSome, IfSome, All, ⊤}
 use Rattle.ob_base.specs.Names.{is_name, is_text}
+use Rattle.ob_base.specs.Numbers.{is_int}
 use Rattle.ob_tree.specs.Members.{Listed, Member, state_member, field_member, constructor_member, transaction_member, Contract}
 use Rattle.ob_tree.specs.Exprs.{Expr, number_expr, text_expr, bool_expr, name_expr, this_expr, unary_expr, binary_expr, call_expr, new_expr, Call, call_with, Exprs, no_exprs, and_expr}
 use Rattle.ob_tree.specs.Stmts.{GivenExpr, Stmt, declare_stmt, assign_stmt, stage_stmt, change_stmt, call_stmt, test_stmt, if_stmt, return_stmt, revert_stmt, disown_stmt, assert_stmt, Block, block_with, Else, no_else, else_with, Stmts, no_stmts, and_stmt}
@@ -12,10 +14,10 @@ use Rattle.ob_resolve_spec.specs.Operators.{has_one_operand}
 -- Expressions and statements.
 
 abbrev mutual
-  -- each operator of an expression has as many operands as it needs
+  -- the numbers and strings of an expression are in range, and each operator has as many operands as it needs
   pub HasExprShape : Expr → Type 0
-  HasExprShape (number_expr value span) = ⊤
-  HasExprShape (text_expr value span) = ⊤
+  HasExprShape (number_expr value span) = IsTrue (is_int value)
+  HasExprShape (text_expr value span) = IsTrue (is_text value)
   HasExprShape (bool_expr value span) = ⊤
   HasExprShape (name_expr name span) = ⊤
   HasExprShape (this_expr token span) = ⊤

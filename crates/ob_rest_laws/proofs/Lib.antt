@@ -3,3 +3,4 @@ pub mod OneOwner
 pub mod FirstFailing
 pub mod Owner
 pub mod Counting
+pub mod Changing

@@ -4,7 +4,7 @@ ghost use Rattle.ob_table.specs.Tables.{ClassTable};
 ghost use Rattle.ob_heap_spec.specs.Contents.{Content};
 ghost use Rattle.ob_rest_spec.specs.Incoming.{owning_places, owner_of, owners};
 ghost use Rattle.ob_rest_spec.specs.AtRest.{IsAtRest, first_failing_object, EachAssetHasOneOwner};
-ghost use Rattle.ob_rest_laws.specs.Laws.{FailsInNoWay, field_owners, handle_owners};
+ghost use Rattle.ob_rest_laws.specs.Laws.{FailsInNoWay, field_owners, handle_owners, ChangesQuietly};
 
 /// A store is at rest exactly where each of its objects fails in none of the six ways.
 pub fn at_rest_is_asked_way_by_way()
@@ -32,4 +32,10 @@ pub fn owners_add_up()
 pub fn owner_is_first_owning_place()
     ensures { (table : ClassTable) (content : Content) (n : ℕ)
         → owner_of table content n ≡ slice_get (owning_places table content n) 0 }
+{}
+
+/// A store at rest stays so where objects gain marks at most, and owners and Shared handles change with the marks.
+pub fn quiet_changes_keep_rest()
+    ensures { (table : ClassTable) (content after : Content) → IsAtRest table content
+        → ChangesQuietly table content after → IsAtRest table after }
 {}

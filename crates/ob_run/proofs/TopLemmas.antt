@@ -182,11 +182,11 @@ module _ (words : List (List ℕ)) (old new : Outside) (smooth : IsSmooth words 
 
   -- no write failed, and there was a command
   no_write_fault : Treats (serve smooth.name) smooth.text (streams old) (streams new) WriteFault → ⊥
-  no_write_fault (inl h) = smooth.writes h.holds.cause
+  no_write_fault (inl h) = smooth.writes h.said.cause
   no_write_fault (inr h) = smooth.writes h.cause
 
   not_long : Treats (serve smooth.name) smooth.text (streams old) (streams new) Long → ⊥
-  not_long h = too_many old.input.left new.input.left smooth.input h.holds.so_far.taken smooth.input_told smooth.few h.holds.so_far.took.told h.holds.exactly
+  not_long h = too_many old.input.left new.input.left smooth.input h.said.so_far.taken smooth.input_told smooth.few h.said.so_far.took.told h.said.exactly
 
   -- a text of the form is served
   pub served : (e : Exit) → MeetsStatus words old new e → IsOfForm smooth.text → (e ≡ Done) ⊎ (e ≡ Memory)
@@ -194,7 +194,7 @@ module _ (words : List (List ℕ)) (old new : Outside) (smooth : IsSmooth words 
   served Memory h form = inr refl
   served Refused h form = let refusal = (told Refused h).said in absurd (never_of_form_and_faulty_lem smooth.text refusal.fault refusal.told form)
   served Usage h form = absurd (cc (h.command, smooth.command))
-  served ReadFault h form = absurd (smooth.reads (told ReadFault h).holds.cause)
+  served ReadFault h form = absurd (smooth.reads (told ReadFault h).said.cause)
   served WriteFault h form = absurd (no_write_fault (told WriteFault h))
   served FileFault h form = absurd (smooth.files h.cause)
   served Long h form = absurd (not_long (told Long h))
@@ -209,7 +209,7 @@ module _ (words : List (List ℕ)) (old new : Outside) (smooth : IsSmooth words 
   refused Memory h fault = inr refl
   refused Refused h fault = inl refl
   refused Usage h fault = absurd (cc (h.command, smooth.command))
-  refused ReadFault h fault = absurd (smooth.reads (told ReadFault h).holds.cause)
+  refused ReadFault h fault = absurd (smooth.reads (told ReadFault h).said.cause)
   refused WriteFault h fault = absurd (no_write_fault (told WriteFault h))
   refused FileFault h fault = absurd (smooth.files h.cause)
   refused Long h fault = absurd (not_long (told Long h))
@@ -223,7 +223,7 @@ module _ (words : List (List ℕ)) (old new : Outside) (smooth : IsSmoothCheck w
   serves_nothing says h = cc h.is
 
   no_write_fault_check : Treats (check smooth.name) smooth.text (streams old) (streams new) WriteFault → ⊥
-  no_write_fault_check (inl h) = smooth.writes h.holds.cause
+  no_write_fault_check (inl h) = smooth.writes h.said.cause
   no_write_fault_check (inr h) = smooth.writes h.cause
 
   -- a text that has a tree is accepted

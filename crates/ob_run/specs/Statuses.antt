@@ -24,7 +24,7 @@ pub record ServesProgram (command : Command) (text : List ℕ) (says : Option Pl
   pub is : command ≡ serve name
   pub program : Option Plain
   pub has : HasProgram text program
-  pub holds : says program
+  pub said : says program
 
 -- the faults that a command tells of a text
 abbrev pub IsToldBy : Command → List ℕ → ProgramFault → Type 0
@@ -129,7 +129,8 @@ MeetsStatus words old new FileFault = IsFileFault words old new
 MeetsStatus words old new Memory = IsMemory words old new
 MeetsStatus words old new Long = IsLong words old new
 
--- The words are `serve P`, the input is told and has fewer than `most_taken` bytes, and no count of faults rises.
+-- The words are `serve P`, the text of P is told, the input is told and has fewer than `most_taken` bytes, and no count of
+-- faults rises.
 pub record IsSmooth (words : List (List ℕ)) (old new : Outside) : Type 0 where
   pub name : List ℕ
   pub command : command_of words ≡ Some (serve name)
@@ -142,7 +143,7 @@ pub record IsSmooth (words : List (List ℕ)) (old new : Outside) : Type 0 where
   pub writes : ¬ (Rose old.output.faults new.output.faults)
   pub files : ¬ (Rose old.files.faults new.files.faults)
 
--- The words are `check P`, and no count of faults rises.
+-- The words are `check P`, the text of P is told, and neither the count of faults of the output nor that of the files rises.
 pub record IsSmoothCheck (words : List (List ℕ)) (old new : Outside) : Type 0 where
   pub name : List ℕ
   pub command : command_of words ≡ Some (check name)

@@ -224,7 +224,7 @@ pub fn run<F: Files, S: Source, K: Sink>(
         (outside (F.view files.new) (S.view input.new) (K.view output.new)))
         → ¬ (IsAccepted smooth.text) → (result ≡ Exit.Refused) ⊎ (result ≡ Exit.Memory) }
 
-    // The program's file is asked once at most, for 1,048,577 bytes, and no other file is.
+    // The program's file is asked once at most, for `most_read` bytes, and no other file is.
     ensures asked { AsksFor (command_of (map string_bytes words.now)) (F.view files.old).asks (F.view files.new).asks }
 
     // No count of faults falls.

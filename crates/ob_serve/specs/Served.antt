@@ -22,7 +22,7 @@ abbrev pub IsAll : Option (List ℕ) → List ℕ → Type 0
 IsAll None bytes = ⊤
 IsAll (Some all) bytes = bytes ≡ all
 
--- The input was read to its end, of fewer than 2^40 bytes, and the replies to its lines were written.
+-- The input was read to its end, of fewer than `most_taken` bytes, and the replies to its lines were written.
 pub record Finishes (program : Option Plain) (old new : Streams) : Type 0 where
   pub input : List ℕ
   pub took : TakesFrom old.input new.input input
@@ -36,13 +36,13 @@ pub record BreaksOff (program : Option Plain) (old new : Streams) : Type 0 where
   pub took : TakesFrom old.input new.input taken
   pub written : Gives old.output.written new.output.written (replies_to program (whole_lines taken))
 
--- A read failed, after fewer than 2^40 bytes.
+-- A read failed, after fewer than `most_taken` bytes.
 pub record FailsToRead (program : Option Plain) (old new : Streams) : Type 0 where
   pub cause : Rose old.input.faults new.input.faults
   pub so_far : BreaksOff program old new
   pub within : length so_far.taken < most_taken
 
--- Exactly 2^40 bytes were taken, and no line is left of them.
+-- Exactly `most_taken` bytes were taken, and no line is left of them.
 pub record ReachesLimit (program : Option Plain) (old new : Streams) : Type 0 where
   pub so_far : BreaksOff program old new
   pub exactly : length so_far.taken ≡ most_taken
@@ -56,7 +56,7 @@ pub record StopsIn (items : List (SessionItem Store)) (given : List ℕ) : Type 
   pub given_is : given ≡ replies (take k items) ++ front
   pub next : replies (take (k + 1) items) ≡ replies (take k items) ++ (front ++ rest)
 
--- A write failed, within a reply, and at most 2^40 bytes were taken.
+-- A write failed, within a reply, and at most `most_taken` bytes were taken.
 pub record FailsToWrite (program : Option Plain) (old new : Streams) : Type 0 where
   pub cause : Rose old.output.faults new.output.faults
   pub few : TakesAtMost old.input new.input most_taken
@@ -66,7 +66,7 @@ pub record FailsToWrite (program : Option Plain) (old new : Streams) : Type 0 wh
   pub written : Gives old.output.written new.output.written given
   pub stops : StopsIn (items_of program (lines_of input)) given
 
--- Memory ran out before a reply: those of k items were written, and at most 2^40 bytes were taken.
+-- Memory ran out before a reply: those of k items were written, and at most `most_taken` bytes were taken.
 pub record GivesUp (program : Option Plain) (old new : Streams) : Type 0 where
   pub few : TakesAtMost old.input new.input most_taken
   pub input : List ℕ

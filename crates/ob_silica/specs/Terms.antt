@@ -26,7 +26,7 @@ mutual
     call_form : Option ℕ → Operand → ContractId → TxId → List Operand → SilicaForm
     call_this_form : Option ℕ → TxId → List Operand → SilicaForm
     change_form : StateId → List Given → SilicaForm
-    -- the place, the state, the two branches, the place in the text where they join
+    -- the place, the state, the two branches, the span where they join
     test_form : Operand → StateId → SilicaTerms → SilicaTerms → Span → SilicaForm
     if_form : Operand → SilicaTerms → SilicaTerms → Span → SilicaForm
     assert_form : Operand → Perm → SilicaForm
@@ -36,7 +36,7 @@ mutual
     revert_form : Operand → SilicaForm
     bad_row_form : SilicaForm
 
-  -- terms in their order, each a form with its place in the text
+  -- terms in their order, each a form with its span
   pub data SilicaTerms : Type 0 where
     no_terms : SilicaTerms
     and_term : SilicaForm → Span → SilicaTerms → SilicaTerms

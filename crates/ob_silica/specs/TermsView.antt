@@ -46,7 +46,7 @@ term_step node = (node.form, node.span)
 abbrev pub form_of : made.Form → SilicaForm
 form_of = made.fold-Form SilicaForm (SilicaForm × Span) form_step term_step
 
--- a term: its form with its place in the text
+-- a term: its form with its span
 abbrev pub term_of : Term → SilicaForm × Span
 term_of = fold-Term SilicaForm (SilicaForm × Span) form_step term_step
 

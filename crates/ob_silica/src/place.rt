@@ -20,7 +20,7 @@ pub enum Place {
 pub struct Operand {
     /// Where the value is found.
     pub place: Place,
-    /// The place in the text of the name, `this` or other expression that it stands for.
+    /// The span of the name, `this` or other expression that it stands for.
     pub span: Span,
 }
 
@@ -29,7 +29,7 @@ pub struct Operand {
 pub struct Given {
     /// The field that gets the value.
     pub field: FieldId,
-    /// The place in the text of the field's name.
+    /// The span of the field's name.
     pub span: Span,
     /// The place that has the value.
     pub from: Operand,

@@ -16,14 +16,14 @@ pub enum SilicaOperator {
     Binary(BinaryOperator),
 }
 
-/// A form, and its place in the text: that of those of its faults that aren't an operand's, a given field's or a
+/// A form, and its span: that of those of its faults that aren't an operand's, a given field's or a
 /// join's.
 #[derive(Drop)]
 #[cycle(term)]
 pub struct Term {
     /// What the term does.
     pub form: Form,
-    /// The place in the text that its other faults are told at.
+    /// The span that its other faults are told at.
     pub span: Span,
 }
 
@@ -94,7 +94,7 @@ pub enum Form {
         state: StateId,
         then: Items<Term>,
         otherwise: Items<Term>,
-        /// The place in the text where the branches join.
+        /// The span where the branches join.
         join: Span,
     },
     /// Tests a `bool`.
@@ -102,7 +102,7 @@ pub enum Form {
         a: Operand,
         then: Items<Term>,
         otherwise: Items<Term>,
-        /// The place in the text where the branches join.
+        /// The span where the branches join.
         join: Span,
     },
     /// Says what a place holds, and does nothing.

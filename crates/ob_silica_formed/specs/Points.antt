@@ -1,6 +1,8 @@
 -- What is asked of each form of a body, where slots hold this (Coblenz et al., TOPLAS 42(3), 2020, "Silica", where these are
 -- premises of the rules; slots are this project's own).
 use Rattle.std.specs.Prelude.{◌≡◌, ℕ, ◌<◌, true, false, List, [], ◌∷◌, map, length, Option, Some, None, is_some, IsTrue, IsSome, IsSomeAnd, IfSome, AllPairs, ◌≢◌, ⊤}
+use Rattle.ob_base.specs.Names.{is_text}
+use Rattle.ob_base.specs.Numbers.{is_int}
 use Rattle.ob_base.specs.declared.id.ContractId.{ContractId}
 use Rattle.ob_table.specs.Tables.{contract_at, field_at, signature_of}
 use Rattle.ob_table.specs.declared.contract.Param.{Param}
@@ -9,7 +11,9 @@ use Rattle.ob_table.specs.declared.seen.Kind.{Kind}
 use Rattle.ob_table.specs.declared.seen.Kind.TheVariants.{Int, Bool as BoolKind, Text, Reference}
 use Rattle.ob_table_spec.specs.Conditions.{IsPermOn}
 use Rattle.ob_table_spec.specs.WellFormed.{StaticFrame, kind_of_resolved, kind_of_unary, is_reference, is_constructor, serves_as, RefersTo, constructor_at}
-use Rattle.ob_silica.specs.Terms.{SilicaForm, op_form, copy_form, move_form, new_form, call_form, call_this_form, change_form, test_form, if_form, assert_form, disown_form, return_form, revert_form, SilicaTerms, no_terms, and_term}
+use Rattle.ob_silica.specs.Terms.{SilicaForm, const_form, op_form, copy_form, move_form, new_form, call_form, call_this_form, change_form, test_form, if_form, assert_form, disown_form, return_form, revert_form, SilicaTerms, no_terms, and_term}
+use Rattle.ob_silica.specs.declared.place.Constant.{Constant}
+use Rattle.ob_silica.specs.declared.place.Constant.TheVariants as constant
 use Rattle.ob_silica.specs.declared.place.Given.{Given}
 use Rattle.ob_silica.specs.declared.place.Operand.{Operand}
 use Rattle.ob_silica.specs.declared.place.Place.{Place}
@@ -61,6 +65,12 @@ NamesWhatIsThere f h form = ⊤
 
 -- Kinds.
 
+-- a constant is a value of its kind: an `int` of 64 bits, a `bool`, or a text of at most 1,024 bytes
+abbrev pub IsConstant : Constant → Type 0
+IsConstant (constant.Int z) = IsTrue (is_int z)
+IsConstant (constant.Bool b) = ⊤
+IsConstant (constant.Text bytes) = IsTrue (is_text bytes)
+
 -- an operand's value is known to serve where one of this kind is needed
 abbrev pub HasKind : StaticFrame → Holdings → Kind → Operand → Type 0
 HasKind f h wanted o = IsSomeAnd (kind_of_operand f h o) (λ kind. IsTrue (serves_as f.table wanted kind))
@@ -111,9 +121,11 @@ IsMovedTo f h (Field id) (Some contract) from = ⊥
 IsMovedTo f h to None from = ⊥
 IsMovedTo f h to (Some contract) from = HasKind f h (Reference contract) from
 
--- Each operand of a form has the kind that the form needs; there are as many arguments as parameters beside `this`, and no
--- field is given twice.
+-- A constant is a value of its kind, and each operand of a form has the kind that the form needs; there are as many
+-- arguments as parameters beside `this`, and no field is given twice. Of a `new` of an interface, which has no constructor,
+-- nothing is asked here: `NamesBody` rules it out.
 abbrev pub HasKinds : StaticFrame → Holdings → SilicaForm → Type 0
+HasKinds f h (const_form k value) = IsConstant value
 HasKinds f h (op_form k operator a b line) = HaveOperands f h operator a b
 HasKinds f h (copy_form to from) = IsNoReference f h from × IsCopiedTo f h to from
 HasKinds f h (move_form to from contract) = IsReference f h from × IsMovedTo f h to contract from

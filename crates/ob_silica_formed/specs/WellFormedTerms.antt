@@ -20,7 +20,8 @@ pub record HasNumbers (f : StaticFrame) (h : Holdings) (body : SilicaBody) : Typ
 pub record AreWellFormed (f : StaticFrame) (h : Holdings) (body : SilicaBody) : Type 0 where
   -- each number is in range
   pub numbers : HasNumbers f h body
-  -- each operand has the kind that its form needs, there are as many arguments as parameters, and no field is given twice
+  -- each constant is in range, each operand has the kind that its form needs, there are as many arguments as
+  -- parameters, and no field is given twice
   pub kinds : Each HasKinds f h body.terms
   -- a call has a slot for its result exactly where there is a result
   pub results : Each TakesResult f h body.terms

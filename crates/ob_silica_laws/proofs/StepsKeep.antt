@@ -36,7 +36,7 @@ use Rattle.ob_silica_places.specs.Parameters.{Parameter, this_parameter, paramet
 use Rattle.ob_silica_steps.specs.Entering.{Entered, enters, begins_on, calls_object, calls_this, makes_object}
 use Rattle.ob_silica_steps.specs.Changing.{all_there, fill_all, changed_object, changed_here, is_locked_out, change_with, change_step}
 use Rattle.ob_silica_steps.specs.Testing.{StateTest, tells, test_shared_this, test_this_as, test_this, test_shared, test_other, test_object, is_in, reads_object, test_step}
-use Rattle.ob_silica_steps.specs.Returning.{exits_are_within, gives_this, gives_none, gives, return_step, gives_back, goes_back, leave_step, left_world}
+use Rattle.ob_silica_steps.specs.Returning.{exits_are_within, gives_this, gives_none, gives_result, return_step, gives_back, goes_back, leave_step, left_world}
 use Rattle.ob_silica_steps.specs.Straight.{with_operated, with_truth, with_text, available_field, copy_to, move_to_slot, move_to, disowns_object}
 use Rattle.ob_silica_steps.specs.Calling.{entered_with, constructor_id, call_step, call_this_step, new_step}
 use Rattle.ob_silica_steps.specs.Steps.{act, pop_step, run_step, control_step, step, then_steps, steps}
@@ -154,7 +154,7 @@ gives_none_keeps by_receiver program s outer c = leads_goes _ (keeps_self c.worl
 gives_none_keeps by_this program s outer c = leads_goes _ (keeps_self c.world)
 gives_none_keeps by_new program s outer c = gives_this_keeps program s outer c
 
-gives_keep : (program : SilicaProgram) (s : Signature) (result : Option ResolvedType) (place : Option Location) (outer : List Rest) (c : Configuration) → Leads c.world (gives program s result place outer c)
+gives_keep : (program : SilicaProgram) (s : Signature) (result : Option ResolvedType) (place : Option Location) (outer : List Rest) (c : Configuration) → Leads c.world (gives_result program s result place outer c)
 gives_keep program s result None outer c = gives_none_keeps c.frame.how program s outer c
 gives_keep program s None (Some place) outer c =
     leads_there (read program.table (here c) place) _ (λ x. leads_goes _ (keeps_self c.world))

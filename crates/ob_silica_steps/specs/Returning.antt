@@ -60,16 +60,16 @@ gives_none by_this program s outer c = leaves_with c (here c) None outer
 gives_none by_new program s outer c = gives_this program s outer c
 
 -- the result is taken
-abbrev pub gives : SilicaProgram → Signature → Option ResolvedType → Option Location → List Rest → Configuration → NextStep
-gives program s result None outer c = gives_none c.frame.how program s outer c
-gives program s None (Some place) outer c =
+abbrev pub gives_result : SilicaProgram → Signature → Option ResolvedType → Option Location → List Rest → Configuration → NextStep
+gives_result program s result None outer c = gives_none c.frame.how program s outer c
+gives_result program s None (Some place) outer c =
     if_there (read program.table (here c) place) (λ x. leaves_with c (here c) (Some (noted unowned x)) outer)
-gives program s (Some of) (Some place) outer c = gives_value program of place outer c
+gives_result program s (Some of) (Some place) outer c = gives_value program of place outer c
 
 -- the step of a return: the objects of owning exits are in the declared states
 abbrev pub return_step : SilicaProgram → Option Location → List Rest → Configuration → NextStep
 return_step program place outer c = if_there (signature_of program.table c.frame.contract c.frame.tx) (λ s.
-    if exits_are_within program.table c s then gives program s s.result place outer c else stuck)
+    if exits_are_within program.table c s then gives_result program s s.result place outer c else stuck)
 
 -- After it.
 

@@ -127,7 +127,7 @@ module _ (table : ClassTable) (made : IsClassTable table) where
             class = class;
             signature = n.signature;
             params = t.signature.params;
-            leaves = λ u r. let s = used u r in subst (λ p. MayLeave p u.exit) (sym s.0) (subst (MayLeave e.signature.entry) (sym s.1) t.leaves);
+            leaves = λ u r. let s = used u r in subst (λ p. MayLeave p u.exit) (sym s.0) (subst (MayLeave e.signature.entry) (sym s.1) t.exit_may_follow);
           }
 
 -- the body of what is entered

@@ -1,3 +1,4 @@
+pub mod Keeping
 pub mod Many
 pub mod Staying
 pub mod Ending
@@ -10,3 +11,4 @@ pub mod Whole
 pub mod Puts
 pub mod Bodies
 pub mod Left
+pub mod Sound

@@ -34,7 +34,7 @@ use Rattle.ob_silica_steps.specs.Configurations.{SilicaProgram, SlotCells, Ends,
 use Rattle.ob_silica_steps.specs.Entering.{Entered, enters, entered_on, entered_new, are_within, calls_object, calls_this, makes_object}
 use Rattle.ob_silica_steps.specs.Getting.{got_from}
 use Rattle.ob_silica_steps.specs.Here.{Here, here, self_of, goes_to, set_slot, if_there, with_fuel_left, with_unit, read, set_permission, set_field, hand}
-use Rattle.ob_silica_steps.specs.Returning.{gives_none, gives, gives_back, goes_back, leaves_progress}
+use Rattle.ob_silica_steps.specs.Returning.{gives_none, gives_result, gives_back, goes_back, leaves_progress}
 use Rattle.ob_silica_steps.specs.Steps.{act, run_step, control_step, step}
 use Rattle.ob_silica_steps.specs.Straight.{with_operated, with_truth, with_text, copy_to, move_to}
 use Rattle.ob_silica_steps.specs.Testing.{StateTest, narrowed, test_object, test_this_as, test_shared, tells, end_branch, tests_from, reads_object}
@@ -366,7 +366,7 @@ module _ (program : SilicaProgram) (c : Configuration) where
       search (there, either, on) depth 10
 
   on_gives : (s : Signature) (result : Option ResolvedType) (place : Option Location) (outer : List Rest)
-      → On (gives program s result place outer c)
+      → On (gives_result program s result place outer c)
   on_gives s result None outer = on_gives_none c.frame.how s outer
   on_gives s None (Some place) outer =
       let on : (control : Control) → On (goes_to c (here c) control) = λ control. goes_on (here c) control so in

@@ -87,7 +87,7 @@ IsListedAs table entry exit kind = ⊥
 -- a listed field: one of the contract that is a reference, with permissions that may follow one another
 pub record IsListed (table : ClassTable) (c : Contract) (l : Listed) : Type 0 where
   pub field : IsSomeAnd (field_at c l.field) (λ f. IsListedAs table l.entry l.exit f.of)
-  pub leaves : MayLeave l.entry l.exit
+  pub exit_may_follow : MayLeave l.entry l.exit
 
 -- what constructors and transactions have in common
 pub record IsSignature (table : ClassTable) (c : Contract) (s : Signature) : Type 0 where
@@ -104,13 +104,13 @@ pub record IsConstructor (table : ClassTable) (c : Contract) (s : Signature) : T
   pub public : s.private ≡ false
   pub result : s.result ≡ None
   pub listed : s.listed ≡ []
-  pub gives : s.exit.mode ≢ Unowned
+  pub exit_not_unowned : s.exit.mode ≢ Unowned
 
 -- fields are listed where it is private, each once
 pub record IsTransaction (table : ClassTable) (c : Contract) (s : Signature) : Type 0 where
   pub signature : IsSignature table c s
   pub name : IsTrue (is_name s.name)
-  pub leaves : MayLeave s.entry s.exit
+  pub exit_may_follow : MayLeave s.entry s.exit
   pub listed : All (IsListed table c) s.listed
   pub distinct : AllPairs (λ (a b : FieldId). a.0 ≢ b.0) (map (λ l. l.field) s.listed)
   pub private : s.private ≡ false → s.listed ≡ []

@@ -3,6 +3,8 @@
 use Rattle.std.specs.Prelude.{◌≡◌, ◌≢◌, ℕ, ◌+◌, ◌<◌, Bool, true, false, not, ◌&&◌, ◌||◌, nat_eq, List, [], ◌∷◌, ◌++◌, map, length, Option, Some, None, option_map, option_and_then, slice_get, IsTrue, IsSome, IsSomeAnd, IfSome, slice_index_or, ⊤, if◌then◌else◌}
 use Rattle.std.specs.Option.{option_map_or}
 use Rattle.std.specs.List.{range_with_len}
+use Rattle.ob_base.specs.Names.{is_text}
+use Rattle.ob_base.specs.Numbers.{is_int}
 use Rattle.ob_base.specs.declared.id.ContractId.{ContractId}
 use Rattle.ob_table.specs.Expressions.{Expression, resolved_number, resolved_text, resolved_bool, resolved_seen, resolved_unary, resolved_binary, resolved_logical, resolved_call, resolved_new, Arguments, no_arguments, and_argument}
 use Rattle.ob_table.specs.Statements.{GivenField, Statement, resolved_declare, resolved_assign, resolved_stage, resolved_change, resolved_discard, resolved_test, resolved_if, resolved_return, resolved_revert, resolved_disown, resolved_assert, Block, resolved_block, Otherwise, no_otherwise, otherwise_block, Statements, no_statements, and_statement, ResolvedBody}
@@ -136,11 +138,11 @@ abbrev pub is_constructor : ClassTable → ContractId → ℕ → Bool
 is_constructor table id tx = option_map_or (λ c. not c.interface && nat_eq tx 0) (contract_at table id) false
 
 abbrev mutual
-  -- an expression is made as it must be: each name stands for something, and each operand has the kind that its place
-  -- needs
+  -- an expression is well-formed: a number is one of 64 bits and a text has at most 1,024 bytes, each name
+  -- stands for something, and each operand has the kind that its place needs
   pub IsWellFormedExpression : StaticFrame → LocalKinds → Expression → Type 0
-  IsWellFormedExpression f ls (resolved_number value span) = ⊤
-  IsWellFormedExpression f ls (resolved_text value span) = ⊤
+  IsWellFormedExpression f ls (resolved_number value span) = IsTrue (is_int value)
+  IsWellFormedExpression f ls (resolved_text value span) = IsTrue (is_text value)
   IsWellFormedExpression f ls (resolved_bool value span) = ⊤
   IsWellFormedExpression f ls (resolved_seen seen span) = IsSome (kind_of_seen f ls seen.of)
   IsWellFormedExpression f ls (resolved_unary operator sign operand span) =
@@ -150,17 +152,17 @@ abbrev mutual
   IsWellFormedExpression f ls (resolved_logical operator sign left right span) =
       IsWellFormedExpression f ls left × IsWellFormedExpression f ls right × ServesAs f ls BoolKind left × ServesAs f ls BoolKind right
   IsWellFormedExpression f ls (resolved_call receiver contract tx name args span) =
-      AreMade f ls args × (is_constructor f.table contract tx.0 ≡ false)
+      AreWellFormedArguments f ls args × (is_constructor f.table contract tx.0 ≡ false)
       × IsSomeAnd (signature_of f.table contract tx) (λ s. IsCalled f ls receiver contract s × PassTo f ls s.params args)
   IsWellFormedExpression f ls (resolved_new contract args span) =
-      AreMade f ls args × IsSomeAnd (constructor_at f.table contract) (λ s. PassTo f ls s.params args)
+      AreWellFormedArguments f ls args × IsSomeAnd (constructor_at f.table contract) (λ s. PassTo f ls s.params args)
 
-  -- arguments, each of which is made as it must be
-  pub AreMade : StaticFrame → LocalKinds → Arguments → Type 0
-  AreMade f ls no_arguments = ⊤
-  AreMade f ls (and_argument e es) = IsWellFormedExpression f ls e × AreMade f ls es
+  -- arguments, each of which is well-formed
+  pub AreWellFormedArguments : StaticFrame → LocalKinds → Arguments → Type 0
+  AreWellFormedArguments f ls no_arguments = ⊤
+  AreWellFormedArguments f ls (and_argument e es) = IsWellFormedExpression f ls e × AreWellFormedArguments f ls es
 
--- an expression that is made, and may stand where one of this kind is needed
+-- an expression that is well-formed, and may stand where one of this kind is needed
 abbrev pub IsValue : StaticFrame → LocalKinds → Kind → Expression → Type 0
 IsValue f ls wanted e = IsWellFormedExpression f ls e × ServesAs f ls wanted e
 
@@ -245,7 +247,7 @@ locals_after ls (resolved_declare local name of value span) = ls ++ (local, of) 
 locals_after ls x = ls
 
 abbrev mutual
-  -- a statement is made as it must be, after a row of staged ones for these fields
+  -- a statement is well-formed, after a row of staged ones for these fields
   pub IsStatement : StaticFrame → LocalKinds → List ℕ → Statement → Type 0
   IsStatement f ls row (resolved_declare local name of value span) =
       IsLocalKind f.table of × (f.params < local) × (local_kind ls local ≡ None) × IsValue f ls of value
@@ -263,7 +265,7 @@ abbrev mutual
   IsStatement f ls row (resolved_disown subject span) = Refers f ls subject.of (λ c. ⊤)
   IsStatement f ls row (resolved_assert subject perm span) = Refers f ls subject.of (λ c. IsPermOn c perm)
 
-  -- a block whose statements are made as they must be
+  -- a block whose statements are well-formed
   pub IsBlock : StaticFrame → LocalKinds → Block → Type 0
   IsBlock f ls (resolved_block statements end) = AreStatements f ls [] statements
 
@@ -297,13 +299,13 @@ frame_of table here own s = record {
       option_map kind_of_resolved s.result;
 }
 
--- the body of a constructor or transaction: its statements are made, and where there is a result its end isn't reached
+-- the body of a constructor or transaction: its statements are well-formed, and where there is a result its end isn't reached
 pub record IsBodyOf (table : ClassTable) (body : ResolvedBody) (own : Contract) (s : Signature) : Type 0 where
   pub contract : own.interface ≡ false
   pub statements : AreStatements (frame_of table body.contract own s) (params_from 1 s.params) [] body.statements
   pub returns : IsSome s.result → one_ends_there body.statements ≡ true
 
--- a body is that of a constructor or transaction of a contract of the table, and is made as it must be
+-- a body is that of a constructor or transaction of a contract of the table, and is well-formed
 abbrev pub IsWellFormed : ClassTable → ResolvedBody → Type 0
 IsWellFormed table body =
     IsSomeAnd (contract_at table body.contract)

@@ -187,7 +187,7 @@ new_there value op is id id_is who who_is e =
     subst (AsksOp value) same (record {
       keys = has_keys keys_of_new value a.0 (some_is _ _ contract.is, (some_is _ _ id_is.is, (some_is _ _ into.is, (some_is _ _ is, (some_is _ _ who_is.is, tt)))));
       op = is;
-      contract_at = contract;
+      contract_label = contract;
       into_at = into;
     })
 
@@ -237,7 +237,7 @@ request_there value request e =
 
 op_again : (value : Data) (op : Op) → AsksOp value op → op_in value ≡ Some op
 op_again value (New contract into) h =
-    rw (h.op, has_only-keys keys_of_new value h.keys, label_again (codes "contract") value contract h.contract_at, label_again (codes "into") value into h.into_at) refl
+    rw (h.op, has_only-keys keys_of_new value h.keys, label_again (codes "contract") value contract h.contract_label, label_again (codes "into") value into h.into_at) refl
 op_again value (Call on tx args) h =
     rw (h.op, has_only-keys keys_of_call value h.keys, label_again (codes "on") value on h.on_at, label_again (codes "tx") value tx h.tx_at, args_again value args h.args_at) refl
 

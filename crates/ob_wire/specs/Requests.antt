@@ -57,7 +57,7 @@ keys_of_call = codes "args" ∷ codes "id" ∷ codes "on" ∷ codes "op" ∷ cod
 pub record AsksNew (value : Data) (contract into : List ℕ) : Type 0 where
   pub keys : HasKeys keys_of_new value
   pub op : get (codes "op") value ≡ Some (string (codes "new"))
-  pub contract_at : LabelAt (codes "contract") value contract
+  pub contract_label : LabelAt (codes "contract") value contract
   pub into_at : LabelAt (codes "into") value into
 
 -- The value asks to run this transaction on this handle with these arguments.

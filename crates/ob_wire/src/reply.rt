@@ -48,7 +48,7 @@ pub enum Cause {
 /// Why a line wasn't taken up.
 #[derive(Clone, Copy, PartialEq, Eq, Debug)]
 pub enum Refusal {
-    /// It has more than 65,536 bytes.
+    /// It has more than `LONGEST_LINE` bytes.
     LongLine,
     /// It is no request that can be answered.
     Shape,

@@ -70,6 +70,9 @@ fn number_in(value: &str) -> Result<i64, Trouble> {
 /// What is said of a field of no kind that there is, or of a value out of its range.
 const NO_FIELD: Trouble = Trouble::Line("no such field");
 
+/// A text of a case has fewer bytes than this; `put_text` takes fewer than 2^32.
+const TEXT_BOUND: usize = 1 << 20;
+
 fn put_number(kind: &str, number: i64, into: &mut Vec<u8>) -> Result<(), Trouble> {
     let put = match (kind, u8::try_from(number), u32::try_from(number)) {
         ("u8", Ok(byte), _) => put_u8(into, byte),
@@ -82,7 +85,7 @@ fn put_number(kind: &str, number: i64, into: &mut Vec<u8>) -> Result<(), Trouble
 
 fn put_field(kind: &str, value: &str, into: &mut Vec<u8>) -> Result<(), Trouble> {
     match kind {
-        "text" if value.len() < 1 << 20 => Ok(put_text(into, value)?),
+        "text" if value.len() < TEXT_BOUND => Ok(put_text(into, value)?),
         "text" => Err(NO_FIELD),
         _ => put_number(kind, number_in(value)?, into),
     }

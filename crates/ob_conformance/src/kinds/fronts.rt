@@ -9,10 +9,10 @@ use std::alloc::Global;
 /// What is said of a text that has no tokens.
 const NO_TOKENS: Trouble = Trouble::Line("no tokens");
 
-fn is_expected_at(alloc: Global, tokens: &[Token], end: Span, place: Span) -> bool {
+fn is_expected_at(alloc: Global, tokens: &[Token], end: Span, span: Span) -> bool {
     let fault = ProgramFault {
         number: EXPECTED,
-        span: place,
+        span,
     };
     matches!(parse(alloc, tokens, end), Err(ParseError::Fault(found)) if found == fault)
 }

@@ -10,7 +10,7 @@ use std::alloc::Global;
 
 /// What a run is handed: its words, the file `p`, and the input.
 #[derive(Drop)]
-struct Given {
+struct Handed {
     words: Vec<String>,
     files: Vec<(String, Vec<u8>)>,
     input: Vec<u8>,
@@ -41,10 +41,10 @@ fn words_of(alloc: Global, text: &str) -> Result<Vec<String>, Trouble> {
     Ok(words)
 }
 
-fn given_of(alloc: Global, words: &str, text: &[u8], input: &[u8]) -> Result<Given, Trouble> {
+fn given_of(alloc: Global, words: &str, text: &[u8], input: &[u8]) -> Result<Handed, Trouble> {
     let mut files = Vec::new(alloc);
     files.push((String::from_str(alloc, "p")?, text.to_vec(alloc)?))?;
-    Ok(Given {
+    Ok(Handed {
         words: words_of(alloc, words)?,
         files,
         input: input.to_vec(alloc)?,
@@ -65,8 +65,8 @@ fn left_in<S: Source>(
     Ok(source.read(&mut left).ok())
 }
 
-fn run_failing(alloc: Global, given: Given, outside: Outside) -> Result<Ended, Trouble> {
-    let Given {
+fn run_failing(alloc: Global, given: Handed, outside: Outside) -> Result<Ended, Trouble> {
+    let Handed {
         words,
         files,
         input,
@@ -105,8 +105,8 @@ fn told(alloc: Global, output: Option<&[u8]>) -> Result<Option<Vec<u8>>, Trouble
     }
 }
 
-fn run_sure(alloc: Global, given: Given, room: usize) -> Result<Ended, Trouble> {
-    let Given {
+fn run_sure(alloc: Global, given: Handed, room: usize) -> Result<Ended, Trouble> {
+    let Handed {
         words,
         files,
         input,
@@ -171,7 +171,7 @@ fn put_ended(lines: &mut Lines, ended: &Ended) {
 }
 
 // What a run of a case over this input is handed.
-fn given_by(alloc: Global, case: &Case, input: &[u8]) -> Result<Given, Trouble> {
+fn given_by(alloc: Global, case: &Case, input: &[u8]) -> Result<Handed, Trouble> {
     let words = text_of(case.part("words"))?;
     given_of(alloc, words, case.part("text"), input)
 }

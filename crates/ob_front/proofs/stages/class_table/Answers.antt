@@ -3,7 +3,7 @@ use Rattle.ob_base.specs.TextErrors.{OnFault}
 use Rattle.ob_tree.specs.MembersView.{tree_of}
 use Rattle.ob_resolve.specs.Resolving.{HasClassTable, IsFirstFault}
 use Rattle.ob_front.specs.Stages.{HasTable, IsWellFormedTable, HasTableFault}
-use Rattle.ob_front.proofs.StagesLaws.{told_of_tree, table_is, made}
+use Rattle.ob_front.proofs.StagesLaws.{told_of_tree, table_is, well_formed}
 use Rattle.ob_front.proofs.stages.class_table.Goals as goal
 
 pub returns-clause-table : goal.returns-clause-table
@@ -12,10 +12,10 @@ returns-clause-table c =
     (λ table has. table_is _ _ table c.in_ok-tree.ensures.tree has)
     c.resolve.ensures.table
 
-pub returns-clause-made : goal.returns-clause-made
-returns-clause-made c =
+pub returns-clause-well_formed : goal.returns-clause-well_formed
+returns-clause-well_formed c =
     IfOk-weaker c.resolve.result (HasClassTable (tree_of c.in_ok-tree.tree)) IsWellFormedTable
-    (λ table has. made c.args.text.now table (table_is _ _ table c.in_ok-tree.ensures.tree has))
+    (λ table has. well_formed c.args.text.now table (table_is _ _ table c.in_ok-tree.ensures.tree has))
     c.resolve.ensures.table
 
 pub returns-clause-fault : goal.returns-clause-fault

@@ -74,7 +74,7 @@ single-returns-clause-read t c = single_extended c.args.level c.args.room (expr_
 pub extended-returns-in-Ok-binary-clause-read : goal.extended-returns-in-Ok-binary-clause-read
 extended-returns-in-Ok-binary-clause-read t c =
     let o = c.in-Ok.operation in
-    extended_is _ (expr_of c.args.left) (expr_of c.in-Ok-binary.expr) o.operator o.sign (expr_of o.right) c.in-Ok.behind c.in-Ok.rest.now c.in-Ok.ensures.read c.in-Ok-binary.ensures.ok
+    extended_is _ (expr_of c.args.left) (expr_of c.in-Ok-binary.expr) o.operator o.sign (expr_of o.right) c.in-Ok.after c.in-Ok.rest.now c.in-Ok.ensures.read c.in-Ok-binary.ensures.ok
 
 pub extended-returns-in-Err-clause-read : goal.extended-returns-in-Err-clause-read
 extended-returns-in-Err-clause-read t c = halts_bind _ _ (λ x rest. done (with_step (expr_of c.args.left, 0) x) rest) c.in-Err.ensures.read

@@ -1,4 +1,4 @@
--- Lowering goes on at expressions that are made.
+-- Lowering goes on at well-formed expressions.
 use Rattle.std.proofs.Common.{◌≡◌, Bool, true, false, List, [], ◌∷◌, ◌++◌, Option, Some, None, IsSome, IsSomeAnd, refl, sym, subst}
 use Rattle.std.specs.Prelude.{⊤}
 use Rattle.ob_base.specs.declared.fault.Span.{Span}
@@ -13,7 +13,7 @@ use Rattle.ob_table.specs.declared.contract.Signature.{Signature}
 use Rattle.ob_table.specs.declared.seen.Kind.{Kind}
 use Rattle.ob_table.specs.declared.seen.Seen.{Seen}
 use Rattle.ob_table.specs.declared.seen.SeenAt.{SeenAt}
-use Rattle.ob_table_spec.specs.WellFormed.{StaticFrame, LocalKinds, kind_of_seen, kind_of_expression, is_reference, ServesAs, HasOperands, PassTo, IsCalled, constructor_at, IsWellFormedExpression, AreMade}
+use Rattle.ob_table_spec.specs.WellFormed.{StaticFrame, LocalKinds, kind_of_seen, kind_of_expression, is_reference, ServesAs, HasOperands, PassTo, IsCalled, constructor_at, IsWellFormedExpression, AreWellFormedArguments}
 use Rattle.ob_silica.specs.Terms.{op_form, copy_form, new_form}
 use Rattle.ob_silica.specs.declared.term.SilicaOperator.TheVariants.{Unary, Binary}
 use Rattle.ob_silica.specs.declared.place.Operand.{Operand}
@@ -104,7 +104,7 @@ module _ (a : AroundExpression) (ls : LocalKinds) (names : Names ls a.variables)
         (keeps_bind (λ x. ⊤) (λ x. ⊤) (arguments_code a args [] p) _ (arguments_keep args s.0.params [] p made.0 s.1)
         (λ x t. keeps_into a true span (λ k. new_form k contract x.1) x.0))
 
-    arguments_keep : (es : Arguments) (ps : List Param) (before : List Operand) (p : Progress) → AreMade a.frame ls es → PassTo a.frame ls ps es
+    arguments_keep : (es : Arguments) (ps : List Param) (before : List Operand) (p : Progress) → AreWellFormedArguments a.frame ls es → PassTo a.frame ls ps es
         → Keeps (λ x. ⊤) (arguments_code a es before p)
     arguments_keep no_arguments ps before p made pass = tt
     arguments_keep (and_argument e es) [] before p made pass = absurd pass

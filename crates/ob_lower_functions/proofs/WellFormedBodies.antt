@@ -13,14 +13,14 @@ use Rattle.ob_table_spec.specs.WellFormed as made
 use Rattle.ob_table_spec.specs.WellFormed.{local_kind, frame_of, IsBodyOf}
 use Rattle.ob_silica.specs.Terms.{then_terms, SilicaBody}
 use Rattle.ob_lower_spec.specs.BodyTerms.{params_from, ending}
-use Rattle.ob_lower_functions.specs.Progress.{Stop, full, unmade, ◌>>=◌, found}
+use Rattle.ob_lower_functions.specs.Progress.{Stop, full, not_well_formed, ◌>>=◌, found}
 use Rattle.ob_lower_functions.specs.StatementCode.{block_code}
 use Rattle.ob_lower_functions.specs.BodyCode.{first_position, body_of_terms, code_with, body_code}
 use Rattle.ob_lower_functions.specs.Law.{EachHasTerms}
 use Rattle.ob_lower_functions.proofs.Places.{params_seen, none_some}
 use Rattle.ob_lower_functions.proofs.Bodies.{Answer, by_contract}
 use Rattle.ob_lower_functions.proofs.Naming.{Keeps, keeps_bind, Names}
-use Rattle.ob_lower_functions.proofs.MadeStatements.{block_keeps}
+use Rattle.ob_lower_functions.proofs.WellFormedStatements.{block_keeps}
 
 params_named : (ps : List Param) → Names (made.params_from 1 ps) (params_from 1 ps)
 params_named ps = record { by = λ n. ap (λ ls. local_kind ls n) (sym (params_seen 1 ps)) }
@@ -29,7 +29,7 @@ module _ (table : ClassTable) (body : ResolvedBody) where
   with_keeps : (own : Contract) (s : Signature) → IsBodyOf table body own s → length s.params + 1 ≤ most_slots → Keeps (λ l. ⊤) (code_with table own s body)
   with_keeps own s is le =
       subst (λ b. Keeps (λ l. ⊤) (if b then block_code (frame_of table body.contract own s) (resolved_block body.statements body.end) (first_position s.params)
-      >>= (λ block. Ok (body_of_terms body (length s.params) (then_terms block (ending body.statements body.end)))) else Err unmade)) (sym (le-leb (length s.params + 1) most_slots le))
+      >>= (λ block. Ok (body_of_terms body (length s.params) (then_terms block (ending body.statements body.end)))) else Err not_well_formed)) (sym (le-leb (length s.params + 1) most_slots le))
       (keeps_bind (λ ts. ⊤) (λ l. ⊤) (block_code (frame_of table body.contract own s) (resolved_block body.statements body.end) (first_position s.params)) _
       (block_keeps (frame_of table body.contract own s) (resolved_block body.statements body.end) (made.params_from 1 s.params) (first_position s.params) (params_named s.params) is.statements)
       (λ ts t. tt))
@@ -48,7 +48,7 @@ module _ (table : ClassTable) (body : ResolvedBody) where
   has_terms : (past : Option Span) (L : SilicaBody → Type 0) (r : Result SilicaBody Stop) → Answer past L r → Keeps (λ l. ⊤) r → past ≡ None → (l : SilicaBody) × L l
   has_terms past L (Ok l) a k e = (l, a.0)
   has_terms past L (Err (full at)) a k e = absurd (none_some (sym e ∙ a))
-  has_terms past L (Err unmade) a k e = absurd k
+  has_terms past L (Err not_well_formed) a k e = absurd k
 
 pub each_has_terms : EachHasTerms
 each_has_terms table body is le e =

@@ -1,4 +1,4 @@
--- Lowering goes on at statements and blocks that are made.
+-- Lowering goes on at well-formed statements and blocks.
 use Rattle.std.proofs.Common.{◌≡◌, ℕ, List, [], ◌∷◌, ◌++◌, Option, Some, None, IsSome, IsSomeAnd, IfSome, Result}
 use Rattle.std.specs.Prelude.{⊤}
 use Rattle.ob_base.specs.declared.fault.Span.{Span}
@@ -21,7 +21,7 @@ use Rattle.ob_lower_functions.specs.Progress.{Stop, ◌>>=◌, found, Slots, slo
 use Rattle.ob_lower_functions.specs.ExpressionCode.{expression_code, value_code}
 use Rattle.ob_lower_functions.specs.StatementCode.{Waiting, none_waits, row_waits, refused_waits, BlockPosition, settled, around_at, begun, declare_code, assign_code, row_code, first_code, stage_code, given_code, change_after, change_code, discard_code, condition_code, return_code, revert_code, named_code, past_statement, statement_code, statements_code, block_code, otherwise_code}
 use Rattle.ob_lower_functions.proofs.Naming.{Keeps, keeps_bind, keeps_next, HasOne, some_and, Names, keeps_place, keeps_kind, names_more}
-use Rattle.ob_lower_functions.proofs.MadeExpressions.{expression_keeps, value_keeps}
+use Rattle.ob_lower_functions.proofs.WellFormedExpressions.{expression_keeps, value_keeps}
 
 module _ (f : StaticFrame) (ls : LocalKinds) (q : BlockPosition) (names : Names ls q.variables) where
   -- Values.

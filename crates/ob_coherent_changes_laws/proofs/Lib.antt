@@ -1,0 +1,5 @@
+pub mod Filling
+pub mod FillingAll
+pub mod Owning
+pub mod Changed
+pub mod Changing

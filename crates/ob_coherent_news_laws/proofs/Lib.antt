@@ -1,0 +1,4 @@
+pub mod Made
+pub mod Constructing
+pub mod Waited
+pub mod Making

@@ -1,0 +1,2 @@
+pub mod This
+pub mod Calling
