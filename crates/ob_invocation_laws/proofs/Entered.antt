@@ -1,6 +1,6 @@
 -- What a `new` or a `call` has that isn't refused: none of its checks holds, and each handle that it uses is there.
-use Rattle.std.proofs.Common.{◌≡◌, ◌∙◌, ℕ, suc, ◌+◌, ◌≤◌, ◌<◌, Bool, true, false, List, [], ◌∷◌, ◌++◌, Option, Some, None, refl, sym, ap, subst, arith}
-use Rattle.std.specs.Prelude.{not, nat_eq, zip, is_some, filter_map, option_to_list, if◌then◌else◌, ⊤}
+use Rattle.std.proofs.Common.{◌≡◌, ℕ, Bool, true, false, List, [], ◌∷◌, ◌++◌, Option, Some, None, refl, sym, subst}
+use Rattle.std.specs.Prelude.{not, zip, is_some, filter_map, ⊤}
 use Rattle.std.specs.List.{cons_option}
 use Rattle.ob_base.specs.Optional.{◌>>=◌, where_true}
 use Rattle.ob_base.specs.declared.id.ContractId.{ContractId}
@@ -21,7 +21,7 @@ use Rattle.ob_invocation_spec.specs.Requests.{Argument, int_argument, bool_argum
 use Rattle.ob_invocation_spec.specs.Replies.{no_contract, not_main, no_transaction, arg_count, arg_kind, permission, repeated, into_missing, into_needless, into_taken, handles_full}
 use Rattle.ob_invocation_spec.specs.Handles.{handle_name, handle_at, are_handles_full}
 use Rattle.ob_invocation_spec.specs.Checks.{Check, check, refusal_of}
-use Rattle.ob_invocation_spec.specs.Entries.{HandleUse, Entry, mode_of_result, entry_of_new, used_as_receiver, entry_of_call, used_for, use_of_argument, argument_uses, handle_uses}
+use Rattle.ob_invocation_spec.specs.Entries.{HandleUse, Entry, mode_of_result, entry_of_new, used_as_receiver, entry_of_call, used_for, use_of_argument, handle_uses}
 use Rattle.ob_invocation_spec.specs.Refusals.{handle_check, argument_checks, is_no_contract, is_not_main, is_no_transaction, has_other_count, has_other_kind, lacks_permission, repeats_object, lacks_into, has_needless_into, is_taken, making_checks, into_checks, entry_checks, found_checks, new_checks, call_checks}
 use Rattle.ob_invocation_laws.proofs.Giving.{passes}
 
@@ -158,3 +158,155 @@ tested false x y is = absurd cc
 
 some_one : {A : Type 0} (x y : A) → Some x ≡ Some y → y ≡ x
 some_one x y is = cc
+
+pub of_new : (table : ClassTable) (who : List ℕ) (r : NewRequest) (e : Entry) → entry_of_new table who r ≡ Some e
+    → NewEntry table who r e
+of_new table who r e is =
+    let contract = bound (contract_named table.contracts r.contract)
+    (λ contract. constructor_at table contract >>= λ s.
+    Some (record {
+      who = who;
+      contract = contract;
+      tx = record { 0 = 0 };
+      signature = s;
+      receiver = None;
+      given = Some s.exit.mode;
+      args = r.args;
+      into = r.into;
+    })) e is in
+    let s = bound (constructor_at table contract.0)
+    (λ s. Some (record {
+      who = who;
+      contract = contract.0;
+      tx = record { 0 = 0 };
+      signature = s;
+      receiver = None;
+      given = Some s.exit.mode;
+      args = r.args;
+      into = r.into;
+    })) e contract.2 in
+    record {
+      contract = contract.0;
+      signature = s.0;
+      named = contract.1;
+      constructor = s.1;
+      is = some_one _ e s.2;
+    }
+
+-- what a `call` enters of an object
+abbrev pub called : List ℕ → CallRequest → Handle → Object → TxId → Signature → Entry
+called who r h o tx s = record {
+  who = who;
+  contract = o.contract;
+  tx = tx;
+  signature = s;
+  receiver = Some (used_as_receiver (handle_name who r.on) h o.contract s);
+  given = mode_of_result s.result;
+  args = r.args;
+  into = r.into;
+}
+
+-- the entry of a `call`, by the handle on its object, the object, its contract and the transaction
+pub record CallEntry (table : ClassTable) (content : Content) (who : List ℕ) (r : CallRequest) (e : Entry) : Type 0 where
+  pub handle : Handle
+  pub object : Object
+  pub own : Contract
+  pub tx : TxId
+  pub signature : Signature
+  pub found : handle_at content (handle_name who r.on) ≡ Some handle
+  pub there : object_at content.objects handle.object ≡ Some object
+  pub contract : contract_at table object.contract ≡ Some own
+  pub named : transaction_named own r.tx ≡ Some tx
+  pub signed : signature_at own tx ≡ Some signature
+  pub callable : signature.private ≡ false
+  pub is : e ≡ called who r handle object tx signature
+
+not_turned : (b : Bool) → not b ≡ true → b ≡ false
+not_turned true is = absurd cc
+not_turned false is = refl
+
+pub of_call : (table : ClassTable) (content : Content) (who : List ℕ) (r : CallRequest) (e : Entry)
+    → entry_of_call table content who r ≡ Some e → CallEntry table content who r e
+of_call table content who r e is =
+    let made = called who r in
+    let at_s = λ (h : Handle) (o : Object) (tx : TxId) (s : Signature). where_true (not s.private) (made h o tx s) in
+    let at_tx = λ (h : Handle) (o : Object) (own : Contract) (tx : TxId). (signature_at own tx >>= at_s h o tx) in
+    let at_own = λ (h : Handle) (o : Object) (own : Contract). (transaction_named own r.tx >>= at_tx h o own) in
+    let at_o = λ (h : Handle) (o : Object). (contract_at table o.contract >>= at_own h o) in
+    let at_h = λ (h : Handle). (object_at content.objects h.object >>= at_o h) in
+    let h = bound (handle_at content (handle_name who r.on)) at_h e is in
+    let o = bound (object_at content.objects h.0.object) (at_o h.0) e h.2 in
+    let own = bound (contract_at table o.0.contract) (at_own h.0 o.0) e o.2 in
+    let tx = bound (transaction_named own.0 r.tx) (at_tx h.0 o.0 own.0) e own.2 in
+    let s = bound (signature_at own.0 tx.0) (at_s h.0 o.0 tx.0) e tx.2 in
+    let t = tested (not s.0.private) (made h.0 o.0 tx.0 s.0) e s.2 in
+    record {
+      handle = h.0;
+      object = o.0;
+      own = own.0;
+      tx = tx.0;
+      signature = s.0;
+      found = h.1;
+      there = o.1;
+      contract = own.1;
+      named = tx.1;
+      signed = s.1;
+      callable = not_turned s.0.private t.0;
+      is = t.1;
+    }
+
+-- Uses of handles that are there.
+
+-- each use is of the handle that its name stands for
+abbrev pub AreFound : Content → List HandleUse → Type 0
+AreFound content [] = ⊤
+AreFound content (u ∷ uses) = (handle_at content u.name ≡ Some u.handle) × AreFound content uses
+
+-- a use of a handle for a parameter is of that handle, under that name
+used_so : (of : ResolvedType) (exit : Perm) (name : HandleName) (h : Handle) (u : HandleUse)
+    → used_for of exit name h ≡ Some u → (u.name ≡ name) × (u.handle ≡ h)
+used_so (Reference c p) exit name h u is =
+    let same = some_one (record { name = name; handle = h; contract = c; entry = p; exit = exit }) u is in
+    rw same (refl, refl)
+used_so Int exit name h u is = absurd cc
+used_so BoolKind exit name h u is = absurd cc
+used_so Text exit name h u is = absurd cc
+
+argument_found : (content : Content) (who : List ℕ) (p : Param) (arg : Argument) (u : HandleUse)
+    → use_of_argument content who p arg ≡ Some u → handle_at content u.name ≡ Some u.handle
+argument_found content who p (int_argument z) u is = absurd cc
+argument_found content who p (bool_argument b) u is = absurd cc
+argument_found content who p (text_argument bytes) u is = absurd cc
+argument_found content who p (handle_argument name) u is =
+    let h = bound (handle_at content (handle_name who name)) (used_for p.of p.exit (handle_name who name)) u is in
+    let same = used_so p.of p.exit (handle_name who name) h.0 u h.2 in
+    rw (same.0, same.1) h.1
+argument_found content who p other_argument u is = absurd cc
+
+arguments_found : (content : Content) (who : List ℕ) (pairs : List (Param × Argument))
+    → AreFound content (filter_map (λ pair. use_of_argument content who pair.0 pair.1) pairs)
+arguments_found content who [] = tt
+arguments_found content who (pair ∷ pairs) =
+    by_use (use_of_argument content who pair.0 pair.1) refl (arguments_found content who pairs)
+  where
+    by_use : (u : Option HandleUse) → use_of_argument content who pair.0 pair.1 ≡ u
+        → AreFound content (filter_map (λ pair. use_of_argument content who pair.0 pair.1) pairs)
+        → AreFound content (cons_option u (filter_map (λ pair. use_of_argument content who pair.0 pair.1) pairs))
+    by_use None is rest = rest
+    by_use (Some u) is rest = (argument_found content who pair.0 pair.1 u is, rest)
+
+-- the uses of a `new` are of handles that are there
+pub new_found : (table : ClassTable) (content : Content) (who : List ℕ) (r : NewRequest) (e : Entry)
+    → entry_of_new table who r ≡ Some e → AreFound content (handle_uses content e)
+new_found table content who r e is =
+    let new = of_new table who r e is in
+    subst (λ (e : Entry). AreFound content (handle_uses content e)) (sym new.is)
+    (arguments_found content who (zip new.signature.params r.args))
+
+-- and so are those of a `call`
+pub call_found : (table : ClassTable) (content : Content) (who : List ℕ) (r : CallRequest) (e : Entry)
+    → entry_of_call table content who r ≡ Some e → AreFound content (handle_uses content e)
+call_found table content who r e is =
+    let call = of_call table content who r e is in
+    subst (λ (e : Entry). AreFound content (handle_uses content e)) (sym call.is)
+    (call.found, arguments_found content who (zip call.signature.params r.args))

@@ -11,3 +11,6 @@ pub mod Shown
 pub mod Still
 pub mod Kept
 pub mod Entered
+pub mod Used
+pub mod Ended
+pub mod Lent
