@@ -1,5 +1,5 @@
 -- The body that a request enters, and what the class table says of it.
-use Rattle.std.proofs.Common.{◌≡◌, ◌≢◌, ℕ, zero, suc, ◌+◌, ◌<◌, ◌≤◌, Bool, true, false, cond, not, List, [], ◌∷◌, length, drop, Option, Some, None, refl, sym, ap, subst, ◌∙◌, arith, true≢false, ⊎_elim}
+use Rattle.std.proofs.Common.{◌≡◌, ℕ, zero, suc, Bool, true, false, List, [], ◌∷◌, drop, Option, Some, None, refl, sym, ap, subst, ◌∙◌}
 use Rattle.std.specs.Prelude.{slice_get, bytes_eq, get_or, All, IsSomeAnd, IsTrue, MatchBool, option_map, if◌then◌else◌}
 use Rattle.std.specs.Option.{option_and_then}
 use Rattle.std.specs.List.{position}
@@ -11,10 +11,7 @@ use Rattle.ob_table.specs.Tables.{ClassTable, contract_at, signature_at}
 use Rattle.ob_table.specs.declared.contract.Contract.{Contract}
 use Rattle.ob_table.specs.declared.contract.Signature.{Signature}
 use Rattle.ob_table_spec.specs.Conditions.{IsClassTable, IsContract, IsConstructor, IsTransaction, IsParam, MayLeave}
-use Rattle.ob_table_spec.specs.WellFormed.{constructor_at}
-use Rattle.ob_heap_spec.specs.Objects.{Object}
-use Rattle.ob_heap_spec.specs.Contents.{Content, IsObjectOf, IsObject, object_at}
-use Rattle.ob_heap_spec.specs.Dispatch.{transaction_named}
+use Rattle.ob_heap_spec.specs.Contents.{Content, IsObjectOf, IsObject}
 use Rattle.ob_places_laws.proofs.Tables.{each_at, contract_is}
 use Rattle.ob_rest_spec.specs.AtRest.{IsStoreAtRest}
 use Rattle.ob_invocation_spec.specs.Entries.{HandleUse, Entry, used_as_receiver}

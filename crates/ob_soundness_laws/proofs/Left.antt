@@ -1,12 +1,9 @@
 -- What the slots of parameters have where the run of a request has ended.
-use Rattle.std.proofs.Common.{◌≡◌, ◌≢◌, ℕ, zero, suc, ◌+◌, ◌<◌, ◌≤◌, Bool, true, false, List, [], ◌∷◌, map, length, Option, Some, None, refl, sym, ap, subst, ◌∙◌, arith, true≢false, ⊎_elim, ◌⊎◌, inl, inr}
-use Rattle.std.specs.Prelude.{slice_get, option_map, IsSomeAnd, ⊤}
-use Rattle.std.proofs.lemmas.Bool.{cases_Bool}
-use Rattle.std.proofs.lemmas.Option.{same_Some, slice_get_cases}
-use Rattle.ob_base.specs.declared.permission.Mode.{Mode}
-use Rattle.ob_base.specs.declared.permission.Mode.TheVariants.{Owned, Shared, Unowned}
+use Rattle.std.proofs.Common.{◌≡◌, ℕ, zero, suc, ◌+◌, ◌<◌, List, [], length, Option, Some, None, refl, sym, ap, subst, ◌∙◌, arith, true≢false}
+use Rattle.std.specs.Prelude.{slice_get}
+use Rattle.std.proofs.lemmas.Option.{same_Some}
 use Rattle.ob_base.specs.declared.permission.Perm.{Perm}
-use Rattle.ob_perm.specs.Permissions.{Permission, owned, shared, unowned, owns}
+use Rattle.ob_perm.specs.Permissions.{owns}
 use Rattle.ob_perm.specs.Masks.{permission_of}
 use Rattle.ob_table.specs.Tables.{ClassTable, contract_at, signature_at}
 use Rattle.ob_table.specs.declared.contract.Contract.{Contract}
@@ -17,16 +14,14 @@ use Rattle.ob_heap_spec.specs.Values.{Value, reference}
 use Rattle.ob_heap_spec.specs.Contents.{Content}
 use Rattle.ob_silica_places.specs.Places.{slot, this}
 use Rattle.ob_silica_steps.specs.Cells.{Cell, value_in}
-use Rattle.ob_silica_steps.specs.Configurations.{How, by_receiver, by_new, SilicaFrame, Waiting, Configuration}
-use Rattle.ob_silica_steps.specs.Here.{self_of}
-use Rattle.ob_coherent_spec.specs.Counting.{nth_object, in_cell}
-use Rattle.ob_coherent_spec.specs.Standing.{Stands, NeedsOwner}
+use Rattle.ob_silica_steps.specs.Configurations.{by_receiver, by_new, Waiting, Configuration}
+use Rattle.ob_coherent_spec.specs.Counting.{in_cell}
+use Rattle.ob_coherent_spec.specs.Standing.{NeedsOwner}
 use Rattle.ob_flow_laws.specs.Laws.{MeetsExit}
 use Rattle.ob_coherent_spec.specs.Saying.{SaysOf}
 use Rattle.ob_coherent_spec.specs.Remaining.{body_of}
-use Rattle.ob_coherent_spec.specs.Coherent.{Beginning, outermost, BeganSo, IsLeaving, LeavesWith}
-use Rattle.ob_coherent_returns_laws.proofs.Leaving.{meets_with, meets_none, owns_none}
-use Rattle.ob_rest_spec.specs.Modes.{is_owned}
+use Rattle.ob_coherent_spec.specs.Coherent.{outermost, BeganSo, IsLeaving, LeavesWith}
+use Rattle.ob_coherent_returns_laws.proofs.Leaving.{meets_with, owns_none}
 use Rattle.ob_invocation_spec.specs.Entries.{HandleUse, Entry, values_of}
 use Rattle.ob_soundness_laws.specs.Requests.{beginning_on, beginning_of, entry_lock}
 use Rattle.ob_soundness_laws.proofs.Bodies.{EntersBody}

@@ -8,7 +8,6 @@ pub mod Entries
 pub mod Starting
 pub mod Firsts
 pub mod Whole
-pub mod Puts
 pub mod Bodies
 pub mod Left
 pub mod Sound
