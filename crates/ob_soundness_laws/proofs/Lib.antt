@@ -8,4 +8,6 @@ pub mod Entries
 pub mod Starting
 pub mod Firsts
 pub mod Whole
+pub mod Bodies
+pub mod Left
 pub mod Sound
