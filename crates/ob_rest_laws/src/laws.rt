@@ -1,9 +1,9 @@
 //! Laws of a store at rest.
 ghost use Rattle.std.specs.Prelude.{◌≡◌, ◌↔◌, ◌+◌, ℕ, slice_get, None};
 ghost use Rattle.ob_table.specs.Tables.{ClassTable};
-ghost use Rattle.ob_heap_spec.specs.Contents.{Content};
+ghost use Rattle.ob_heap_spec.specs.Contents.{Content, empty_content};
 ghost use Rattle.ob_rest_spec.specs.Incoming.{owning_places, owner_of, owners};
-ghost use Rattle.ob_rest_spec.specs.AtRest.{IsAtRest, first_failing_object, EachAssetHasOneOwner};
+ghost use Rattle.ob_rest_spec.specs.AtRest.{IsAtRest, IsStoreAtRest, first_failing_object, EachAssetHasOneOwner};
 ghost use Rattle.ob_rest_laws.specs.Laws.{FailsInNoWay, field_owners, handle_owners, ChangesQuietly};
 
 /// A store is at rest exactly where each of its objects fails in none of the six ways.
@@ -38,4 +38,9 @@ pub fn owner_is_first_owning_place()
 pub fn quiet_changes_keep_rest()
     ensures { (table : ClassTable) (content after : Content) → IsAtRest table content
         → ChangesQuietly table content after → IsAtRest table after }
+{}
+
+/// The store at the start, which holds nothing, is at rest for each class table.
+pub fn empty_store_is_at_rest()
+    ensures { (table : ClassTable) → IsStoreAtRest table empty_content }
 {}
