@@ -2,6 +2,8 @@
 use Rattle.std.proofs.Common.{◌≡◌, ◌≢◌, ℕ, zero, suc, ◌+◌, ◌<◌, ◌≤◌, Bool, true, false, not, ◌&&◌, ◌||◌, cond, List, [], ◌∷◌, ◌++◌, map, length, Option, Some, None, refl, sym, ap, subst, ◌∙◌, arith, ⊎_elim, ◌⊎◌, inl, inr, true≢false}
 use Rattle.std.specs.Prelude.{◌==◌, slice_get, zip, filter_map, option_map, option_to_list, find, if◌then◌else◌}
 use Rattle.std.specs.Option.{option_map_or, option_and_then}
+use Rattle.std.specs.FinMap.Entries.{find as find_key}
+use Rattle.std.specs.Ordering.{eq_by_cmp}
 use Rattle.std.specs.List.{list_any, list_all, cons_option}
 use Rattle.std.proofs.lemmas.Bool.{cases_Bool, both_ways, or_parts, and_parts}
 use Rattle.std.proofs.lemmas.Option.{same_Some}
@@ -19,12 +21,12 @@ use Rattle.ob_table.specs.declared.seen.Kind.TheVariants as kind
 use Rattle.ob_table_spec.specs.WellFormed.{serves_as}
 use Rattle.ob_heap_spec.specs.Values.{Value, int_value, bool_value, text_value, reference, referred}
 use Rattle.ob_heap_spec.specs.Objects.{Object, is_in_states}
-use Rattle.ob_heap_spec.specs.Contents.{HandleName, Handle, Content, IsHandle, object_at}
+use Rattle.ob_heap_spec.specs.Contents.{HandleName, Handle, Content, IsHandle, object_at, name_order}
 use Rattle.ob_silica_places.specs.Parameters.{Parameter, parameter_of}
 use Rattle.ob_rest_spec.specs.Modes.{is_owned, is_shared, is_unowned}
 use Rattle.ob_rest_spec.specs.AtRest.{IsStoreAtRest}
 use Rattle.ob_invocation_spec.specs.Requests.{Argument, int_argument, bool_argument, text_argument, handle_argument, other_argument}
-use Rattle.ob_invocation_spec.specs.Handles.{NamedHandle, handle_name, same_name, handle_at, serves}
+use Rattle.ob_invocation_spec.specs.Handles.{NamedHandle, handle_name, handle_at, serves}
 use Rattle.ob_invocation_spec.specs.Entries.{HandleUse, Entry, value_of, values_of, used_for, use_of_argument, argument_uses, handle_uses}
 use Rattle.ob_invocation_spec.specs.Checks.{Check, check, refusal_of}
 use Rattle.ob_invocation_spec.specs.Replies.{arg_count, arg_kind, permission, repeated, into_missing, into_needless}
@@ -35,7 +37,6 @@ use Rattle.ob_coherent_spec.specs.Counting.{nth_object}
 use Rattle.ob_coherent_counting_laws.proofs.Objects.{object_there, object_found}
 use Rattle.ob_coherent_beginning_laws.specs.Uses.{locked_at_entry, IsUse, AreUses}
 use Rattle.ob_coherent_beginning_laws.specs.Passed.{IsPassed, ArePassed, uses_in}
-use Rattle.ob_coherent_beginning_laws.proofs.Lists.{find_at, find_none}
 
 -- Checks.
 
@@ -192,16 +193,18 @@ not_both Owned e s = true≢false (sym e)
 not_both Shared e s = true≢false (sym s)
 not_both Unowned e s = true≢false (sym s)
 
+named_in : (name : HandleName) (hs : List NamedHandle) (h : Handle) → find_key name_order name hs ≡ Some h
+    → (k : ℕ) × (g : NamedHandle) × (slice_get hs k ≡ Some g) × (eq_by_cmp name_order name g.0 ≡ true) × (g.1 ≡ h)
+named_in name [] h e = absurd (cc)
+named_in name (g ∷ hs) h e = ⊎_elim
+    (λ here. (0, g, refl, here, same_Some g.1 h (sym (ap (λ b. cond b (Some g.1) (find_key name_order name hs)) here) ∙ e)))
+    (λ other. let r = named_in name hs h (sym (ap (λ b. cond b (Some g.1) (find_key name_order name hs)) other) ∙ e) in
+    (suc r.0, r.1, r.2, r.3, r.4))
+    (cases_Bool (eq_by_cmp name_order name g.0))
+
 pub handle_found : (content : Content) (name : HandleName) (h : Handle) → handle_at content name ≡ Some h
-    → (k : ℕ) × (g : NamedHandle) × (slice_get content.handles k ≡ Some g) × (same_name name g.0 ≡ true) × (g.1 ≡ h)
-handle_found content name h e = go (find (λ (g : NamedHandle). same_name name g.0) content.handles) refl
-  where
-    go : (x : Option NamedHandle) → find (λ (g : NamedHandle). same_name name g.0) content.handles ≡ x
-        → (k : ℕ) × (g : NamedHandle) × (slice_get content.handles k ≡ Some g) × (same_name name g.0 ≡ true) × (g.1 ≡ h)
-    go None i = absurd (let z : None ≡ Some h = sym (ap (option_map (λ (g : NamedHandle). g.1)) i) ∙ e in cc)
-    go (Some g) i =
-        let r = find_at (λ (g : NamedHandle). same_name name g.0) content.handles g i in
-        (r.0, g, r.1, r.2, same_Some g.1 h (sym (ap (option_map (λ (g : NamedHandle). g.1)) i) ∙ e))
+    → (k : ℕ) × (g : NamedHandle) × (slice_get content.handles k ≡ Some g) × (eq_by_cmp name_order name g.0 ≡ true) × (g.1 ≡ h)
+handle_found content name h e = named_in name content.handles h e
 
 pub handle_there : (table : ClassTable) (content : Content) → IsStoreAtRest table content → (name : HandleName) (h : Handle)
     → handle_at content name ≡ Some h → h.object < length content.objects
@@ -221,6 +224,7 @@ module _ (table : ClassTable) (content : Content) (rest : IsStoreAtRest table co
       let low = handle_there table content rest u.name u.handle found in
       record {
         there = low;
+        found = found;
         place = r.0;
         holder = r.1;
         held = r.2;
