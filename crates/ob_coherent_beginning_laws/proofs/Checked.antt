@@ -40,7 +40,7 @@ use Rattle.ob_coherent_beginning_laws.specs.Passed.{IsPassed, ArePassed, uses_in
 
 -- Checks.
 
-not_refused : (c : Check) (cs : List Check) → refusal_of (c ∷ cs) ≡ None → (c.holds ≡ false) × (refusal_of cs ≡ None)
+pub not_refused : (c : Check) (cs : List Check) → refusal_of (c ∷ cs) ≡ None → (c.holds ≡ false) × (refusal_of cs ≡ None)
 not_refused c cs e = ⊎_elim
     (λ holds. absurd (let z : Some c.refusal ≡ None = sym (ap (λ b. if b then Some c.refusal else refusal_of cs) holds) ∙ e in cc))
     (λ none. (none, sym (ap (λ b. if b then Some c.refusal else refusal_of cs) none) ∙ e))
