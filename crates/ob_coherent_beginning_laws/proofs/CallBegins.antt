@@ -1,55 +1,53 @@
 -- A call of an object from outside begins coherently, or aborts.
-use Rattle.std.proofs.Common.{◌≡◌, ◌≢◌, ℕ, zero, suc, ◌+◌, ◌<◌, ◌≤◌, Bool, true, false, not, ◌&&◌, List, [], ◌∷◌, ◌++◌, map, length, Option, Some, None, refl, sym, ap, subst, ◌∙◌, arith, ⊎_elim, ◌⊎◌, inl, inr, true≢false, eq-eqb, cond}
-use Rattle.std.specs.Prelude.{◌==◌, nat_eq, slice_get, position, bytes_eq, option_map, option_to_list, filter_map, zip, if◌then◌else◌}
+use Rattle.std.proofs.Common.{◌≡◌, ◌≢◌, ℕ, zero, suc, ◌<◌, Bool, true, false, not, List, [], ◌∷◌, map, length, Option, Some, None, refl, sym, ap, subst, ◌∙◌, arith, ⊎_elim, inr, true≢false, eq-eqb}
+use Rattle.std.specs.Prelude.{◌==◌, slice_get, position, bytes_eq, option_map, if◌then◌else◌}
 use Rattle.std.specs.List.{list_any, list_all}
-use Rattle.std.proofs.lemmas.Bool.{cases_Bool, both_ways, or_parts, and_parts, cond-true}
+use Rattle.std.proofs.lemmas.Bool.{cases_Bool, or_parts, and_parts, cond-true}
 use Rattle.std.proofs.lemmas.List.Quantifiers.{position-Some}
 use Rattle.std.proofs.lemmas.Option.{same_Some, get_or_from_slice_get}
 use Rattle.ob_base.specs.Optional.{◌>>=◌, where_true}
 use Rattle.ob_base.specs.declared.id.ContractId.{ContractId}
 use Rattle.ob_base.specs.declared.id.TxId.{TxId}
-use Rattle.ob_table.specs.Tables.{ClassTable, contract_at, signature_at, signature_of}
+use Rattle.ob_table.specs.Tables.{ClassTable, contract_at, signature_at}
 use Rattle.ob_table.specs.declared.contract.Contract.{Contract}
-use Rattle.ob_table.specs.declared.contract.Param.{Param}
 use Rattle.ob_table.specs.declared.contract.Signature.{Signature}
 use Rattle.ob_table.specs.declared.seen.Kind.TheVariants.{Reference}
 use Rattle.ob_table_spec.specs.WellFormed.{serves_as}
 use Rattle.ob_heap_spec.specs.Values.{Value, reference, nothing}
 use Rattle.ob_heap_spec.specs.Objects.{Object}
-use Rattle.ob_heap_spec.specs.Contents.{HandleName, Handle, Content, IsObjectOf, IsObject, object_at}
+use Rattle.ob_heap_spec.specs.Contents.{Handle, Content, IsObjectOf, IsObject, object_at}
 use Rattle.ob_heap_spec.specs.Worlds.{World, first_world, with_unit_taken, read_object}
-use Rattle.ob_heap_spec.specs.Marks.{is_among, is_in_progress, enter, lock}
-use Rattle.ob_heap_spec.specs.Dispatch.{transaction_named, answering, implements_it}
-use Rattle.ob_silica_places.specs.Parameters.{Parameter, parameter_of, parameters, this_parameter}
+use Rattle.ob_heap_spec.specs.Marks.{is_among, enter}
+use Rattle.ob_heap_spec.specs.Dispatch.{transaction_named, implements_it}
+use Rattle.ob_silica_places.specs.Parameters.{parameters, this_parameter}
 use Rattle.ob_silica_steps.specs.Configurations.{SilicaProgram, SlotCells, by_receiver, Notes, NextStep}
 use Rattle.ob_silica_steps.specs.Here.{if_there, with_fuel_left, with_unit}
 use Rattle.ob_silica_steps.specs.Entering.{calls_object}
 use Rattle.ob_silica_steps.specs.Starting.{first_notes, pass_all, alone, started_call}
 use Rattle.ob_places_laws.proofs.Conversions.{serves_itself}
 use Rattle.ob_places_laws.proofs.Tables.{each_at, there_so, contract_is, signature_from, constructor_is, transaction_is}
-use Rattle.ob_coherent_spec.specs.Counting.{nth_object, one_if}
+use Rattle.ob_coherent_spec.specs.Counting.{nth_object}
 use Rattle.ob_coherent_spec.specs.Runs.{times, locks_entry}
 use Rattle.ob_coherent_spec.specs.Remaining.{IsCheckedProgram}
-use Rattle.ob_coherent_spec.specs.Coherent.{Beginning, IsCoherent, running, StepsSo}
+use Rattle.ob_coherent_spec.specs.Coherent.{Beginning, running, StepsSo}
 use Rattle.ob_coherent_counting_laws.proofs.Marking.{read_objects, read_keeps}
 use Rattle.ob_coherent_counting_laws.proofs.Objects.{object_there, object_found}
 use Rattle.ob_coherent_counting_laws.proofs.Passing.{passed_slots, passed_world, passes, passed_keeps}
 use Rattle.ob_coherent_calls_laws.proofs.Stepping.{call_enters}
-use Rattle.ob_rest_spec.specs.Modes.{is_owned, is_shared}
 use Rattle.ob_rest_spec.specs.AtRest.{IsStoreAtRest}
-use Rattle.ob_invocation_spec.specs.Requests.{Argument, CallRequest}
+use Rattle.ob_invocation_spec.specs.Requests.{CallRequest}
 use Rattle.ob_invocation_spec.specs.Handles.{handle_name, handle_at}
-use Rattle.ob_invocation_spec.specs.Entries.{HandleUse, Entry, mode_of_result, entry_of_call, value_of, values_of, used_as_receiver, use_of_argument, argument_uses, handle_uses}
+use Rattle.ob_invocation_spec.specs.Entries.{HandleUse, Entry, mode_of_result, entry_of_call, values_of, used_as_receiver, handle_uses}
 use Rattle.ob_invocation_spec.specs.Checks.{refusal_of}
-use Rattle.ob_invocation_spec.specs.Refusals.{entry_checks, use_serves, receiver_serves, is_repeated, is_argument_for}
+use Rattle.ob_invocation_spec.specs.Refusals.{entry_checks, use_serves, receiver_serves, is_repeated}
 use Rattle.ob_invocation_spec.specs.Entering.{is_outside_use, first_outside_use, is_locked_at_entry, with_entry_lock, entry_world}
-use Rattle.ob_coherent_beginning_laws.specs.Uses.{note_of, handle_notes, locked_at_entry, sharing_uses, AreUses}
+use Rattle.ob_coherent_beginning_laws.specs.Uses.{note_of, locked_at_entry, sharing_uses, AreUses}
 use Rattle.ob_coherent_beginning_laws.specs.Marked.{AreMarked}
 use Rattle.ob_coherent_beginning_laws.specs.Starts.{call_beginning, CallStarts}
 use Rattle.ob_coherent_beginning_laws.specs.Passed.{ArePassed, uses_in}
 use Rattle.ob_coherent_beginning_laws.proofs.Lists.{find_none}
 use Rattle.ob_coherent_beginning_laws.proofs.Passed.{passed_many, passed_newly, passed_marks, passed_marked}
-use Rattle.ob_coherent_beginning_laws.proofs.Checked.{IsAllowed, allowed, uses_for, uses_are, args_passed, handle_there, arguments_used, receiver_used}
+use Rattle.ob_coherent_beginning_laws.proofs.Checked.{IsAllowed, allowed, uses_for, uses_are, args_passed, arguments_used, receiver_used}
 use Rattle.ob_coherent_beginning_laws.proofs.Whole.{sharing_there}
 use Rattle.ob_coherent_beginning_laws.proofs.Call.{begins, within, called_runs}
 
@@ -273,8 +271,13 @@ module _ (program : SilicaProgram) (is : IsCheckedProgram program) (content : Co
   all_passed : ArePassed program.table content.objects (reference h.object ∷ values_of content (entered who r h o tx s))
       (this_parameter o.contract s ∷ parameters s) xs
   all_passed = (
-    (refl, refl, object_is.0, subst (λ (z : Object). serves_as program.table (Reference o.contract) (Reference z.contract) ≡ true)
-        (sym object_is.1) (serves_itself program.table (Reference o.contract))),
+    (
+      refl,
+      refl,
+      object_is.0,
+      subst (λ (z : Object). serves_as program.table (Reference o.contract) (Reference z.contract) ≡ true)
+          (sym object_is.1) (serves_itself program.table (Reference o.contract)),
+    ),
     args_passed program.table content who s.params r.args ok.count ok.kinds,
   )
 
@@ -285,24 +288,29 @@ module _ (program : SilicaProgram) (is : IsCheckedProgram program) (content : Co
   used : AreUses program.table content (locked_at_entry (Some u)) (uses_in xs)
   used =
       let states = or_parts (is_outside_use program.table content.objects u)
-          (list_any (is_outside_use program.table content.objects) (uses_in arg_uses)) outside in
-      (receiver_used program.table content rest (locked_at_entry (Some u)) u eh
-      (and_parts (receiver_serves u) true ok.receiver).0 states.0 refl,
-      arguments_used program.table content rest (locked_at_entry (Some u)) who s.params r.args
-      (ap (list_all use_serves) (sym (uses_are program.table content who s.params r.args)) ∙ ok.args) states.1)
+      (list_any (is_outside_use program.table content.objects) (uses_in arg_uses)) outside in (
+        receiver_used program.table content rest (locked_at_entry (Some u)) u eh
+            (and_parts (receiver_serves u) true ok.receiver).0 states.0 refl,
+        arguments_used program.table content rest (locked_at_entry (Some u)) who s.params r.args
+            (ap (list_all use_serves) (sym (uses_are program.table content who s.params r.args)) ∙ ok.args) states.1,
+      )
 
   once : list_any (is_repeated (uses_in xs)) (uses_in xs) ≡ false
   once = subst (λ us. list_any (is_repeated us) us ≡ false) uses_same ok.once
 
   pub parts_begin : (fuel : ℕ) → CallStarts program content fuel (entered who r h o tx s)
-  parts_begin fuel = (u, refl, subst (λ us. StepsSo program.table (locked_at_entry (Some u))
-      (call_beginning content (entered who r h o tx s) h.object)
-      (started_call program o.contract tx h.object (values_of content (entered who r h o tx s))
-      (first_notes program.table content.objects (map (note_of us) content.handles))
-      (entry_world content fuel (entered who r h o tx s)))) (sym uses_same)
-      (call_starts program is content rest u (locked_at_entry (Some u)) refl h.object object_is.0 o.contract tx own s
-      (values_of content (entered who r h o tx s)) xs all_passed used once
-      (ap (λ (z : Object). z.contract) object_is.1) ec class es other no_list fuel))
+  parts_begin fuel = (
+    u,
+    refl,
+    subst (λ us. StepsSo program.table (locked_at_entry (Some u))
+        (call_beginning content (entered who r h o tx s) h.object)
+        (started_call program o.contract tx h.object (values_of content (entered who r h o tx s))
+        (first_notes program.table content.objects (map (note_of us) content.handles))
+        (entry_world content fuel (entered who r h o tx s)))) (sym uses_same)
+        (call_starts program is content rest u (locked_at_entry (Some u)) refl h.object object_is.0 o.contract tx own s
+        (values_of content (entered who r h o tx s)) xs all_passed used once
+        (ap (λ (z : Object). z.contract) object_is.1) ec class es other no_list fuel),
+  )
 
 -- A call that is found, isn't refused and passes the entry test begins coherently, or aborts.
 pub call_begins : (program : SilicaProgram) → IsCheckedProgram program → (content : Content)
@@ -311,25 +319,25 @@ pub call_begins : (program : SilicaProgram) → IsCheckedProgram program → (co
     → first_outside_use program.table content e ≡ None → (fuel : ℕ) → CallStarts program content fuel e
 call_begins program is content rest who r e named found =
     let one = found_then (handle_at content (handle_name who r.on)) (λ h.
-        object_at content.objects h.object >>= λ o.
-        contract_at program.table o.contract >>= λ own.
-        transaction_named own r.tx >>= λ tx.
-        signature_at own tx >>= λ s.
-        where_true (not s.private) (entered who r h o tx s)) e found in
+    object_at content.objects h.object >>= λ o.
+    contract_at program.table o.contract >>= λ own.
+    transaction_named own r.tx >>= λ tx.
+    signature_at own tx >>= λ s.
+    where_true (not s.private) (entered who r h o tx s)) e found in
     let two = found_then (object_at content.objects one.0.object) (λ o.
-        contract_at program.table o.contract >>= λ own.
-        transaction_named own r.tx >>= λ tx.
-        signature_at own tx >>= λ s.
-        where_true (not s.private) (entered who r one.0 o tx s)) e one.2 in
+    contract_at program.table o.contract >>= λ own.
+    transaction_named own r.tx >>= λ tx.
+    signature_at own tx >>= λ s.
+    where_true (not s.private) (entered who r one.0 o tx s)) e one.2 in
     let three = found_then (contract_at program.table two.0.contract) (λ own.
-        transaction_named own r.tx >>= λ tx.
-        signature_at own tx >>= λ s.
-        where_true (not s.private) (entered who r one.0 two.0 tx s)) e two.2 in
+    transaction_named own r.tx >>= λ tx.
+    signature_at own tx >>= λ s.
+    where_true (not s.private) (entered who r one.0 two.0 tx s)) e two.2 in
     let four = found_then (transaction_named three.0 r.tx) (λ tx.
-        signature_at three.0 tx >>= λ s.
-        where_true (not s.private) (entered who r one.0 two.0 tx s)) e three.2 in
+    signature_at three.0 tx >>= λ s.
+    where_true (not s.private) (entered who r one.0 two.0 tx s)) e three.2 in
     let five = found_then (signature_at three.0 four.0) (λ s.
-        where_true (not s.private) (entered who r one.0 two.0 four.0 s)) e four.2 in
+    where_true (not s.private) (entered who r one.0 two.0 four.0 s)) e four.2 in
     let six = where_then (not five.0.private) (entered who r one.0 two.0 four.0 five.0) e five.2 in
     subst (λ (e : Entry). refusal_of (entry_checks program.table content e) ≡ None
     → first_outside_use program.table content e ≡ None → (fuel : ℕ) → CallStarts program content fuel e) six.1

@@ -1,7 +1,7 @@
 -- A request that isn't refused, and passes the entry test: its values come to the parameters by uses of handles that serve.
-use Rattle.std.proofs.Common.{◌≡◌, ◌≢◌, ℕ, zero, suc, ◌+◌, ◌<◌, ◌≤◌, Bool, true, false, not, ◌&&◌, ◌||◌, cond, List, [], ◌∷◌, ◌++◌, map, length, Option, Some, None, refl, sym, ap, subst, ◌∙◌, arith, ⊎_elim, ◌⊎◌, inl, inr, true≢false}
-use Rattle.std.specs.Prelude.{◌==◌, slice_get, zip, filter_map, option_map, option_to_list, find, if◌then◌else◌}
-use Rattle.std.specs.Option.{option_map_or, option_and_then}
+use Rattle.std.proofs.Common.{◌≡◌, ℕ, suc, ◌<◌, Bool, true, false, not, ◌&&◌, ◌||◌, cond, List, [], ◌∷◌, map, length, Option, Some, None, refl, sym, ap, subst, ◌∙◌, arith, ⊎_elim, ◌⊎◌, inl, inr, true≢false}
+use Rattle.std.specs.Prelude.{◌==◌, slice_get, zip, filter_map, option_map, option_to_list, if◌then◌else◌}
+use Rattle.std.specs.Option.{option_map_or}
 use Rattle.std.specs.FinMap.Entries.{find as find_key}
 use Rattle.std.specs.Ordering.{eq_by_cmp}
 use Rattle.std.specs.List.{list_any, list_all, cons_option}
@@ -11,8 +11,6 @@ use Rattle.ob_base.specs.Optional.{◌>>=◌}
 use Rattle.ob_base.specs.declared.permission.Mode.{Mode}
 use Rattle.ob_base.specs.declared.permission.Mode.TheVariants.{Owned, Shared, Unowned}
 use Rattle.ob_base.specs.declared.permission.Perm.{Perm}
-use Rattle.ob_perm.specs.Permissions.{owns}
-use Rattle.ob_perm.specs.Masks.{permission_of}
 use Rattle.ob_table.specs.Tables.{ClassTable}
 use Rattle.ob_table.specs.declared.contract.Param.{Param}
 use Rattle.ob_table.specs.declared.contract.ResolvedType.{ResolvedType}
@@ -22,18 +20,17 @@ use Rattle.ob_table_spec.specs.WellFormed.{serves_as}
 use Rattle.ob_heap_spec.specs.Values.{Value, int_value, bool_value, text_value, reference, referred}
 use Rattle.ob_heap_spec.specs.Objects.{Object, is_in_states}
 use Rattle.ob_heap_spec.specs.Contents.{HandleName, Handle, Content, IsHandle, object_at, name_order}
-use Rattle.ob_silica_places.specs.Parameters.{Parameter, parameter_of}
+use Rattle.ob_silica_places.specs.Parameters.{parameter_of}
 use Rattle.ob_rest_spec.specs.Modes.{is_owned, is_shared, is_unowned}
 use Rattle.ob_rest_spec.specs.AtRest.{IsStoreAtRest}
 use Rattle.ob_invocation_spec.specs.Requests.{Argument, int_argument, bool_argument, text_argument, handle_argument, other_argument}
 use Rattle.ob_invocation_spec.specs.Handles.{NamedHandle, handle_name, handle_at, serves}
-use Rattle.ob_invocation_spec.specs.Entries.{HandleUse, Entry, value_of, values_of, used_for, use_of_argument, argument_uses, handle_uses}
+use Rattle.ob_invocation_spec.specs.Entries.{HandleUse, Entry, value_of, used_for, use_of_argument, argument_uses, handle_uses}
 use Rattle.ob_invocation_spec.specs.Checks.{Check, check, refusal_of}
 use Rattle.ob_invocation_spec.specs.Replies.{arg_count, arg_kind, permission, repeated, into_missing, into_needless}
 use Rattle.ob_invocation_spec.specs.Refusals.{has_other_count, has_other_kind, lacks_permission, repeats_object, is_of_type, is_argument_for, use_serves, is_shared_entry, receiver_serves, is_repeated, entry_checks, lacks_into, has_needless_into, into_checks}
-use Rattle.ob_invocation_spec.specs.Entering.{is_outside_use, first_outside_use, is_locked_at_entry}
+use Rattle.ob_invocation_spec.specs.Entering.{is_outside_use}
 use Rattle.ob_places_laws.proofs.Tables.{each_at}
-use Rattle.ob_coherent_spec.specs.Counting.{nth_object}
 use Rattle.ob_coherent_counting_laws.proofs.Objects.{object_there, object_found}
 use Rattle.ob_coherent_beginning_laws.specs.Uses.{locked_at_entry, IsUse, AreUses}
 use Rattle.ob_coherent_beginning_laws.specs.Passed.{IsPassed, ArePassed, uses_in}
@@ -66,15 +63,15 @@ allowed table content e none =
     let c3 = check permission (lacks_permission content e) ∷ c4 in
     let c2 = check arg_kind (has_other_kind table content e) ∷ c3 in
     let one : (has_other_count e ≡ false) × (refusal_of c2 ≡ None) =
-        not_refused (check arg_count (has_other_count e)) c2 none in
+    not_refused (check arg_count (has_other_count e)) c2 none in
     let two : (has_other_kind table content e ≡ false) × (refusal_of c3 ≡ None) =
-        not_refused (check arg_kind (has_other_kind table content e)) c3 one.1 in
+    not_refused (check arg_kind (has_other_kind table content e)) c3 one.1 in
     let three : (lacks_permission content e ≡ false) × (refusal_of c4 ≡ None) =
-        not_refused (check permission (lacks_permission content e)) c4 two.1 in
+    not_refused (check permission (lacks_permission content e)) c4 two.1 in
     let four : (repeats_object content e ≡ false) × (refusal_of c5 ≡ None) =
-        not_refused (check repeated (repeats_object content e)) c5 three.1 in
+    not_refused (check repeated (repeats_object content e)) c5 three.1 in
     let modes = or_parts (not (list_all receiver_serves (option_to_list e.receiver)))
-        (not (list_all use_serves (argument_uses content e))) three.0 in
+    (not (list_all use_serves (argument_uses content e))) three.0 in
     record {
       count = same_count (length e.args) (length e.signature.params) (not_false (length e.args == length e.signature.params) one.0);
       kinds = two.0;
@@ -115,9 +112,13 @@ serves_there table objects (Reference c p) exit name h e = by_object (object_at 
         → IsPassed table objects (Reference c p) (reference h.object) (used_for (Reference c p) exit name h)
     by_object None i = absurd (true≢false (sym e ∙ ap (λ x. option_map_or (λ (o : Object). serves_as table (kind.Reference c) (kind.Reference o.contract)) x false) i))
     by_object (Some o) i =
-        let found = object_found objects h.object o i in
-        (refl, refl, found.0, subst (λ (z : Object). serves_as table (kind.Reference c) (kind.Reference z.contract) ≡ true)
-        (sym found.1) (sym (ap (λ x. option_map_or (λ (o : Object). serves_as table (kind.Reference c) (kind.Reference o.contract)) x false) i) ∙ e))
+        let found = object_found objects h.object o i in (
+          refl,
+          refl,
+          found.0,
+          subst (λ (z : Object). serves_as table (kind.Reference c) (kind.Reference z.contract) ≡ true)
+              (sym found.1) (sym (ap (λ x. option_map_or (λ (o : Object). serves_as table (kind.Reference c) (kind.Reference o.contract)) x false) i) ∙ e),
+        )
 
 module _ (table : ClassTable) (content : Content) (who : List ℕ) where
   one_passed : (p : Param) (a : Argument) → is_argument_for table content who p a ≡ true
@@ -164,7 +165,7 @@ module _ (table : ClassTable) (content : Content) (who : List ℕ) where
   args_passed (p ∷ ps) [] long fits = absurd (omega (arith, long))
   args_passed (p ∷ ps) (a ∷ args) long fits =
       let parts = or_parts (not (is_argument_for table content who p a))
-          (list_any (λ (pair : Param × Argument). not (is_argument_for table content who pair.0 pair.1)) (zip ps args)) fits in
+      (list_any (λ (pair : Param × Argument). not (is_argument_for table content who pair.0 pair.1)) (zip ps args)) fits in
       let one = one_passed p a (not_false _ parts.0) in
       subst (λ vs. ArePassed table content.objects vs (map parameter_of (p ∷ ps)) (uses_for (p ∷ ps) (a ∷ args)))
       (sym (ap (λ x. cons_option x (filter_map (value_of content who) args)) one.1))
@@ -233,7 +234,7 @@ module _ (table : ClassTable) (content : Content) (rest : IsStoreAtRest table co
         within = λ own.
             let held = not_false _ inside in
             let z : option_map_or (is_in_states table u.contract u.entry) (object_at content.objects u.handle.object) false ≡ true =
-                sym (ap (λ b. not b || option_map_or (is_in_states table u.contract u.entry) (object_at content.objects u.handle.object) false) own) ∙ held in
+            sym (ap (λ b. not b || option_map_or (is_in_states table u.contract u.entry) (object_at content.objects u.handle.object) false) own) ∙ held in
             sym (ap (λ x. option_map_or (is_in_states table u.contract u.entry) x false) (object_there content.objects u.handle.object low)) ∙ z;
         shares = shares;
         takes = takes;
@@ -283,11 +284,12 @@ module _ (table : ClassTable) (content : Content) (rest : IsStoreAtRest table co
       go (Some u) i fits inside others =
           let modes = and_parts (use_serves u) (list_all use_serves (uses_in (uses_for table content who ps args))) fits in
           let states = or_parts (is_outside_use table content.objects u)
-              (list_any (is_outside_use table content.objects) (uses_in (uses_for table content who ps args))) inside in
-          (is_use u (argument_found who p a u i) states.0
-          (λ s. serves_shared u.handle.mode u.entry.mode modes.0 s)
-          (λ s. inl (serves_owned u.handle.mode u.entry.mode modes.0 s)),
-          others modes.1 states.1)
+          (list_any (is_outside_use table content.objects) (uses_in (uses_for table content who ps args))) inside in (
+            is_use u (argument_found who p a u i) states.0
+                (λ s. serves_shared u.handle.mode u.entry.mode modes.0 s)
+                (λ s. inl (serves_owned u.handle.mode u.entry.mode modes.0 s)),
+            others modes.1 states.1,
+          )
 
   pub receiver_used : (u : HandleUse) → handle_at content u.name ≡ Some u.handle → receiver_serves u ≡ true
       → is_outside_use table content.objects u ≡ false → entry ≡ locked_at_entry (Some u) → IsUse table content entry u
@@ -299,6 +301,9 @@ module _ (table : ClassTable) (content : Content) (rest : IsStoreAtRest table co
       let z : is_shared_entry u ≡ true = sym (ap (λ b. b || is_shared_entry u) other) ∙ fits in
       let both = and_parts (is_shared u.handle.mode && is_owned u.entry.mode) (not (is_unowned u.exit.mode)) z in
       let one = and_parts (is_shared u.handle.mode) (is_owned u.entry.mode) both.0 in
-      is_use u found inside (λ s. inr one.0) (λ s. inr (one.0, locked
-      ∙ ap (λ b. if b then Some u.handle.object else None) (Rattle.std.proofs.lemmas.Bool.and_from (is_shared u.handle.mode) (is_owned u.entry.mode) one.0 one.1))))
+      is_use u found inside (λ s. inr one.0) (λ s. inr (
+        one.0,
+        locked
+            ∙ ap (λ b. if b then Some u.handle.object else None) (Rattle.std.proofs.lemmas.Bool.and_from (is_shared u.handle.mode) (is_owned u.entry.mode) one.0 one.1),
+      )))
       (cases_Bool (use_serves u))

@@ -1,8 +1,8 @@
 -- The constructor of a `new` from outside begins.
-use Rattle.std.proofs.Common.{◌≡◌, ◌≢◌, ℕ, zero, suc, ◌+◌, ◌<◌, ◌≤◌, Bool, true, false, List, [], ◌∷◌, ◌++◌, map, length, Option, Some, None, refl, sym, ap, subst, ◌∙◌, arith, ⊎_elim, ◌⊎◌, inl, inr, true≢false, eq-eqb}
+use Rattle.std.proofs.Common.{◌≡◌, ◌≢◌, ℕ, suc, ◌+◌, ◌<◌, ◌≤◌, true, false, List, [], ◌∷◌, ◌++◌, map, length, Option, Some, None, refl, sym, ap, subst, ◌∙◌, arith, ⊎_elim, ◌⊎◌, inl, inr, eq-eqb}
 use Rattle.std.specs.Prelude.{nat_eq, slice_get, option_map}
 use Rattle.std.specs.List.{list_any}
-use Rattle.std.proofs.lemmas.Bool.{cases_Bool, both_ways, cases_lt}
+use Rattle.std.proofs.lemmas.Bool.{both_ways, cases_lt}
 use Rattle.std.proofs.lemmas.Bool.Decides.{eqb_tells}
 use Rattle.std.proofs.lemmas.List.{length-map}
 use Rattle.std.proofs.lemmas.Option.{same_Some}
@@ -11,7 +11,6 @@ use Rattle.ob_perm.specs.States.{States, only, stateless}
 use Rattle.ob_perm.specs.Permissions.{owned, owns}
 use Rattle.ob_table.specs.Tables.{ClassTable, contract_at, signature_at}
 use Rattle.ob_table.specs.declared.contract.Contract.{Contract}
-use Rattle.ob_table.specs.declared.contract.Field.{Field}
 use Rattle.ob_table.specs.declared.contract.ResolvedType.{ResolvedType}
 use Rattle.ob_table.specs.declared.contract.Signature.{Signature}
 use Rattle.ob_table.specs.declared.seen.Kind.TheVariants.{Reference}
@@ -24,7 +23,7 @@ use Rattle.ob_heap_spec.specs.Worlds.{World, make_object}
 use Rattle.ob_silica_places.specs.Known.{Known, at}
 use Rattle.ob_silica_places.specs.Parameters.{Parameter, parameters, parameter_of}
 use Rattle.ob_silica_steps.specs.Calling.{constructor_id}
-use Rattle.ob_silica_steps.specs.Cells.{Cell, cell, value_in}
+use Rattle.ob_silica_steps.specs.Cells.{value_in}
 use Rattle.ob_silica_steps.specs.Configurations.{SilicaProgram, SlotCells, SilicaFrame, by_new, runs, Configuration}
 use Rattle.ob_silica_steps.specs.Here.{here, self_of, field_of}
 use Rattle.ob_silica_steps.specs.Binding.{bound_cell}
@@ -34,8 +33,8 @@ use Rattle.ob_silica_formed.specs.Holdings.{held_at_start}
 use Rattle.ob_flow_spec.specs.Contexts.{BodyFrame, available, field_known, beginning}
 use Rattle.ob_places_laws.proofs.Beginnings.{this_of_constructor, beginning_unset}
 use Rattle.ob_places_laws.proofs.Conversions.{serves_itself}
-use Rattle.ob_coherent_spec.specs.Counting.{Counted, any, nth_object, one_if, field_cell, in_cell, in_slots, in_objects, in_handles, owners, references}
-use Rattle.ob_coherent_spec.specs.Runs.{times, entries, constructions, locks}
+use Rattle.ob_coherent_spec.specs.Counting.{Counted, any, nth_object, one_if, field_cell, in_cell, in_slots, in_objects, owners, references}
+use Rattle.ob_coherent_spec.specs.Runs.{times, constructions}
 use Rattle.ob_coherent_spec.specs.Standing.{Stands, AllStand, HasItsState, HandlesStand, IsObjectInRun, NeedsOwner, is_in}
 use Rattle.ob_coherent_spec.specs.Saying.{SaysOf, own_object, own_cell}
 use Rattle.ob_coherent_spec.specs.Remaining.{IsCheckedProgram, BodyParts, body_of}
@@ -50,7 +49,7 @@ use Rattle.ob_coherent_counting_laws.proofs.Passing.{passed_slots, passed_before
 use Rattle.ob_coherent_counting_laws.proofs.Places.{no_slots, objects_make, all_refer}
 use Rattle.ob_coherent_counting_laws.proofs.Sums.{at_same, at_other}
 use Rattle.ob_coherent_places_laws.proofs.Standing.{made_stands}
-use Rattle.ob_coherent_calls_laws.specs.Bound.{IsBoundTo, AreBound}
+use Rattle.ob_coherent_calls_laws.specs.Bound.{AreBound}
 use Rattle.ob_coherent_calls_laws.specs.Entered.{BeginsOn}
 use Rattle.ob_coherent_calls_laws.proofs.Within.{are_all_within}
 use Rattle.ob_coherent_calls_laws.proofs.Entered.{begins_self, begins_stand, begins_held, begins_frame, begins_says}
@@ -240,9 +239,9 @@ module _ (program : SilicaProgram) (is : IsCheckedProgram program) (content : Co
       let here = slots_count owns m in
       let pass = passed_owns program.table content.objects m args (parameters s) xs passed in
       let z = total_is program.table is.table content rest None (uses_in xs) uses once m (in_slots owns m f.slots)
-          (in_objects owns m d.notes w.objects)
-          (let y : in_slots owns m f.slots ≡ owning_uses m (uses_in xs) = omega (arith, cell, none, here, pass) in y)
-          (objects_count owns m) in
+      (in_objects owns m d.notes w.objects)
+      (let y : in_slots owns m f.slots ≡ owning_uses m (uses_in xs) = omega (arith, cell, none, here, pass) in y)
+      (objects_count owns m) in
       omega (arith, z)
 
   -- an object that is no older one is referred to by the constructor alone
@@ -253,10 +252,10 @@ module _ (program : SilicaProgram) (is : IsCheckedProgram program) (content : Co
       let none = passed_low program.table content.objects m (let e = next_is in omega (arith, e, past)) args (parameters s) xs passed in
       let objects = objects_make any m d.notes wr (unfinished contract) (λ j. refl) in
       let two = objects_past program.table wr.objects m past d.notes
-          (marked_stand program.table content rest (map (note_of (uses_in xs)) content.handles) wr.objects more) in
+      (marked_stand program.table content rest (map (note_of (uses_in xs)) content.handles) wr.objects more) in
       let three = handles_past program.table wr.objects m past (map (note_of (uses_in xs)) content.handles)
-          (handles_stand content.objects (uses_in xs) content.handles (length content.objects) (omega arith)
-          rest.is_content.handles wr.objects (let e = more.count in omega (arith, e))) in
+      (handles_stand content.objects (uses_in xs) content.handles (length content.objects) (omega arith)
+      rest.is_content.handles wr.objects (let e = more.count in omega (arith, e))) in
       omega (arith, cell, here, none, objects, two, three)
 
   past_owners : (m : ℕ) → next ≤ m → owners m d ≡ one_if (nat_eq next m)
@@ -327,7 +326,7 @@ module _ (program : SilicaProgram) (is : IsCheckedProgram program) (content : Co
   declared_now : (m : ℕ) → m < next → IsAsDeclared program.table (NeedsOwner program.table w.objects) d.notes w.objects m
   declared_now m low =
       let was = marked_declared program.table content rest (map (note_of (uses_in xs)) content.handles) wr.objects more
-          (NeedsOwner program.table w.objects) m low in
+      (NeedsOwner program.table w.objects) m low in
       record {
         placed = subst (HasItsState program.table) (sym (old_object m low)) was.placed;
         fields = λ k g e can. subst (SaysOf (NeedsOwner program.table w.objects) (Some (declared_note g.of)))
@@ -428,11 +427,11 @@ module _ (program : SilicaProgram) (is : IsCheckedProgram program) (content : Co
       → SaysOf (NeedsOwner program.table w.objects) (field_known bf j) (own_cell (here d) j)
   fields_say j can =
       let object_is : nth_object w.objects (self_of f.slots) ≡ unfinished contract =
-          ap (nth_object w.objects) self_is ∙ new_object in
+      ap (nth_object w.objects) self_is ∙ new_object in
       let top : available bf j stateless ≡ true =
-          subst (λ (o : Object). available bf j (state_number o.state) ≡ true) object_is can in
+      subst (λ (o : Object). available bf j (state_number o.state) ≡ true) object_is can in
       let none : field_cell d.notes w.objects (self_of f.slots) j ≡ None =
-          field_cell_of d.notes w.objects (self_of f.slots) j None (ap (λ (o : Object). o.fields j) object_is) in
+      field_cell_of d.notes w.objects (self_of f.slots) j None (ap (λ (o : Object). o.fields j) object_is) in
       subst (λ y. SaysOf (NeedsOwner program.table w.objects) y (own_cell (here d) j))
       (sym (beginning_unset bf j refl top))
       (subst (SaysOf (NeedsOwner program.table w.objects) None) (sym none)

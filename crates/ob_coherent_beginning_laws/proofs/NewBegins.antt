@@ -1,6 +1,6 @@
 -- A `new` from outside begins coherently, or aborts.
-use Rattle.std.proofs.Common.{◌≡◌, ℕ, zero, suc, ◌<◌, Bool, true, false, not, List, [], ◌∷◌, map, length, Option, Some, None, refl, sym, ap, subst, ◌∙◌, arith, ⊎_elim}
-use Rattle.std.specs.Prelude.{nat_le, slice_get, if◌then◌else◌}
+use Rattle.std.proofs.Common.{◌≡◌, ℕ, ◌<◌, true, false, List, [], map, length, Option, Some, None, refl, sym, ap, subst, ◌∙◌, ⊎_elim}
+use Rattle.std.specs.Prelude.{nat_le, if◌then◌else◌}
 use Rattle.std.specs.List.{list_any, list_all}
 use Rattle.std.proofs.lemmas.Bool.{cases_Bool}
 use Rattle.std.proofs.lemmas.Option.{same_Some}
@@ -13,7 +13,7 @@ use Rattle.ob_table.specs.declared.contract.Signature.{Signature}
 use Rattle.ob_table_spec.specs.Conditions.{IsConstructor}
 use Rattle.ob_table_spec.specs.WellFormed.{constructor_at}
 use Rattle.ob_heap_spec.specs.Values.{Value, nothing}
-use Rattle.ob_heap_spec.specs.Objects.{Object, unfinished}
+use Rattle.ob_heap_spec.specs.Objects.{unfinished}
 use Rattle.ob_heap_spec.specs.Contents.{Content}
 use Rattle.ob_heap_spec.specs.Worlds.{World, first_world, with_unit_taken, next_item, with_read, make_object, by_full}
 use Rattle.ob_silica.specs.Terms.{SilicaTerms}
@@ -26,7 +26,7 @@ use Rattle.ob_silica_steps.specs.Starting.{first_notes, pass_all, alone, started
 use Rattle.ob_places_laws.proofs.Tables.{constructor_found}
 use Rattle.ob_coherent_spec.specs.Counting.{nth_object}
 use Rattle.ob_coherent_spec.specs.Remaining.{IsCheckedProgram}
-use Rattle.ob_coherent_spec.specs.Coherent.{Beginning, IsRunning, running, StepsSo}
+use Rattle.ob_coherent_spec.specs.Coherent.{Beginning, running, StepsSo}
 use Rattle.ob_coherent_counting_laws.proofs.Passing.{passed_slots, passed_world, passes, passed_keeps}
 use Rattle.ob_rest_spec.specs.AtRest.{IsStoreAtRest}
 use Rattle.ob_invocation_spec.specs.Requests.{NewRequest}
@@ -177,15 +177,17 @@ module _ (program : SilicaProgram) (is : IsCheckedProgram program) (content : Co
 
   pub parts_begin : (fuel : ℕ) → NewStarts program content fuel (entered who r contract s)
   parts_begin fuel =
-      let made = constructor_found program.table is.table contract s es in
-      (refl, subst (λ us. StepsSo program.table None (new_beginning content (entered who r contract s))
-      (started_new program contract (values_of content (entered who r contract s))
-      (first_notes program.table content.objects (map (note_of us) content.handles))
-      (entry_world content fuel (entered who r contract s)))) (sym uses_same)
-      (new_starts program is content rest contract made.0 s (values_of content (entered who r contract s)) xs
-      (args_passed program.table content who s.params r.args ok.count ok.kinds) used
-      (subst (λ us. list_any (is_repeated us) us ≡ false) uses_same ok.once)
-      made.1 made.2 made.3 made.4 es fuel))
+      let made = constructor_found program.table is.table contract s es in (
+        refl,
+        subst (λ us. StepsSo program.table None (new_beginning content (entered who r contract s))
+            (started_new program contract (values_of content (entered who r contract s))
+            (first_notes program.table content.objects (map (note_of us) content.handles))
+            (entry_world content fuel (entered who r contract s)))) (sym uses_same)
+            (new_starts program is content rest contract made.0 s (values_of content (entered who r contract s)) xs
+            (args_passed program.table content who s.params r.args ok.count ok.kinds) used
+            (subst (λ us. list_any (is_repeated us) us ≡ false) uses_same ok.once)
+            made.1 made.2 made.3 made.4 es fuel),
+      )
 
 -- A `new` that is found, isn't refused and passes the entry test begins coherently, or aborts.
 pub new_begins : (program : SilicaProgram) → IsCheckedProgram program → (content : Content)
@@ -194,7 +196,7 @@ pub new_begins : (program : SilicaProgram) → IsCheckedProgram program → (con
     → first_outside_use program.table content e ≡ None → (fuel : ℕ) → NewStarts program content fuel e
 new_begins program is content rest who r e found =
     let one = found_then (contract_named program.table.contracts r.contract) (λ contract.
-        constructor_at program.table contract >>= λ s. Some (entered who r contract s)) e found in
+    constructor_at program.table contract >>= λ s. Some (entered who r contract s)) e found in
     let two = found_then (constructor_at program.table one.0) (λ s. Some (entered who r one.0 s)) e one.2 in
     subst (λ (e : Entry). refusal_of (entry_checks program.table content e) ≡ None
     → first_outside_use program.table content e ≡ None → (fuel : ℕ) → NewStarts program content fuel e)

@@ -3,12 +3,11 @@ use Rattle.std.proofs.Common.{◌≡◌, ◌≢◌, ℕ, zero, suc, ◌+◌, ◌
 use Rattle.std.specs.Prelude.{nat_eq, slice_get}
 use Rattle.std.specs.List.{cons_option}
 use Rattle.std.proofs.lemmas.Bool.{cases_Bool, both_ways}
-use Rattle.std.proofs.lemmas.Option.{same_Some}
 use Rattle.ob_base.specs.declared.permission.Mode.{Mode}
 use Rattle.ob_base.specs.declared.permission.Mode.TheVariants.{Owned, Shared, Unowned}
 use Rattle.ob_base.specs.declared.permission.Perm.{Perm}
 use Rattle.ob_perm.specs.States.{States}
-use Rattle.ob_perm.specs.Permissions.{Permission, owned, shared, unowned, owns}
+use Rattle.ob_perm.specs.Permissions.{owned, shared, unowned, owns}
 use Rattle.ob_perm.specs.Permissions.{is_shared as shares}
 use Rattle.ob_perm.specs.Masks.{states_of, held, permission_of}
 use Rattle.ob_table.specs.Tables.{ClassTable}
@@ -16,29 +15,27 @@ use Rattle.ob_table.specs.declared.contract.ResolvedType.{ResolvedType}
 use Rattle.ob_table.specs.declared.contract.ResolvedType.TheVariants.{Reference as TypedReference}
 use Rattle.ob_table.specs.declared.seen.Kind.TheVariants.{Reference}
 use Rattle.ob_table_spec.specs.WellFormed.{kind_of_resolved}
-use Rattle.ob_heap_spec.specs.Values.{Value, reference, referred}
+use Rattle.ob_heap_spec.specs.Values.{Value, reference}
 use Rattle.ob_heap_spec.specs.Objects.{Object, is_in_states}
 use Rattle.ob_heap_spec.specs.Contents.{Content}
 use Rattle.ob_heap_spec.specs.Worlds.{World}
 use Rattle.ob_heap_spec.specs.Marks.{comes_into}
 use Rattle.ob_silica_places.specs.Known.{permission_of_type}
 use Rattle.ob_silica_places.specs.Parameters.{Parameter}
-use Rattle.ob_silica_steps.specs.Cells.{Cell}
 use Rattle.ob_silica_steps.specs.Configurations.{SlotCells}
 use Rattle.ob_silica_steps.specs.Binding.{bound_cell}
 use Rattle.ob_rest_spec.specs.Modes.{is_owned, is_shared}
 use Rattle.ob_invocation_spec.specs.Entries.{HandleUse}
 use Rattle.ob_coherent_spec.specs.Counting.{nth_object, one_if, in_cell}
-use Rattle.ob_coherent_spec.specs.Standing.{IsOfKind, RefersToShared, RefersToIn, Stands}
+use Rattle.ob_coherent_spec.specs.Standing.{Stands}
 use Rattle.ob_coherent_counting_laws.proofs.Cells.{cell_uncounted}
 use Rattle.ob_coherent_counting_laws.proofs.Marking.{Keeps, comes_keeps, comes_disowned, comes_newly_shared, comes_shared}
 use Rattle.ob_coherent_counting_laws.proofs.Passing.{passed_world, passed_keeps, in_passed}
 use Rattle.ob_coherent_places_laws.proofs.Standing.{stands_keeps, seen_same}
-use Rattle.ob_coherent_calls_laws.specs.Bound.{IsBoundTo, AreBound}
-use Rattle.ob_coherent_beginning_laws.specs.Uses.{owning_uses, sharing_uses, IsUse, AreUses}
+use Rattle.ob_coherent_calls_laws.specs.Bound.{AreBound}
+use Rattle.ob_coherent_beginning_laws.specs.Uses.{owning_uses, sharing_uses, AreUses}
 use Rattle.ob_coherent_beginning_laws.specs.Marked.{AreMarked}
 use Rattle.ob_coherent_beginning_laws.specs.Passed.{IsPassed, ArePassed, uses_in}
-use Rattle.ob_coherent_beginning_laws.proofs.Stored.{marked_keep}
 
 -- Modes.
 
@@ -83,9 +80,9 @@ module _ (table : ClassTable) (objects : List Object) where
       let none = cell_uncounted owns n (bound_cell of v) (ap owns is.0) in omega (arith, none)
   one_counts n of v (Some u) us is =
       let same : in_cell owns n (Some (bound_cell of v))
-          ≡ one_if (owns (permission_of u.entry) && nat_eq u.handle.object n) =
-          ap (λ (t : ResolvedType). in_cell owns n (Some (bound_cell t v))) is.0
-          ∙ ap (λ (z : Value). in_cell owns n (Some (bound_cell (TypedReference u.contract u.entry) z))) is.1 in
+      ≡ one_if (owns (permission_of u.entry) && nat_eq u.handle.object n) =
+      ap (λ (t : ResolvedType). in_cell owns n (Some (bound_cell t v))) is.0
+      ∙ ap (λ (z : Value). in_cell owns n (Some (bound_cell (TypedReference u.contract u.entry) z))) is.1 in
       let mode = ap (λ b. one_if (b && nat_eq u.handle.object n)) (owns_mode u.entry) in
       omega (arith, same, mode)
 
@@ -112,9 +109,9 @@ module _ (table : ClassTable) (objects : List Object) where
       let same : reference u.handle.object ≡ reference n = sym is.1 ∙ value in
       let object : u.handle.object ≡ n = cc in
       let mode : is_shared u.entry.mode ≡ true =
-          sym (shares_mode u.entry) ∙ ap (λ (t : ResolvedType). shares (permission_of_type t)) (sym is.0) ∙ share in
+      sym (shares_mode u.entry) ∙ ap (λ (t : ResolvedType). shares (permission_of_type t)) (sym is.0) ∙ share in
       let one : one_if (is_shared u.entry.mode && nat_eq u.handle.object n) ≡ 1 =
-          rw (mode, eq-eqb u.handle.object n object) refl in
+      rw (mode, eq-eqb u.handle.object n object) refl in
       omega (arith, one)
 
   -- an object that comes to be marked is used as Shared
@@ -202,9 +199,11 @@ module _ (table : ClassTable) (content : Content) (entry : Option ℕ) (ps : Lis
   value_stands of v (Some u) us is uses marks =
       subst (λ (t : ResolvedType). Stands table ps (bound_cell t v)) (sym is.0)
       (subst (λ (z : Value). Stands table ps (bound_cell (TypedReference u.contract u.entry) z)) (sym is.1) (record {
-        kind = (let e = more.count in let low = is.2 in omega (arith, e, low),
-            ap (λ c. Rattle.ob_table_spec.specs.WellFormed.serves_as table (Reference u.contract) (Reference c))
-            (more.contract u.handle.object) ∙ is.3);
+        kind = (
+          let e = more.count in let low = is.2 in omega (arith, e, low),
+          ap (λ c. Rattle.ob_table_spec.specs.WellFormed.serves_as table (Reference u.contract) (Reference c))
+              (more.contract u.handle.object) ∙ is.3,
+        );
         marked = λ e. marks u.handle.object
             (let mode : is_shared u.entry.mode ≡ true = sym (shares_mode u.entry) ∙ ap shares e in
             let one : one_if (is_shared u.entry.mode && nat_eq u.handle.object u.handle.object) ≡ 1 =

@@ -1,32 +1,29 @@
 -- What is so of the objects of a store at rest.
-use Rattle.std.proofs.Common.{◌≡◌, ℕ, zero, suc, ◌+◌, ◌<◌, ◌≤◌, Bool, true, false, not, ◌&&◌, ◌||◌, List, [], ◌∷◌, length, Option, Some, None, refl, sym, ap, subst, ◌∙◌, arith, ⊎_elim, ◌⊎◌, inl, inr, true≢false, eq-eqb}
-use Rattle.std.specs.Prelude.{◌==◌, nat_eq, nat_lt, slice_get, IsSomeAnd, is_some, map, filter_map}
+use Rattle.std.proofs.Common.{◌≡◌, ℕ, ◌+◌, ◌<◌, ◌≤◌, Bool, true, false, not, ◌&&◌, ◌||◌, [], length, Option, Some, None, refl, sym, ap, subst, ◌∙◌, arith, ⊎_elim, true≢false, eq-eqb}
+use Rattle.std.specs.Prelude.{◌==◌, nat_eq, nat_lt, slice_get, map, filter_map}
 use Rattle.std.specs.Option.{option_map_or}
 use Rattle.std.specs.List.{list_any, enumerate_from}
-use Rattle.std.proofs.lemmas.Bool.{cases_Bool, both_ways, and_cases, not_from_true, not_from_false, false_from_ne_true, or_parts, or_left, or_right, not-true}
-use Rattle.std.proofs.lemmas.Option.{same_Some}
+use Rattle.std.proofs.lemmas.Bool.{cases_Bool, both_ways, and_cases, or_left, or_right}
 use Rattle.ob_base.specs.declared.id.ContractId.{ContractId}
 use Rattle.ob_base.specs.declared.permission.Mode.{Mode}
 use Rattle.ob_base.specs.declared.permission.Mode.TheVariants.{Owned, Shared, Unowned}
 use Rattle.ob_base.specs.declared.permission.Perm.{Perm}
 use Rattle.ob_perm.specs.States.{States}
-use Rattle.ob_perm.specs.Permissions.{Permission, owned, shared, unowned, owns}
+use Rattle.ob_perm.specs.Permissions.{owned, shared, unowned}
 use Rattle.ob_perm.specs.Masks.{states_of, held, permission_of}
 use Rattle.ob_table.specs.Tables.{ClassTable, contract_at}
 use Rattle.ob_table.specs.declared.contract.Contract.{Contract}
 use Rattle.ob_table.specs.declared.contract.Field.{Field}
-use Rattle.ob_table.specs.declared.contract.ResolvedType.{ResolvedType}
-use Rattle.ob_table.specs.declared.contract.ResolvedType.TheVariants.{Int, Bool as BoolKind, Text, Reference}
-use Rattle.ob_table_spec.specs.WellFormed.{kind_of_resolved, serves_as}
+use Rattle.ob_table.specs.declared.contract.ResolvedType.TheVariants.{Reference}
+use Rattle.ob_table_spec.specs.WellFormed.{serves_as}
 use Rattle.ob_table.specs.declared.seen.Kind.TheVariants as kind
-use Rattle.ob_heap_spec.specs.Values.{Value, int_value, bool_value, text_value, reference}
+use Rattle.ob_heap_spec.specs.Values.{reference}
 use Rattle.ob_heap_spec.specs.Objects.{Object, has_field, is_available, is_in_states}
-use Rattle.ob_heap_spec.specs.Contents.{HandleName, Handle, Content, object_at, IsValueOf, IsObjectOf, IsObject}
-use Rattle.ob_silica_places.specs.Known.{permission_of_type}
-use Rattle.ob_silica_steps.specs.Cells.{Cell, cell}
-use Rattle.ob_places_laws.proofs.Tables.{each_at, there_is, there_so}
+use Rattle.ob_heap_spec.specs.Contents.{HandleName, Handle, Content, object_at, IsObject}
+use Rattle.ob_silica_steps.specs.Cells.{cell}
+use Rattle.ob_places_laws.proofs.Tables.{each_at}
 use Rattle.ob_coherent_spec.specs.Counting.{nth_object}
-use Rattle.ob_coherent_spec.specs.Standing.{IsOfKind, RefersToShared, RefersToIn, Stands}
+use Rattle.ob_coherent_spec.specs.Standing.{RefersToIn, Stands}
 use Rattle.ob_coherent_counting_laws.proofs.Objects.{object_there}
 use Rattle.ob_rest_spec.specs.Modes.{is_owned, is_shared}
 use Rattle.ob_rest_spec.specs.References.{FieldReference, reference_of, available_value, references_of, field_references}
@@ -99,11 +96,11 @@ module _ (table : ClassTable) (content : Content) (rest : IsStoreAtRest table co
   handle_marks k h e there mode = ⊎_elim (λ z. z)
       (λ no.
       let none = (none_append (λ r. is_shared r.mode)
-          (map incoming_by_field (fields_onto table content.objects h.1.object))
-          (map incoming_by_handle (handles_onto content.handles h.1.object)) (shared_in h.1.object there no)).1 in
+      (map incoming_by_field (fields_onto table content.objects h.1.object))
+      (map incoming_by_handle (handles_onto content.handles h.1.object)) (shared_in h.1.object there no)).1 in
       let two = sym (any_map (λ r. is_shared r.mode) incoming_by_handle (handles_onto content.handles h.1.object)) ∙ none in
       let three = sym (any_filter (λ x. is_shared (incoming_by_handle x).mode) (λ x. nat_eq x.1.object h.1.object) content.handles)
-          ∙ two in
+      ∙ two in
       let four = none_at (λ (x : HandleName × Handle). nat_eq x.1.object h.1.object && is_shared x.1.mode) content.handles k h three e in
       absurd (true≢false (sym (rw (eq-eqb h.1.object h.1.object refl) mode) ∙ four)))
       (cases_Bool (at h.1.object).shared)
@@ -178,7 +175,7 @@ module _ (table : ClassTable) (content : Content) (rest : IsStoreAtRest table co
         in_state a e =
             let m = mode_owned p a e in
             let out : is_outside_declaration table (at n) r ≡ false =
-                none_onto (is_outside_declaration table (at n)) (passes n low outside_states) in
+            none_onto (is_outside_declaration table (at n)) (passes n low outside_states) in
             let z : not (is_in_states table c p (at n)) ≡ false = sym (ap (λ b. b && not (is_in_states table c p (at n))) m.0) ∙ out in
             subst (λ b. b (Rattle.ob_heap_spec.specs.Objects.seen_state table c (at n)) ≡ true) (sym m.1)
             (⊎_elim (λ y. y) (λ no. absurd (true≢false (sym (ap not no) ∙ z))) (cases_Bool (is_in_states table c p (at n))))

@@ -1,17 +1,15 @@
 -- How many places own an object where a run begins: those of the store, without the handles that are lent, and the uses that own it.
-use Rattle.std.proofs.Common.{◌≡◌, ℕ, zero, suc, ◌+◌, ◌<◌, ◌≤◌, Bool, true, false, not, ◌&&◌, ◌||◌, List, [], ◌∷◌, map, length, Option, Some, None, refl, sym, ap, subst, ◌∙◌, arith, ⊎_elim, ◌⊎◌, inl, inr, true≢false, eq-eqb, eqb-true, cond}
+use Rattle.std.proofs.Common.{◌≡◌, ℕ, zero, suc, ◌+◌, ◌<◌, ◌≤◌, Bool, true, false, not, ◌&&◌, ◌||◌, List, [], ◌∷◌, map, length, Option, Some, refl, sym, ap, subst, ◌∙◌, arith, ⊎_elim, ◌⊎◌, inl, inr, eq-eqb, eqb-true, cond}
 use Rattle.std.specs.Prelude.{nat_eq, nat_lt, slice_get, count_by, fold, if◌then◌else◌}
 use Rattle.std.specs.List.{list_any}
 use Rattle.std.proofs.lemmas.Bool.{cases_Bool, both_ways, and_parts, and_from, or_left, or_right}
 use Rattle.std.proofs.lemmas.Option.{same_Some}
 use Rattle.ob_base.specs.declared.permission.Mode.{Mode}
 use Rattle.ob_base.specs.declared.permission.Mode.TheVariants.{Owned, Shared, Unowned}
-use Rattle.ob_perm.specs.Permissions.{Permission, owned, shared, unowned, owns}
+use Rattle.ob_perm.specs.Permissions.{unowned, owns}
 use Rattle.ob_table.specs.Tables.{ClassTable}
-use Rattle.ob_table_spec.specs.Conditions.{IsClassTable}
 use Rattle.ob_heap_spec.specs.Contents.{HandleName, Handle, Content}
-use Rattle.ob_silica_steps.specs.Configurations.{HandleNote}
-use Rattle.ob_rest_spec.specs.Modes.{is_owned, is_shared, is_unowned}
+use Rattle.ob_rest_spec.specs.Modes.{is_owned, is_shared}
 use Rattle.ob_rest_spec.specs.Incoming.{owners}
 use Rattle.ob_rest_spec.specs.Failing.{is_asset}
 use Rattle.ob_rest_spec.specs.AtRest.{IsStoreAtRest}
@@ -25,7 +23,6 @@ use Rattle.ob_invocation_laws.proofs.Lent.{changes, use_is_put, put_by_use, foun
 use Rattle.ob_perm.specs.Masks.{held}
 use Rattle.ob_coherent_spec.specs.Counting.{nth_object, one_if, in_handles}
 use Rattle.ob_rest_counting_laws.proofs.Handles.{owning_handles, owning_where, handles_owning_but}
-use Rattle.ob_coherent_counting_laws.proofs.Cells.{one_if_true, one_if_most}
 use Rattle.ob_coherent_beginning_laws.specs.Uses.{any_state, is_lent, note_of, owning_uses, sharing_uses, uses_of, IsUse, AreUses}
 use Rattle.ob_coherent_beginning_laws.proofs.Lists.{none_at}
 use Rattle.ob_coherent_beginning_laws.proofs.Rests.{one_owner, none_if_shared, none_if_disowned, asset_has_owner, handle_marks}
@@ -45,8 +42,8 @@ module _ (test : HandleName × Handle → Bool) (n : ℕ) where
   where_at [] k h e is own same = absurd (cc)
   where_at (g ∷ hs) zero h e is own same =
       let z : one_if (test g && (is_owned g.1.mode && nat_eq g.1.object n)) ≡ 1 =
-          subst (λ (x : HandleName × Handle). one_if (test x && (is_owned x.1.mode && nat_eq x.1.object n)) ≡ 1) (sym (same_Some g h e))
-          (rw (is, own, eq-eqb h.1.object n same) refl) in omega (arith, z)
+      subst (λ (x : HandleName × Handle). one_if (test x && (is_owned x.1.mode && nat_eq x.1.object n)) ≡ 1) (sym (same_Some g h e))
+      (rw (is, own, eq-eqb h.1.object n same) refl) in omega (arith, z)
   where_at (g ∷ hs) (suc k) h e is own same = let rest = where_at hs k h e is own same in omega (arith, rest)
 
   where_found : (hs : List (HandleName × Handle)) → 0 < owning_where test n hs
@@ -114,8 +111,8 @@ module _ (n : ℕ) where
   owning_at [] k u e is same = absurd (cc)
   owning_at (v ∷ us) zero u e is same =
       let z : one_if (is_owned v.entry.mode && nat_eq v.handle.object n) ≡ 1 =
-          subst (λ (x : HandleUse). one_if (is_owned x.entry.mode && nat_eq x.handle.object n) ≡ 1) (sym (same_Some v u e))
-          (rw (is, eq-eqb u.handle.object n same) refl) in omega (arith, z)
+      subst (λ (x : HandleUse). one_if (is_owned x.entry.mode && nat_eq x.handle.object n) ≡ 1) (sym (same_Some v u e))
+      (rw (is, eq-eqb u.handle.object n same) refl) in omega (arith, z)
   owning_at (v ∷ us) (suc k) u e is same = let rest = owning_at us k u e is same in omega (arith, rest)
 
   sharing_at : (us : List HandleUse) (k : ℕ) (u : HandleUse) → slice_get us k ≡ Some u → is_shared u.entry.mode ≡ true
@@ -123,8 +120,8 @@ module _ (n : ℕ) where
   sharing_at [] k u e is same = absurd (cc)
   sharing_at (v ∷ us) zero u e is same =
       let z : one_if (is_shared v.entry.mode && nat_eq v.handle.object n) ≡ 1 =
-          subst (λ (x : HandleUse). one_if (is_shared x.entry.mode && nat_eq x.handle.object n) ≡ 1) (sym (same_Some v u e))
-          (rw (is, eq-eqb u.handle.object n same) refl) in omega (arith, z)
+      subst (λ (x : HandleUse). one_if (is_shared x.entry.mode && nat_eq x.handle.object n) ≡ 1) (sym (same_Some v u e))
+      (rw (is, eq-eqb u.handle.object n same) refl) in omega (arith, z)
   sharing_at (v ∷ us) (suc k) u e is same = let rest = sharing_at us k u e is same in omega (arith, rest)
 
   -- what is used by an owner is used once
@@ -134,7 +131,7 @@ module _ (n : ℕ) where
       let no = none_at (is_repeated us) us r.0 r.1 none r.2 in
       let z : nat_lt 1 (times_used us r.1) ≡ false = sym (ap (λ b. b && nat_lt 1 (times_used us r.1)) r.3) ∙ no in
       let y : times_used us r.1 ≡ uses_of n us =
-          uses_counted r.1.handle.object us ∙ ap (λ m. uses_of m us) r.4 in
+      uses_counted r.1.handle.object us ∙ ap (λ m. uses_of m us) r.4 in
       let x : nat_lt 1 (uses_of n us) ≡ false = ap (nat_lt 1) (sym y) ∙ z in
       grind (arith, x)
 
@@ -197,8 +194,11 @@ module _ (table : ClassTable) (content : Content) (rest : IsStoreAtRest table co
         (λ own. inl (subst (λ m. 0 < lent m) r.4 (use_lent r.0 r.1 r.2
         (or_left (is_owned r.1.handle.mode && is_owned r.1.entry.mode) (is_shared r.1.entry.mode)
         (and_from (is_owned r.1.handle.mode) (is_owned r.1.entry.mode) own r.3)) own)))
-        (λ share. inr (share.1 ∙ ap Some r.4, subst (λ m. (nth_object content.objects m).shared ≡ true) r.4
-        (use_marks r.0 r.1 r.2 share.0)))
+        (λ share. inr (
+          share.1 ∙ ap Some r.4,
+          subst (λ m. (nth_object content.objects m).shared ≡ true) r.4
+              (use_marks r.0 r.1 r.2 share.0),
+        ))
         (is.takes r.3)
 
     -- a sharing use is of a lent handle, or of a marked object
@@ -219,7 +219,7 @@ module _ (table : ClassTable) (content : Content) (rest : IsStoreAtRest table co
         let r = put_by_use content us h.1.0 (all_found table content entry us all) h.3 in
         let itself = found_itself content.handles h.0 h.1 rest.is_content.order h.2 in
         let same : r.1.handle ≡ h.1.1 =
-            same_Some r.1.handle h.1.1 (sym r.5 ∙ ap (handle_at content) r.3 ∙ itself) in
+        same_Some r.1.handle h.1.1 (sym r.5 ∙ ap (handle_at content) r.3 ∙ itself) in
         let object : r.1.handle.object ≡ n = ap (λ (x : Handle). x.object) same ∙ h.5 in
         ⊎_elim
         (λ own. inl (owning_at n us r.0 r.1 r.2 (and_parts (is_owned r.1.handle.mode) (is_owned r.1.entry.mode) own).1 object))
@@ -229,9 +229,10 @@ module _ (table : ClassTable) (content : Content) (rest : IsStoreAtRest table co
 
     owns_few : 0 < owning_uses n us → (owning_uses n us ≡ 1) × (sharing_uses n us ≡ 0)
     owns_few some =
-        let most = used_once n us once some in let both = say_uses n us in
-        ((let z : owning_uses n us ≡ 1 = omega (arith, some, most, both) in z),
-        (let z : sharing_uses n us ≡ 0 = omega (arith, some, most, both) in z))
+        let most = used_once n us once some in let both = say_uses n us in (
+          (let z : owning_uses n us ≡ 1 = omega (arith, some, most, both) in z),
+          (let z : sharing_uses n us ≡ 0 = omega (arith, some, most, both) in z),
+        )
 
     zero_or : (m : ℕ) → (m ≡ 0) ⊎ (0 < m)
     zero_or zero = inl refl

@@ -1,6 +1,6 @@
 -- What a request uses of handles, and what handles carry while its run lasts (Coblenz et al., TOPLAS 42(3), 2020,
 -- "Permissions"; the statements are this project's own).
-use Rattle.std.specs.Prelude.{◌≡◌, ℕ, ◌+◌, ◌<◌, ◌⊎◌, Bool, true, false, not, ◌&&◌, nat_eq, List, [], ◌∷◌, map, length, Option, Some, None, slice_get, ⊤, if◌then◌else◌}
+use Rattle.std.specs.Prelude.{◌≡◌, ℕ, ◌+◌, ◌<◌, ◌⊎◌, Bool, true, ◌&&◌, nat_eq, List, [], ◌∷◌, map, length, Option, Some, None, slice_get, ⊤, if◌then◌else◌}
 use Rattle.std.specs.Ordering.{eq_by_cmp}
 use Rattle.ob_perm.specs.States.{States}
 use Rattle.ob_perm.specs.Permissions.{unowned, owns}
