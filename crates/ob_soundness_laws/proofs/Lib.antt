@@ -11,3 +11,4 @@ pub mod Whole
 pub mod Bodies
 pub mod Left
 pub mod Sound
+pub mod Given
