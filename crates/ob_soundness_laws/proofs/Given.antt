@@ -24,7 +24,7 @@ use Rattle.ob_silica_steps.specs.Configurations.{SlotCells, Configuration}
 use Rattle.ob_coherent_spec.specs.Counting.{one_if, in_cell, nth_object}
 use Rattle.ob_coherent_spec.specs.Standing.{NeedsOwner}
 use Rattle.ob_coherent_spec.specs.Coherent.{LeavesWith}
-use Rattle.ob_coherent_counting_laws.proofs.Cells.{cell_counted, counted_cell, shared_none, cell_most}
+use Rattle.ob_coherent_counting_laws.proofs.Cells.{cell_counted, counted_cell, cell_other, shared_none, cell_most}
 use Rattle.ob_rest_spec.specs.Modes.{is_owned, is_shared, is_unowned}
 use Rattle.ob_invocation_spec.specs.Requests.{Argument, int_argument, bool_argument, text_argument, handle_argument, other_argument}
 use Rattle.ob_invocation_spec.specs.Handles.{handle_name, handle_at, serves}
@@ -164,3 +164,76 @@ uses_so table content who p (handle_argument name) v is fits = go (handle_at con
         by_type Int same = absurd (let z = rw (same, refers) at fits in cc)
         by_type BoolKind same = absurd (let z = rw (same, refers) at fits in cc)
         by_type Text same = absurd (let z = rw (same, refers) at fits in cc)
+
+owner_serves : (m w : Mode) → serves m w ≡ true → is_owned w ≡ true → is_owned m ≡ true
+owner_serves Owned w s o = refl
+owner_serves Shared Owned s o = absurd cc
+owner_serves Shared Shared s o = absurd cc
+owner_serves Shared Unowned s o = absurd cc
+owner_serves Unowned Owned s o = absurd cc
+owner_serves Unowned Shared s o = absurd cc
+owner_serves Unowned Unowned s o = absurd cc
+
+module _ (table : ClassTable) (content : Content) (who : List ℕ) (c : Configuration) (n : ℕ) where
+  abbrev Left : ℕ → List Param → List Value → Type 0
+  Left k ps vs = (j : ℕ) (p : Param) (v : Value) → slice_get ps j ≡ Some p → slice_get vs j ≡ Some v → HasLeft table c (k + j) v p.exit
+
+  left_later : (k : ℕ) (p : Param) (ps : List Param) (v : Value) (vs : List Value) → Left k (p ∷ ps) (v ∷ vs) → Left (suc k) ps vs
+  left_later k p ps v vs left j q w a b = subst (λ i. HasLeft table c i w q.exit) (let z : k + suc j ≡ suc k + j = omega arith in z)
+      (left (suc j) q w a b)
+
+  left_first : (k : ℕ) (p : Param) (ps : List Param) (v : Value) (vs : List Value) → Left k (p ∷ ps) (v ∷ vs) → HasLeft table c k v p.exit
+  left_first k p ps v vs left = subst (λ i. HasLeft table c i v p.exit) (let z : k + 0 ≡ k = omega arith in z) (left 0 p v refl refl)
+
+  at_use : (k : ℕ) (p : Param) (v : Value) (u : HandleUse) → v ≡ reference u.handle.object → u.exit ≡ p.exit
+      → HasLeft table c k v p.exit → HasLeft table c k (reference u.handle.object) u.exit
+  at_use k p v u value exit left = subst (HasLeft table c k (reference u.handle.object)) (sym exit)
+      (subst (λ x. HasLeft table c k x p.exit) value left)
+
+  pub args_less : (k : ℕ) (ps : List Param) (args : List Argument) (vs : List Value) → ArgumentsFit table content who ps args vs
+      → Left k ps vs → returned_owners (uses_of content who ps args) n ≤ row c.frame.slots n k (length ps)
+  args_less k ps args vs no_arguments left = omega arith
+  args_less k ps args vs (one_argument p qs a bs v us is fits rest) left =
+      let later = args_less (suc k) qs bs us rest (left_later k p qs v us left) in
+      let split = returned_option (use_of_argument content who p a) (uses_of content who qs bs) n in
+      let first = at_first (uses_so table content who p a v is fits) in
+      omega (arith, later, split, first)
+    where
+      at_first : UsesSo content who p a v → returned_owners (cons_option (use_of_argument content who p a) []) n ≤ in_cell owns n (c.frame.slots k)
+      at_first (used_handle u given value exit id of) = rw given
+          (let z = returned_less table c k u (at_use k p v u value exit (left_first k p qs v us left)) n in omega (arith, z))
+      at_first (used_plain none plain) = rw none (omega arith)
+
+  pub args_more : NeedsOwner table c.world.objects n → (k : ℕ) (ps : List Param) (args : List Argument) (vs : List Value)
+      → ArgumentsFit table content who ps args vs → Left k ps vs
+      → ((j : ℕ) (p : Param) → slice_get ps j ≡ Some p → IsParam table p)
+      → ((j : ℕ) (u : HandleUse) → slice_get (uses_of content who ps args) j ≡ Some u → serves u.handle.mode u.entry.mode ≡ true)
+      → row c.frame.slots n k (length ps) ≤ returned_owners (uses_of content who ps args) n
+  args_more needs k ps args vs no_arguments left params serve = omega arith
+  args_more needs k ps args vs (one_argument p qs a bs v us is fits rest) left params serve =
+      let later = args_more needs (suc k) qs bs us rest (left_later k p qs v us left) (λ j q e. params (suc j) q e)
+      (λ j u e. serve_later j u e (use_of_argument content who p a) refl) in
+      let split = returned_option (use_of_argument content who p a) (uses_of content who qs bs) n in
+      let first = at_first (uses_so table content who p a v is fits) in
+      omega (arith, later, split, first)
+    where
+      serve_later : (j : ℕ) (u : HandleUse) → slice_get (uses_of content who qs bs) j ≡ Some u
+          → (o : Option HandleUse) → use_of_argument content who p a ≡ o → serves u.handle.mode u.entry.mode ≡ true
+      serve_later j u e None o = serve j u (ap (λ x. slice_get (cons_option x (uses_of content who qs bs)) j) o ∙ e)
+      serve_later j u e (Some w) o = serve (suc j) u (ap (λ x. slice_get (cons_option x (uses_of content who qs bs)) (suc j)) o ∙ e)
+
+      zero_cell : (x : Option Cell) (y : Cell) → x ≡ Some y → ((m : ℕ) → y.value ≢ reference m) → in_cell owns n x ≡ 0
+      zero_cell x y e plain = ap (in_cell owns n) e ∙ cell_other owns n y (plain n)
+
+      may : (u : HandleUse) (exit : Perm) → u.exit ≡ exit → (of : ResolvedType) (id : ContractId) → of ≡ Reference id u.entry → IsExitOf table of exit
+          → MayLeave u.entry u.exit
+      may u exit e of id same law = subst (MayLeave u.entry) (sym e) (subst (λ t. IsExitOf table t exit) same law).1
+
+      at_first : UsesSo content who p a v → in_cell owns n (c.frame.slots k) ≤ returned_owners (cons_option (use_of_argument content who p a) []) n
+      at_first (used_handle u given value exit id of) = rw given
+          (let z = returned_more table c k u (at_use k p v u value exit (left_first k p qs v us left)) n needs
+          (may u p.exit exit p.of id of (params 0 p refl).exit)
+          (λ is owns. owner_serves u.handle.mode u.entry.mode (serve 0 u (ap (λ x. slice_get (cons_option x (uses_of content who qs bs)) 0) given)) owns) in
+          omega (arith, z))
+      at_first (used_plain none plain) = let l = left_first k p qs v us left in
+          let z = zero_cell (c.frame.slots k) l.cell l.set (λ m e. plain m (sym l.value ∙ e)) in rw none (omega (arith, z))
