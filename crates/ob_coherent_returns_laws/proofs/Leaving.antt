@@ -89,7 +89,7 @@ owns_none table t N (Some y) (Some x) stands none s n needs = ⊎_elim
 -- Exits.
 
 -- where an exit is met, what is in the slot serves as it
-meets_with : (b : BodyFrame) → IsClassTable b.table → (objects : _) (g : Context) (p : Location) (w : Permission)
+pub meets_with : (b : BodyFrame) → IsClassTable b.table → (objects : _) (g : Context) (p : Location) (w : Permission)
     (x : Cell)
     → MeetsExit b g p w → Stands b.table objects x → SaysOf (NeedsOwner b.table objects) (g p) (Some x)
     → LeavesWith (NeedsOwner b.table objects) w x
@@ -104,7 +104,7 @@ meets_with b t objects g p unowned x meets stands s =
     some_same e = cc
 
 -- and it owns none that must have an owner, unless the exit is an owner's
-meets_none : (b : BodyFrame) → IsClassTable b.table → (objects : _) (g : Context) (p : Location) (w : Permission)
+pub meets_none : (b : BodyFrame) → IsClassTable b.table → (objects : _) (g : Context) (p : Location) (w : Permission)
     (x : Option Cell)
     → MeetsExit b g p w → owns w ≡ false → ((z : Cell) → x ≡ Some z → Stands b.table objects z)
     → SaysOf (NeedsOwner b.table objects) (g p) x → (n : ℕ) → NeedsOwner b.table objects n → in_cell owns n x ≡ 0

@@ -1,13 +1,13 @@
 -- A run from a coherent configuration that ends has a last configuration that leaves.
-use Rattle.std.proofs.Common.{◌≡◌, ℕ, zero, suc, ◌+◌, ◌≤◌, List, [], ◌∷◌, Option, refl, sym, ap, subst, ◌∙◌, arith}
+use Rattle.std.proofs.Common.{◌≡◌, ℕ, zero, suc, [], Option, refl, sym, ap, ◌∙◌, arith}
 use Rattle.ob_heap_spec.specs.Values.{Value}
 use Rattle.ob_heap_spec.specs.Worlds.{World}
 use Rattle.ob_silica_steps.specs.Cells.{Cell, value_in}
-use Rattle.ob_silica_steps.specs.Configurations.{SilicaProgram, Waiting, Rest, Control, runs, leaves, Configuration, NextStep, goes, ended, aborted, stuck}
+use Rattle.ob_silica_steps.specs.Configurations.{SilicaProgram, leaves, Configuration, NextStep, goes, ended, aborted, stuck}
 use Rattle.ob_silica_steps.specs.Returning.{left_world}
 use Rattle.ob_silica_steps.specs.Steps.{step, then_steps, steps}
 use Rattle.ob_coherent_spec.specs.Remaining.{IsCheckedProgram}
-use Rattle.ob_coherent_spec.specs.Coherent.{Beginning, IsLeaving, IsCoherent, running, leaving, returning, StepsSo}
+use Rattle.ob_coherent_spec.specs.Coherent.{Beginning, IsCoherent, running, leaving, returning, StepsSo}
 use Rattle.ob_soundness_laws.specs.Running.{StepsKeep, StaysSo, GoesOrEnds, EndsFrom}
 use Rattle.ob_soundness_laws.proofs.Staying.{goes_or_ends}
 

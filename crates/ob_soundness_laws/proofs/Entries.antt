@@ -1,23 +1,18 @@
 -- What is known of what a request enters: which checks it has passed, and what it is.
-use Rattle.std.proofs.Common.{◌≡◌, ℕ, zero, suc, ◌+◌, Bool, true, false, cond, not, List, [], ◌∷◌, ◌++◌, length, Option, Some, None, refl, sym, ap, subst, ◌∙◌, arith, ⊎_elim}
-use Rattle.std.specs.Prelude.{◌==◌, ◌||◌, zip, filter_map, flat_map, ⊤}
-use Rattle.std.specs.Option.{option_map_or, option_and_then}
+use Rattle.std.proofs.Common.{◌≡◌, ℕ, Bool, true, false, not, List, [], ◌∷◌, ◌++◌, length, Option, Some, None, refl, sym, subst, arith}
+use Rattle.std.specs.Prelude.{◌||◌, ◌&&◌, IsTrue, zip, filter_map}
+use Rattle.std.specs.Option.{option_map_or}
 use Rattle.std.specs.List.{list_any, cons_option}
-use Rattle.std.proofs.lemmas.Bool.{cases_Bool}
 use Rattle.std.proofs.lemmas.Bool.Decides.{nat_tests}
+use Rattle.ob_base.specs.Names.{is_label}
 use Rattle.ob_base.specs.Optional.{◌>>=◌, where_true}
-use Rattle.ob_base.specs.declared.id.ContractId.{ContractId}
-use Rattle.ob_base.specs.declared.id.TxId.{TxId}
 use Rattle.ob_table.specs.Tables.{ClassTable, contract_at, contract_named, signature_at}
-use Rattle.ob_table.specs.declared.contract.Contract.{Contract}
 use Rattle.ob_table.specs.declared.contract.Param.{Param}
-use Rattle.ob_table.specs.declared.contract.Signature.{Signature}
 use Rattle.ob_table_spec.specs.WellFormed.{constructor_at}
 use Rattle.ob_heap_spec.specs.Values.{Value}
-use Rattle.ob_heap_spec.specs.Objects.{Object}
-use Rattle.ob_heap_spec.specs.Contents.{Handle, Content, object_at}
+use Rattle.ob_heap_spec.specs.Contents.{Content, object_at}
 use Rattle.ob_heap_spec.specs.Dispatch.{transaction_named}
-use Rattle.ob_invocation_spec.specs.Requests.{Argument, NewRequest, CallRequest}
+use Rattle.ob_invocation_spec.specs.Requests.{Argument, NewRequest, CallRequest, call_request, HasLabels}
 use Rattle.ob_invocation_spec.specs.Handles.{handle_name, handle_at}
 use Rattle.ob_invocation_spec.specs.Entries.{Entry, entry_of_new, entry_of_call, value_of, values_of}
 use Rattle.ob_invocation_spec.specs.Checks.{Check, check, refusal_of}
@@ -55,12 +50,12 @@ module _ (table : ClassTable) (content : Content) (e : Entry) where
   }
 
   pub has_passed : IsEntered table content e → HasPassed table content e
-  has_passed (by_request_new who r is passed within) =
+  has_passed (by_request_new who r labels is passed within) =
       let all = each_after _ (argument_checks content who r.args)
       (check no_contract (is_no_contract table r.contract) ∷ check not_main (is_not_main table r.contract)
       ∷ found_checks table content (entry_of_new table who r)) (each_passes (new_checks table content who r) passed) in
       entry_passes (subst (λ x. Each (λ (c : Check). c.holds ≡ false) (found_checks table content x)) is all.1.1)
-  has_passed (by_request_call who r is passed within) =
+  has_passed (by_request_call who r labels is passed within) =
       let all = each_after _ (argument_checks content who r.args)
       (check no_transaction (is_no_transaction (entry_of_call table content who r))
       ∷ found_checks table content (entry_of_call table content who r)) (each_passes (call_checks table content who r) passed).1 in
@@ -75,6 +70,15 @@ bound (Some a) f b e = (a, refl, e)
 where_so : {A : Type 0} (t : Bool) (x y : A) → where_true t x ≡ Some y → x ≡ y
 where_so true x y e = cc
 where_so false x y e = absurd cc
+
+third : (a b c d : Bool) → IsTrue (a && (b && (c && d))) → IsTrue c
+third true true true d h = h_true
+  where
+    h_true : IsTrue true
+    h_true = refl
+third true true false d h = h
+third true false c d h = absurd (let z : false ≡ true = h in cc)
+third false b c d h = absurd (let z : false ≡ true = h in cc)
 
 module _ (table : ClassTable) (content : Content) (e : Entry) where
   pub enters_new : (who : List ℕ) (r : NewRequest) → entry_of_new table who r ≡ Some e → EntersNew table e
@@ -93,8 +97,9 @@ module _ (table : ClassTable) (content : Content) (e : Entry) where
       } ≡ e = cc in
       subst (EntersNew table) same (record { receiver = refl; constructor = s.1; tx = refl; given = refl })
 
-  pub enters_call : (who : List ℕ) (r : CallRequest) → entry_of_call table content who r ≡ Some e → EntersCall table content e
-  enters_call who r is =
+  pub enters_call : (who : List ℕ) (r : CallRequest) → HasLabels (record { who = who; operation = call_request r })
+      → entry_of_call table content who r ≡ Some e → EntersCall table content e
+  enters_call who r labels is =
       let h = bound (handle_at content (handle_name who r.on)) _ e is in
       let o = bound (object_at content.objects h.0.object) _ e h.2 in
       let own = bound (contract_at table o.0.contract) _ e o.2 in
@@ -109,6 +114,9 @@ module _ (table : ClassTable) (content : Content) (e : Entry) where
         contract = refl;
         own = own.0;
         is_own = own.1;
+        asked = r.tx;
+        label = third (is_label who) (is_label r.on) (is_label r.tx) _ labels;
+        named = tx.1;
         signature = s.1;
         receiver = refl;
         given = refl;
@@ -123,11 +131,11 @@ pub data ArgumentsFit (table : ClassTable) (content : Content) (who : List ℕ) 
       → value_of content who arg ≡ Some v → is_of_type table content.objects p.of v ≡ true
       → ArgumentsFit table content who ps args vs → ArgumentsFit table content who (p ∷ ps) (arg ∷ args) (v ∷ vs)
 
-or_false : (a b : Bool) → (a || b) ≡ false → (a ≡ false) × (b ≡ false)
+pub or_false : (a b : Bool) → (a || b) ≡ false → (a ≡ false) × (b ≡ false)
 or_false true b e = absurd cc
 or_false false b e = (refl, e)
 
-not_false : (a : Bool) → not a ≡ false → a ≡ true
+pub not_false : (a : Bool) → not a ≡ false → a ≡ true
 not_false true e = refl
 not_false false e = absurd cc
 

@@ -1,5 +1,5 @@
 -- The run of what a request enters starts with a first configuration, or with an abort.
-use Rattle.std.proofs.Common.{◌≡◌, ℕ, zero, suc, ◌+◌, ◌<◌, ◌≤◌, Bool, true, false, List, [], ◌∷◌, length, Option, Some, None, refl, sym, ap, subst, ◌∙◌, arith, ⊎_elim}
+use Rattle.std.proofs.Common.{◌≡◌, ℕ, ◌<◌, ◌≤◌, Bool, true, false, List, [], ◌∷◌, length, Option, Some, None, refl, sym, ap, subst, ◌∙◌, arith, ⊎_elim}
 use Rattle.std.specs.Prelude.{nat_le, if◌then◌else◌}
 use Rattle.std.proofs.lemmas.Bool.Decides.{nat_tests}
 use Rattle.std.proofs.lemmas.Option.{same_Some}
@@ -11,21 +11,17 @@ use Rattle.ob_base.specs.declared.id.ContractId.{ContractId}
 use Rattle.ob_base.specs.declared.id.TxId.{TxId}
 use Rattle.ob_perm.specs.Permissions.{is_shared}
 use Rattle.ob_perm.specs.Masks.{permission_of}
-use Rattle.ob_table.specs.Tables.{contract_at, signature_at}
-use Rattle.ob_table.specs.declared.contract.Signature.{Signature}
-use Rattle.ob_table_spec.specs.WellFormed.{constructor_at}
-use Rattle.ob_heap_spec.specs.Values.{Value, reference}
+use Rattle.ob_heap_spec.specs.Values.{reference}
 use Rattle.ob_heap_spec.specs.Objects.{Object, unfinished}
-use Rattle.ob_heap_spec.specs.Contents.{Content, object_at}
+use Rattle.ob_heap_spec.specs.Contents.{Content}
 use Rattle.ob_heap_spec.specs.Worlds.{World, first_world, make_object, next_item, with_read, with_unit_taken}
-use Rattle.ob_heap_spec.specs.Marks.{enter}
 use Rattle.ob_silica.specs.Terms.{SilicaTerms}
 use Rattle.ob_silica_places.specs.Parameters.{parameters, all_parameters}
 use Rattle.ob_silica_steps.specs.Calling.{constructor_id}
 use Rattle.ob_silica_steps.specs.Configurations.{SilicaProgram, by_receiver, by_new, How, Notes, NextStep, runs, goes, stuck, terms_at}
-use Rattle.ob_silica_steps.specs.Entering.{Entered, begins_on, enters, entered_on, entered_new}
+use Rattle.ob_silica_steps.specs.Entering.{Entered, enters}
 use Rattle.ob_silica_steps.specs.Here.{if_there}
-use Rattle.ob_silica_steps.specs.Starting.{first_notes, alone}
+use Rattle.ob_silica_steps.specs.Starting.{first_notes}
 use Rattle.ob_coherent_spec.specs.Counting.{nth_object}
 use Rattle.ob_coherent_counting_laws.proofs.Objects.{object_found, make_length, make_other, no_object}
 use Rattle.ob_coherent_counting_laws.proofs.Marking.{Keeps, read_objects}
@@ -33,7 +29,7 @@ use Rattle.ob_coherent_counting_laws.proofs.Passing.{passed_world, passed_keeps}
 use Rattle.ob_rest_spec.specs.Modes.{is_owned}
 use Rattle.ob_invocation_spec.specs.Entries.{HandleUse, Entry, values_of, used_as_receiver}
 use Rattle.ob_invocation_spec.specs.Entering.{is_locked_at_entry, with_entry_lock, entry_world}
-use Rattle.ob_soundness_laws.specs.Requests.{handles_in_run, started_on, started, IsEntered, by_request_new, by_request_call, IsFirst, StartsSo, RunsStart, HasPassed, EntersNew, EntersCall}
+use Rattle.ob_soundness_laws.specs.Requests.{handles_in_run, started_on, started, IsEntered, by_request_new, by_request_call, StartsSo, RunsStart, EntersNew, EntersCall}
 use Rattle.ob_soundness_laws.proofs.Staying.{below_or_not}
 use Rattle.ob_soundness_laws.proofs.Entries.{has_passed, enters_new, enters_call, arguments_fit, fit_length}
 use Rattle.ob_soundness_laws.proofs.Starting.{starts_call, starts_new}
@@ -169,7 +165,7 @@ module _ (program : SilicaProgram) (content : Content) (fuel : ℕ) (e : Entry) 
       (λ u at owned. refl))))
 
 pub runs_start : RunsStart
-runs_start program content fuel e (by_request_new who r is passed within) =
-    new_starts program content fuel e (by_request_new who r is passed within) (enters_new program.table content e who r is)
-runs_start program content fuel e (by_request_call who r is passed within) =
-    call_starts program content fuel e (by_request_call who r is passed within) (enters_call program.table content e who r is)
+runs_start program content fuel e (by_request_new who r labels is passed within) =
+    new_starts program content fuel e (by_request_new who r labels is passed within) (enters_new program.table content e who r is)
+runs_start program content fuel e (by_request_call who r labels is passed within) =
+    call_starts program content fuel e (by_request_call who r labels is passed within) (enters_call program.table content e who r labels is)

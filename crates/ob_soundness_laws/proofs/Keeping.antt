@@ -1,11 +1,11 @@
 -- Each step from a coherent configuration comes to another one, to an end, or to an abort.
-use Rattle.std.proofs.Common.{◌≡◌, ℕ, List, [], ◌∷◌, Option, Some, None, refl, sym, ◌∙◌, subst}
+use Rattle.std.proofs.Common.{◌≡◌, ℕ, List, [], Option, refl, sym, ◌∙◌}
 use Rattle.ob_base.specs.declared.fault.Span.{Span}
 use Rattle.ob_silica.specs.Terms.{SilicaForm, unit_form, const_form, op_form, copy_form, move_form, new_form, call_form, call_this_form, change_form, test_form, if_form, assert_form, disown_form, drop_form, return_form, revert_form, bad_row_form, SilicaTerms, no_terms, and_term}
 use Rattle.ob_silica_steps.specs.Cells.{Cell}
 use Rattle.ob_silica_steps.specs.Configurations.{SilicaProgram, Rest, Control, runs, leaves, Configuration}
-use Rattle.ob_silica_steps.specs.Steps.{act, run_step, control_step, step}
-use Rattle.ob_coherent_spec.specs.Coherent.{Beginning, IsRunning, IsLeaving, IsReturning, IsCoherent, running, leaving, returning, StepsSo}
+use Rattle.ob_silica_steps.specs.Steps.{act, run_step, control_step}
+use Rattle.ob_coherent_spec.specs.Coherent.{Beginning, IsRunning, IsCoherent, running, leaving, returning, StepsSo}
 use Rattle.ob_coherent_spec.specs.Remaining.{IsCheckedProgram}
 use Rattle.ob_coherent_forms_laws.proofs.Straight.{const_keeps, op_keeps, drop_keeps, assert_keeps, revert_keeps, bad_row_keeps, unit_keeps}
 use Rattle.ob_coherent_forms_laws.proofs.Moving.{disown_keeps}

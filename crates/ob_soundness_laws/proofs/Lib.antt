@@ -8,4 +8,7 @@ pub mod Entries
 pub mod Starting
 pub mod Firsts
 pub mod Whole
+pub mod Bodies
+pub mod Left
 pub mod Sound
+pub mod Given

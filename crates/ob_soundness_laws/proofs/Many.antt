@@ -1,5 +1,5 @@
 -- Many steps: from a coherent configuration a run goes on, ends or aborts, and isn't stuck.
-use Rattle.std.proofs.Common.{◌≡◌, ◌≢◌, ℕ, zero, suc, Option, subst, sym}
+use Rattle.std.proofs.Common.{◌≢◌, ℕ, zero, suc, Option, subst}
 use Rattle.ob_silica_steps.specs.Configurations.{SilicaProgram, Configuration, NextStep, goes, ended, aborted, stuck}
 use Rattle.ob_silica_steps.specs.Steps.{step, then_steps, steps}
 use Rattle.ob_coherent_spec.specs.Remaining.{IsCheckedProgram}

@@ -1,10 +1,9 @@
 -- Where a run has ended, each object is one of the table and holds its fields as they are declared.
-use Rattle.std.proofs.Common.{◌≡◌, ◌≢◌, ℕ, zero, suc, ◌+◌, ◌<◌, ◌≤◌, Bool, true, false, ◌&&◌, List, [], ◌∷◌, length, Option, Some, None, refl, sym, ap, subst, ◌∙◌, arith, true≢false, ⊎_elim, ◌⊎◌, inl, inr}
-use Rattle.std.specs.Prelude.{nat_eq, slice_get, is_some, IsSomeAnd, IfSome, IsTrue, option_map, ⊤}
+use Rattle.std.proofs.Common.{◌≡◌, ◌≢◌, ℕ, ◌+◌, ◌<◌, true, false, List, [], ◌∷◌, length, Option, Some, None, refl, sym, ap, subst, ◌∙◌, arith, true≢false, ⊎_elim, ◌⊎◌, inl, inr}
+use Rattle.std.specs.Prelude.{slice_get, is_some, IsSomeAnd, IfSome}
 use Rattle.std.specs.Option.{option_map_or, option_and_then}
 use Rattle.std.proofs.lemmas.Bool.{cases_Bool, both_ways}
 use Rattle.std.proofs.lemmas.Bool.Decides.{eqb_tells}
-use Rattle.std.proofs.lemmas.Option.{same_Some}
 use Rattle.ob_perm.specs.States.{States}
 use Rattle.ob_perm.specs.Permissions.{Permission, owned, shared, unowned}
 use Rattle.ob_table.specs.Tables.{ClassTable, contract_at}
@@ -13,23 +12,22 @@ use Rattle.ob_table.specs.declared.contract.Field.{Field}
 use Rattle.ob_table.specs.declared.contract.ResolvedType.{ResolvedType}
 use Rattle.ob_table.specs.declared.contract.ResolvedType.TheVariants.{Int, Bool as BoolKind, Text, Reference as TypedReference}
 use Rattle.ob_table.specs.declared.seen.Kind.{Kind}
-use Rattle.ob_table.specs.declared.seen.Kind.TheVariants.{Reference}
 use Rattle.ob_table_spec.specs.Conditions.{IsClassTable}
 use Rattle.ob_table_spec.specs.WellFormed.{kind_of_resolved}
 use Rattle.ob_heap_spec.specs.Values.{Value, int_value, bool_value, text_value, reference}
 use Rattle.ob_heap_spec.specs.Objects.{Object, has_field, is_available, seen_state, state_number}
-use Rattle.ob_heap_spec.specs.Contents.{IsValueOf, IsStateOf, IsObjectOf, IsObject}
+use Rattle.ob_heap_spec.specs.Contents.{IsValueOf, IsObject}
 use Rattle.ob_silica_places.specs.Known.{Known, known, permission_of_type}
 use Rattle.ob_silica_steps.specs.Cells.{Cell, cell}
-use Rattle.ob_silica_steps.specs.Configurations.{How, by_receiver, by_this, by_new, SlotCells, Waiting, Rest, Configuration}
-use Rattle.ob_silica_steps.specs.Here.{here, self_of, field_of}
+use Rattle.ob_silica_steps.specs.Configurations.{How, by_receiver, by_this, by_new, Rest, Configuration}
+use Rattle.ob_silica_steps.specs.Here.{self_of, field_of}
 use Rattle.ob_silica_steps.specs.Starting.{declared_note}
 use Rattle.ob_flow_spec.specs.Contexts.{exit_of_field}
 use Rattle.ob_flow_spec.specs.Returning.{tests_ended}
 use Rattle.ob_places_laws.specs.Serving.{AreAmong, Allows}
 use Rattle.ob_coherent_spec.specs.Counting.{nth_object, field_cell}
 use Rattle.ob_coherent_spec.specs.Runs.{around, tested_places, entered_at, constructing_at, entries, constructions}
-use Rattle.ob_coherent_spec.specs.Standing.{IsOfKind, RefersToIn, is_in, Stands, HasItsState, IsObjectInRun, NeedsOwner}
+use Rattle.ob_coherent_spec.specs.Standing.{IsOfKind, RefersToIn, is_in, Stands, IsObjectInRun, NeedsOwner}
 use Rattle.ob_coherent_spec.specs.Saying.{SaysOf}
 use Rattle.ob_coherent_spec.specs.Remaining.{body_of}
 use Rattle.ob_coherent_spec.specs.Waiting.{is_on_this, tests_of, AllWait}
@@ -38,7 +36,7 @@ use Rattle.ob_coherent_counting_laws.proofs.Objects.{field_cell_of}
 use Rattle.ob_coherent_places_laws.proofs.Standing.{reference_is}
 use Rattle.ob_coherent_places_laws.proofs.Getting.{AreLow, objects_low, seen_small}
 use Rattle.ob_coherent_returns_laws.proofs.Leaving.{left_fields}
-use Rattle.ob_coherent_returns_laws.proofs.Resuming.{exit_in, exit_same, exit_declared}
+use Rattle.ob_coherent_returns_laws.proofs.Resuming.{exit_same, exit_declared}
 use Rattle.ob_soundness_laws.proofs.Resting.{HoldsDeclared}
 
 -- A cell whose permission serves as another one stands as that one.

@@ -1,20 +1,19 @@
 -- A compiled program is sound.
-use Rattle.std.proofs.Common.{◌≡◌, ℕ, List, [], ◌∷◌, Option, refl, subst}
+use Rattle.std.proofs.Common.{List}
 use Rattle.std.specs.Prelude.{All}
 use Rattle.ob_table.specs.Tables.{ClassTable}
-use Rattle.ob_heap_spec.specs.Contents.{Content}
 use Rattle.ob_table_spec.specs.WellFormed.{HasBodies}
 use Rattle.ob_silica.specs.Terms.{SilicaBody}
 use Rattle.ob_silica_formed.specs.WellFormedTerms.{IsWellFormedTerms}
-use Rattle.ob_silica_steps.specs.Configurations.{SilicaProgram, NextStep}
+use Rattle.ob_silica_steps.specs.Configurations.{SilicaProgram}
 use Rattle.ob_flow_spec.specs.Deriving.{Derives}
 use Rattle.ob_lower_correct.specs.Law.{IsLoweredProgram}
 use Rattle.ob_rest_laws.proofs.OneOwner.{one_owner}
 use Rattle.ob_invocation_spec.specs.Replies.{Invocation, invoked, goes_wrong}
-use Rattle.ob_coherent_spec.specs.Remaining.{IsCheckedBody, IsCheckedProgram}
+use Rattle.ob_coherent_spec.specs.Remaining.{IsCheckedProgram}
 use Rattle.ob_coherent_remaining_laws.proofs.Programs.{lowered_has_terms}
 use Rattle.ob_soundness_laws.specs.Requests.{entry_lock, beginning_of, started, BeginsSo, EndsSo, StillLeavesAtRest, LeavesAtRest}
-use Rattle.ob_soundness_laws.specs.Sound.{LeavesOneOwner, IsSound, CompiledProgramsAreSound}
+use Rattle.ob_soundness_laws.specs.Sound.{LeavesOneOwner, CompiledProgramsAreSound}
 use Rattle.ob_soundness_laws.proofs.Keeping.{steps_keep}
 use Rattle.ob_soundness_laws.proofs.Many.{then_keep}
 use Rattle.ob_soundness_laws.proofs.Whole.{none_goes_wrong, runs_meet_states}

@@ -1,14 +1,13 @@
 -- How the run of a request starts: with the first configuration of its body, or with an abort.
-use Rattle.std.proofs.Common.{◌≡◌, ℕ, zero, suc, ◌+◌, ◌<◌, ◌≤◌, Bool, true, false, List, [], ◌∷◌, map, length, Option, Some, None, refl, sym, ap, subst, ◌∙◌, arith, true≢false, ⊎_elim, eq-eqb}
-use Rattle.std.specs.Prelude.{nat_eq, nat_le, ◌==◌, if◌then◌else◌}
+use Rattle.std.proofs.Common.{◌≡◌, ℕ, zero, suc, ◌<◌, Bool, true, false, List, [], ◌∷◌, length, Option, Some, refl, sym, ap, subst, ◌∙◌, arith}
+use Rattle.std.specs.Prelude.{nat_le, ◌==◌, if◌then◌else◌}
 use Rattle.std.specs.Option.{option_and_then}
-use Rattle.std.proofs.lemmas.Bool.{cases_Bool}
 use Rattle.std.proofs.lemmas.Bool.Decides.{nat_tests}
 use Rattle.std.proofs.lemmas.List.{length-map}
 use Rattle.ob_base.specs.Limits.{most_objects}
 use Rattle.ob_base.specs.declared.id.ContractId.{ContractId}
 use Rattle.ob_base.specs.declared.id.TxId.{TxId}
-use Rattle.ob_table.specs.Tables.{ClassTable, contract_at, signature_at, signature_of}
+use Rattle.ob_table.specs.Tables.{contract_at, signature_at}
 use Rattle.ob_table.specs.declared.contract.Contract.{Contract}
 use Rattle.ob_table.specs.declared.contract.Signature.{Signature}
 use Rattle.ob_table_spec.specs.WellFormed.{constructor_at}
@@ -18,10 +17,10 @@ use Rattle.ob_heap_spec.specs.Contents.{object_at}
 use Rattle.ob_heap_spec.specs.Worlds.{World, Spent, AbortCause, by_reentry, by_full, next_item, with_read, read_object, with_unit_taken}
 use Rattle.ob_heap_spec.specs.Marks.{is_among}
 use Rattle.ob_heap_spec.specs.Dispatch.{answering}
-use Rattle.ob_silica_places.specs.Parameters.{Parameter, parameter_of, parameters, this_parameter, all_parameters}
+use Rattle.ob_silica_places.specs.Parameters.{parameter_of, parameters, this_parameter, all_parameters}
 use Rattle.ob_silica_steps.specs.Calling.{constructor_id}
-use Rattle.ob_silica_steps.specs.Configurations.{SilicaProgram, SlotCells, by_receiver, by_new, Notes, NextStep, aborted, stuck, abort_step}
-use Rattle.ob_silica_steps.specs.Entering.{Entered, are_within, begins_on, calls_object, makes_object, enters, entered_new}
+use Rattle.ob_silica_steps.specs.Configurations.{SilicaProgram, SlotCells, by_new, Notes, NextStep, aborted, stuck, abort_step}
+use Rattle.ob_silica_steps.specs.Entering.{are_within, begins_on, calls_object, makes_object, enters, entered_new}
 use Rattle.ob_silica_steps.specs.Here.{if_there, with_fuel_left, with_unit}
 use Rattle.ob_silica_steps.specs.Starting.{pass_all, alone, started_call, started_new}
 use Rattle.ob_coherent_spec.specs.Counting.{nth_object}

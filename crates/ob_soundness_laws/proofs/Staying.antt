@@ -1,5 +1,5 @@
 -- What stays along the steps of a run, and that it ends where its last frame leaves.
-use Rattle.std.proofs.Common.{◌≡◌, ℕ, zero, suc, Bool, true, false, ◌+◌, ◌<◌, ◌≤◌, List, [], ◌∷◌, ◌++◌, length, Option, Some, None, refl, sym, ap, ◌∙◌, arith, true≢false, ⊎_elim, ◌⊎◌, inl, inr}
+use Rattle.std.proofs.Common.{◌≡◌, ℕ, zero, suc, Bool, true, false, ◌<◌, ◌≤◌, List, [], ◌∷◌, length, Option, Some, None, refl, sym, ap, ◌∙◌, arith, true≢false, ⊎_elim, ◌⊎◌, inl, inr}
 use Rattle.std.specs.Prelude.{if◌then◌else◌, nat_le, ⊤}
 use Rattle.std.proofs.lemmas.Bool.Decides.{nat_tests}
 use Rattle.ob_base.specs.Limits.{most_objects}
@@ -8,25 +8,23 @@ use Rattle.ob_base.specs.declared.id.TxId.{TxId}
 use Rattle.ob_base.specs.declared.id.StateId.{StateId}
 use Rattle.ob_perm.specs.Permissions.{Permission, owned, shared, unowned, is_shared}
 use Rattle.ob_perm.specs.Masks.{permission_of}
-use Rattle.ob_table.specs.Tables.{ClassTable, contract_at, signature_at, signature_of}
+use Rattle.ob_table.specs.Tables.{ClassTable}
 use Rattle.ob_table.specs.declared.contract.Contract.{Contract}
 use Rattle.ob_table.specs.declared.contract.Field.{Field}
 use Rattle.ob_table.specs.declared.contract.ResolvedType.{ResolvedType}
 use Rattle.ob_table.specs.declared.contract.ResolvedType.TheVariants.{Reference as TypedReference}
 use Rattle.ob_table.specs.declared.contract.Signature.{Signature}
-use Rattle.ob_table_spec.specs.WellFormed.{constructor_at, kind_of_resolved}
-use Rattle.ob_heap_spec.specs.Values.{Value, int_value, bool_value, text_value, reference, referred, Numbered, nothing, put}
+use Rattle.ob_table_spec.specs.WellFormed.{kind_of_resolved}
+use Rattle.ob_heap_spec.specs.Values.{Value, int_value, bool_value, text_value, reference, Numbered}
 use Rattle.ob_heap_spec.specs.Objects.{Object, with_field, unfinished}
-use Rattle.ob_heap_spec.specs.Contents.{object_at}
 use Rattle.ob_heap_spec.specs.Worlds.{World, next_item, read_object, with_read, with_unit_taken, edit_object, make_object, by_full}
 use Rattle.ob_heap_spec.specs.Marks.{comes_into, mark_disowned, lock, enter}
 use Rattle.ob_heap_spec.specs.Operations.{Operated, operated, overflows, other_kinds}
 use Rattle.ob_silica.specs.Terms.{SilicaForm, unit_form, const_form, op_form, copy_form, move_form, new_form, call_form, call_this_form, change_form, test_form, if_form, assert_form, disown_form, drop_form, return_form, revert_form, bad_row_form, SilicaTerms, no_terms, and_term}
 use Rattle.ob_silica.specs.declared.place.Given.{Given}
-use Rattle.ob_silica_places.specs.Known.{Known}
-use Rattle.ob_silica_places.specs.Places.{Location, slot, field, this, located, all_located}
-use Rattle.ob_silica_places.specs.Parameters.{Parameter, all_parameters, parameters}
-use Rattle.ob_silica_steps.specs.Binding.{Bound, unbound, bind_one, bind_all, slot_loans, without_field_loans}
+use Rattle.ob_silica_places.specs.Places.{Location, slot, field, this, located}
+use Rattle.ob_silica_places.specs.Parameters.{Parameter, parameters}
+use Rattle.ob_silica_steps.specs.Binding.{Bound, bind_one, bind_all, slot_loans, without_field_loans}
 use Rattle.ob_silica_steps.specs.Calling.{entered_with, constructor_id}
 use Rattle.ob_silica_steps.specs.Cells.{Cell, plain_cell, constant_cell}
 use Rattle.ob_silica_steps.specs.Changing.{fill_all, change_with, changed_here, changed_object}

@@ -1,5 +1,5 @@
 -- No request goes wrong, where each step keeps to coherent configurations, and runs begin and end as they should.
-use Rattle.std.proofs.Common.{◌≡◌, ◌≢◌, ℕ, zero, suc, ◌+◌, ◌<◌, ◌≤◌, Bool, true, false, List, [], ◌∷◌, length, Option, Some, None, refl, sym, ap, subst, ◌∙◌, arith, true≢false, ⊎_elim}
+use Rattle.std.proofs.Common.{◌≡◌, ◌≢◌, ℕ, ◌<◌, ◌≤◌, Bool, true, false, List, [], ◌∷◌, length, Option, Some, None, refl, sym, ap, subst, ◌∙◌, arith, true≢false, ⊎_elim}
 use Rattle.std.specs.Prelude.{if◌then◌else◌, not, IfSome, IsSomeAnd, slice_get, is_none, option_map, bytes_eq, MatchBool}
 use Rattle.std.specs.Option.{option_map_or, option_and_then}
 use Rattle.std.specs.List.{position}
@@ -7,9 +7,7 @@ use Rattle.std.proofs.lemmas.Option.{same_Some, slice_get_cases}
 use Rattle.std.proofs.lemmas.List.Quantifiers.{position-Some}
 use Rattle.ob_base.specs.Optional.{◌>>=◌}
 use Rattle.ob_base.specs.declared.id.ContractId.{ContractId}
-use Rattle.ob_perm.specs.States.{States}
-use Rattle.ob_perm.specs.Permissions.{owned}
-use Rattle.ob_table.specs.Tables.{ClassTable, contract_id, contract_at, contract_named, signature_at, signature_of}
+use Rattle.ob_table.specs.Tables.{ClassTable, contract_id, contract_at, contract_named, signature_at}
 use Rattle.ob_table.specs.declared.contract.Contract.{Contract}
 use Rattle.ob_table.specs.declared.contract.Signature.{Signature}
 use Rattle.ob_table_spec.specs.Conditions.{IsClassTable, IsContract, IsConstructor}
@@ -18,27 +16,25 @@ use Rattle.ob_places_laws.proofs.Tables.{contract_is}
 use Rattle.ob_heap_spec.specs.Values.{Value}
 use Rattle.ob_heap_spec.specs.Contents.{Content}
 use Rattle.ob_heap_spec.specs.Worlds.{World, ReadItem, first_world, RunOutcome, gives, aborts, wrong}
-use Rattle.ob_source_meaning.specs.Frames.{of_object, of_new}
-use Rattle.ob_source_meaning.specs.Calls.{call_at}
 use Rattle.ob_silica_steps.specs.Configurations.{SilicaProgram, Configuration, NextStep, goes, ended, aborted, stuck}
 use Rattle.ob_silica_steps.specs.Steps.{then_steps, steps}
 use Rattle.ob_coherent_spec.specs.Remaining.{IsCheckedProgram}
 use Rattle.ob_coherent_spec.specs.Coherent.{Beginning, IsCoherent, running, leaving, returning, StepsSo}
 use Rattle.ob_rest_spec.specs.AtRest.{IsStoreAtRest}
-use Rattle.ob_invocation_spec.specs.Requests.{Operation, Request, NewRequest, CallRequest, HasLabels, new_request, call_request, disown_request, give_request, see_request, owner_request}
-use Rattle.ob_invocation_spec.specs.Replies.{Invocation, invoked, goes_wrong, no_contract, not_main, no_transaction}
+use Rattle.ob_invocation_spec.specs.Requests.{Operation, NewRequest, CallRequest, HasLabels, new_request, call_request, disown_request, give_request, see_request, owner_request}
+use Rattle.ob_invocation_spec.specs.Replies.{Invocation, no_contract, not_main, no_transaction}
 use Rattle.ob_invocation_laws.specs.Laws.{runs}
-use Rattle.ob_invocation_spec.specs.Entries.{HandleUse, Entry, entry_of_new, entry_of_call, values_of, used_as_receiver}
-use Rattle.ob_invocation_spec.specs.Checks.{Check, check, refusal_of, reads_of, refused_or, unless_refused, with_found}
+use Rattle.ob_invocation_spec.specs.Entries.{HandleUse, Entry, entry_of_new, entry_of_call, values_of}
+use Rattle.ob_invocation_spec.specs.Checks.{check, refusal_of, reads_of, refused_or, with_found}
 use Rattle.ob_invocation_spec.specs.Refusals.{is_no_contract, is_not_main, is_no_transaction, argument_checks, found_checks, new_checks, call_checks}
 use Rattle.ob_invocation_spec.specs.Entering.{first_outside_use, entry_world, with_entry_lock, is_locked_at_entry, run_entry, run_on_receiver}
 use Rattle.ob_invocation_spec.specs.Invocation.{after_entry_test, enter_entry, invoke_new, invoke_call, invoke_operation}
 use Rattle.ob_invocation_spec.specs.Invocation.{ended as answered}
-use Rattle.ob_invocation_spec.specs.SourceInvocation.{source_meaning, source_invocation}
+use Rattle.ob_invocation_spec.specs.SourceInvocation.{source_meaning}
 use Rattle.ob_lower_correct.specs.Law.{IsLoweredProgram, EndsAs}
 use Rattle.ob_lower_correct.proofs.Law.{calls_keep_meaning, news_keep_meaning}
 use Rattle.ob_soundness_laws.specs.Running.{StepsKeep, EndsFrom}
-use Rattle.ob_soundness_laws.specs.Requests.{handles_in_run, entry_lock, beginning_of, started_on, started, IsEntered, by_request_new, by_request_call, BeginsSo, IsFirst, StartsSo, EndsSo, LeavesAtRest, StillLeavesAtRest, NoRequestGoesWrong, MeetsStates, RunsMeetStates, EntersNew, EntersCall}
+use Rattle.ob_soundness_laws.specs.Requests.{handles_in_run, entry_lock, beginning_of, started_on, started, IsEntered, by_request_new, by_request_call, BeginsSo, IsFirst, StartsSo, EndsSo, LeavesAtRest, StillLeavesAtRest, NoRequestGoesWrong, MeetsStates, RunsMeetStates}
 use Rattle.ob_soundness_laws.proofs.Many.{then_keep, never_stuck}
 use Rattle.ob_soundness_laws.proofs.Ending.{stays_itself, run_ends}
 use Rattle.ob_soundness_laws.proofs.Entries.{each_passes, each_after, has_passed, enters_new, enters_call, arguments_fit, fit_length}
@@ -72,15 +68,15 @@ module _ (program : SilicaProgram) (checked : IsCheckedProgram program) (lowered
     where
       by_entry : IsEntered program.table content e
           → EndsAs program (started program content fuel e) (run_entry (source_meaning program.table fuel) content fuel e)
-      by_entry (by_request_new who r is passed within) =
+      by_entry (by_request_new who r labels is passed within) =
           let n = enters_new program.table content e who r is in
           subst (λ (x : Option HandleUse). EndsAs program (started_on program e x (values_of content e)
           (Rattle.ob_silica_steps.specs.Starting.first_notes program.table (entry_world content fuel e).objects (handles_in_run content e)) (entry_world content fuel e))
           (run_on_receiver (source_meaning program.table fuel) e x (values_of content e) (entry_world content fuel e))) (sym n.receiver)
           (news_keep_meaning program e.contract (values_of content e) (handles_in_run content e) (entry_world content fuel e) fuel
           lowered enough (subst (λ (s : Option Signature). IfSome s (λ s. length (values_of content e) ≡ length s.params)) (sym n.constructor) count))
-      by_entry (by_request_call who r is passed within) =
-          let n = enters_call program.table content e who r is in
+      by_entry (by_request_call who r labels is passed within) =
+          let n = enters_call program.table content e who r labels is in
           subst (λ (x : Option HandleUse). EndsAs program (started_on program e x (values_of content e)
           (Rattle.ob_silica_steps.specs.Starting.first_notes program.table (entry_world content fuel e).objects (handles_in_run content e)) (entry_world content fuel e))
           (run_on_receiver (source_meaning program.table fuel) e x (values_of content e) (entry_world content fuel e))) (sym n.receiver)
@@ -243,14 +239,15 @@ main_enters table made content who r named main = go (contract_named table.contr
 module _ (keep : StepsKeep) (begins : BeginsSo) (ends : EndsSo) (still : StillLeavesAtRest) where
   no_new_goes_wrong : (program : SilicaProgram) (content : Content) (who : List ℕ) (r : NewRequest) (fuel : ℕ)
       → IsCheckedProgram program → IsLoweredProgram program → IsStoreAtRest program.table content
+      → HasLabels (record { who = who; operation = new_request r })
       → LeavesAtRest program.table (invoke_new (source_meaning program.table fuel) program.table content fuel who r)
-  no_new_goes_wrong program content who r fuel checked lowered rests =
+  no_new_goes_wrong program content who r fuel checked lowered rests labels =
       refused_leaves keep begins ends program checked lowered content rests fuel (refusal_of (new_checks program.table content who r))
       (reads_of (new_checks program.table content who r))
       (λ reads. with_found (entry_of_new program.table who r) (enter_entry (source_meaning program.table fuel) program.table content fuel reads))
       (λ passed. found_leaves keep begins ends program checked lowered content rests fuel (entry_of_new program.table who r)
       (reads_of (new_checks program.table content who r))
-      (λ e is within. by_request_new who r is passed within)
+      (λ e is within. by_request_new who r labels is passed within)
       (let all = each_after _ (argument_checks content who r.args)
       (check no_contract (is_no_contract program.table r.contract) ∷ check not_main (is_not_main program.table r.contract)
       ∷ found_checks program.table content (entry_of_new program.table who r)) (each_passes (new_checks program.table content who r) passed) in
@@ -258,14 +255,15 @@ module _ (keep : StepsKeep) (begins : BeginsSo) (ends : EndsSo) (still : StillLe
 
   no_call_goes_wrong : (program : SilicaProgram) (content : Content) (who : List ℕ) (r : CallRequest) (fuel : ℕ)
       → IsCheckedProgram program → IsLoweredProgram program → IsStoreAtRest program.table content
+      → HasLabels (record { who = who; operation = call_request r })
       → LeavesAtRest program.table (invoke_call (source_meaning program.table fuel) program.table content fuel who r)
-  no_call_goes_wrong program content who r fuel checked lowered rests =
+  no_call_goes_wrong program content who r fuel checked lowered rests labels =
       refused_leaves keep begins ends program checked lowered content rests fuel (refusal_of (call_checks program.table content who r))
       (reads_of (call_checks program.table content who r))
       (λ reads. with_found (entry_of_call program.table content who r) (enter_entry (source_meaning program.table fuel) program.table content fuel reads))
       (λ passed. found_leaves keep begins ends program checked lowered content rests fuel (entry_of_call program.table content who r)
       (reads_of (call_checks program.table content who r))
-      (λ e is within. by_request_call who r is passed within)
+      (λ e is within. by_request_call who r labels is passed within)
       (let all = each_after _ (argument_checks content who r.args)
       (check no_transaction (is_no_transaction (entry_of_call program.table content who r))
       ∷ found_checks program.table content (entry_of_call program.table content who r))
@@ -280,10 +278,12 @@ module _ (keep : StepsKeep) (begins : BeginsSo) (ends : EndsSo) (still : StillLe
           → LeavesAtRest program.table (invoke_operation (source_meaning program.table fuel) program.table content fuel request.who request.operation)
       go (new_request r) is = subst (λ (o : Operation). LeavesAtRest program.table
           (invoke_operation (source_meaning program.table fuel) program.table content fuel request.who o)) (sym is)
-          (no_new_goes_wrong program content request.who r fuel checked lowered rests)
+          (no_new_goes_wrong program content request.who r fuel checked lowered rests
+          (subst (λ (o : Operation). HasLabels (record { who = request.who; operation = o })) is labels))
       go (call_request r) is = subst (λ (o : Operation). LeavesAtRest program.table
           (invoke_operation (source_meaning program.table fuel) program.table content fuel request.who o)) (sym is)
-          (no_call_goes_wrong program content request.who r fuel checked lowered rests)
+          (no_call_goes_wrong program content request.who r fuel checked lowered rests
+          (subst (λ (o : Operation). HasLabels (record { who = request.who; operation = o })) is labels))
       go (disown_request on) is = still (source_meaning program.table fuel) program.table content request fuel checked.table rests labels (ap runs is)
       go (give_request r) is = still (source_meaning program.table fuel) program.table content request fuel checked.table rests labels (ap runs is)
       go (see_request on) is = still (source_meaning program.table fuel) program.table content request fuel checked.table rests labels (ap runs is)

@@ -1,9 +1,9 @@
 -- How a request's run begins and what it leaves (Coblenz et al., TOPLAS 42(3), 2020, "Permissions"; what handles carry while a
 -- run lasts is this project's own).
-use Rattle.std.specs.Prelude.{◌≡◌, ℕ, ◌≤◌, Bool, true, false, List, [], ◌∷◌, length, map, flat_map, Option, Some, None, if◌then◌else◌, ⊤}
+use Rattle.std.specs.Prelude.{◌≡◌, ℕ, ◌≤◌, true, false, List, ◌∷◌, length, map, Option, Some, None, if◌then◌else◌, IsTrue, ⊤}
+use Rattle.ob_base.specs.Names.{is_label}
+use Rattle.ob_heap_spec.specs.Dispatch.{transaction_named}
 use Rattle.ob_base.specs.Limits.{most_objects}
-use Rattle.std.specs.List.{list_any}
-use Rattle.std.specs.Ordering.{eq_by_cmp}
 use Rattle.ob_perm.specs.States.{States}
 use Rattle.ob_perm.specs.Permissions.{owned, unowned}
 use Rattle.ob_perm.specs.Masks.{held}
@@ -12,7 +12,7 @@ use Rattle.ob_table.specs.declared.contract.Contract.{Contract}
 use Rattle.ob_table_spec.specs.WellFormed.{constructor_at}
 use Rattle.ob_heap_spec.specs.Objects.{Object}
 use Rattle.ob_heap_spec.specs.Values.{Value, reference}
-use Rattle.ob_heap_spec.specs.Contents.{HandleName, Handle, Content, name_order, object_at}
+use Rattle.ob_heap_spec.specs.Contents.{HandleName, Handle, Content, object_at}
 use Rattle.ob_heap_spec.specs.Worlds.{World}
 use Rattle.ob_silica_steps.specs.Cells.{Cell}
 use Rattle.ob_silica_steps.specs.Configurations.{SilicaProgram, by_receiver, by_new, HandleNote, Notes, Configuration, NextStep, goes, ended, aborted, stuck}
@@ -25,28 +25,20 @@ use Rattle.ob_coherent_spec.specs.Remaining.{IsCheckedProgram}
 use Rattle.ob_table_spec.specs.Conditions.{IsClassTable}
 use Rattle.ob_rest_spec.specs.Modes.{is_owned}
 use Rattle.ob_rest_spec.specs.AtRest.{IsStoreAtRest}
-use Rattle.ob_invocation_spec.specs.Requests.{NewRequest, CallRequest, Request, HasLabels}
+use Rattle.ob_invocation_spec.specs.Requests.{NewRequest, CallRequest, new_request, call_request, Request, HasLabels}
 use Rattle.ob_invocation_spec.specs.Replies.{Invocation, invoked, goes_wrong}
 use Rattle.ob_invocation_spec.specs.Handles.{NamedHandle, handle_name, handle_at, are_handles_full, put_handles, mark_puts}
 use Rattle.ob_invocation_spec.specs.Entries.{HandleUse, Entry, mode_of_result, entry_of_new, entry_of_call, used_as_receiver, values_of, handle_uses}
 use Rattle.ob_invocation_spec.specs.Checks.{refusal_of}
 use Rattle.ob_invocation_spec.specs.Refusals.{has_other_count, has_other_kind, lacks_permission, repeats_object, lacks_into, has_needless_into, is_taken, new_checks, call_checks}
-use Rattle.ob_invocation_spec.specs.Entering.{first_outside_use, is_locked_at_entry, Meaning, entry_world, put_after_use, puts_after}
+use Rattle.ob_invocation_spec.specs.Entering.{first_outside_use, is_locked_at_entry, Meaning, entry_world, puts_after}
 use Rattle.ob_invocation_spec.specs.Invocation.{invoke}
-use Rattle.ob_invocation_laws.specs.Laws.{runs}
+use Rattle.ob_invocation_laws.specs.Laws.{runs, is_put, puts_of_uses}
 use Rattle.ob_invocation_spec.specs.SourceInvocation.{source_invocation}
 use Rattle.ob_lower_correct.specs.Law.{IsLoweredProgram}
 use Rattle.ob_soundness_laws.specs.Running.{EndsFrom}
 
 -- What handles carry.
-
--- whether a handle of this name is among these
-abbrev pub is_named : List NamedHandle → HandleName → Bool
-is_named handles name = list_any (λ h. eq_by_cmp name_order name h.0) handles
-
--- what the handles of uses become once the run has ended
-abbrev pub becoming : Content → Entry → List NamedHandle
-becoming content e = flat_map put_after_use (handle_uses content e)
 
 -- all states
 abbrev pub any_state : States
@@ -56,12 +48,12 @@ any_state = λ i. true
 abbrev pub note_in_run : List NamedHandle → NamedHandle → HandleNote
 note_in_run puts h = record {
   object = h.1.object;
-  permission = if is_named puts h.0 then unowned else held h.1.mode any_state;
+  permission = if is_put puts h.0 then unowned else held h.1.mode any_state;
 }
 
 -- what the handles of a store carry
 abbrev pub handles_in_run : Content → Entry → List HandleNote
-handles_in_run content e = map (note_in_run (becoming content e)) content.handles
+handles_in_run content e = map (note_in_run (puts_of_uses (handle_uses content e))) content.handles
 
 -- The beginning.
 
@@ -97,10 +89,12 @@ started program content fuel e = started_on program e e.receiver (values_of cont
 
 -- A `new` or a `call` enters this: no check refuses it, and the entry test finds each object within.
 pub data IsEntered (table : ClassTable) (content : Content) (e : Entry) : Type 0 where
-  by_request_new : (who : List ℕ) (r : NewRequest) → entry_of_new table who r ≡ Some e
+  by_request_new : (who : List ℕ) (r : NewRequest) → HasLabels (record { who = who; operation = new_request r })
+      → entry_of_new table who r ≡ Some e
       → refusal_of (new_checks table content who r) ≡ None → first_outside_use table content e ≡ None
       → IsEntered table content e
-  by_request_call : (who : List ℕ) (r : CallRequest) → entry_of_call table content who r ≡ Some e
+  by_request_call : (who : List ℕ) (r : CallRequest) → HasLabels (record { who = who; operation = call_request r })
+      → entry_of_call table content who r ≡ Some e
       → refusal_of (call_checks table content who r) ≡ None → first_outside_use table content e ≡ None
       → IsEntered table content e
 
@@ -216,6 +210,9 @@ pub record EntersCall (table : ClassTable) (content : Content) (e : Entry) : Typ
   pub contract : object.contract ≡ e.contract
   pub own : Contract
   pub is_own : contract_at table e.contract ≡ Some own
+  pub asked : List ℕ
+  pub label : IsTrue (is_label asked)
+  pub named : transaction_named own asked ≡ Some e.tx
   pub signature : signature_at own e.tx ≡ Some e.signature
   pub receiver : e.receiver ≡ Some (used_as_receiver name handle e.contract e.signature)
   pub given : e.given ≡ mode_of_result e.signature.result

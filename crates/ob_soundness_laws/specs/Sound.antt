@@ -1,12 +1,12 @@
 -- What holds of each program that is accepted: permission soundness (Coblenz et al., TOPLAS 42(3), 2020, "Silica", preservation
 -- and progress, and asset retention; requests and stores are this project's own).
-use Rattle.std.specs.Prelude.{◌≡◌, ℕ, List, Option, All, ⊤}
+use Rattle.std.specs.Prelude.{◌≡◌, ℕ, List, Option, All}
 use Rattle.ob_table.specs.Tables.{ClassTable}
 use Rattle.ob_table_spec.specs.WellFormed.{HasBodies}
 use Rattle.ob_heap_spec.specs.Contents.{Content}
 use Rattle.ob_silica.specs.Terms.{SilicaBody}
 use Rattle.ob_silica_formed.specs.WellFormedTerms.{IsWellFormedTerms}
-use Rattle.ob_silica_steps.specs.Configurations.{SilicaProgram, Configuration, NextStep, goes}
+use Rattle.ob_silica_steps.specs.Configurations.{SilicaProgram, Configuration, goes}
 use Rattle.ob_silica_steps.specs.Steps.{step, then_steps, steps}
 use Rattle.ob_flow_spec.specs.Deriving.{Derives}
 use Rattle.ob_lower_correct.specs.Law.{IsLoweredProgram}
