@@ -45,7 +45,8 @@ pub call_entry : (table : ClassTable) (content : Content) (who : List ℕ) (r : 
 call_entry table content who r e is none =
     let last = check no_transaction (is_no_transaction (entry_of_call table content who r))
     ∷ found_checks table content (entry_of_call table content who r) in
-    let one = not_refused (handle_check content (handle_name who r.on)) (argument_checks content who r.args ++ last) none in
+    let one = not_refused (handle_check content (handle_name who r.on)) (argument_checks content who r.args ++ last)
+    none in
     let two = not_refused_both (argument_checks content who r.args) last one.1 in
     let three = not_refused (check no_transaction (is_no_transaction (entry_of_call table content who r)))
     (found_checks table content (entry_of_call table content who r)) two.1 in
@@ -80,7 +81,8 @@ pub call_request_begins : (program : SilicaProgram) → IsCheckedProgram program
     → refusal_of (call_checks program.table content who r) ≡ None → first_outside_use program.table content e ≡ None
     → (fuel : ℕ) → RequestStarts program content fuel e
 call_request_begins program is content rest who r e labels found none inside fuel =
-    let s : CallStarts program content fuel e = call_begins program is content rest who r e (named_call who r labels) found
+    let s : CallStarts program content fuel e = call_begins program is content rest who r e (named_call who r labels)
+    found
     (call_entry program.table content who r e found none) inside fuel in
     subst (λ os. StepsSo program.table (locked_at_entry e.receiver) (beginning_of content e)
     (started_on program e e.receiver (values_of content e) (first_notes program.table os (handle_notes content e))

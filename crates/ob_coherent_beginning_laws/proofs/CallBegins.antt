@@ -52,7 +52,8 @@ use Rattle.ob_coherent_beginning_laws.proofs.Whole.{sharing_there}
 use Rattle.ob_coherent_beginning_laws.proofs.Call.{begins, within, called_runs}
 
 -- Where units are left, one is taken.
-pub unit_so : (table : ClassTable) (entry : Option ℕ) (beginning : Beginning) (fuel : ℕ) (w : World) (go : World → NextStep)
+pub unit_so : (table : ClassTable) (entry : Option ℕ) (beginning : Beginning) (fuel : ℕ) (w : World)
+    (go : World → NextStep)
     → ((m : ℕ) → StepsSo table entry beginning (go (with_unit_taken w m)))
     → StepsSo table entry beginning (with_fuel_left fuel w go)
 unit_so table entry beginning zero w go so = tt
@@ -61,7 +62,8 @@ unit_so table entry beginning (suc m) w go so = so m
 -- The world at the entry.
 
 module _ (content : Content) (fuel : ℕ) where
-  pub world_objects : (u : Option HandleUse) → (with_entry_lock u (first_world content.objects fuel)).objects ≡ content.objects
+  pub world_objects : (u : Option HandleUse) → (with_entry_lock u (first_world content.objects fuel)).objects
+      ≡ content.objects
   world_objects None = refl
   world_objects (Some u) = ⊎_elim (λ e. rw e refl) (λ e. rw e refl) (cases_Bool (is_locked_at_entry u))
 
@@ -79,11 +81,14 @@ module _ (content : Content) (fuel : ℕ) where
 
 -- A call of an object from outside, whose values are passed by uses that serve.
 module _ (program : SilicaProgram) (is : IsCheckedProgram program) (content : Content)
-    (rest : IsStoreAtRest program.table content) (u : HandleUse) (entry : Option ℕ) (entry_is : locked_at_entry (Some u) ≡ entry)
+    (rest : IsStoreAtRest program.table content) (u : HandleUse) (entry : Option ℕ)
+    (entry_is : locked_at_entry (Some u) ≡ entry)
     (n : ℕ) (there : n < length content.objects) (contract : ContractId) (tx : TxId) (own : Contract) (s : Signature)
     (args : List Value) (xs : List (Option HandleUse))
-    (passed : ArePassed program.table content.objects (reference n ∷ args) (this_parameter contract s ∷ parameters s) xs)
-    (uses : AreUses program.table content entry (uses_in xs)) (once : list_any (is_repeated (uses_in xs)) (uses_in xs) ≡ false)
+    (passed : ArePassed program.table content.objects (reference n ∷ args) (this_parameter contract s ∷ parameters s)
+    xs)
+    (uses : AreUses program.table content entry (uses_in xs))
+    (once : list_any (is_repeated (uses_in xs)) (uses_in xs) ≡ false)
     (contract_is : (nth_object content.objects n).contract ≡ contract)
     (ec : contract_at program.table contract ≡ Some own) (class : own.interface ≡ false)
     (es : signature_at own tx ≡ Some s) (no_constructor : tx.0 ≢ 0) (no_list : s.listed ≡ []) (fuel : ℕ) where
@@ -128,7 +133,8 @@ module _ (program : SilicaProgram) (is : IsCheckedProgram program) (content : Co
 
     marks : (i : ℕ) → 0 < sharing_uses i (uses_in xs) → (nth_object w.objects i).shared ≡ true
     marks i some = ap (λ os. (nth_object os i).shared) same
-        ∙ passed_marks program.table content.objects i (reference n ∷ args) (this_parameter contract s ∷ parameters s) xs w0
+        ∙ passed_marks program.table content.objects i (reference n ∷ args) (this_parameter contract s ∷ parameters s)
+        xs w0
         passed (subst (λ os. i < length os) (sym (world_objects content fuel (Some u)))
         (sharing_there program.table content entry (uses_in xs) uses i some)) some
 
@@ -161,7 +167,8 @@ module _ (program : SilicaProgram) (is : IsCheckedProgram program) (content : Co
         no_constructor no_list w more newly marks locked (ap (λ ns. n ∷ ns) quiet))
         (begins program is content rest entry n there contract tx own s args xs passed uses once contract_is ec class es
         no_constructor no_list w more newly marks locked (ap (λ ns. n ∷ ns) quiet)).found))
-        (running (called_runs program is content rest entry n there contract tx own s args xs passed uses once contract_is ec
+        (running (called_runs program is content rest entry n there contract tx own s args xs passed uses once
+        contract_is ec
         class es no_constructor no_list w more newly marks locked (ap (λ ns. n ∷ ns) quiet)))
 
   pub call_starts : StepsSo program.table entry begun_with (started_call program contract tx n args
@@ -174,8 +181,10 @@ module _ (program : SilicaProgram) (is : IsCheckedProgram program) (content : Co
       (signature_from program.table contract tx own ec ∙ es)
       ∙ passes (reference n ∷ args) 0 (this_parameter contract s ∷ parameters s) nothing w0 (λ slots v.
       with_unit v (λ x. calls_object program (alone slots notes x) contract tx s n))
-      (passed_many program.table content.objects (reference n ∷ args) (this_parameter contract s ∷ parameters s) xs passed)))
-      (unit_so program.table entry begun_with w1.fuel w1 (λ x. calls_object program (alone slots notes x) contract tx s n) enters_so)
+      (passed_many program.table content.objects (reference n ∷ args) (this_parameter contract s ∷ parameters s) xs
+      passed)))
+      (unit_so program.table entry begun_with w1.fuel w1
+      (λ x. calls_object program (alone slots notes x) contract tx s n) enters_so)
 
 -- What a call enters.
 
@@ -197,20 +206,26 @@ no_bytes [] e = refl
 no_bytes (x ∷ xs) e = absurd (true≢false (sym e))
 
 -- a transaction of a name isn't the constructor
-named_is : (table : ClassTable) (is : Rattle.ob_table_spec.specs.Conditions.IsClassTable table) (id : ContractId) (own : Contract)
+named_is : (table : ClassTable) (is : Rattle.ob_table_spec.specs.Conditions.IsClassTable table) (id : ContractId)
+    (own : Contract)
     (name : List ℕ) (tx : TxId) (s : Signature) → contract_at table id ≡ Some own → own.interface ≡ false → name ≢ []
     → transaction_named own name ≡ Some tx → signature_at own tx ≡ Some s → tx.0 ≢ 0
 named_is table is id own name tx s ec class some found es zero_is =
-    some (no_bytes name (ap (bytes_eq name) (sym made.name) ∙ by_place (position (λ (z : Signature). bytes_eq name z.name) own.transactions) refl))
+    some (no_bytes name
+    (ap (bytes_eq name) (sym made.name)
+    ∙ by_place (position (λ (z : Signature). bytes_eq name z.name) own.transactions) refl))
   where
     made : Rattle.ob_table_spec.specs.Conditions.IsConstructor table own s
     made = constructor_is table own (contract_is table is id own ec) class tx s zero_is es
 
-    by_place : (o : Option ℕ) → position (λ (z : Signature). bytes_eq name z.name) own.transactions ≡ o → bytes_eq name s.name ≡ true
+    by_place : (o : Option ℕ) → position (λ (z : Signature). bytes_eq name z.name) own.transactions ≡ o
+        → bytes_eq name s.name ≡ true
     by_place None i = absurd (let z : None ≡ Some tx = sym (ap (option_map (λ n. record { 0 = n })) i) ∙ found in cc)
     by_place (Some k) i =
-        let same : record { 0 = k } ≡ tx = same_Some (record { 0 = k }) tx (sym (ap (option_map (λ n. record { 0 = n })) i) ∙ found) in
-        let at_k : slice_get own.transactions k ≡ Some s = ap (λ (t : TxId). slice_get own.transactions t.0) same ∙ es in
+        let same : record { 0 = k } ≡ tx = same_Some (record { 0 = k }) tx
+        (sym (ap (option_map (λ n. record { 0 = n })) i) ∙ found) in
+        let at_k : slice_get own.transactions k ≡ Some s = ap (λ (t : TxId). slice_get own.transactions t.0) same
+        ∙ es in
         let p = position-Some (λ (z : Signature). bytes_eq name z.name) own.transactions k s i in
         ap (λ (z : Signature). bytes_eq name z.name) (sym (get_or_from_slice_get own.transactions k s s at_k)) ∙ p.1
 
@@ -231,7 +246,8 @@ entered who r h o tx s = record {
 
 module _ (program : SilicaProgram) (is : IsCheckedProgram program) (content : Content)
     (rest : IsStoreAtRest program.table content) (who : List ℕ) (r : CallRequest) (named : r.tx ≢ []) (h : Handle)
-    (eh : handle_at content (handle_name who r.on) ≡ Some h) (o : Object) (eo : object_at content.objects h.object ≡ Some o)
+    (eh : handle_at content (handle_name who r.on) ≡ Some h) (o : Object)
+    (eo : object_at content.objects h.object ≡ Some o)
     (own : Contract) (ec : contract_at program.table o.contract ≡ Some own) (tx : TxId)
     (et : transaction_named own r.tx ≡ Some tx) (s : Signature) (es : signature_at own tx ≡ Some s)
     (public : s.private ≡ false)
@@ -266,7 +282,8 @@ module _ (program : SilicaProgram) (is : IsCheckedProgram program) (content : Co
   other = named_is program.table is.table o.contract own r.tx tx s ec class named et es
 
   no_list : s.listed ≡ []
-  no_list = (transaction_is program.table own (contract_is program.table is.table o.contract own ec) tx s (inr other) es).private public
+  no_list = (transaction_is program.table own (contract_is program.table is.table o.contract own ec) tx s
+      (inr other) es).private public
 
   all_passed : ArePassed program.table content.objects (reference h.object ∷ values_of content (entered who r h o tx s))
       (this_parameter o.contract s ∷ parameters s) xs
@@ -339,7 +356,15 @@ call_begins program is content rest who r e named found =
     let five = found_then (signature_at three.0 four.0) (λ s.
     where_true (not s.private) (entered who r one.0 two.0 four.0 s)) e four.2 in
     let six = where_then (not five.0.private) (entered who r one.0 two.0 four.0 five.0) e five.2 in
-    subst (λ (e : Entry). refusal_of (entry_checks program.table content e) ≡ None
-    → first_outside_use program.table content e ≡ None → (fuel : ℕ) → CallStarts program content fuel e) six.1
-    (λ passed inside fuel. parts_begin program is content rest who r named one.0 one.1 two.0 two.1 three.0 three.1 four.0 four.1
-    five.0 five.1 (not_true five.0.private six.0) passed inside fuel)
+    from_parts one.0 one.1 two.0 two.1 three.0 three.1 four.0 four.1 five.0 five.1 six.0 six.1
+  where
+    from_parts : (h : Handle) → handle_at content (handle_name who r.on) ≡ Some h → (o : Object)
+        → object_at content.objects h.object ≡ Some o → (own : Contract) → contract_at program.table o.contract ≡ Some own
+        → (tx : TxId) → transaction_named own r.tx ≡ Some tx → (s : Signature) → signature_at own tx ≡ Some s
+        → not s.private ≡ true → entered who r h o tx s ≡ e
+        → refusal_of (entry_checks program.table content e) ≡ None → first_outside_use program.table content e ≡ None
+        → (fuel : ℕ) → CallStarts program content fuel e
+    from_parts h eh o eo own ec tx et s es public same =
+        subst (λ (e : Entry). refusal_of (entry_checks program.table content e) ≡ None
+        → first_outside_use program.table content e ≡ None → (fuel : ℕ) → CallStarts program content fuel e) same
+        (parts_begin program is content rest who r named h eh o eo own ec tx et s es (not_true s.private public))

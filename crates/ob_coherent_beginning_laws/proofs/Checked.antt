@@ -1,4 +1,5 @@
--- A request that isn't refused, and passes the entry test: its values come to the parameters by uses of handles that serve.
+-- A request that isn't refused, and passes the entry test: its values come to the parameters by uses of handles that
+-- serve.
 use Rattle.std.proofs.Common.{◌≡◌, ℕ, suc, ◌<◌, Bool, true, false, not, ◌&&◌, ◌||◌, cond, List, [], ◌∷◌, map, length, Option, Some, None, refl, sym, ap, subst, ◌∙◌, arith, ⊎_elim, ◌⊎◌, inl, inr, true≢false}
 use Rattle.std.specs.Prelude.{◌==◌, slice_get, zip, filter_map, option_map, option_to_list, if◌then◌else◌}
 use Rattle.std.specs.Option.{option_map_or}
@@ -37,9 +38,11 @@ use Rattle.ob_coherent_beginning_laws.specs.Passed.{IsPassed, ArePassed, uses_in
 
 -- Checks.
 
-pub not_refused : (c : Check) (cs : List Check) → refusal_of (c ∷ cs) ≡ None → (c.holds ≡ false) × (refusal_of cs ≡ None)
+pub not_refused : (c : Check) (cs : List Check) → refusal_of (c ∷ cs) ≡ None → (c.holds ≡ false)
+    × (refusal_of cs ≡ None)
 not_refused c cs e = ⊎_elim
-    (λ holds. absurd (let z : Some c.refusal ≡ None = sym (ap (λ b. if b then Some c.refusal else refusal_of cs) holds) ∙ e in cc))
+    (λ holds. absurd
+    (let z : Some c.refusal ≡ None = sym (ap (λ b. if b then Some c.refusal else refusal_of cs) holds) ∙ e in cc))
     (λ none. (none, sym (ap (λ b. if b then Some c.refusal else refusal_of cs) none) ∙ e))
     (cases_Bool c.holds)
 
@@ -73,7 +76,8 @@ allowed table content e none =
     let modes = or_parts (not (list_all receiver_serves (option_to_list e.receiver)))
     (not (list_all use_serves (argument_uses content e))) three.0 in
     record {
-      count = same_count (length e.args) (length e.signature.params) (not_false (length e.args == length e.signature.params) one.0);
+      count = same_count (length e.args) (length e.signature.params)
+          (not_false (length e.args == length e.signature.params) one.0);
       kinds = two.0;
       receiver = not_false (list_all receiver_serves (option_to_list e.receiver)) modes.0;
       args = not_false (list_all use_serves (argument_uses content e)) modes.1;
@@ -101,8 +105,10 @@ plain_passed table objects (Reference c p) (bool_value z) plain e = absurd (true
 plain_passed table objects (Reference c p) (text_value z) plain e = absurd (true≢false (sym e))
 plain_passed table objects of (reference n) plain e = absurd (cc)
 
-serves_there : (table : ClassTable) (objects : List Object) (t : ResolvedType) (exit : Perm) (name : HandleName) (h : Handle)
-    → is_of_type table objects t (reference h.object) ≡ true → IsPassed table objects t (reference h.object) (used_for t exit name h)
+serves_there : (table : ClassTable) (objects : List Object) (t : ResolvedType) (exit : Perm) (name : HandleName)
+    (h : Handle)
+    → is_of_type table objects t (reference h.object) ≡ true → IsPassed table objects t (reference h.object)
+    (used_for t exit name h)
 serves_there table objects Int exit name h e = absurd (true≢false (sym e))
 serves_there table objects BoolKind exit name h e = absurd (true≢false (sym e))
 serves_there table objects Text exit name h e = absurd (true≢false (sym e))
@@ -110,19 +116,26 @@ serves_there table objects (Reference c p) exit name h e = by_object (object_at 
   where
     by_object : (o : Option Object) → object_at objects h.object ≡ o
         → IsPassed table objects (Reference c p) (reference h.object) (used_for (Reference c p) exit name h)
-    by_object None i = absurd (true≢false (sym e ∙ ap (λ x. option_map_or (λ (o : Object). serves_as table (kind.Reference c) (kind.Reference o.contract)) x false) i))
+    by_object None i = absurd
+        (true≢false
+        (sym e ∙ ap
+        (λ x. option_map_or (λ (o : Object). serves_as table (kind.Reference c) (kind.Reference o.contract)) x false)
+        i))
     by_object (Some o) i =
         let found = object_found objects h.object o i in (
           refl,
           refl,
           found.0,
           subst (λ (z : Object). serves_as table (kind.Reference c) (kind.Reference z.contract) ≡ true)
-              (sym found.1) (sym (ap (λ x. option_map_or (λ (o : Object). serves_as table (kind.Reference c) (kind.Reference o.contract)) x false) i) ∙ e),
+              (sym found.1)
+              (sym (ap (λ x. option_map_or
+              (λ (o : Object). serves_as table (kind.Reference c) (kind.Reference o.contract)) x false) i) ∙ e),
         )
 
 module _ (table : ClassTable) (content : Content) (who : List ℕ) where
   one_passed : (p : Param) (a : Argument) → is_argument_for table content who p a ≡ true
-      → (v : Value) × (value_of content who a ≡ Some v) × IsPassed table content.objects p.of v (use_of_argument content who p a)
+      → (v : Value) × (value_of content who a ≡ Some v) × IsPassed table content.objects p.of v
+      (use_of_argument content who p a)
   one_passed p (int_argument z) e = (int_value z, refl, plain_passed table content.objects p.of (int_value z) refl e)
   one_passed p (bool_argument z) e = (bool_value z, refl, plain_passed table content.objects p.of (bool_value z) refl e)
   one_passed p (text_argument z) e = (text_value z, refl, plain_passed table content.objects p.of (text_value z) refl e)
@@ -158,14 +171,17 @@ module _ (table : ClassTable) (content : Content) (who : List ℕ) where
   uses_are (p ∷ ps) (a ∷ args) = ap (cons_option (use_of_argument content who p a)) (uses_are ps args)
 
   pub args_passed : (ps : List Param) (args : List Argument) → length args ≡ length ps
-      → list_any (λ (pair : Param × Argument). not (is_argument_for table content who pair.0 pair.1)) (zip ps args) ≡ false
-      → ArePassed table content.objects (filter_map (value_of content who) args) (map parameter_of ps) (uses_for ps args)
+      → list_any (λ (pair : Param × Argument). not (is_argument_for table content who pair.0 pair.1))
+      (zip ps args) ≡ false
+      → ArePassed table content.objects (filter_map (value_of content who) args) (map parameter_of ps)
+      (uses_for ps args)
   args_passed [] [] long fits = tt
   args_passed [] (a ∷ args) long fits = absurd (omega (arith, long))
   args_passed (p ∷ ps) [] long fits = absurd (omega (arith, long))
   args_passed (p ∷ ps) (a ∷ args) long fits =
       let parts = or_parts (not (is_argument_for table content who p a))
-      (list_any (λ (pair : Param × Argument). not (is_argument_for table content who pair.0 pair.1)) (zip ps args)) fits in
+      (list_any (λ (pair : Param × Argument). not (is_argument_for table content who pair.0 pair.1)) (zip ps args))
+      fits in
       let one = one_passed p a (not_false _ parts.0) in
       subst (λ vs. ArePassed table content.objects vs (map parameter_of (p ∷ ps)) (uses_for (p ∷ ps) (a ∷ args)))
       (sym (ap (λ x. cons_option x (filter_map (value_of content who) args)) one.1))
@@ -198,16 +214,25 @@ named_in : (name : HandleName) (hs : List NamedHandle) (h : Handle) → find_key
     → (k : ℕ) × (g : NamedHandle) × (slice_get hs k ≡ Some g) × (eq_by_cmp name_order name g.0 ≡ true) × (g.1 ≡ h)
 named_in name [] h e = absurd (cc)
 named_in name (g ∷ hs) h e = ⊎_elim
-    (λ here. (0, g, refl, here, same_Some g.1 h (sym (ap (λ b. cond b (Some g.1) (find_key name_order name hs)) here) ∙ e)))
+    (λ here. (
+      0,
+      g,
+      refl,
+      here,
+      same_Some g.1 h (sym (ap (λ b. cond b (Some g.1) (find_key name_order name hs)) here)
+          ∙ e),
+    ))
     (λ other. let r = named_in name hs h (sym (ap (λ b. cond b (Some g.1) (find_key name_order name hs)) other) ∙ e) in
     (suc r.0, r.1, r.2, r.3, r.4))
     (cases_Bool (eq_by_cmp name_order name g.0))
 
 pub handle_found : (content : Content) (name : HandleName) (h : Handle) → handle_at content name ≡ Some h
-    → (k : ℕ) × (g : NamedHandle) × (slice_get content.handles k ≡ Some g) × (eq_by_cmp name_order name g.0 ≡ true) × (g.1 ≡ h)
+    → (k : ℕ) × (g : NamedHandle) × (slice_get content.handles k ≡ Some g) × (eq_by_cmp name_order name g.0 ≡ true)
+    × (g.1 ≡ h)
 handle_found content name h e = named_in name content.handles h e
 
-pub handle_there : (table : ClassTable) (content : Content) → IsStoreAtRest table content → (name : HandleName) (h : Handle)
+pub handle_there : (table : ClassTable) (content : Content) → IsStoreAtRest table content → (name : HandleName)
+    (h : Handle)
     → handle_at content name ≡ Some h → h.object < length content.objects
 handle_there table content rest name h e =
     let r = handle_found content name h e in
@@ -233,9 +258,12 @@ module _ (table : ClassTable) (content : Content) (rest : IsStoreAtRest table co
         same = r.4;
         within = λ own.
             let held = not_false _ inside in
-            let z : option_map_or (is_in_states table u.contract u.entry) (object_at content.objects u.handle.object) false ≡ true =
-            sym (ap (λ b. not b || option_map_or (is_in_states table u.contract u.entry) (object_at content.objects u.handle.object) false) own) ∙ held in
-            sym (ap (λ x. option_map_or (is_in_states table u.contract u.entry) x false) (object_there content.objects u.handle.object low)) ∙ z;
+            let z : option_map_or (is_in_states table u.contract u.entry) (object_at content.objects u.handle.object)
+            false ≡ true =
+            sym (ap (λ b. not b || option_map_or (is_in_states table u.contract u.entry)
+            (object_at content.objects u.handle.object) false) own) ∙ held in
+            sym (ap (λ x. option_map_or (is_in_states table u.contract u.entry) x false)
+            (object_there content.objects u.handle.object low)) ∙ z;
         shares = shares;
         takes = takes;
       }
@@ -258,8 +286,10 @@ module _ (table : ClassTable) (content : Content) (rest : IsStoreAtRest table co
           let same = same_Some _ u i in
           (ap (λ (x : HandleUse). x.name) (sym same), ap (λ (x : HandleUse). x.handle) (sym same))
 
-      by_handle : (x : Option Handle) → handle_at content (handle_name who name) ≡ x → handle_at content u.name ≡ Some u.handle
-      by_handle None i = absurd (let z : None ≡ Some u = sym (ap (λ x. x >>= used_for p.of p.exit (handle_name who name)) i) ∙ e in cc)
+      by_handle : (x : Option Handle) → handle_at content (handle_name who name) ≡ x
+          → handle_at content u.name ≡ Some u.handle
+      by_handle None i = absurd
+          (let z : None ≡ Some u = sym (ap (λ x. x >>= used_for p.of p.exit (handle_name who name)) i) ∙ e in cc)
       by_handle (Some h) i =
           let r = by_type p.of h (sym (ap (λ x. x >>= used_for p.of p.exit (handle_name who name)) i) ∙ e) in
           ap (handle_at content) r.0 ∙ i ∙ ap Some (sym r.1)
@@ -275,14 +305,16 @@ module _ (table : ClassTable) (content : Content) (rest : IsStoreAtRest table co
     where
       go : (x : Option HandleUse) → use_of_argument content who p a ≡ x
           → list_all use_serves (cons_option x (uses_in (uses_for table content who ps args))) ≡ true
-          → list_any (is_outside_use table content.objects) (cons_option x (uses_in (uses_for table content who ps args))) ≡ false
+          → list_any (is_outside_use table content.objects)
+          (cons_option x (uses_in (uses_for table content who ps args))) ≡ false
           → (list_all use_serves (uses_in (uses_for table content who ps args)) ≡ true
           → list_any (is_outside_use table content.objects) (uses_in (uses_for table content who ps args)) ≡ false
           → AreUses table content entry (uses_in (uses_for table content who ps args)))
           → AreUses table content entry (cons_option x (uses_in (uses_for table content who ps args)))
       go None i fits inside others = others fits inside
       go (Some u) i fits inside others =
-          let modes = and_parts (use_serves u) (list_all use_serves (uses_in (uses_for table content who ps args))) fits in
+          let modes = and_parts (use_serves u) (list_all use_serves (uses_in (uses_for table content who ps args)))
+          fits in
           let states = or_parts (is_outside_use table content.objects u)
           (list_any (is_outside_use table content.objects) (uses_in (uses_for table content who ps args))) inside in (
             is_use u (argument_found who p a u i) states.0
@@ -304,6 +336,7 @@ module _ (table : ClassTable) (content : Content) (rest : IsStoreAtRest table co
       is_use u found inside (λ s. inr one.0) (λ s. inr (
         one.0,
         locked
-            ∙ ap (λ b. if b then Some u.handle.object else None) (Rattle.std.proofs.lemmas.Bool.and_from (is_shared u.handle.mode) (is_owned u.entry.mode) one.0 one.1),
+            ∙ ap (λ b. if b then Some u.handle.object else None)
+            (Rattle.std.proofs.lemmas.Bool.and_from (is_shared u.handle.mode) (is_owned u.entry.mode) one.0 one.1),
       )))
       (cases_Bool (use_serves u))

@@ -84,7 +84,8 @@ passed_low table objects m past [] (p ∷ ps) xs all = absurd all
 passed_low table objects m past (v ∷ vs) [] xs all = absurd all
 passed_low table objects m past (v ∷ vs) (p ∷ ps) [] all = absurd all
 passed_low table objects m past (v ∷ vs) (p ∷ ps) (x ∷ xs) all =
-    let one = one_low table objects m past p.of v x all.0 in let rest = passed_low table objects m past vs ps xs all.1 in
+    let one = one_low table objects m past p.of v x all.0 in let rest = passed_low table objects m past vs ps xs all.1
+    in
     omega (arith, one, rest)
 
 -- bound slots where an object is made
@@ -97,7 +98,8 @@ bound_made table os o slots k (p ∷ ps) b = (
 )
 
 seen_itself : (table : ClassTable) (contract : ContractId) → seen_state table contract (unfinished contract) ≡ stateless
-seen_itself table contract = ap (λ e. Rattle.std.specs.Prelude.if◌then◌else◌ e stateless (seen_between (contract_at table contract)
+seen_itself table contract = ap
+    (λ e. Rattle.std.specs.Prelude.if◌then◌else◌ e stateless (seen_between (contract_at table contract)
     (contract_at table contract) stateless)) (eq-eqb contract.0 contract.0 refl)
 
 no_state : (a : States) → owned (only stateless) ≡ owned a → a stateless ≡ true
@@ -108,7 +110,8 @@ module _ (program : SilicaProgram) (is : IsCheckedProgram program) (content : Co
     (rest : IsStoreAtRest program.table content) (contract : ContractId) (own : Contract) (s : Signature)
     (args : List Value) (xs : List (Option HandleUse))
     (passed : ArePassed program.table content.objects args (parameters s) xs)
-    (uses : AreUses program.table content None (uses_in xs)) (once : list_any (is_repeated (uses_in xs)) (uses_in xs) ≡ false)
+    (uses : AreUses program.table content None (uses_in xs))
+    (once : list_any (is_repeated (uses_in xs)) (uses_in xs) ≡ false)
     (ec : contract_at program.table contract ≡ Some own) (class : own.interface ≡ false)
     (es : signature_at own constructor_id ≡ Some s) (makes : IsConstructor program.table own s)
     (wr : World) (more : AreMarked content.objects wr.objects)
@@ -177,14 +180,16 @@ module _ (program : SilicaProgram) (is : IsCheckedProgram program) (content : Co
   unset = passed_before args 1 (parameters s) nothing 0 (omega arith)
 
   pub first_bound : AreBound program.table wr.objects (passed_slots args 1 (parameters s) nothing) 1 (parameters s)
-  first_bound = passed_bound program.table content None wr.objects more args (parameters s) xs first_slots 1 passed uses marks
+  first_bound = passed_bound program.table content None wr.objects more args (parameters s) xs first_slots 1 passed
+      uses marks
       (λ i v p ev ep. passed_at args 1 (parameters s) nothing i v p ev ep)
 
   pub within : are_within program.table wr.objects (passed_slots args 1 (parameters s) nothing) 1 (parameters s) ≡ true
   within = are_all_within program.table wr.objects first_slots 1 (parameters s) first_bound
 
   slots_after : (j : ℕ) → 1 ≤ j → f.slots j ≡ first_slots j
-  slots_after j low = at_other first_slots 0 (Some (new_cell contract (length wr.objects))) j (λ e. omega (arith, e, low))
+  slots_after j low = at_other first_slots 0 (Some (new_cell contract (length wr.objects))) j
+      (λ e. omega (arith, e, low))
 
   bound_after : AreBound program.table w.objects f.slots 1 (parameters s)
   bound_after = bound_slots program.table w.objects first_slots f.slots 1 (parameters s) slots_after
@@ -227,7 +232,8 @@ module _ (program : SilicaProgram) (is : IsCheckedProgram program) (content : Co
       let three = no_slots counts m nothing (λ j. refl) in
       omega (arith, one, two, three)
 
-  objects_count : (counts : Counted) (m : ℕ) → in_objects counts m d.notes w.objects ≡ in_objects counts m d.notes content.objects
+  objects_count : (counts : Counted) (m : ℕ) → in_objects counts m d.notes w.objects ≡ in_objects counts m d.notes
+      content.objects
   objects_count counts m = objects_make counts m d.notes wr (unfinished contract) (λ j. refl)
       ∙ marked_counts program.table content rest (map (note_of (uses_in xs)) content.handles) wr.objects more counts m
 
@@ -249,7 +255,8 @@ module _ (program : SilicaProgram) (is : IsCheckedProgram program) (content : Co
   past_references m past =
       let cell : in_cell any m (Some (new_cell contract (length wr.objects))) ≡ one_if (nat_eq next m) = refl in
       let here = slots_count any m in
-      let none = passed_low program.table content.objects m (let e = next_is in omega (arith, e, past)) args (parameters s) xs passed in
+      let none = passed_low program.table content.objects m (let e = next_is in omega (arith, e, past)) args
+      (parameters s) xs passed in
       let objects = objects_make any m d.notes wr (unfinished contract) (λ j. refl) in
       let two = objects_past program.table wr.objects m past d.notes
       (marked_stand program.table content rest (map (note_of (uses_in xs)) content.handles) wr.objects more) in
@@ -273,12 +280,14 @@ module _ (program : SilicaProgram) (is : IsCheckedProgram program) (content : Co
   low_or_past m = cases_lt m next
 
   -- an object that isn't older is neither shared nor disowned
-  past_plain : (m : ℕ) → next ≤ m → ((nth_object w.objects m).shared ≡ false) × ((nth_object w.objects m).disowned ≡ false)
+  past_plain : (m : ℕ) → next ≤ m → ((nth_object w.objects m).shared ≡ false)
+      × ((nth_object w.objects m).disowned ≡ false)
       × ((k : ℕ) → (nth_object w.objects m).fields k ≡ None)
   past_plain m past = ⊎_elim
       (λ same. subst (λ i. ((nth_object w.objects i).shared ≡ false) × ((nth_object w.objects i).disowned ≡ false)
       × ((k : ℕ) → (nth_object w.objects i).fields k ≡ None)) (sym same.1)
-      (subst (λ (o : Object). (o.shared ≡ false) × (o.disowned ≡ false) × ((k : ℕ) → o.fields k ≡ None)) (sym new_object)
+      (subst (λ (o : Object). (o.shared ≡ false) × (o.disowned ≡ false) × ((k : ℕ) → o.fields k ≡ None))
+      (sym new_object)
       (refl, refl, λ k. refl)))
       (λ other. subst (λ (o : Object). (o.shared ≡ false) × (o.disowned ≡ false) × ((k : ℕ) → o.fields k ≡ None))
       (sym (no_object w.objects m (let z = new_count in let ne : m ≢ next = other.1 in omega (arith, z, past))))
@@ -323,7 +332,8 @@ module _ (program : SilicaProgram) (is : IsCheckedProgram program) (content : Co
       })))
       (low_or_new m below)
 
-  declared_now : (m : ℕ) → m < next → IsAsDeclared program.table (NeedsOwner program.table w.objects) d.notes w.objects m
+  declared_now : (m : ℕ) → m < next → IsAsDeclared program.table (NeedsOwner program.table w.objects) d.notes
+      w.objects m
   declared_now m low =
       let was = marked_declared program.table content rest (map (note_of (uses_in xs)) content.handles) wr.objects more
       (NeedsOwner program.table w.objects) m low in
@@ -343,7 +353,8 @@ module _ (program : SilicaProgram) (is : IsCheckedProgram program) (content : Co
   -- The whole.
 
   frame_is : IsFrame program.table w.objects f parts
-  frame_is = begins_frame program.table w.objects f s (owned (only stateless)) (length wr.objects) begun own begins.slots
+  frame_is = begins_frame program.table w.objects f s (owned (only stateless)) (length wr.objects) begun own
+      begins.slots
       ec class es begins.few begins.params (ap (λ (o : Object). o.contract) new_object) (λ e. refl) (λ e. refl)
       (λ e. makes.listed)
 
@@ -382,19 +393,22 @@ module _ (program : SilicaProgram) (is : IsCheckedProgram program) (content : Co
         (owners_are m low) wr.objects more (newly m) (marks m))
         (λ past. let z = past_owners m past in let y = one_or_none m in omega (arith, z, y)) (low_or_past m);
     disowned = λ m mark unshared. ⊎_elim
-        (λ low. whole_disowned program.table is.table content rest None (uses_in xs) uses once m (stored m low) (owners m d)
+        (λ low. whole_disowned program.table is.table content rest None (uses_in xs) uses once m (stored m low)
+        (owners m d)
         (owners_are m low) wr.objects more (newly m) (marks m)
         (ap (λ (o : Object). o.disowned) (sym (old_object m low)) ∙ mark)
         (ap (λ (o : Object). o.shared) (sym (old_object m low)) ∙ unshared))
         (λ past. absurd (both_ways _ (past_plain m past).1 mark)) (low_or_past m);
     shared = λ m mark some. ⊎_elim
-        (λ low. absurd (let z : None ≡ Some m = whole_shared program.table is.table content rest None (uses_in xs) uses once m
+        (λ low. absurd (let z : None ≡ Some m = whole_shared program.table is.table content rest None
+        (uses_in xs) uses once m
         (stored m low) (owners m d) (owners_are m low) wr.objects more (newly m) (marks m)
         (ap (λ (o : Object). o.shared) (sym (old_object m low)) ∙ mark) some in cc))
         (λ past. absurd (both_ways _ (past_plain m past).0 mark)) (low_or_past m);
     tested = λ m some. absurd (omega (arith, some));
     assets = λ m must. ⊎_elim
-        (λ low. whole_assets program.table is.table content rest None (uses_in xs) uses once m (stored m low) (owners m d)
+        (λ low. whole_assets program.table is.table content rest None (uses_in xs) uses once m (stored m low)
+        (owners m d)
         (owners_are m low) wr.objects more (newly m) (marks m) (old_needs m low must))
         (λ same. subst (λ i. 0 < owners i d) (sym same)
         (let z = past_owners next (omega arith) in let y = one_same next in omega (arith, z, y)))

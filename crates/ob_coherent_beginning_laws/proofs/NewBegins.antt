@@ -50,7 +50,8 @@ module _ (program : SilicaProgram) (is : IsCheckedProgram program) (content : Co
     (rest : IsStoreAtRest program.table content) (contract : ContractId) (own : Contract) (s : Signature)
     (args : List Value) (xs : List (Option HandleUse))
     (passed : ArePassed program.table content.objects args (parameters s) xs)
-    (uses : AreUses program.table content None (uses_in xs)) (once : list_any (is_repeated (uses_in xs)) (uses_in xs) ≡ false)
+    (uses : AreUses program.table content None (uses_in xs))
+    (once : list_any (is_repeated (uses_in xs)) (uses_in xs) ≡ false)
     (ec : contract_at program.table contract ≡ Some own) (class : own.interface ≡ false)
     (es : signature_at own constructor_id ≡ Some s) (makes : IsConstructor program.table own s)
     (made_at : constructor_at program.table contract ≡ Some s) (fuel : ℕ) where
@@ -94,7 +95,8 @@ module _ (program : SilicaProgram) (is : IsCheckedProgram program) (content : Co
     quiet = (passed_keeps args (parameters s) w0).progress
 
     into : NextStep
-    into = enters program (entered_new (record (alone slots notes x) { world = wr }) contract) contract constructor_id by_new false
+    into = enters program (entered_new (record (alone slots notes x) { world = wr }) contract) contract constructor_id
+        by_new false
 
     room : NextStep
     room = if are_within program.table wr.objects slots 1 (parameters s) then into else stuck
@@ -102,33 +104,41 @@ module _ (program : SilicaProgram) (is : IsCheckedProgram program) (content : Co
     into_so : StepsSo program.table None begun_with into
     unfolding into
     into_so = subst (λ z. StepsSo program.table None begun_with (if_there z (λ (terms : SilicaTerms). goes (record {
-      frame = Rattle.ob_coherent_beginning_laws.proofs.New.f program is content rest contract own s args xs passed uses once
+      frame = Rattle.ob_coherent_beginning_laws.proofs.New.f program is content rest contract own s args xs passed
+          uses once
           ec class es makes wr marked_one newly marks locked quiet;
       control = runs terms [];
       stack = [];
       notes = notes;
       world = make_object wr (unfinished contract);
     }))))
-        (sym (begins program is content rest contract own s args xs passed uses once ec class es makes wr marked_one newly marks
+        (sym (begins program is content rest contract own s args xs passed uses once ec class es makes wr marked_one
+        newly marks
         locked quiet).found)
-        (running (made_runs program is content rest contract own s args xs passed uses once ec class es makes wr marked_one
+        (running (made_runs program is content rest contract own s args xs passed uses once ec class es makes wr
+        marked_one
         newly marks locked quiet))
 
     room_so : StepsSo program.table None begun_with room
     unfolding room
     room_so = subst (λ z. StepsSo program.table None begun_with (if z then into else stuck))
-        (sym (within program is content rest contract own s args xs passed uses once ec class es makes wr marked_one newly marks
+        (sym (within program is content rest contract own s args xs passed uses once ec class es makes wr marked_one
+        newly marks
         locked quiet)) into_so
 
-    makes_so : StepsSo program.table None begun_with (makes_object program (alone slots notes x) contract constructor_id s)
+    makes_so : StepsSo program.table None begun_with
+        (makes_object program (alone slots notes x) contract constructor_id s)
     unfolding room into
     makes_so = ⊎_elim
-        (λ full. subst (λ z. StepsSo program.table None begun_with (if z then abort_step by_full wr else room)) (sym full) tt)
-        (λ some. subst (λ z. StepsSo program.table None begun_with (if z then abort_step by_full wr else room)) (sym some) room_so)
+        (λ full. subst (λ z. StepsSo program.table None begun_with (if z then abort_step by_full wr else room))
+        (sym full) tt)
+        (λ some. subst (λ z. StepsSo program.table None begun_with (if z then abort_step by_full wr else room))
+        (sym some) room_so)
         (cases_Bool (nat_le most_objects (length w1.objects)))
 
   pub new_starts : StepsSo program.table None begun_with (started_new program contract args
-      (first_notes program.table content.objects (map (note_of (uses_in xs)) content.handles)) (first_world content.objects fuel))
+      (first_notes program.table content.objects (map (note_of (uses_in xs)) content.handles))
+      (first_world content.objects fuel))
   new_starts = subst (StepsSo program.table None begun_with)
       (sym (ap (λ o. if_there o (λ (s : Signature).
       pass_all args 1 (parameters s) nothing w0 (λ slots v.
@@ -173,7 +183,8 @@ module _ (program : SilicaProgram) (is : IsCheckedProgram program) (content : Co
   used = arguments_used program.table content rest None who s.params r.args
       (ap (list_all use_serves) (sym (uses_are program.table content who s.params r.args)) ∙ ok.args)
       (ap (list_any (is_outside_use program.table content.objects)) (sym uses_same)
-      ∙ find_none (is_outside_use program.table content.objects) (handle_uses content (entered who r contract s)) inside)
+      ∙ find_none (is_outside_use program.table content.objects) (handle_uses content (entered who r contract s))
+      inside)
 
   pub parts_begin : (fuel : ℕ) → NewStarts program content fuel (entered who r contract s)
   parts_begin fuel =

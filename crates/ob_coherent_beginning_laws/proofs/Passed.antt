@@ -59,7 +59,8 @@ shared_states : (p : Perm) (a : States) → permission_of p ≡ owned a → a �
 shared_states p a e = go p.mode refl
   where
     go : (m : Mode) → p.mode ≡ m → a ≡ states_of p.states
-    go Owned is = let z : owned (states_of p.states) ≡ owned a = sym (ap (λ m. held m (states_of p.states)) is) ∙ e in cc
+    go Owned is = let z : owned (states_of p.states) ≡ owned a = sym (ap (λ m. held m (states_of p.states)) is)
+        ∙ e in cc
     go Shared is = absurd (let z : shared ≡ owned a = sym (ap (λ m. held m (states_of p.states)) is) ∙ e in cc)
     go Unowned is = absurd (let z : unowned ≡ owned a = sym (ap (λ m. held m (states_of p.states)) is) ∙ e in cc)
 
@@ -74,7 +75,8 @@ module _ (table : ClassTable) (objects : List Object) where
   passed_many (v ∷ vs) (p ∷ ps) (x ∷ xs) all = ap suc (passed_many vs ps xs all.1)
 
   -- what is passed counts as the uses that own
-  one_counts : (n : ℕ) (of : ResolvedType) (v : Value) (x : Option HandleUse) (us : List HandleUse) → IsPassed table objects of v x
+  one_counts : (n : ℕ) (of : ResolvedType) (v : Value) (x : Option HandleUse) (us : List HandleUse)
+      → IsPassed table objects of v x
       → in_cell owns n (Some (bound_cell of v)) + owning_uses n us ≡ owning_uses n (cons_option x us)
   one_counts n of v None us is =
       let none = cell_uncounted owns n (bound_cell of v) (ap owns is.0) in omega (arith, none)
@@ -94,15 +96,18 @@ module _ (table : ClassTable) (objects : List Object) where
   passed_owns n (v ∷ vs) [] xs all = absurd all
   passed_owns n (v ∷ vs) (p ∷ ps) [] all = absurd all
   passed_owns n (v ∷ vs) (p ∷ ps) (x ∷ xs) all =
-      let here = one_counts n p.of v x (uses_in xs) all.0 in let rest = passed_owns n vs ps xs all.1 in omega (arith, here, rest)
+      let here = one_counts n p.of v x (uses_in xs) all.0 in let rest = passed_owns n vs ps xs all.1 in omega
+      (arith, here, rest)
 
   -- Marks.
 
-  sharing_more : (n : ℕ) (x : Option HandleUse) (us : List HandleUse) → sharing_uses n us ≤ sharing_uses n (cons_option x us)
+  sharing_more : (n : ℕ) (x : Option HandleUse) (us : List HandleUse) → sharing_uses n us ≤ sharing_uses n
+      (cons_option x us)
   sharing_more n None us = omega arith
   sharing_more n (Some u) us = omega arith
 
-  sharing_here : (n : ℕ) (of : ResolvedType) (v : Value) (x : Option HandleUse) (us : List HandleUse) → IsPassed table objects of v x
+  sharing_here : (n : ℕ) (of : ResolvedType) (v : Value) (x : Option HandleUse) (us : List HandleUse)
+      → IsPassed table objects of v x
       → v ≡ reference n → shares (permission_of_type of) ≡ true → 0 < sharing_uses n (cons_option x us)
   sharing_here n of v None us is value share = absurd (let z = ap shares is.0 in true≢false (sym share ∙ z))
   sharing_here n of v (Some u) us is value share =
@@ -190,7 +195,12 @@ module _ (table : ClassTable) (content : Content) (entry : Option ℕ) (ps : Lis
       → ((n : ℕ) → 0 < sharing_uses n (cons_option x us) → (nth_object ps n).shared ≡ true)
       → Stands table ps (bound_cell of v)
   value_stands of v None us is uses marks = stands_keeps table content.objects ps
-      (record { count = let e = more.count in omega (arith, e); contracts = λ n low. more.contract n; shared = λ n low e. more.shared n e })
+      (record {
+        count = let e = more.count in omega (arith, e);
+        contracts = λ n low. more.contract n;
+        shared =
+            λ n low e. more.shared n e;
+      })
       (bound_cell of v) (λ n low own. more.state n) (record {
         kind = is.1;
         marked = λ e. absurd (let z : unowned ≡ shared = sym is.0 ∙ e in cc);
@@ -209,7 +219,8 @@ module _ (table : ClassTable) (content : Content) (entry : Option ℕ) (ps : Lis
             let one : one_if (is_shared u.entry.mode && nat_eq u.handle.object u.handle.object) ≡ 1 =
             rw (mode, eq-eqb u.handle.object u.handle.object refl) refl in omega (arith, one));
         states = λ a e.
-            subst (λ b. b (Rattle.ob_heap_spec.specs.Objects.seen_state table u.contract (nth_object ps u.handle.object)) ≡ true)
+            subst (λ b. b (Rattle.ob_heap_spec.specs.Objects.seen_state table u.contract
+            (nth_object ps u.handle.object)) ≡ true)
             (sym (shared_states u.entry a e))
             (ap (states_of u.entry.states) (seen_same table u.contract (nth_object content.objects u.handle.object)
             (nth_object ps u.handle.object) (more.contract u.handle.object) (more.state u.handle.object))

@@ -73,7 +73,8 @@ module _ (table : ClassTable) (content : Content) (rest : IsStoreAtRest table co
       let f = there_is (slice_get o.0.fields k) (λ f. IsValueOf os f.of v) has in
       (f.0, f.1, f.2, sym (o.2.fields k) ∙ ap is_some e)
 
-  note_is : (i k : ℕ) (f : Field) (there : i < length content.objects) → slice_get (is_object i there).0.fields k ≡ Some f
+  note_is : (i k : ℕ) (f : Field) (there : i < length content.objects) → slice_get (is_object i there).0.fields
+      k ≡ Some f
       → (first_notes table content.objects hs).fields i k ≡ declared_note f.of
   note_is i k f there e = first_declared table os hs i k f there
       (field_of_is table (nth_object os i) (is_object i there).0 k (is_object i there).1 ∙ e)
@@ -81,7 +82,8 @@ module _ (table : ClassTable) (content : Content) (rest : IsStoreAtRest table co
   value_stands : (i k : ℕ) (there : i < length content.objects) (f : Field) (v : Value)
       → slice_get (is_object i there).0.fields k ≡ Some f
       → has_field (is_object i there).0 (nth_object content.objects i).state k ≡ true
-      → (nth_object content.objects i).fields k ≡ Some v → (of : ResolvedType) → f.of ≡ of → IsValueOf content.objects of v
+      → (nth_object content.objects i).fields k ≡ Some v → (of : ResolvedType) → f.of ≡ of
+      → IsValueOf content.objects of v
       → Stands table content.objects (cell v (kind_of_resolved of) (permission_of_type of))
   value_stands i k there f (int_value z) ef can ev Int is ok =
       record { kind = ok; marked = λ e. absurd (cc); states = λ a e. absurd (cc) }
@@ -105,7 +107,8 @@ module _ (table : ClassTable) (content : Content) (rest : IsStoreAtRest table co
   value_stands i k there f (text_value z) ef can ev (Reference c p) is ok = absurd ok
 
   -- each field stands
-  pub stored_stand : (i : ℕ) → AllStand table content.objects (field_cell (first_notes table content.objects hs) content.objects i)
+  pub stored_stand : (i : ℕ) → AllStand table content.objects
+      (field_cell (first_notes table content.objects hs) content.objects i)
   stored_stand i k x e =
       let there = field_cell_there notes os i k x e in
       let v = field_cell_value notes os i k x e in
@@ -134,9 +137,11 @@ module _ (table : ClassTable) (content : Content) (rest : IsStoreAtRest table co
 
     pub marked_counts : (counts : Counted) (n : ℕ) → in_objects counts n (first_notes table content.objects hs) ps
         ≡ in_objects counts n (first_notes table content.objects hs) content.objects
-    marked_counts counts n = objects_same counts n notes notes ps os more.count (λ i k. ap (in_cell counts n) (cells_same i k))
+    marked_counts counts n = objects_same counts n notes notes ps os more.count
+        (λ i k. ap (in_cell counts n) (cells_same i k))
 
-    pub marked_in_run : (i : ℕ) → i < length ps → IsObjectInRun table (first_notes table content.objects hs) i (nth_object ps i)
+    pub marked_in_run : (i : ℕ) → i < length ps → IsObjectInRun table (first_notes table content.objects hs) i
+        (nth_object ps i)
     marked_in_run i low =
         let there : i < length os = let e = more.count in omega (arith, low, e) in
         let o = is_object i there in
@@ -148,7 +153,8 @@ module _ (table : ClassTable) (content : Content) (rest : IsStoreAtRest table co
               (state_some o.0 (nth_object os i).state o.2.state);
           fields = λ k none. ap (λ (z : ℕ → Option Value). z k) (more.fields i)
               ∙ (stored_fields table os (nth_object os i)
-              (each_at (IsObject table os) os i (nth_object os i) rest.is_content.objects (object_there os i there))).fields k
+              (each_at (IsObject table os) os i (nth_object os i) rest.is_content.objects
+              (object_there os i there))).fields k
               (unavailable i there o.0 o.1 k (sym (ap (λ z. has_field o.0 z k) (more.state i)) ∙ none));
           kinds = λ k f v ef ev. ap (λ (y : Known). y.kind) (note_is i k f there ef);
         }
@@ -161,7 +167,8 @@ module _ (table : ClassTable) (content : Content) (rest : IsStoreAtRest table co
             → contract_at table (nth_object content.objects i).contract ≡ Some own → (k : ℕ)
             → has_field own (nth_object content.objects i).state k ≡ false
             → has_field (stored_fields table content.objects (nth_object content.objects i)
-            (each_at (IsObject table content.objects) content.objects i (nth_object content.objects i) rest.is_content.objects
+            (each_at (IsObject table content.objects) content.objects i (nth_object content.objects i)
+            rest.is_content.objects
             (object_there content.objects i there))).own (nth_object content.objects i).state k ≡ false
         unavailable i there own ec k e =
             let h = stored_fields table os (nth_object os i)
@@ -186,7 +193,8 @@ module _ (table : ClassTable) (content : Content) (rest : IsStoreAtRest table co
 
         value_of : (k : ℕ) (f : Field) → slice_get (is_object i there).0.fields k ≡ Some f
             → (z : Option Value) → (nth_object content.objects i).fields k ≡ z → is_some z ≡ true
-            → SaysOf N (Some (declared_note f.of)) (field_cell (first_notes table content.objects hs) content.objects i k)
+            → SaysOf N (Some (declared_note f.of))
+            (field_cell (first_notes table content.objects hs) content.objects i k)
         value_of k f ef None e has = absurd (true≢false (sym has))
         value_of k f ef (Some v) e has = subst (SaysOf N (Some (declared_note f.of)))
             (sym (Rattle.ob_coherent_counting_laws.proofs.Objects.field_cell_of notes os i k (Some v) e
@@ -200,7 +208,8 @@ module _ (table : ClassTable) (content : Content) (rest : IsStoreAtRest table co
             let o = is_object i there in
             let ef : slice_get o.0.fields k ≡ Some f =
             sym (field_of_is table (nth_object os i) o.0 k o.1)
-            ∙ ap (λ c. option_and_then (λ (c : Contract). slice_get c.fields k) (contract_at table c)) (sym (more.contract i)) ∙ e in
+            ∙ ap (λ c. option_and_then (λ (c : Contract). slice_get c.fields k) (contract_at table c))
+            (sym (more.contract i)) ∙ e in
             let has : has_field o.0 (nth_object os i).state k ≡ true =
             has_field_from o.0 (nth_object os i).state k f ef (ap (λ z. is_available z f) (sym (more.state i)) ∙ can) in
             subst (SaysOf N (Some (declared_note f.of))) (sym (cells_same i k))

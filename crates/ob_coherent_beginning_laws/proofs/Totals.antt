@@ -1,4 +1,5 @@
--- How many places own an object where a run begins: those of the store, without the handles that are lent, and the uses that own it.
+-- How many places own an object where a run begins: those of the store, without the handles that are lent, and the
+-- uses that own it.
 use Rattle.std.proofs.Common.{◌≡◌, ℕ, zero, suc, ◌+◌, ◌<◌, ◌≤◌, Bool, true, false, not, ◌&&◌, ◌||◌, List, [], ◌∷◌, map, length, Option, Some, refl, sym, ap, subst, ◌∙◌, arith, ⊎_elim, ◌⊎◌, inl, inr, eq-eqb, eqb-true, cond}
 use Rattle.std.specs.Prelude.{nat_eq, nat_lt, slice_get, count_by, fold, if◌then◌else◌}
 use Rattle.std.specs.List.{list_any}
@@ -37,12 +38,14 @@ owned_or_shared Unowned b = omega arith
 -- Handles.
 
 module _ (test : HandleName × Handle → Bool) (n : ℕ) where
-  where_at : (hs : List (HandleName × Handle)) (k : ℕ) (h : HandleName × Handle) → slice_get hs k ≡ Some h → test h ≡ true
+  where_at : (hs : List (HandleName × Handle)) (k : ℕ) (h : HandleName × Handle) → slice_get hs k ≡ Some h
+      → test h ≡ true
       → is_owned h.1.mode ≡ true → h.1.object ≡ n → 0 < owning_where test n hs
   where_at [] k h e is own same = absurd (cc)
   where_at (g ∷ hs) zero h e is own same =
       let z : one_if (test g && (is_owned g.1.mode && nat_eq g.1.object n)) ≡ 1 =
-      subst (λ (x : HandleName × Handle). one_if (test x && (is_owned x.1.mode && nat_eq x.1.object n)) ≡ 1) (sym (same_Some g h e))
+      subst (λ (x : HandleName × Handle). one_if (test x && (is_owned x.1.mode && nat_eq x.1.object n)) ≡ 1)
+      (sym (same_Some g h e))
       (rw (is, own, eq-eqb h.1.object n same) refl) in omega (arith, z)
   where_at (g ∷ hs) (suc k) h e is own same = let rest = where_at hs k h e is own same in omega (arith, rest)
 
@@ -75,7 +78,8 @@ one_cond false = refl
 uses_counted : (n : ℕ) (us : List HandleUse) → count_by (λ (v : HandleUse). nat_eq v.handle.object n) us ≡ uses_of n us
 uses_counted n [] = refl
 uses_counted n (u ∷ us) =
-    let one = count_from (λ (v : HandleUse). cond (nat_eq v.handle.object n) 1 0) (0 + cond (nat_eq u.handle.object n) 1 0) us in
+    let one = count_from (λ (v : HandleUse). cond (nat_eq v.handle.object n) 1 0)
+    (0 + cond (nat_eq u.handle.object n) 1 0) us in
     let two = one_cond (nat_eq u.handle.object n) in
     let three = uses_counted n us in
     omega (arith, one, two, three)
@@ -87,14 +91,16 @@ module _ (n : ℕ) where
       omega (arith, rest, here)
 
   use_found : (test : Mode → Bool) (count : List HandleUse → ℕ) → count [] ≡ 0
-      → ((u : HandleUse) (us : List HandleUse) → count (u ∷ us) ≡ one_if (test u.entry.mode && nat_eq u.handle.object n) + count us)
+      → ((u : HandleUse) (us : List HandleUse) → count (u ∷ us) ≡ one_if
+      (test u.entry.mode && nat_eq u.handle.object n) + count us)
       → (us : List HandleUse) → 0 < count us
       → (k : ℕ) × (u : HandleUse) × (slice_get us k ≡ Some u) × (test u.entry.mode ≡ true) × (u.handle.object ≡ n)
   use_found test count none more [] some = absurd (omega (arith, some, none))
   use_found test count none more (u ∷ us) some = ⊎_elim
       (λ yes. let p = and_parts (test u.entry.mode) (nat_eq u.handle.object n) yes in
       (0, u, refl, p.0, eqb-true u.handle.object n p.1))
-      (λ no. let r = use_found test count none more us (let z = ap one_if no in let y = more u us in omega (arith, some, z, y)) in
+      (λ no. let r = use_found test count none more us
+      (let z = ap one_if no in let y = more u us in omega (arith, some, z, y)) in
       (suc r.0, r.1, r.2, r.3, r.4))
       (cases_Bool (test u.entry.mode && nat_eq u.handle.object n))
 
@@ -153,8 +159,10 @@ module _ (table : ClassTable) (content : Content) (rest : IsStoreAtRest table co
   lent n = owning_where (is_lent us) n content.handles
 
   -- and how many aren't
-  pub carried : (n : ℕ) → in_handles owns n (map (note_of us) content.handles) + lent n ≡ owning_handles n content.handles
-  carried n = handles_owning_but n (is_lent us) (note_of us) content.handles (λ h. refl) (λ h. go (is_lent us h) h.1.mode)
+  pub carried : (n : ℕ) → in_handles owns n (map (note_of us) content.handles) + lent n ≡ owning_handles n
+      content.handles
+  carried n = handles_owning_but n (is_lent us) (note_of us) content.handles (λ h. refl)
+      (λ h. go (is_lent us h) h.1.mode)
     where
       go : (b : Bool) (m : Mode) → owns (if b then unowned else held m any_state) ≡ (is_owned m && not b)
       go true Owned = refl
@@ -222,7 +230,8 @@ module _ (table : ClassTable) (content : Content) (rest : IsStoreAtRest table co
         same_Some r.1.handle h.1.1 (sym r.5 ∙ ap (handle_at content) r.3 ∙ itself) in
         let object : r.1.handle.object ≡ n = ap (λ (x : Handle). x.object) same ∙ h.5 in
         ⊎_elim
-        (λ own. inl (owning_at n us r.0 r.1 r.2 (and_parts (is_owned r.1.handle.mode) (is_owned r.1.entry.mode) own).1 object))
+        (λ own. inl (owning_at n us r.0 r.1 r.2 (and_parts (is_owned r.1.handle.mode) (is_owned r.1.entry.mode) own).1
+        object))
         (λ not. inr (sharing_at n us r.0 r.1 r.2
         (sym (ap (λ b. b || is_shared r.1.entry.mode) not) ∙ r.4) object))
         (cases_Bool (is_owned r.1.handle.mode && is_owned r.1.entry.mode))
@@ -288,7 +297,8 @@ module _ (table : ClassTable) (content : Content) (rest : IsStoreAtRest table co
         (zero_or (owning_uses n us))
 
     -- an asset that must have an owner has one
-    pub total_asset : is_asset table (nth_object content.objects n) ≡ true → (nth_object content.objects n).shared ≡ false
+    pub total_asset : is_asset table (nth_object content.objects n) ≡ true
+        → (nth_object content.objects n).shared ≡ false
         → (nth_object content.objects n).disowned ≡ false → sharing_uses n us ≡ 0
         → lent n < owning_uses n us + owners table content n
     total_asset asset unshared kept none =

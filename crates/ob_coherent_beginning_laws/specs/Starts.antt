@@ -1,4 +1,5 @@
--- How a run from outside begins: coherently, or it aborts (Coblenz et al., TOPLAS 42(3), 2020, "Silica"; the statements are
+-- How a run from outside begins: coherently, or it aborts (Coblenz et al., TOPLAS 42(3), 2020, "Silica"; the
+-- statements are
 -- this project's own).
 use Rattle.std.specs.Prelude.{◌≡◌, ℕ, List, ◌∷◌, Option, Some, None}
 use Rattle.ob_heap_spec.specs.Values.{Value, reference}
@@ -66,7 +67,8 @@ started_on program e (Some u) values notes w = started_call program e.contract e
 abbrev pub started : SilicaProgram → Content → ℕ → Entry → NextStep
 started program content fuel e =
     started_on program e e.receiver (values_of content e)
-    (first_notes program.table (entry_world content fuel e).objects (handle_notes content e)) (entry_world content fuel e)
+    (first_notes program.table (entry_world content fuel e).objects (handle_notes content e))
+    (entry_world content fuel e)
 
 -- the run of a request begins coherently, or it aborts
 abbrev pub RequestStarts : SilicaProgram → Content → ℕ → Entry → Type 0

@@ -57,7 +57,8 @@ abbrev pub uses_of : ℕ → List HandleUse → ℕ
 uses_of n [] = 0
 uses_of n (u ∷ us) = one_if (nat_eq u.handle.object n) + uses_of n us
 
--- A use of a handle of the store whose mode serves, or which is Shared and calls where its object is locked; the object of an
+-- A use of a handle of the store whose mode serves, or which is Shared and calls where its object is locked; the
+-- object of an
 -- owner is in one of the declared states.
 pub record IsUse (table : ClassTable) (content : Content) (entry : Option ℕ) (u : HandleUse) : Type 0 where
   pub there : u.handle.object < length content.objects
