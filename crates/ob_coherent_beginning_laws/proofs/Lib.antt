@@ -9,3 +9,4 @@ pub mod Call
 pub mod CallBegins
 pub mod New
 pub mod NewBegins
+pub mod Begins

@@ -1,5 +1,5 @@
 -- What a test finds in none of the items of a list.
-use Rattle.std.proofs.Common.{◌≡◌, ℕ, zero, suc, ◌+◌, ◌<◌, Bool, true, false, cond, ◌&&◌, ◌||◌, List, [], ◌∷◌, ◌++◌, map, filter, length, Option, Some, None, refl, sym, ap, ◌∙◌, subst, arith, ⊎_elim, true≢false}
+use Rattle.std.proofs.Common.{◌≡◌, ℕ, zero, suc, ◌+◌, Bool, true, false, cond, ◌&&◌, ◌||◌, List, [], ◌∷◌, ◌++◌, map, filter, Option, Some, None, refl, sym, ap, ◌∙◌, subst, arith, ⊎_elim, true≢false}
 use Rattle.std.specs.Prelude.{slice_get, find, filter_map, flat_map}
 use Rattle.std.specs.List.{list_any, enumerate_from, cons_option}
 use Rattle.std.proofs.lemmas.Bool.{cases_Bool, or_parts}
@@ -8,7 +8,8 @@ use Rattle.std.proofs.lemmas.Option.{same_Some}
 pub none_at : {A : Type 0} (test : A → Bool) (xs : List A) (k : ℕ) (x : A) → list_any test xs ≡ false
     → slice_get xs k ≡ Some x → test x ≡ false
 none_at test [] k x none e = absurd (cc)
-none_at test (y ∷ xs) zero x none e = subst (λ z. test z ≡ false) (same_Some y x e) (or_parts (test y) (list_any test xs) none).0
+none_at test (y ∷ xs) zero x none e = subst (λ z. test z ≡ false) (same_Some y x e)
+    (or_parts (test y) (list_any test xs) none).0
 none_at test (y ∷ xs) (suc k) x none e = none_at test xs k x (or_parts (test y) (list_any test xs) none).1 e
 
 pub any_at : {A : Type 0} (test : A → Bool) (xs : List A) (k : ℕ) (x : A) → slice_get xs k ≡ Some x → test x ≡ true
@@ -52,7 +53,8 @@ pub none_flat_map : {A B : Type 0} (test : B → Bool) (h : A → List B) (xs : 
 none_flat_map test h [] k x none e = absurd (cc)
 none_flat_map test h (y ∷ xs) zero x none e = subst (λ z. list_any test (h z) ≡ false) (same_Some y x e)
     (none_append test (h y) (flat_map h xs) none).0
-none_flat_map test h (y ∷ xs) (suc k) x none e = none_flat_map test h xs k x (none_append test (h y) (flat_map h xs) none).1 e
+none_flat_map test h (y ∷ xs) (suc k) x none e = none_flat_map test h xs k x
+    (none_append test (h y) (flat_map h xs) none).1 e
 
 none_cons : {B : Type 0} (test : B → Bool) (o : Option B) (ys : List B) → list_any test (cons_option o ys) ≡ false
     → ((y : B) → o ≡ Some y → test y ≡ false) × (list_any test ys ≡ false)

@@ -1,8 +1,8 @@
 -- The constructor of a `new` from outside begins.
-use Rattle.std.proofs.Common.{◌≡◌, ◌≢◌, ℕ, zero, suc, ◌+◌, ◌<◌, ◌≤◌, Bool, true, false, List, [], ◌∷◌, ◌++◌, map, length, Option, Some, None, refl, sym, ap, subst, ◌∙◌, arith, ⊎_elim, ◌⊎◌, inl, inr, true≢false, eq-eqb}
+use Rattle.std.proofs.Common.{◌≡◌, ◌≢◌, ℕ, suc, ◌+◌, ◌<◌, ◌≤◌, true, false, List, [], ◌∷◌, ◌++◌, map, length, Option, Some, None, refl, sym, ap, subst, ◌∙◌, arith, ⊎_elim, ◌⊎◌, inl, inr, eq-eqb}
 use Rattle.std.specs.Prelude.{nat_eq, slice_get, option_map}
 use Rattle.std.specs.List.{list_any}
-use Rattle.std.proofs.lemmas.Bool.{cases_Bool, both_ways, cases_lt}
+use Rattle.std.proofs.lemmas.Bool.{both_ways, cases_lt}
 use Rattle.std.proofs.lemmas.Bool.Decides.{eqb_tells}
 use Rattle.std.proofs.lemmas.List.{length-map}
 use Rattle.std.proofs.lemmas.Option.{same_Some}
@@ -11,7 +11,6 @@ use Rattle.ob_perm.specs.States.{States, only, stateless}
 use Rattle.ob_perm.specs.Permissions.{owned, owns}
 use Rattle.ob_table.specs.Tables.{ClassTable, contract_at, signature_at}
 use Rattle.ob_table.specs.declared.contract.Contract.{Contract}
-use Rattle.ob_table.specs.declared.contract.Field.{Field}
 use Rattle.ob_table.specs.declared.contract.ResolvedType.{ResolvedType}
 use Rattle.ob_table.specs.declared.contract.Signature.{Signature}
 use Rattle.ob_table.specs.declared.seen.Kind.TheVariants.{Reference}
@@ -24,7 +23,7 @@ use Rattle.ob_heap_spec.specs.Worlds.{World, make_object}
 use Rattle.ob_silica_places.specs.Known.{Known, at}
 use Rattle.ob_silica_places.specs.Parameters.{Parameter, parameters, parameter_of}
 use Rattle.ob_silica_steps.specs.Calling.{constructor_id}
-use Rattle.ob_silica_steps.specs.Cells.{Cell, cell, value_in}
+use Rattle.ob_silica_steps.specs.Cells.{value_in}
 use Rattle.ob_silica_steps.specs.Configurations.{SilicaProgram, SlotCells, SilicaFrame, by_new, runs, Configuration}
 use Rattle.ob_silica_steps.specs.Here.{here, self_of, field_of}
 use Rattle.ob_silica_steps.specs.Binding.{bound_cell}
@@ -34,8 +33,8 @@ use Rattle.ob_silica_formed.specs.Holdings.{held_at_start}
 use Rattle.ob_flow_spec.specs.Contexts.{BodyFrame, available, field_known, beginning}
 use Rattle.ob_places_laws.proofs.Beginnings.{this_of_constructor, beginning_unset}
 use Rattle.ob_places_laws.proofs.Conversions.{serves_itself}
-use Rattle.ob_coherent_spec.specs.Counting.{Counted, any, nth_object, one_if, field_cell, in_cell, in_slots, in_objects, in_handles, owners, references}
-use Rattle.ob_coherent_spec.specs.Runs.{times, entries, constructions, locks}
+use Rattle.ob_coherent_spec.specs.Counting.{Counted, any, nth_object, one_if, field_cell, in_cell, in_slots, in_objects, owners, references}
+use Rattle.ob_coherent_spec.specs.Runs.{times, constructions}
 use Rattle.ob_coherent_spec.specs.Standing.{Stands, AllStand, HasItsState, HandlesStand, IsObjectInRun, NeedsOwner, is_in}
 use Rattle.ob_coherent_spec.specs.Saying.{SaysOf, own_object, own_cell}
 use Rattle.ob_coherent_spec.specs.Remaining.{IsCheckedProgram, BodyParts, body_of}
@@ -50,7 +49,7 @@ use Rattle.ob_coherent_counting_laws.proofs.Passing.{passed_slots, passed_before
 use Rattle.ob_coherent_counting_laws.proofs.Places.{no_slots, objects_make, all_refer}
 use Rattle.ob_coherent_counting_laws.proofs.Sums.{at_same, at_other}
 use Rattle.ob_coherent_places_laws.proofs.Standing.{made_stands}
-use Rattle.ob_coherent_calls_laws.specs.Bound.{IsBoundTo, AreBound}
+use Rattle.ob_coherent_calls_laws.specs.Bound.{AreBound}
 use Rattle.ob_coherent_calls_laws.specs.Entered.{BeginsOn}
 use Rattle.ob_coherent_calls_laws.proofs.Within.{are_all_within}
 use Rattle.ob_coherent_calls_laws.proofs.Entered.{begins_self, begins_stand, begins_held, begins_frame, begins_says}
@@ -85,7 +84,8 @@ passed_low table objects m past [] (p ∷ ps) xs all = absurd all
 passed_low table objects m past (v ∷ vs) [] xs all = absurd all
 passed_low table objects m past (v ∷ vs) (p ∷ ps) [] all = absurd all
 passed_low table objects m past (v ∷ vs) (p ∷ ps) (x ∷ xs) all =
-    let one = one_low table objects m past p.of v x all.0 in let rest = passed_low table objects m past vs ps xs all.1 in
+    let one = one_low table objects m past p.of v x all.0 in let rest = passed_low table objects m past vs ps xs all.1
+    in
     omega (arith, one, rest)
 
 -- bound slots where an object is made
@@ -98,7 +98,8 @@ bound_made table os o slots k (p ∷ ps) b = (
 )
 
 seen_itself : (table : ClassTable) (contract : ContractId) → seen_state table contract (unfinished contract) ≡ stateless
-seen_itself table contract = ap (λ e. Rattle.std.specs.Prelude.if◌then◌else◌ e stateless (seen_between (contract_at table contract)
+seen_itself table contract = ap
+    (λ e. Rattle.std.specs.Prelude.if◌then◌else◌ e stateless (seen_between (contract_at table contract)
     (contract_at table contract) stateless)) (eq-eqb contract.0 contract.0 refl)
 
 no_state : (a : States) → owned (only stateless) ≡ owned a → a stateless ≡ true
@@ -109,7 +110,8 @@ module _ (program : SilicaProgram) (is : IsCheckedProgram program) (content : Co
     (rest : IsStoreAtRest program.table content) (contract : ContractId) (own : Contract) (s : Signature)
     (args : List Value) (xs : List (Option HandleUse))
     (passed : ArePassed program.table content.objects args (parameters s) xs)
-    (uses : AreUses program.table content None (uses_in xs)) (once : list_any (is_repeated (uses_in xs)) (uses_in xs) ≡ false)
+    (uses : AreUses program.table content None (uses_in xs))
+    (once : list_any (is_repeated (uses_in xs)) (uses_in xs) ≡ false)
     (ec : contract_at program.table contract ≡ Some own) (class : own.interface ≡ false)
     (es : signature_at own constructor_id ≡ Some s) (makes : IsConstructor program.table own s)
     (wr : World) (more : AreMarked content.objects wr.objects)
@@ -178,14 +180,16 @@ module _ (program : SilicaProgram) (is : IsCheckedProgram program) (content : Co
   unset = passed_before args 1 (parameters s) nothing 0 (omega arith)
 
   pub first_bound : AreBound program.table wr.objects (passed_slots args 1 (parameters s) nothing) 1 (parameters s)
-  first_bound = passed_bound program.table content None wr.objects more args (parameters s) xs first_slots 1 passed uses marks
+  first_bound = passed_bound program.table content None wr.objects more args (parameters s) xs first_slots 1 passed
+      uses marks
       (λ i v p ev ep. passed_at args 1 (parameters s) nothing i v p ev ep)
 
   pub within : are_within program.table wr.objects (passed_slots args 1 (parameters s) nothing) 1 (parameters s) ≡ true
   within = are_all_within program.table wr.objects first_slots 1 (parameters s) first_bound
 
   slots_after : (j : ℕ) → 1 ≤ j → f.slots j ≡ first_slots j
-  slots_after j low = at_other first_slots 0 (Some (new_cell contract (length wr.objects))) j (λ e. omega (arith, e, low))
+  slots_after j low = at_other first_slots 0 (Some (new_cell contract (length wr.objects))) j
+      (λ e. omega (arith, e, low))
 
   bound_after : AreBound program.table w.objects f.slots 1 (parameters s)
   bound_after = bound_slots program.table w.objects first_slots f.slots 1 (parameters s) slots_after
@@ -228,7 +232,8 @@ module _ (program : SilicaProgram) (is : IsCheckedProgram program) (content : Co
       let three = no_slots counts m nothing (λ j. refl) in
       omega (arith, one, two, three)
 
-  objects_count : (counts : Counted) (m : ℕ) → in_objects counts m d.notes w.objects ≡ in_objects counts m d.notes content.objects
+  objects_count : (counts : Counted) (m : ℕ) → in_objects counts m d.notes w.objects ≡ in_objects counts m d.notes
+      content.objects
   objects_count counts m = objects_make counts m d.notes wr (unfinished contract) (λ j. refl)
       ∙ marked_counts program.table content rest (map (note_of (uses_in xs)) content.handles) wr.objects more counts m
 
@@ -240,9 +245,9 @@ module _ (program : SilicaProgram) (is : IsCheckedProgram program) (content : Co
       let here = slots_count owns m in
       let pass = passed_owns program.table content.objects m args (parameters s) xs passed in
       let z = total_is program.table is.table content rest None (uses_in xs) uses once m (in_slots owns m f.slots)
-          (in_objects owns m d.notes w.objects)
-          (let y : in_slots owns m f.slots ≡ owning_uses m (uses_in xs) = omega (arith, cell, none, here, pass) in y)
-          (objects_count owns m) in
+      (in_objects owns m d.notes w.objects)
+      (let y : in_slots owns m f.slots ≡ owning_uses m (uses_in xs) = omega (arith, cell, none, here, pass) in y)
+      (objects_count owns m) in
       omega (arith, z)
 
   -- an object that is no older one is referred to by the constructor alone
@@ -250,13 +255,14 @@ module _ (program : SilicaProgram) (is : IsCheckedProgram program) (content : Co
   past_references m past =
       let cell : in_cell any m (Some (new_cell contract (length wr.objects))) ≡ one_if (nat_eq next m) = refl in
       let here = slots_count any m in
-      let none = passed_low program.table content.objects m (let e = next_is in omega (arith, e, past)) args (parameters s) xs passed in
+      let none = passed_low program.table content.objects m (let e = next_is in omega (arith, e, past)) args
+      (parameters s) xs passed in
       let objects = objects_make any m d.notes wr (unfinished contract) (λ j. refl) in
       let two = objects_past program.table wr.objects m past d.notes
-          (marked_stand program.table content rest (map (note_of (uses_in xs)) content.handles) wr.objects more) in
+      (marked_stand program.table content rest (map (note_of (uses_in xs)) content.handles) wr.objects more) in
       let three = handles_past program.table wr.objects m past (map (note_of (uses_in xs)) content.handles)
-          (handles_stand content.objects (uses_in xs) content.handles (length content.objects) (omega arith)
-          rest.is_content.handles wr.objects (let e = more.count in omega (arith, e))) in
+      (handles_stand content.objects (uses_in xs) content.handles (length content.objects) (omega arith)
+      rest.is_content.handles wr.objects (let e = more.count in omega (arith, e))) in
       omega (arith, cell, here, none, objects, two, three)
 
   past_owners : (m : ℕ) → next ≤ m → owners m d ≡ one_if (nat_eq next m)
@@ -274,12 +280,14 @@ module _ (program : SilicaProgram) (is : IsCheckedProgram program) (content : Co
   low_or_past m = cases_lt m next
 
   -- an object that isn't older is neither shared nor disowned
-  past_plain : (m : ℕ) → next ≤ m → ((nth_object w.objects m).shared ≡ false) × ((nth_object w.objects m).disowned ≡ false)
+  past_plain : (m : ℕ) → next ≤ m → ((nth_object w.objects m).shared ≡ false)
+      × ((nth_object w.objects m).disowned ≡ false)
       × ((k : ℕ) → (nth_object w.objects m).fields k ≡ None)
   past_plain m past = ⊎_elim
       (λ same. subst (λ i. ((nth_object w.objects i).shared ≡ false) × ((nth_object w.objects i).disowned ≡ false)
       × ((k : ℕ) → (nth_object w.objects i).fields k ≡ None)) (sym same.1)
-      (subst (λ (o : Object). (o.shared ≡ false) × (o.disowned ≡ false) × ((k : ℕ) → o.fields k ≡ None)) (sym new_object)
+      (subst (λ (o : Object). (o.shared ≡ false) × (o.disowned ≡ false) × ((k : ℕ) → o.fields k ≡ None))
+      (sym new_object)
       (refl, refl, λ k. refl)))
       (λ other. subst (λ (o : Object). (o.shared ≡ false) × (o.disowned ≡ false) × ((k : ℕ) → o.fields k ≡ None))
       (sym (no_object w.objects m (let z = new_count in let ne : m ≢ next = other.1 in omega (arith, z, past))))
@@ -324,10 +332,11 @@ module _ (program : SilicaProgram) (is : IsCheckedProgram program) (content : Co
       })))
       (low_or_new m below)
 
-  declared_now : (m : ℕ) → m < next → IsAsDeclared program.table (NeedsOwner program.table w.objects) d.notes w.objects m
+  declared_now : (m : ℕ) → m < next → IsAsDeclared program.table (NeedsOwner program.table w.objects) d.notes
+      w.objects m
   declared_now m low =
       let was = marked_declared program.table content rest (map (note_of (uses_in xs)) content.handles) wr.objects more
-          (NeedsOwner program.table w.objects) m low in
+      (NeedsOwner program.table w.objects) m low in
       record {
         placed = subst (HasItsState program.table) (sym (old_object m low)) was.placed;
         fields = λ k g e can. subst (SaysOf (NeedsOwner program.table w.objects) (Some (declared_note g.of)))
@@ -344,7 +353,8 @@ module _ (program : SilicaProgram) (is : IsCheckedProgram program) (content : Co
   -- The whole.
 
   frame_is : IsFrame program.table w.objects f parts
-  frame_is = begins_frame program.table w.objects f s (owned (only stateless)) (length wr.objects) begun own begins.slots
+  frame_is = begins_frame program.table w.objects f s (owned (only stateless)) (length wr.objects) begun own
+      begins.slots
       ec class es begins.few begins.params (ap (λ (o : Object). o.contract) new_object) (λ e. refl) (λ e. refl)
       (λ e. makes.listed)
 
@@ -383,19 +393,22 @@ module _ (program : SilicaProgram) (is : IsCheckedProgram program) (content : Co
         (owners_are m low) wr.objects more (newly m) (marks m))
         (λ past. let z = past_owners m past in let y = one_or_none m in omega (arith, z, y)) (low_or_past m);
     disowned = λ m mark unshared. ⊎_elim
-        (λ low. whole_disowned program.table is.table content rest None (uses_in xs) uses once m (stored m low) (owners m d)
+        (λ low. whole_disowned program.table is.table content rest None (uses_in xs) uses once m (stored m low)
+        (owners m d)
         (owners_are m low) wr.objects more (newly m) (marks m)
         (ap (λ (o : Object). o.disowned) (sym (old_object m low)) ∙ mark)
         (ap (λ (o : Object). o.shared) (sym (old_object m low)) ∙ unshared))
         (λ past. absurd (both_ways _ (past_plain m past).1 mark)) (low_or_past m);
     shared = λ m mark some. ⊎_elim
-        (λ low. absurd (let z : None ≡ Some m = whole_shared program.table is.table content rest None (uses_in xs) uses once m
+        (λ low. absurd (let z : None ≡ Some m = whole_shared program.table is.table content rest None
+        (uses_in xs) uses once m
         (stored m low) (owners m d) (owners_are m low) wr.objects more (newly m) (marks m)
         (ap (λ (o : Object). o.shared) (sym (old_object m low)) ∙ mark) some in cc))
         (λ past. absurd (both_ways _ (past_plain m past).0 mark)) (low_or_past m);
     tested = λ m some. absurd (omega (arith, some));
     assets = λ m must. ⊎_elim
-        (λ low. whole_assets program.table is.table content rest None (uses_in xs) uses once m (stored m low) (owners m d)
+        (λ low. whole_assets program.table is.table content rest None (uses_in xs) uses once m (stored m low)
+        (owners m d)
         (owners_are m low) wr.objects more (newly m) (marks m) (old_needs m low must))
         (λ same. subst (λ i. 0 < owners i d) (sym same)
         (let z = past_owners next (omega arith) in let y = one_same next in omega (arith, z, y)))
@@ -428,11 +441,11 @@ module _ (program : SilicaProgram) (is : IsCheckedProgram program) (content : Co
       → SaysOf (NeedsOwner program.table w.objects) (field_known bf j) (own_cell (here d) j)
   fields_say j can =
       let object_is : nth_object w.objects (self_of f.slots) ≡ unfinished contract =
-          ap (nth_object w.objects) self_is ∙ new_object in
+      ap (nth_object w.objects) self_is ∙ new_object in
       let top : available bf j stateless ≡ true =
-          subst (λ (o : Object). available bf j (state_number o.state) ≡ true) object_is can in
+      subst (λ (o : Object). available bf j (state_number o.state) ≡ true) object_is can in
       let none : field_cell d.notes w.objects (self_of f.slots) j ≡ None =
-          field_cell_of d.notes w.objects (self_of f.slots) j None (ap (λ (o : Object). o.fields j) object_is) in
+      field_cell_of d.notes w.objects (self_of f.slots) j None (ap (λ (o : Object). o.fields j) object_is) in
       subst (λ y. SaysOf (NeedsOwner program.table w.objects) y (own_cell (here d) j))
       (sym (beginning_unset bf j refl top))
       (subst (SaysOf (NeedsOwner program.table w.objects) None) (sym none)

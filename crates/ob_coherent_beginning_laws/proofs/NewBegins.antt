@@ -1,6 +1,6 @@
 -- A `new` from outside begins coherently, or aborts.
-use Rattle.std.proofs.Common.{◌≡◌, ℕ, zero, suc, ◌<◌, Bool, true, false, not, List, [], ◌∷◌, map, length, Option, Some, None, refl, sym, ap, subst, ◌∙◌, arith, ⊎_elim}
-use Rattle.std.specs.Prelude.{nat_le, slice_get, if◌then◌else◌}
+use Rattle.std.proofs.Common.{◌≡◌, ℕ, ◌<◌, true, false, List, [], map, length, Option, Some, None, refl, sym, ap, subst, ◌∙◌, ⊎_elim}
+use Rattle.std.specs.Prelude.{nat_le, if◌then◌else◌}
 use Rattle.std.specs.List.{list_any, list_all}
 use Rattle.std.proofs.lemmas.Bool.{cases_Bool}
 use Rattle.std.proofs.lemmas.Option.{same_Some}
@@ -13,7 +13,7 @@ use Rattle.ob_table.specs.declared.contract.Signature.{Signature}
 use Rattle.ob_table_spec.specs.Conditions.{IsConstructor}
 use Rattle.ob_table_spec.specs.WellFormed.{constructor_at}
 use Rattle.ob_heap_spec.specs.Values.{Value, nothing}
-use Rattle.ob_heap_spec.specs.Objects.{Object, unfinished}
+use Rattle.ob_heap_spec.specs.Objects.{unfinished}
 use Rattle.ob_heap_spec.specs.Contents.{Content}
 use Rattle.ob_heap_spec.specs.Worlds.{World, first_world, with_unit_taken, next_item, with_read, make_object, by_full}
 use Rattle.ob_silica.specs.Terms.{SilicaTerms}
@@ -26,7 +26,7 @@ use Rattle.ob_silica_steps.specs.Starting.{first_notes, pass_all, alone, started
 use Rattle.ob_places_laws.proofs.Tables.{constructor_found}
 use Rattle.ob_coherent_spec.specs.Counting.{nth_object}
 use Rattle.ob_coherent_spec.specs.Remaining.{IsCheckedProgram}
-use Rattle.ob_coherent_spec.specs.Coherent.{Beginning, IsRunning, running, StepsSo}
+use Rattle.ob_coherent_spec.specs.Coherent.{Beginning, running, StepsSo}
 use Rattle.ob_coherent_counting_laws.proofs.Passing.{passed_slots, passed_world, passes, passed_keeps}
 use Rattle.ob_rest_spec.specs.AtRest.{IsStoreAtRest}
 use Rattle.ob_invocation_spec.specs.Requests.{NewRequest}
@@ -50,7 +50,8 @@ module _ (program : SilicaProgram) (is : IsCheckedProgram program) (content : Co
     (rest : IsStoreAtRest program.table content) (contract : ContractId) (own : Contract) (s : Signature)
     (args : List Value) (xs : List (Option HandleUse))
     (passed : ArePassed program.table content.objects args (parameters s) xs)
-    (uses : AreUses program.table content None (uses_in xs)) (once : list_any (is_repeated (uses_in xs)) (uses_in xs) ≡ false)
+    (uses : AreUses program.table content None (uses_in xs))
+    (once : list_any (is_repeated (uses_in xs)) (uses_in xs) ≡ false)
     (ec : contract_at program.table contract ≡ Some own) (class : own.interface ≡ false)
     (es : signature_at own constructor_id ≡ Some s) (makes : IsConstructor program.table own s)
     (made_at : constructor_at program.table contract ≡ Some s) (fuel : ℕ) where
@@ -94,7 +95,8 @@ module _ (program : SilicaProgram) (is : IsCheckedProgram program) (content : Co
     quiet = (passed_keeps args (parameters s) w0).progress
 
     into : NextStep
-    into = enters program (entered_new (record (alone slots notes x) { world = wr }) contract) contract constructor_id by_new false
+    into = enters program (entered_new (record (alone slots notes x) { world = wr }) contract) contract constructor_id
+        by_new false
 
     room : NextStep
     room = if are_within program.table wr.objects slots 1 (parameters s) then into else stuck
@@ -102,33 +104,41 @@ module _ (program : SilicaProgram) (is : IsCheckedProgram program) (content : Co
     into_so : StepsSo program.table None begun_with into
     unfolding into
     into_so = subst (λ z. StepsSo program.table None begun_with (if_there z (λ (terms : SilicaTerms). goes (record {
-      frame = Rattle.ob_coherent_beginning_laws.proofs.New.f program is content rest contract own s args xs passed uses once
+      frame = Rattle.ob_coherent_beginning_laws.proofs.New.f program is content rest contract own s args xs passed
+          uses once
           ec class es makes wr marked_one newly marks locked quiet;
       control = runs terms [];
       stack = [];
       notes = notes;
       world = make_object wr (unfinished contract);
     }))))
-        (sym (begins program is content rest contract own s args xs passed uses once ec class es makes wr marked_one newly marks
+        (sym (begins program is content rest contract own s args xs passed uses once ec class es makes wr marked_one
+        newly marks
         locked quiet).found)
-        (running (made_runs program is content rest contract own s args xs passed uses once ec class es makes wr marked_one
+        (running (made_runs program is content rest contract own s args xs passed uses once ec class es makes wr
+        marked_one
         newly marks locked quiet))
 
     room_so : StepsSo program.table None begun_with room
     unfolding room
     room_so = subst (λ z. StepsSo program.table None begun_with (if z then into else stuck))
-        (sym (within program is content rest contract own s args xs passed uses once ec class es makes wr marked_one newly marks
+        (sym (within program is content rest contract own s args xs passed uses once ec class es makes wr marked_one
+        newly marks
         locked quiet)) into_so
 
-    makes_so : StepsSo program.table None begun_with (makes_object program (alone slots notes x) contract constructor_id s)
+    makes_so : StepsSo program.table None begun_with
+        (makes_object program (alone slots notes x) contract constructor_id s)
     unfolding room into
     makes_so = ⊎_elim
-        (λ full. subst (λ z. StepsSo program.table None begun_with (if z then abort_step by_full wr else room)) (sym full) tt)
-        (λ some. subst (λ z. StepsSo program.table None begun_with (if z then abort_step by_full wr else room)) (sym some) room_so)
+        (λ full. subst (λ z. StepsSo program.table None begun_with (if z then abort_step by_full wr else room))
+        (sym full) tt)
+        (λ some. subst (λ z. StepsSo program.table None begun_with (if z then abort_step by_full wr else room))
+        (sym some) room_so)
         (cases_Bool (nat_le most_objects (length w1.objects)))
 
   pub new_starts : StepsSo program.table None begun_with (started_new program contract args
-      (first_notes program.table content.objects (map (note_of (uses_in xs)) content.handles)) (first_world content.objects fuel))
+      (first_notes program.table content.objects (map (note_of (uses_in xs)) content.handles))
+      (first_world content.objects fuel))
   new_starts = subst (StepsSo program.table None begun_with)
       (sym (ap (λ o. if_there o (λ (s : Signature).
       pass_all args 1 (parameters s) nothing w0 (λ slots v.
@@ -173,19 +183,22 @@ module _ (program : SilicaProgram) (is : IsCheckedProgram program) (content : Co
   used = arguments_used program.table content rest None who s.params r.args
       (ap (list_all use_serves) (sym (uses_are program.table content who s.params r.args)) ∙ ok.args)
       (ap (list_any (is_outside_use program.table content.objects)) (sym uses_same)
-      ∙ find_none (is_outside_use program.table content.objects) (handle_uses content (entered who r contract s)) inside)
+      ∙ find_none (is_outside_use program.table content.objects) (handle_uses content (entered who r contract s))
+      inside)
 
   pub parts_begin : (fuel : ℕ) → NewStarts program content fuel (entered who r contract s)
   parts_begin fuel =
-      let made = constructor_found program.table is.table contract s es in
-      (refl, subst (λ us. StepsSo program.table None (new_beginning content (entered who r contract s))
-      (started_new program contract (values_of content (entered who r contract s))
-      (first_notes program.table content.objects (map (note_of us) content.handles))
-      (entry_world content fuel (entered who r contract s)))) (sym uses_same)
-      (new_starts program is content rest contract made.0 s (values_of content (entered who r contract s)) xs
-      (args_passed program.table content who s.params r.args ok.count ok.kinds) used
-      (subst (λ us. list_any (is_repeated us) us ≡ false) uses_same ok.once)
-      made.1 made.2 made.3 made.4 es fuel))
+      let made = constructor_found program.table is.table contract s es in (
+        refl,
+        subst (λ us. StepsSo program.table None (new_beginning content (entered who r contract s))
+            (started_new program contract (values_of content (entered who r contract s))
+            (first_notes program.table content.objects (map (note_of us) content.handles))
+            (entry_world content fuel (entered who r contract s)))) (sym uses_same)
+            (new_starts program is content rest contract made.0 s (values_of content (entered who r contract s)) xs
+            (args_passed program.table content who s.params r.args ok.count ok.kinds) used
+            (subst (λ us. list_any (is_repeated us) us ≡ false) uses_same ok.once)
+            made.1 made.2 made.3 made.4 es fuel),
+      )
 
 -- A `new` that is found, isn't refused and passes the entry test begins coherently, or aborts.
 pub new_begins : (program : SilicaProgram) → IsCheckedProgram program → (content : Content)
@@ -194,7 +207,7 @@ pub new_begins : (program : SilicaProgram) → IsCheckedProgram program → (con
     → first_outside_use program.table content e ≡ None → (fuel : ℕ) → NewStarts program content fuel e
 new_begins program is content rest who r e found =
     let one = found_then (contract_named program.table.contracts r.contract) (λ contract.
-        constructor_at program.table contract >>= λ s. Some (entered who r contract s)) e found in
+    constructor_at program.table contract >>= λ s. Some (entered who r contract s)) e found in
     let two = found_then (constructor_at program.table one.0) (λ s. Some (entered who r one.0 s)) e one.2 in
     subst (λ (e : Entry). refusal_of (entry_checks program.table content e) ≡ None
     → first_outside_use program.table content e ≡ None → (fuel : ℕ) → NewStarts program content fuel e)

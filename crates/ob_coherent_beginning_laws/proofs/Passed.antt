@@ -3,12 +3,11 @@ use Rattle.std.proofs.Common.{◌≡◌, ◌≢◌, ℕ, zero, suc, ◌+◌, ◌
 use Rattle.std.specs.Prelude.{nat_eq, slice_get}
 use Rattle.std.specs.List.{cons_option}
 use Rattle.std.proofs.lemmas.Bool.{cases_Bool, both_ways}
-use Rattle.std.proofs.lemmas.Option.{same_Some}
 use Rattle.ob_base.specs.declared.permission.Mode.{Mode}
 use Rattle.ob_base.specs.declared.permission.Mode.TheVariants.{Owned, Shared, Unowned}
 use Rattle.ob_base.specs.declared.permission.Perm.{Perm}
 use Rattle.ob_perm.specs.States.{States}
-use Rattle.ob_perm.specs.Permissions.{Permission, owned, shared, unowned, owns}
+use Rattle.ob_perm.specs.Permissions.{owned, shared, unowned, owns}
 use Rattle.ob_perm.specs.Permissions.{is_shared as shares}
 use Rattle.ob_perm.specs.Masks.{states_of, held, permission_of}
 use Rattle.ob_table.specs.Tables.{ClassTable}
@@ -16,29 +15,27 @@ use Rattle.ob_table.specs.declared.contract.ResolvedType.{ResolvedType}
 use Rattle.ob_table.specs.declared.contract.ResolvedType.TheVariants.{Reference as TypedReference}
 use Rattle.ob_table.specs.declared.seen.Kind.TheVariants.{Reference}
 use Rattle.ob_table_spec.specs.WellFormed.{kind_of_resolved}
-use Rattle.ob_heap_spec.specs.Values.{Value, reference, referred}
+use Rattle.ob_heap_spec.specs.Values.{Value, reference}
 use Rattle.ob_heap_spec.specs.Objects.{Object, is_in_states}
 use Rattle.ob_heap_spec.specs.Contents.{Content}
 use Rattle.ob_heap_spec.specs.Worlds.{World}
 use Rattle.ob_heap_spec.specs.Marks.{comes_into}
 use Rattle.ob_silica_places.specs.Known.{permission_of_type}
 use Rattle.ob_silica_places.specs.Parameters.{Parameter}
-use Rattle.ob_silica_steps.specs.Cells.{Cell}
 use Rattle.ob_silica_steps.specs.Configurations.{SlotCells}
 use Rattle.ob_silica_steps.specs.Binding.{bound_cell}
 use Rattle.ob_rest_spec.specs.Modes.{is_owned, is_shared}
 use Rattle.ob_invocation_spec.specs.Entries.{HandleUse}
 use Rattle.ob_coherent_spec.specs.Counting.{nth_object, one_if, in_cell}
-use Rattle.ob_coherent_spec.specs.Standing.{IsOfKind, RefersToShared, RefersToIn, Stands}
+use Rattle.ob_coherent_spec.specs.Standing.{Stands}
 use Rattle.ob_coherent_counting_laws.proofs.Cells.{cell_uncounted}
 use Rattle.ob_coherent_counting_laws.proofs.Marking.{Keeps, comes_keeps, comes_disowned, comes_newly_shared, comes_shared}
 use Rattle.ob_coherent_counting_laws.proofs.Passing.{passed_world, passed_keeps, in_passed}
 use Rattle.ob_coherent_places_laws.proofs.Standing.{stands_keeps, seen_same}
-use Rattle.ob_coherent_calls_laws.specs.Bound.{IsBoundTo, AreBound}
-use Rattle.ob_coherent_beginning_laws.specs.Uses.{owning_uses, sharing_uses, IsUse, AreUses}
+use Rattle.ob_coherent_calls_laws.specs.Bound.{AreBound}
+use Rattle.ob_coherent_beginning_laws.specs.Uses.{owning_uses, sharing_uses, AreUses}
 use Rattle.ob_coherent_beginning_laws.specs.Marked.{AreMarked}
 use Rattle.ob_coherent_beginning_laws.specs.Passed.{IsPassed, ArePassed, uses_in}
-use Rattle.ob_coherent_beginning_laws.proofs.Stored.{marked_keep}
 
 -- Modes.
 
@@ -62,7 +59,8 @@ shared_states : (p : Perm) (a : States) → permission_of p ≡ owned a → a �
 shared_states p a e = go p.mode refl
   where
     go : (m : Mode) → p.mode ≡ m → a ≡ states_of p.states
-    go Owned is = let z : owned (states_of p.states) ≡ owned a = sym (ap (λ m. held m (states_of p.states)) is) ∙ e in cc
+    go Owned is = let z : owned (states_of p.states) ≡ owned a = sym (ap (λ m. held m (states_of p.states)) is)
+        ∙ e in cc
     go Shared is = absurd (let z : shared ≡ owned a = sym (ap (λ m. held m (states_of p.states)) is) ∙ e in cc)
     go Unowned is = absurd (let z : unowned ≡ owned a = sym (ap (λ m. held m (states_of p.states)) is) ∙ e in cc)
 
@@ -77,15 +75,16 @@ module _ (table : ClassTable) (objects : List Object) where
   passed_many (v ∷ vs) (p ∷ ps) (x ∷ xs) all = ap suc (passed_many vs ps xs all.1)
 
   -- what is passed counts as the uses that own
-  one_counts : (n : ℕ) (of : ResolvedType) (v : Value) (x : Option HandleUse) (us : List HandleUse) → IsPassed table objects of v x
+  one_counts : (n : ℕ) (of : ResolvedType) (v : Value) (x : Option HandleUse) (us : List HandleUse)
+      → IsPassed table objects of v x
       → in_cell owns n (Some (bound_cell of v)) + owning_uses n us ≡ owning_uses n (cons_option x us)
   one_counts n of v None us is =
       let none = cell_uncounted owns n (bound_cell of v) (ap owns is.0) in omega (arith, none)
   one_counts n of v (Some u) us is =
       let same : in_cell owns n (Some (bound_cell of v))
-          ≡ one_if (owns (permission_of u.entry) && nat_eq u.handle.object n) =
-          ap (λ (t : ResolvedType). in_cell owns n (Some (bound_cell t v))) is.0
-          ∙ ap (λ (z : Value). in_cell owns n (Some (bound_cell (TypedReference u.contract u.entry) z))) is.1 in
+      ≡ one_if (owns (permission_of u.entry) && nat_eq u.handle.object n) =
+      ap (λ (t : ResolvedType). in_cell owns n (Some (bound_cell t v))) is.0
+      ∙ ap (λ (z : Value). in_cell owns n (Some (bound_cell (TypedReference u.contract u.entry) z))) is.1 in
       let mode = ap (λ b. one_if (b && nat_eq u.handle.object n)) (owns_mode u.entry) in
       omega (arith, same, mode)
 
@@ -97,24 +96,27 @@ module _ (table : ClassTable) (objects : List Object) where
   passed_owns n (v ∷ vs) [] xs all = absurd all
   passed_owns n (v ∷ vs) (p ∷ ps) [] all = absurd all
   passed_owns n (v ∷ vs) (p ∷ ps) (x ∷ xs) all =
-      let here = one_counts n p.of v x (uses_in xs) all.0 in let rest = passed_owns n vs ps xs all.1 in omega (arith, here, rest)
+      let here = one_counts n p.of v x (uses_in xs) all.0 in let rest = passed_owns n vs ps xs all.1 in omega
+      (arith, here, rest)
 
   -- Marks.
 
-  sharing_more : (n : ℕ) (x : Option HandleUse) (us : List HandleUse) → sharing_uses n us ≤ sharing_uses n (cons_option x us)
+  sharing_more : (n : ℕ) (x : Option HandleUse) (us : List HandleUse) → sharing_uses n us ≤ sharing_uses n
+      (cons_option x us)
   sharing_more n None us = omega arith
   sharing_more n (Some u) us = omega arith
 
-  sharing_here : (n : ℕ) (of : ResolvedType) (v : Value) (x : Option HandleUse) (us : List HandleUse) → IsPassed table objects of v x
+  sharing_here : (n : ℕ) (of : ResolvedType) (v : Value) (x : Option HandleUse) (us : List HandleUse)
+      → IsPassed table objects of v x
       → v ≡ reference n → shares (permission_of_type of) ≡ true → 0 < sharing_uses n (cons_option x us)
   sharing_here n of v None us is value share = absurd (let z = ap shares is.0 in true≢false (sym share ∙ z))
   sharing_here n of v (Some u) us is value share =
       let same : reference u.handle.object ≡ reference n = sym is.1 ∙ value in
       let object : u.handle.object ≡ n = cc in
       let mode : is_shared u.entry.mode ≡ true =
-          sym (shares_mode u.entry) ∙ ap (λ (t : ResolvedType). shares (permission_of_type t)) (sym is.0) ∙ share in
+      sym (shares_mode u.entry) ∙ ap (λ (t : ResolvedType). shares (permission_of_type t)) (sym is.0) ∙ share in
       let one : one_if (is_shared u.entry.mode && nat_eq u.handle.object n) ≡ 1 =
-          rw (mode, eq-eqb u.handle.object n object) refl in
+      rw (mode, eq-eqb u.handle.object n object) refl in
       omega (arith, one)
 
   -- an object that comes to be marked is used as Shared
@@ -193,7 +195,12 @@ module _ (table : ClassTable) (content : Content) (entry : Option ℕ) (ps : Lis
       → ((n : ℕ) → 0 < sharing_uses n (cons_option x us) → (nth_object ps n).shared ≡ true)
       → Stands table ps (bound_cell of v)
   value_stands of v None us is uses marks = stands_keeps table content.objects ps
-      (record { count = let e = more.count in omega (arith, e); contracts = λ n low. more.contract n; shared = λ n low e. more.shared n e })
+      (record {
+        count = let e = more.count in omega (arith, e);
+        contracts = λ n low. more.contract n;
+        shared =
+            λ n low e. more.shared n e;
+      })
       (bound_cell of v) (λ n low own. more.state n) (record {
         kind = is.1;
         marked = λ e. absurd (let z : unowned ≡ shared = sym is.0 ∙ e in cc);
@@ -202,15 +209,18 @@ module _ (table : ClassTable) (content : Content) (entry : Option ℕ) (ps : Lis
   value_stands of v (Some u) us is uses marks =
       subst (λ (t : ResolvedType). Stands table ps (bound_cell t v)) (sym is.0)
       (subst (λ (z : Value). Stands table ps (bound_cell (TypedReference u.contract u.entry) z)) (sym is.1) (record {
-        kind = (let e = more.count in let low = is.2 in omega (arith, e, low),
-            ap (λ c. Rattle.ob_table_spec.specs.WellFormed.serves_as table (Reference u.contract) (Reference c))
-            (more.contract u.handle.object) ∙ is.3);
+        kind = (
+          let e = more.count in let low = is.2 in omega (arith, e, low),
+          ap (λ c. Rattle.ob_table_spec.specs.WellFormed.serves_as table (Reference u.contract) (Reference c))
+              (more.contract u.handle.object) ∙ is.3,
+        );
         marked = λ e. marks u.handle.object
             (let mode : is_shared u.entry.mode ≡ true = sym (shares_mode u.entry) ∙ ap shares e in
             let one : one_if (is_shared u.entry.mode && nat_eq u.handle.object u.handle.object) ≡ 1 =
             rw (mode, eq-eqb u.handle.object u.handle.object refl) refl in omega (arith, one));
         states = λ a e.
-            subst (λ b. b (Rattle.ob_heap_spec.specs.Objects.seen_state table u.contract (nth_object ps u.handle.object)) ≡ true)
+            subst (λ b. b (Rattle.ob_heap_spec.specs.Objects.seen_state table u.contract
+            (nth_object ps u.handle.object)) ≡ true)
             (sym (shared_states u.entry a e))
             (ap (states_of u.entry.states) (seen_same table u.contract (nth_object content.objects u.handle.object)
             (nth_object ps u.handle.object) (more.contract u.handle.object) (more.state u.handle.object))

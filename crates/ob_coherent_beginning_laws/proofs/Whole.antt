@@ -1,13 +1,13 @@
 -- What is so of the whole where a run begins: how many places own an object, by what was at rest and what is used.
-use Rattle.std.proofs.Common.{◌≡◌, ◌≢◌, ℕ, zero, suc, ◌+◌, ◌<◌, ◌≤◌, Bool, true, false, List, [], ◌∷◌, map, length, Option, Some, None, refl, sym, ap, subst, ◌∙◌, arith, ⊎_elim, ◌⊎◌, inl, inr, true≢false}
-use Rattle.std.specs.Prelude.{slice_get, All}
+use Rattle.std.proofs.Common.{◌≡◌, ℕ, zero, suc, ◌+◌, ◌<◌, ◌≤◌, true, false, List, [], ◌∷◌, map, length, Option, Some, refl, sym, ap, subst, ◌∙◌, arith, ⊎_elim}
+use Rattle.std.specs.Prelude.{All}
 use Rattle.std.specs.List.{list_any}
 use Rattle.std.proofs.lemmas.Bool.{cases_Bool, both_ways}
 use Rattle.ob_perm.specs.Permissions.{owns}
 use Rattle.ob_table.specs.Tables.{ClassTable}
 use Rattle.ob_table_spec.specs.Conditions.{IsClassTable}
 use Rattle.ob_heap_spec.specs.Objects.{Object}
-use Rattle.ob_heap_spec.specs.Contents.{HandleName, Handle, Content, IsHandle, IsObject}
+use Rattle.ob_heap_spec.specs.Contents.{Content, IsHandle, IsObject}
 use Rattle.ob_silica_steps.specs.Configurations.{HandleNote, Notes}
 use Rattle.ob_silica_steps.specs.Starting.{first_notes}
 use Rattle.ob_places_laws.proofs.Tables.{each_at}
@@ -64,8 +64,10 @@ module _ (table : ClassTable) (conditions : IsClassTable table) (content : Conte
 
   -- how many own an object in all, where slots own it as it is used
   pub total_is : (n slots objects : ℕ) → slots ≡ owning_uses n us
-      → objects ≡ in_objects owns n (first_notes table content.objects (map (note_of us) content.handles)) content.objects
-      → slots + objects + in_handles owns n (map (note_of us) content.handles) + lent table content rest entry us all once n
+      → objects ≡ in_objects owns n (first_notes table content.objects (map (note_of us) content.handles))
+      content.objects
+      → slots + objects + in_handles owns n (map (note_of us) content.handles) + lent table content rest entry us all
+      once n
       ≡ owning_uses n us + owners table content n
   total_is n slots objects es eo =
       let z = carried table content rest entry us all once n in let y = counted n in omega (arith, es, eo, z, y)
@@ -81,25 +83,31 @@ module _ (table : ClassTable) (conditions : IsClassTable table) (content : Conte
     pub whole_disowned : (nth_object ps n).disowned ≡ true → (nth_object ps n).shared ≡ false → total ≡ 0
     whole_disowned mark unshared =
         let was : (nth_object content.objects n).shared ≡ false =
-            ⊎_elim (λ z. absurd (both_ways _ unshared (more.shared n z))) (λ z. z) (cases_Bool (nth_object content.objects n).shared) in
-        let z = total_disowned table content rest entry us all once n there (lent_few n) (sym (more.disowned n) ∙ mark) was in
+        ⊎_elim (λ z. absurd (both_ways _ unshared (more.shared n z))) (λ z. z)
+        (cases_Bool (nth_object content.objects n).shared) in
+        let z = total_disowned table content rest entry us all once n there (lent_few n)
+        (sym (more.disowned n) ∙ mark) was in
         omega (arith, is, z)
 
     pub whole_shared : (nth_object ps n).shared ≡ true → 0 < total → entry ≡ Some n
     whole_shared mark some = ⊎_elim
         (λ was. total_shared table content rest entry us all once n there (lent_few n) was (omega (arith, is, some)))
-        (λ not. absurd (let z = total_newly table content rest entry us all once n there (lent_few n) not (newly not mark) in
+        (λ not. absurd (let z = total_newly table content rest entry us all once n there (lent_few n) not
+        (newly not mark) in
         omega (arith, is, some, z)))
         (cases_Bool (nth_object content.objects n).shared)
 
     pub whole_assets : NeedsOwner table ps n → 0 < total
     whole_assets must =
         let was : (nth_object content.objects n).shared ≡ false =
-            ⊎_elim (λ z. absurd (both_ways _ must.unshared (more.shared n z))) (λ z. z) (cases_Bool (nth_object content.objects n).shared) in
-        let none : sharing_uses n us ≡ 0 = zero_if (sharing_uses n us) (λ some. both_ways _ must.unshared (marks some)) in
+        ⊎_elim (λ z. absurd (both_ways _ must.unshared (more.shared n z))) (λ z. z)
+        (cases_Bool (nth_object content.objects n).shared) in
+        let none : sharing_uses n us ≡ 0 = zero_if (sharing_uses n us)
+        (λ some. both_ways _ must.unshared (marks some)) in
         let z = total_asset table content rest entry us all once n there (lent_few n)
-            (ap (λ c. Rattle.ob_flow_spec.specs.Contexts.is_asset table (Rattle.ob_table.specs.declared.seen.Kind.TheVariants.Reference c)) (sym (more.contract n)) ∙ must.asset)
-            was (sym (more.disowned n) ∙ must.kept) none in
+        (ap (λ c. Rattle.ob_flow_spec.specs.Contexts.is_asset table
+        (Rattle.ob_table.specs.declared.seen.Kind.TheVariants.Reference c)) (sym (more.contract n)) ∙ must.asset)
+        was (sym (more.disowned n) ∙ must.kept) none in
         omega (arith, is, z)
       where
         zero_if : (k : ℕ) → (0 < k → ⊥) → k ≡ 0

@@ -1,5 +1,5 @@
 -- What is passed to parameters from outside (this project's own).
-use Rattle.std.specs.Prelude.{◌≡◌, ℕ, ◌<◌, true, List, [], ◌∷◌, length, Option, Some, None, ⊤}
+use Rattle.std.specs.Prelude.{◌≡◌, ◌<◌, true, List, [], ◌∷◌, length, Option, Some, None, ⊤}
 use Rattle.std.specs.List.{cons_option}
 use Rattle.ob_perm.specs.Permissions.{unowned}
 use Rattle.ob_table.specs.Tables.{ClassTable}

@@ -11,3 +11,5 @@ pub mod Whole
 pub mod Bodies
 pub mod Left
 pub mod Sound
+pub mod Given
+pub mod Begins
