@@ -58,7 +58,7 @@ NoneRepeated (u ∷ uses) = (is_owned u.entry.mode ≡ true → uses_of u.handle
 counted_uses : (n : ℕ) (uses : List HandleUse) → uses_of n uses ≡ count_by (λ v. nat_eq v.handle.object n) uses
 counted_uses n uses = is_count_by (uses_of n) (λ v. nat_eq v.handle.object n) refl (λ u us. refl) uses
 
-more_uses : (n : ℕ) (u : HandleUse) (uses : List HandleUse) → uses_of n uses ≤ uses_of n (u ∷ uses)
+pub more_uses : (n : ℕ) (u : HandleUse) (uses : List HandleUse) → uses_of n uses ≤ uses_of n (u ∷ uses)
 more_uses n u uses = either (nat_eq u.handle.object n)
   where
     either : (b : Bool) → uses_of n uses ≤ cond b (1 + uses_of n uses) (uses_of n uses)
