@@ -1,5 +1,5 @@
--- Which owners come back to their handles where a `new` or a `call` is done: one of an object at most, that of a use whose
--- entry and exit own.
+-- Which owners come back to their handles where a `new` or a `call` is done: one of an object at most, that of a use
+-- whose entry and exit own.
 use Rattle.std.proofs.Common.{◌≡◌, ◌∙◌, ◌⊎◌, inl, inr, ℕ, zero, suc, ◌+◌, ◌≤◌, ◌<◌, Bool, true, false, List, [], ◌∷◌, Some, refl, sym, ap, subst, arith}
 use Rattle.std.specs.Prelude.{◌&&◌, nat_eq, slice_get, if◌then◌else◌}
 use Rattle.ob_rest_spec.specs.Modes.{is_owned}

@@ -1,4 +1,4 @@
--- What handles become where a `new` or a `call` is done: how many owners they carry, and that they are few, and handles.
+-- How many owners handles carry where a `new` or a `call` is done.
 use Rattle.std.proofs.Common.{◌≡◌, ◌∙◌, ◌⊎◌, inl, inr, ℕ, ◌+◌, ◌≤◌, Bool, true, false, List, [], ◌∷◌, ◌++◌, Option, Some, None, refl, sym, ap, arith}
 use Rattle.std.specs.Prelude.{cond, not, ◌&&◌, ◌||◌, nat_eq, nat_lt, count_by, if◌then◌else◌, ⊤}
 use Rattle.std.specs.Ordering.{eq_by_cmp}
