@@ -125,8 +125,8 @@ handle_for table content who p c entry (handle_argument name) of is =
     go (handle_at content (handle_name who name)) refl is
   where
     go : (h : Option Handle) → handle_at content (handle_name who name) ≡ h
-        → option_map_or (is_of_type table content.objects p.of) (option_map (λ (x : Handle). reference x.object) h) false
-        ≡ true
+        → option_map_or (is_of_type table content.objects p.of) (option_map (λ (x : Handle). reference x.object) h)
+        false ≡ true
         → (u : HandleUse) × (use_of_argument content who p (handle_argument name) ≡ Some u)
     go None there is = absurd cc
     go (Some h) there is = (

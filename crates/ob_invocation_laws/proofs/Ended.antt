@@ -1,5 +1,4 @@
--- What a store holds where a `new` or a `call` is done: its handles are handles, in order, and few; it is at rest where its
--- objects are.
+-- What a store holds where a `new` or a `call` is done: its handles are on its objects, in order, and few.
 use Rattle.std.proofs.Common.{◌≡◌, ◌∙◌, inl, inr, ℕ, ◌+◌, ◌≤◌, ◌<◌, Bool, true, false, List, [], ◌∷◌, ◌++◌, length, Option, Some, None, refl, sym, subst, arith}
 use Rattle.std.specs.Prelude.{cond, nat_le, is_some, IsTrue, All, AllPairs, ⊤}
 use Rattle.std.specs.Ordering.{eq_by_cmp}
@@ -145,7 +144,8 @@ uses_few handles (u ∷ uses) order named = elim (use_put u) [
   | inl is ↦ rw is (uses_few handles uses order named.1)
   | inr some ↦
       let p = handle_in u.name u.handle.object some.0 in
-      let rest = uses_few (put_handle handles p) uses (put_in_order handles p order) (named_then handles p uses named.1) in
+      let rest = uses_few (put_handle handles p) uses (put_in_order handles p order)
+      (named_then handles p uses named.1) in
       rw some.1 (rest.0 ∙ there p (find_key name_order u.name handles) refl named.0, rest.1)
 ]
   where
@@ -185,8 +185,8 @@ content_after content e result w = record {
   handles = put_handles content.handles (puts_after content e result);
 }
 
--- it is a store at rest, where the objects of the world are of the table and few, and none of the content's is lost, what is
--- given is one of them, and the content is at rest
+-- it is a store at rest, where the objects of the world are of the table and few, and none of the content's is lost,
+-- what is given is one of them, and the content is at rest
 pub store_after : (table : ClassTable) (content : Content) (e : Entry) (result : Option Value) (w : World)
     → IsStoreAtRest table content → AreFound content (handle_uses content e) → MayEnter table content e
     → IsTrue (is_label e.who) → ((into : List ℕ) → e.into ≡ Some into → IsTrue (is_label into))

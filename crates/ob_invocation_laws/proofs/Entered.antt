@@ -207,7 +207,8 @@ called who r h o tx s = record {
 }
 
 -- the entry of a `call`, by the handle on its object, the object, its contract and the transaction
-pub record CallEntry (table : ClassTable) (content : Content) (who : List ℕ) (r : CallRequest) (e : Entry) : Type 0 where
+pub record CallEntry (table : ClassTable) (content : Content) (who : List ℕ) (r : CallRequest) (e : Entry)
+    : Type 0 where
   pub handle : Handle
   pub object : Object
   pub own : Contract

@@ -81,7 +81,8 @@ module _ (table : ClassTable) (content : Content) (objects : List Object) (puts 
         let few = fails_by_none table content rest n o was many_owners in
         let one = goes_one n o was unmarked at in
         none_left (owners table content n) (owners table after n) few (omega (arith, change, count n, one)));
-    lost = λ n p is fewer. (let change = owners_change table content objects (put_handles content.handles puts) shares.marked n in
+    lost = λ n p is fewer. (
+        let change = owners_change table content objects (put_handles content.handles puts) shares.marked n in
         let at = is_this n (nat_eq h.object n) refl (omega (arith, change, count n, fewer)) in
         marked_by p (shares.these n p (only n ∙ at) is));
     shared = λ n p is has. elim (puts_shared n content.handles puts has) [

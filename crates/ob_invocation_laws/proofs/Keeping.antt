@@ -73,7 +73,8 @@ module _ (content : Content) (kept : AreKeptInOrder content.handles) where
 
   -- the end of a run
   at_end : (table : ClassTable) (e : Entry) → AreFound content (handle_uses content e) → MayEnter table content e
-      → (reads : List ReadItem) (outcome : RunOutcome (Option Value)) → KeepsHandles (ended table content e reads outcome)
+      → (reads : List ReadItem) (outcome : RunOutcome (Option Value))
+      → KeepsHandles (ended table content e reads outcome)
   at_end table e found may reads (gives result w) = record {
     order = puts_in_order content.handles (puts_after content e result) kept.order;
     few = few_after table content e result kept.order found may kept.few;

@@ -16,3 +16,4 @@ pub mod Ended
 pub mod Lent
 pub mod Arguments
 pub mod Keeping
+pub mod Returned

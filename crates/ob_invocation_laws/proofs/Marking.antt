@@ -153,7 +153,8 @@ module _ (w v x : List Object) (h : NamedHandle) (puts : List NamedHandle)
     both_share = record {
       marked = all_marked_then w v x first.marked rest.marked;
       these = λ n p is there. at_one n p there (nat_eq h.1.object n && is_shared h.1.mode) refl is;
-      others = λ n is. rest.others n (second (nat_eq h.1.object n && is_shared h.1.mode) (is_shared_by_handle puts n) is)
+      others = λ n is.
+          rest.others n (second (nat_eq h.1.object n && is_shared h.1.mode) (is_shared_by_handle puts n) is)
           ∙ first.others n (front (nat_eq h.1.object n && is_shared h.1.mode) (is_shared_by_handle puts n) is);
     }
 

@@ -47,12 +47,7 @@ found_shared name (g ∷ handles) h there is =
         let same : g.1 ≡ h = cc in rw same (rw (alike h.object, is) refl)
     at_test false here rest = rw (rest here) (after (nat_eq g.1.object h.object && is_shared g.1.mode))
 
--- one of two, under a third
-among : (a b c : Bool) → (a || (b || c)) ≡ true → ((b || (a || c)) ≡ true)
-among true true c is = refl
-among true false c is = refl
-among false b c is = is
-
+-- of two, the first holds or the second
 first_or_rest : (a b : Bool) → (a || b) ≡ true → (a ≡ true) ⊎ (b ≡ true)
 first_or_rest true b is = inl refl
 first_or_rest false b is = inr is

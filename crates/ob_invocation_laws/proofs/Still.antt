@@ -51,7 +51,8 @@ content_stays table content objects handles is marked are = record {
   handles = all_of (IsHandle objects) handles (λ k h there. let it = item_of_handles k h there in record {
     who = it.who;
     name = it.name;
-    object = (let same = same_length content.objects objects marked in let below = it.object in omega (arith, same, below));
+    object = (let same = same_length content.objects objects marked in
+        let below = it.object in omega (arith, same, below));
   });
   order = are.order;
 }
@@ -86,7 +87,8 @@ first_label name names all = both (is_label name) (list_all is_label names) all
 -- `disown`.
 
 -- fewer are left
-pub length_left : (test : NamedHandle → Bool) (handles : List NamedHandle) → length (filter test handles) ≤ length handles
+pub length_left : (test : NamedHandle → Bool) (handles : List NamedHandle)
+    → length (filter test handles) ≤ length handles
 length_left test handles =
     let both = length-filter_both test (λ h. not (test h)) (λ h. refl) handles in omega (arith, both)
 

@@ -1,4 +1,4 @@
--- What handles become where a `new` or a `call` is done: how many owners they carry, and that they are few, and handles.
+-- How many owners handles carry where a `new` or a `call` is done.
 use Rattle.std.proofs.Common.{◌≡◌, ◌∙◌, ◌⊎◌, inl, inr, ℕ, ◌+◌, ◌≤◌, Bool, true, false, List, [], ◌∷◌, ◌++◌, Option, Some, None, refl, sym, ap, arith}
 use Rattle.std.specs.Prelude.{cond, not, ◌&&◌, ◌||◌, nat_eq, nat_lt, count_by, if◌then◌else◌, ⊤}
 use Rattle.std.specs.Ordering.{eq_by_cmp}
@@ -58,7 +58,7 @@ NoneRepeated (u ∷ uses) = (is_owned u.entry.mode ≡ true → uses_of u.handle
 counted_uses : (n : ℕ) (uses : List HandleUse) → uses_of n uses ≡ count_by (λ v. nat_eq v.handle.object n) uses
 counted_uses n uses = is_count_by (uses_of n) (λ v. nat_eq v.handle.object n) refl (λ u us. refl) uses
 
-more_uses : (n : ℕ) (u : HandleUse) (uses : List HandleUse) → uses_of n uses ≤ uses_of n (u ∷ uses)
+pub more_uses : (n : ℕ) (u : HandleUse) (uses : List HandleUse) → uses_of n uses ≤ uses_of n (u ∷ uses)
 more_uses n u uses = either (nat_eq u.handle.object n)
   where
     either : (b : Bool) → uses_of n uses ≤ cond b (1 + uses_of n uses) (uses_of n uses)

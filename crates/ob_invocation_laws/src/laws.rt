@@ -54,16 +54,16 @@ pub fn handles_carry_owners()
         ≡ handle_owners content.handles n }
 {}
 
-/// A request that runs nothing, a `disown`, a `give`, a `see` or an `owner`, doesn't go wrong on a store at rest, and what
-/// the store holds after it is at rest.
+/// A request that runs nothing, a `disown`, a `give`, a `see` or an `owner`, doesn't go wrong on a store at rest, and
+/// leaves a store at rest.
 pub fn still_requests_keep_rest()
     ensures { (meaning : Meaning) (table : ClassTable) (content : Content) (request : Request) (fuel : ℕ)
         → IsStoreAtRest table content → HasLabels request → runs request.operation ≡ false
         → KeepsStoreAtRest table (invoke meaning table content request fuel) }
 {}
 
-/// However a request is answered, the handles after it stand in the order of their names, each once, and are no more than
-/// there may be, if they were so before it.
+/// However a request is answered, the handles after it stand in the order of their names, each once, and are no more
+/// than there may be, if they were so before it.
 pub fn requests_keep_handles_few()
     ensures { (meaning : Meaning) (table : ClassTable) (content : Content) (request : Request) (fuel : ℕ)
         → AreKeptInOrder content.handles → KeepsHandles (invoke meaning table content request fuel) }
