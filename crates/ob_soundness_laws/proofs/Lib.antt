@@ -12,3 +12,4 @@ pub mod Bodies
 pub mod Left
 pub mod Sound
 pub mod Given
+pub mod Counts
