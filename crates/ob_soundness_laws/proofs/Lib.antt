@@ -13,3 +13,4 @@ pub mod Left
 pub mod Sound
 pub mod Given
 pub mod Counts
+pub mod Results
