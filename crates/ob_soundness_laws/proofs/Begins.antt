@@ -1,5 +1,5 @@
 -- The run of what a request enters begins coherently, or aborts.
-use Rattle.ob_coherent_beginning_laws.proofs.Begins.{call_request_begins, new_request_begins}
+use Rattle.ob_soundness_laws.proofs.beginning.Begins.{call_request_begins, new_request_begins}
 use Rattle.ob_soundness_laws.specs.Requests.{by_request_new, by_request_call, BeginsSo}
 
 pub begins_so : BeginsSo

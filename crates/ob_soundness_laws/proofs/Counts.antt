@@ -9,9 +9,9 @@ use Rattle.ob_heap_spec.specs.Contents.{HandleName, Handle}
 use Rattle.ob_silica_steps.specs.Cells.{Cell}
 use Rattle.ob_silica_steps.specs.Configurations.{SlotCells, HandleNote}
 use Rattle.ob_coherent_spec.specs.Counting.{sum_below, one_if, in_cell, in_slots, in_handles}
-use Rattle.ob_coherent_counting_laws.proofs.Sums.{sum_same}
-use Rattle.ob_rest_counting_laws.proofs.Lists.{sum_first, sum_further}
-use Rattle.ob_rest_counting_laws.proofs.Handles.{owning_handles, handles_more}
+use Rattle.ob_soundness_laws.proofs.counting.Sums.{sum_same}
+use Rattle.ob_soundness_laws.proofs.stores.Lists.{sum_first, sum_further}
+use Rattle.ob_soundness_laws.proofs.stores.Handles.{owning_handles, handles_more}
 use Rattle.ob_rest_spec.specs.Modes.{is_owned}
 use Rattle.ob_rest_laws.specs.Laws.{handle_owners}
 use Rattle.ob_perm.specs.Masks.{held}

@@ -23,9 +23,9 @@ use Rattle.ob_silica_steps.specs.Entering.{Entered, enters}
 use Rattle.ob_silica_steps.specs.Here.{if_there}
 use Rattle.ob_silica_steps.specs.Starting.{first_notes}
 use Rattle.ob_coherent_spec.specs.Counting.{nth_object}
-use Rattle.ob_coherent_counting_laws.proofs.Objects.{object_found, make_length, make_other, no_object}
-use Rattle.ob_coherent_counting_laws.proofs.Marking.{Keeps, read_objects}
-use Rattle.ob_coherent_counting_laws.proofs.Passing.{passed_world, passed_keeps}
+use Rattle.ob_soundness_laws.proofs.counting.Objects.{object_found, make_length, make_other, no_object}
+use Rattle.ob_soundness_laws.proofs.counting.Marking.{Keeps, read_objects}
+use Rattle.ob_soundness_laws.proofs.counting.Passing.{passed_world, passed_keeps}
 use Rattle.ob_rest_spec.specs.Modes.{is_owned}
 use Rattle.ob_invocation_spec.specs.Entries.{HandleUse, Entry, values_of, used_as_receiver}
 use Rattle.ob_invocation_spec.specs.Entering.{is_locked_at_entry, with_entry_lock, entry_world}

@@ -24,7 +24,7 @@ use Rattle.ob_silica_steps.specs.Configurations.{SlotCells, Configuration}
 use Rattle.ob_coherent_spec.specs.Counting.{one_if, in_cell, nth_object}
 use Rattle.ob_coherent_spec.specs.Standing.{NeedsOwner}
 use Rattle.ob_coherent_spec.specs.Coherent.{LeavesWith}
-use Rattle.ob_coherent_counting_laws.proofs.Cells.{cell_counted, counted_cell, cell_other, shared_none, cell_most}
+use Rattle.ob_soundness_laws.proofs.counting.Cells.{cell_counted, counted_cell, cell_other, shared_none, cell_most}
 use Rattle.ob_rest_spec.specs.Modes.{is_owned, is_shared, is_unowned}
 use Rattle.ob_invocation_spec.specs.Requests.{Argument, int_argument, bool_argument, text_argument, handle_argument, other_argument}
 use Rattle.ob_invocation_spec.specs.Handles.{handle_name, handle_at, serves}

@@ -7,18 +7,18 @@ use Rattle.ob_silica_steps.specs.Configurations.{SilicaProgram, Rest, Control, r
 use Rattle.ob_silica_steps.specs.Steps.{act, run_step, control_step}
 use Rattle.ob_coherent_spec.specs.Coherent.{Beginning, IsRunning, IsCoherent, running, leaving, returning, StepsSo}
 use Rattle.ob_coherent_spec.specs.Remaining.{IsCheckedProgram}
-use Rattle.ob_coherent_forms_laws.proofs.Straight.{const_keeps, op_keeps, drop_keeps, assert_keeps, revert_keeps, bad_row_keeps, unit_keeps}
-use Rattle.ob_coherent_forms_laws.proofs.Moving.{disown_keeps}
-use Rattle.ob_coherent_forms_laws.proofs.Forms.{copy_keeps, move_keeps}
-use Rattle.ob_coherent_tests_laws.proofs.Conditions.{if_keeps}
-use Rattle.ob_coherent_tests_laws.proofs.Testing.{test_keeps}
-use Rattle.ob_coherent_tests_laws.proofs.Popping.{pop_keeps}
-use Rattle.ob_coherent_changes_laws.proofs.Changing.{change_keeps}
-use Rattle.ob_coherent_calls_laws.proofs.Calling.{call_steps}
-use Rattle.ob_coherent_this_calls_laws.proofs.Calling.{call_this_steps}
-use Rattle.ob_coherent_news_laws.proofs.Making.{new_steps}
-use Rattle.ob_coherent_returns_laws.proofs.Return.{return_keeps}
-use Rattle.ob_coherent_returns_laws.proofs.Silent.{leave_keeps}
+use Rattle.ob_soundness_laws.proofs.forms.Straight.{const_keeps, op_keeps, drop_keeps, assert_keeps, revert_keeps, bad_row_keeps, unit_keeps}
+use Rattle.ob_soundness_laws.proofs.forms.Moving.{disown_keeps}
+use Rattle.ob_soundness_laws.proofs.forms.Forms.{copy_keeps, move_keeps}
+use Rattle.ob_soundness_laws.proofs.tests.Conditions.{if_keeps}
+use Rattle.ob_soundness_laws.proofs.tests.Testing.{test_keeps}
+use Rattle.ob_soundness_laws.proofs.tests.Popping.{pop_keeps}
+use Rattle.ob_soundness_laws.proofs.changes.Changing.{change_keeps}
+use Rattle.ob_soundness_laws.proofs.calls.Calling.{call_steps}
+use Rattle.ob_soundness_laws.proofs.on_this.Calling.{call_this_steps}
+use Rattle.ob_soundness_laws.proofs.news.Making.{new_steps}
+use Rattle.ob_soundness_laws.proofs.returns.Return.{return_keeps}
+use Rattle.ob_soundness_laws.proofs.returns.Silent.{leave_keeps}
 use Rattle.ob_soundness_laws.specs.Running.{StepsKeep}
 
 module _ (program : SilicaProgram) (is : IsCheckedProgram program) (entry : Option ℕ) (beginning : Beginning) (c : Configuration) where

@@ -21,7 +21,7 @@ use Rattle.ob_flow_laws.specs.Laws.{MeetsExit}
 use Rattle.ob_coherent_spec.specs.Saying.{SaysOf}
 use Rattle.ob_coherent_spec.specs.Remaining.{body_of}
 use Rattle.ob_coherent_spec.specs.Coherent.{outermost, BeganSo, IsLeaving, LeavesWith}
-use Rattle.ob_coherent_returns_laws.proofs.Leaving.{meets_with, owns_none}
+use Rattle.ob_soundness_laws.proofs.returns.Leaving.{meets_with, owns_none}
 use Rattle.ob_invocation_spec.specs.Entries.{HandleUse, Entry, values_of}
 use Rattle.ob_soundness_laws.specs.Requests.{beginning_on, beginning_of, entry_lock}
 use Rattle.ob_soundness_laws.proofs.Bodies.{EntersBody}

@@ -15,3 +15,16 @@ pub mod Given
 pub mod Begins
 pub mod Counts
 pub mod Results
+pub mod counting
+pub mod stores
+pub mod places
+pub mod frames
+pub mod remaining
+pub mod forms
+pub mod tests
+pub mod changes
+pub mod calls
+pub mod news
+pub mod on_this
+pub mod returns
+pub mod beginning

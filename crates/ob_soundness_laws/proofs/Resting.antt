@@ -25,7 +25,7 @@ use Rattle.ob_silica_places.specs.Known.{permission_of_type}
 use Rattle.ob_silica_steps.specs.Cells.{cell}
 use Rattle.ob_coherent_spec.specs.Counting.{nth_object}
 use Rattle.ob_coherent_spec.specs.Standing.{Stands, NeedsOwner}
-use Rattle.ob_coherent_counting_laws.proofs.Objects.{object_there, object_found}
+use Rattle.ob_soundness_laws.proofs.counting.Objects.{object_there, object_found}
 use Rattle.ob_rest_spec.specs.Modes.{is_owned, is_shared}
 use Rattle.ob_rest_spec.specs.References.{FieldReference, reference_of, available_value, references_of, field_references}
 use Rattle.ob_rest_spec.specs.Incoming.{incoming_by_field, incoming_by_handle, fields_onto, handles_onto, incoming_references, owners}

@@ -20,7 +20,7 @@ use Rattle.ob_places_laws.specs.Serving.{Allows}
 use Rattle.ob_coherent_spec.specs.Counting.{in_cell}
 use Rattle.ob_coherent_spec.specs.Saying.{SaysOf}
 use Rattle.ob_coherent_spec.specs.Coherent.{IsGivenBack}
-use Rattle.ob_coherent_counting_laws.proofs.Cells.{cell_counted, counted_cell, cell_most}
+use Rattle.ob_soundness_laws.proofs.counting.Cells.{cell_counted, counted_cell, cell_most}
 use Rattle.ob_rest_spec.specs.Modes.{is_owned, is_shared}
 use Rattle.ob_invocation_spec.specs.Handles.{handle_name}
 use Rattle.ob_invocation_spec.specs.Entries.{Entry, mode_of_result}

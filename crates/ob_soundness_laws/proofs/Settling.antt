@@ -32,11 +32,11 @@ use Rattle.ob_coherent_spec.specs.Saying.{SaysOf}
 use Rattle.ob_coherent_spec.specs.Remaining.{body_of}
 use Rattle.ob_coherent_spec.specs.Waiting.{is_on_this, tests_of, AllWait}
 use Rattle.ob_coherent_spec.specs.Coherent.{Beginning, IsAsDeclared, LeavesSo, IsLeaving}
-use Rattle.ob_coherent_counting_laws.proofs.Objects.{field_cell_of}
-use Rattle.ob_coherent_places_laws.proofs.Standing.{reference_is}
-use Rattle.ob_coherent_places_laws.proofs.Getting.{AreLow, objects_low, seen_small}
-use Rattle.ob_coherent_returns_laws.proofs.Leaving.{left_fields}
-use Rattle.ob_coherent_returns_laws.proofs.Resuming.{exit_same, exit_declared}
+use Rattle.ob_soundness_laws.proofs.counting.Objects.{field_cell_of}
+use Rattle.ob_soundness_laws.proofs.places.Standing.{reference_is}
+use Rattle.ob_soundness_laws.proofs.places.Getting.{AreLow, objects_low, seen_small}
+use Rattle.ob_soundness_laws.proofs.returns.Leaving.{left_fields}
+use Rattle.ob_soundness_laws.proofs.returns.Resuming.{exit_same, exit_declared}
 use Rattle.ob_soundness_laws.proofs.Resting.{HoldsDeclared}
 
 -- A cell whose permission serves as another one stands as that one.

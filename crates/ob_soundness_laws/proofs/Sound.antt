@@ -11,7 +11,7 @@ use Rattle.ob_lower_correct.specs.Law.{IsLoweredProgram}
 use Rattle.ob_rest_laws.proofs.OneOwner.{one_owner}
 use Rattle.ob_invocation_spec.specs.Replies.{Invocation, invoked, goes_wrong}
 use Rattle.ob_coherent_spec.specs.Remaining.{IsCheckedProgram}
-use Rattle.ob_coherent_remaining_laws.proofs.Programs.{lowered_has_terms}
+use Rattle.ob_soundness_laws.proofs.remaining.Programs.{lowered_has_terms}
 use Rattle.ob_soundness_laws.specs.Requests.{entry_lock, beginning_of, started, BeginsSo, EndsSo, StillLeavesAtRest, LeavesAtRest}
 use Rattle.ob_soundness_laws.specs.Sound.{LeavesOneOwner, CompiledProgramsAreSound}
 use Rattle.ob_soundness_laws.proofs.Keeping.{steps_keep}

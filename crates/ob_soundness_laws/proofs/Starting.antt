@@ -24,9 +24,9 @@ use Rattle.ob_silica_steps.specs.Entering.{are_within, begins_on, calls_object, 
 use Rattle.ob_silica_steps.specs.Here.{if_there, with_fuel_left, with_unit}
 use Rattle.ob_silica_steps.specs.Starting.{pass_all, alone, started_call, started_new}
 use Rattle.ob_coherent_spec.specs.Counting.{nth_object}
-use Rattle.ob_coherent_counting_laws.proofs.Objects.{object_there}
-use Rattle.ob_coherent_counting_laws.proofs.Marking.{read_objects, read_keeps}
-use Rattle.ob_coherent_counting_laws.proofs.Passing.{passed_slots, passed_world, passes, passed_keeps}
+use Rattle.ob_soundness_laws.proofs.counting.Objects.{object_there}
+use Rattle.ob_soundness_laws.proofs.counting.Marking.{read_objects, read_keeps}
+use Rattle.ob_soundness_laws.proofs.counting.Passing.{passed_slots, passed_world, passes, passed_keeps}
 
 params_length : (s : Signature) → length (parameters s) ≡ length s.params
 params_length s = length-map s.params parameter_of

@@ -38,8 +38,8 @@ use Rattle.ob_silica_steps.specs.Straight.{with_operated, with_truth, with_text,
 use Rattle.ob_silica_steps.specs.Testing.{StateTest, narrowed, test_object, test_this_as, test_shared, tells, end_branch, tests_from, reads_object}
 use Rattle.ob_coherent_spec.specs.Counting.{nth_object}
 use Rattle.ob_coherent_spec.specs.Coherent.{outermost}
-use Rattle.ob_coherent_counting_laws.proofs.Objects.{edit_length, edit_keeps, make_length, make_other, no_object}
-use Rattle.ob_coherent_counting_laws.proofs.Marking.{Keeps, read_objects, comes_keeps, mark_disowned_keeps}
+use Rattle.ob_soundness_laws.proofs.counting.Objects.{edit_length, edit_keeps, make_length, make_other, no_object}
+use Rattle.ob_soundness_laws.proofs.counting.Marking.{Keeps, read_objects, comes_keeps, mark_disowned_keeps}
 use Rattle.ob_soundness_laws.specs.Running.{GoesOrEnds}
 
 pub below_or_not : (n m : ℕ) → (n < m) ⊎ (m ≤ n)

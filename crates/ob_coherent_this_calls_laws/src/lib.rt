@@ -1,2 +1,0 @@
-//! Laws of the step of a call on `this`: the callee runs then, and the caller waits.
-#![tactic(auto)]
