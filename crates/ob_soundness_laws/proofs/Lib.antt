@@ -14,3 +14,4 @@ pub mod Sound
 pub mod Given
 pub mod Counts
 pub mod Results
+pub mod Marked
