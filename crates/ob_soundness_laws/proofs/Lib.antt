@@ -15,3 +15,4 @@ pub mod Given
 pub mod Counts
 pub mod Results
 pub mod Marked
+pub mod Again
