@@ -1,6 +1,6 @@
 -- Where the run of a request has ended, the store is at rest again.
 use Rattle.std.proofs.Common.{◌≡◌, ◌≢◌, ℕ, zero, suc, ◌+◌, ◌<◌, ◌≤◌, Bool, true, false, not, ◌&&◌, ◌||◌, List, [], ◌∷◌, ◌++◌, length, map, Option, Some, None, refl, sym, ap, subst, ◌∙◌, arith, true≢false, ⊎_elim, ◌⊎◌, inl, inr}
-use Rattle.std.specs.Prelude.{nat_eq, slice_get, option_to_list, All, if◌then◌else◌, IsTrue}
+use Rattle.std.specs.Prelude.{nat_eq, slice_get, option_to_list, unwrap_or, All, if◌then◌else◌, IsTrue}
 use Rattle.std.specs.List.{list_any}
 use Rattle.std.proofs.lemmas.Bool.{cases_Bool}
 use Rattle.std.proofs.lemmas.Bool.Decides.{nat_tests, eqb_tells}
@@ -14,16 +14,22 @@ use Rattle.ob_table.specs.Tables.{ClassTable}
 use Rattle.ob_table.specs.declared.contract.Signature.{Signature}
 use Rattle.ob_table_spec.specs.Conditions.{IsParam}
 use Rattle.ob_places_laws.proofs.Tables.{each_at}
-use Rattle.ob_heap_spec.specs.Values.{Value, reference}
+use Rattle.ob_heap_spec.specs.Values.{Value, reference, referred}
 use Rattle.ob_heap_spec.specs.Objects.{Object}
 use Rattle.ob_heap_spec.specs.Contents.{HandleName, Handle, Content, IsObject, IsHandle, object_at}
 use Rattle.ob_heap_spec.specs.Worlds.{World}
-use Rattle.ob_silica_steps.specs.Cells.{Cell, value_in, permission_in}
-use Rattle.ob_silica_steps.specs.Configurations.{SilicaProgram, Configuration, by_receiver, by_new}
-use Rattle.ob_coherent_spec.specs.Counting.{nth_object, in_cell, in_slots, in_objects, in_handles, owners}
-use Rattle.ob_coherent_spec.specs.Standing.{NeedsOwner}
+use Rattle.ob_silica_steps.specs.Cells.{Cell, value_in, object_in, permission_in}
+use Rattle.ob_silica_steps.specs.Here.{self_of}
+use Rattle.ob_coherent_counting_laws.proofs.Cells.{cell_counted}
+use Rattle.ob_perm.specs.Masks.{held, states_of}
+use Rattle.ob_silica_steps.specs.Configurations.{SilicaProgram, Rest, How, Control, Configuration, by_receiver, by_new}
+use Rattle.ob_coherent_spec.specs.Counting.{nth_object, in_cell, in_slots, in_objects, in_handles, in_waiting, in_control, owners}
+use Rattle.ob_coherent_spec.specs.Runs.{times, around, locks_around, locks_among, locks_entry, open_tests, tests_in, tests_among}
+use Rattle.ob_coherent_spec.specs.Waiting.{gives_back_by, gives_back_as}
+use Rattle.ob_coherent_counting_laws.proofs.Numbers.{one_of}
+use Rattle.ob_coherent_spec.specs.Standing.{Stands, NeedsOwner}
 use Rattle.ob_coherent_spec.specs.Remaining.{IsCheckedProgram}
-use Rattle.ob_coherent_spec.specs.Coherent.{IsLeaving}
+use Rattle.ob_coherent_spec.specs.Coherent.{LeavesWith, IsLeaving}
 use Rattle.ob_coherent_counting_laws.proofs.Objects.{object_there, object_found}
 use Rattle.ob_rest_spec.specs.Modes.{is_owned, is_shared, is_unowned}
 use Rattle.ob_rest_spec.specs.Incoming.{incoming_references}
@@ -33,7 +39,7 @@ use Rattle.ob_rest_laws.specs.Laws.{handle_owners, is_shared_by_handle}
 use Rattle.ob_rest_laws.proofs.Ways.{fails_by_none}
 use Rattle.ob_rest_laws.proofs.Changing.{is_shared_by_field, shared_places}
 use Rattle.ob_invocation_spec.specs.Handles.{NamedHandle, handle_at, put_handles, mark_puts, serves}
-use Rattle.ob_invocation_spec.specs.Entries.{HandleUse, Entry, handle_uses, argument_uses, values_of, used_as_receiver}
+use Rattle.ob_invocation_spec.specs.Entries.{HandleUse, Entry, mode_of_result, handle_uses, argument_uses, values_of, used_as_receiver}
 use Rattle.ob_invocation_spec.specs.Entering.{put_after_use, puts_after, put_into, is_locked_at_entry}
 use Rattle.ob_invocation_spec.specs.Refusals.{receiver_serves}
 use Rattle.ob_invocation_laws.specs.Laws.{AreHandles, returned_owners, put_owners, puts_of_uses, kept_handles}
@@ -43,11 +49,13 @@ use Rattle.ob_invocation_laws.proofs.Lent.{arguments_serve, receiver_may_enter, 
 use Rattle.ob_invocation_laws.proofs.Puts.{found_shared, puts_shared}
 use Rattle.ob_invocation_laws.proofs.Used.{owners_after}
 use Rattle.ob_soundness_laws.specs.Running.{EndsFrom}
-use Rattle.ob_soundness_laws.specs.Requests.{entry_lock, beginning_of, handles_in_run, IsEntered, by_request_new, by_request_call, IsFirst, EntersNew, EntersCall, content_after}
+use Rattle.ob_soundness_laws.specs.Requests.{entry_lock, beginning_on, beginning_of, handles_in_run, IsEntered, by_request_new, by_request_call, IsFirst, EntersNew, EntersCall, content_after}
 use Rattle.ob_soundness_laws.proofs.Entries.{ArgumentsFit, has_passed, enters_new, enters_call, arguments_fit}
 use Rattle.ob_soundness_laws.proofs.Bodies.{EntersBody, entered_body}
-use Rattle.ob_soundness_laws.proofs.Left.{HasLeft, argument_left, receiver_left, made_left, others_left, same_signature}
+use Rattle.ob_soundness_laws.proofs.Left.{HasLeft, began, argument_left, receiver_left, made_left, others_left, same_signature}
 use Rattle.ob_soundness_laws.proofs.Given.{row, Left, returned_less, returned_more, args_less, args_more}
+use Rattle.ob_soundness_laws.proofs.Results.{into_less, into_more, into_marked}
+use Rattle.ob_soundness_laws.proofs.Marked.{shared_either, use_marked, args_marked}
 use Rattle.ob_soundness_laws.proofs.Counts.{slots_more, slots_less, same_handles, carried, returned_append}
 
 -- Shared handles of a store at rest are on marked objects.
@@ -194,3 +202,167 @@ module _ (program : SilicaProgram) (checked : IsCheckedProgram program) (content
         (λ j past. others_left program.table checked.table content e body c k outer alone j past n needs) in
         let x = recv_more needs in let y = arguments_more needs in
         omega (arith, a, b, x, y)
+
+    -- what is given has the mode of what the entry gives
+    given_is : e.given ≡ mode_of_result (gives_back_as c.frame k.whole.parts)
+    given_is = go entered
+      where
+        signature : k.whole.parts.signature ≡ e.signature
+        signature = same_signature program.table checked.table content e body c k outer alone
+
+        go : IsEntered program.table content e → e.given ≡ mode_of_result (gives_back_as c.frame k.whole.parts)
+        go (by_request_new who r labels is passed within) =
+            let m = enters_new program.table content e who r is in
+            let how : c.frame.how ≡ by_new = (began program.table checked.table content e body c k outer alone).how
+            ∙ ap (λ (x : Option HandleUse). (beginning_on e x (values_of content e)).how) m.receiver in
+            m.given ∙ ap (λ (s : Signature). Some s.exit.mode) (sym signature)
+            ∙ ap (λ (h : How). mode_of_result (gives_back_by h c.frame k.whole.parts)) (sym how)
+        go (by_request_call who r labels is passed within) =
+            let m = enters_call program.table content e who r labels is in
+            let how : c.frame.how ≡ by_receiver = (began program.table checked.table content e body c k outer alone).how
+            ∙ ap (λ (x : Option HandleUse). (beginning_on e x (values_of content e)).how) m.receiver in
+            m.given ∙ ap (λ (s : Signature). mode_of_result s.result) (sym signature)
+            ∙ ap (λ (h : How). mode_of_result (gives_back_by h c.frame k.whole.parts)) (sym how)
+
+    module _ (carries : c.notes.handles ≡ handles_in_run content e) (result : Option Value) (gives : result ≡ value_in k.result) where
+      abbrev handles_now : List NamedHandle
+      handles_now = put_handles content.handles (puts_after content e result)
+
+      run_owners : owners n c ≡ in_slots owns n c.frame.slots + in_objects owns n c.notes c.world.objects
+          + (in_cell owns n k.result + 0 + handle_owners (kept_handles content.handles (puts_of_uses (handle_uses content e))) n)
+      run_owners =
+          let a = ap (in_control owns n) k.control in
+          let b = ap (in_waiting owns n) alone in
+          let d = ap (in_handles owns n) carries ∙ carried n (puts_of_uses (handle_uses content e)) content.handles in
+          omega (arith, a, b, d)
+
+      now_owners : handle_owners handles_now n
+          ≡ handle_owners (kept_handles content.handles (puts_of_uses (handle_uses content e))) n
+          + (returned_owners (handle_uses content e) n + put_owners (put_into e result) n)
+      now_owners = owners_after program.table content e result n
+          (record { each = rests.is_content.handles; order = rests.is_content.order }) are_found may_enter
+
+      given_less : put_owners (put_into e result) n ≤ in_cell owns n k.result
+      given_less = into_less (NeedsOwner program.table c.world.objects) e (gives_back_as c.frame k.whole.parts) given_is k.result k.given result gives n
+
+      -- the store has no more owners than the run
+      pub total_less : in_objects owns n c.notes c.world.objects + handle_owners handles_now n ≤ owners n c
+      total_less = omega (arith, run_owners, now_owners, given_less, back_less)
+
+      -- and none beside what the slot of a Shared receiver has
+      pub total_beside : (u : HandleUse) → e.receiver ≡ Some u → is_owned u.handle.mode ≡ false
+          → in_objects owns n c.notes c.world.objects + handle_owners handles_now n + first ≤ owners n c
+      total_beside u at other = let z = back_beside u at other in omega (arith, run_owners, now_owners, given_less, z)
+
+      -- and of an object that must have an owner no fewer
+      pub total_more : NeedsOwner program.table c.world.objects n
+          → owners n c ≤ in_objects owns n c.notes c.world.objects + handle_owners handles_now n
+      total_more needs = let a = back_more needs in
+          let b = into_more (NeedsOwner program.table c.world.objects) e (gives_back_as c.frame k.whole.parts) given_is k.result k.given result gives n needs
+          may_enter.has_into in
+          omega (arith, run_owners, now_owners, a, b)
+
+      -- an object that has an owner in the store isn't marked as shared
+      pub unshared_now : (first_shares : (u : HandleUse) → e.receiver ≡ Some u → is_owned u.entry.mode ≡ true → c.frame.share_entered ≡ false)
+          → 0 < in_objects owns n c.notes c.world.objects + handle_owners handles_now n
+          → (nth_object c.world.objects n).shared ≡ true → ⊥
+      unshared_now first_shares some marked = ⊎_elim (λ l. at_lock e.receiver refl (lock_left l)) (λ t. no_tests t)
+          (k.whole.shared n marked (let z = total_less in omega (arith, z, some)))
+        where
+          no_tests : 0 < open_tests n c → ⊥
+          no_tests t = let a = ap (λ (o : Control). tests_in n c.frame.slots (around o)) k.control in
+              let b = ap (λ (o : List Rest). tests_in n c.frame.slots o) outer in
+              let d = ap (tests_among n) alone in omega (arith, a, b, d, t)
+
+          lock_left : 0 < times n c.world.locked → 0 < locks_entry (entry_lock e.receiver) n
+          lock_left t = let a = ap (λ (o : Control). locks_around n (around o)) k.control in
+              let b = ap (locks_around n) outer in
+              let d = ap (locks_among n) alone in
+              let l = k.whole.locked n in omega (arith, a, b, d, l, t)
+
+          at_use : (u : HandleUse) → e.receiver ≡ Some u → is_locked_at_entry u ≡ true → u.handle.object ≡ n → ⊥
+          at_use u at locked o = by_exit u.exit.mode refl
+            where
+              modes : (is_shared u.handle.mode ≡ true) × (is_owned u.entry.mode ≡ true)
+              modes = both (is_shared u.handle.mode) (is_owned u.entry.mode) locked
+                where
+                  both : (a b : Bool) → (a && b) ≡ true → (a ≡ true) × (b ≡ true)
+                  both true b e = (refl, e)
+                  both false b e = absurd cc
+
+              left : HasLeft program.table c 0 (reference u.handle.object) u.exit
+              left = left_recv u at
+
+              not_owner : (m : Mode) → is_shared m ≡ true → is_owned m ≡ false
+              not_owner Owned e = absurd cc
+              not_owner Shared e = refl
+              not_owner Unowned e = absurd cc
+
+              unserved : (m w x : Mode) → is_shared m ≡ true → is_owned w ≡ true → is_unowned x ≡ true
+                  → (serves m w || ((is_shared m && is_owned w) && not (is_unowned x))) ≡ true → ⊥
+              unserved Shared Owned Unowned a b d e = absurd cc
+              unserved Owned w x a b d e = absurd cc
+              unserved Unowned w x a b d e = absurd cc
+              unserved Shared Shared x a b d e = absurd cc
+              unserved Shared Unowned x a b d e = absurd cc
+              unserved Shared Owned Owned a b d e = absurd cc
+              unserved Shared Owned Shared a b d e = absurd cc
+
+              leaves_as : (m : Mode) → u.exit.mode ≡ m → LeavesWith (NeedsOwner program.table c.world.objects) (held m (states_of u.exit.states)) left.cell
+              leaves_as m is = subst (λ (m : Mode). LeavesWith (NeedsOwner program.table c.world.objects) (held m (states_of u.exit.states)) left.cell) is left.leaves
+
+              self : self_of c.frame.slots ≡ n
+              self = ap (λ (x : Option Cell). unwrap_or (object_in x) 0) left.set ∙ ap (λ (v : Value). unwrap_or (referred v) 0) left.value ∙ o
+
+              how : c.frame.how ≢ by_new
+              how new = let b = (began program.table checked.table content e body c k outer alone).how
+                  ∙ ap (λ (x : Option HandleUse). (beginning_on e x (values_of content e)).how) at in
+                  absurd (let z : by_receiver ≡ by_new = sym b ∙ new in cc)
+
+              by_exit : (m : Mode) → u.exit.mode ≡ m → ⊥
+              by_exit Owned is =
+                  let one : first ≡ 1 = ap (in_cell owns n) left.set ∙ cell_counted owns n left.cell (ap owns (leaves_as Owned is).1) (left.value ∙ ap reference o) in
+                  let t = total_beside u at (not_owner u.handle.mode modes.0) in
+                  let most = k.whole.one_owner n in
+                  omega (arith, one, t, most, some)
+              by_exit Shared is =
+                  let s = k.shares how (ap permission_in left.set ∙ leaves_as Shared is) in
+                  ⊎_elim
+                  (λ none. let t = total_less in let z = subst (λ i. owners i c ≤ 0) self none in omega (arith, z, t, some))
+                  (λ entered. absurd (true≢false (sym entered.0 ∙ first_shares u at modes.1)))
+                  s.1
+              by_exit Unowned is = unserved u.handle.mode u.entry.mode u.exit.mode modes.0 modes.1 (ap is_unowned is) (receiver_may_enter program.table content e may_enter u at)
+
+          at_lock : (r : Option HandleUse) → e.receiver ≡ r → 0 < locks_entry (entry_lock r) n → ⊥
+          at_lock None at l = omega (arith, l)
+          at_lock (Some u) at l = by_lock (is_locked_at_entry u) refl l
+            where
+              by_lock : (b : Bool) → is_locked_at_entry u ≡ b → 0 < locks_entry (if b then Some u.handle.object else None) n → ⊥
+              by_lock true is l = at_use u at is (one_of u.handle.object n l)
+              by_lock false is l = omega (arith, l)
+
+      -- each object that a Shared handle is put on is marked
+      pub puts_are_marked : is_shared_by_handle (puts_after content e result) n ≡ true → (nth_object c.world.objects n).shared ≡ true
+      puts_are_marked is = ⊎_elim at_uses at_into (shared_either (puts_of_uses (handle_uses content e)) (put_into e result) n is)
+        where
+          stands : (j : ℕ) (x : Cell) → c.frame.slots j ≡ Some x → Stands program.table c.world.objects x
+          stands j x set = k.whole.slots j x set
+
+          at_arguments : is_shared_by_handle (puts_of_uses (argument_uses content e)) n ≡ true → (nth_object c.world.objects n).shared ≡ true
+          at_arguments a = args_marked program.table content e.who c n stands 1 e.signature.params e.args (values_of content e) fit left_args
+              (λ j p at. each_at (IsParam program.table) e.signature.params j p body.params at) a
+
+          at_receiver : (r : Option HandleUse) → e.receiver ≡ r
+              → is_shared_by_handle (puts_of_uses (option_to_list r ++ argument_uses content e)) n ≡ true → (nth_object c.world.objects n).shared ≡ true
+          at_receiver None at a = at_arguments a
+          at_receiver (Some u) at a = ⊎_elim
+              (λ x. use_marked program.table c 0 u (left_recv u at) (stands 0) (body.leaves u at) n x)
+              at_arguments
+              (shared_either (put_after_use u) (puts_of_uses (argument_uses content e)) n a)
+
+          at_uses : is_shared_by_handle (puts_of_uses (handle_uses content e)) n ≡ true → (nth_object c.world.objects n).shared ≡ true
+          at_uses a = at_receiver e.receiver refl a
+
+          at_into : is_shared_by_handle (put_into e result) n ≡ true → (nth_object c.world.objects n).shared ≡ true
+          at_into a = into_marked (NeedsOwner program.table c.world.objects) e (gives_back_as c.frame k.whole.parts) given_is k.result k.given
+              result gives n program.table c.world.objects (λ x is. k.returned x is) a
