@@ -127,7 +127,7 @@ row slots n k zero = 0
 row slots n k (suc m) = in_cell owns n (slots k) + row slots n (suc k) m
 
 -- the uses of arguments
-abbrev uses_of : Content → List ℕ → List Param → List Argument → List HandleUse
+abbrev pub uses_of : Content → List ℕ → List Param → List Argument → List HandleUse
 uses_of content who ps args = filter_map (λ (pair : Param × Argument). use_of_argument content who pair.0 pair.1) (zip ps args)
 
 returned_option : (o : Option HandleUse) (us : List HandleUse) (n : ℕ) → returned_owners (cons_option o us) n
@@ -136,12 +136,12 @@ returned_option None us n = omega arith
 returned_option (Some u) us n = omega arith
 
 -- an argument of a handle is a use, and any other is none
-data UsesSo (content : Content) (who : List ℕ) (p : Param) (arg : Argument) (v : Value) : Type 0 where
+pub data UsesSo (content : Content) (who : List ℕ) (p : Param) (arg : Argument) (v : Value) : Type 0 where
   used_handle : (u : HandleUse) → use_of_argument content who p arg ≡ Some u → v ≡ reference u.handle.object → u.exit ≡ p.exit
       → (id : ContractId) → p.of ≡ Reference id u.entry → UsesSo content who p arg v
   used_plain : use_of_argument content who p arg ≡ None → ((m : ℕ) → v ≢ reference m) → UsesSo content who p arg v
 
-uses_so : (table : ClassTable) (content : Content) (who : List ℕ) (p : Param) (arg : Argument) (v : Value)
+pub uses_so : (table : ClassTable) (content : Content) (who : List ℕ) (p : Param) (arg : Argument) (v : Value)
     → value_of content who arg ≡ Some v → is_of_type table content.objects p.of v ≡ true → UsesSo content who p arg v
 uses_so table content who p (int_argument z) v is fits = used_plain refl (λ m e. cc)
 uses_so table content who p (bool_argument b) v is fits = used_plain refl (λ m e. cc)
@@ -175,17 +175,17 @@ owner_serves Unowned Shared s o = absurd cc
 owner_serves Unowned Unowned s o = absurd cc
 
 module _ (table : ClassTable) (content : Content) (who : List ℕ) (c : Configuration) (n : ℕ) where
-  abbrev Left : ℕ → List Param → List Value → Type 0
+  abbrev pub Left : ℕ → List Param → List Value → Type 0
   Left k ps vs = (j : ℕ) (p : Param) (v : Value) → slice_get ps j ≡ Some p → slice_get vs j ≡ Some v → HasLeft table c (k + j) v p.exit
 
-  left_later : (k : ℕ) (p : Param) (ps : List Param) (v : Value) (vs : List Value) → Left k (p ∷ ps) (v ∷ vs) → Left (suc k) ps vs
+  pub left_later : (k : ℕ) (p : Param) (ps : List Param) (v : Value) (vs : List Value) → Left k (p ∷ ps) (v ∷ vs) → Left (suc k) ps vs
   left_later k p ps v vs left j q w a b = subst (λ i. HasLeft table c i w q.exit) (let z : k + suc j ≡ suc k + j = omega arith in z)
       (left (suc j) q w a b)
 
-  left_first : (k : ℕ) (p : Param) (ps : List Param) (v : Value) (vs : List Value) → Left k (p ∷ ps) (v ∷ vs) → HasLeft table c k v p.exit
+  pub left_first : (k : ℕ) (p : Param) (ps : List Param) (v : Value) (vs : List Value) → Left k (p ∷ ps) (v ∷ vs) → HasLeft table c k v p.exit
   left_first k p ps v vs left = subst (λ i. HasLeft table c i v p.exit) (let z : k + 0 ≡ k = omega arith in z) (left 0 p v refl refl)
 
-  at_use : (k : ℕ) (p : Param) (v : Value) (u : HandleUse) → v ≡ reference u.handle.object → u.exit ≡ p.exit
+  pub at_use : (k : ℕ) (p : Param) (v : Value) (u : HandleUse) → v ≡ reference u.handle.object → u.exit ≡ p.exit
       → HasLeft table c k v p.exit → HasLeft table c k (reference u.handle.object) u.exit
   at_use k p v u value exit left = subst (HasLeft table c k (reference u.handle.object)) (sym exit)
       (subst (λ x. HasLeft table c k x p.exit) value left)

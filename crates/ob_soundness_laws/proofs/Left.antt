@@ -37,7 +37,7 @@ pub record HasLeft (table : ClassTable) (c : Configuration) (j : ℕ) (v : Value
 module _ (table : ClassTable) (made : IsClassTable table) (content : Content) (e : Entry) (body : EntersBody table e)
     (c : Configuration) (k : IsLeaving table (entry_lock e.receiver) (beginning_of content e) c) (outer : k.outer ≡ [])
     (alone : c.stack ≡ []) where
-  began : BeganSo table (beginning_of content e) c.frame
+  pub began : BeganSo table (beginning_of content e) c.frame
   began = subst (λ (hs : List Waiting). BeganSo table (beginning_of content e) (outermost c.frame hs)) alone k.whole.began
 
   beginning_contract : (beginning_of content e).contract ≡ e.contract

@@ -28,3 +28,5 @@ pub mod news
 pub mod on_this
 pub mod returns
 pub mod beginning
+pub mod Marked
+pub mod Again

@@ -17,7 +17,11 @@ use Rattle.ob_silica_places.specs.Known.{permission_of_type}
 use Rattle.ob_silica_steps.specs.Cells.{Cell, value_in}
 use Rattle.ob_flow_spec.specs.Contexts.{known_as}
 use Rattle.ob_places_laws.specs.Serving.{Allows}
-use Rattle.ob_coherent_spec.specs.Counting.{in_cell}
+use Rattle.ob_table.specs.Tables.{ClassTable}
+use Rattle.ob_heap_spec.specs.Objects.{Object}
+use Rattle.ob_coherent_spec.specs.Counting.{nth_object, in_cell}
+use Rattle.ob_coherent_spec.specs.Standing.{RefersToShared, Stands}
+use Rattle.ob_rest_laws.specs.Laws.{is_shared_by_handle}
 use Rattle.ob_coherent_spec.specs.Saying.{SaysOf}
 use Rattle.ob_coherent_spec.specs.Coherent.{IsGivenBack}
 use Rattle.ob_soundness_laws.proofs.counting.Cells.{cell_counted, counted_cell, cell_most}
@@ -98,3 +102,32 @@ module _ (N : ℕ → Type 0) (e : Entry) (given : Option ResolvedType) (is_give
             let o = owned_given given cell back (omega (arith, is)) in
             let z = named e.into refl (is_given ∙ o.0) (gives ∙ o.1) in
             let most = cell_most owns n cell in omega (arith, most, is, z)
+
+    -- where a Shared handle is put on what is given, its object is marked
+    pub into_marked : (table : ClassTable) (objects : List Object) → ((x : Cell) → cell ≡ Some x → Stands table objects x)
+        → is_shared_by_handle (put_into e result) n ≡ true → (nth_object objects n).shared ≡ true
+    into_marked table objects stands is = ⊎_elim (λ none. absurd (let z : false ≡ true = ap (λ ps. is_shared_by_handle ps n) (sym none) ∙ is in cc)) some (into_put e result)
+      where
+        some : IntoPut e result → (nth_object objects n).shared ≡ true
+        some i = by_mode i.mode refl (nat_eq i.object n) refl (ap (λ ps. is_shared_by_handle ps n) (sym i.is) ∙ is)
+          where
+            shared_at : i.mode ≡ Shared → i.object ≡ n → (nth_object objects n).shared ≡ true
+            shared_at m o =
+                let h = held_so given cell back Shared (sym is_given ∙ i.given ∙ ap (λ (m : Mode). Some m) m) in
+                let value : Some h.0.value ≡ Some (reference i.object) = sym (ap value_in h.1) ∙ sym gives ∙ i.gives in
+                subst (RefersToShared objects) (same_Some h.0.value (reference i.object) value ∙ ap reference o) ((stands h.0 h.1).marked h.3)
+
+            by_mode : (m : Mode) → i.mode ≡ m → (b : Bool) → nat_eq i.object n ≡ b
+                → ((nat_eq i.object n && is_shared i.mode) || false) ≡ true → (nth_object objects n).shared ≡ true
+            by_mode Shared m true o e = shared_at m (let y : i.object ≡ n = grind (arith, nat_tests, o) in y)
+            by_mode Shared m false o e = absurd (let z = rw o at e in cc)
+            by_mode Owned m b o e = absurd (none (nat_eq i.object n) (rw m at e))
+              where
+                none : (b : Bool) → ((b && false) || false) ≡ true → ⊥
+                none true e = absurd cc
+                none false e = absurd cc
+            by_mode Unowned m b o e = absurd (none (nat_eq i.object n) (rw m at e))
+              where
+                none : (b : Bool) → ((b && false) || false) ≡ true → ⊥
+                none true e = absurd cc
+                none false e = absurd cc
