@@ -13,3 +13,5 @@ pub mod Left
 pub mod Sound
 pub mod Given
 pub mod Begins
+pub mod Counts
+pub mod Results
