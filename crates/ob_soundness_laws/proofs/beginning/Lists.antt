@@ -1,5 +1,5 @@
 -- What a test finds in none of the items of a list.
-use Rattle.std.proofs.Common.{◌≡◌, ℕ, zero, suc, ◌+◌, Bool, true, false, cond, ◌&&◌, ◌||◌, List, [], ◌∷◌, ◌++◌, map, filter, Option, Some, None, refl, sym, ap, ◌∙◌, subst, arith, ⊎_elim, true≢false}
+use Rattle.std.proofs.Common.{◌≡◌, ℕ, zero, suc, ◌+◌, Bool, true, false, cond, ◌&&◌, ◌||◌, List, [], ◌∷◌, ◌++◌, map, filter, Option, Some, None, refl, sym, ap, ◌∙◌, subst, arith, ⊎_elim}
 use Rattle.std.specs.Prelude.{slice_get, find, filter_map, flat_map}
 use Rattle.std.specs.List.{list_any, enumerate_from, cons_option}
 use Rattle.std.proofs.lemmas.Bool.{cases_Bool, or_parts}
@@ -11,19 +11,6 @@ none_at test [] k x none e = absurd (cc)
 none_at test (y ∷ xs) zero x none e = subst (λ z. test z ≡ false) (same_Some y x e)
     (or_parts (test y) (list_any test xs) none).0
 none_at test (y ∷ xs) (suc k) x none e = none_at test xs k x (or_parts (test y) (list_any test xs) none).1 e
-
-pub any_at : {A : Type 0} (test : A → Bool) (xs : List A) (k : ℕ) (x : A) → slice_get xs k ≡ Some x → test x ≡ true
-    → list_any test xs ≡ true
-any_at test xs k x e is = ⊎_elim (λ z. z) (λ none. absurd (true≢false (sym is ∙ none_at test xs k x none e)))
-    (cases_Bool (list_any test xs))
-
-pub any_found : {A : Type 0} (test : A → Bool) (xs : List A) → list_any test xs ≡ true
-    → (k : ℕ) × (x : A) × (slice_get xs k ≡ Some x) × (test x ≡ true)
-any_found test [] e = absurd (true≢false (sym e))
-any_found test (x ∷ xs) e = ⊎_elim
-    (λ yes. (0, x, refl, yes))
-    (λ no. let r = any_found test xs (sym (ap (λ b. b || list_any test xs) no) ∙ e) in (suc r.0, r.1, r.2, r.3))
-    (cases_Bool (test x))
 
 pub any_filter : {A : Type 0} (test p : A → Bool) (xs : List A) → list_any test (filter p xs)
     ≡ list_any (λ x. p x && test x) xs
@@ -78,15 +65,6 @@ enumerate_at i (y ∷ xs) zero x e =
     ap (λ z. Some (i, z)) (same_Some y x e) ∙ ap (λ j. Some (j, x)) (let z : i ≡ i + 0 = omega arith in z)
 enumerate_at i (y ∷ xs) (suc k) x e =
     enumerate_at (i + 1) xs k x e ∙ ap (λ j. Some (j, x)) (let z : i + 1 + k ≡ i + suc k = omega arith in z)
-
-pub find_at : {A : Type 0} (test : A → Bool) (xs : List A) (x : A) → find test xs ≡ Some x
-    → (k : ℕ) × (slice_get xs k ≡ Some x) × (test x ≡ true)
-find_at test [] x e = absurd (cc)
-find_at {A} test (y ∷ xs) x e = ⊎_elim
-    (λ yes. let is : y ≡ x = same_Some y x (sym (ap (λ b. cond b (Some y) (find test xs)) yes) ∙ e) in
-    (0, ap Some is, subst (λ z. test z ≡ true) is yes))
-    (λ no. let r = find_at test xs x (sym (ap (λ b. cond b (Some y) (find test xs)) no) ∙ e) in (suc r.0, r.1, r.2))
-    (cases_Bool (test y))
 
 pub find_none : {A : Type 0} (test : A → Bool) (xs : List A) → find test xs ≡ None → list_any test xs ≡ false
 find_none test [] e = refl
