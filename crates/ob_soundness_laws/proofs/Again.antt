@@ -20,17 +20,17 @@ use Rattle.ob_heap_spec.specs.Contents.{HandleName, Handle, Content, IsObject, I
 use Rattle.ob_heap_spec.specs.Worlds.{World}
 use Rattle.ob_silica_steps.specs.Cells.{Cell, value_in, object_in, permission_in}
 use Rattle.ob_silica_steps.specs.Here.{self_of}
-use Rattle.ob_coherent_counting_laws.proofs.Cells.{cell_counted}
+use Rattle.ob_soundness_laws.proofs.counting.Cells.{cell_counted}
 use Rattle.ob_perm.specs.Masks.{held, states_of}
 use Rattle.ob_silica_steps.specs.Configurations.{SilicaProgram, Rest, How, Control, Configuration, by_receiver, by_new}
 use Rattle.ob_coherent_spec.specs.Counting.{nth_object, in_cell, in_slots, in_objects, in_handles, in_waiting, in_control, owners}
 use Rattle.ob_coherent_spec.specs.Runs.{times, around, locks_around, locks_among, locks_entry, open_tests, tests_in, tests_among}
 use Rattle.ob_coherent_spec.specs.Waiting.{gives_back_by, gives_back_as}
-use Rattle.ob_coherent_counting_laws.proofs.Numbers.{one_of}
+use Rattle.ob_soundness_laws.proofs.counting.Numbers.{one_of}
 use Rattle.ob_coherent_spec.specs.Standing.{Stands, NeedsOwner}
 use Rattle.ob_coherent_spec.specs.Remaining.{IsCheckedProgram}
 use Rattle.ob_coherent_spec.specs.Coherent.{LeavesWith, IsLeaving}
-use Rattle.ob_coherent_counting_laws.proofs.Objects.{object_there, object_found}
+use Rattle.ob_soundness_laws.proofs.counting.Objects.{object_there, object_found}
 use Rattle.ob_rest_spec.specs.Modes.{is_owned, is_shared, is_unowned}
 use Rattle.ob_rest_spec.specs.Incoming.{incoming_references}
 use Rattle.ob_rest_spec.specs.Failing.{shared_unmarked}
