@@ -16,3 +16,4 @@ pub mod Counts
 pub mod Results
 pub mod Marked
 pub mod Again
+pub mod Rests
