@@ -12,6 +12,7 @@ pub mod Bodies
 pub mod Left
 pub mod Sound
 pub mod Given
+pub mod Begins
 pub mod Counts
 pub mod Results
 pub mod Marked

@@ -1,0 +1,12 @@
+pub mod Lists
+pub mod Rests
+pub mod Totals
+pub mod Stored
+pub mod Passed
+pub mod Checked
+pub mod Whole
+pub mod Call
+pub mod CallBegins
+pub mod New
+pub mod NewBegins
+pub mod Begins

@@ -1,0 +1,4 @@
+pub mod Uses
+pub mod Marked
+pub mod Passed
+pub mod Starts
