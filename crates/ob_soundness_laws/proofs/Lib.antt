@@ -18,3 +18,4 @@ pub mod Results
 pub mod Marked
 pub mod Again
 pub mod Rests
+pub mod AllSound
