@@ -90,14 +90,14 @@ module _ (table : ClassTable) (content : Content) (rests : IsStoreAtRest table c
 
 module _ (program : SilicaProgram) (checked : IsCheckedProgram program) (content : Content)
     (rests : IsStoreAtRest program.table content) (e : Entry) (entered : IsEntered program.table content e) where
-  may_enter : MayEnter program.table content e
+  pub may_enter : MayEnter program.table content e
   may_enter = go entered
     where
       go : IsEntered program.table content e → MayEnter program.table content e
       go (by_request_new who r labels is passed within) = new_may_enter program.table content who r e passed is
       go (by_request_call who r labels is passed within) = call_may_enter program.table content who r e passed is
 
-  are_found : AreFound content (handle_uses content e)
+  pub are_found : AreFound content (handle_uses content e)
   are_found = go entered
     where
       go : IsEntered program.table content e → AreFound content (handle_uses content e)

@@ -30,3 +30,5 @@ pub mod returns
 pub mod beginning
 pub mod Marked
 pub mod Again
+pub mod Rests
+pub mod AllSound
