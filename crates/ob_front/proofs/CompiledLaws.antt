@@ -12,7 +12,8 @@ use Rattle.ob_lower_formed.proofs.Law.{lowering_makes_all_well}
 use Rattle.ob_lower_functions.proofs.Bodies.{gives_terms}
 use Rattle.ob_front.specs.Lowered.{AreLoweredTo}
 use Rattle.ob_front.specs.Programs.{IsProgram}
-use Rattle.ob_front.specs.Compiled.{IsCompiledProgram}
+use Rattle.ob_front.specs.Compiled.{IsCompiledProgram, IsSoundProgram}
+use Rattle.ob_soundness_laws.proofs.Together.{compiled_sound}
 use Rattle.ob_front.proofs.StagesLaws.{well_formed}
 use Rattle.ob_front.proofs.ProgramsLaws.{all_numbered}
 
@@ -43,3 +44,7 @@ accepted_texts_are_compiled_lem text table bodies is =
       states = all_numbered text table bodies is.terms;
       derive = is.derive;
     }
+
+-- such a program is sound
+pub compiled_is_sound : (table : ClassTable) (bodies : List SilicaBody) → IsCompiledProgram table bodies → IsSoundProgram table bodies
+compiled_is_sound table bodies is = compiled_sound table bodies is.lowered is.each is.well_formed is.derive

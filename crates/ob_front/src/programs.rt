@@ -5,7 +5,7 @@ ghost use Rattle.ob_silica.specs.Terms.{SilicaBody};
 ghost use Rattle.ob_silica.specs.TermsView.{silica_body_of};
 ghost use Rattle.ob_table.specs.Tables.{ClassTable};
 ghost use Rattle.ob_front.specs.Programs.{HasTerms, HasTermsFault, IsProgram, IsAccepted, HasTextFault};
-ghost use Rattle.ob_front.specs.Compiled.{IsCompiledProgram};
+ghost use Rattle.ob_front.specs.Compiled.{IsCompiledProgram, IsSoundProgram};
 ghost use Rattle.ob_base.specs.TextErrors.{OnFault};
 
 use crate::checking::check_bodies;
@@ -44,10 +44,12 @@ pub fn lowered(alloc: Global, text: &[u8]) -> Result<Compiled, CompileError>
 }
 
 /// The program of a text, or its first fault: one that `lowered` tells, or the first premise of the permission rules that
-/// fails, body by body.
+/// fails, body by body. The program is sound: no request of it on a store at rest goes wrong, each leaves the store at rest, and
+/// each stored asset that was never shared nor disowned has exactly one owner.
 pub fn compile(alloc: Global, text: &[u8]) -> Result<Compiled, CompileError>
     ensures program { IfOk result (λ c. IsProgram text.now c.table (map silica_body_of c.bodies)) }
     ensures compiled { IfOk result (λ c. IsCompiledProgram c.table (map silica_body_of c.bodies)) }
+    ensures sound { IfOk result (λ c. IsSoundProgram c.table (map silica_body_of c.bodies)) }
     ensures fault { IfErr result (λ e. OnFault e (HasTextFault text.now)) }
 {
     let program = lowered(alloc, text)?;

@@ -32,3 +32,4 @@ pub mod Marked
 pub mod Again
 pub mod Rests
 pub mod AllSound
+pub mod Together

@@ -24,16 +24,16 @@ use Rattle.ob_coherent_spec.specs.Standing.{IsOfKind, NeedsOwner}
 use Rattle.ob_coherent_spec.specs.Saying.{SaysOf}
 use Rattle.ob_coherent_spec.specs.Remaining.{IsCheckedProgram}
 use Rattle.ob_coherent_spec.specs.Coherent.{IsLeaving, outermost}
-use Rattle.ob_coherent_counting_laws.proofs.Objects.{object_found}
-use Rattle.ob_coherent_places_laws.proofs.Standing.{reference_is}
+use Rattle.ob_soundness_laws.proofs.counting.Objects.{object_found}
+use Rattle.ob_soundness_laws.proofs.places.Standing.{reference_is}
 use Rattle.ob_rest_spec.specs.Modes.{is_owned, is_shared}
 use Rattle.ob_rest_spec.specs.Incoming.{owners}
 use Rattle.ob_rest_spec.specs.References.{field_references}
 use Rattle.ob_rest_spec.specs.AtRest.{IsAtRest, IsStoreAtRest}
 use Rattle.ob_rest_laws.specs.Laws.{handle_owners, is_shared_by_handle}
-use Rattle.ob_rest_counting_laws.proofs.Fields.{owning, in_run_fields}
-use Rattle.ob_rest_counting_laws.proofs.Handles.{owning_handles, store_owners}
-use Rattle.ob_rest_counting_laws.proofs.Ending.{HeldAsDeclared, ended_owning_less, ended_owning_same}
+use Rattle.ob_soundness_laws.proofs.stores.Fields.{owning, in_run_fields}
+use Rattle.ob_soundness_laws.proofs.stores.Handles.{owning_handles, store_owners}
+use Rattle.ob_soundness_laws.proofs.stores.Ending.{HeldAsDeclared, ended_owning_less, ended_owning_same}
 use Rattle.ob_invocation_spec.specs.Requests.{NewRequest, CallRequest, new_request, call_request, argument_names, HasLabels}
 use Rattle.ob_invocation_spec.specs.Handles.{NamedHandle, put_handles, mark_puts}
 use Rattle.ob_invocation_spec.specs.Entries.{HandleUse, Entry}

@@ -1,6 +1,6 @@
 use Rattle.std.proofs.lemmas.Result.{err_from_is_err_and}
 use Rattle.ob_front.proofs.ProgramsLaws.{terms_told, conditions_met, numbered_slice, slice_told, slice_derives}
-use Rattle.ob_front.proofs.CompiledLaws.{accepted_texts_are_compiled_lem}
+use Rattle.ob_front.proofs.CompiledLaws.{accepted_texts_are_compiled_lem, compiled_is_sound}
 use Rattle.ob_front.proofs.programs.compile.Goals as goal
 
 pub check_bodies-requires-clause-table : goal.check_bodies-requires-clause-table
@@ -26,3 +26,9 @@ pub returns-clause-compiled : goal.returns-clause-compiled
 returns-clause-compiled c =
     accepted_texts_are_compiled_lem _ _ _
     (slice_derives _ _ _ _ c.in_ok-program.ensures.terms c.as_slice.ensures c.in_ok-check_bodies.ensures.derive)
+
+pub returns-clause-sound : goal.returns-clause-sound
+returns-clause-sound c =
+    compiled_is_sound _ _
+    (accepted_texts_are_compiled_lem _ _ _
+    (slice_derives _ _ _ _ c.in_ok-program.ensures.terms c.as_slice.ensures c.in_ok-check_bodies.ensures.derive))
