@@ -6,7 +6,7 @@ use Rattle.ob_silica.specs.Terms.{SilicaBody}
 use Rattle.ob_silica_formed.specs.WellFormedTerms.{IsWellFormedTerms}
 use Rattle.ob_flow_spec.specs.Deriving.{Derives}
 use Rattle.ob_lower_correct.specs.Law.{IsLoweredProgram}
-use Rattle.ob_soundness_laws.specs.Sound.{IsSound}
+use Rattle.ob_soundness_laws.specs.Sound.{IsPermissionSound}
 use Rattle.ob_front.specs.Checked.{AllNumbered}
 
 -- A class table and terms as the laws on programs want them, where what is proved of the runs of an accepted text begins:
@@ -23,4 +23,4 @@ pub record IsCompiledProgram (table : ClassTable) (bodies : List SilicaBody) : T
 -- A class table and terms are a sound program: no request on a store at rest goes wrong, each leaves the store at rest, and each
 -- stored asset that is marked neither as shared nor as disowned has exactly one owner.
 abbrev pub IsSoundProgram : ClassTable → List SilicaBody → Type 0
-IsSoundProgram table bodies = IsSound (record { table = table; bodies = bodies })
+IsSoundProgram table bodies = IsPermissionSound (record { table = table; bodies = bodies })

@@ -8,7 +8,7 @@ mod programs;
 mod stages;
 
 pub use programs::{
-    Compiled, accepted_texts_are_compiled, check_program, compile, lowered,
-    never_accepted_and_faulty, one_text_fault,
+    Compiled, accepted_texts_are_compiled, accepted_texts_are_sound, check_program, compile,
+    lowered, never_accepted_and_faulty, one_text_fault,
 };
 pub use stages::{CompileError, class_table, syntax_tree};

@@ -75,6 +75,13 @@ pub fn accepted_texts_are_compiled()
         → IsCompiledProgram table bodies }
 {}
 
+/// A text that is accepted is a sound program: no request of it on a store at rest goes wrong, each leaves the store at rest, and
+/// each stored asset that was never shared nor disowned has exactly one owner.
+pub fn accepted_texts_are_sound()
+    ensures { (text : List ℕ) (table : ClassTable) (bodies : List SilicaBody) → IsProgram text table bodies
+        → IsSoundProgram table bodies }
+{}
+
 /// A text that is accepted has no first fault.
 pub fn never_accepted_and_faulty()
     ensures { (text : List ℕ) (fault : ProgramFault) → HasTextFault text fault → ¬ (IsAccepted text) }

@@ -168,7 +168,8 @@ NoRequestGoesWrong =
     → IsLoweredProgram program → IsStoreAtRest program.table content → HasLabels request
     → LeavesAtRest program.table (source_invocation program.table content request fuel)
 
--- each object that a frame owns is in one of the states that are known of it there
+-- each object that a frame owns is in one of the states that are known of it there; where a body begins, these are the ones that
+-- its parameters declare
 abbrev pub MeetsStates : ClassTable → Configuration → Type 0
 MeetsStates table c = (k : ℕ) (x : Cell) (a : States) → c.frame.slots k ≡ Some x → x.note.permission ≡ owned a
     → RefersToIn table c.world.objects x.note.kind a x.value

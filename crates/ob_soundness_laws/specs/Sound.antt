@@ -25,7 +25,7 @@ LeavesOneOwner table (invoked i) = EachAssetHasOneOwner table i.content
 LeavesOneOwner table goes_wrong = ⊥
 
 -- A sound program. What is asked of each store is that it's at rest, as the empty store is.
-pub record IsSound (program : SilicaProgram) : Type 0 where
+pub record IsPermissionSound (program : SilicaProgram) : Type 0 where
   -- a step from a coherent configuration comes to a coherent one, to an end, or to an abort, and is never stuck
   pub steps_keep : (entry : Option ℕ) (beginning : Beginning) (c : Configuration) → IsCoherent program.table entry beginning c
       → StepsSo program.table entry beginning (step program c)
@@ -51,4 +51,4 @@ abbrev pub CompiledProgramsAreSound : Type 0
 CompiledProgramsAreSound =
     (table : ClassTable) (bodies : List SilicaBody) → IsLoweredProgram (record { table = table; bodies = bodies })
     → HasBodies table → All (IsWellFormedTerms table) bodies → All (Derives table) bodies
-    → IsSound (record { table = table; bodies = bodies })
+    → IsPermissionSound (record { table = table; bodies = bodies })
