@@ -117,7 +117,7 @@ pub record IsFirst (content : Content) (e : Entry) (first : Configuration) : Typ
   pub share_entered : (u : HandleUse) → e.receiver ≡ Some u → is_owned u.entry.mode ≡ true
       → (outermost first.frame first.stack).share_entered ≡ false
 
--- how a run starts: with a first configuration, or with an abort
+-- how a run starts: with a first configuration, or with an abort; of one that gets stuck nothing is said
 abbrev pub StartsSo : Content → Entry → NextStep → Type 0
 StartsSo content e (goes first) = IsFirst content e first
 StartsSo content e (ended result w) = ⊥
@@ -168,13 +168,14 @@ NoRequestGoesWrong =
     → IsLoweredProgram program → IsStoreAtRest program.table content → HasLabels request
     → LeavesAtRest program.table (source_invocation program.table content request fuel)
 
--- each object that a frame owns is in one of the states that are known of it there
+-- each object that a slot of the frame owns is in one of the states that are noted there
 abbrev pub MeetsStates : ClassTable → Configuration → Type 0
 MeetsStates table c = (k : ℕ) (x : Cell) (a : States) → c.frame.slots k ≡ Some x → x.note.permission ≡ owned a
     → RefersToIn table c.world.objects x.note.kind a x.value
 
--- No transaction meets an object that it owns outside the declared states: in each configuration of a run that was entered in a
--- store at rest, each object that the frame owns is in one of the states that are known of it there.
+-- No transaction meets an object that it owns outside its states: in each configuration of a run that was entered in a store at
+-- rest, each object that a slot of the innermost frame owns is in one of the states that are noted there. At its beginning a body's
+-- slots are noted as the parameters declare.
 abbrev pub RunsMeetStates : Type 0
 RunsMeetStates =
     (program : SilicaProgram) (content : Content) (fuel : ℕ) (e : Entry) (n : ℕ) (c : Configuration)

@@ -40,7 +40,7 @@ pub record IsSound (program : SilicaProgram) : Type 0 where
   -- each stored asset that is marked neither as shared nor as disowned has exactly one owner
   pub assets : (content : Content) (request : Request) (fuel : ℕ) → IsStoreAtRest program.table content → HasLabels request
       → LeavesOneOwner program.table (source_invocation program.table content request fuel)
-  -- no transaction meets an object that it owns outside the states that are known of it
+  -- no transaction meets an object that a slot of its frame owns outside the states that are noted there
   pub states : (content : Content) (fuel : ℕ) (e : Entry) (n : ℕ) (c : Configuration) → IsStoreAtRest program.table content
       → IsEntered program.table content e → then_steps (started program content fuel e) (steps program n) ≡ goes c
       → MeetsStates program.table c
