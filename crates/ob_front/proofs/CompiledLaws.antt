@@ -40,11 +40,13 @@ accepted_texts_are_compiled_lem text table bodies is =
     record {
       lowered = record { table = known.conditions; well_formed = known.bodies; lowered = lower };
       each = known.each;
-      well_formed = lowering_makes_all_well table table.bodies bodies known.bodies lower (all_few table table.bodies bodies is.terms.lowered);
+      checked = λ k d lt. record {
+        well_formed = lowering_makes_all_well table table.bodies bodies known.bodies lower (all_few table table.bodies bodies is.terms.lowered) k d lt;
+        derives = is.derive k d lt;
+      };
       states = all_numbered text table bodies is.terms;
-      derive = is.derive;
     }
 
 -- such a program is sound
 pub compiled_is_sound : (table : ClassTable) (bodies : List SilicaBody) → IsCompiledProgram table bodies → IsSoundProgram table bodies
-compiled_is_sound table bodies is = compiled_sound table bodies is.lowered is.each is.well_formed is.derive
+compiled_is_sound table bodies is = compiled_sound table bodies is.lowered is.each is.checked

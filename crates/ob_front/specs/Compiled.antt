@@ -3,8 +3,7 @@ use Rattle.std.specs.Prelude.{List, All}
 use Rattle.ob_table.specs.Tables.{ClassTable}
 use Rattle.ob_table_spec.specs.WellFormed.{HasBodies}
 use Rattle.ob_silica.specs.Terms.{SilicaBody}
-use Rattle.ob_silica_formed.specs.WellFormedTerms.{IsWellFormedTerms}
-use Rattle.ob_flow_spec.specs.Deriving.{Derives}
+use Rattle.ob_coherent_spec.specs.Remaining.{IsCheckedBody}
 use Rattle.ob_lower_correct.specs.Law.{IsLoweredProgram}
 use Rattle.ob_soundness_laws.specs.Sound.{IsPermissionSound}
 use Rattle.ob_front.specs.Checked.{AllNumbered}
@@ -16,9 +15,8 @@ use Rattle.ob_front.specs.Checked.{AllNumbered}
 pub record IsCompiledProgram (table : ClassTable) (bodies : List SilicaBody) : Type 0 where
   pub lowered : IsLoweredProgram (record { table = table; bodies = bodies })
   pub each : HasBodies table
-  pub well_formed : All (IsWellFormedTerms table) bodies
+  pub checked : All (IsCheckedBody table) bodies
   pub states : AllNumbered bodies
-  pub derive : All (Derives table) bodies
 
 -- A class table and terms are a sound program: no request on a store at rest goes wrong, each leaves the store at rest, and each
 -- stored asset that is marked neither as shared nor as disowned has exactly one owner.

@@ -1,23 +1,19 @@
 -- Where the run of a request has ended, the store is at rest again.
-use Rattle.std.proofs.Common.{◌≡◌, ◌≢◌, ℕ, zero, suc, ◌+◌, ◌<◌, ◌≤◌, Bool, true, false, not, ◌&&◌, ◌||◌, List, [], ◌∷◌, ◌++◌, length, map, Option, Some, None, refl, sym, ap, subst, ◌∙◌, arith, true≢false, ⊎_elim, ◌⊎◌, inl, inr}
-use Rattle.std.specs.Prelude.{nat_eq, slice_get, option_to_list, unwrap_or, All, if◌then◌else◌, IsTrue}
+use Rattle.std.proofs.Common.{◌≡◌, ◌≢◌, ℕ, suc, ◌+◌, ◌<◌, ◌≤◌, Bool, true, false, not, ◌&&◌, ◌||◌, List, [], ◌∷◌, ◌++◌, length, Option, Some, None, refl, sym, ap, subst, ◌∙◌, arith, true≢false, ⊎_elim}
+use Rattle.std.specs.Prelude.{nat_eq, option_to_list, unwrap_or, All, if◌then◌else◌}
 use Rattle.std.specs.List.{list_any}
-use Rattle.std.proofs.lemmas.Bool.{cases_Bool}
-use Rattle.std.proofs.lemmas.Bool.Decides.{nat_tests, eqb_tells}
+use Rattle.std.proofs.lemmas.Bool.Decides.{nat_tests}
 use Rattle.std.proofs.lemmas.Option.{same_Some}
-use Rattle.ob_base.specs.Limits.{most_slots, most_objects}
-use Rattle.ob_base.specs.Names.{is_label}
+use Rattle.ob_base.specs.Limits.{most_slots}
 use Rattle.ob_base.specs.declared.permission.Mode.{Mode}
 use Rattle.ob_base.specs.declared.permission.Mode.TheVariants.{Owned, Shared, Unowned}
-use Rattle.ob_perm.specs.Permissions.{shared, owns}
+use Rattle.ob_perm.specs.Permissions.{owns}
 use Rattle.ob_table.specs.Tables.{ClassTable}
 use Rattle.ob_table.specs.declared.contract.Signature.{Signature}
 use Rattle.ob_table_spec.specs.Conditions.{IsParam}
 use Rattle.ob_places_laws.proofs.Tables.{each_at}
 use Rattle.ob_heap_spec.specs.Values.{Value, reference, referred}
-use Rattle.ob_heap_spec.specs.Objects.{Object}
-use Rattle.ob_heap_spec.specs.Contents.{HandleName, Handle, Content, IsObject, IsHandle, object_at}
-use Rattle.ob_heap_spec.specs.Worlds.{World}
+use Rattle.ob_heap_spec.specs.Contents.{Content, IsHandle, object_at}
 use Rattle.ob_silica_steps.specs.Cells.{Cell, value_in, object_in, permission_in}
 use Rattle.ob_silica_steps.specs.Here.{self_of}
 use Rattle.ob_soundness_laws.proofs.counting.Cells.{cell_counted}
@@ -30,7 +26,7 @@ use Rattle.ob_soundness_laws.proofs.counting.Numbers.{one_of}
 use Rattle.ob_coherent_spec.specs.Standing.{Stands, NeedsOwner}
 use Rattle.ob_coherent_spec.specs.Remaining.{IsCheckedProgram}
 use Rattle.ob_coherent_spec.specs.Coherent.{LeavesWith, IsLeaving}
-use Rattle.ob_soundness_laws.proofs.counting.Objects.{object_there, object_found}
+use Rattle.ob_soundness_laws.proofs.counting.Objects.{object_there}
 use Rattle.ob_rest_spec.specs.Modes.{is_owned, is_shared, is_unowned}
 use Rattle.ob_rest_spec.specs.Incoming.{incoming_references}
 use Rattle.ob_rest_spec.specs.Failing.{shared_unmarked}
@@ -38,25 +34,23 @@ use Rattle.ob_rest_spec.specs.AtRest.{IsStoreAtRest}
 use Rattle.ob_rest_laws.specs.Laws.{handle_owners, is_shared_by_handle}
 use Rattle.ob_rest_laws.proofs.Ways.{fails_by_none}
 use Rattle.ob_rest_laws.proofs.Changing.{is_shared_by_field, shared_places}
-use Rattle.ob_invocation_spec.specs.Handles.{NamedHandle, handle_at, put_handles, mark_puts, serves}
+use Rattle.ob_invocation_spec.specs.Handles.{NamedHandle, handle_at, put_handles, serves}
 use Rattle.ob_invocation_spec.specs.Entries.{HandleUse, Entry, mode_of_result, handle_uses, argument_uses, values_of, used_as_receiver}
 use Rattle.ob_invocation_spec.specs.Entering.{put_after_use, puts_after, put_into, is_locked_at_entry}
-use Rattle.ob_invocation_spec.specs.Refusals.{receiver_serves}
-use Rattle.ob_invocation_laws.specs.Laws.{AreHandles, returned_owners, put_owners, puts_of_uses, kept_handles}
+use Rattle.ob_invocation_laws.specs.Laws.{returned_owners, put_owners, puts_of_uses, kept_handles}
 use Rattle.ob_invocation_laws.proofs.Handles.{head_of, tail_of}
 use Rattle.ob_invocation_laws.proofs.Entered.{MayEnter, AreFound, new_may_enter, call_may_enter, new_found, call_found}
-use Rattle.ob_invocation_laws.proofs.Lent.{arguments_serve, receiver_may_enter, puts_marked, returned_use}
-use Rattle.ob_invocation_laws.proofs.Puts.{found_shared, puts_shared}
+use Rattle.ob_invocation_laws.proofs.Lent.{arguments_serve, receiver_may_enter, returned_use}
+use Rattle.ob_invocation_laws.proofs.Puts.{found_shared}
 use Rattle.ob_invocation_laws.proofs.Used.{owners_after}
-use Rattle.ob_soundness_laws.specs.Running.{EndsFrom}
-use Rattle.ob_soundness_laws.specs.Requests.{entry_lock, beginning_on, beginning_of, handles_in_run, IsEntered, by_request_new, by_request_call, IsFirst, EntersNew, EntersCall, content_after}
+use Rattle.ob_soundness_laws.specs.Requests.{entry_lock, beginning_on, beginning_of, handles_in_run, IsEntered, by_request_new, by_request_call}
 use Rattle.ob_soundness_laws.proofs.Entries.{ArgumentsFit, has_passed, enters_new, enters_call, arguments_fit}
 use Rattle.ob_soundness_laws.proofs.Bodies.{EntersBody, entered_body}
 use Rattle.ob_soundness_laws.proofs.Left.{HasLeft, began, argument_left, receiver_left, made_left, others_left, same_signature}
 use Rattle.ob_soundness_laws.proofs.Given.{row, Left, returned_less, returned_more, args_less, args_more}
 use Rattle.ob_soundness_laws.proofs.Results.{into_less, into_more, into_marked}
 use Rattle.ob_soundness_laws.proofs.Marked.{shared_either, use_marked, args_marked}
-use Rattle.ob_soundness_laws.proofs.Counts.{slots_more, slots_less, same_handles, carried, returned_append}
+use Rattle.ob_soundness_laws.proofs.Counts.{slots_more, slots_less, carried, returned_append}
 
 -- Shared handles of a store at rest are on marked objects.
 module _ (table : ClassTable) (content : Content) (rests : IsStoreAtRest table content) (n : ℕ) where

@@ -1,13 +1,9 @@
 -- How the owners where a run has ended compare with those of the store after it.
-use Rattle.std.proofs.Common.{◌≡◌, ◌≢◌, ℕ, zero, suc, ◌+◌, ◌<◌, ◌≤◌, Bool, true, false, cond, not, ◌&&◌, ◌||◌, List, [], ◌∷◌, ◌++◌, length, map, filter, Option, Some, None, refl, sym, ap, subst, ◌∙◌, arith, true≢false, eq-eqb, ⊎_elim, ◌⊎◌, inl, inr}
-use Rattle.std.specs.Prelude.{nat_eq, slice_get, option_to_list, if◌then◌else◌, ⊤}
-use Rattle.std.proofs.lemmas.Bool.{cases_Bool}
+use Rattle.std.proofs.Common.{◌≡◌, ℕ, zero, suc, ◌+◌, ◌<◌, ◌≤◌, Bool, true, false, cond, not, ◌&&◌, List, [], ◌∷◌, ◌++◌, length, map, filter, Some, refl, sym, ap, subst, ◌∙◌, arith, ⊎_elim, ◌⊎◌, inl, inr}
+use Rattle.std.specs.Prelude.{nat_eq, if◌then◌else◌}
 use Rattle.ob_base.specs.Limits.{most_slots}
 use Rattle.ob_perm.specs.Permissions.{owns, unowned}
-use Rattle.ob_table.specs.Tables.{ClassTable}
-use Rattle.ob_heap_spec.specs.Contents.{HandleName, Handle}
-use Rattle.ob_silica_steps.specs.Cells.{Cell}
-use Rattle.ob_silica_steps.specs.Configurations.{SlotCells, HandleNote}
+use Rattle.ob_silica_steps.specs.Configurations.{SlotCells}
 use Rattle.ob_coherent_spec.specs.Counting.{sum_below, one_if, in_cell, in_slots, in_handles}
 use Rattle.ob_soundness_laws.proofs.counting.Sums.{sum_same}
 use Rattle.ob_soundness_laws.proofs.stores.Lists.{sum_first, sum_further}
@@ -19,7 +15,7 @@ use Rattle.ob_base.specs.declared.permission.Mode.{Mode}
 use Rattle.ob_base.specs.declared.permission.Mode.TheVariants.{Owned, Shared, Unowned}
 use Rattle.ob_invocation_spec.specs.Handles.{NamedHandle}
 use Rattle.ob_invocation_spec.specs.Entries.{HandleUse}
-use Rattle.ob_invocation_laws.specs.Laws.{is_put, kept_handles, put_owners, returned_owners, owners_in}
+use Rattle.ob_invocation_laws.specs.Laws.{is_put, kept_handles, returned_owners, owners_in}
 use Rattle.ob_soundness_laws.specs.Requests.{note_in_run, any_state}
 use Rattle.ob_soundness_laws.proofs.Staying.{below_or_not}
 use Rattle.ob_soundness_laws.proofs.Given.{row}

@@ -1,6 +1,6 @@
 -- What the slots of arguments own where a run has ended is what comes back to the handles that were used for them.
-use Rattle.std.proofs.Common.{◌≡◌, ◌≢◌, ℕ, zero, suc, ◌+◌, ◌<◌, ◌≤◌, Bool, true, false, ◌&&◌, List, [], ◌∷◌, ◌++◌, length, Option, Some, None, refl, sym, ap, subst, ◌∙◌, arith, true≢false, eq-eqb, ⊎_elim, ◌⊎◌, inl, inr}
-use Rattle.std.specs.Prelude.{nat_eq, slice_get, zip, filter_map, All, option_map, if◌then◌else◌, ⊤}
+use Rattle.std.proofs.Common.{◌≡◌, ◌≢◌, ℕ, zero, suc, ◌+◌, ◌<◌, ◌≤◌, Bool, true, false, ◌&&◌, List, [], ◌∷◌, length, Option, Some, None, refl, sym, ap, subst, ◌∙◌, arith, true≢false, eq-eqb}
+use Rattle.std.specs.Prelude.{nat_eq, slice_get, zip, filter_map, option_map, if◌then◌else◌}
 use Rattle.std.specs.List.{cons_option}
 use Rattle.std.proofs.lemmas.Bool.Decides.{nat_tests}
 use Rattle.ob_base.specs.Optional.{◌>>=◌}
@@ -10,27 +10,26 @@ use Rattle.ob_base.specs.declared.permission.Perm.{Perm}
 use Rattle.ob_base.specs.declared.id.ContractId.{ContractId}
 use Rattle.ob_perm.specs.States.{States}
 use Rattle.ob_perm.specs.Permissions.{Permission, owned, shared, unowned, owns}
-use Rattle.ob_perm.specs.Masks.{held, permission_of, perm_of, states_of}
+use Rattle.ob_perm.specs.Masks.{held, permission_of, states_of}
 use Rattle.ob_table.specs.Tables.{ClassTable}
 use Rattle.ob_table.specs.declared.contract.Param.{Param}
 use Rattle.ob_table.specs.declared.contract.ResolvedType.{ResolvedType}
 use Rattle.ob_table.specs.declared.contract.ResolvedType.TheVariants.{Int, Bool as BoolKind, Text, Reference}
 use Rattle.ob_table_spec.specs.Conditions.{IsParam, IsExitOf, MayLeave}
-use Rattle.ob_heap_spec.specs.Objects.{Object}
-use Rattle.ob_heap_spec.specs.Values.{Value, int_value, bool_value, text_value, reference}
-use Rattle.ob_heap_spec.specs.Contents.{Handle, HandleName, Content}
+use Rattle.ob_heap_spec.specs.Values.{Value, reference}
+use Rattle.ob_heap_spec.specs.Contents.{Handle, Content}
 use Rattle.ob_silica_steps.specs.Cells.{Cell}
 use Rattle.ob_silica_steps.specs.Configurations.{SlotCells, Configuration}
-use Rattle.ob_coherent_spec.specs.Counting.{one_if, in_cell, nth_object}
+use Rattle.ob_coherent_spec.specs.Counting.{in_cell}
 use Rattle.ob_coherent_spec.specs.Standing.{NeedsOwner}
 use Rattle.ob_coherent_spec.specs.Coherent.{LeavesWith}
 use Rattle.ob_soundness_laws.proofs.counting.Cells.{cell_counted, counted_cell, cell_other, shared_none, cell_most}
-use Rattle.ob_rest_spec.specs.Modes.{is_owned, is_shared, is_unowned}
+use Rattle.ob_rest_spec.specs.Modes.{is_owned}
 use Rattle.ob_invocation_spec.specs.Requests.{Argument, int_argument, bool_argument, text_argument, handle_argument, other_argument}
 use Rattle.ob_invocation_spec.specs.Handles.{handle_name, handle_at, serves}
 use Rattle.ob_invocation_spec.specs.Entries.{HandleUse, value_of, used_for, use_of_argument}
 use Rattle.ob_invocation_spec.specs.Entering.{put_after_use}
-use Rattle.ob_invocation_spec.specs.Refusals.{is_of_type, use_serves}
+use Rattle.ob_invocation_spec.specs.Refusals.{is_of_type}
 use Rattle.ob_invocation_laws.specs.Laws.{owners_in, put_owners, returned_owners}
 use Rattle.ob_invocation_laws.proofs.Lent.{returned_use}
 use Rattle.ob_soundness_laws.proofs.Entries.{ArgumentsFit, no_arguments, one_argument}

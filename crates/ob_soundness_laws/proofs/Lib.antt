@@ -8,6 +8,7 @@ pub mod Entries
 pub mod Starting
 pub mod Firsts
 pub mod Whole
+pub mod States
 pub mod Bodies
 pub mod Left
 pub mod Sound
@@ -31,5 +32,4 @@ pub mod beginning
 pub mod Marked
 pub mod Again
 pub mod Rests
-pub mod AllSound
 pub mod Together

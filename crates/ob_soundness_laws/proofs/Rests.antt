@@ -1,29 +1,24 @@
 -- Where the run of what was entered in a store at rest has ended, the store is at rest again.
-use Rattle.std.proofs.Common.{◌≡◌, ◌≢◌, ℕ, zero, suc, ◌+◌, ◌<◌, ◌≤◌, Bool, true, false, not, ◌&&◌, ◌||◌, List, [], ◌∷◌, ◌++◌, length, Option, Some, None, refl, sym, ap, subst, ◌∙◌, arith, true≢false, eq-eqb, ⊎_elim, ◌⊎◌, inl, inr}
-use Rattle.std.specs.Prelude.{nat_eq, slice_get, option_to_list, All, IsTrue}
+use Rattle.std.proofs.Common.{◌≡◌, ℕ, ◌+◌, ◌<◌, ◌≤◌, Bool, true, false, ◌&&◌, ◌||◌, List, [], ◌∷◌, ◌++◌, length, Option, Some, None, refl, sym, ap, subst, ◌∙◌, arith, eq-eqb, ⊎_elim}
+use Rattle.std.specs.Prelude.{nat_eq, option_to_list, All, IsTrue}
 use Rattle.std.specs.List.{list_all}
-use Rattle.std.proofs.lemmas.Bool.{cases_Bool, both_ways}
+use Rattle.std.proofs.lemmas.Bool.{cases_Bool}
 use Rattle.std.proofs.lemmas.Option.{same_Some}
-use Rattle.ob_base.specs.Limits.{most_objects}
 use Rattle.ob_base.specs.Names.{is_label}
 use Rattle.ob_perm.specs.Permissions.{owns}
 use Rattle.ob_table.specs.Tables.{ClassTable}
-use Rattle.ob_table.specs.declared.contract.Field.{Field}
-use Rattle.ob_table_spec.specs.Conditions.{IsClassTable}
 use Rattle.ob_heap_spec.specs.Values.{Value, reference}
-use Rattle.ob_heap_spec.specs.Objects.{Object, is_available}
-use Rattle.ob_heap_spec.specs.Contents.{HandleName, Handle, Content, IsObject, object_at}
+use Rattle.ob_heap_spec.specs.Objects.{Object}
+use Rattle.ob_heap_spec.specs.Contents.{Content, IsObject}
 use Rattle.ob_heap_spec.specs.Worlds.{World}
 use Rattle.ob_silica_steps.specs.Cells.{Cell, value_in}
 use Rattle.ob_silica_steps.specs.Configurations.{SilicaProgram, How, by_receiver, by_this, by_new, Configuration}
-use Rattle.ob_silica_steps.specs.Here.{self_of, field_of}
+use Rattle.ob_silica_steps.specs.Here.{self_of}
 use Rattle.ob_silica_steps.specs.Returning.{leaves_progress, left_world}
-use Rattle.ob_silica_steps.specs.Starting.{declared_note}
-use Rattle.ob_coherent_spec.specs.Counting.{nth_object, field_cell, in_objects, owners as run_owners}
+use Rattle.ob_coherent_spec.specs.Counting.{nth_object, in_objects, owners as run_owners}
 use Rattle.ob_coherent_spec.specs.Standing.{IsOfKind, NeedsOwner}
-use Rattle.ob_coherent_spec.specs.Saying.{SaysOf}
 use Rattle.ob_coherent_spec.specs.Remaining.{IsCheckedProgram}
-use Rattle.ob_coherent_spec.specs.Coherent.{IsLeaving, outermost}
+use Rattle.ob_coherent_spec.specs.Coherent.{outermost}
 use Rattle.ob_soundness_laws.proofs.counting.Objects.{object_found}
 use Rattle.ob_soundness_laws.proofs.places.Standing.{reference_is}
 use Rattle.ob_rest_spec.specs.Modes.{is_owned, is_shared}
@@ -32,9 +27,9 @@ use Rattle.ob_rest_spec.specs.References.{field_references}
 use Rattle.ob_rest_spec.specs.AtRest.{IsAtRest, IsStoreAtRest}
 use Rattle.ob_rest_laws.specs.Laws.{handle_owners, is_shared_by_handle}
 use Rattle.ob_soundness_laws.proofs.stores.Fields.{owning, in_run_fields}
-use Rattle.ob_soundness_laws.proofs.stores.Handles.{owning_handles, store_owners}
+use Rattle.ob_soundness_laws.proofs.stores.Handles.{store_owners}
 use Rattle.ob_soundness_laws.proofs.stores.Ending.{HeldAsDeclared, ended_owning_less, ended_owning_same}
-use Rattle.ob_invocation_spec.specs.Requests.{NewRequest, CallRequest, new_request, call_request, argument_names, HasLabels}
+use Rattle.ob_invocation_spec.specs.Requests.{argument_names}
 use Rattle.ob_invocation_spec.specs.Handles.{NamedHandle, put_handles, mark_puts}
 use Rattle.ob_invocation_spec.specs.Entries.{HandleUse, Entry}
 use Rattle.ob_invocation_spec.specs.Entering.{puts_after}

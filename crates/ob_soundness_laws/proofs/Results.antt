@@ -1,36 +1,31 @@
 -- What a run gives back where it has ended is what the handle on it owns.
-use Rattle.std.proofs.Common.{◌≡◌, ◌≢◌, ℕ, zero, suc, ◌+◌, ◌<◌, ◌≤◌, Bool, true, false, cond, not, ◌&&◌, ◌||◌, List, [], ◌∷◌, length, Option, Some, None, refl, sym, ap, subst, ◌∙◌, arith, true≢false, eq-eqb, ⊎_elim, ◌⊎◌, inl, inr}
-use Rattle.std.specs.Prelude.{nat_eq, is_some, is_none, option_map, if◌then◌else◌, ⊤}
-use Rattle.std.specs.Option.{option_map_or}
+use Rattle.std.proofs.Common.{◌≡◌, ℕ, zero, suc, ◌+◌, ◌<◌, ◌≤◌, Bool, true, false, ◌&&◌, ◌||◌, List, Option, Some, None, refl, sym, ap, subst, ◌∙◌, arith, eq-eqb, ⊎_elim}
+use Rattle.std.specs.Prelude.{nat_eq, is_some, is_none, if◌then◌else◌}
 use Rattle.std.proofs.lemmas.Bool.Decides.{nat_tests}
 use Rattle.std.proofs.lemmas.Option.{same_Some}
 use Rattle.ob_base.specs.declared.permission.Mode.{Mode}
 use Rattle.ob_base.specs.declared.permission.Mode.TheVariants.{Owned, Shared, Unowned}
 use Rattle.ob_base.specs.declared.permission.Perm.{Perm}
 use Rattle.ob_perm.specs.States.{States}
-use Rattle.ob_perm.specs.Permissions.{Permission, owned, shared, unowned, owns}
+use Rattle.ob_perm.specs.Permissions.{owns}
 use Rattle.ob_perm.specs.Masks.{held, permission_of, states_of}
 use Rattle.ob_table.specs.declared.contract.ResolvedType.{ResolvedType}
 use Rattle.ob_table.specs.declared.contract.ResolvedType.TheVariants.{Int, Bool as BoolKind, Text, Reference}
 use Rattle.ob_heap_spec.specs.Values.{Value, reference}
-use Rattle.ob_silica_places.specs.Known.{permission_of_type}
 use Rattle.ob_silica_steps.specs.Cells.{Cell, value_in}
-use Rattle.ob_flow_spec.specs.Contexts.{known_as}
 use Rattle.ob_places_laws.specs.Serving.{Allows}
 use Rattle.ob_table.specs.Tables.{ClassTable}
 use Rattle.ob_heap_spec.specs.Objects.{Object}
 use Rattle.ob_coherent_spec.specs.Counting.{nth_object, in_cell}
 use Rattle.ob_coherent_spec.specs.Standing.{RefersToShared, Stands}
 use Rattle.ob_rest_laws.specs.Laws.{is_shared_by_handle}
-use Rattle.ob_coherent_spec.specs.Saying.{SaysOf}
 use Rattle.ob_coherent_spec.specs.Coherent.{IsGivenBack}
 use Rattle.ob_soundness_laws.proofs.counting.Cells.{cell_counted, counted_cell, cell_most}
 use Rattle.ob_rest_spec.specs.Modes.{is_owned, is_shared}
-use Rattle.ob_invocation_spec.specs.Handles.{handle_name}
 use Rattle.ob_invocation_spec.specs.Entries.{Entry, mode_of_result}
 use Rattle.ob_invocation_spec.specs.Entering.{put_into}
 use Rattle.ob_invocation_spec.specs.Refusals.{lacks_into}
-use Rattle.ob_invocation_laws.specs.Laws.{owners_in, put_owners}
+use Rattle.ob_invocation_laws.specs.Laws.{put_owners}
 use Rattle.ob_invocation_laws.proofs.Used.{IntoPut, into_put}
 
 module _ (N : ℕ → Type 0) (e : Entry) (given : Option ResolvedType) (is_given : e.given ≡ mode_of_result given)

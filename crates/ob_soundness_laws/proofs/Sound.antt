@@ -4,27 +4,26 @@ use Rattle.std.specs.Prelude.{All}
 use Rattle.ob_table.specs.Tables.{ClassTable}
 use Rattle.ob_table_spec.specs.WellFormed.{HasBodies}
 use Rattle.ob_silica.specs.Terms.{SilicaBody}
-use Rattle.ob_silica_formed.specs.WellFormedTerms.{IsWellFormedTerms}
 use Rattle.ob_silica_steps.specs.Configurations.{SilicaProgram}
-use Rattle.ob_flow_spec.specs.Deriving.{Derives}
 use Rattle.ob_lower_correct.specs.Law.{IsLoweredProgram}
 use Rattle.ob_rest_laws.proofs.OneOwner.{one_owner}
 use Rattle.ob_invocation_spec.specs.Replies.{Invocation, invoked, goes_wrong}
-use Rattle.ob_coherent_spec.specs.Remaining.{IsCheckedProgram}
+use Rattle.ob_coherent_spec.specs.Remaining.{IsCheckedBody, IsCheckedProgram}
 use Rattle.ob_soundness_laws.proofs.remaining.Programs.{lowered_has_terms}
 use Rattle.ob_soundness_laws.specs.Requests.{entry_lock, beginning_of, started, BeginsSo, EndsSo, StillLeavesAtRest, LeavesAtRest}
 use Rattle.ob_soundness_laws.specs.Sound.{LeavesOneOwner, CompiledProgramsAreSound}
 use Rattle.ob_soundness_laws.proofs.Keeping.{steps_keep}
 use Rattle.ob_soundness_laws.proofs.Many.{then_keep}
-use Rattle.ob_soundness_laws.proofs.Whole.{none_goes_wrong, runs_meet_states}
+use Rattle.ob_soundness_laws.proofs.States.{runs_meet_states}
+use Rattle.ob_soundness_laws.proofs.Whole.{none_goes_wrong}
 
 -- a program whose bodies are well-formed and derive is checked
 checked_of : (table : ClassTable) (bodies : List SilicaBody) → IsLoweredProgram (record { table = table; bodies = bodies }) → HasBodies table
-    → All (IsWellFormedTerms table) bodies → All (Derives table) bodies → IsCheckedProgram (record { table = table; bodies = bodies })
-checked_of table bodies lowered each formed derive = record {
+    → All (IsCheckedBody table) bodies → IsCheckedProgram (record { table = table; bodies = bodies })
+checked_of table bodies lowered each checked = record {
   table = lowered.table;
   terms = lowered_has_terms (record { table = table; bodies = bodies }) each lowered.lowered;
-  bodies = λ k d lt. record { well_formed = formed k d lt; derives = derive k d lt };
+  bodies = checked;
 }
 
 -- where a store is at rest, its assets have one owner
@@ -34,9 +33,9 @@ owners_left table goes_wrong rests = absurd rests
 
 module _ (begins : BeginsSo) (ends : EndsSo) (still : StillLeavesAtRest) where
   pub compiled_are_sound : CompiledProgramsAreSound
-  compiled_are_sound table bodies lowered each formed derive =
+  compiled_are_sound table bodies lowered each bodies_checked =
       let program : SilicaProgram = record { table = table; bodies = bodies } in
-      let checked = checked_of table bodies lowered each formed derive in
+      let checked = checked_of table bodies lowered each bodies_checked in
       record {
         steps_keep = λ entry beginning c k. steps_keep program entry beginning c checked k;
         runs_keep = λ content fuel e n rests entered. then_keep steps_keep program checked (entry_lock e.receiver) (beginning_of content e) n

@@ -9,7 +9,8 @@ use Rattle.ob_soundness_laws.proofs.Begins.{begins_so}
 use Rattle.ob_soundness_laws.proofs.Keeping.{steps_keep}
 use Rattle.ob_soundness_laws.proofs.Rests.{ends_so}
 use Rattle.ob_soundness_laws.proofs.Sound.{compiled_are_sound}
-use Rattle.ob_soundness_laws.proofs.Whole.{none_goes_wrong, runs_meet_states}
+use Rattle.ob_soundness_laws.proofs.States.{runs_meet_states}
+use Rattle.ob_soundness_laws.proofs.Whole.{none_goes_wrong}
 
 pub runs_begin : BeginsSo
 runs_begin = begins_so

@@ -19,7 +19,7 @@ use Rattle.ob_heap_spec.specs.Worlds.{World, ReadItem, first_world, RunOutcome, 
 use Rattle.ob_silica_steps.specs.Configurations.{SilicaProgram, Configuration, NextStep, goes, ended, aborted, stuck}
 use Rattle.ob_silica_steps.specs.Steps.{then_steps, steps}
 use Rattle.ob_coherent_spec.specs.Remaining.{IsCheckedProgram}
-use Rattle.ob_coherent_spec.specs.Coherent.{Beginning, IsCoherent, running, leaving, returning, StepsSo}
+use Rattle.ob_coherent_spec.specs.Coherent.{StepsSo}
 use Rattle.ob_rest_spec.specs.AtRest.{IsStoreAtRest}
 use Rattle.ob_invocation_spec.specs.Requests.{Operation, NewRequest, CallRequest, HasLabels, new_request, call_request, disown_request, give_request, see_request, owner_request}
 use Rattle.ob_invocation_spec.specs.Replies.{Invocation, no_contract, not_main, no_transaction}
@@ -34,8 +34,8 @@ use Rattle.ob_invocation_spec.specs.SourceInvocation.{source_meaning}
 use Rattle.ob_lower_correct.specs.Law.{IsLoweredProgram, EndsAs}
 use Rattle.ob_lower_correct.proofs.Law.{calls_keep_meaning, news_keep_meaning}
 use Rattle.ob_soundness_laws.specs.Running.{StepsKeep, EndsFrom}
-use Rattle.ob_soundness_laws.specs.Requests.{handles_in_run, entry_lock, beginning_of, started_on, started, IsEntered, by_request_new, by_request_call, BeginsSo, IsFirst, StartsSo, EndsSo, LeavesAtRest, StillLeavesAtRest, NoRequestGoesWrong, MeetsStates, RunsMeetStates}
-use Rattle.ob_soundness_laws.proofs.Many.{then_keep, never_stuck}
+use Rattle.ob_soundness_laws.specs.Requests.{handles_in_run, entry_lock, beginning_of, started_on, started, IsEntered, by_request_new, by_request_call, BeginsSo, IsFirst, StartsSo, EndsSo, LeavesAtRest, StillLeavesAtRest, NoRequestGoesWrong}
+use Rattle.ob_soundness_laws.proofs.Many.{never_stuck}
 use Rattle.ob_soundness_laws.proofs.Ending.{stays_itself, run_ends}
 use Rattle.ob_soundness_laws.proofs.Entries.{each_passes, each_after, has_passed, enters_new, enters_call, arguments_fit, fit_length}
 use Rattle.ob_soundness_laws.proofs.Firsts.{runs_start}
@@ -288,17 +288,3 @@ module _ (keep : StepsKeep) (begins : BeginsSo) (ends : EndsSo) (still : StillLe
       go (give_request r) is = still (source_meaning program.table fuel) program.table content request fuel checked.table rests labels (ap runs is)
       go (see_request on) is = still (source_meaning program.table fuel) program.table content request fuel checked.table rests labels (ap runs is)
       go (owner_request on) is = still (source_meaning program.table fuel) program.table content request fuel checked.table rests labels (ap runs is)
-
--- In each configuration of a run owners are in their states.
-coherent_slots : (table : ClassTable) (entry : Option ℕ) (beginning : Beginning) (c : Configuration)
-    → IsCoherent table entry beginning c → MeetsStates table c
-coherent_slots table entry beginning c (running k) j x a set is = (k.whole.slots j x set).states a is
-coherent_slots table entry beginning c (leaving k) j x a set is = (k.whole.slots j x set).states a is
-coherent_slots table entry beginning c (returning k) j x a set is = (k.whole.slots j x set).states a is
-
-pub runs_meet_states : StepsKeep → BeginsSo → RunsMeetStates
-runs_meet_states keep begins program content fuel e n c checked rests entered is =
-    coherent_slots program.table (entry_lock e.receiver) (beginning_of content e) c
-    (subst (StepsSo program.table (entry_lock e.receiver) (beginning_of content e)) is
-    (then_keep keep program checked (entry_lock e.receiver) (beginning_of content e) n (started program content fuel e)
-    (begins program content fuel e checked rests entered)))

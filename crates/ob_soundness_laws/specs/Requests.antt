@@ -1,13 +1,13 @@
 -- How a request's run begins and what it leaves (Coblenz et al., TOPLAS 42(3), 2020, "Permissions"; what handles carry while a
 -- run lasts is this project's own).
-use Rattle.std.specs.Prelude.{◌≡◌, ℕ, ◌≤◌, true, false, List, ◌∷◌, length, map, Option, Some, None, if◌then◌else◌, IsTrue, ⊤}
+use Rattle.std.specs.Prelude.{◌≡◌, ℕ, ◌≤◌, true, false, List, [], ◌∷◌, length, map, Option, Some, None, if◌then◌else◌, IsTrue, ⊤}
 use Rattle.ob_base.specs.Names.{is_label}
 use Rattle.ob_heap_spec.specs.Dispatch.{transaction_named}
 use Rattle.ob_base.specs.Limits.{most_objects}
 use Rattle.ob_perm.specs.States.{States}
 use Rattle.ob_perm.specs.Permissions.{owned, unowned}
 use Rattle.ob_perm.specs.Masks.{held}
-use Rattle.ob_table.specs.Tables.{ClassTable, contract_at, signature_at}
+use Rattle.ob_table.specs.Tables.{ClassTable, contract_at, signature_at, signature_of}
 use Rattle.ob_table.specs.declared.contract.Contract.{Contract}
 use Rattle.ob_table_spec.specs.WellFormed.{constructor_at}
 use Rattle.ob_heap_spec.specs.Objects.{Object}
@@ -15,11 +15,16 @@ use Rattle.ob_heap_spec.specs.Values.{Value, reference}
 use Rattle.ob_heap_spec.specs.Contents.{HandleName, Handle, Content, object_at}
 use Rattle.ob_heap_spec.specs.Worlds.{World}
 use Rattle.ob_silica_steps.specs.Cells.{Cell}
-use Rattle.ob_silica_steps.specs.Configurations.{SilicaProgram, by_receiver, by_new, HandleNote, Notes, Configuration, NextStep, goes, ended, aborted, stuck}
+use Rattle.ob_silica_steps.specs.Configurations.{SilicaProgram, by_receiver, by_new, Rest, Waiting, runs, HandleNote, Notes, Configuration, NextStep, goes, ended, aborted, stuck}
+use Rattle.ob_silica_steps.specs.Returning.{exits_are_within}
+use Rattle.ob_silica.specs.Terms.{return_form, SilicaTerms, and_term}
+use Rattle.ob_silica.specs.declared.place.Operand.{Operand}
+use Rattle.ob_base.specs.declared.fault.Span.{Span}
+use Rattle.ob_table.specs.declared.contract.Signature.{Signature}
 use Rattle.ob_silica_steps.specs.Steps.{then_steps, steps}
 use Rattle.ob_silica_steps.specs.Starting.{first_notes, started_call, started_new}
 use Rattle.ob_coherent_spec.specs.Coherent.{Beginning, outermost, StepsSo}
-use Rattle.ob_coherent_spec.specs.Counting.{nth_object}
+use Rattle.ob_coherent_spec.specs.Counting.{nth_object, field_cell}
 use Rattle.ob_coherent_spec.specs.Standing.{RefersToIn}
 use Rattle.ob_coherent_spec.specs.Remaining.{IsCheckedProgram}
 use Rattle.ob_table_spec.specs.Conditions.{IsClassTable}
@@ -33,7 +38,7 @@ use Rattle.ob_invocation_spec.specs.Checks.{refusal_of}
 use Rattle.ob_invocation_spec.specs.Refusals.{has_other_count, has_other_kind, lacks_permission, repeats_object, lacks_into, has_needless_into, is_taken, new_checks, call_checks}
 use Rattle.ob_invocation_spec.specs.Entering.{first_outside_use, is_locked_at_entry, Meaning, entry_world, puts_after}
 use Rattle.ob_invocation_spec.specs.Invocation.{invoke}
-use Rattle.ob_invocation_laws.specs.Laws.{runs, is_put, puts_of_uses}
+use Rattle.ob_invocation_laws.specs.Laws.{runs as runs_body, is_put, puts_of_uses}
 use Rattle.ob_invocation_spec.specs.SourceInvocation.{source_invocation}
 use Rattle.ob_lower_correct.specs.Law.{IsLoweredProgram}
 use Rattle.ob_soundness_laws.specs.Running.{EndsFrom}
@@ -117,7 +122,7 @@ pub record IsFirst (content : Content) (e : Entry) (first : Configuration) : Typ
   pub share_entered : (u : HandleUse) → e.receiver ≡ Some u → is_owned u.entry.mode ≡ true
       → (outermost first.frame first.stack).share_entered ≡ false
 
--- how a run starts: with a first configuration, or with an abort
+-- how a run starts: with a first configuration, or with an abort; of one that gets stuck nothing is said
 abbrev pub StartsSo : Content → Entry → NextStep → Type 0
 StartsSo content e (goes first) = IsFirst content e first
 StartsSo content e (ended result w) = ⊥
@@ -157,7 +162,7 @@ LeavesAtRest table goes_wrong = ⊥
 abbrev pub StillLeavesAtRest : Type 0
 StillLeavesAtRest =
     (meaning : Meaning) (table : ClassTable) (content : Content) (request : Request) (fuel : ℕ) → IsClassTable table
-    → IsStoreAtRest table content → HasLabels request → runs request.operation ≡ false
+    → IsStoreAtRest table content → HasLabels request → runs_body request.operation ≡ false
     → LeavesAtRest table (invoke meaning table content request fuel)
 
 -- No request goes wrong: where a program is checked and lowered, each request on a store at rest comes to a reply, whatever it
@@ -168,14 +173,30 @@ NoRequestGoesWrong =
     → IsLoweredProgram program → IsStoreAtRest program.table content → HasLabels request
     → LeavesAtRest program.table (source_invocation program.table content request fuel)
 
--- each object that a frame owns is in one of the states that are known of it there; where a body begins, these are the ones that
--- its parameters declare
-abbrev pub MeetsStates : ClassTable → Configuration → Type 0
-MeetsStates table c = (k : ℕ) (x : Cell) (a : States) → c.frame.slots k ≡ Some x → x.note.permission ≡ owned a
-    → RefersToIn table c.world.objects x.note.kind a x.value
+-- what a place owns is in one of the states that are noted there
+abbrev pub OwnsWithin : ClassTable → List Object → Option Cell → Type 0
+OwnsWithin table objects cell = (x : Cell) (a : States) → cell ≡ Some x → x.note.permission ≡ owned a
+    → RefersToIn table objects x.note.kind a x.value
 
--- No transaction meets an object that it owns outside the declared states: in each configuration of a run that was entered in a
--- store at rest, each object that the frame owns is in one of the states that are known of it there.
+-- the same of each slot of the frames that wait
+abbrev pub AllOwnWithin : ClassTable → List Object → List Waiting → Type 0
+AllOwnWithin table objects [] = ⊤
+AllOwnWithin table objects (h ∷ hs) = ((k : ℕ) → OwnsWithin table objects (h.frame.slots k)) × AllOwnWithin table objects hs
+
+-- Each object that a slot of a frame owns, of the innermost one or of one that waits, or that a field owns, is in one of the
+-- states that are noted there. Where the innermost frame is about to return, the object of each owning exit is in one of the states
+-- that the exit declares.
+pub record MeetsStates (table : ClassTable) (c : Configuration) : Type 0 where
+  pub slots : (k : ℕ) → OwnsWithin table c.world.objects (c.frame.slots k)
+  pub waiting : AllOwnWithin table c.world.objects c.stack
+  pub fields : (n k : ℕ) → OwnsWithin table c.world.objects (field_cell c.notes c.world.objects n k)
+  pub exits : (value : Option Operand) (span : Span) (rest : SilicaTerms) (outer : List Rest) (s : Signature)
+      → c.control ≡ runs (and_term (return_form value) span rest) outer
+      → signature_of table c.frame.contract c.frame.tx ≡ Some s → exits_are_within table c s ≡ true
+
+-- No transaction meets an object that it owns outside its states: so it is in each configuration of a run that was entered in a
+-- store at rest. At its beginning a body's slots are noted as its parameters declare, and a call that finds an object in none of
+-- the declared states has no step, which never comes.
 abbrev pub RunsMeetStates : Type 0
 RunsMeetStates =
     (program : SilicaProgram) (content : Content) (fuel : ℕ) (e : Entry) (n : ℕ) (c : Configuration)

@@ -28,7 +28,8 @@ pub record StaysSo (c d : Configuration) : Type 0 where
   pub shared : (n : ℕ) → (nth_object c.world.objects n).shared ≡ true → (nth_object d.world.objects n).shared ≡ true
   pub few : length c.world.objects ≤ most_objects → length d.world.objects ≤ most_objects
 
--- A step goes on so, or it ends the run of a frame that leaves, for which none waits.
+-- A step goes on so, or it ends the run of a frame that leaves, for which none waits; of an abort, and where there is no step,
+-- nothing is said.
 abbrev pub GoesOrEnds : Configuration → NextStep → Type 0
 GoesOrEnds c (goes d) = StaysSo c d
 GoesOrEnds c (ended result w) =

@@ -5,16 +5,15 @@ use Rattle.ob_table.specs.Tables.{ClassTable}
 use Rattle.ob_table_spec.specs.WellFormed.{HasBodies}
 use Rattle.ob_heap_spec.specs.Contents.{Content}
 use Rattle.ob_silica.specs.Terms.{SilicaBody}
-use Rattle.ob_silica_formed.specs.WellFormedTerms.{IsWellFormedTerms}
 use Rattle.ob_silica_steps.specs.Configurations.{SilicaProgram, Configuration, goes}
 use Rattle.ob_silica_steps.specs.Steps.{step, then_steps, steps}
-use Rattle.ob_flow_spec.specs.Deriving.{Derives}
 use Rattle.ob_lower_correct.specs.Law.{IsLoweredProgram}
 use Rattle.ob_rest_spec.specs.AtRest.{IsStoreAtRest, EachAssetHasOneOwner}
 use Rattle.ob_invocation_spec.specs.Requests.{Request, HasLabels}
 use Rattle.ob_invocation_spec.specs.Replies.{Invocation, invoked, goes_wrong}
 use Rattle.ob_invocation_spec.specs.Entries.{Entry}
 use Rattle.ob_invocation_spec.specs.SourceInvocation.{source_invocation}
+use Rattle.ob_coherent_spec.specs.Remaining.{IsCheckedBody}
 use Rattle.ob_coherent_spec.specs.Coherent.{Beginning, IsCoherent, StepsSo}
 use Rattle.ob_soundness_laws.specs.Requests.{entry_lock, beginning_of, started, IsEntered, LeavesAtRest, MeetsStates}
 
@@ -40,7 +39,7 @@ pub record IsPermissionSound (program : SilicaProgram) : Type 0 where
   -- each stored asset that is marked neither as shared nor as disowned has exactly one owner
   pub assets : (content : Content) (request : Request) (fuel : ℕ) → IsStoreAtRest program.table content → HasLabels request
       → LeavesOneOwner program.table (source_invocation program.table content request fuel)
-  -- no transaction meets an object that it owns outside the states that are known of it
+  -- no transaction meets an object that it owns outside its states
   pub states : (content : Content) (fuel : ℕ) (e : Entry) (n : ℕ) (c : Configuration) → IsStoreAtRest program.table content
       → IsEntered program.table content e → then_steps (started program content fuel e) (steps program n) ≡ goes c
       → MeetsStates program.table c
@@ -50,5 +49,5 @@ pub record IsPermissionSound (program : SilicaProgram) : Type 0 where
 abbrev pub CompiledProgramsAreSound : Type 0
 CompiledProgramsAreSound =
     (table : ClassTable) (bodies : List SilicaBody) → IsLoweredProgram (record { table = table; bodies = bodies })
-    → HasBodies table → All (IsWellFormedTerms table) bodies → All (Derives table) bodies
+    → HasBodies table → All (IsCheckedBody table) bodies
     → IsPermissionSound (record { table = table; bodies = bodies })
