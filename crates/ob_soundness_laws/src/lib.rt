@@ -20,8 +20,9 @@ pub fn runs_lead_from_rest_to_rest()
 {}
 
 /// Of a program that is lowered and checked no request on a store at rest goes wrong, with any number of units, and each leaves
-/// the store at rest. In each configuration of a run each object that a slot of the innermost frame owns is in one of the states
-/// that are noted there: no transaction meets an object that it owns outside its states.
+/// the store at rest. In each configuration of a run each object that a frame or a field owns is in one of the states that are
+/// noted there, and at a return in one of those that an owning exit declares: no transaction meets an object that it owns outside
+/// its states.
 pub fn no_request_goes_wrong()
     ensures requests { NoRequestGoesWrong }
     ensures states { RunsMeetStates }
