@@ -1,0 +1,4 @@
+pub mod InstructionLaws
+pub mod ImageLaws
+pub mod DecodingLemmas
+pub mod Spellings

@@ -1,0 +1,4 @@
+pub mod Code
+pub mod Instructions
+pub mod Images
+pub mod Decoding

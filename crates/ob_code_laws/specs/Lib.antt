@@ -1,0 +1,4 @@
+pub mod Kinds
+pub mod Premises
+pub mod Keeping
+pub mod Stepping

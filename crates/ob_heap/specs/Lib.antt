@@ -1,0 +1,7 @@
+pub mod Ascending
+pub mod Fields
+pub mod Plain
+pub mod Overlays
+pub mod Contents
+pub mod Differences
+pub mod Deltas

@@ -1,0 +1,63 @@
+-- What a run has changed of the objects of a store, and what it has read (this project's own).
+use Rattle.std.specs.List.{list_any}
+use Rattle.std.specs.Prelude.{◌≡◌, ℕ, suc, Bool, false, nat_eq, nat_lt, length, map, slice_set, List, [], ◌∷◌, ◌++◌, Option, Some, None, if◌then◌else◌}
+use Rattle.std.specs.Option.{unwrap_or}
+use Rattle.ob_heap.specs.declared.object.Object.{Object}
+use Rattle.ob_heap.specs.Plain.{object_of}
+use Rattle.ob_heap_spec.specs.Objects.{Object as PlainObject}
+
+-- the object that stands for a number, if one does
+abbrev pub changed_at : ℕ → List (ℕ × Object) → Option Object
+changed_at n [] = None
+changed_at n (e ∷ es) = if nat_eq n e.0 then Some e.1 else changed_at n es
+
+-- at one number there is this object, and at the others what there was
+abbrev pub IsPut : ℕ → Object → List (ℕ × Object) → List (ℕ × Object) → Type 0
+IsPut n o old new = (m : ℕ) → changed_at m new ≡ (if nat_eq n m then Some o else changed_at m old)
+
+-- at one number there is none any more, and at the others what there was
+abbrev pub IsTaken : ℕ → List (ℕ × Object) → List (ℕ × Object) → Type 0
+IsTaken n old new = (m : ℕ) → changed_at m new ≡ (if nat_eq n m then None else changed_at m old)
+
+-- What a run has changed and read: objects of the base by their numbers, as they are now; the objects that it has made;
+-- the numbers of the objects of the base that it has read, each once; whether it has read which number is the next.
+pub record Changes : Type 0 where
+  pub changed : List (ℕ × Object)
+  pub made : List Object
+  pub reads : List ℕ
+  pub next : Bool
+
+-- nothing is changed, made or read
+abbrev pub no_changes : Changes
+no_changes = record { changed = []; made = []; reads = []; next = false }
+
+-- objects, numbered from this number on, with the changes laid over them
+abbrev pub laid_from : List (ℕ × Object) → ℕ → List Object → List Object
+laid_from changed n [] = []
+laid_from changed n (o ∷ os) = unwrap_or (changed_at n changed) o ∷ laid_from changed (suc n) os
+
+-- the objects of a base with the changes laid over them, and then those that were made
+abbrev pub laid_over : List Object → Changes → List Object
+laid_over base c = laid_from c.changed 0 base ++ c.made
+
+-- a number is among these, behind the others if it wasn't
+abbrev pub with_number : ℕ → List ℕ → List ℕ
+with_number n ns = if list_any (nat_eq n) ns then ns else ns ++ n ∷ []
+
+-- an object of a base of so many objects is read; one that the run has made counts for nothing
+abbrev pub noted : ℕ → ℕ → Changes → Changes
+noted count n c = if nat_lt n count then record c { reads = with_number n c.reads } else c
+
+-- as many objects were made, and the same was read
+pub record IsSameBeside (old new : Changes) : Type 0 where
+  pub made : length new.made ≡ length old.made
+  pub reads : new.reads ≡ old.reads
+  pub next : new.next ≡ old.next
+
+-- the objects are the same but for the one of a number, which may be any
+abbrev pub IsSameBut : ℕ → List Object → List Object → Type 0
+IsSameBut n old new = (o : Object) → slice_set new n o ≡ slice_set old n o
+
+-- the objects of a base with the changes laid over them, as plain data
+abbrev pub objects_over : List Object → Changes → List PlainObject
+objects_over base c = map object_of (laid_over base c)

@@ -1,0 +1,26 @@
+//! Values, objects and handles, what a store holds, and what a run changes of it.
+#![tactic(auto)]
+
+mod applied;
+mod changed;
+mod content;
+mod delta;
+mod fields;
+mod laws;
+mod object;
+mod overlay;
+mod same;
+mod sequence;
+mod value;
+
+pub use content::{Content, apply, reserve};
+pub use delta::Delta;
+pub use fields::Fields;
+pub use laws::{
+    handles_are_changed, plain_fields_follow, plain_handles_follow, plain_objects_follow,
+    same_objects_are_equal,
+};
+pub use object::{Handle, Object};
+pub use overlay::{MakeError, Overlay};
+pub use sequence::Sequence;
+pub use value::{RcStr, Value};

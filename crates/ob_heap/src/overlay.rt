@@ -1,0 +1,264 @@
+//! What a run changes of the objects of a store, laid over them (this project's own).
+ghost use Rattle.std.specs.Prelude.{◌≡◌, [], ◌∷◌, ◌++◌, ◌<◌, ◌≤◌, ◌+◌, ◌^◌, ◌↔◌, ℕ, true, nat_eq, length, slice_get, slice_set, IfOk, OnOk, OnErr, IsErrOf};
+ghost use Rattle.std.specs.Option.{option_copied};
+ghost use Rattle.ob_base.specs.Limits.{most_objects};
+ghost use Rattle.ob_heap.specs.declared.object.Object.{Object};
+ghost use Rattle.ob_heap.specs.Ascending.{IsAscending};
+ghost use Rattle.ob_heap.specs.Differences.{differing, numbered_from, with_objects};
+ghost use Rattle.ob_heap.specs.Overlays.{no_changes, laid_over, noted, with_number, IsSameBeside, IsSameBut, IsTaken, laid_from};
+
+use crate::changed::Changed;
+use crate::content::Content;
+use crate::delta::Delta;
+use crate::fields::Fields;
+use crate::object::Object;
+use crate::sequence::Sequence;
+use indexmap::IndexSet;
+use ob_base::{ContractId, Duplicate, MOST_OBJECTS, Memory, ObjectId};
+use sqlite_items::at;
+use std::alloc::{AllocFailed, Global};
+use std::marker::Model;
+use std::mem;
+use thiserror::Error;
+
+/// Why no object was made.
+#[derive(Clone, Copy, PartialEq, Eq, Debug, Error)]
+pub enum MakeError {
+    /// There are as many objects as there may be.
+    #[error("as many objects as there may be")]
+    Full,
+    /// Memory ran out.
+    #[error("out of memory")]
+    Memory,
+}
+
+impl From<AllocFailed<Object>> for MakeError {
+    ghost use Rattle.std.specs.Prelude.{◌≡◌};
+    ghost use Rattle.ob_heap.specs.declared.overlay.MakeError.TheVariants.{Memory};
+
+    ghost from_gives = { λ _ e. e ≡ Memory };
+
+    fn from(_: AllocFailed<Object>) -> MakeError {
+        MakeError::Memory
+    }
+}
+
+/// What a run has changed, made and read. It has entries for what the run touched alone.
+#[derive(Drop)]
+pub struct Overlay {
+    changed: Changed,
+    made: Vec<Object>,
+    reads: IndexSet<u32>,
+    next: bool,
+}
+
+impl Model for Overlay {
+    ghost use Rattle.ob_heap.specs.Overlays.{Changes};
+
+    ghost Value = { Changes };
+
+    ghost view = { λ o. record { changed = o.changed; made = o.made.items; reads = o.reads.keys; next = o.next } };
+}
+
+fn put_made(made: &mut Vec<Object>, place: usize, object: Object)
+    requires { place < length made.old.items }
+    ensures { made.new.items ≡ slice_set made.old.items place object }
+{
+    made[place] = object;
+}
+
+fn take_made(made: &mut Vec<Object>, alloc: Global, place: usize) -> Object
+    requires { place < length made.old.items }
+    ensures object { slice_get made.old.items place ≡ Some result }
+    ensures rest { IsSameBut place made.old.items made.new.items }
+    ensures len { length made.new.items ≡ length made.old.items }
+{
+    let none = Object {
+        contract: ContractId(0),
+        state: None,
+        fields: Fields::new(alloc),
+        shared: false,
+        disowned: false,
+    };
+    mem::replace(&mut made[place], none)
+}
+
+fn take_or_copy(
+    changed: &mut Changed,
+    alloc: Global,
+    objects: &[Object],
+    id: u32,
+) -> Result<Object, Memory>
+    requires { id < length objects.now }
+    ensures object { IfOk result (λ object. slice_get (laid_from changed.old 0 objects.now) id ≡ Some object) }
+    ensures rest { IsTaken id changed.old changed.new }
+{
+    if let Some(object) = changed.take(id) {
+        return Ok(object);
+    }
+    let object = objects[id as usize].copy(alloc)?;
+    Ok(object)
+}
+
+fn add_made(
+    found: &mut Sequence<(ObjectId, Object)>,
+    alloc: Global,
+    first: usize,
+    made: &[Object],
+) -> Result<(), Memory>
+    requires { first + length made.now < 2 ^ 32 }
+    ensures { OnOk result (found.new ≡ found.old ++ numbered_from first made.now) }
+{
+    for (place, object) in made.iter().enumerate() {
+        let id = ObjectId((first + place) as u32);
+        found.push((id, object.copy(alloc)?))?;
+    }
+    Ok(())
+}
+
+fn add_number(reads: &mut IndexSet<u32>, id: u32) -> Result<(), Memory>
+    ensures { OnOk result (reads.new.keys ≡ with_number id reads.old.keys) }
+{
+    match reads.insert(id) {
+        Ok(_) => Ok(()),
+        Err(_) => Err(Memory),
+    }
+}
+
+impl Overlay {
+    /// Nothing is changed, made or read.
+    pub fn new(alloc: Global) -> Overlay
+        ensures { result ≡ no_changes }
+    {
+        Overlay {
+            changed: Changed::new(alloc),
+            made: Vec::new(alloc),
+            reads: IndexSet::new(alloc),
+            next: false,
+        }
+    }
+
+    /// The object of this number as the run has left it. Nothing is noted.
+    pub fn look<'a>(&'a self, base: &'a Content, id: ObjectId) -> Option<&'a Object>
+        ensures { option_copied result ≡ slice_get (laid_over base.now.objects self.now) id.0 }
+    {
+        let objects = base.objects();
+        let number = id.0 as usize;
+        if number < objects.len() {
+            match self.changed.get(id.0) {
+                Some(object) => Some(object),
+                None => base.object(id),
+            }
+        } else {
+            at(self.made.as_slice(), number - objects.len())
+        }
+    }
+
+    /// Notes that the object of this number is read. One that the run made counts for nothing, and so does a number
+    /// without an object.
+    pub fn note(&mut self, base: &Content, id: ObjectId) -> Result<(), Memory>
+        ensures { OnOk result (self.new ≡ noted (length base.now.objects) id.0 self.old) }
+    {
+        if (id.0 as usize) < base.objects().len() {
+            add_number(&mut self.reads, id.0)?;
+        }
+        Ok(())
+    }
+
+    /// The object of this number becomes this one.
+    #[tactic(auto, using(crate::proofs::OverlaysLemmas::over))]
+    pub fn set(&mut self, base: &Content, id: ObjectId, object: Object) -> Result<(), Memory>
+        requires { id.0 < length (laid_over base.now.objects self.old) }
+        ensures objects { OnOk result (laid_over base.now.objects self.new ≡ slice_set (laid_over base.now.objects self.old) id.0 object) }
+        ensures same { OnOk result (IsSameBeside self.old self.new) }
+    {
+        let count = base.objects().len();
+        let number = id.0 as usize;
+        if number < count {
+            self.changed.put(id.0, object)
+        } else {
+            put_made(&mut self.made, number - count, object);
+            Ok(())
+        }
+    }
+
+    /// Takes the object of this number out, to be changed and set again: what stands in its place until then is any
+    /// object. Only where the run hadn't touched it before is it copied from the base.
+    #[tactic(auto, using(crate::proofs::OverlaysLemmas::over))]
+    pub fn take(&mut self, alloc: Global, base: &Content, id: ObjectId) -> Result<Object, Memory>
+        requires { id.0 < length (laid_over base.now.objects self.old) }
+        ensures object { IfOk result (λ object. slice_get (laid_over base.now.objects self.old) id.0 ≡ Some object) }
+        ensures objects { OnOk result (IsSameBut id.0 (laid_over base.now.objects self.old) (laid_over base.now.objects self.new)) }
+        ensures same { OnOk result (IsSameBeside self.old self.new) }
+    {
+        let objects = base.objects();
+        let number = id.0 as usize;
+        if number < objects.len() {
+            take_or_copy(&mut self.changed, alloc, objects, id.0)
+        } else {
+            Ok(take_made(&mut self.made, alloc, number - objects.len()))
+        }
+    }
+
+    /// Makes an object, with the next number. That the number was read is noted, also where there are as many objects
+    /// as there may be.
+    #[tactic(auto, using(crate::proofs::OverlaysLemmas::over))]
+    pub fn make(&mut self, base: &Content, object: Object) -> Result<ObjectId, MakeError>
+        ensures number { IfOk result (λ id. id.0 ≡ length (laid_over base.now.objects self.old)) }
+        ensures made { OnOk result (self.new ≡ record self.old { made = self.old.made ++ object ∷ []; next = true }) }
+        ensures refused { OnErr result (self.new ≡ record self.old { next = true }) }
+        ensures full { IsErrOf result MakeError.Full ↔ (most_objects ≤ length (laid_over base.now.objects self.old)) }
+    {
+        self.next = true;
+        let count = base.objects().len();
+        if count >= MOST_OBJECTS {
+            return Err(MakeError::Full);
+        }
+        let made = self.made.len();
+        if made >= MOST_OBJECTS - count {
+            return Err(MakeError::Full);
+        }
+        self.made.push(object)?;
+        Ok(ObjectId((count + made) as u32))
+    }
+
+    /// Just what differs from the base, in the order of the numbers. The handles aren't the run's.
+    #[tactic(auto, using(crate::proofs::OverlaysLemmas::over))]
+    pub fn delta(&self, alloc: Global, base: &Content) -> Result<Delta, Memory>
+        requires { length (laid_over base.now.objects self.now) ≤ most_objects }
+        ensures objects { IfOk result (λ delta. delta.objects ≡ differing base.now.objects self.now) }
+        ensures applied { IfOk result (λ delta. with_objects base.now.objects delta.objects ≡ laid_over base.now.objects self.now) }
+        ensures order { IfOk result (λ delta. IsAscending (λ e. e.0.0) delta.objects) }
+        ensures handles { IfOk result (λ delta. delta.handles ≡ []) }
+    {
+        let mut objects = Sequence::new(alloc);
+        self.changed
+            .add_others(&mut objects, alloc, base.objects())?;
+        add_made(&mut objects, alloc, base.objects().len(), &self.made)?;
+        Ok(Delta {
+            objects,
+            handles: Sequence::new(alloc),
+        })
+    }
+
+    /// How many objects the run has made.
+    pub fn count_made(&self) -> usize
+        ensures { result ≡ length self.now.made }
+    {
+        self.made.len()
+    }
+
+    /// The numbers of the objects that the run has read, each once.
+    pub fn reads(&self) -> &[u32]
+        ensures { result.now ≡ self.now.reads }
+    {
+        self.reads.as_slice()
+    }
+
+    /// Whether the run has read which number is the next.
+    pub fn has_read_next(&self) -> bool
+        ensures { result ≡ self.now.next }
+    {
+        self.next
+    }
+}

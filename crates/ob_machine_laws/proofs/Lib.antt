@@ -1,0 +1,13 @@
+pub mod Slicing
+pub mod Fuel
+pub mod Measuring
+pub mod Ending
+pub mod Reading
+pub mod SameReads
+pub mod Keeping
+pub mod Sound
+pub mod Tables
+pub mod Requests
+pub mod Once
+pub mod Unread
+pub mod Loops

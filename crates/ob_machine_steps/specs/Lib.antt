@@ -1,0 +1,15 @@
+pub mod Images
+pub mod ImageTables
+pub mod Slots
+pub mod Configurations
+pub mod Parts
+pub mod Straight
+pub mod Changing
+pub mod Testing
+pub mod Calling
+pub mod Returning
+pub mod Steps
+pub mod Entries
+pub mod Runs
+pub mod Measures
+pub mod Meanings

@@ -1,0 +1,4 @@
+pub mod ListLoops
+pub mod RowLoops
+pub mod PassLoops
+pub mod ImageLoops

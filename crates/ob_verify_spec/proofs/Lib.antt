@@ -1,0 +1,13 @@
+pub mod Cells
+pub mod Listed
+pub mod Naming
+pub mod Rows
+pub mod Pass
+pub mod Needs
+pub mod Faults
+pub mod Verdict
+pub mod SlotKinds
+pub mod Images
+pub mod Running
+pub mod Calling
+pub mod Fitting

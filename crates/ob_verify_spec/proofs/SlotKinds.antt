@@ -1,0 +1,84 @@
+-- Each body has slot kinds, and no others: those by the rows of the pass.
+use Rattle.std.proofs.Common.{◌≡◌, ◌↔◌, ℕ, zero, suc, ◌+◌, ◌<◌, ◌≤◌, length, Option, Some, None, option_map, refl, sym, subst, arith, inl, inr}
+use Rattle.std.proofs.lemmas.Bool.{cases_lt}
+use Rattle.std.proofs.lemmas.Option.{slice_get_within, slice_get_cases}
+use Rattle.ob_table.specs.declared.seen.Kind.{Kind}
+use Rattle.ob_code.specs.declared.instruction.Instruction.{Instruction}
+use Rattle.ob_verify_spec.specs.Frames.{CodeFrame}
+use Rattle.ob_verify_spec.specs.Instructions.{KindsOfSlots}
+use Rattle.ob_verify_spec.specs.Ways.{IsAt, Way, start, step, IsFaultless}
+use Rattle.ob_verify_spec.specs.Verified.{HoldsOnAllWays, AreSlotKinds, IsVerifiedBody}
+use Rattle.ob_verify_spec.specs.Passing.{held_at, KindRow, KindRows, first_rows, passed, first_fault}
+use Rattle.ob_verify_spec.proofs.Cells.{some_same, none_some, holds_kind}
+use Rattle.ob_verify_spec.proofs.Naming.{goes_jump, leads_ahead}
+use Rattle.ob_verify_spec.proofs.Pass.{Known, known_first, known_next, Agrees, AgreesAt, agrees_at}
+use Rattle.ob_verify_spec.proofs.Verdict.{none_found}
+
+-- a place within the body has an instruction
+pub at_within : (f : CodeFrame) (i : ℕ) → i < length f.body.instructions → (x : Instruction) × IsAt f i x
+at_within f i lt = elim (slice_get_cases f.body.instructions i).1 [
+  | inl w ↦ (w.0, w.2)
+  | inr w ↦ let le : length f.body.instructions ≤ i = w.0 in absurd (omega arith)
+]
+
+-- the rows when the pass comes to a place
+rows_at : (f : CodeFrame) (i : ℕ) → i ≤ length f.body.instructions → (t : KindRows) × Known f i t
+rows_at f zero le = (first_rows f, known_first f)
+rows_at f (suc i) le =
+    let before = rows_at f i (omega arith) in
+    let here = at_within f i (omega arith) in
+    (passed f i here.0 before.0, subst (λ z. Known f z (passed f i here.0 before.0)) (omega arith) (known_next f i before.0 here.0 before.1 here.1))
+
+-- each way leads to a place of the body, or its end
+pub reached_within : (f : CodeFrame) (i : ℕ) (s : KindsOfSlots) → Way f i s → i ≤ length f.body.instructions
+reached_within f i s start = omega arith
+reached_within f i s (step {i = h} x j w at so c) =
+    let a = leads_ahead f h x j (slice_get_within f.body.instructions h x at) (goes_jump f h x so) c in
+    let lt : j < length f.body.instructions + 1 = a.1 in omega arith
+
+-- the row of each place, or none
+row_at : (f : CodeFrame) (i : ℕ) → (o : Option KindRow) × AgreesAt f i o
+row_at f i = elim (cases_lt (length f.body.instructions) i) [
+  | inl lt ↦ (None, λ way. let le : i ≤ length f.body.instructions = reached_within f i way.0 way.1 in omega arith)
+  | inr le ↦ let h = rows_at f i le in (held_at h.0 i, agrees_at f i h.0 h.1)
+]
+
+abbrev slots_of : Option KindRow → Option KindsOfSlots
+slots_of o = option_map (λ r. held_at r) o
+
+row_there : (o : Option KindRow) (s : KindsOfSlots) → slots_of o ≡ Some s → (r : KindRow) × (o ≡ Some r) × (held_at r ≡ s)
+row_there None s e = absurd (none_some e)
+row_there (Some r) s e = (r, refl, some_same e)
+
+no_row : (o : Option KindRow) → slots_of o ≡ None → o ≡ None
+no_row None e = refl
+no_row (Some r) e = absurd (none_some (sym e))
+
+holds_by : (f : CodeFrame) (i k : ℕ) (x : Kind) (r : KindRow) → Agrees f i r → k < f.body.slots → HoldsOnAllWays f i k x → held_at r k ≡ Some x
+holds_by f i k x r a lt all = elim (holds_kind (held_at r k) x) [
+  | inl e ↦ e
+  | inr n ↦ let w = a.good.lost k x lt n in absurd (w.2 (all w.0 w.1))
+]
+
+held_by : (f : CodeFrame) (i k : ℕ) (x : Kind) (r : KindRow) → Agrees f i r → k < f.body.slots → (held_at r k ≡ Some x) ↔ HoldsOnAllWays f i k x
+held_by f i k x r a lt = (λ e s w. (a.all s w).keeps k x e, holds_by f i k x r a lt)
+
+-- what the row of a place tells of the kinds there
+pub slot_kinds : (f : CodeFrame) → (kinds : ℕ → Option KindsOfSlots) × AreSlotKinds f kinds
+slot_kinds f = (
+  λ i. slots_of (row_at f i).0,
+  record {
+    unreached = λ i e. let h : AgreesAt f i None = subst (AgreesAt f i) (no_row (row_at f i).0 e) (row_at f i).1 in h;
+    reached = λ i s e. let r = row_there (row_at f i).0 s e in let h : Agrees f i r.0 = subst (AgreesAt f i) r.1 (row_at f i).1 in h.good.reached;
+    held = λ i s k x e lt.
+        let r = row_there (row_at f i).0 s e in
+        let h : Agrees f i r.0 = subst (AgreesAt f i) r.1 (row_at f i).1 in
+        subst (λ (z : KindsOfSlots). (z k ≡ Some x) ↔ HoldsOnAllWays f i k x) r.2 (held_by f i k x r.0 h lt);
+  },
+)
+
+pub faultless_verified : (f : CodeFrame) → IsFaultless f → IsVerifiedBody f
+faultless_verified f n = record { kinds = (slot_kinds f).0; are_kinds = (slot_kinds f).1; faultless = n }
+
+pub verified : (f : CodeFrame) → first_fault f ≡ None → IsVerifiedBody f
+verified f e = faultless_verified f (none_found f e)

@@ -1,0 +1,10 @@
+pub mod Kinds
+pub mod Frames
+pub mod Instructions
+pub mod Conditions
+pub mod Ways
+pub mod Verified
+pub mod Passing
+pub mod Running
+pub mod Laws
+pub mod Calling

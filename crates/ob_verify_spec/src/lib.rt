@@ -1,0 +1,28 @@
+//! The verifier's conditions on an image's code, and what it finds out about the slots of each body (this project's own;
+//! the form is that of Leroy, "Java bytecode verification", J. Automated Reasoning 30, 2003).
+#![tactic(auto)]
+
+mod laws;
+
+pub use laws::{
+    bodies_found, first_fault_of_body, first_fault_of_image, fitting_slots_meet_needs,
+    one_slot_kinds, one_verdict, verified_bodies, verified_bodies_keep_kinds,
+    verified_bodies_name_what_is_there,
+};
+
+/// What is wrong with the code of a body, at an instruction or at the end of the body.
+#[derive(Clone, Copy, PartialEq, Eq, Debug)]
+pub enum CodeFault {
+    /// An instruction leads to a place outside the body, or to one that isn't ahead.
+    BadJump,
+    /// A slot that the body doesn't have is named, or that of `this` is set; or the body lacks slots for its parameters.
+    BadSlot,
+    /// On some way there a slot is unset or of another kind than the operand needs, or two ways differ in it.
+    KindMismatch,
+    /// A field is named that the contract doesn't have.
+    BadField,
+    /// A contract, state, body, number of arguments or result is named that there isn't.
+    BadCall,
+    /// A way leads to the end of the body.
+    FallsOff,
+}
