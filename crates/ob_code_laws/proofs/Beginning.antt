@@ -34,6 +34,7 @@ use Rattle.ob_verify_spec.proofs.Running.{verified_keep}
 use Rattle.ob_code_laws.specs.Kinds.{NamesObject, IsOfKind, AreOfKinds, Holds, AreMet, IsObjectOf, HaveFieldsOfKinds}
 use Rattle.ob_code_laws.specs.Keeping.{kind_given}
 use Rattle.ob_code_laws.proofs.Basics.{then_some, filled-length}
+use Rattle.ob_code_laws.proofs.Fitting.{hold_less}
 use Rattle.ob_code_laws.proofs.Frames.{IsSound, IsRunning, Wait}
 
 -- The values of arguments.
@@ -111,6 +112,7 @@ begun_good image s out by id own b this args entered share w there contract obje
     let enough = slots_enough f x.0 (keeps.goes 0 x.0 x.1) in
     let set = Some (reference this) ∷ map (λ (z : Value). Some z) args in
     record {
+      implements = s.implements;
       objects = objects;
       top = record {
         frame = record {
@@ -127,7 +129,8 @@ begun_good image s out by id own b this args entered share w there contract obje
         };
         known = a.known;
         there = a.there;
-        holds = λ k y lt e. entry_held image w.objects (replicate (b.slots - length set) None) id.0 this (kinds_of_params b) args k y at kinds (a.held k y lt e);
+        holds = hold_less image s.implements w.objects b.slots (at_entry f) a.known _ a.held
+            (λ k y lt e. entry_held image w.objects (replicate (b.slots - length set) None) id.0 this (kinds_of_params b) args k y at kinds e);
       };
       below = wait;
     }

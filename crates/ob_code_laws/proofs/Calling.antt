@@ -43,7 +43,7 @@ use Rattle.ob_code_laws.specs.Premises.{SlotsFitByte}
 use Rattle.ob_code_laws.proofs.Basics.{then_some, passes_some, found_at, get-append_last}
 use Rattle.ob_code_laws.proofs.Growing.{kinds_grow}
 use Rattle.ob_code_laws.proofs.Worlds.{Follows, read_objects, made_follows}
-use Rattle.ob_code_laws.proofs.Fitting.{fits_cases, fits_of_contract}
+use Rattle.ob_code_laws.proofs.Fitting.{fits_cases, fits_of_contract, holds_widens}
 use Rattle.ob_code_laws.proofs.Frames.{IsSound, IsFrame, code, Wait, IsRunning, Good, then_good, if_good, unit_good, wait_grows, need_met}
 use Rattle.ob_code_laws.proofs.Setting.{set_slot_same, set_slot_other}
 use Rattle.ob_code_laws.proofs.Changing.{named_well}
@@ -250,8 +250,8 @@ caller_waits image out c g x at k given lead other others gives within wanted =
         frame = record { own = h.own; body = h.body; there = h.there; contract = h.contract; kinds = h.kinds; keeps = h.keeps; count = h.count; this = h.this; first = h.first };
         known = a.known;
         there = a.there;
-        holds = λ j y lt ne e. g.top.holds j y lt (others j y ne (a.held j y lt e));
-        awaited = λ y lt e. gives y lt (a.held k y lt e);
+        holds = λ j y lt ne e. let b = a.held j y lt e in holds_widens image g.implements c.world.objects c.top.slots j b.0 y b.2 (g.top.holds j b.0 lt (others j b.0 ne b.1));
+        awaited = λ y lt e. let b = a.held k y lt e in (b.0, gives b.0 lt b.1, b.2);
         other = other;
         within = within;
         wanted = wanted;

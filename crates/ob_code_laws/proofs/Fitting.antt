@@ -14,6 +14,7 @@ use Rattle.ob_code.specs.Code.{is_interface, contract_code}
 use Rattle.ob_verify_spec.specs.Kinds.{same_kind, implements_number as implements_it, fits_contract, fits, is_reference}
 use Rattle.ob_verify_spec.specs.Instructions.{Need, of_kind, any_value, any_reference, alike, slots_needed, passes, are_alike, meets}
 use Rattle.ob_verify_spec.specs.Instructions as kinds
+use Rattle.ob_verify_spec.specs.Calling.{FitKnown}
 use Rattle.ob_verify_spec.proofs.Cells.{some_same, same_kind_of}
 use Rattle.ob_verify_spec.proofs.Listed.{head, behind}
 use Rattle.ob_code_laws.specs.Kinds.{IsOfKind, Holds, HoldsReference, AreMet}
@@ -64,6 +65,16 @@ widens image imps objects x y v e h = subst (λ z. IsOfKind image objects z v) (
 -- the slots of a body hold what is known of them
 abbrev pub HoldKnown : Image → List Object → ℕ → kinds.KindsOfSlots → Slots → Type 0
 HoldKnown image objects n known slots = (k : ℕ) (x : Kind) → k < n → known k ≡ Some x → Holds image objects slots k x
+
+-- a slot that holds a value of a kind holds one of each kind for which that may stand
+pub holds_widens : (image : Image) → ImplementsOnlyInterfaces image → (objects : List Object) (slots : Slots) (k : ℕ) (x y : Kind) → fits image x y ≡ true → Holds image objects slots k x
+    → Holds image objects slots k y
+holds_widens image imps objects slots k x y e h = record { value = h.value; there = h.there; kind = widens image imps objects x y h.value e h.kind }
+
+-- where less is known of slots, they hold that too
+pub hold_less : (image : Image) → ImplementsOnlyInterfaces image → (objects : List Object) (n : ℕ) (known less : kinds.KindsOfSlots) (slots : Slots) → FitKnown image n less known
+    → HoldKnown image objects n known slots → HoldKnown image objects n less slots
+hold_less image imps objects n known less slots fit holds k x lt e = let a = fit k x lt e in holds_widens image imps objects slots k a.0 x a.2 (holds k a.0 lt a.1)
 
 refers : (image : Image) (objects : List Object) (slots : Slots) (k : ℕ) (x : Kind) (v : Value) → is_reference x ≡ true → value_at slots k ≡ Some v → IsOfKind image objects x v
     → HoldsReference objects slots k

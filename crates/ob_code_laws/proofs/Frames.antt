@@ -14,6 +14,7 @@ use Rattle.ob_machine_steps.specs.Slots.{Slots, value_at}
 use Rattle.ob_machine_steps.specs.Configurations.{MachineFrame, Configuration, Next, goes, stops, ended, aborted}
 use Rattle.ob_machine_steps.specs.Parts.{with_units, with_unit}
 use Rattle.ob_code.specs.Code.{is_interface}
+use Rattle.ob_verify_spec.specs.Kinds.{fits}
 use Rattle.ob_verify_spec.specs.Frames.{CodeFrame}
 use Rattle.ob_verify_spec.specs.Instructions.{leads, Need, slots_needed, needs, done, effect}
 use Rattle.ob_verify_spec.specs.Instructions as kinds
@@ -26,7 +27,7 @@ use Rattle.ob_code_laws.specs.Premises.{ImplementsOnlyInterfaces, SlotsFitByte}
 use Rattle.ob_code_laws.specs.Keeping.{kind_given}
 use Rattle.ob_code_laws.proofs.Growing.{Grows, object_grows, holds_grows}
 use Rattle.ob_code_laws.proofs.Worlds.{Follows}
-use Rattle.ob_code_laws.proofs.Fitting.{HoldKnown, are_met}
+use Rattle.ob_code_laws.proofs.Fitting.{HoldKnown, hold_less, are_met}
 
 -- an image whose code is verified and may be run
 pub record IsSound (image : Image) : Type 0 where
@@ -63,7 +64,7 @@ pub record IsWaiting (image : Image) (objects : List Object) (f : MachineFrame) 
   pub known : kinds.KindsOfSlots
   pub there : frame.kinds f.at ≡ Some known
   pub holds : (k : ℕ) (x : Kind) → k < frame.body.slots → k ≢ into → known k ≡ Some x → Holds image objects f.slots k x
-  pub awaited : (x : Kind) → into < frame.body.slots → known into ≡ Some x → given ≡ Some x
+  pub awaited : (x : Kind) → into < frame.body.slots → known into ≡ Some x → (y : Kind) × (given ≡ Some y) × (fits image y x ≡ true)
   pub other : into ≢ 0
   pub within : into ≢ 255 → into < frame.body.slots
   pub wanted : into ≢ 255 → is_some given ≡ true
@@ -73,8 +74,9 @@ abbrev pub Wait : Image → List Object → Option Kind → List MachineFrame �
 Wait image objects out [] given into = given ≡ out
 Wait image objects out (f ∷ fs) given into = (w : IsWaiting image objects f given into) × Wait image objects out fs (kind_given f.entered f.contract w.frame.body) f.into
 
--- a configuration of a run that is to give a result of a kind
+-- a configuration of a run, of an image whose code may be run, that is to give a result of a kind
 pub record IsRunning (image : Image) (out : Option Kind) (c : Configuration) : Type 0 where
+  pub implements : ImplementsOnlyInterfaces image
   pub objects : HaveFieldsOfKinds image c.world.objects
   pub top : IsInnermost image c.world.objects c.top
   pub below : Wait image c.world.objects out c.below (kind_given c.top.entered c.top.contract top.frame.body) c.top.into
@@ -162,6 +164,7 @@ moved image out c g x at j lead slots tests w f count first holds =
     let a : AreKnownAt (code image c.world.objects c.top h) h.kinds j
     (done (effect (code image c.world.objects c.top h) x) g.top.known) = h.keeps.leads_on c.top.at j x g.top.known at g.top.there lead in
     record {
+      implements = g.implements;
       objects = f.kinds;
       top = record {
         frame = record {
@@ -177,7 +180,7 @@ moved image out c g x at j lead slots tests w f count first holds =
         };
         known = a.known;
         there = a.there;
-        holds = λ k y lt e. holds k y lt (a.held k y lt e);
+        holds = hold_less image g.implements w.objects h.body.slots _ a.known slots a.held holds;
       };
       below = wait_grows image out c.world.objects w.objects f.grows c.below _ c.top.into g.below;
     }

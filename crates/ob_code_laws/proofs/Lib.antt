@@ -10,6 +10,7 @@ pub mod Testing
 pub mod Beginning
 pub mod Calling
 pub mod Returning
+pub mod Leading
 pub mod Steps
 pub mod Covering
 pub mod Operating

@@ -24,6 +24,7 @@ use Rattle.ob_verify_spec.proofs.Listed.{head}
 use Rattle.ob_code_laws.specs.Kinds.{IsOfKind, IsResultOf, HaveFieldsOfKinds, IsObjectOf, Holds, AreMet}
 use Rattle.ob_code_laws.specs.Keeping.{kind_given}
 use Rattle.ob_code_laws.proofs.Basics.{where_true_some}
+use Rattle.ob_code_laws.proofs.Fitting.{widens}
 use Rattle.ob_code_laws.proofs.Worlds.{left_objects}
 use Rattle.ob_code_laws.proofs.Frames.{IsSound, IsFrame, code, IsWaiting, Wait, IsRunning, Good, then_good, need_met}
 use Rattle.ob_code_laws.proofs.Setting.{SetTo, with_value}
@@ -69,7 +70,8 @@ awaited_held image objects f given into result new w s r h k x lt e = elim (case
     | inl none ↦ let le : w.frame.body.slots ≤ 255 = s.slots.each f.contract w.frame.own f.tx w.frame.body w.frame.there in absurd (omega (arith, lt, le, same, none))
     | inr (v, is, at) ↦
         let below : into < w.frame.body.slots = subst (λ z. z < w.frame.body.slots) same lt in
-        record { value = v; there = ap (value_at new) same ∙ at; kind = result_kind image objects given result x v r (w.awaited x below (ap w.known (sym same) ∙ e)) is }
+        let y = w.awaited x below (ap w.known (sym same) ∙ e) in
+        record { value = v; there = ap (value_at new) same ∙ at; kind = widens image s.implements objects y.0 x v y.2 (result_kind image objects given result y.0 v r y.1 is) }
   ]
 ]
 
@@ -80,6 +82,7 @@ resume_good image s out (f ∷ fs) given into result w objects r wait = then_goo
     let h : Gets f.slots into result new = gets f.slots into result new e in
     let q : IsFrame image w.objects f = wait.0.frame in
     record {
+      implements = s.implements;
       objects = objects;
       top = record {
         frame = record {

@@ -1,9 +1,7 @@
 -- Each step of a run of verified code leads to a configuration of one, or to its end.
-use Rattle.std.proofs.Common.{◌≡◌, Option, slice_get, refl, sym, ap, ◌∙◌}
-use Rattle.ob_base.specs.Optional.{◌>>=◌}
+use Rattle.std.proofs.Common.{◌≡◌, Option, slice_get, refl, sym, ◌∙◌}
 use Rattle.ob_table.specs.declared.seen.Kind.{Kind}
 use Rattle.ob_table.specs.declared.seen.Kind.TheVariants as kind
-use Rattle.ob_code.specs.declared.image.BodyCode.{BodyCode}
 use Rattle.ob_code.specs.declared.image.Image.{Image}
 use Rattle.ob_code.specs.declared.instruction.Instruction.{Instruction}
 use Rattle.ob_code.specs.declared.instruction.Instruction.TheVariants as is
@@ -14,7 +12,8 @@ use Rattle.ob_code_laws.proofs.Frames.{IsSound, code, IsRunning, Good, then_good
 use Rattle.ob_code_laws.proofs.Setting.{set_const_good, copy_good, load_good, op_good}
 use Rattle.ob_code_laws.proofs.Changing.{store_good, change_good}
 use Rattle.ob_code_laws.proofs.Testing.{unit_step_good, jump_good, unless_good, test_good, ends_good, share_good, disown_good, revert_good}
-use Rattle.ob_code_laws.proofs.Calling.{body_found, call_good, self_good, new_good}
+use Rattle.ob_code_laws.proofs.Leading.{next_found}
+use Rattle.ob_code_laws.proofs.Calling.{call_good, self_good, new_good}
 use Rattle.ob_code_laws.proofs.Returning.{ret_good, retv_good}
 
 act_good : (image : Image) → IsSound image → (out : Option Kind) (c : Configuration) (g : IsRunning image out c) (x : Instruction) → IsAt (code image c.world.objects c.top g.top.frame) c.top.at x
@@ -44,7 +43,7 @@ act_good image s out c g (is.Revert a) at = revert_good image out c a
 -- the next instruction of a frame is that of its body
 pub next_of_body : (image : Image) (out : Option Kind) (c : Configuration) (g : IsRunning image out c) → next_instruction image c ≡ slice_get g.top.frame.body.instructions c.top.at
 next_of_body image out c g =
-    ap (λ (z : Option BodyCode). z >>= λ (b : BodyCode). slice_get b.instructions c.top.at) (body_found image c.top.contract g.top.frame.own c.top.tx g.top.frame.body g.top.frame.there)
+    next_found image c.top.contract g.top.frame.own c.top.tx g.top.frame.body c.top.at g.top.frame.there g.top.frame.contract
 
 pub step_good : (image : Image) → IsSound image → (out : Option Kind) (c : Configuration) → IsRunning image out c → Good image out (step_of image c)
 step_good image s out c g = then_good image out (next_instruction image c) _ (λ x e. act_good image s out c g x (sym (next_of_body image out c g) ∙ e))

@@ -1,5 +1,6 @@
 //! The laws of verified code.
 ghost use Rattle.ob_code_laws.specs.Keeping.{VerifiedCodeKeeps, VerifiedCodeEnds};
+ghost use Rattle.ob_code_laws.specs.Leading.{VerifiedJumpsLeadAhead};
 ghost use Rattle.ob_code_laws.specs.Stepping.{VerifiedCodeSteps};
 
 /// Verified code that the machine runs never leaves its slots, its code or its kinds: in each configuration that is reached there is
@@ -14,4 +15,9 @@ pub fn verified_code_keeps_to_itself()
 /// is noted that could end.
 pub fn verified_code_goes_on()
     ensures { VerifiedCodeSteps }
+{}
+
+/// Each jump of verified code leads ahead, so that its runs end.
+pub fn verified_jumps_lead_ahead()
+    ensures { VerifiedJumpsLeadAhead }
 {}

@@ -3,4 +3,4 @@
 
 mod laws;
 
-pub use laws::{verified_code_goes_on, verified_code_keeps_to_itself};
+pub use laws::{verified_code_goes_on, verified_code_keeps_to_itself, verified_jumps_lead_ahead};

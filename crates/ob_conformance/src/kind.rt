@@ -2,7 +2,9 @@
 use crate::bytes::Bytes;
 use crate::case::Case;
 use crate::kinds::lines::Lines;
-use crate::kinds::{base, fronts, run, table, terms, tokens, tree, wire};
+use crate::kinds::{
+    base, calls, code, fronts, image, run, steps, table, terms, tokens, tree, wire,
+};
 use std::alloc::Global;
 
 /// What is asked of a text.
@@ -14,6 +16,10 @@ pub enum CaseKind {
     Table,
     /// The terms that the bodies of its transactions are lowered to.
     Terms,
+    /// The instructions of the code of its program.
+    Code,
+    /// What runs of that code come to, where the text is a part, and what is asked tells the runs.
+    Calls,
     /// Whether `check` writes one line of each front of its bytes.
     Cuts,
     /// The fault that `serve` tells of it.
@@ -46,6 +52,14 @@ pub enum CaseKind {
     Bytes,
     /// What an error says of itself.
     Message,
+    /// What the verifier says of the image that its words put.
+    Image,
+    /// The bytes of that image, once it was read of them.
+    Encoded,
+    /// What runs of the code of that image come to.
+    Steps,
+    /// The same, where the image is a part and the text tells the runs.
+    Entries,
 }
 
 impl CaseKind {
@@ -55,6 +69,8 @@ impl CaseKind {
             "check" => Some(CaseKind::Check),
             "table" => Some(CaseKind::Table),
             "terms" => Some(CaseKind::Terms),
+            "code" => Some(CaseKind::Code),
+            "calls" => Some(CaseKind::Calls),
             "cuts" => Some(CaseKind::Cuts),
             "serve" => Some(CaseKind::Serve),
             "run" => Some(CaseKind::Run),
@@ -71,6 +87,10 @@ impl CaseKind {
             "form" => Some(CaseKind::Form),
             "bytes" => Some(CaseKind::Bytes),
             "message" => Some(CaseKind::Message),
+            "image" => Some(CaseKind::Image),
+            "encoded" => Some(CaseKind::Encoded),
+            "steps" => Some(CaseKind::Steps),
+            "entries" => Some(CaseKind::Entries),
             _ => None,
         }
     }
@@ -82,6 +102,9 @@ impl CaseKind {
             "answer" => !matches!(self, CaseKind::Run),
             "words" | "input" | "given" => matches!(self, CaseKind::Run | CaseKind::Outside),
             "output" | "status" => matches!(self, CaseKind::Run),
+            "objects" | "runs" => {
+                matches!(self, CaseKind::Steps | CaseKind::Entries | CaseKind::Calls)
+            }
             _ => false,
         }
     }
@@ -92,6 +115,7 @@ impl CaseKind {
             CaseKind::Run => ("input", "output"),
             CaseKind::Outside => ("given", "answer"),
             CaseKind::Tree | CaseKind::Plain => ("part", "answer"),
+            CaseKind::Entries | CaseKind::Calls => ("runs", "answer"),
             _ => ("text", "answer"),
         }
     }
@@ -111,6 +135,10 @@ impl CaseKind {
             CaseKind::Check => run::check(alloc, asked, lines),
             CaseKind::Table => table::table(alloc, asked, lines),
             CaseKind::Terms => terms::terms(alloc, asked, lines),
+            CaseKind::Code => code::code(alloc, asked, lines),
+            CaseKind::Calls => {
+                calls::calls(alloc, case.part("text"), case.part("objects"), asked, lines)
+            }
             CaseKind::Cuts => run::cuts(alloc, asked, lines),
             CaseKind::Serve => run::serve(alloc, asked, lines),
             CaseKind::Run => run::whole_run(alloc, case, asked, lines),
@@ -127,6 +155,14 @@ impl CaseKind {
             CaseKind::Form => base::form(alloc, asked, lines),
             CaseKind::Bytes => base::bytes(alloc, asked, lines),
             CaseKind::Message => base::message(asked, lines),
+            CaseKind::Image => image::image(alloc, asked, lines),
+            CaseKind::Encoded => image::encoded(alloc, asked, lines),
+            CaseKind::Steps => {
+                steps::steps(alloc, asked, case.part("objects"), case.part("runs"), lines)
+            }
+            CaseKind::Entries => {
+                steps::steps(alloc, case.part("text"), case.part("objects"), asked, lines)
+            }
         }
     }
 }

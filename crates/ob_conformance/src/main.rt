@@ -14,6 +14,7 @@ mod pieces;
 mod report;
 mod sheet;
 mod trouble;
+mod words;
 
 use named::Named;
 use report::Report;
@@ -24,7 +25,8 @@ use std::process::ExitCode;
 use std::{env, fs, io};
 use trouble::Trouble;
 
-/// The file that names the others: programs, which end in `.obs`, and files of cases, which end in `.txt`.
+/// The file that names the others: programs, which end in `.obs`, words of images, which end in `.image`, and files of cases,
+/// which end in `.txt`.
 const INDEX: &str = "index.txt";
 
 /// A line that the run of a file stopped at, from 1, and why.
@@ -83,7 +85,7 @@ fn programs_of(rt: &HostRuntime, index: &str) -> io::Result<Named> {
     let alloc = rt.alloc();
     let mut programs = Named::new(alloc);
     for name in index.lines() {
-        if name.ends_with(".obs") {
+        if name.ends_with(".obs") || name.ends_with(".image") {
             let text = fs::read(rt, name)?;
             if programs.add(alloc, name, &text).is_err() {
                 return Err(io::Error::from(io::ErrorKind::OutOfMemory));

@@ -57,7 +57,8 @@ fn digit_of(digit: u8) -> Option<u8> {
     }
 }
 
-fn byte_of(digits: &[u8]) -> Option<u8> {
+/// The byte that two hexadecimal digits are.
+pub fn byte_of(digits: &[u8]) -> Option<u8> {
     match digits {
         [high, low] => {
             let byte = u16::from(digit_of(*high)?) * 16 + u16::from(digit_of(*low)?);

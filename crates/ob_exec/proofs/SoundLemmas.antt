@@ -12,14 +12,14 @@ use Rattle.ob_base.specs.Optional.{◌>>=◌, where_true}
 use Rattle.ob_base.proofs.OptionalLemmas.{bind_some, where_some, both_true, by_cases}
 use Rattle.ob_base.specs.declared.cause.Memory.{Memory}
 use Rattle.ob_base.specs.declared.id.ObjectId.{ObjectId}
-use Rattle.ob_machine.specs.Closed.{names_exist, is_closed_program}
-use Rattle.ob_machine.specs.Meaning.{Course, course_of, statements, returned, followed_by, sum_of}
-use Rattle.ob_machine.specs.declared.ran.Early.{Early}
-use Rattle.ob_machine.specs.declared.ran.Early.TheVariants as early
-use Rattle.ob_machine.specs.declared.plain.Plain.{Plain}
-use Rattle.ob_machine.specs.declared.plain.PlainTx.{PlainTx}
-use Rattle.ob_machine.specs.declared.plain.PlainSet.{PlainSet}
-use Rattle.ob_machine.specs.declared.plain.PlainSum.{PlainSum}
+use Rattle.ob_plain_machine.specs.Closed.{names_exist, is_closed_program}
+use Rattle.ob_plain_machine.specs.Meaning.{Course, course_of, statements, returned, followed_by, sum_of}
+use Rattle.ob_plain_machine.specs.declared.ran.Early.{Early}
+use Rattle.ob_plain_machine.specs.declared.ran.Early.TheVariants as early
+use Rattle.ob_plain_machine.specs.declared.plain.Plain.{Plain}
+use Rattle.ob_plain_machine.specs.declared.plain.PlainTx.{PlainTx}
+use Rattle.ob_plain_machine.specs.declared.plain.PlainSet.{PlainSet}
+use Rattle.ob_plain_machine.specs.declared.plain.PlainSum.{PlainSum}
 use Rattle.ob_wire.specs.declared.request.Op.{Op}
 use Rattle.ob_wire.specs.declared.request.Op.TheVariants.{New, Call}
 use Rattle.ob_wire.specs.declared.reply.Reply.{Reply}

@@ -5,11 +5,11 @@ use Rattle.ob_base.specs.Limits.{most_handles, longest_line}
 use Rattle.ob_base.specs.Optional.{◌>>=◌, where_true}
 use Rattle.ob_base.specs.declared.cause.Memory.{Memory}
 use Rattle.ob_base.specs.declared.id.ObjectId.{ObjectId}
-use Rattle.ob_machine.specs.Meaning.{Course, course_of}
-use Rattle.ob_machine.specs.declared.plain.Plain.{Plain}
-use Rattle.ob_machine.specs.declared.plain.PlainTx.{PlainTx}
-use Rattle.ob_machine.specs.declared.ran.Early.{Early}
-use Rattle.ob_machine.specs.declared.ran.Early.TheVariants as early
+use Rattle.ob_plain_machine.specs.Meaning.{Course, course_of}
+use Rattle.ob_plain_machine.specs.declared.plain.Plain.{Plain}
+use Rattle.ob_plain_machine.specs.declared.plain.PlainTx.{PlainTx}
+use Rattle.ob_plain_machine.specs.declared.ran.Early.{Early}
+use Rattle.ob_plain_machine.specs.declared.ran.Early.TheVariants as early
 use Rattle.ob_wire.specs.Reading.{request_of}
 use Rattle.ob_wire.specs.declared.request.Request.{Request}
 use Rattle.ob_wire.specs.declared.request.Op.{Op}

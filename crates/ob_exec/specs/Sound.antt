@@ -2,7 +2,7 @@
 use Rattle.std.specs.Prelude.{ℕ, ◌≡◌, ◌≤◌, ◌==◌, length, Option, Some, None, IsTrue}
 use Rattle.std.specs.List.{list_all}
 use Rattle.ob_base.specs.Limits.{most_handles}
-use Rattle.ob_machine.specs.declared.plain.Plain.{Plain}
+use Rattle.ob_plain_machine.specs.declared.plain.Plain.{Plain}
 use Rattle.ob_exec.specs.declared.store.Store.{Store}
 
 -- how many fields an object has

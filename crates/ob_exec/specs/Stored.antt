@@ -2,7 +2,7 @@
 use Rattle.std.specs.Prelude.{ℕ, Bool, ◌&&◌, List, find, Option, option_map}
 use Rattle.std.specs.Str.{bytes_eq}
 use Rattle.ob_base.specs.declared.id.ObjectId.{ObjectId}
-use Rattle.ob_machine.specs.declared.plain.PlainTx.{PlainTx}
+use Rattle.ob_plain_machine.specs.declared.plain.PlainTx.{PlainTx}
 use Rattle.ob_exec.specs.declared.store.StoredHandle.{StoredHandle}
 
 -- the handle is this client's, under this name

@@ -1,16 +1,16 @@
 //! The answer to a line.
 ghost use Rattle.std.specs.Prelude.{◌≡◌, ◌<◌, ◌^◌, ℕ, ℤ, List, Some, length, slice_get, IsTrue, IfOk, MatchOption, OnErr, Option, None};
-ghost use Rattle.ob_machine.specs.Meaning.{course_of};
-ghost use Rattle.ob_machine.specs.declared.plain.Plain.{Plain};
+ghost use Rattle.ob_plain_machine.specs.Meaning.{course_of};
+ghost use Rattle.ob_plain_machine.specs.declared.plain.Plain.{Plain};
 ghost use Rattle.ob_exec.specs.Answers.{Steps, is_new, with_object, after_call, target_of, op_step, step_of, IsOkAnswer};
 ghost use Rattle.ob_exec.specs.Sound.{IsSound};
-ghost use Rattle.ob_machine.specs.Closed.{names_exist, is_closed_program};
+ghost use Rattle.ob_plain_machine.specs.Closed.{names_exist, is_closed_program};
 ghost use Rattle.ob_exec.specs.declared.store.Store.{Store};
 
 use crate::find::{handled, transaction_of};
 use crate::{Store, StoredHandle};
 use ob_base::{Items, LONGEST_LINE, Label, MOST_HANDLES, Memory, ObjectId};
-use ob_machine::{Plain, PlainTx, Ran, run_plain};
+use ob_plain_machine::{Plain, PlainTx, Ran, run_plain};
 use ob_wire::{Answer, Cause, Op, Outcome, Refusal, Reply, Request, WireError, read_request};
 use std::alloc::Global;
 

@@ -6,7 +6,7 @@ ghost use Rattle.ob_exec.specs.Stored.{is_handle, handled, transaction_of};
 
 use crate::StoredHandle;
 use ob_base::{Label, ObjectId};
-use ob_machine::PlainTx;
+use ob_plain_machine::PlainTx;
 
 fn is_handle(client: &Label, name: &Label, handle: &StoredHandle) -> bool
     ensures { result ≡ is_handle client.now name.now handle.now }

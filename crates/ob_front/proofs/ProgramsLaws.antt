@@ -1,6 +1,6 @@
 -- A text is one program at most, or has one first fault.
 use native.Mathlib.Omega.{arith}
-use Rattle.std.proofs.Common.{ℕ, ◌≡◌, suc, List, [], ◌∷◌, Some, None, map, sym, ap, ◌∙◌, subst}
+use Rattle.std.proofs.Common.{ℕ, ◌≡◌, ◌≤◌, ◌<◌, suc, List, [], ◌∷◌, Some, None, map, sym, ap, ◌∙◌, subst}
 use Rattle.std.specs.Prelude.{All}
 use Rattle.ob_base.specs.declared.fault.ProgramFault.{ProgramFault}
 use Rattle.ob_table.specs.Tables.{ClassTable}
@@ -8,6 +8,7 @@ use Rattle.ob_silica.specs.Terms.{SilicaBody}
 use Rattle.ob_silica.specs.TermsView.{silica_body_of}
 use Rattle.ob_silica.specs.declared.body.TermBody.{TermBody}
 use Rattle.ob_flow_spec.specs.Deriving.{Derives}
+use Rattle.ob_emit_spec.specs.Weights.{most_weight, weight, IsTooHeavy}
 use Rattle.ob_front.specs.Stages.{HasTable, HasTableFault}
 use Rattle.std.proofs.lemmas.List.Elements.{All-cons}
 use Rattle.ob_table.specs.Statements.{ResolvedBody}
@@ -21,7 +22,7 @@ use Rattle.ob_base.specs.declared.text_error.TextError.TheVariants.{Fault, Memor
 use Rattle.ob_front.specs.Lowered.{AreLoweredTo, first_slot_past, LacksSlots}
 use Rattle.ob_front.specs.Checked.{AllNumbered, first_flow_fault, FailsPremise}
 use Rattle.ob_front.proofs.MiddleLaws.{some_is, one_lowering, none_past, one_slot_fault, none_fails}
-use Rattle.ob_front.specs.Programs.{HasTerms, HasTermsFault, at_table, at_slot, IsProgram, IsAccepted, HasTextFault, at_terms, at_premise}
+use Rattle.ob_front.specs.Programs.{HasTerms, HasTermsFault, at_table, at_slot, IsChecked, IsProgram, IsAccepted, HasTextFault, at_terms, at_premise, at_weight}
 use Rattle.ob_front.proofs.StagesLaws.{one_table, table_or_none, one_table_fault_lem, well_formed}
 
 terms_or_slot : (text : List ℕ) (table other : ClassTable) (bodies : List SilicaBody) (fault : ProgramFault) → HasTerms text table bodies → HasTable text other → ¬ (LacksSlots other fault)
@@ -53,16 +54,39 @@ one_terms text table other bodies more one two =
     let there : AreLoweredTo other other.bodies bodies = subst (λ (t : ClassTable). AreLoweredTo t t.bodies bodies) same one.lowered in
     ap (λ t. first_flow_fault t bodies) same ∙ ap (first_flow_fault other) (one_lowering other other.bodies bodies more there two.lowered)
 
-program_or_premise : (text : List ℕ) (table other : ClassTable) (bodies more : List SilicaBody) (fault : ProgramFault) → IsProgram text table bodies
+checked_or_premise : (text : List ℕ) (table other : ClassTable) (bodies more : List SilicaBody) (fault : ProgramFault) → IsChecked text table bodies
     → HasTerms text other more → ¬ (first_flow_fault other more ≡ Some fault)
-program_or_premise text table other bodies more fault is terms fails =
+checked_or_premise text table other bodies more fault is terms fails =
     let f : None ≡ Some fault = sym (none_fails table bodies is.derive) ∙ one_terms text table other bodies more is.terms terms ∙ fails in
     cc
 
+-- what a text weighs is one number
+one_weight : (text : List ℕ) (table other : ClassTable) (bodies more : List SilicaBody) → HasTerms text table bodies → HasTerms text other more
+    → weight table bodies ≡ weight other more
+one_weight text table other bodies more one two =
+    let same = one_table text table other one.has two.has in
+    let there : AreLoweredTo other other.bodies bodies = subst (λ (t : ClassTable). AreLoweredTo t t.bodies bodies) same one.lowered in
+    ap (λ t. weight t bodies) same ∙ ap (weight other) (one_lowering other other.bodies bodies more there two.lowered)
+
+-- a program isn't too heavy
+program_or_weight : (text : List ℕ) (table other : ClassTable) (bodies more : List SilicaBody) (fault : ProgramFault) → IsProgram text table bodies
+    → IsChecked text other more → ¬ (IsTooHeavy other more fault)
+program_or_weight text table other bodies more fault is checked heavy =
+    let same = one_weight text table other bodies more is.checked.terms checked.terms in
+    let light : weight table bodies ≤ most_weight = is.light in
+    let past : most_weight < weight other more = heavy.heavy in
+    omega (arith, same, light, past)
+
+-- two faults of weight are one
+one_weight_fault : (table other : ClassTable) (bodies more : List SilicaBody) (a b : ProgramFault) → IsTooHeavy table bodies a → IsTooHeavy other more b → a ≡ b
+one_weight_fault table other bodies more a b x y =
+    ap (λ n. record a { number = n }) (x.number ∙ sym y.number) ∙ ap (λ s. record { number = b.number; span = s }) (x.span ∙ sym y.span)
+
 -- a text that is accepted has no first fault
 pub never_accepted_and_faulty_lem : (text : List ℕ) (fault : ProgramFault) → HasTextFault text fault → ¬ (IsAccepted text)
-never_accepted_and_faulty_lem text fault (at_terms has) is = terms_or_fault text is.table is.bodies fault is.is.terms has
-never_accepted_and_faulty_lem text fault (at_premise table bodies terms fails) is = program_or_premise text is.table table is.bodies bodies fault is.is terms fails
+never_accepted_and_faulty_lem text fault (at_terms has) is = terms_or_fault text is.table is.bodies fault is.is.checked.terms has
+never_accepted_and_faulty_lem text fault (at_premise table bodies terms fails) is = checked_or_premise text is.table table is.bodies bodies fault is.is.checked terms fails
+never_accepted_and_faulty_lem text fault (at_weight table bodies checked heavy) is = program_or_weight text is.table table is.bodies bodies fault is.is checked heavy
 
 -- nor has any text two
 pub one_text_fault_lem : (text : List ℕ) (a b : ProgramFault) → HasTextFault text a → HasTextFault text b → a ≡ b
@@ -71,6 +95,14 @@ one_text_fault_lem text a b (at_terms p) (at_premise table bodies terms fails) =
 one_text_fault_lem text a b (at_premise table bodies terms fails) (at_terms q) = absurd (terms_or_fault text table bodies b terms q)
 one_text_fault_lem text a b (at_premise table bodies terms fails) (at_premise other more terms' fails') =
     some_is a b (sym fails ∙ one_terms text table other bodies more terms terms' ∙ fails')
+one_text_fault_lem text a b (at_terms p) (at_weight table bodies checked heavy) = absurd (terms_or_fault text table bodies a checked.terms p)
+one_text_fault_lem text a b (at_weight table bodies checked heavy) (at_terms q) = absurd (terms_or_fault text table bodies b checked.terms q)
+one_text_fault_lem text a b (at_premise table bodies terms fails) (at_weight other more checked heavy) =
+    absurd (checked_or_premise text other table more bodies a checked terms fails)
+one_text_fault_lem text a b (at_weight other more checked heavy) (at_premise table bodies terms fails) =
+    absurd (checked_or_premise text other table more bodies b checked terms fails)
+one_text_fault_lem text a b (at_weight table bodies checked heavy) (at_weight other more checked' heavy') =
+    one_weight_fault table other bodies more a b heavy heavy'
 
 pub accepted_program : (text : List ℕ) (table : ClassTable) (bodies : List SilicaBody) → IsProgram text table bodies → IsAccepted text
 accepted_program text table bodies is = record { table = table; bodies = bodies; is = is }
@@ -98,6 +130,12 @@ pub premise_told : (text : List ℕ) (table : ClassTable) (bodies : List SilicaB
     → OnFault cause (FailsPremise table bodies) → OnFault cause (HasTextFault text)
 premise_told text table bodies (Fault fault) terms fails = at_premise table bodies terms fails
 premise_told text table bodies Memory terms fails = tt
+
+-- of one that weighs too much
+pub weight_told : (text : List ℕ) (table : ClassTable) (bodies : List SilicaBody) (cause : TextError) → IsChecked text table bodies
+    → OnFault cause (IsTooHeavy table bodies) → OnFault cause (HasTextFault text)
+weight_told text table bodies (Fault fault) checked heavy = at_weight table bodies checked heavy
+weight_told text table bodies Memory checked heavy = tt
 
 -- ---- what the check of permissions needs
 
@@ -133,7 +171,7 @@ slice_told text table bodies slice cause terms whole fails =
     (subst (λ bs. OnFault cause (FailsPremise table (map silica_body_of bs))) whole fails)
 
 pub slice_derives : (text : List ℕ) (table : ClassTable) (bodies slice : List TermBody) → HasTerms text table (map silica_body_of bodies) → slice ≡ bodies
-    → All (Derives table) (map silica_body_of slice) → IsProgram text table (map silica_body_of bodies)
+    → All (Derives table) (map silica_body_of slice) → IsChecked text table (map silica_body_of bodies)
 slice_derives text table bodies slice terms whole derive = record {
   terms = terms;
   derive = subst (λ bs. All (Derives table) (map silica_body_of bs)) whole derive;

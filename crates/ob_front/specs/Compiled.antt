@@ -6,6 +6,8 @@ use Rattle.ob_silica.specs.Terms.{SilicaBody}
 use Rattle.ob_coherent_spec.specs.Remaining.{IsCheckedBody}
 use Rattle.ob_lower_correct.specs.Law.{IsLoweredProgram}
 use Rattle.ob_soundness_laws.specs.Sound.{IsPermissionSound}
+use Rattle.ob_sound_code.specs.SoundCode.{IsSoundCode}
+use Rattle.ob_code.specs.declared.image.Image.{Image}
 use Rattle.ob_front.specs.Checked.{AllNumbered}
 
 -- A class table and terms as the laws on programs want them, where what is proved of the runs of an accepted text begins:
@@ -22,3 +24,7 @@ pub record IsCompiledProgram (table : ClassTable) (bodies : List SilicaBody) : T
 -- stored asset that is marked neither as shared nor as disowned has exactly one owner.
 abbrev pub IsSoundProgram : ClassTable → List SilicaBody → Type 0
 IsSoundProgram table bodies = IsPermissionSound (record { table = table; bodies = bodies })
+
+-- An image is sound code of such a program: each request on a store at rest comes by it to what the source meaning says.
+abbrev pub HasSoundCode : ClassTable → List SilicaBody → Image → Type 0
+HasSoundCode table bodies image = IsSoundCode (record { table = table; bodies = bodies }) image

@@ -6,9 +6,11 @@ mod checking;
 mod lowering;
 mod programs;
 mod stages;
+mod verifying;
 
 pub use programs::{
-    Compiled, accepted_texts_are_compiled, accepted_texts_are_sound, check_program, compile,
-    lowered, never_accepted_and_faulty, one_text_fault,
+    Compiled, LoweredProgram, accepted_texts_are_compiled, accepted_texts_are_sound,
+    accepted_texts_have_sound_code, check_program, compile, lowered, never_accepted_and_faulty,
+    one_text_fault,
 };
 pub use stages::{CompileError, class_table, syntax_tree};

@@ -4,57 +4,103 @@ ghost use Rattle.ob_base.specs.declared.fault.ProgramFault.{ProgramFault};
 ghost use Rattle.ob_silica.specs.Terms.{SilicaBody};
 ghost use Rattle.ob_silica.specs.TermsView.{silica_body_of};
 ghost use Rattle.ob_table.specs.Tables.{ClassTable};
-ghost use Rattle.ob_front.specs.Programs.{HasTerms, HasTermsFault, IsProgram, IsAccepted, HasTextFault};
-ghost use Rattle.ob_front.specs.Compiled.{IsCompiledProgram, IsSoundProgram};
+ghost use Rattle.ob_code.specs.declared.image.Image.{Image};
+ghost use Rattle.ob_emit_spec.specs.EmittedImages.{image_of};
+ghost use Rattle.ob_front.specs.Programs.{HasTerms, HasTermsFault, IsChecked, IsProgram, IsAccepted, HasTextFault};
+ghost use Rattle.ob_front.specs.Compiled.{IsCompiledProgram, IsSoundProgram, HasSoundCode};
 ghost use Rattle.ob_base.specs.TextErrors.{OnFault};
 
 use crate::checking::check_bodies;
 use crate::lowering::lower_bodies;
 use crate::stages::{CompileError, class_table};
+use crate::verifying::verified;
 use ob_base::{Duplicate, Items, Memory, both, copy_items};
+use ob_emit::emit;
 use ob_silica::TermBody;
 use ob_table::Table;
+use ob_verify::Verified;
 use std::alloc::Global;
 
-/// A program: its class table, and the terms of the bodies of its constructors and transactions, in the table's order.
+/// A class table, and the terms of the bodies of its constructors and transactions, in the table's order.
 #[derive(Drop)]
-pub struct Compiled {
+pub struct LoweredProgram {
     /// The class table, to whose numbers the terms refer.
     pub table: Table,
     /// The terms of each body of the table, in the order of the bodies there.
     pub bodies: Items<TermBody>,
 }
 
+impl Duplicate for LoweredProgram {
+    fn copy(&self, alloc: Global) -> Result<LoweredProgram, Memory> {
+        let (table, bodies) = both(self.table.copy(alloc), copy_items(alloc, &self.bodies))?;
+        Ok(LoweredProgram { table, bodies })
+    }
+}
+
+/// A program: its class table, the terms of its bodies in the table's order, and its code.
+#[derive(Drop)]
+pub struct Compiled {
+    /// The class table, to whose numbers the terms refer.
+    pub table: Table,
+    /// The terms of each body of the table, in the order of the bodies there.
+    pub bodies: Items<TermBody>,
+    /// The code for the machine, which is verified.
+    pub code: Verified,
+}
+
 impl Duplicate for Compiled {
     fn copy(&self, alloc: Global) -> Result<Compiled, Memory> {
         let (table, bodies) = both(self.table.copy(alloc), copy_items(alloc, &self.bodies))?;
-        Ok(Compiled { table, bodies })
+        let code = self.code.copy(alloc)?;
+        Ok(Compiled {
+            table,
+            bodies,
+            code,
+        })
     }
 }
 
 /// The class table of a text and the terms of its bodies, or its first fault: one that `class_table` tells, or `LIMIT` where a
 /// body needs more slots than it may have. The permission rules aren't asked.
-pub fn lowered(alloc: Global, text: &[u8]) -> Result<Compiled, CompileError>
+pub fn lowered(alloc: Global, text: &[u8]) -> Result<LoweredProgram, CompileError>
     ensures terms { IfOk result (λ c. HasTerms text.now c.table (map silica_body_of c.bodies)) }
     ensures fault { IfErr result (λ e. OnFault e (HasTermsFault text.now)) }
 {
     let table = class_table(alloc, text)?;
     let bodies = lower_bodies(alloc, &table)?;
-    Ok(Compiled { table, bodies })
+    Ok(LoweredProgram { table, bodies })
 }
 
-/// The program of a text, or its first fault: one that `lowered` tells, or the first premise of the permission rules that
-/// fails, body by body. The program is sound: no request of it on a store at rest goes wrong, each leaves the store at rest, and
-/// each stored asset that was never shared nor disowned has exactly one owner.
-pub fn compile(alloc: Global, text: &[u8]) -> Result<Compiled, CompileError>
-    ensures program { IfOk result (λ c. IsProgram text.now c.table (map silica_body_of c.bodies)) }
-    ensures compiled { IfOk result (λ c. IsCompiledProgram c.table (map silica_body_of c.bodies)) }
-    ensures sound { IfOk result (λ c. IsSoundProgram c.table (map silica_body_of c.bodies)) }
+// The same, where each body derives by the permission rules.
+fn checked(alloc: Global, text: &[u8]) -> Result<LoweredProgram, CompileError>
+    ensures checked { IfOk result (λ c. IsChecked text.now c.table (map silica_body_of c.bodies)) }
     ensures fault { IfErr result (λ e. OnFault e (HasTextFault text.now)) }
 {
     let program = lowered(alloc, text)?;
     check_bodies(alloc, &program.table, program.bodies.as_slice())?;
     Ok(program)
+}
+
+/// The program of a text, or its first fault: one that `lowered` tells, or the first premise of the permission rules that
+/// fails, body by body, or `LIMIT` at the text's start where the program weighs more than it may. The program is sound: no request
+/// of it on a store at rest goes wrong, each leaves the store at rest, and each stored asset that was never shared nor disowned has
+/// exactly one owner. Its code is sound: the machine runs each request to the end that the source meaning says.
+pub fn compile(alloc: Global, text: &[u8]) -> Result<Compiled, CompileError>
+    ensures program { IfOk result (λ c. IsProgram text.now c.table (map silica_body_of c.bodies)) }
+    ensures compiled { IfOk result (λ c. IsCompiledProgram c.table (map silica_body_of c.bodies)) }
+    ensures sound { IfOk result (λ c. IsSoundProgram c.table (map silica_body_of c.bodies)) }
+    ensures code { IfOk result (λ c. c.code ≡ image_of c.table (map silica_body_of c.bodies)) }
+    ensures sound_code { IfOk result (λ c. HasSoundCode c.table (map silica_body_of c.bodies) c.code) }
+    ensures fault { IfErr result (λ e. OnFault e (HasTextFault text.now)) }
+{
+    let program = checked(alloc, text)?;
+    let image = emit(alloc, &program.table, program.bodies.as_slice())?;
+    let code = verified(alloc, image)?;
+    Ok(Compiled {
+        table: program.table,
+        bodies: program.bodies,
+        code,
+    })
 }
 
 /// Whether a text has a program, or its first fault: one that `compile` tells.
@@ -80,6 +126,13 @@ pub fn accepted_texts_are_compiled()
 pub fn accepted_texts_are_sound()
     ensures { (text : List ℕ) (table : ClassTable) (bodies : List SilicaBody) → IsProgram text table bodies
         → IsSoundProgram table bodies }
+{}
+
+/// The image of a text that is accepted is sound code of it: each request on a store at rest comes by it to what the source meaning
+/// says, and the machine always has a next step until its run is over.
+pub fn accepted_texts_have_sound_code()
+    ensures { (text : List ℕ) (table : ClassTable) (bodies : List SilicaBody) → IsProgram text table bodies
+        → HasSoundCode table bodies (image_of table bodies) }
 {}
 
 /// A text that is accepted has no first fault.

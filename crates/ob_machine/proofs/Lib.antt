@@ -1,1 +1,13 @@
-pub mod SumLemmas
+pub mod SlotsLemmas
+pub mod NamesLemmas
+pub mod WorldLemmas
+pub mod FieldLemmas
+pub mod WaitingLemmas
+pub mod StepLemmas
+pub mod ChangeLemmas
+pub mod TestLemmas
+pub mod BeginningLemmas
+pub mod CallLemmas
+pub mod SliceLemmas
+pub mod AlikeLemmas
+pub mod MarkingLemmas

@@ -1,10 +1,31 @@
-//! What a transaction over whole numbers does.
+//! The machine: it runs code on the objects of a store.
 #![tactic(auto)]
 
-mod plain;
-mod ran;
+mod beginning;
+mod calling;
+mod changing;
+mod entering;
+mod entry;
+mod frame;
+mod heap;
+mod laws;
+mod lookups;
+mod machine;
+mod marking;
+mod off;
+mod operations;
+mod progress;
+mod returning;
 mod run;
+mod slice;
+mod slots;
+mod step;
+mod straight;
+mod testing;
+mod units;
+mod waiting;
 
-pub use plain::{Plain, PlainAddend, PlainSet, PlainSum, PlainTerm, PlainTx};
-pub use ran::{Early, Ran};
-pub use run::{run_plain, sums_are_prefix_sums};
+pub use entry::Entry;
+pub use laws::{same_phases_go_alike, slices_stop_or_are_stuck};
+pub use machine::Machine;
+pub use progress::{Cause, Progress};

@@ -13,6 +13,7 @@ use Rattle.ob_machine_steps.specs.Runs.{Stop, paused, over, after_step, after_st
 use Rattle.ob_machine_steps.specs.Measures.{length_of, longest, steps_left, rests, LeadsAhead}
 use Rattle.ob_machine_steps.specs.Meanings.{outcome_of, outcome_at, outcome}
 use Rattle.ob_machine_laws.specs.Laws.{IsSoundRun, IsOverAfter}
+use Rattle.ob_machine_laws.proofs.Fetching.{instruction_in_body}
 use Rattle.ob_machine_laws.proofs.Measuring.{lowers, within_body}
 
 abbrev IsOver : Option Stop → Type 0
@@ -38,7 +39,7 @@ next_left : (image : Image) (c : Configuration) (i : Option Instruction) (x : Ne
 next_left image c None x e f = absurd (true≢false (sym (ap is_some f)))
 next_left image c (Some i) x e f =
     sub_some (length_of (body_code image c.top.contract c.top.tx)) c.top.at (rests image c.below) (c.world.fuel * longest image)
-    (within_body (body_code image c.top.contract c.top.tx) c.top.at i e)
+    (within_body (body_code image c.top.contract c.top.tx) c.top.at i (instruction_in_body image c.top.contract c.top.tx c.top.at i e))
 
 step_left : (image : Image) (p : Phase) (x : Next) → next_step image p ≡ Some x → 0 < steps_left image p
 step_left image (starting e w) x f = omega arith

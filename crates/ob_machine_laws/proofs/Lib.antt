@@ -1,6 +1,8 @@
 pub mod Slicing
 pub mod Fuel
+pub mod Fetching
 pub mod Measuring
+pub mod Paying
 pub mod Ending
 pub mod Reading
 pub mod SameReads

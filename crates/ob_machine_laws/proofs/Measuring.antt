@@ -32,6 +32,7 @@ use Rattle.ob_machine_steps.specs.Returning.{with_result, world_left, resumes, r
 use Rattle.ob_machine_steps.specs.Steps.{act, next_instruction}
 use Rattle.ob_machine_steps.specs.Entries.{MachineEntry, Phase, starting, running, nobody, enters, next_step}
 use Rattle.ob_machine_steps.specs.Measures.{length_of, longest_body, longest_of, longest, rest, rests, steps_most, steps_left, LeadsAhead}
+use Rattle.ob_machine_laws.proofs.Fetching.{none_is_some, instruction_in_body}
 use Rattle.ob_machine_laws.proofs.Fuel.{read_fuel, edit_fuel, shared_fuel, disowned_fuel, lock_fuel, unlock_fuel, left_fuel}
 
 -- where a step goes on, fewer than n steps can still come
@@ -243,20 +244,14 @@ act_below image (ins.Revert a) c ahead e k = then_below image _ (text_at c.top.s
 
 -- Steps.
 
-abbrev IsNone : {A : Type 0} → Option A → Type 0
-IsNone None = Unit {0}
-IsNone (Some a) = ⊥
-
-none_is_some : {A : Type 0} {a : A} → None ≡ Some a → ⊥
-none_is_some e = subst IsNone e tt
-
 pub within_body : (b : Option BodyCode) (place : ℕ) (i : Instruction) → (b >>= λ (x : BodyCode). slice_get x.instructions place) ≡ Some i → place < length_of b
 within_body None place i e = absurd (none_is_some e)
 within_body (Some b) place i e = slice_get_within b.instructions place i e
 
 step_below : (image : Image) (c : Configuration) (i : Option Instruction) → LeadsAhead image → next_instruction image c ≡ i → Below image (steps_most image c) (i >>= λ x. act image x c)
 step_below image c None ahead e = tt
-step_below image c (Some i) ahead e = act_below image i c ahead e (within_body (body_code image c.top.contract c.top.tx) c.top.at i e)
+step_below image c (Some i) ahead e = act_below image i c ahead e (within_body (body_code image c.top.contract c.top.tx) c.top.at i
+    (instruction_in_body image c.top.contract c.top.tx c.top.at i e))
 
 start_sums : (m f g : ℕ) → suc f ≡ g → (m + 0) + f * m < suc (g * m)
 start_sums m f g e = subst (λ k. (m + 0) + f * m < suc (k * m)) e (grind arith)

@@ -37,6 +37,10 @@ SlicesEndAsRuns =
     (image : Image) (units : ℕ) (p : Phase) (end : End)
     → LeadsAhead image → Slices image units p (over end) → outcome image p ≡ outcome_of end
 
+-- A slice of as many units as the run has left never waits for one.
+abbrev pub WholeSlicesEnd : Type 0
+WholeSlicesEnd = (image : Image) (units : ℕ) (p q : Phase) → (world_of p).fuel ≤ units → ¬ (Slices image units p (paused q))
+
 -- The end.
 
 -- Each step lowers the measure.

@@ -1,14 +1,16 @@
 //! Laws of the machine's steps.
-ghost use Rattle.ob_machine_laws.specs.Laws.{SlicesAddUp, SlicesEndAsRuns, StepsLowerTheMeasure, RunsGoNoFurther, RunsEnd, EntriesEnd};
+ghost use Rattle.ob_machine_laws.specs.Laws.{SlicesAddUp, SlicesEndAsRuns, WholeSlicesEnd, StepsLowerTheMeasure, RunsGoNoFurther, RunsEnd, EntriesEnd};
 ghost use Rattle.ob_machine_laws.specs.Laws.{UnitsAddUp, ReadsGrow, ObjectsStay, UnreadStay, FramesStayTold, LocksAreSets, EntriesLockOnce};
 ghost use Rattle.ob_machine_laws.specs.Laws.{SoundRunsAreSoundInSlices, PausedRunsAreSound};
 ghost use Rattle.ob_machine_laws.specs.Laws.{ContractsAgree, FieldsAgree, StatesAgree, NamesAgree, RequestsRun};
 ghost use Rattle.ob_machine_laws.specs.Laws.{StepsIgnoreReads, SlicesIgnoreReads, SameReadsSameSteps, SameReadsSameSlices};
 
-/// Two slices one after another are one slice of the sum, and where one stops with the run, that is what the run comes to.
+/// Two slices one after another are one slice of the sum, and where one stops with the run, that is what the run comes to. A slice
+/// of as many units as the run has left never waits for one.
 pub fn slices_add_up()
     ensures sum { SlicesAddUp }
     ensures end { SlicesEndAsRuns }
+    ensures whole { WholeSlicesEnd }
 {}
 
 /// Where jumps lead ahead, each step leaves fewer steps that can still come.

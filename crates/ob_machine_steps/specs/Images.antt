@@ -1,6 +1,6 @@
 -- What an image says of its contracts, their bodies and their states (this project's own; Coblenz et al., TOPLAS 42(3), 2020,
 -- "Interfaces", for which transaction answers a call).
-use Rattle.std.specs.Prelude.{ℕ, ℤ, pos, negsuc, ◌-◌, ◌^◌, Bool, false, ◌==◌, List, map, position, Option, Some, option_map, slice_get, if◌then◌else◌}
+use Rattle.std.specs.Prelude.{ℕ, ℤ, pos, negsuc, ◌-◌, ◌^◌, Bool, false, ◌==◌, List, map, position, Option, Some, None, option_map, slice_get, if◌then◌else◌}
 use Rattle.std.specs.Option.{option_map_or}
 use Rattle.ob_base.specs.Optional.{◌>>=◌}
 use Rattle.ob_base.specs.declared.id.ContractId.{ContractId}
@@ -16,15 +16,19 @@ use Rattle.ob_code.specs.declared.image.ContractCode.{ContractCode}
 use Rattle.ob_code.specs.declared.image.FieldCode.{FieldCode}
 use Rattle.ob_code.specs.declared.image.Image.{Image}
 use Rattle.ob_code.specs.declared.instruction.Instruction.{Instruction}
-use Rattle.ob_code.specs.Code.{is_interface, is_constructor, contract_code, body_code, is_transaction_named}
+use Rattle.ob_code.specs.Code.{is_interface, is_constructor, contract_code, is_transaction_named}
 
 -- Marks.
 
 -- What stands at a number.
 
+-- the instruction at a place of a contract's body; an interface's bodies have none that are run
+abbrev pub instruction_of : ContractCode → TxId → ℕ → Option Instruction
+instruction_of c tx place = if is_interface c then None else (slice_get c.bodies tx.0 >>= λ (b : BodyCode). slice_get b.instructions place)
+
 -- the instruction at a place of a body
 abbrev pub instruction_at : Image → ContractId → TxId → ℕ → Option Instruction
-instruction_at image contract tx place = body_code image contract tx >>= λ (b : BodyCode). slice_get b.instructions place
+instruction_at image contract tx place = contract_code image contract >>= λ (c : ContractCode). instruction_of c tx place
 
 -- the number of a contract's constructor, if it has one
 abbrev pub constructor_number : ContractCode → Option TxId

@@ -2,8 +2,8 @@
 use Rattle.std.proofs.Common.{ℕ, ◌≡◌, ◌⊎◌, inl, inr, false, List, Option, Some, None, option_map, IsTrue, [], refl, sym, ap, ◌∙◌, subst}
 use Rattle.ob_base.specs.declared.fault.ProgramFault.{ProgramFault}
 use Rattle.ob_tree.specs.Members.{Contract}
-use Rattle.ob_machine.specs.declared.plain.Plain.{Plain}
-use Rattle.ob_machine.specs.Closed.{is_closed_program}
+use Rattle.ob_plain_machine.specs.declared.plain.Plain.{Plain}
+use Rattle.ob_plain_machine.specs.Closed.{is_closed_program}
 use Rattle.ob_front.specs.Stages.{IsTreeOf, HasTreeFault, at_tree}
 use Rattle.ob_front.specs.Programs.{at_table, HasTextFault, at_terms}
 use Rattle.ob_base.specs.TextErrors.{OnFault}

@@ -6,8 +6,8 @@ use Rattle.std.proofs.lemmas.List.Folds.{list_any-append}
 use Rattle.std.proofs.lemmas.List.{length-map}
 use Rattle.std.proofs.lemmas.Bool.Decides.{nat_tests}
 use Rattle.std.proofs.lemmas.Bool.{and_parts, and_from}
-use Rattle.ob_machine.specs.Closed.{term_exists, sum_exists, set_exists, names_exist, is_closed}
-use Rattle.ob_machine.specs.declared.plain.PlainTerm.TheVariants as plain
+use Rattle.ob_plain_machine.specs.Closed.{term_exists, sum_exists, set_exists, names_exist, is_closed}
+use Rattle.ob_plain_machine.specs.declared.plain.PlainTerm.TheVariants as plain
 use Rattle.ob_plain.specs.Conditions.{is_among, is_known_term, is_known_sum, is_known_set, is_transaction, are_starts, meets_conditions}
 use Rattle.ob_plain.specs.Resolved.{number_of, plain_term, plain_addend, plain_sum, plain_set, plain_transaction, plain_of}
 use Rattle.ob_plain.specs.declared.tree.ProgramTree.{ProgramTree}

@@ -8,7 +8,7 @@ use Rattle.ob_lexer.specs.declared.lexer.Lexed.{Lexed}
 use Rattle.ob_tree.specs.Members.{Contract}
 use Rattle.ob_parser_spec.specs.Grammar.{HasTree}
 use Rattle.ob_front.specs.Programs.{IsAccepted, HasTextFault}
-use Rattle.ob_machine.specs.declared.plain.Plain.{Plain}
+use Rattle.ob_plain_machine.specs.declared.plain.Plain.{Plain}
 use Rattle.ob_plain.specs.BuiltForm.{program_of}
 use Rattle.ob_plain.specs.Conditions.{meets_conditions}
 use Rattle.ob_plain.specs.Resolved.{plain_of}

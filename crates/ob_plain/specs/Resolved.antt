@@ -1,13 +1,13 @@
 -- The program that a tree is, with places in the place of names.
 use Rattle.std.specs.Prelude.{ℕ, suc, List, [], ◌∷◌, map, if◌then◌else◌}
 use Rattle.std.specs.Str.{bytes_eq}
-use Rattle.ob_machine.specs.declared.plain.Plain.{Plain}
-use Rattle.ob_machine.specs.declared.plain.PlainTx.{PlainTx}
-use Rattle.ob_machine.specs.declared.plain.PlainSet.{PlainSet}
-use Rattle.ob_machine.specs.declared.plain.PlainSum.{PlainSum}
-use Rattle.ob_machine.specs.declared.plain.PlainAddend.{PlainAddend}
-use Rattle.ob_machine.specs.declared.plain.PlainTerm.{PlainTerm}
-use Rattle.ob_machine.specs.declared.plain.PlainTerm.TheVariants as plain
+use Rattle.ob_plain_machine.specs.declared.plain.Plain.{Plain}
+use Rattle.ob_plain_machine.specs.declared.plain.PlainTx.{PlainTx}
+use Rattle.ob_plain_machine.specs.declared.plain.PlainSet.{PlainSet}
+use Rattle.ob_plain_machine.specs.declared.plain.PlainSum.{PlainSum}
+use Rattle.ob_plain_machine.specs.declared.plain.PlainAddend.{PlainAddend}
+use Rattle.ob_plain_machine.specs.declared.plain.PlainTerm.{PlainTerm}
+use Rattle.ob_plain_machine.specs.declared.plain.PlainTerm.TheVariants as plain
 use Rattle.ob_plain.specs.Conditions.{is_among}
 use Rattle.ob_plain.specs.declared.tree.ProgramTree.{ProgramTree}
 use Rattle.ob_plain.specs.declared.tree.TransactionTree.{TransactionTree}

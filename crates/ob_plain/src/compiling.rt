@@ -2,8 +2,8 @@
 ghost use Rattle.std.specs.Prelude.{◌≡◌, ℕ, List, Option, IsTrue, IfOk, IfErr};
 ghost use Rattle.ob_base.specs.declared.fault.ProgramFault.{ProgramFault};
 ghost use Rattle.ob_tree.specs.MembersView.{tree_of};
-ghost use Rattle.ob_machine.specs.Closed.{is_closed_program};
-ghost use Rattle.ob_machine.specs.declared.plain.Plain.{Plain};
+ghost use Rattle.ob_plain_machine.specs.Closed.{is_closed_program};
+ghost use Rattle.ob_plain_machine.specs.declared.plain.Plain.{Plain};
 ghost use Rattle.ob_base.specs.TextErrors.{OnFault};
 ghost use Rattle.ob_plain.specs.Form.{HasProgram, IsOfForm, IsFaulty};
 ghost use Rattle.ob_plain.specs.Compiling.{Resolves, Forms, IsToldOf};
@@ -14,7 +14,7 @@ use crate::resolver::resolve;
 use crate::tree::ProgramTree;
 use ob_base::{Memory, NOT_BUILT, ProgramFault, Span};
 use ob_front::{CompileError, check_program, syntax_tree};
-use ob_machine::Plain;
+use ob_plain_machine::Plain;
 use ob_tree::Tree;
 use std::alloc::Global;
 

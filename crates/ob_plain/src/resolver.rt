@@ -6,7 +6,7 @@ ghost use Rattle.ob_plain.specs.Resolved.{number_of, plain_term, plain_addend, p
 use crate::conditions::is_among;
 use crate::tree::{ProgramTree, SetTree, StartTree, SumTree, TermTree, TransactionTree};
 use ob_base::{Duplicate, FieldId, Items, Memory, Name, copy_items};
-use ob_machine::{Plain, PlainAddend, PlainSet, PlainSum, PlainTerm, PlainTx};
+use ob_plain_machine::{Plain, PlainAddend, PlainSet, PlainSum, PlainTerm, PlainTx};
 use std::alloc::Global;
 
 // The place of the name, from 0: the number of names, where it is none of them.

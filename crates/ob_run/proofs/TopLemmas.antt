@@ -5,11 +5,11 @@ use Rattle.std.proofs.lemmas.List.{take_all}
 use Rattle.ob_base.specs.Limits.{longest_program, most_taken}
 use Rattle.ob_io.specs.Files.{IsAsked}
 use Rattle.ob_io.specs.Told.{Takes}
-use Rattle.ob_machine.specs.declared.plain.Plain.{Plain}
+use Rattle.ob_plain_machine.specs.declared.plain.Plain.{Plain}
 use Rattle.ob_base.specs.declared.fault.ProgramFault.{ProgramFault}
 use Rattle.ob_lexer.specs.Flaws.{HasFault, too_long, no_utf8, flawed}
 use Rattle.ob_front.specs.Stages.{at_token, at_row, HasTableFault, at_tree, at_bracket, at_site}
-use Rattle.ob_front.specs.Programs.{HasTermsFault, at_table, at_slot, IsAccepted, HasTextFault, at_terms, at_premise}
+use Rattle.ob_front.specs.Programs.{HasTermsFault, at_table, at_slot, IsAccepted, HasTextFault, at_terms, at_premise, at_weight}
 use Rattle.ob_front.proofs.ProgramsLaws.{never_accepted_and_faulty_lem}
 use Rattle.ob_plain.specs.Form.{IsOfForm, IsFaulty, in_text, in_form}
 use Rattle.ob_plain.proofs.FormLaws.{never_of_form_and_faulty_lem}
@@ -47,13 +47,14 @@ module _ (content : List ℕ) (long : longest_program < length (take most_read c
   too_long_text : (fault : ProgramFault) → HasTextFault (take most_read content) fault → HasTextFault content fault
   too_long_text fault (at_terms has) = at_terms (too_long_terms fault has)
   too_long_text fault (at_premise table bodies terms fails) = absurd (long_and_short (take most_read content) long terms.has.resolved.is.of.spelled.short)
+  too_long_text fault (at_weight table bodies checked heavy) = absurd (long_and_short (take most_read content) long checked.terms.has.resolved.is.of.spelled.short)
 
   too_long_form : ¬ (IsOfForm content)
   too_long_form of = long_and_short content (omega (arith, length-take most_read content)) of.1.spelled.short
 
   too_long_program : (fault : ProgramFault) → IsFaulty (take most_read content) fault → IsFaulty content fault
   too_long_program fault (in_text has none) = in_text (too_long_text fault has) too_long_form
-  too_long_program fault (in_form is none e) = absurd (long_and_short (take most_read content) long is.is.terms.has.resolved.is.of.spelled.short)
+  too_long_program fault (in_form is none e) = absurd (long_and_short (take most_read content) long is.is.checked.terms.has.resolved.is.of.spelled.short)
 
   too_long_told : (command : Command) (fault : ProgramFault) → IsToldBy command (take most_read content) fault → IsToldBy command content fault
   too_long_told (serve name) fault told = too_long_program fault told
@@ -64,7 +65,7 @@ module _ (content : List ℕ) (long : longest_program < length (take most_read c
 
   not_found : (command : Command) (bytes : List ℕ) → IsFinding command (take most_read content) bytes → ⊥
   not_found (serve name) bytes h = h
-  not_found (check name) bytes h = long_and_short (take most_read content) long h.0.is.terms.has.resolved.is.of.spelled.short
+  not_found (check name) bytes h = long_and_short (take most_read content) long h.0.is.checked.terms.has.resolved.is.of.spelled.short
 
   not_served : (command : Command) (says : Option Plain → Type 0) → ServesProgram command (take most_read content) says → ⊥
   not_served command says h = long_and_short (take most_read content) long h.has.spelled.short

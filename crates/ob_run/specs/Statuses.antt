@@ -4,7 +4,7 @@ use Rattle.ob_base.specs.Limits.{most_taken}
 use Rattle.ob_base.specs.declared.fault.ProgramFault.{ProgramFault}
 use Rattle.ob_io.specs.Causes.{Rose}
 use Rattle.ob_io.specs.Files.{IsAsked}
-use Rattle.ob_machine.specs.declared.plain.Plain.{Plain}
+use Rattle.ob_plain_machine.specs.declared.plain.Plain.{Plain}
 use Rattle.ob_front.specs.Programs.{IsAccepted, HasTextFault}
 use Rattle.ob_plain.specs.Form.{HasProgram, IsFaulty}
 use Rattle.ob_serve.specs.Served.{Streams, IsAll, Finishes, FailsToRead, FailsToWrite, GivesUp, ReachesLimit}

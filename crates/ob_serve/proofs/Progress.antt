@@ -10,7 +10,7 @@ use Rattle.ob_io.specs.Lines.{has_newline, IsLine}
 use Rattle.ob_io.specs.Views.{SourceView, SinkView}
 use Rattle.ob_io.proofs.TextLemmas.{split_none, split_more, split_end, split_part}
 use Rattle.ob_io.proofs.ToldLemmas.{gives_none, gives_then, takes_none, takes_then, takes_from_none, takes_from_then}
-use Rattle.ob_machine.specs.declared.plain.Plain.{Plain}
+use Rattle.ob_plain_machine.specs.declared.plain.Plain.{Plain}
 use Rattle.ob_exec.specs.Sound.{IsSound}
 use Rattle.ob_exec.specs.declared.store.Store.{Store}
 use Rattle.ob_serve.specs.Session.{SessionItem, session, state_after, requests_in, replies, is_blank_line}

@@ -1,6 +1,6 @@
 -- The session of a program over a store in memory.
 use Rattle.std.specs.Prelude.{ℕ, List, [], Option}
-use Rattle.ob_machine.specs.declared.plain.Plain.{Plain}
+use Rattle.ob_plain_machine.specs.declared.plain.Plain.{Plain}
 use Rattle.ob_wire.specs.Replies.{reply_text}
 use Rattle.ob_exec.specs.Answers.{step_of}
 use Rattle.ob_exec.specs.declared.store.Store.{Store}

@@ -5,7 +5,7 @@ use Rattle.ob_io.specs.Causes.{Rose}
 use Rattle.ob_io.specs.Told.{TakesFrom, TakesAtMost, Gives, IsEnd}
 use Rattle.ob_io.specs.LinesOfText.{lines_of, whole_lines}
 use Rattle.ob_io.specs.Views.{SourceView, SinkView}
-use Rattle.ob_machine.specs.declared.plain.Plain.{Plain}
+use Rattle.ob_plain_machine.specs.declared.plain.Plain.{Plain}
 use Rattle.ob_exec.specs.declared.store.Store.{Store}
 use Rattle.ob_serve.specs.Session.{SessionItem, replies}
 use Rattle.ob_serve.specs.Replies.{items_of, replies_to}

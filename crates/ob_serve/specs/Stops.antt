@@ -7,7 +7,7 @@ use Rattle.ob_io.specs.Told.{Takes, IsEnd}
 use Rattle.ob_io.specs.Lines.{has_newline, has_ended, IsLine, taken, handed, pending}
 use Rattle.ob_io.specs.Views.{SourceView}
 use Rattle.ob_io.specs.declared.lines.Lines.{Lines}
-use Rattle.ob_machine.specs.declared.plain.Plain.{Plain}
+use Rattle.ob_plain_machine.specs.declared.plain.Plain.{Plain}
 use Rattle.ob_exec.specs.declared.store.Store.{Store}
 use Rattle.ob_serve.specs.Session.{is_blank_line}
 use Rattle.ob_serve.specs.Replies.{answer_of}

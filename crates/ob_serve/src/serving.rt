@@ -5,7 +5,7 @@ ghost use Rattle.ob_base.specs.Limits.{longest_line, most_taken};
 ghost use Rattle.ob_io.specs.Lines.{EndIsTold, CountsTaken, taken};
 ghost use Rattle.ob_io.specs.Told.{TakesAtMost};
 ghost use Rattle.ob_exec.specs.Sound.{IsSound};
-ghost use Rattle.ob_machine.specs.Closed.{is_closed_program};
+ghost use Rattle.ob_plain_machine.specs.Closed.{is_closed_program};
 ghost use Rattle.ob_serve.specs.Session.{is_space, is_blank_line};
 ghost use Rattle.ob_serve.specs.Served.{EndsAs};
 ghost use Rattle.ob_serve.specs.Stops.{reader, IsFull, ReadsLine, IsStop, Replied};
@@ -13,7 +13,7 @@ ghost use Rattle.ob_serve.specs.Stops.{reader, IsFull, ReadsLine, IsStop, Replie
 use ob_base::{Failed, Memory};
 use ob_exec::{Store, answer, refused};
 use ob_io::{Lines, Next, Sink, Source, write_all};
-use ob_machine::Plain;
+use ob_plain_machine::Plain;
 use ob_wire::{Refusal, reply_bytes};
 use std::alloc::Global;
 

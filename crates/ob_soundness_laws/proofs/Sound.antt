@@ -9,8 +9,9 @@ use Rattle.ob_lower_correct.specs.Law.{IsLoweredProgram}
 use Rattle.ob_rest_laws.proofs.OneOwner.{one_owner}
 use Rattle.ob_invocation_spec.specs.Replies.{Invocation, invoked, goes_wrong}
 use Rattle.ob_coherent_spec.specs.Remaining.{IsCheckedBody, IsCheckedProgram}
+use Rattle.ob_invocation_laws.specs.Laws.{KeepsStoreAtRest}
 use Rattle.ob_soundness_laws.proofs.remaining.Programs.{lowered_has_terms}
-use Rattle.ob_soundness_laws.specs.Requests.{entry_lock, beginning_of, started, BeginsSo, EndsSo, StillLeavesAtRest, LeavesAtRest}
+use Rattle.ob_soundness_laws.specs.Requests.{entry_lock, beginning_of, started, BeginsSo, EndsSo, StillLeavesAtRest}
 use Rattle.ob_soundness_laws.specs.Sound.{LeavesOneOwner, CompiledProgramsAreSound}
 use Rattle.ob_soundness_laws.proofs.Keeping.{steps_keep}
 use Rattle.ob_soundness_laws.proofs.Many.{then_keep}
@@ -27,7 +28,7 @@ checked_of table bodies lowered each checked = record {
 }
 
 -- where a store is at rest, its assets have one owner
-owners_left : (table : ClassTable) (i : Invocation) → LeavesAtRest table i → LeavesOneOwner table i
+owners_left : (table : ClassTable) (i : Invocation) → KeepsStoreAtRest table i → LeavesOneOwner table i
 owners_left table (invoked i) rests = one_owner table i.content rests.at_rest
 owners_left table goes_wrong rests = absurd rests
 

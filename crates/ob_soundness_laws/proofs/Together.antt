@@ -3,7 +3,7 @@ use Rattle.ob_invocation_spec.specs.Replies.{Invocation, invoked, goes_wrong}
 use Rattle.ob_invocation_laws.specs.Laws.{KeepsStoreAtRest}
 use Rattle.ob_invocation_laws.proofs.Still.{still_keeps}
 use Rattle.ob_table.specs.Tables.{ClassTable}
-use Rattle.ob_soundness_laws.specs.Requests.{BeginsSo, EndsSo, StillLeavesAtRest, LeavesAtRest, NoRequestGoesWrong, RunsMeetStates}
+use Rattle.ob_soundness_laws.specs.Requests.{BeginsSo, EndsSo, StillLeavesAtRest, NoRequestGoesWrong, RunsMeetStates}
 use Rattle.ob_soundness_laws.specs.Sound.{CompiledProgramsAreSound}
 use Rattle.ob_soundness_laws.proofs.Begins.{begins_so}
 use Rattle.ob_soundness_laws.proofs.Keeping.{steps_keep}
@@ -18,7 +18,7 @@ runs_begin = begins_so
 pub runs_end : EndsSo
 runs_end = ends_so
 
-kept_is_left : (table : ClassTable) (i : Invocation) → KeepsStoreAtRest table i → LeavesAtRest table i
+kept_is_left : (table : ClassTable) (i : Invocation) → KeepsStoreAtRest table i → KeepsStoreAtRest table i
 kept_is_left table (invoked i) k = k
 kept_is_left table goes_wrong k = k
 

@@ -23,7 +23,7 @@ use Rattle.ob_coherent_spec.specs.Coherent.{StepsSo}
 use Rattle.ob_rest_spec.specs.AtRest.{IsStoreAtRest}
 use Rattle.ob_invocation_spec.specs.Requests.{Operation, NewRequest, CallRequest, HasLabels, new_request, call_request, disown_request, give_request, see_request, owner_request}
 use Rattle.ob_invocation_spec.specs.Replies.{Invocation, no_contract, not_main, no_transaction}
-use Rattle.ob_invocation_laws.specs.Laws.{runs}
+use Rattle.ob_invocation_laws.specs.Laws.{runs, KeepsStoreAtRest}
 use Rattle.ob_invocation_spec.specs.Entries.{HandleUse, Entry, entry_of_new, entry_of_call, values_of}
 use Rattle.ob_invocation_spec.specs.Checks.{check, refusal_of, reads_of, refused_or, with_found}
 use Rattle.ob_invocation_spec.specs.Refusals.{is_no_contract, is_not_main, is_no_transaction, argument_checks, found_checks, new_checks, call_checks}
@@ -34,7 +34,7 @@ use Rattle.ob_invocation_spec.specs.SourceInvocation.{source_meaning}
 use Rattle.ob_lower_correct.specs.Law.{IsLoweredProgram, EndsAs}
 use Rattle.ob_lower_correct.proofs.Law.{calls_keep_meaning, news_keep_meaning}
 use Rattle.ob_soundness_laws.specs.Running.{StepsKeep, EndsFrom}
-use Rattle.ob_soundness_laws.specs.Requests.{handles_in_run, entry_lock, beginning_of, started_on, started, IsEntered, by_request_new, by_request_call, BeginsSo, IsFirst, StartsSo, EndsSo, LeavesAtRest, StillLeavesAtRest, NoRequestGoesWrong}
+use Rattle.ob_soundness_laws.specs.Requests.{handles_in_run, entry_lock, beginning_of, started_on, started, IsEntered, by_request_new, by_request_call, BeginsSo, IsFirst, StartsSo, EndsSo, StillLeavesAtRest, NoRequestGoesWrong}
 use Rattle.ob_soundness_laws.proofs.Many.{never_stuck}
 use Rattle.ob_soundness_laws.proofs.Ending.{stays_itself, run_ends}
 use Rattle.ob_soundness_laws.proofs.Entries.{each_passes, each_after, has_passed, enters_new, enters_call, arguments_fit, fit_length}
@@ -114,13 +114,13 @@ module _ (keep : StepsKeep) (begins : BeginsSo) (program : SilicaProgram) (check
 
   module _ (ends : EndsSo) (lowered : IsLoweredProgram program) (reads : List ReadItem) where
     after_run : (outcome : RunOutcome (Option Value)) → EndsAs program (started program content fuel e) outcome
-        → LeavesAtRest program.table (answered program.table content e reads outcome)
+        → KeepsStoreAtRest program.table (answered program.table content e reads outcome)
     after_run (gives result w) (n, v, is, same) = let r = run_has_ended n result v is in
         ends program content e r.0 result w v checked rests entered r.1 r.2 same.objects
     after_run (aborts cause s) a = rests
     after_run wrong (n, is) = absurd (run_never_stuck n is)
 
-    run_leaves : LeavesAtRest program.table
+    run_leaves : KeepsStoreAtRest program.table
         (answered program.table content e reads (run_entry (source_meaning program.table fuel) content fuel e))
     run_leaves = after_run (run_entry (source_meaning program.table fuel) content fuel e) (ends_as program checked lowered content fuel e entered)
 
@@ -130,23 +130,23 @@ module _ (keep : StepsKeep) (begins : BeginsSo) (ends : EndsSo) (program : Silic
   -- what is entered, after its entry test
   entry_leaves : (e : Entry) (reads : List ReadItem)
       → (first_outside_use program.table content e ≡ None → IsEntered program.table content e)
-      → LeavesAtRest program.table (enter_entry (source_meaning program.table fuel) program.table content fuel reads e)
+      → KeepsStoreAtRest program.table (enter_entry (source_meaning program.table fuel) program.table content fuel reads e)
   entry_leaves e reads entered = go (first_outside_use program.table content e) entered
     where
       go : (u : Option HandleUse) → (u ≡ None → IsEntered program.table content e)
-          → LeavesAtRest program.table (after_entry_test (source_meaning program.table fuel) program.table content fuel e reads u)
+          → KeepsStoreAtRest program.table (after_entry_test (source_meaning program.table fuel) program.table content fuel e reads u)
       go None entered = run_leaves keep begins program checked content rests fuel e (entered refl) ends lowered reads
       go (Some u) entered = rests
 
   found_leaves : (found : Option Entry) (reads : List ReadItem) → ((e : Entry) → found ≡ Some e
       → first_outside_use program.table content e ≡ None → IsEntered program.table content e) → found ≢ None
-      → LeavesAtRest program.table
+      → KeepsStoreAtRest program.table
       (with_found found (enter_entry (source_meaning program.table fuel) program.table content fuel reads))
   found_leaves None reads entered there = absurd (there refl)
   found_leaves (Some e) reads entered there = entry_leaves e reads (entered e refl)
 
   refused_leaves : (refusal : _) (reads : List ReadItem) (go : List ReadItem → Invocation)
-      → (refusal ≡ None → LeavesAtRest program.table (go reads)) → LeavesAtRest program.table (refused_or content refusal reads go)
+      → (refusal ≡ None → KeepsStoreAtRest program.table (go reads)) → KeepsStoreAtRest program.table (refused_or content refusal reads go)
   refused_leaves None reads go on = on refl
   refused_leaves (Some refusal) reads go on = rests
 
@@ -240,7 +240,7 @@ module _ (keep : StepsKeep) (begins : BeginsSo) (ends : EndsSo) (still : StillLe
   no_new_goes_wrong : (program : SilicaProgram) (content : Content) (who : List ℕ) (r : NewRequest) (fuel : ℕ)
       → IsCheckedProgram program → IsLoweredProgram program → IsStoreAtRest program.table content
       → HasLabels (record { who = who; operation = new_request r })
-      → LeavesAtRest program.table (invoke_new (source_meaning program.table fuel) program.table content fuel who r)
+      → KeepsStoreAtRest program.table (invoke_new (source_meaning program.table fuel) program.table content fuel who r)
   no_new_goes_wrong program content who r fuel checked lowered rests labels =
       refused_leaves keep begins ends program checked lowered content rests fuel (refusal_of (new_checks program.table content who r))
       (reads_of (new_checks program.table content who r))
@@ -256,7 +256,7 @@ module _ (keep : StepsKeep) (begins : BeginsSo) (ends : EndsSo) (still : StillLe
   no_call_goes_wrong : (program : SilicaProgram) (content : Content) (who : List ℕ) (r : CallRequest) (fuel : ℕ)
       → IsCheckedProgram program → IsLoweredProgram program → IsStoreAtRest program.table content
       → HasLabels (record { who = who; operation = call_request r })
-      → LeavesAtRest program.table (invoke_call (source_meaning program.table fuel) program.table content fuel who r)
+      → KeepsStoreAtRest program.table (invoke_call (source_meaning program.table fuel) program.table content fuel who r)
   no_call_goes_wrong program content who r fuel checked lowered rests labels =
       refused_leaves keep begins ends program checked lowered content rests fuel (refusal_of (call_checks program.table content who r))
       (reads_of (call_checks program.table content who r))
@@ -275,12 +275,12 @@ module _ (keep : StepsKeep) (begins : BeginsSo) (ends : EndsSo) (still : StillLe
   none_goes_wrong program content request fuel checked lowered rests labels = go request.operation refl
     where
       go : (o : Operation) → request.operation ≡ o
-          → LeavesAtRest program.table (invoke_operation (source_meaning program.table fuel) program.table content fuel request.who request.operation)
-      go (new_request r) is = subst (λ (o : Operation). LeavesAtRest program.table
+          → KeepsStoreAtRest program.table (invoke_operation (source_meaning program.table fuel) program.table content fuel request.who request.operation)
+      go (new_request r) is = subst (λ (o : Operation). KeepsStoreAtRest program.table
           (invoke_operation (source_meaning program.table fuel) program.table content fuel request.who o)) (sym is)
           (no_new_goes_wrong program content request.who r fuel checked lowered rests
           (subst (λ (o : Operation). HasLabels (record { who = request.who; operation = o })) is labels))
-      go (call_request r) is = subst (λ (o : Operation). LeavesAtRest program.table
+      go (call_request r) is = subst (λ (o : Operation). KeepsStoreAtRest program.table
           (invoke_operation (source_meaning program.table fuel) program.table content fuel request.who o)) (sym is)
           (no_call_goes_wrong program content request.who r fuel checked lowered rests
           (subst (λ (o : Operation). HasLabels (record { who = request.who; operation = o })) is labels))

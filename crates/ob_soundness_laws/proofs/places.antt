@@ -11,3 +11,4 @@ pub mod Holding
 pub mod Alike
 pub mod Changed
 pub mod Filling
+pub mod Held

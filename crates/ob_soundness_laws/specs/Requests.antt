@@ -31,14 +31,13 @@ use Rattle.ob_table_spec.specs.Conditions.{IsClassTable}
 use Rattle.ob_rest_spec.specs.Modes.{is_owned}
 use Rattle.ob_rest_spec.specs.AtRest.{IsStoreAtRest}
 use Rattle.ob_invocation_spec.specs.Requests.{NewRequest, CallRequest, new_request, call_request, Request, HasLabels}
-use Rattle.ob_invocation_spec.specs.Replies.{Invocation, invoked, goes_wrong}
 use Rattle.ob_invocation_spec.specs.Handles.{NamedHandle, handle_name, handle_at, are_handles_full, put_handles, mark_puts}
 use Rattle.ob_invocation_spec.specs.Entries.{HandleUse, Entry, mode_of_result, entry_of_new, entry_of_call, used_as_receiver, values_of, handle_uses}
 use Rattle.ob_invocation_spec.specs.Checks.{refusal_of}
 use Rattle.ob_invocation_spec.specs.Refusals.{has_other_count, has_other_kind, lacks_permission, repeats_object, lacks_into, has_needless_into, is_taken, new_checks, call_checks}
 use Rattle.ob_invocation_spec.specs.Entering.{first_outside_use, is_locked_at_entry, Meaning, entry_world, puts_after}
 use Rattle.ob_invocation_spec.specs.Invocation.{invoke}
-use Rattle.ob_invocation_laws.specs.Laws.{runs as runs_body, is_put, puts_of_uses}
+use Rattle.ob_invocation_laws.specs.Laws.{runs as runs_body, is_put, puts_of_uses, KeepsStoreAtRest}
 use Rattle.ob_invocation_spec.specs.SourceInvocation.{source_invocation}
 use Rattle.ob_lower_correct.specs.Law.{IsLoweredProgram}
 use Rattle.ob_soundness_laws.specs.Running.{EndsFrom}
@@ -153,17 +152,12 @@ EndsSo =
 
 -- Requests.
 
--- a request doesn't go wrong, and leaves the store at rest
-abbrev pub LeavesAtRest : ClassTable → Invocation → Type 0
-LeavesAtRest table (invoked i) = IsStoreAtRest table i.content
-LeavesAtRest table goes_wrong = ⊥
-
 -- a request that runs nothing leaves a store at rest, if it was at rest
 abbrev pub StillLeavesAtRest : Type 0
 StillLeavesAtRest =
     (meaning : Meaning) (table : ClassTable) (content : Content) (request : Request) (fuel : ℕ) → IsClassTable table
     → IsStoreAtRest table content → HasLabels request → runs_body request.operation ≡ false
-    → LeavesAtRest table (invoke meaning table content request fuel)
+    → KeepsStoreAtRest table (invoke meaning table content request fuel)
 
 -- No request goes wrong: where a program is checked and lowered, each request on a store at rest comes to a reply, whatever it
 -- asks and with any number of units, and leaves the store at rest.
@@ -171,7 +165,7 @@ abbrev pub NoRequestGoesWrong : Type 0
 NoRequestGoesWrong =
     (program : SilicaProgram) (content : Content) (request : Request) (fuel : ℕ) → IsCheckedProgram program
     → IsLoweredProgram program → IsStoreAtRest program.table content → HasLabels request
-    → LeavesAtRest program.table (source_invocation program.table content request fuel)
+    → KeepsStoreAtRest program.table (source_invocation program.table content request fuel)
 
 -- what a place owns is in one of the states that are noted there
 abbrev pub OwnsWithin : ClassTable → List Object → Option Cell → Type 0

@@ -15,7 +15,8 @@ use Rattle.ob_invocation_spec.specs.Entries.{Entry}
 use Rattle.ob_invocation_spec.specs.SourceInvocation.{source_invocation}
 use Rattle.ob_coherent_spec.specs.Remaining.{IsCheckedBody}
 use Rattle.ob_coherent_spec.specs.Coherent.{Beginning, IsCoherent, StepsSo}
-use Rattle.ob_soundness_laws.specs.Requests.{entry_lock, beginning_of, started, IsEntered, LeavesAtRest, MeetsStates}
+use Rattle.ob_invocation_laws.specs.Laws.{KeepsStoreAtRest}
+use Rattle.ob_soundness_laws.specs.Requests.{entry_lock, beginning_of, started, IsEntered, MeetsStates}
 
 -- a request comes to a reply, and in the store after it each asset that is marked neither as shared nor as disowned has exactly
 -- one owner
@@ -35,7 +36,7 @@ pub record IsPermissionSound (program : SilicaProgram) : Type 0 where
       (then_steps (started program content fuel e) (steps program n))
   -- no request goes wrong, with any number of units, and each leaves the store at rest
   pub requests : (content : Content) (request : Request) (fuel : ℕ) → IsStoreAtRest program.table content → HasLabels request
-      → LeavesAtRest program.table (source_invocation program.table content request fuel)
+      → KeepsStoreAtRest program.table (source_invocation program.table content request fuel)
   -- each stored asset that is marked neither as shared nor as disowned has exactly one owner
   pub assets : (content : Content) (request : Request) (fuel : ℕ) → IsStoreAtRest program.table content → HasLabels request
       → LeavesOneOwner program.table (source_invocation program.table content request fuel)

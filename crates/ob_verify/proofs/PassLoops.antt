@@ -2,6 +2,7 @@
 use Rattle.std.proofs.Common.{◌≡◌, ℕ, zero, suc, ◌+◌, ◌-◌, ◌<◌, ◌≤◌, List, [], ◌∷◌, ◌++◌, length, drop, get_or, Bool, true, false, not, ◌&&◌, Option, Some, None, refl, sym, ap, ◌∙◌, arith, add-one, append_assoc, drop-cons}
 use Rattle.std.specs.Prelude.{slice_set, if◌then◌else◌}
 use Rattle.std.proofs.Math.ListN.{drop_of_length-le}
+use Rattle.ob_code.specs.declared.image.Image.{Image}
 use Rattle.ob_code.specs.declared.instruction.Instruction.{Instruction}
 use Rattle.ob_verify_spec.specs.declared.CodeFault.{CodeFault}
 use Rattle.ob_verify_spec.specs.Frames.{CodeFrame}
@@ -30,13 +31,13 @@ set_past [] i x h = refl
 set_past (z ∷ xs) zero x h = absurd (omega arith)
 set_past (z ∷ xs) (suc i) x h = let k : length xs ≤ i = omega arith in ap (λ zs. z ∷ zs) (set_past xs i x k)
 
-pub put_past : (rows : KindRows) (place : ℕ) (row : KindRow) → length rows ≤ place → put_row rows place row ≡ rows
-put_past rows place row h = set_past rows place (Some (joined (held_at rows place) row)) h
+pub put_past : (m : Image) (rows : KindRows) (place : ℕ) (row : KindRow) → length rows ≤ place → put_row m rows place row ≡ rows
+put_past m rows place row h = set_past rows place (Some (joined m (held_at rows place) row)) h
 
-pub put_again : (rows taken : KindRows) (place : ℕ) (row both : KindRow) (known : Option KindRow) → taken ≡ slice_set rows place None → known ≡ held_at rows place → both ≡ joined known row
-    → slice_set taken place (Some both) ≡ put_row rows place row
-put_again rows taken place row both known t k b = ap (λ z. slice_set z place (Some both)) t
-    ∙ set_twice rows place None (Some both) ∙ ap (λ z. slice_set rows place (Some z)) (b ∙ ap (λ z. joined z row) k)
+pub put_again : (m : Image) (rows taken : KindRows) (place : ℕ) (row both : KindRow) (known : Option KindRow) → taken ≡ slice_set rows place None → known ≡ held_at rows place → both ≡ joined m known row
+    → slice_set taken place (Some both) ≡ put_row m rows place row
+put_again m rows taken place row both known t k b = ap (λ z. slice_set z place (Some both)) t
+    ∙ set_twice rows place None (Some both) ∙ ap (λ z. slice_set rows place (Some z)) (b ∙ ap (λ z. joined m z row) k)
 
 pub ruleset putting = (put_past, put_again)
 

@@ -5,50 +5,56 @@ use Rattle.std.proofs.Math.Seq.{drop-nil}
 use Rattle.std.proofs.Math.ListN.{drop_of_length-le}
 use Rattle.std.proofs.lemmas.List.{take_all, length-set}
 use Rattle.std.proofs.lemmas.Option.{slice_get-map}
+use Rattle.ob_code.specs.declared.image.Image.{Image}
 use Rattle.ob_code.specs.declared.image.ParamCode.{ParamCode}
 use Rattle.ob_table.specs.declared.seen.Kind.{Kind}
-use Rattle.ob_verify_spec.specs.Kinds.{kind_of_param}
-use Rattle.ob_verify_spec.specs.Passing.{KindRow, row_of, both_hold, meet, held_at}
+use Rattle.ob_verify_spec.specs.Kinds.{kind_of_param, interface_at, interface_declared, both_hold}
+use Rattle.ob_verify_spec.specs.Passing.{KindRow, row_of, meet, held_at}
 
 -- Where ways meet.
 
-both_none : (x : Option Kind) → both_hold x None ≡ None
-both_none None = refl
-both_none (Some x) = refl
+both_none : (m : Image) (x : Option Kind) → both_hold m x None ≡ None
+both_none m None = refl
+both_none m (Some x) = refl
 
 cell_nil : (k : ℕ) → held_at {A = Kind} [] k ≡ None
 cell_nil zero = refl
 cell_nil (suc k) = refl
 
 -- the slots so far are met, and those that are left are to be met
-abbrev so_far : KindRow → KindRow → ℕ → KindRow
-so_far row other i = take i row ++ meet (drop i row) (drop i other)
+abbrev so_far : Image → KindRow → KindRow → ℕ → KindRow
+so_far m row other i = take i row ++ meet m (drop i row) (drop i other)
 
-met_at : (row other : KindRow) (i : ℕ) → i < length row → so_far row other i ≡ so_far (slice_set row i (both_hold (held_at row i) (held_at other i))) other (suc i)
-met_at [] other i h = absurd (omega arith)
-met_at (x ∷ row) [] zero h = ap (λ v. v ∷ meet row []) (sym (both_none x))
-met_at (x ∷ row) (y ∷ other) zero h = refl
-met_at (x ∷ row) [] (suc i) h = let k : i < length row = omega arith in
-    ap (λ z. x ∷ take i row ++ meet (drop i row) z) (sym (drop-nil i))
-    ∙ ap (λ z. x ∷ z) (met_at row [] i k)
-    ∙ ap (λ v. x ∷ so_far (slice_set row i (both_hold (held_at row i) v)) [] (suc i)) (cell_nil i)
-met_at (x ∷ row) (y ∷ other) (suc i) h = let k : i < length row = omega arith in ap (λ z. x ∷ z) (met_at row other i k)
+met_at : (m : Image) (row other : KindRow) (i : ℕ) → i < length row → so_far m row other i ≡ so_far m (slice_set row i (both_hold m (held_at row i) (held_at other i))) other (suc i)
+met_at m [] other i h = absurd (omega arith)
+met_at m (x ∷ row) [] zero h = ap (λ v. v ∷ meet m row []) (sym (both_none m x))
+met_at m (x ∷ row) (y ∷ other) zero h = refl
+met_at m (x ∷ row) [] (suc i) h = let k : i < length row = omega arith in
+    ap (λ z. x ∷ take i row ++ meet m (drop i row) z) (sym (drop-nil i))
+    ∙ ap (λ z. x ∷ z) (met_at m row [] i k)
+    ∙ ap (λ v. x ∷ so_far m (slice_set row i (both_hold m (held_at row i) v)) [] (suc i)) (cell_nil i)
+met_at m (x ∷ row) (y ∷ other) (suc i) h = let k : i < length row = omega arith in ap (λ z. x ∷ z) (met_at m row other i k)
 
-pub met_turn : (all row other next : KindRow) (i : ℕ) → i < length row → all ≡ take i row ++ meet (drop i row) (drop i other)
-    → next ≡ slice_set row i (both_hold (held_at row i) (held_at other i)) → all ≡ take (i + 1) next ++ meet (drop (i + 1) next) (drop (i + 1) other)
-met_turn all row other next i h e n = rw add-one (e ∙ met_at row other i h ∙ ap (λ z. so_far z other (suc i)) (sym n))
+pub met_turn : (m : Image) (all row other next : KindRow) (i : ℕ) → i < length row → all ≡ take i row ++ meet m (drop i row) (drop i other)
+    → next ≡ slice_set row i (both_hold m (held_at row i) (held_at other i)) → all ≡ take (i + 1) next ++ meet m (drop (i + 1) next) (drop (i + 1) other)
+met_turn m all row other next i h e n = rw add-one (e ∙ met_at m row other i h ∙ ap (λ z. so_far m z other (suc i)) (sym n))
 
-pub met_all : (row other : KindRow) (i : ℕ) → length row ≤ i → take i row ++ meet (drop i row) (drop i other) ≡ row
-met_all row other i h = ap (λ z. take i row ++ meet z (drop i other)) (drop_of_length-le row h) ∙ append-nil (take i row) ∙ take_all i row h
+pub met_all : (m : Image) (row other : KindRow) (i : ℕ) → length row ≤ i → take i row ++ meet m (drop i row) (drop i other) ≡ row
+met_all m row other i h = ap (λ z. take i row ++ meet m z (drop i other)) (drop_of_length-le row h) ∙ append-nil (take i row) ∙ take_all i row h
 
 pub met_length : (row next : KindRow) (i n : ℕ) (v : Option Kind) → length row ≡ n → next ≡ slice_set row i v → length next ≡ n
 met_length row next i n v e f = ap length f ∙ length-set row i v ∙ e
 
-pub met_step : (row seen other next : KindRow) (i : ℕ) (a b v : Option Kind) → seen ≡ row → a ≡ held_at seen i → b ≡ held_at other i → v ≡ both_hold a b → next ≡ slice_set row i v
-    → next ≡ slice_set row i (both_hold (held_at row i) (held_at other i))
-met_step row seen other next i a b v e p q f n = n ∙ ap (slice_set row i) (f ∙ ap₂ both_hold (p ∙ ap (λ z. held_at z i) e) q)
+pub met_step : (m : Image) (row seen other next : KindRow) (i : ℕ) (a b v : Option Kind) → seen ≡ row → a ≡ held_at seen i → b ≡ held_at other i → v ≡ both_hold m a b → next ≡ slice_set row i v
+    → next ≡ slice_set row i (both_hold m (held_at row i) (held_at other i))
+met_step m row seen other next i a b v e p q f n = n ∙ ap (slice_set row i) (f ∙ ap₂ (both_hold m) (p ∙ ap (λ z. held_at z i) e) q)
 
 pub ruleset meeting = (met_turn, met_all, met_length)
+
+-- The interface that is declared, where the number isn't 0.
+pub declared_by : (m : Image) (n : ℕ) → n ≢ 0 → interface_declared m n ≡ interface_at m (n - 1)
+declared_by m zero ne = absurd (ne refl)
+declared_by m (suc n) ne = let e : suc n - 1 ≡ n = omega arith in rw e refl
 
 -- At the entry.
 

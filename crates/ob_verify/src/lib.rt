@@ -6,6 +6,7 @@ mod calls;
 mod conditions;
 mod frame;
 mod image;
+mod interfaces;
 mod kinds;
 mod needs;
 mod numbers;

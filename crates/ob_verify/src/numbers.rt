@@ -10,7 +10,8 @@ use ob_verify_spec::CodeFault;
 pub const BAD_JUMP: u16 = 511;
 /// A slot that the body doesn't have is named, or that of `this` is set; or the body lacks slots for its parameters.
 pub const BAD_SLOT: u16 = 512;
-/// On some way there a slot is unset or of another kind than the operand needs, or two ways differ in it.
+/// On some way there a slot is unset or of another kind than the operand needs, or two ways hold kinds in it that have nothing
+/// in common.
 pub const KIND_MISMATCH: u16 = 513;
 /// A field is named that the contract doesn't have.
 pub const BAD_FIELD: u16 = 514;

@@ -12,7 +12,7 @@ use crate::frame::CodeFrame;
 use crate::needs::meets_needs;
 use crate::rows::{KindRow, apply, entry_row, meet_with};
 use ob_base::{Items, Memory};
-use ob_code::Instruction;
+use ob_code::{Image, Instruction};
 use ob_table::Kind;
 use ob_verify_spec::CodeFault;
 use std::alloc::Global;
@@ -64,15 +64,15 @@ fn take_row(rows: &mut [Option<KindRow>], place: usize) -> Option<KindRow>
 
 // One more way leads to a place.
 #[tactic(auto, using(crate::proofs::PassLoops::putting))]
-fn put_row(rows: &mut [Option<KindRow>], place: usize, row: KindRow)
-    ensures { rows.new ≡ put_row rows.old place row }
+fn put_row(image: &Image, rows: &mut [Option<KindRow>], place: usize, row: KindRow)
+    ensures { rows.new ≡ put_row image.now rows.old place row }
 {
     if place >= rows.len() {
         return;
     }
     match take_row(rows, place) {
         Some(mut known) => {
-            meet_with(&mut known, row.as_slice());
+            meet_with(image, &mut known, row.as_slice());
             rows[place] = Some(known);
         }
         None => rows[place] = Some(row),
@@ -83,18 +83,19 @@ fn put_row(rows: &mut [Option<KindRow>], place: usize, row: KindRow)
 #[tactic(auto, using(crate::proofs::PassLoops::putting))]
 fn put_copy(
     alloc: Global,
+    image: &Image,
     rows: &mut [Option<KindRow>],
     place: usize,
     row: &[Option<Kind>],
 ) -> Result<(), Memory>
-    ensures { OnOk result (rows.new ≡ put_row rows.old place row.now) }
+    ensures { OnOk result (rows.new ≡ put_row image.now rows.old place row.now) }
 {
     if place >= rows.len() {
         return Ok(());
     }
     match take_row(rows, place) {
         Some(mut known) => {
-            meet_with(&mut known, row);
+            meet_with(image, &mut known, row);
             rows[place] = Some(known);
         }
         None => rows[place] = Some(Items::from_slice(alloc, row)?),
@@ -105,22 +106,23 @@ fn put_copy(
 // The ways go on after the instruction at a place, with this row.
 fn put_rows(
     alloc: Global,
+    image: &Image,
     place: usize,
     instruction: &Instruction,
     rows: &mut [Option<KindRow>],
     row: KindRow,
 ) -> Result<(), Memory>
     requires { place < usize.MAX }
-    ensures { OnOk result (rows.new ≡ put_rows rows.old (leads place instruction.now) row) }
+    ensures { OnOk result (rows.new ≡ put_rows image.now rows.old (leads place instruction.now) row) }
 {
     match instruction {
-        Instruction::Jump { target } => put_row(rows, *target as usize, row),
+        Instruction::Jump { target } => put_row(image, rows, *target as usize, row),
         Instruction::Unless { target, .. } | Instruction::Test { target, .. } => {
-            put_copy(alloc, rows, *target as usize, row.as_slice())?;
-            put_row(rows, place + 1, row);
+            put_copy(alloc, image, rows, *target as usize, row.as_slice())?;
+            put_row(image, rows, place + 1, row);
         }
         Instruction::Ret | Instruction::RetValue { .. } | Instruction::Revert { .. } => {}
-        _ => put_row(rows, place + 1, row),
+        _ => put_row(image, rows, place + 1, row),
     }
     Ok(())
 }
@@ -140,7 +142,7 @@ fn pass(
     match take_row(rows, place) {
         Some(mut row) => {
             apply(frame, instruction, &mut row);
-            put_rows(alloc, place, instruction, rows, row)
+            put_rows(alloc, frame.image, place, instruction, rows, row)
         }
         None => Ok(()),
     }

@@ -4,13 +4,14 @@ ghost use Rattle.std.specs.Option.{option_copied};
 ghost use Rattle.ob_table.specs.declared.seen.Kind.TheVariants.{Reference};
 ghost use Rattle.ob_verify_spec.specs.Frames.{kinds_of_params};
 ghost use Rattle.ob_verify_spec.specs.Instructions.{kind_given, slot_of_result, effect_of_call, effect};
-ghost use Rattle.ob_verify_spec.specs.Passing.{row_of, both_hold, meet, row_after, held_at};
+ghost use Rattle.ob_verify_spec.specs.Passing.{row_of, meet, row_after, held_at};
 
 use crate::frame::{CodeFrame, body_code};
-use crate::kinds::{kind_of_param, kind_of_result, same_kind};
+use crate::interfaces::both_hold;
+use crate::kinds::{kind_of_param, kind_of_result};
 use crate::needs::held;
 use ob_base::{Items, Memory, Operator};
-use ob_code::{BodyCode, Instruction, NO_RESULT, ParamCode};
+use ob_code::{BodyCode, Image, Instruction, NO_RESULT, ParamCode};
 use ob_table::Kind;
 use std::alloc::Global;
 
@@ -88,29 +89,13 @@ pub fn apply(frame: &CodeFrame<'_>, instruction: &Instruction, row: &mut KindRow
     }
 }
 
-// What a slot holds where two ways meet.
-fn both_hold(one: Option<Kind>, other: Option<Kind>) -> Option<Kind>
-    ensures { result ≡ both_hold one other }
-{
-    match (one, other) {
-        (Some(one), Some(other)) => {
-            if same_kind(one, other) {
-                Some(one)
-            } else {
-                None
-            }
-        }
-        _ => None,
-    }
-}
-
 /// Makes a row what it is where another way meets it.
 #[tactic(auto, using(crate::proofs::RowLoops::meeting))]
-pub fn meet_with(row: &mut KindRow, other: &[Option<Kind>])
-    ensures { row.new ≡ meet row.old other.now }
+pub fn meet_with(image: &Image, row: &mut KindRow, other: &[Option<Kind>])
+    ensures { row.new ≡ meet image.now row.old other.now }
 {
     for slot in 0..row.len() {
-        let both = both_hold(held(row.as_slice(), slot), held(other, slot));
+        let both = both_hold(image, held(row.as_slice(), slot), held(other, slot));
         set(row, slot, both);
     }
 }

@@ -1,11 +1,12 @@
--- Kinds, cells of lists, and what two rows both hold.
-use Rattle.std.proofs.Common.{◌≡◌, ◌≢◌, ℕ, suc, zero, ◌<◌, List, [], ◌∷◌, length, Option, Some, None, Bool, true, false, cond, slice_get, slice_set, refl, sym, ap, ◌∙◌, arith, ◌⊎◌, inl, inr}
+-- Kinds, cells of lists, and rows that meet.
+use Rattle.std.proofs.Common.{◌≡◌, ◌≢◌, ℕ, suc, zero, ◌<◌, List, [], ◌∷◌, length, Option, Some, None, Bool, true, false, slice_get, slice_set, refl, sym, ap, ◌∙◌, arith, ◌⊎◌, inl, inr}
 use Rattle.std.proofs.lemmas.Bool.{eqb-true, eq-eqb, true≢false}
 use Rattle.ob_base.specs.declared.id.ContractId.{ContractId}
 use Rattle.ob_table.specs.declared.seen.Kind.{Kind}
 use Rattle.ob_table.specs.declared.seen.Kind.TheVariants as kind
-use Rattle.ob_verify_spec.specs.Kinds.{same_kind}
-use Rattle.ob_verify_spec.specs.Passing.{held_at, KindRow, row_of, no_rows, both_hold, meet}
+use Rattle.ob_code.specs.declared.image.Image.{Image}
+use Rattle.ob_verify_spec.specs.Kinds.{same_kind, both_hold}
+use Rattle.ob_verify_spec.specs.Passing.{held_at, KindRow, row_of, no_rows, meet}
 
 -- Cells.
 
@@ -72,43 +73,23 @@ holds_kind (Some y) x = elim (kinds_equal y x) [ inl e ↦ inl (ap Some e) | inr
 
 -- What two rows both hold.
 
-both_hold_of : (c : Bool) (y z x : Kind) → same_kind y z ≡ c → cond c (Some y) None ≡ Some x → (Some y ≡ Some x) × (Some z ≡ Some x)
-both_hold_of true y z x w e = (e, ap Some (sym (same_kind_of y z w)) ∙ e)
-both_hold_of false y z x w e = absurd (none_some e)
+both_none : (m : Image) (p : Option Kind) → None ≡ both_hold m p None
+both_none m None = refl
+both_none m (Some y) = refl
 
--- both hold what holds in both
-pub both_held : (p q : Option Kind) (x : Kind) → both_hold p q ≡ Some x → (p ≡ Some x) × (q ≡ Some x)
-both_held None q x e = absurd (none_some e)
-both_held (Some y) None x e = absurd (none_some e)
-both_held (Some y) (Some z) x e = both_hold_of (same_kind y z) y z x refl e
-
-pub both_hold_self : (x : Kind) → both_hold (Some x) (Some x) ≡ Some x
-both_hold_self x = rw (same_kind_self x) refl
-
--- what isn't in both isn't in one
-pub both_not : (p q : Option Kind) (x : Kind) → both_hold p q ≢ Some x → (p ≢ Some x) ⊎ (q ≢ Some x)
-both_not p q x n = elim (holds_kind p x) [
-  | inr u ↦ inl u
-  | inl u ↦ inr (λ v. n (ap (λ z. both_hold z q) u ∙ ap (both_hold (Some x)) v ∙ both_hold_self x))
-]
-
-both_none : (p : Option Kind) → None ≡ both_hold p None
-both_none None = refl
-both_none (Some y) = refl
-
-pub cell-meet : (ps qs : KindRow) (k : ℕ) → held_at (meet ps qs) k ≡ both_hold (held_at ps k) (held_at qs k)
-cell-meet [] qs k = refl
-cell-meet (p ∷ ps) [] zero = both_none p
-cell-meet (p ∷ ps) [] (suc k) = cell-meet ps [] k
-cell-meet (p ∷ ps) (q ∷ qs) zero = refl
-cell-meet (p ∷ ps) (q ∷ qs) (suc k) = cell-meet ps qs k
+pub cell-meet : (m : Image) (ps qs : KindRow) (k : ℕ) → held_at (meet m ps qs) k ≡ both_hold m (held_at ps k) (held_at qs k)
+cell-meet m [] qs k = refl
+cell-meet m (p ∷ ps) [] zero = both_none m p
+cell-meet m (p ∷ ps) [] (suc k) = cell-meet m ps [] k
+cell-meet m (p ∷ ps) (q ∷ qs) zero = refl
+cell-meet m (p ∷ ps) (q ∷ qs) (suc k) = cell-meet m ps qs k
 
 -- Lengths.
 
-pub meet-length : (ps qs : KindRow) → length (meet ps qs) ≡ length ps
-meet-length [] qs = refl
-meet-length (p ∷ ps) [] = ap suc (meet-length ps [])
-meet-length (p ∷ ps) (q ∷ qs) = ap suc (meet-length ps qs)
+pub meet-length : (m : Image) (ps qs : KindRow) → length (meet m ps qs) ≡ length ps
+meet-length m [] qs = refl
+meet-length m (p ∷ ps) [] = ap suc (meet-length m ps [])
+meet-length m (p ∷ ps) (q ∷ qs) = ap suc (meet-length m ps qs)
 
 pub row_of-length : (n : ℕ) (held : List Kind) → length (row_of n held) ≡ n
 row_of-length zero held = refl

@@ -8,12 +8,13 @@ use Rattle.ob_table.specs.declared.seen.Kind.{Kind}
 use Rattle.ob_table.specs.declared.seen.Kind.TheVariants as kind
 use Rattle.ob_code.specs.declared.image.ContractCode.{ContractCode}
 use Rattle.ob_code.specs.declared.image.Image.{Image}
-use Rattle.ob_verify_spec.specs.Kinds.{same_kind, implements_number, fits_contract, fits, is_reference}
+use Rattle.ob_verify_spec.specs.Kinds.{same_kind, implements_number, fits_contract, fits, is_reference, BelongsTo}
 use Rattle.ob_verify_spec.specs.Frames.{CodeFrame, kinds_of_params}
 use Rattle.ob_verify_spec.specs.Instructions.{KindsOfSlots, of_kind, any_value, any_reference, alike, passes, are_alike, needs_of_args, set_slot}
 use Rattle.ob_verify_spec.specs.Ways.{at_entry}
 use Rattle.ob_verify_spec.specs.Calling.{ImplementsInterfacesAlone, FitKnown, MeetToo}
 use Rattle.ob_verify_spec.proofs.Cells.{none_some, some_same, same_kind_of}
+use Rattle.ob_verify_spec.proofs.Meeting.{interface_fits}
 use Rattle.ob_verify_spec.proofs.Listed.{head, behind}
 
 -- One kind after another.
@@ -39,6 +40,11 @@ fits_self m kind.Int = refl
 fits_self m kind.Bool = refl
 fits_self m kind.Text = refl
 fits_self m (kind.Reference c) = or_left (c.0 == c.0) (option_map_or (implements_number c) (slice_get m.contracts c.0) false) (eq-eqb c.0 c.0 refl)
+
+-- a kind may stand for one to which it belongs
+pub belongs_fits : (m : Image) (x y : Kind) → BelongsTo m x y → fits m x y ≡ true
+belongs_fits m x y (inl e) = ap (fits m x) (sym e) ∙ fits_self m x
+belongs_fits m x y (inr e) = interface_fits m x y e
 
 -- a value of a kind that may stand for one which may stand for another may stand for that
 pub fits_all : (m : Image) → ImplementsInterfacesAlone m → (x y z : Kind) → fits m x y ≡ true → fits m y z ≡ true → fits m x z ≡ true
@@ -98,8 +104,8 @@ meet_too m alone count known s (alike k l) fit below e =
 
 -- Effects.
 
-pub fit_less : (m : Image) (count : ℕ) (less known s : KindsOfSlots) → ((k : ℕ) (x : Kind) → k < count → less k ≡ Some x → known k ≡ Some x) → FitKnown m count known s → FitKnown m count less s
-fit_less m count less known s below fit k x lt e = fit k x lt (below k x lt e)
+pub fit_less : (m : Image) → ImplementsInterfacesAlone m → (count : ℕ) (less known s : KindsOfSlots) → FitKnown m count less known → FitKnown m count known s → FitKnown m count less s
+fit_less m alone count less known s below fit k x lt e = let a = below k x lt e in let b = fit k a.0 lt a.1 in (b.0, b.1, fits_all m alone b.0 a.0 x b.2 a.2)
 
 pub fit_set : (m : Image) (count k : ℕ) (held given : Option Kind) (known s : KindsOfSlots)
     → ((x : Kind) → held ≡ Some x → (y : Kind) × (given ≡ Some y) × (fits m y x ≡ true)) → FitKnown m count known s

@@ -1,4 +1,5 @@
 pub mod Cells
+pub mod Meeting
 pub mod Listed
 pub mod Naming
 pub mod Rows

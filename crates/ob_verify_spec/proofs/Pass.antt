@@ -11,7 +11,8 @@ use Rattle.ob_verify_spec.specs.Ways.{IsAt, at_entry, Way, start, step, IsReache
 use Rattle.ob_verify_spec.specs.Passing.{held_at, KindRow, KindRows, row_of, first_rows, row_after, put_rows, passed_with, passed}
 use Rattle.ob_verify_spec.proofs.Cells.{cell-set_other, set-length, cell_within, some_same, none_some, row_of-length, cell-row_of, no_rows-length, cell-no_rows}
 use Rattle.ob_verify_spec.proofs.Naming.{goes_jump, leads_ahead}
-use Rattle.ob_verify_spec.proofs.Rows.{Below, below_all, Has, GoodRow, AllGood, put_rows-length, has_puts, has_put, good_puts, below_after, good_after}
+use Rattle.ob_verify_spec.proofs.Meeting.{belongs_self, two_one}
+use Rattle.ob_verify_spec.proofs.Rows.{Below, below_all, Has, OnSomeWay, GoodRow, AllGood, put_rows-length, has_puts, has_put, good_puts, below_after, good_after}
 
 -- a way to a place is the entry, or comes from a place before this one
 pub data Entered (f : CodeFrame) (i : ℕ) : ℕ → KindsOfSlots → Type 0 where
@@ -34,7 +35,7 @@ way_of (comes h s x j lt w at so c) = step x j w at so c
 pub record Known (f : CodeFrame) (i : ℕ) (t : KindRows) : Type 0 where
   pub long : length t ≡ length f.body.instructions + 1
   pub good : AllGood f i t
-  pub covers : (j : ℕ) (s : KindsOfSlots) → i ≤ j → Entered f i j s → Has t j s
+  pub covers : (j : ℕ) (s : KindsOfSlots) → i ≤ j → Entered f i j s → Has f.image t j s
 
 -- Before the pass.
 
@@ -45,21 +46,22 @@ good_entry : (f : CodeFrame) → GoodRow f 0 (entry_row f)
 good_entry f = record {
   reached = (at_entry f, start);
   long = row_of-length f.body.slots (kind.Reference f.here ∷ kinds_of_params f.body);
-  lost = λ k x lt n. (at_entry f, start, λ e. n (cell-row_of f.body.slots (kind.Reference f.here ∷ kinds_of_params f.body) k lt ∙ e));
+  two = λ k lt.
+      two_one f.image (OnSomeWay f 0 k) (held_at (entry_row f) k) (at_entry f, start, sym (cell-row_of f.body.slots (kind.Reference f.here ∷ kinds_of_params f.body) k lt));
 }
 
-entry_below : (f : CodeFrame) → Below (held_at (entry_row f)) (at_entry f)
+entry_below : (f : CodeFrame) → Below f.image (held_at (entry_row f)) (at_entry f)
 entry_below f = record {
   keeps = λ k x e.
       let lt : k < f.body.slots = subst (λ z. k < z) (row_of-length f.body.slots (kind.Reference f.here ∷ kinds_of_params f.body)) (cell_within (entry_row f) k x e) in
-      sym (cell-row_of f.body.slots (kind.Reference f.here ∷ kinds_of_params f.body) k lt) ∙ e;
+      (x, sym (cell-row_of f.body.slots (kind.Reference f.here ∷ kinds_of_params f.body) k lt) ∙ e, belongs_self f.image x);
 }
 
 good_first : (f : CodeFrame) → AllGood f 0 (first_rows f)
 good_first f zero r le e = subst (GoodRow f 0) (some_same e) (good_entry f)
 good_first f (suc j) r le e = absurd (none_some (sym (cell-no_rows (length f.body.instructions) j) ∙ e))
 
-covers_first : (f : CodeFrame) (j : ℕ) (s : KindsOfSlots) → Entered f 0 j s → Has (first_rows f) j s
+covers_first : (f : CodeFrame) (j : ℕ) (s : KindsOfSlots) → Entered f 0 j s → Has f.image (first_rows f) j s
 covers_first f j s begins = record { row = entry_row f; there = refl; below = entry_below f }
 covers_first f j s (comes h before x k lt w at so c) = absurd (omega arith)
 
@@ -75,17 +77,17 @@ known_first f = record {
 -- what a row there, or none, tells
 pub record Agrees (f : CodeFrame) (i : ℕ) (r : KindRow) : Type 0 where
   pub good : GoodRow f i r
-  pub all : (s : KindsOfSlots) → Way f i s → Below (held_at r) s
+  pub all : (s : KindsOfSlots) → Way f i s → Below f.image (held_at r) s
 
 abbrev pub AgreesAt : CodeFrame → ℕ → Option KindRow → Type 0
 AgreesAt f i None = ¬ (IsReached f i)
 AgreesAt f i (Some r) = Agrees f i r
 
 agrees_of : (f : CodeFrame) (i : ℕ) (t : KindRows) (o : Option KindRow) → Known f i t → held_at t i ≡ o → AgreesAt f i o
-agrees_of f i t None known e = λ way. let h : Has t i way.0 = known.covers i way.0 (omega arith) (entered way.1) in none_some (sym e ∙ h.there)
+agrees_of f i t None known e = λ way. let h : Has f.image t i way.0 = known.covers i way.0 (omega arith) (entered way.1) in none_some (sym e ∙ h.there)
 agrees_of f i t (Some r) known e = record {
   good = known.good i r (omega arith) e;
-  all = λ s w. let h : Has t i s = known.covers i s (omega arith) (entered w) in subst (λ z. Below (held_at z) s) (some_same (sym h.there ∙ e)) h.below;
+  all = λ s w. let h : Has f.image t i s = known.covers i s (omega arith) (entered w) in subst (λ z. Below f.image (held_at z) s) (some_same (sym h.there ∙ e)) h.below;
 }
 
 pub agrees_at : (f : CodeFrame) (i : ℕ) (t : KindRows) → Known f i t → AgreesAt f i (held_at t i)
@@ -97,7 +99,7 @@ agrees_at f i t known = agrees_of f i t (held_at t i) known refl
 dropped : (f : CodeFrame) (i : ℕ) (t : KindRows) → Known f i t → AllGood f (i + 1) (slice_set t i None)
 dropped f i t known j r le e = known.good j r (omega arith) (sym (cell-set_other t i j None (λ (h : j ≡ i). omega arith)) ∙ e)
 
-kept : (f : CodeFrame) (i : ℕ) (t : KindRows) (j : ℕ) (s : KindsOfSlots) → i + 1 ≤ j → Has t j s → Has (slice_set t i None) j s
+kept : (f : CodeFrame) (i : ℕ) (t : KindRows) (j : ℕ) (s : KindsOfSlots) → i + 1 ≤ j → Has f.image t j s → Has f.image (slice_set t i None) j s
 kept f i t j s le h = record { row = h.row; there = cell-set_other t i j None (λ (e : j ≡ i). omega arith) ∙ h.there; below = h.below }
 
 -- a way on from a place
@@ -114,7 +116,7 @@ from_place f i h x y j before e at w there so c =
 
 -- a way comes from before the place, or from it
 from_here : (f : CodeFrame) (i : ℕ) (t : KindRows) (x : Instruction) → Known f i t → IsAt f i x → (j : ℕ) (s : KindsOfSlots) → i + 1 ≤ j → Entered f (i + 1) j s
-    → Has (slice_set t i None) j s ⊎ GoesFrom f i x j s
+    → Has f.image (slice_set t i None) j s ⊎ GoesFrom f i x j s
 from_here f i t x known at j s le begins = absurd (omega arith)
 from_here f i t x known at j s le (comes h before y k lt w there so c) = elim (cases_lt h i) [
   | inl less ↦ inl (kept f i t k (done (effect f y) before) le (known.covers k (done (effect f y) before) (omega arith) (comes h before y k less w there so c)))
@@ -132,27 +134,27 @@ none_passed f i t x known at never = record {
 }
 
 has_gone : (f : CodeFrame) (i : ℕ) (t : KindRows) (x : Instruction) (r : KindRow) → Known f i t → IsAt f i x → Agrees f i r → (j : ℕ) (s : KindsOfSlots) → GoesFrom f i x j s
-    → Has (put_rows (slice_set t i None) (leads i x) (row_after (effect f x) r)) j s
+    → Has f.image (put_rows f.image (slice_set t i None) (leads i x) (row_after (effect f x) r)) j s
 has_gone f i t x r known at a j s (before, w, so, c, e) =
     let ahead : (i < j) × (j < length f.body.instructions + 1) = leads_ahead f i x j (slice_get_within f.body.instructions i x at) (goes_jump f i x so) c in
     let lt : j < length (slice_set t i None) = subst (λ z. j < z) (sym (dropped-length f i t known)) ahead.1 in
-    let h = has_put (slice_set t i None) (leads i x) j (row_after (effect f x) r) lt c in
-    subst (Has (put_rows (slice_set t i None) (leads i x) (row_after (effect f x) r)) j) (sym e)
-    (record { row = h.row; there = h.there; below = below_all h.below (below_after (effect f x) r before (a.all before w)) })
+    let h = has_put f.image (slice_set t i None) (leads i x) j (row_after (effect f x) r) lt c in
+    subst (Has f.image (put_rows f.image (slice_set t i None) (leads i x) (row_after (effect f x) r)) j) (sym e)
+    (record { row = h.row; there = h.there; below = below_all h.below (below_after f.image (effect f x) r before (a.all before w)) })
 
 row_passed : (f : CodeFrame) (i : ℕ) (t : KindRows) (x : Instruction) (r : KindRow) → Known f i t → IsAt f i x → Agrees f i r → may_go_on f i x ≡ true
-    → Known f (i + 1) (put_rows (slice_set t i None) (leads i x) (row_after (effect f x) r))
+    → Known f (i + 1) (put_rows f.image (slice_set t i None) (leads i x) (row_after (effect f x) r))
 row_passed f i t x r known at a so = record {
-  long = put_rows-length (slice_set t i None) (leads i x) (row_after (effect f x) r) ∙ dropped-length f i t known;
+  long = put_rows-length f.image (slice_set t i None) (leads i x) (row_after (effect f x) r) ∙ dropped-length f i t known;
   good = good_puts f (i + 1) (slice_set t i None) (leads i x) (row_after (effect f x) r) (dropped f i t known) (λ j c. good_after f i j x r at so c a.good);
   covers = λ j s le way. elim (from_here f i t x known at j s le way) [
-    | inl h ↦ has_puts (slice_set t i None) (leads i x) j (row_after (effect f x) r) s h
+    | inl h ↦ has_puts f.image (slice_set t i None) (leads i x) j (row_after (effect f x) r) s h
     | inr g ↦ has_gone f i t x r known at a j s g
   ];
 }
 
 known_tested : (f : CodeFrame) (i : ℕ) (t : KindRows) (x : Instruction) (r : KindRow) (goes : Bool) → Known f i t → IsAt f i x → Agrees f i r → may_go_on f i x ≡ goes
-    → Known f (i + 1) (cond goes (put_rows (slice_set t i None) (leads i x) (row_after (effect f x) r)) (slice_set t i None))
+    → Known f (i + 1) (cond goes (put_rows f.image (slice_set t i None) (leads i x) (row_after (effect f x) r)) (slice_set t i None))
 known_tested f i t x r true known at a e = row_passed f i t x r known at a e
 known_tested f i t x r false known at a e = none_passed f i t x known at (λ j s g. true≢false (sym g.2 ∙ e))
 

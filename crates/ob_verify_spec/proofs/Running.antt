@@ -6,20 +6,26 @@ use Rattle.std.proofs.lemmas.Bool.{false_from_ne_true, true_from_ne_false, not-t
 use Rattle.std.proofs.lemmas.Bool.Decides.{eqb_tells}
 use Rattle.std.proofs.lemmas.Option.{slice_get_within}
 use Rattle.ob_table.specs.declared.seen.Kind.{Kind}
+use Rattle.ob_code.specs.declared.image.Image.{Image}
 use Rattle.ob_code.specs.declared.instruction.Instruction.{Instruction}
 use Rattle.ob_verify_spec.specs.declared.CodeFault.TheVariants.{BadJump, BadSlot, KindMismatch, BadField, BadCall, FallsOff}
+use Rattle.ob_verify_spec.specs.Kinds.{fits, both_hold}
 use Rattle.ob_verify_spec.specs.Frames.{CodeFrame}
 use Rattle.ob_verify_spec.specs.Instructions.{KindsOfSlots, reads, slot_set, leads, Need, slots_needed, meets, needs, Effect, keeps, sets, copies, set_slot, done, effect}
 use Rattle.ob_verify_spec.specs.Conditions.{bad_jump, lacks_slots, bad_slot, bad_field, bad_call, may_set, names_bad_slot, may_go_on}
-use Rattle.ob_verify_spec.specs.Ways.{IsAt, at_entry, Way, start, step, IsReached, unmet, differs, IsFaultless}
+use Rattle.ob_verify_spec.specs.Ways.{IsAt, at_entry, Way, start, step, IsReached, IsFaultless}
 use Rattle.ob_verify_spec.specs.Verified.{HoldsOnAllWays, AreSlotKinds, IsVerifiedBody}
+use Rattle.ob_verify_spec.specs.Passing.{held_at, KindRow}
 use Rattle.ob_verify_spec.specs.Running.{AreKnownAt, KeepsKinds}
 use Rattle.ob_verify_spec.specs.Laws.{AreSameKinds, HasOneSlotKinds}
-use Rattle.ob_verify_spec.proofs.Cells.{some_same, none_some, holds_kind}
+use Rattle.ob_verify_spec.proofs.Cells.{some_same, none_some}
+use Rattle.ob_verify_spec.proofs.Meeting.{HoldsOne, Two, both_self}
+use Rattle.ob_verify_spec.proofs.Rows.{OnSomeWay}
 use Rattle.ob_verify_spec.proofs.Naming.{may_go, leads_ahead, reads_below, needs_below, EffectFits, effect_fits}
-use Rattle.ob_verify_spec.proofs.Pass.{Entered, begins, comes, entered}
-use Rattle.ob_verify_spec.proofs.Needs.{meets_alike, meets_set}
-use Rattle.ob_verify_spec.proofs.SlotKinds.{at_within, reached_within, slot_kinds}
+use Rattle.ob_verify_spec.proofs.Pass.{Entered, begins, comes, entered, Agrees, AgreesAt}
+use Rattle.ob_verify_spec.proofs.Needs.{meets_alike, row_mismatch}
+use Rattle.ob_verify_spec.proofs.SlotKinds.{at_within, reached_within, row_at, two_least, held_by, slot_kinds}
+use Rattle.ob_verify_spec.proofs.Fitting.{belongs_fits}
 
 -- what holds the same kinds is the same
 same_held : (o p : Option Kind) → ((x : Kind) → o ≡ Some x → p ≡ Some x) → ((x : Kind) → p ≡ Some x → o ≡ Some x) → o ≡ p
@@ -77,44 +83,55 @@ sets_well f n i k x at e =
 
 -- Kinds.
 
--- each slot of which a need speaks holds on every way what the first way holds
-agreed : (f : CodeFrame) → IsFaultless f → (i : ℕ) (x : Instruction) → IsAt f i x → (n : Need) → Contains (needs f x) n → (k : ℕ) → Contains (slots_needed n) k
-    → (s : KindsOfSlots) → Way f i s → (y : Kind) → s k ≡ Some y → HoldsOnAllWays f i k y
-agreed f n i x at need c k d s w y e t v = elim (holds_kind (t k) y) [
-  | inl h ↦ h
-  | inr h ↦ absurd (n i KindMismatch (record { instruction = x; at = at; need = need; needed = c; so = differs s t k w v d (λ g. h (sym g ∙ e)) }))
-]
+-- the row of a place that has kinds: it says of each slot of the body what they say
+record RowOfKinds (f : CodeFrame) (i : ℕ) (s : KindsOfSlots) : Type 0 where
+  pub row : KindRow
+  pub agrees : Agrees f i row
+  pub same : (k : ℕ) → k < f.body.slots → s k ≡ held_at row k
 
-met_on_way : (f : CodeFrame) → IsFaultless f → (i : ℕ) (x : Instruction) → IsAt f i x → (n : Need) → Contains (needs f x) n → (s : KindsOfSlots) → Way f i s → meets f.image s n ≡ true
-met_on_way f n i x at need c s w = true_from_ne_false (meets f.image s need) (λ e. n i KindMismatch (record { instruction = x; at = at; need = need; needed = c; so = unmet s w e }))
+row_of_kinds : (f : CodeFrame) (kinds : ℕ → Option KindsOfSlots) (i : ℕ) (s : KindsOfSlots) (o : Option KindRow) → AreSlotKinds f kinds → kinds i ≡ Some s → AgreesAt f i o → RowOfKinds f i s
+row_of_kinds f kinds i s None a e agrees = absurd (agrees (a.reached i s e))
+row_of_kinds f kinds i s (Some r) a e agrees = record {
+  row = r;
+  agrees = agrees;
+  same = λ k lt. same_held (s k) (held_at r k) (λ x h. (held_by f i k x r agrees lt).1 ((a.held i s k x e lt).0 h)) (λ x h. (a.held i s k x e lt).1 ((held_by f i k x r agrees lt).0 h));
+}
+
+kinds_row : (f : CodeFrame) (kinds : ℕ → Option KindsOfSlots) → AreSlotKinds f kinds → (i : ℕ) (s : KindsOfSlots) → kinds i ≡ Some s → RowOfKinds f i s
+kinds_row f kinds a i s e = row_of_kinds f kinds i s (row_at f i).0 a e (row_at f i).1
 
 met_well : (f : CodeFrame) (kinds : ℕ → Option KindsOfSlots) → AreSlotKinds f kinds → IsFaultless f → (i : ℕ) (x : Instruction) (s : KindsOfSlots) (n : Need) → IsAt f i x
     → kinds i ≡ Some s → Contains (needs f x) n → meets f.image s n ≡ true
 met_well f kinds a n i x s need at e c =
-    let way = a.reached i s e in
-    let met = met_on_way f n i x at need c way.0 way.1 in
-    let same : (k : ℕ) → Contains (slots_needed need) k → s k ≡ way.0 k = λ k d.
-    let set = meets_set f.image way.0 need k met d in
-    (a.held i s k set.0 e (needs_below f x need k (slot_well f n i x at) c d)).1 (agreed f n i x at need c k d way.0 way.1 set.0 set.1) ∙ sym set.1 in
-    meets_alike f.image s way.0 need same ∙ met
+    let h = kinds_row f kinds a i s e in
+    let within : (k : ℕ) → Contains (slots_needed need) k → k < f.body.slots = λ k d. needs_below f x need k (slot_well f n i x at) c d in
+    meets_alike f.image s (held_at h.row) need (λ k d. h.same k (within k d))
+    ∙ true_from_ne_false (meets f.image (held_at h.row) need)
+    (λ g. n i KindMismatch (record { instruction = x; at = at; need = need; needed = c; so = row_mismatch f i h.row need h.agrees within g }))
 
--- what is set on all ways is set in the kinds
-set_known : (f : CodeFrame) (i : ℕ) (s : KindsOfSlots) (k j : ℕ) (v : Option Kind) (w : KindsOfSlots → Option Kind) (x : Kind) → ((t : KindsOfSlots) → Way f i t → set_slot k (w t) t j ≡ Some x)
-    → (((t : KindsOfSlots) → Way f i t → w t ≡ Some x) → v ≡ Some x) → (HoldsOnAllWays f i j x → s j ≡ Some x) → set_slot k v s j ≡ Some x
+-- what is known where a slot is set belongs to what all ways hold there
+set_known : (f : CodeFrame) (i : ℕ) (s : KindsOfSlots) (k j : ℕ) (v : Option Kind) (w : KindsOfSlots → Option Kind) (x : Kind) → ((t : KindsOfSlots) → Way f i t → HoldsOne f.image (set_slot k (w t) t j) x)
+    → (((t : KindsOfSlots) → Way f i t → HoldsOne f.image (w t) x) → HoldsOne f.image v x) → (HoldsOnAllWays f i j x → HoldsOne f.image (s j) x) → HoldsOne f.image (set_slot k v s j) x
 set_known f i s k j v w x all given kept = elim (eqb_tells j k) [
   | inl u ↦ rw u.0 (given (λ t v. let e = all t v in rw u.0 at e))
   | inr u ↦ rw u.0 (kept (λ t v. let e = all t v in rw u.0 at e))
 ]
 
--- slots that hold what all ways hold
+-- slots of which is known what belongs to what all ways hold
 abbrev HoldsAll : CodeFrame → ℕ → KindsOfSlots → Type 0
-HoldsAll f i s = (k : ℕ) (x : Kind) → k < f.body.slots → HoldsOnAllWays f i k x → s k ≡ Some x
+HoldsAll f i s = (k : ℕ) (x : Kind) → k < f.body.slots → HoldsOnAllWays f i k x → HoldsOne f.image (s k) x
 
 known_after : (f : CodeFrame) (i : ℕ) (s : KindsOfSlots) (e : Effect) (j : ℕ) (x : Kind) → EffectFits f.body.slots e → IsReached f i → HoldsAll f i s → j < f.body.slots
-    → ((t : KindsOfSlots) → Way f i t → done e t j ≡ Some x) → done e s j ≡ Some x
+    → ((t : KindsOfSlots) → Way f i t → HoldsOne f.image (done e t j) x) → HoldsOne f.image (done e s j) x
 known_after f i s keeps j x w way held lt all = held j x lt all
 known_after f i s (sets k v) j x w way held lt all = set_known f i s k j v (λ t. v) x all (λ h. h way.0 way.1) (held j x lt)
 known_after f i s (copies k a) j x w way held lt all = set_known f i s k j (s a) (λ t. t a) x all (λ h. held a x w h) (held j x lt)
+
+holds_all_ways : (f : CodeFrame) (i : ℕ) (s : KindsOfSlots) → RowOfKinds f i s → HoldsAll f i s
+holds_all_ways f i s h k x lt all = subst (λ z. HoldsOne f.image z x) (sym (h.same k lt)) (two_least f i k (held_at h.row k) x (h.agrees.good.two k lt) all)
+
+fit_one : (m : Image) (o : Option Kind) (x : Kind) → HoldsOne m o x → (y : Kind) × (o ≡ Some y) × (fits m y x ≡ true)
+fit_one m o x (y, at, b) = (y, at, belongs_fits m y x b)
 
 leads_well : (f : CodeFrame) (kinds : ℕ → Option KindsOfSlots) → AreSlotKinds f kinds → IsFaultless f → (i j : ℕ) (x : Instruction) (s : KindsOfSlots) → IsAt f i x → kinds i ≡ Some s
     → Contains (leads i x) j → AreKnownAt f kinds j (done (effect f x) s)
@@ -125,8 +142,9 @@ leads_well f kinds a n i j x s at e c =
     record {
       known = next.0;
       there = next.1;
-      held = λ k y lt h. known_after f i s (effect f x) k y (effect_fits f x (slot_well f n i x at)) way (λ l z less all. (a.held i s l z e less).1 all) lt
-          (λ t v. (a.held j next.0 k y next.1 lt).0 h (done (effect f x) t) (step x j v at goes c));
+      held = λ k y lt h. fit_one f.image (done (effect f x) s k) y
+          (known_after f i s (effect f x) k y (effect_fits f x (slot_well f n i x at)) way (holds_all_ways f i s (kinds_row f kinds a i s e)) lt
+          (λ t v. ((a.held j next.0 k y next.1 lt).0 h).each (done (effect f x) t) (step x j v at goes c)));
     }
 
 first_way : (f : CodeFrame) (j : ℕ) (s : KindsOfSlots) → Entered f 0 j s → s ≡ at_entry f
@@ -136,11 +154,17 @@ first_way f j s (comes h before x k lt w at so c) = absurd (omega arith)
 enters_well : (f : CodeFrame) (kinds : ℕ → Option KindsOfSlots) → AreSlotKinds f kinds → AreKnownAt f kinds 0 (at_entry f)
 enters_well f kinds a =
     let first = kinds_there f kinds a 0 (at_entry f, start) in
-    record { known = first.0; there = first.1; held = λ k x lt h. (a.held 0 first.0 k x first.1 lt).0 h (at_entry f) start }
+    record { known = first.0; there = first.1; held = λ k x lt h. fit_one f.image (at_entry f k) x (((a.held 0 first.0 k x first.1 lt).0 h).each (at_entry f) start) }
+
+-- two ways to the entry hold what it holds
+two_first : (f : CodeFrame) (k : ℕ) (r : Option Kind) → Two f.image (OnSomeWay f 0 k) r → r ≡ at_entry f k
+two_first f k r (o, p, (s, w, e), (t, v, g), h) =
+    let left : o ≡ at_entry f k = sym e ∙ ap (λ (z : KindsOfSlots). z k) (first_way f 0 s (entered w)) in
+    let right : p ≡ at_entry f k = sym g ∙ ap (λ (z : KindsOfSlots). z k) (first_way f 0 t (entered v)) in
+    sym h ∙ ap (λ z. both_hold f.image z p) left ∙ ap (both_hold f.image (at_entry f k)) right ∙ both_self f.image (at_entry f k)
 
 entered_well : (f : CodeFrame) (kinds : ℕ → Option KindsOfSlots) → AreSlotKinds f kinds → (s : KindsOfSlots) (k : ℕ) → kinds 0 ≡ Some s → k < f.body.slots → s k ≡ at_entry f k
-entered_well f kinds a s k e lt = same_held (s k) (at_entry f k) (λ x h. (a.held 0 s k x e lt).0 h (at_entry f) start)
-    (λ x h. (a.held 0 s k x e lt).1 (λ t w. ap (λ (z : KindsOfSlots). z k) (first_way f 0 t (entered w)) ∙ h))
+entered_well f kinds a s k e lt = let h = kinds_row f kinds a 0 s e in h.same k lt ∙ two_first f k (held_at h.row k) (h.agrees.good.two k lt)
 
 never_ends : (f : CodeFrame) → IsFaultless f → ¬ (IsReached f (length f.body.instructions))
 never_ends f n way = n (length f.body.instructions) FallsOff (refl, way)

@@ -1,15 +1,18 @@
 -- Each body has slot kinds, and no others: those by the rows of the pass.
-use Rattle.std.proofs.Common.{◌≡◌, ◌↔◌, ℕ, zero, suc, ◌+◌, ◌<◌, ◌≤◌, length, Option, Some, None, option_map, refl, sym, subst, arith, inl, inr}
+use Rattle.std.proofs.Common.{◌≡◌, ◌↔◌, ℕ, zero, suc, ◌+◌, ◌<◌, ◌≤◌, length, Option, Some, None, option_map, refl, sym, ap, ◌∙◌, subst, arith, inl, inr}
 use Rattle.std.proofs.lemmas.Bool.{cases_lt}
 use Rattle.std.proofs.lemmas.Option.{slice_get_within, slice_get_cases}
 use Rattle.ob_table.specs.declared.seen.Kind.{Kind}
 use Rattle.ob_code.specs.declared.instruction.Instruction.{Instruction}
+use Rattle.ob_verify_spec.specs.Kinds.{BelongsTo}
 use Rattle.ob_verify_spec.specs.Frames.{CodeFrame}
 use Rattle.ob_verify_spec.specs.Instructions.{KindsOfSlots}
 use Rattle.ob_verify_spec.specs.Ways.{IsAt, Way, start, step, IsFaultless}
-use Rattle.ob_verify_spec.specs.Verified.{HoldsOnAllWays, AreSlotKinds, IsVerifiedBody}
+use Rattle.ob_verify_spec.specs.Verified.{HoldsOnAllWays, IsKnown, AreSlotKinds, IsVerifiedBody}
 use Rattle.ob_verify_spec.specs.Passing.{held_at, KindRow, KindRows, first_rows, passed, first_fault}
-use Rattle.ob_verify_spec.proofs.Cells.{some_same, none_some, holds_kind}
+use Rattle.ob_verify_spec.proofs.Cells.{some_same, none_some}
+use Rattle.ob_verify_spec.proofs.Meeting.{HoldsOne, Two, both_least, belongs_back}
+use Rattle.ob_verify_spec.proofs.Rows.{OnSomeWay}
 use Rattle.ob_verify_spec.proofs.Naming.{goes_jump, leads_ahead}
 use Rattle.ob_verify_spec.proofs.Pass.{Known, known_first, known_next, Agrees, AgreesAt, agrees_at}
 use Rattle.ob_verify_spec.proofs.Verdict.{none_found}
@@ -37,7 +40,7 @@ reached_within f i s (step {i = h} x j w at so c) =
     let lt : j < length f.body.instructions + 1 = a.1 in omega arith
 
 -- the row of each place, or none
-row_at : (f : CodeFrame) (i : ℕ) → (o : Option KindRow) × AgreesAt f i o
+pub row_at : (f : CodeFrame) (i : ℕ) → (o : Option KindRow) × AgreesAt f i o
 row_at f i = elim (cases_lt (length f.body.instructions) i) [
   | inl lt ↦ (None, λ way. let le : i ≤ length f.body.instructions = reached_within f i way.0 way.1 in omega arith)
   | inr le ↦ let h = rows_at f i le in (held_at h.0 i, agrees_at f i h.0 h.1)
@@ -54,14 +57,25 @@ no_row : (o : Option KindRow) → slots_of o ≡ None → o ≡ None
 no_row None e = refl
 no_row (Some r) e = absurd (none_some (sym e))
 
-holds_by : (f : CodeFrame) (i k : ℕ) (x : Kind) (r : KindRow) → Agrees f i r → k < f.body.slots → HoldsOnAllWays f i k x → held_at r k ≡ Some x
-holds_by f i k x r a lt all = elim (holds_kind (held_at r k) x) [
-  | inl e ↦ e
-  | inr n ↦ let w = a.good.lost k x lt n in absurd (w.2 (all w.0 w.1))
-]
+-- what all ways hold belongs to a kind, so does what is known of two
+pub two_least : (f : CodeFrame) (i k : ℕ) (r : Option Kind) (x : Kind) → Two f.image (OnSomeWay f i k) r → HoldsOnAllWays f i k x → HoldsOne f.image r x
+two_least f i k r x (o, p, (s, w, e), (t, v, g), h) all =
+    both_least f.image o p r x h (subst (λ z. HoldsOne f.image z x) e (all s w)) (subst (λ z. HoldsOne f.image z x) g (all t v))
 
-held_by : (f : CodeFrame) (i k : ℕ) (x : Kind) (r : KindRow) → Agrees f i r → k < f.body.slots → (held_at r k ≡ Some x) ↔ HoldsOnAllWays f i k x
-held_by f i k x r a lt = (λ e s w. (a.all s w).keeps k x e, holds_by f i k x r a lt)
+known_by : (f : CodeFrame) (i k : ℕ) (x : Kind) (r : KindRow) → Agrees f i r → k < f.body.slots → held_at r k ≡ Some x → IsKnown f i k x
+known_by f i k x r a lt e = record {
+  each = λ s w. (a.all s w).keeps k x e;
+  least = λ y all. let h = two_least f i k (held_at r k) y (a.good.two k lt) all in subst (λ z. BelongsTo f.image z y) (some_same (sym h.1 ∙ e)) h.2;
+}
+
+holds_by : (f : CodeFrame) (i k : ℕ) (x : Kind) (r : KindRow) → Agrees f i r → k < f.body.slots → IsKnown f i k x → held_at r k ≡ Some x
+holds_by f i k x r a lt known =
+    let h = two_least f i k (held_at r k) x (a.good.two k lt) known.each in
+    let own = known_by f i k h.0 r a lt h.1 in
+    h.1 ∙ ap Some (belongs_back f.image h.0 x h.2 (known.least h.0 own.each))
+
+pub held_by : (f : CodeFrame) (i k : ℕ) (x : Kind) (r : KindRow) → Agrees f i r → k < f.body.slots → (held_at r k ≡ Some x) ↔ IsKnown f i k x
+held_by f i k x r a lt = (known_by f i k x r a lt, holds_by f i k x r a lt)
 
 -- what the row of a place tells of the kinds there
 pub slot_kinds : (f : CodeFrame) → (kinds : ℕ → Option KindsOfSlots) × AreSlotKinds f kinds
@@ -73,7 +87,7 @@ slot_kinds f = (
     held = λ i s k x e lt.
         let r = row_there (row_at f i).0 s e in
         let h : Agrees f i r.0 = subst (AgreesAt f i) r.1 (row_at f i).1 in
-        subst (λ (z : KindsOfSlots). (z k ≡ Some x) ↔ HoldsOnAllWays f i k x) r.2 (held_by f i k x r.0 h lt);
+        subst (λ (z : KindsOfSlots). (z k ≡ Some x) ↔ IsKnown f i k x) r.2 (held_by f i k x r.0 h lt);
   },
 )
 

@@ -1,6 +1,6 @@
 -- The kinds of values in code: types without their permissions.
-use Rattle.std.specs.Prelude.{◌+◌, Bool, true, false, ◌==◌, ◌||◌, slice_get}
-use Rattle.std.specs.Option.{option_map_or}
+use Rattle.std.specs.Prelude.{◌≡◌, ℕ, zero, suc, ◌+◌, Option, Some, None, Bool, true, false, ◌==◌, ◌&&◌, ◌||◌, slice_get, if◌then◌else◌, ◌⊎◌}
+use Rattle.std.specs.Option.{option_map_or, option_and_then}
 use Rattle.ob_base.specs.declared.id.ContractId.{ContractId}
 use Rattle.ob_table.specs.declared.seen.Kind.{Kind}
 use Rattle.ob_table.specs.declared.seen.Kind.TheVariants as kind
@@ -10,6 +10,7 @@ use Rattle.ob_code.specs.declared.image.ParamCode.{ParamCode}
 use Rattle.ob_code.specs.declared.image.ParamCode.TheVariants as param
 use Rattle.ob_code.specs.declared.image.ContractCode.{ContractCode}
 use Rattle.ob_code.specs.declared.image.Image.{Image}
+use Rattle.ob_code.specs.Code.{is_interface}
 
 -- the kind of a field's or a result's type
 abbrev pub kind_of_type : TypeCode → Kind
@@ -50,3 +51,47 @@ fits m given wanted = same_kind given wanted
 abbrev pub is_reference : Kind → Bool
 is_reference (kind.Reference c) = true
 is_reference other = false
+
+-- What kinds have in common. An interface counts here where it implements none: so it is its own interface and stands for itself
+-- alone, in each image, and in which order ways meet makes no difference.
+
+-- whether a contract is an interface that implements none
+abbrev pub is_plain_interface : ContractCode → Bool
+is_plain_interface c = is_interface c && c.implements == 0
+
+-- a reference to the interface of a number, where it is one that implements none
+abbrev pub interface_at : Image → ℕ → Option Kind
+interface_at m n =
+    if option_map_or is_plain_interface (slice_get m.contracts n) false then Some (kind.Reference (record { 0 = n })) else None
+
+-- the interface that is declared as implemented, by its number and 1; 0 stands for none
+abbrev pub interface_declared : Image → ℕ → Option Kind
+interface_declared m zero = None
+interface_declared m (suc n) = interface_at m n
+
+-- the interface that a contract is or implements
+abbrev pub interface_of_contract : Image → ContractId → ContractCode → Option Kind
+interface_of_contract m c own = if is_plain_interface own then Some (kind.Reference c) else interface_declared m own.implements
+
+-- the interface of a kind: of references to a contract the one that it is or implements, if there is one
+abbrev pub interface_of : Image → Kind → Option Kind
+interface_of m (kind.Reference c) = option_and_then (interface_of_contract m c) (slice_get m.contracts c.0)
+interface_of m other = None
+
+-- a kind belongs to another: it is that one, or that is its interface
+abbrev pub BelongsTo : Image → Kind → Kind → Type 0
+BelongsTo m x y = (x ≡ y) ⊎ (interface_of m x ≡ Some y)
+
+-- the one kind, where two are the same
+abbrev pub one_kind : Option Kind → Option Kind → Option Kind
+one_kind (Some x) (Some y) = if same_kind x y then Some x else None
+one_kind x y = None
+
+-- what two kinds have in common: the kind, where they are the same, or else the interface of both
+abbrev pub common : Image → Kind → Kind → Option Kind
+common m x y = if same_kind x y then Some x else one_kind (interface_of m x) (interface_of m y)
+
+-- what a slot is known to hold where two ways meet: what its kinds on both have in common
+abbrev pub both_hold : Image → Option Kind → Option Kind → Option Kind
+both_hold m (Some x) (Some y) = common m x y
+both_hold m x y = None

@@ -6,11 +6,12 @@ use Rattle.std.specs.List.{list_all}
 use Rattle.std.specs.Option.{option_flatten}
 use Rattle.ob_table.specs.declared.seen.Kind.{Kind}
 use Rattle.ob_table.specs.declared.seen.Kind.TheVariants as kind
+use Rattle.ob_code.specs.declared.image.Image.{Image}
 use Rattle.ob_code.specs.declared.instruction.Instruction.{Instruction}
 use Rattle.ob_verify_spec.specs.declared.CodeFault.{CodeFault}
 use Rattle.ob_verify_spec.specs.declared.CodeFault.TheVariants.{BadJump, BadSlot, KindMismatch, BadField, BadCall, FallsOff}
 use Rattle.ob_code.specs.Code.{is_interface}
-use Rattle.ob_verify_spec.specs.Kinds.{same_kind}
+use Rattle.ob_verify_spec.specs.Kinds.{both_hold}
 use Rattle.ob_verify_spec.specs.Frames.{CodeFrame, kinds_of_params}
 use Rattle.ob_verify_spec.specs.Instructions.{meets, needs, Effect, keeps, sets, copies, effect, leads}
 use Rattle.ob_verify_spec.specs.Conditions.{bad_jump, lacks_slots, bad_slot, bad_field, bad_call, may_go_on}
@@ -19,7 +20,7 @@ use Rattle.ob_verify_spec.specs.Conditions.{bad_jump, lacks_slots, bad_slot, bad
 abbrev pub held_at : {A : Type 0} → List (Option A) → ℕ → Option A
 held_at xs k = option_flatten (slice_get xs k)
 
--- what the slots of a body hold at a place, one after another
+-- what the slots of a body are known to hold at a place, one after another
 abbrev pub KindRow : Type 0
 KindRow = List (Option Kind)
 
@@ -42,16 +43,11 @@ no_rows (suc n) = None ∷ no_rows n
 abbrev pub first_rows : CodeFrame → KindRows
 first_rows f = Some (row_of f.body.slots (kind.Reference f.here ∷ kinds_of_params f.body)) ∷ no_rows (length f.body.instructions)
 
--- what a slot holds where two ways meet: nothing where they differ
-abbrev pub both_hold : Option Kind → Option Kind → Option Kind
-both_hold (Some x) (Some y) = if same_kind x y then Some x else None
-both_hold x y = None
-
--- what the slots hold where two ways meet
-abbrev pub meet : KindRow → KindRow → KindRow
-meet [] other = []
-meet (x ∷ row) [] = None ∷ meet row []
-meet (x ∷ row) (y ∷ other) = both_hold x y ∷ meet row other
+-- what the slots are known to hold where two ways meet
+abbrev pub meet : Image → KindRow → KindRow → KindRow
+meet m [] other = []
+meet m (x ∷ row) [] = None ∷ meet m row []
+meet m (x ∷ row) (y ∷ other) = both_hold m x y ∷ meet m row other
 
 -- the row after an effect
 abbrev pub row_after : Effect → KindRow → KindRow
@@ -59,24 +55,24 @@ row_after keeps row = row
 row_after (sets k held) row = slice_set row k held
 row_after (copies k a) row = slice_set row k (held_at row a)
 
--- what the slots hold at a place to which one more way leads
-abbrev pub joined : Option KindRow → KindRow → KindRow
-joined None row = row
-joined (Some known) row = meet known row
+-- what the slots are known to hold at a place to which one more way leads
+abbrev pub joined : Image → Option KindRow → KindRow → KindRow
+joined m None row = row
+joined m (Some known) row = meet m known row
 
 -- one more way leads to a place, with this row
-abbrev pub put_row : KindRows → ℕ → KindRow → KindRows
-put_row rows j row = slice_set rows j (Some (joined (held_at rows j) row))
+abbrev pub put_row : Image → KindRows → ℕ → KindRow → KindRows
+put_row m rows j row = slice_set rows j (Some (joined m (held_at rows j) row))
 
 -- the same of these places
-abbrev pub put_rows : KindRows → List ℕ → KindRow → KindRows
-put_rows rows [] row = rows
-put_rows rows (j ∷ places) row = put_rows (put_row rows j row) places row
+abbrev pub put_rows : Image → KindRows → List ℕ → KindRow → KindRows
+put_rows m rows [] row = rows
+put_rows m rows (j ∷ places) row = put_rows m (put_row m rows j row) places row
 
 -- the rows after the instruction at a place, whose own row, if it has one, was taken out
 abbrev pub passed_with : CodeFrame → ℕ → Instruction → Option KindRow → KindRows → KindRows
 passed_with f i x None rows = rows
-passed_with f i x (Some row) rows = if may_go_on f i x then put_rows rows (leads i x) (row_after (effect f x) row) else rows
+passed_with f i x (Some row) rows = if may_go_on f i x then put_rows f.image rows (leads i x) (row_after (effect f x) row) else rows
 
 -- the rows after the instruction at a place
 abbrev pub passed : CodeFrame → ℕ → Instruction → KindRows → KindRows

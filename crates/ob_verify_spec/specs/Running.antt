@@ -1,17 +1,17 @@
 -- What verified code promises to what runs it: each need is met, and it leaves neither its slots nor its code.
 use Rattle.std.specs.Prelude.{◌≡◌, ◌≢◌, ℕ, ◌<◌, ◌≤◌, length, Option, Some, None, true, Contains}
-use Rattle.ob_table.specs.declared.seen.Kind.{Kind}
 use Rattle.ob_code.specs.declared.instruction.Instruction.{Instruction}
 use Rattle.ob_verify_spec.specs.Frames.{CodeFrame}
 use Rattle.ob_verify_spec.specs.Instructions.{KindsOfSlots, reads, slot_set, leads, Need, slots_needed, meets, needs, done, effect}
 use Rattle.ob_verify_spec.specs.Conditions.{may_go_on}
 use Rattle.ob_verify_spec.specs.Ways.{IsAt, at_entry}
+use Rattle.ob_verify_spec.specs.Calling.{FitKnown}
 
--- a place has kinds, and what they say of the body's slots, these slots hold
+-- a place has kinds, and where they say what a slot of the body holds, it holds that or what may stand for it
 pub record AreKnownAt (f : CodeFrame) (kinds : ℕ → Option KindsOfSlots) (i : ℕ) (s : KindsOfSlots) : Type 0 where
   pub known : KindsOfSlots
   pub there : kinds i ≡ Some known
-  pub held : (k : ℕ) (x : Kind) → k < f.body.slots → known k ≡ Some x → s k ≡ Some x
+  pub held : FitKnown f.image f.body.slots known s
 
 -- The kinds of a body hold on from instruction to instruction. They begin with what the entry holds. A place that has kinds has
 -- an instruction, whose needs they meet, and each place to which it leads has kinds that say no more than is so after it. Each

@@ -1,9 +1,10 @@
 -- The ways through a body, and which condition holds where.
-use Rattle.std.specs.Prelude.{◌≡◌, ◌≢◌, ℕ, ◌<◌, ◌∷◌, length, Some, Bool, true, false, slice_get, Contains, ◌⊎◌}
+use Rattle.std.specs.Prelude.{◌≡◌, ℕ, ◌<◌, ◌∷◌, length, Some, None, Bool, true, false, slice_get, Contains, ◌⊎◌}
 use Rattle.ob_table.specs.declared.seen.Kind.TheVariants as kind
 use Rattle.ob_code.specs.declared.instruction.Instruction.{Instruction}
 use Rattle.ob_verify_spec.specs.declared.CodeFault.{CodeFault}
 use Rattle.ob_verify_spec.specs.declared.CodeFault.TheVariants.{BadJump, BadSlot, KindMismatch, BadField, BadCall, FallsOff}
+use Rattle.ob_verify_spec.specs.Kinds.{both_hold}
 use Rattle.ob_verify_spec.specs.Frames.{CodeFrame, kinds_of_params}
 use Rattle.ob_verify_spec.specs.Instructions.{KindsOfSlots, Need, slots_needed, meets, needs, done, effect, leads}
 use Rattle.ob_verify_spec.specs.Conditions.{bad_jump, lacks_slots, names_bad_slot, bad_field, bad_call, may_go_on}
@@ -26,10 +27,11 @@ pub data Way (f : CodeFrame) : ℕ → KindsOfSlots → Type 0 where
 abbrev pub IsReached : CodeFrame → ℕ → Type 0
 IsReached f i = (s : KindsOfSlots) × Way f i s
 
--- on some way to a place a need isn't met, or two ways differ in a slot of which it speaks
+-- on some way to a place a need isn't met, or in a slot of which it speaks two ways hold kinds that have nothing in common
 pub data Mismatch (f : CodeFrame) (i : ℕ) (n : Need) : Type 0 where
   unmet : (s : KindsOfSlots) → Way f i s → meets f.image s n ≡ false → Mismatch f i n
-  differs : (s t : KindsOfSlots) (k : ℕ) → Way f i s → Way f i t → Contains (slots_needed n) k → s k ≢ t k → Mismatch f i n
+  differs : (s t : KindsOfSlots) (k : ℕ) → Way f i s → Way f i t → Contains (slots_needed n) k
+      → both_hold f.image (s k) (t k) ≡ None → Mismatch f i n
 
 -- a condition that doesn't speak of ways holds at a place
 pub record Breaks (f : CodeFrame) (i : ℕ) (test : Instruction → Bool) : Type 0 where

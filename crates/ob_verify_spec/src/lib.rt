@@ -17,7 +17,8 @@ pub enum CodeFault {
     BadJump,
     /// A slot that the body doesn't have is named, or that of `this` is set; or the body lacks slots for its parameters.
     BadSlot,
-    /// On some way there a slot is unset or of another kind than the operand needs, or two ways differ in it.
+    /// On some way there a slot is unset or of another kind than the operand needs, or two ways hold kinds in it that have
+    /// nothing in common.
     KindMismatch,
     /// A field is named that the contract doesn't have.
     BadField,

@@ -2,7 +2,7 @@
 use crate::kinds::lines::Lines;
 use crate::kinds::tokens::put_error;
 use ob_base::{ContractId, Duplicate, FieldId, StateId, TxId};
-use ob_front::{Compiled, lowered};
+use ob_front::{LoweredProgram, lowered};
 use ob_silica::{Constant, Form, Given, Operand, Place, SilicaOperator, Term, TermBody};
 use std::alloc::Global;
 
@@ -269,7 +269,7 @@ fn put_body(lines: &mut Lines, body: &TermBody) {
     put_terms(body.terms.as_slice(), lines);
 }
 
-fn put_bodies(lines: &mut Lines, program: &Compiled) {
+fn put_bodies(lines: &mut Lines, program: &LoweredProgram) {
     for body in program.bodies.as_slice() {
         put_body(lines, body);
     }

@@ -18,8 +18,8 @@ use Rattle.ob_invocation_spec.specs.Replies.{no_contract, not_main, no_transacti
 use Rattle.ob_invocation_spec.specs.Checks.{Check, check, refusal_of}
 use Rattle.ob_invocation_spec.specs.Refusals.{handle_check, argument_checks, is_no_contract, is_not_main, is_no_transaction, entry_checks, found_checks, new_checks, call_checks}
 use Rattle.ob_invocation_spec.specs.Entering.{first_outside_use, entry_world}
-use Rattle.ob_soundness_laws.specs.beginning.Uses.{handle_notes, locked_at_entry}
-use Rattle.ob_soundness_laws.specs.beginning.Starts.{CallStarts, NewStarts, beginning_on, beginning_of, started_on, RequestStarts}
+use Rattle.ob_soundness_laws.specs.Requests.{handles_in_run, entry_lock, beginning_on, beginning_of, started_on}
+use Rattle.ob_soundness_laws.specs.beginning.Starts.{CallStarts, NewStarts, RequestStarts}
 use Rattle.ob_soundness_laws.proofs.beginning.Checked.{not_refused}
 use Rattle.ob_soundness_laws.proofs.beginning.CallBegins.{world_objects, call_begins}
 use Rattle.ob_soundness_laws.proofs.beginning.NewBegins.{new_begins}
@@ -84,11 +84,11 @@ call_request_begins program is content rest who r e labels found none inside fue
     let s : CallStarts program content fuel e = call_begins program is content rest who r e (named_call who r labels)
     found
     (call_entry program.table content who r e found none) inside fuel in
-    subst (λ os. StepsSo program.table (locked_at_entry e.receiver) (beginning_of content e)
-    (started_on program e e.receiver (values_of content e) (first_notes program.table os (handle_notes content e))
+    subst (λ os. StepsSo program.table (entry_lock e.receiver) (beginning_of content e)
+    (started_on program e e.receiver (values_of content e) (first_notes program.table os (handles_in_run content e))
     (entry_world content fuel e))) (sym (world_objects content fuel e.receiver))
-    (subst (λ x. StepsSo program.table (locked_at_entry e.receiver) (beginning_on e x (values_of content e))
-    (started_on program e x (values_of content e) (first_notes program.table content.objects (handle_notes content e))
+    (subst (λ x. StepsSo program.table (entry_lock e.receiver) (beginning_on e x (values_of content e))
+    (started_on program e x (values_of content e) (first_notes program.table content.objects (handles_in_run content e))
     (entry_world content fuel e))) (sym s.1) s.2)
 
 -- A `new` that isn't refused begins coherently, or aborts.
@@ -100,9 +100,9 @@ pub new_request_begins : (program : SilicaProgram) → IsCheckedProgram program 
 new_request_begins program is content rest who r e found none inside fuel =
     let s : NewStarts program content fuel e = new_begins program is content rest who r e found
     (new_entry program.table content who r e found none) inside fuel in
-    subst (λ os. StepsSo program.table (locked_at_entry e.receiver) (beginning_of content e)
-    (started_on program e e.receiver (values_of content e) (first_notes program.table os (handle_notes content e))
+    subst (λ os. StepsSo program.table (entry_lock e.receiver) (beginning_of content e)
+    (started_on program e e.receiver (values_of content e) (first_notes program.table os (handles_in_run content e))
     (entry_world content fuel e))) (sym (world_objects content fuel e.receiver))
-    (subst (λ x. StepsSo program.table (locked_at_entry x) (beginning_on e x (values_of content e))
-    (started_on program e x (values_of content e) (first_notes program.table content.objects (handle_notes content e))
+    (subst (λ x. StepsSo program.table (entry_lock x) (beginning_on e x (values_of content e))
+    (started_on program e x (values_of content e) (first_notes program.table content.objects (handles_in_run content e))
     (entry_world content fuel e))) (sym s.0) s.1)

@@ -56,7 +56,9 @@ use Rattle.ob_rest_spec.specs.Incoming.{owners as stored_owners}
 use Rattle.ob_rest_spec.specs.AtRest.{IsStoreAtRest}
 use Rattle.ob_invocation_spec.specs.Entries.{HandleUse}
 use Rattle.ob_invocation_spec.specs.Refusals.{is_repeated}
-use Rattle.ob_soundness_laws.specs.beginning.Uses.{note_of, owning_uses, sharing_uses, AreUses}
+use Rattle.ob_soundness_laws.specs.beginning.Uses.{owning_uses, sharing_uses, AreUses}
+use Rattle.ob_invocation_laws.specs.Laws.{puts_of_uses}
+use Rattle.ob_soundness_laws.specs.Requests.{note_in_run}
 use Rattle.ob_soundness_laws.specs.beginning.Marked.{AreMarked}
 use Rattle.ob_soundness_laws.specs.beginning.Passed.{ArePassed, uses_in}
 use Rattle.ob_soundness_laws.proofs.beginning.Totals.{lent}
@@ -134,7 +136,7 @@ module _ (program : SilicaProgram) (is : IsCheckedProgram program) (content : Co
     frame = f;
     control = runs begins.terms [];
     stack = [];
-    notes = first_notes program.table content.objects (map (note_of (uses_in xs)) content.handles);
+    notes = first_notes program.table content.objects (map (note_in_run (puts_of_uses (uses_in xs))) content.handles);
     world = w;
   }
 
@@ -217,7 +219,7 @@ module _ (program : SilicaProgram) (is : IsCheckedProgram program) (content : Co
   -- Owners.
 
   objects_own : (m : ℕ) → in_objects owns m d.notes w.objects ≡ in_objects owns m d.notes content.objects
-  objects_own m = marked_counts program.table content rest (map (note_of (uses_in xs)) content.handles) w.objects more
+  objects_own m = marked_counts program.table content rest (map (note_in_run (puts_of_uses (uses_in xs))) content.handles) w.objects more
       owns m
 
   owners_are : (m : ℕ) → owners m d + lent program.table content rest entry (uses_in xs) uses once m
@@ -232,10 +234,10 @@ module _ (program : SilicaProgram) (is : IsCheckedProgram program) (content : Co
 
   fields_stand : (i : ℕ) → Rattle.ob_coherent_spec.specs.Standing.AllStand program.table w.objects
       (field_cell d.notes w.objects i)
-  fields_stand = marked_stand program.table content rest (map (note_of (uses_in xs)) content.handles) w.objects more
+  fields_stand = marked_stand program.table content rest (map (note_in_run (puts_of_uses (uses_in xs))) content.handles) w.objects more
 
   handles_now : Rattle.ob_coherent_spec.specs.Standing.HandlesStand w.objects
-      (map (note_of (uses_in xs)) content.handles)
+      (map (note_in_run (puts_of_uses (uses_in xs))) content.handles)
   handles_now = handles_stand content.objects (uses_in xs) content.handles (length content.objects) (omega arith)
       rest.is_content.handles w.objects (let e = more.count in omega (arith, e))
 
@@ -243,7 +245,7 @@ module _ (program : SilicaProgram) (is : IsCheckedProgram program) (content : Co
   owners_past m past =
       let one = slots_past program.table w.objects m past f.slots slots_stand in
       let two = objects_past program.table w.objects m past d.notes fields_stand in
-      let three = handles_past program.table w.objects m past (map (note_of (uses_in xs)) content.handles) handles_now
+      let three = handles_past program.table w.objects m past (map (note_in_run (puts_of_uses (uses_in xs))) content.handles) handles_now
       in
       let four = all_refer owns m d in
       omega (arith, one, two, three, four)
@@ -322,9 +324,9 @@ module _ (program : SilicaProgram) (is : IsCheckedProgram program) (content : Co
     slots = slots_stand;
     fields = fields_stand;
     handles = handles_now;
-    objects = λ m low. marked_in_run program.table content rest (map (note_of (uses_in xs)) content.handles) w.objects
+    objects = λ m low. marked_in_run program.table content rest (map (note_in_run (puts_of_uses (uses_in xs))) content.handles) w.objects
         more m low;
-    declared = λ m low none new. marked_declared program.table content rest (map (note_of (uses_in xs)) content.handles)
+    declared = λ m low none new. marked_declared program.table content rest (map (note_in_run (puts_of_uses (uses_in xs))) content.handles)
         w.objects more (NeedsOwner program.table w.objects) m low;
     progress = λ m. let e = entered_is m in let p = ap (times m) progress in omega (arith, e, p);
     entered_once = λ m. let e = entered_is m in let one = one_if_most (nat_eq n m) in omega (arith, e, one);
@@ -346,7 +348,7 @@ module _ (program : SilicaProgram) (is : IsCheckedProgram program) (content : Co
   bf = body_of program.table f parts
 
   declared_now : IsAsDeclared program.table (NeedsOwner program.table w.objects) d.notes w.objects n
-  declared_now = marked_declared program.table content rest (map (note_of (uses_in xs)) content.handles)
+  declared_now = marked_declared program.table content rest (map (note_in_run (puts_of_uses (uses_in xs))) content.handles)
       w.objects more (NeedsOwner program.table w.objects) n there_now
 
   fields_say : (j : ℕ) → available bf j (state_number (own_object (here d)).state) ≡ true
@@ -402,7 +404,7 @@ module _ (program : SilicaProgram) (is : IsCheckedProgram program) (content : Co
     remains = begins.remains;
     opens = tt;
     placed = λ ne. subst (λ i. HasItsState program.table (nth_object w.objects i)) (sym self_is)
-        (marked_placed program.table content rest (map (note_of (uses_in xs)) content.handles) w.objects more n
+        (marked_placed program.table content rest (map (note_in_run (puts_of_uses (uses_in xs))) content.handles) w.objects more n
         there_now);
     shares = shares_now;
     owns_made = λ e. absurd (cc);

@@ -41,7 +41,9 @@ use Rattle.ob_invocation_spec.specs.Entries.{HandleUse, Entry, mode_of_result, e
 use Rattle.ob_invocation_spec.specs.Checks.{refusal_of}
 use Rattle.ob_invocation_spec.specs.Refusals.{entry_checks, use_serves, receiver_serves, is_repeated}
 use Rattle.ob_invocation_spec.specs.Entering.{is_outside_use, first_outside_use, is_locked_at_entry, with_entry_lock, entry_world}
-use Rattle.ob_soundness_laws.specs.beginning.Uses.{note_of, locked_at_entry, sharing_uses, AreUses}
+use Rattle.ob_soundness_laws.specs.beginning.Uses.{sharing_uses, AreUses}
+use Rattle.ob_invocation_laws.specs.Laws.{puts_of_uses}
+use Rattle.ob_soundness_laws.specs.Requests.{note_in_run, entry_lock}
 use Rattle.ob_soundness_laws.specs.beginning.Marked.{AreMarked}
 use Rattle.ob_soundness_laws.specs.beginning.Starts.{call_beginning, CallStarts}
 use Rattle.ob_soundness_laws.specs.beginning.Passed.{ArePassed, uses_in}
@@ -71,7 +73,7 @@ module _ (content : Content) (fuel : ℕ) where
   world_progress None = refl
   world_progress (Some u) = ⊎_elim (λ e. rw e refl) (λ e. rw e refl) (cases_Bool (is_locked_at_entry u))
 
-  pub world_locked : (u : Option HandleUse) (m : ℕ) → locks_entry (locked_at_entry u) m
+  pub world_locked : (u : Option HandleUse) (m : ℕ) → locks_entry (entry_lock u) m
       ≡ times m (with_entry_lock u (first_world content.objects fuel)).locked
   world_locked None m = refl
   world_locked (Some u) m = ⊎_elim
@@ -82,7 +84,7 @@ module _ (content : Content) (fuel : ℕ) where
 -- A call of an object from outside, whose values are passed by uses that serve.
 module _ (program : SilicaProgram) (is : IsCheckedProgram program) (content : Content)
     (rest : IsStoreAtRest program.table content) (u : HandleUse) (entry : Option ℕ)
-    (entry_is : locked_at_entry (Some u) ≡ entry)
+    (entry_is : entry_lock (Some u) ≡ entry)
     (n : ℕ) (there : n < length content.objects) (contract : ContractId) (tx : TxId) (own : Contract) (s : Signature)
     (args : List Value) (xs : List (Option HandleUse))
     (passed : ArePassed program.table content.objects (reference n ∷ args) (this_parameter contract s ∷ parameters s)
@@ -99,7 +101,7 @@ module _ (program : SilicaProgram) (is : IsCheckedProgram program) (content : Co
   w1 = passed_world (reference n ∷ args) (this_parameter contract s ∷ parameters s) w0
 
   abbrev notes : Notes
-  notes = first_notes program.table content.objects (map (note_of (uses_in xs)) content.handles)
+  notes = first_notes program.table content.objects (map (note_in_run (puts_of_uses (uses_in xs))) content.handles)
 
   abbrev slots : SlotCells
   slots = passed_slots (reference n ∷ args) 0 (this_parameter contract s ∷ parameters s) nothing
@@ -172,7 +174,7 @@ module _ (program : SilicaProgram) (is : IsCheckedProgram program) (content : Co
         class es no_constructor no_list w more newly marks locked (ap (λ ns. n ∷ ns) quiet)))
 
   pub call_starts : StepsSo program.table entry begun_with (started_call program contract tx n args
-      (first_notes program.table content.objects (map (note_of (uses_in xs)) content.handles))
+      (first_notes program.table content.objects (map (note_in_run (puts_of_uses (uses_in xs))) content.handles))
       (with_entry_lock (Some u) (first_world content.objects fuel)))
   call_starts = subst (StepsSo program.table entry begun_with)
       (sym (ap (λ o. if_there o (λ (s : Signature).
@@ -302,13 +304,13 @@ module _ (program : SilicaProgram) (is : IsCheckedProgram program) (content : Co
   outside = ap (list_any (is_outside_use program.table content.objects)) (sym uses_same)
       ∙ find_none (is_outside_use program.table content.objects) (handle_uses content (entered who r h o tx s)) inside
 
-  used : AreUses program.table content (locked_at_entry (Some u)) (uses_in xs)
+  used : AreUses program.table content (entry_lock (Some u)) (uses_in xs)
   used =
       let states = or_parts (is_outside_use program.table content.objects u)
       (list_any (is_outside_use program.table content.objects) (uses_in arg_uses)) outside in (
-        receiver_used program.table content rest (locked_at_entry (Some u)) u eh
+        receiver_used program.table content rest (entry_lock (Some u)) u eh
             (and_parts (receiver_serves u) true ok.receiver).0 states.0 refl,
-        arguments_used program.table content rest (locked_at_entry (Some u)) who s.params r.args
+        arguments_used program.table content rest (entry_lock (Some u)) who s.params r.args
             (ap (list_all use_serves) (sym (uses_are program.table content who s.params r.args)) ∙ ok.args) states.1,
       )
 
@@ -319,12 +321,12 @@ module _ (program : SilicaProgram) (is : IsCheckedProgram program) (content : Co
   parts_begin fuel = (
     u,
     refl,
-    subst (λ us. StepsSo program.table (locked_at_entry (Some u))
+    subst (λ us. StepsSo program.table (entry_lock (Some u))
         (call_beginning content (entered who r h o tx s) h.object)
         (started_call program o.contract tx h.object (values_of content (entered who r h o tx s))
-        (first_notes program.table content.objects (map (note_of us) content.handles))
+        (first_notes program.table content.objects (map (note_in_run (puts_of_uses us)) content.handles))
         (entry_world content fuel (entered who r h o tx s)))) (sym uses_same)
-        (call_starts program is content rest u (locked_at_entry (Some u)) refl h.object object_is.0 o.contract tx own s
+        (call_starts program is content rest u (entry_lock (Some u)) refl h.object object_is.0 o.contract tx own s
         (values_of content (entered who r h o tx s)) xs all_passed used once
         (ap (λ (z : Object). z.contract) object_is.1) ec class es other no_list fuel),
   )

@@ -33,7 +33,8 @@ use Rattle.ob_invocation_spec.specs.Refusals.{has_other_count, has_other_kind, l
 use Rattle.ob_invocation_spec.specs.Entering.{is_outside_use}
 use Rattle.ob_places_laws.proofs.Tables.{each_at}
 use Rattle.ob_soundness_laws.proofs.counting.Objects.{object_there, object_found}
-use Rattle.ob_soundness_laws.specs.beginning.Uses.{locked_at_entry, IsUse, AreUses}
+use Rattle.ob_soundness_laws.specs.beginning.Uses.{IsUse, AreUses}
+use Rattle.ob_soundness_laws.specs.Requests.{entry_lock}
 use Rattle.ob_soundness_laws.specs.beginning.Passed.{IsPassed, ArePassed, uses_in}
 
 -- Checks.
@@ -324,7 +325,7 @@ module _ (table : ClassTable) (content : Content) (rest : IsStoreAtRest table co
           )
 
   pub receiver_used : (u : HandleUse) → handle_at content u.name ≡ Some u.handle → receiver_serves u ≡ true
-      → is_outside_use table content.objects u ≡ false → entry ≡ locked_at_entry (Some u) → IsUse table content entry u
+      → is_outside_use table content.objects u ≡ false → entry ≡ entry_lock (Some u) → IsUse table content entry u
   receiver_used u found fits inside locked = ⊎_elim
       (λ mode. is_use u found inside
       (λ s. serves_shared u.handle.mode u.entry.mode mode s)

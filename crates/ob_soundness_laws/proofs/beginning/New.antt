@@ -59,7 +59,9 @@ use Rattle.ob_rest_spec.specs.Incoming.{owners as stored_owners}
 use Rattle.ob_rest_spec.specs.AtRest.{IsStoreAtRest}
 use Rattle.ob_invocation_spec.specs.Entries.{HandleUse}
 use Rattle.ob_invocation_spec.specs.Refusals.{is_repeated}
-use Rattle.ob_soundness_laws.specs.beginning.Uses.{note_of, owning_uses, sharing_uses, AreUses}
+use Rattle.ob_soundness_laws.specs.beginning.Uses.{owning_uses, sharing_uses, AreUses}
+use Rattle.ob_invocation_laws.specs.Laws.{puts_of_uses}
+use Rattle.ob_soundness_laws.specs.Requests.{note_in_run}
 use Rattle.ob_soundness_laws.specs.beginning.Marked.{AreMarked}
 use Rattle.ob_soundness_laws.specs.beginning.Passed.{IsPassed, ArePassed, uses_in}
 use Rattle.ob_soundness_laws.proofs.beginning.Totals.{lent}
@@ -149,7 +151,7 @@ module _ (program : SilicaProgram) (is : IsCheckedProgram program) (content : Co
     frame = f;
     control = runs begins.terms [];
     stack = [];
-    notes = first_notes program.table content.objects (map (note_of (uses_in xs)) content.handles);
+    notes = first_notes program.table content.objects (map (note_in_run (puts_of_uses (uses_in xs))) content.handles);
     world = w;
   }
 
@@ -235,7 +237,7 @@ module _ (program : SilicaProgram) (is : IsCheckedProgram program) (content : Co
   objects_count : (counts : Counted) (m : ℕ) → in_objects counts m d.notes w.objects ≡ in_objects counts m d.notes
       content.objects
   objects_count counts m = objects_make counts m d.notes wr (unfinished contract) (λ j. refl)
-      ∙ marked_counts program.table content rest (map (note_of (uses_in xs)) content.handles) wr.objects more counts m
+      ∙ marked_counts program.table content rest (map (note_in_run (puts_of_uses (uses_in xs))) content.handles) wr.objects more counts m
 
   owners_are : (m : ℕ) → m < next → owners m d + lent program.table content rest None (uses_in xs) uses once m
       ≡ owning_uses m (uses_in xs) + stored_owners program.table content m
@@ -259,8 +261,8 @@ module _ (program : SilicaProgram) (is : IsCheckedProgram program) (content : Co
       (parameters s) xs passed in
       let objects = objects_make any m d.notes wr (unfinished contract) (λ j. refl) in
       let two = objects_past program.table wr.objects m past d.notes
-      (marked_stand program.table content rest (map (note_of (uses_in xs)) content.handles) wr.objects more) in
-      let three = handles_past program.table wr.objects m past (map (note_of (uses_in xs)) content.handles)
+      (marked_stand program.table content rest (map (note_in_run (puts_of_uses (uses_in xs))) content.handles) wr.objects more) in
+      let three = handles_past program.table wr.objects m past (map (note_in_run (puts_of_uses (uses_in xs))) content.handles)
       (handles_stand content.objects (uses_in xs) content.handles (length content.objects) (omega arith)
       rest.is_content.handles wr.objects (let e = more.count in omega (arith, e))) in
       omega (arith, cell, here, none, objects, two, three)
@@ -303,13 +305,13 @@ module _ (program : SilicaProgram) (is : IsCheckedProgram program) (content : Co
   fields_stand : (i : ℕ) → AllStand program.table w.objects (field_cell d.notes w.objects i)
   fields_stand i k x e = ⊎_elim
       (λ low. made_stands program.table wr.objects (unfinished contract) x
-      (marked_stand program.table content rest (map (note_of (uses_in xs)) content.handles) wr.objects more i k x
+      (marked_stand program.table content rest (map (note_in_run (puts_of_uses (uses_in xs))) content.handles) wr.objects more i k x
       (sym (cells_same i k low) ∙ e)))
       (λ past. absurd (let none = field_cell_of d.notes w.objects i k None ((past_plain i past).2 k) in
       let z : Some x ≡ None = sym e ∙ none in cc))
       (low_or_past i)
 
-  handles_now : HandlesStand w.objects (map (note_of (uses_in xs)) content.handles)
+  handles_now : HandlesStand w.objects (map (note_in_run (puts_of_uses (uses_in xs))) content.handles)
   handles_now = handles_stand content.objects (uses_in xs) content.handles (length content.objects) (omega arith)
       rest.is_content.handles w.objects (let e = more.count in let z = new_count in omega (arith, e, z))
 
@@ -320,7 +322,7 @@ module _ (program : SilicaProgram) (is : IsCheckedProgram program) (content : Co
   in_run : (m : ℕ) → m < length w.objects → IsObjectInRun program.table d.notes m (nth_object w.objects m)
   in_run m below = ⊎_elim
       (λ low. subst (IsObjectInRun program.table d.notes m) (sym (old_object m low))
-      (marked_in_run program.table content rest (map (note_of (uses_in xs)) content.handles) wr.objects more m low))
+      (marked_in_run program.table content rest (map (note_in_run (puts_of_uses (uses_in xs))) content.handles) wr.objects more m low))
       (λ same. subst (λ i. IsObjectInRun program.table d.notes i (nth_object w.objects i)) (sym same)
       (subst (IsObjectInRun program.table d.notes next) (sym new_object) (record {
         own = own;
@@ -335,7 +337,7 @@ module _ (program : SilicaProgram) (is : IsCheckedProgram program) (content : Co
   declared_now : (m : ℕ) → m < next → IsAsDeclared program.table (NeedsOwner program.table w.objects) d.notes
       w.objects m
   declared_now m low =
-      let was = marked_declared program.table content rest (map (note_of (uses_in xs)) content.handles) wr.objects more
+      let was = marked_declared program.table content rest (map (note_in_run (puts_of_uses (uses_in xs))) content.handles) wr.objects more
       (NeedsOwner program.table w.objects) m low in
       record {
         placed = subst (HasItsState program.table) (sym (old_object m low)) was.placed;

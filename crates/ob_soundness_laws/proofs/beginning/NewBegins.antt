@@ -34,7 +34,9 @@ use Rattle.ob_invocation_spec.specs.Entries.{HandleUse, Entry, entry_of_new, val
 use Rattle.ob_invocation_spec.specs.Checks.{refusal_of}
 use Rattle.ob_invocation_spec.specs.Refusals.{entry_checks, use_serves, is_repeated}
 use Rattle.ob_invocation_spec.specs.Entering.{is_outside_use, first_outside_use, entry_world}
-use Rattle.ob_soundness_laws.specs.beginning.Uses.{note_of, sharing_uses, AreUses}
+use Rattle.ob_soundness_laws.specs.beginning.Uses.{sharing_uses, AreUses}
+use Rattle.ob_invocation_laws.specs.Laws.{puts_of_uses}
+use Rattle.ob_soundness_laws.specs.Requests.{note_in_run}
 use Rattle.ob_soundness_laws.specs.beginning.Marked.{AreMarked}
 use Rattle.ob_soundness_laws.specs.beginning.Passed.{ArePassed, uses_in}
 use Rattle.ob_soundness_laws.specs.beginning.Starts.{new_beginning, NewStarts}
@@ -62,7 +64,7 @@ module _ (program : SilicaProgram) (is : IsCheckedProgram program) (content : Co
   w1 = passed_world args (parameters s) w0
 
   abbrev notes : Notes
-  notes = first_notes program.table content.objects (map (note_of (uses_in xs)) content.handles)
+  notes = first_notes program.table content.objects (map (note_in_run (puts_of_uses (uses_in xs))) content.handles)
 
   abbrev slots : SlotCells
   slots = passed_slots args 1 (parameters s) nothing
@@ -137,7 +139,7 @@ module _ (program : SilicaProgram) (is : IsCheckedProgram program) (content : Co
         (cases_Bool (nat_le most_objects (length w1.objects)))
 
   pub new_starts : StepsSo program.table None begun_with (started_new program contract args
-      (first_notes program.table content.objects (map (note_of (uses_in xs)) content.handles))
+      (first_notes program.table content.objects (map (note_in_run (puts_of_uses (uses_in xs))) content.handles))
       (first_world content.objects fuel))
   new_starts = subst (StepsSo program.table None begun_with)
       (sym (ap (λ o. if_there o (λ (s : Signature).
@@ -192,7 +194,7 @@ module _ (program : SilicaProgram) (is : IsCheckedProgram program) (content : Co
         refl,
         subst (λ us. StepsSo program.table None (new_beginning content (entered who r contract s))
             (started_new program contract (values_of content (entered who r contract s))
-            (first_notes program.table content.objects (map (note_of us) content.handles))
+            (first_notes program.table content.objects (map (note_in_run (puts_of_uses us)) content.handles))
             (entry_world content fuel (entered who r contract s)))) (sym uses_same)
             (new_starts program is content rest contract made.0 s (values_of content (entered who r contract s)) xs
             (args_passed program.table content who s.params r.args ok.count ok.kinds) used

@@ -24,7 +24,8 @@ use Rattle.ob_invocation_laws.proofs.Lent.{changes, use_is_put, put_by_use, foun
 use Rattle.ob_perm.specs.Masks.{held}
 use Rattle.ob_coherent_spec.specs.Counting.{nth_object, one_if, in_handles}
 use Rattle.ob_soundness_laws.proofs.stores.Handles.{owning_handles, owning_where, handles_owning_but}
-use Rattle.ob_soundness_laws.specs.beginning.Uses.{any_state, is_lent, note_of, owning_uses, sharing_uses, uses_of, IsUse, AreUses}
+use Rattle.ob_soundness_laws.specs.beginning.Uses.{is_lent, owning_uses, sharing_uses, uses_of, IsUse, AreUses}
+use Rattle.ob_soundness_laws.specs.Requests.{any_state, note_in_run}
 use Rattle.ob_soundness_laws.proofs.beginning.Lists.{none_at}
 use Rattle.ob_soundness_laws.proofs.beginning.Rests.{one_owner, none_if_shared, none_if_disowned, asset_has_owner, handle_marks}
 
@@ -159,9 +160,9 @@ module _ (table : ClassTable) (content : Content) (rest : IsStoreAtRest table co
   lent n = owning_where (is_lent us) n content.handles
 
   -- and how many aren't
-  pub carried : (n : ℕ) → in_handles owns n (map (note_of us) content.handles) + lent n ≡ owning_handles n
+  pub carried : (n : ℕ) → in_handles owns n (map (note_in_run (puts_of_uses us)) content.handles) + lent n ≡ owning_handles n
       content.handles
-  carried n = handles_owning_but n (is_lent us) (note_of us) content.handles (λ h. refl)
+  carried n = handles_owning_but n (is_lent us) (note_in_run (puts_of_uses us)) content.handles (λ h. refl)
       (λ h. go (is_lent us h) h.1.mode)
     where
       go : (b : Bool) (m : Mode) → owns (if b then unowned else held m any_state) ≡ (is_owned m && not b)

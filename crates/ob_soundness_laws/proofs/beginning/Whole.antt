@@ -21,13 +21,15 @@ use Rattle.ob_soundness_laws.proofs.stores.Handles.{owning_handles, store_owners
 use Rattle.ob_invocation_spec.specs.Handles.{NamedHandle}
 use Rattle.ob_invocation_spec.specs.Entries.{HandleUse}
 use Rattle.ob_invocation_spec.specs.Refusals.{is_repeated}
-use Rattle.ob_soundness_laws.specs.beginning.Uses.{note_of, owning_uses, sharing_uses, AreUses}
+use Rattle.ob_soundness_laws.specs.beginning.Uses.{owning_uses, sharing_uses, AreUses}
+use Rattle.ob_invocation_laws.specs.Laws.{puts_of_uses}
+use Rattle.ob_soundness_laws.specs.Requests.{note_in_run}
 use Rattle.ob_soundness_laws.specs.beginning.Marked.{AreMarked}
 use Rattle.ob_soundness_laws.proofs.beginning.Totals.{lent, carried, total_one, total_disowned, total_shared, total_newly, total_asset, sharing_found, use_at}
 
 -- handles are on objects that are there
 pub handles_stand : (os : List Object) (us : List HandleUse) (hs : List NamedHandle) (m : ℕ) → length os ≤ m
-    → All (IsHandle os) hs → (ps : List Object) → m ≤ length ps → HandlesStand ps (map (note_of us) hs)
+    → All (IsHandle os) hs → (ps : List Object) → m ≤ length ps → HandlesStand ps (map (note_in_run (puts_of_uses us)) hs)
 handles_stand os us [] m low all ps more = tt
 handles_stand os us (h ∷ hs) m low all ps more = (
   (let z = (all 0 h (omega arith)).object in omega (arith, z, low, more)),
@@ -45,13 +47,13 @@ module _ (table : ClassTable) (conditions : IsClassTable table) (content : Conte
     (entry : Option ℕ) (us : List HandleUse) (all : AreUses table content entry us)
     (once : list_any (is_repeated us) us ≡ false) where
   abbrev pub handles : List HandleNote
-  handles = map (note_of us) content.handles
+  handles = map (note_in_run (puts_of_uses us)) content.handles
 
   abbrev pub start_notes : Notes
-  start_notes = first_notes table content.objects (map (note_of us) content.handles)
+  start_notes = first_notes table content.objects (map (note_in_run (puts_of_uses us)) content.handles)
 
   counted : (n : ℕ) → owners table content n
-      ≡ in_objects owns n (first_notes table content.objects (map (note_of us) content.handles)) content.objects
+      ≡ in_objects owns n (first_notes table content.objects (map (note_in_run (puts_of_uses us)) content.handles)) content.objects
       + owning_handles n content.handles
   counted n = store_owners_counted table conditions content start_notes
       (first_declared table content.objects handles)
@@ -64,9 +66,9 @@ module _ (table : ClassTable) (conditions : IsClassTable table) (content : Conte
 
   -- how many own an object in all, where slots own it as it is used
   pub total_is : (n slots objects : ℕ) → slots ≡ owning_uses n us
-      → objects ≡ in_objects owns n (first_notes table content.objects (map (note_of us) content.handles))
+      → objects ≡ in_objects owns n (first_notes table content.objects (map (note_in_run (puts_of_uses us)) content.handles))
       content.objects
-      → slots + objects + in_handles owns n (map (note_of us) content.handles) + lent table content rest entry us all
+      → slots + objects + in_handles owns n (map (note_in_run (puts_of_uses us)) content.handles) + lent table content rest entry us all
       once n
       ≡ owning_uses n us + owners table content n
   total_is n slots objects es eo =

@@ -80,7 +80,8 @@ use Rattle.ob_soundness_laws.proofs.calls.SlotLoans.{test_no_field, slots_lent, 
 use Rattle.ob_soundness_laws.proofs.calls.Stepping.{call_this_enters}
 use Rattle.ob_soundness_laws.proofs.calls.Untested.{awaits_result, result_plain}
 use Rattle.ob_soundness_laws.proofs.calls.Within.{are_all_within}
-use Rattle.ob_soundness_laws.proofs.on_this.This.{mode_shared, first_shared, held_says}
+use Rattle.ob_soundness_laws.proofs.on_this.This.{mode_shared, first_shared}
+use Rattle.ob_soundness_laws.proofs.places.Held.{held_says}
 
 some_is : {A : Type 0} (o : Option A) → IsSome o → (x : A) × (o ≡ Some x)
 some_is (Some x) h = (x, refl)

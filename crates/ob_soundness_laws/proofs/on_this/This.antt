@@ -1,20 +1,16 @@
 -- `this` is Shared where a call on it wants a Shared one, and its fields are as the call wants them.
-use Rattle.std.proofs.Common.{◌≡◌, ℕ, Bool, true, false, ◌&&◌, ◌||◌, List, [], ◌∷◌, Option, Some, None, refl, sym, ap, subst, ◌∙◌, ⊎_elim, true≢false}
+use Rattle.std.proofs.Common.{◌≡◌, Bool, true, false, ◌&&◌, ◌||◌, List, [], ◌∷◌, Option, Some, None, refl, sym, ap, subst, ◌∙◌, ⊎_elim, true≢false}
 use Rattle.std.specs.Prelude.{if◌then◌else◌}
 use Rattle.std.proofs.lemmas.Bool.{cases_Bool, both_ways, or_parts, or_right}
-use Rattle.ob_perm.specs.Permissions.{Permission, owned, shared, unowned, owns, matches, kept}
-use Rattle.ob_table.specs.declared.seen.Kind.{Kind}
-use Rattle.ob_silica_places.specs.Known.{Known, known, permission_of_type}
+use Rattle.ob_perm.specs.Permissions.{Permission, owned, shared, unowned, owns, kept}
+use Rattle.ob_silica_places.specs.Known.{Known, permission_of_type}
 use Rattle.ob_silica_places.specs.Places.{Location, same_location}
 use Rattle.ob_silica_places.specs.Parameters.{Parameter}
-use Rattle.ob_silica_steps.specs.Cells.{Cell}
-use Rattle.ob_flow_spec.specs.Contexts.{Context, now, with_permission, permission_on, permission_at, is_held_as}
+use Rattle.ob_flow_spec.specs.Contexts.{Context, now, with_permission, permission_on, permission_at}
 use Rattle.ob_flow_spec.specs.Joining.{same_mode}
 use Rattle.ob_flow_spec.specs.Uses.{Read, given_to}
 use Rattle.ob_flow_spec.specs.Binding.{wants_owner, is_among, is_given_owning, given_all}
 use Rattle.ob_flow_laws.specs.Binding.{EachOnceAfter, EachOnce}
-use Rattle.ob_places_laws.proofs.Serves.{allows_matched}
-use Rattle.ob_coherent_spec.specs.Saying.{SaysOf}
 use Rattle.ob_soundness_laws.proofs.places.Reading.{place_is, same_place}
 
 -- What is Shared.
@@ -96,23 +92,3 @@ first_shared g r rs p ps once wants y set =
     (none_after (λ l. is_given_owning l (r ∷ rs) (p ∷ ps)) (r ∷ []) rs ps r.location once.1
     (ap (λ b. b || false) (same_place r.location))
     (λ l given. or_right (same_location l r.location && wants_owner p) (is_given_owning l rs ps) given))
-
--- What is held.
-
--- a place that is held as this is said to be held so
-pub held_says : (N : ℕ → Type 0) (y : Option Known) (x : Option Cell) (w : Permission) (kind : Kind)
-    → ((z : Cell) → x ≡ Some z → z.note.kind ≡ kind) → is_held_as y w ≡ true → SaysOf N y x
-    → SaysOf N (Some (known kind w)) x
-held_says N None x w kind kinds held s = absurd (cc)
-held_says N (Some y) None w kind kinds held s = absurd s.known
-held_says N (Some y) (Some x) w kind kinds held s = record {
-  known = (kinds x refl, allows_matched y.permission x.note.permission w s.known.1 held);
-  owner = λ n needs has. owns_too y.permission w held (s.owner n needs has);
-}
-  where
-    owns_too : (p w : Permission) → matches p w ≡ true → owns p ≡ true → owns w ≡ true
-    owns_too (owned a) (owned b) e o = refl
-    owns_too (owned a) shared e o = absurd (cc)
-    owns_too (owned a) unowned e o = absurd (cc)
-    owns_too shared w e o = absurd (cc)
-    owns_too unowned w e o = absurd (cc)

@@ -2,11 +2,10 @@
 use Rattle.std.proofs.Common.{◌≡◌, ◌≢◌, ℕ, zero, suc, ◌+◌, ◌≤◌, ◌⊎◌, inl, inr, ⊎_elim, true, false, List, [], ◌∷◌, length, map, Option, Some, None, slice_get, refl, sym, ap, ◌∙◌, subst, arith}
 use Rattle.std.specs.Option.{option_map_or}
 use Rattle.std.proofs.lemmas.Bool.{both_ways, cases_Bool, cases_lt, and_from}
-use Rattle.ob_perm.specs.Permissions.{Permission, owned, shared, unowned, owns, matches}
+use Rattle.ob_perm.specs.Permissions.{Permission, owned, shared, unowned, owns}
 use Rattle.ob_perm.specs.Masks.{permission_of, states_of}
 use Rattle.ob_table.specs.Tables.{ClassTable, contract_at}
 use Rattle.ob_table.specs.declared.contract.Field.{Field}
-use Rattle.ob_table.specs.declared.seen.Kind.{Kind}
 use Rattle.ob_table_spec.specs.Conditions.{IsClassTable}
 use Rattle.ob_table_spec.specs.WellFormed.{kind_of_resolved}
 use Rattle.ob_heap_spec.specs.Objects.{is_available, state_number}
@@ -31,6 +30,7 @@ use Rattle.ob_coherent_spec.specs.Waiting.{has_lent, Lends, AllLend}
 use Rattle.ob_coherent_spec.specs.Coherent.{Beginning, LeavesSo, IsLeaving, LeavesWith, IsReturning, HasEnded}
 use Rattle.ob_soundness_laws.proofs.counting.Cells.{shared_none}
 use Rattle.ob_soundness_laws.proofs.places.Reading.{kind_in_run}
+use Rattle.ob_soundness_laws.proofs.places.Held.{held_says}
 use Rattle.ob_soundness_laws.proofs.remaining.Following.{owner_is_asset}
 use Rattle.ob_table.specs.declared.contract.Contract.{Contract}
 use Rattle.std.proofs.lemmas.List.{length-map}
@@ -44,24 +44,6 @@ ends_alone table entry beginning c k outer alone =
     record { last = c; leaving = k; outer = outer; alone = alone; gives = refl; world = refl }
 
 -- What is said of a place that is held in some way.
-
--- a place that is held as this is said to be held so
-pub held_says : (N : ℕ → Type 0) (y : Option Known) (x : Option Cell) (w : Permission) (kind : Kind)
-    → ((z : Cell) → x ≡ Some z → z.note.kind ≡ kind) → is_held_as y w ≡ true → SaysOf N y x
-    → SaysOf N (Some (known kind w)) x
-held_says N None x w kind kinds held s = absurd (cc)
-held_says N (Some y) None w kind kinds held s = absurd s.known
-held_says N (Some y) (Some x) w kind kinds held s = record {
-  known = (kinds x refl, allows_matched y.permission x.note.permission w s.known.1 held);
-  owner = λ n needs has. owns_too y.permission w held (s.owner n needs has);
-}
-  where
-    owns_too : (p w : Permission) → matches p w ≡ true → owns p ≡ true → owns w ≡ true
-    owns_too (owned a) (owned b) e o = refl
-    owns_too (owned a) shared e o = absurd (cc)
-    owns_too (owned a) unowned e o = absurd (cc)
-    owns_too shared w e o = absurd (cc)
-    owns_too unowned w e o = absurd (cc)
 
 -- its permission serves
 held_allows : (N : ℕ → Type 0) (y : Option Known) (x : Cell) (w : Permission) → is_held_as y w ≡ true → SaysOf N y

@@ -1,16 +1,14 @@
--- How a run from outside begins: coherently, or it aborts (Coblenz et al., TOPLAS 42(3), 2020, "Silica"; the
--- statements are
+-- How a run from outside begins: coherently, or it aborts (Coblenz et al., TOPLAS 42(3), 2020, "Silica"; the statements are
 -- this project's own).
-use Rattle.std.specs.Prelude.{◌≡◌, ℕ, List, ◌∷◌, Option, Some, None}
-use Rattle.ob_heap_spec.specs.Values.{Value, reference}
+use Rattle.std.specs.Prelude.{◌≡◌, ℕ, ◌∷◌, Some, None}
+use Rattle.ob_heap_spec.specs.Values.{reference}
 use Rattle.ob_heap_spec.specs.Contents.{Content}
-use Rattle.ob_heap_spec.specs.Worlds.{World}
-use Rattle.ob_silica_steps.specs.Configurations.{SilicaProgram, by_receiver, by_new, Notes, NextStep}
+use Rattle.ob_silica_steps.specs.Configurations.{SilicaProgram, by_receiver, by_new}
 use Rattle.ob_silica_steps.specs.Starting.{first_notes, started_call, started_new}
 use Rattle.ob_invocation_spec.specs.Entries.{HandleUse, Entry, values_of}
 use Rattle.ob_invocation_spec.specs.Entering.{entry_world}
 use Rattle.ob_coherent_spec.specs.Coherent.{Beginning, StepsSo}
-use Rattle.ob_soundness_laws.specs.beginning.Uses.{handle_notes, locked_at_entry}
+use Rattle.ob_soundness_laws.specs.Requests.{handles_in_run, entry_lock, beginning_of, started}
 
 -- with what the call of an object from outside begins
 abbrev pub call_beginning : Content → Entry → ℕ → Beginning
@@ -31,9 +29,9 @@ new_beginning content e =
 abbrev pub CallStarts : SilicaProgram → Content → ℕ → Entry → Type 0
 CallStarts program content fuel e =
     (u : HandleUse) × (e.receiver ≡ Some u)
-    × StepsSo program.table (locked_at_entry e.receiver) (call_beginning content e u.handle.object)
+    × StepsSo program.table (entry_lock e.receiver) (call_beginning content e u.handle.object)
     (started_call program e.contract e.tx u.handle.object (values_of content e)
-    (first_notes program.table content.objects (handle_notes content e)) (entry_world content fuel e))
+    (first_notes program.table content.objects (handles_in_run content e)) (entry_world content fuel e))
 
 -- a `new` has no receiver, and its run begins coherently, or aborts
 abbrev pub NewStarts : SilicaProgram → Content → ℕ → Entry → Type 0
@@ -41,36 +39,9 @@ NewStarts program content fuel e =
     (e.receiver ≡ None)
     × StepsSo program.table None (new_beginning content e)
     (started_new program e.contract (values_of content e)
-    (first_notes program.table content.objects (handle_notes content e)) (entry_world content fuel e))
-
--- with what a run from outside begins, with or without a receiver
-abbrev pub beginning_on : Entry → Option HandleUse → List Value → Beginning
-beginning_on e None values = record { contract = e.contract; tx = e.tx; how = by_new; from = 1; values = values }
-beginning_on e (Some u) values = record {
-  contract = e.contract;
-  tx = e.tx;
-  how = by_receiver;
-  from = 0;
-  values = reference u.handle.object ∷ values;
-}
-
--- with what the run of a request begins
-abbrev pub beginning_of : Content → Entry → Beginning
-beginning_of content e = beginning_on e e.receiver (values_of content e)
-
--- the start of a run with or without a receiver
-abbrev pub started_on : SilicaProgram → Entry → Option HandleUse → List Value → Notes → World → NextStep
-started_on program e None values notes w = started_new program e.contract values notes w
-started_on program e (Some u) values notes w = started_call program e.contract e.tx u.handle.object values notes w
-
--- the start of the run of a request with so many units
-abbrev pub started : SilicaProgram → Content → ℕ → Entry → NextStep
-started program content fuel e =
-    started_on program e e.receiver (values_of content e)
-    (first_notes program.table (entry_world content fuel e).objects (handle_notes content e))
-    (entry_world content fuel e)
+    (first_notes program.table content.objects (handles_in_run content e)) (entry_world content fuel e))
 
 -- the run of a request begins coherently, or it aborts
 abbrev pub RequestStarts : SilicaProgram → Content → ℕ → Entry → Type 0
 RequestStarts program content fuel e =
-    StepsSo program.table (locked_at_entry e.receiver) (beginning_of content e) (started program content fuel e)
+    StepsSo program.table (entry_lock e.receiver) (beginning_of content e) (started program content fuel e)

@@ -1,44 +1,23 @@
 -- What a request uses of handles, and what handles carry while its run lasts (Coblenz et al., TOPLAS 42(3), 2020,
 -- "Permissions"; the statements are this project's own).
-use Rattle.std.specs.Prelude.{◌≡◌, ℕ, ◌+◌, ◌<◌, ◌⊎◌, Bool, true, ◌&&◌, nat_eq, List, [], ◌∷◌, map, length, Option, Some, None, slice_get, ⊤, if◌then◌else◌}
+use Rattle.std.specs.Prelude.{◌≡◌, ℕ, ◌+◌, ◌<◌, ◌⊎◌, Bool, true, ◌&&◌, nat_eq, List, [], ◌∷◌, length, Option, Some, slice_get, ⊤}
 use Rattle.std.specs.Ordering.{eq_by_cmp}
-use Rattle.ob_perm.specs.States.{States}
-use Rattle.ob_perm.specs.Permissions.{unowned, owns}
-use Rattle.ob_perm.specs.Masks.{held, permission_of}
+use Rattle.ob_perm.specs.Permissions.{owns}
+use Rattle.ob_perm.specs.Masks.{permission_of}
 use Rattle.ob_table.specs.Tables.{ClassTable}
 use Rattle.ob_heap_spec.specs.Objects.{is_in_states}
 use Rattle.ob_heap_spec.specs.Contents.{Content, name_order}
-use Rattle.ob_silica_steps.specs.Configurations.{HandleNote}
 use Rattle.ob_rest_spec.specs.Modes.{is_owned, is_shared}
 use Rattle.ob_invocation_spec.specs.Handles.{NamedHandle, handle_at}
-use Rattle.ob_invocation_spec.specs.Entries.{HandleUse, Entry, handle_uses}
-use Rattle.ob_invocation_spec.specs.Entering.{is_locked_at_entry}
+use Rattle.ob_invocation_spec.specs.Entries.{HandleUse}
 use Rattle.ob_invocation_laws.specs.Laws.{is_put, puts_of_uses}
 use Rattle.ob_coherent_spec.specs.Counting.{nth_object, one_if}
 
 -- What handles carry.
 
--- all states
-abbrev pub any_state : States
-any_state = λ i. true
-
 -- whether a handle is lent while the run lasts: another one is put under its name once the run has ended
 abbrev pub is_lent : List HandleUse → NamedHandle → Bool
 is_lent us h = is_put (puts_of_uses us) h.0
-
--- what a handle carries while the run lasts: one that is lent carries nothing, and each other what it's held as
-abbrev pub note_of : List HandleUse → NamedHandle → HandleNote
-note_of us h =
-    record { object = h.1.object; permission = if is_lent us h then unowned else held h.1.mode any_state }
-
--- what the handles of a store carry while the run lasts that a request enters
-abbrev pub handle_notes : Content → Entry → List HandleNote
-handle_notes content e = map (note_of (handle_uses content e)) content.handles
-
--- the object that is locked for the whole call, if one is
-abbrev pub locked_at_entry : Option HandleUse → Option ℕ
-locked_at_entry None = None
-locked_at_entry (Some u) = if is_locked_at_entry u then Some u.handle.object else None
 
 -- How often an object is used.
 
@@ -57,8 +36,7 @@ abbrev pub uses_of : ℕ → List HandleUse → ℕ
 uses_of n [] = 0
 uses_of n (u ∷ us) = one_if (nat_eq u.handle.object n) + uses_of n us
 
--- A use of a handle of the store whose mode serves, or which is Shared and calls where its object is locked; the
--- object of an
+-- A use of a handle of the store whose mode serves, or which is Shared and calls where its object is locked; the object of an
 -- owner is in one of the declared states.
 pub record IsUse (table : ClassTable) (content : Content) (entry : Option ℕ) (u : HandleUse) : Type 0 where
   pub there : u.handle.object < length content.objects

@@ -1,34 +1,29 @@
 use Rattle.std.proofs.lemmas.Result.{err_from_is_err_and}
-use Rattle.ob_front.proofs.ProgramsLaws.{terms_told, conditions_met, numbered_slice, slice_told, slice_derives}
-use Rattle.ob_front.proofs.CompiledLaws.{accepted_texts_are_compiled_lem, compiled_is_sound}
+use Rattle.ob_front.proofs.CompiledLaws.{slice_in_order, slice_program, slice_too_heavy, slice_image, slice_verified, slice_sound_code, checked_texts_are_compiled, compiled_is_sound}
 use Rattle.ob_front.proofs.programs.compile.Goals as goal
 
-pub check_bodies-requires-clause-table : goal.check_bodies-requires-clause-table
-check_bodies-requires-clause-table c = conditions_met _ _ _ c.in_ok-program.ensures.terms
+pub emit-requires : goal.emit-requires
+emit-requires c = slice_in_order _ _ _ _ c.in_ok-program.ensures.checked c.as_slice.ensures
 
-pub check_bodies-requires-clause-states : goal.check_bodies-requires-clause-states
-check_bodies-requires-clause-states c = numbered_slice _ _ _ _ c.in_ok-program.ensures.terms c.as_slice.ensures
+pub verified-requires : goal.verified-requires
+verified-requires c = slice_verified _ _ _ _ c.in_ok-program.ensures.checked c.as_slice.ensures _ c.in_ok-image.ensures.image
 
-pub returns-in_err-check_bodies-clause-fault : goal.returns-in_err-check_bodies-clause-fault
-returns-in_err-check_bodies-clause-fault c =
-    let failed = err_from_is_err_and c.from_residual-in_err-check_bodies.result c.from_residual-in_err-check_bodies.ensures.1 in
-    rw (failed.1, failed.2) (slice_told _ _ _ _ _ c.in_ok-program.ensures.terms c.as_slice.ensures c.in_err-check_bodies.ensures.fault)
-
-pub returns-in_err-program-clause-fault : goal.returns-in_err-program-clause-fault
-returns-in_err-program-clause-fault c =
-    let failed = err_from_is_err_and c.from_residual.result c.from_residual.ensures.1 in
-    rw (failed.1, failed.2) (terms_told _ _ c.in_err-program.ensures.fault)
+pub returns-in_err-image-clause-fault : goal.returns-in_err-image-clause-fault
+returns-in_err-image-clause-fault c =
+    let failed = err_from_is_err_and c.from_residual-in_err-image.result c.from_residual-in_err-image.ensures.1 in
+    rw (failed.1, failed.2) (slice_too_heavy _ _ _ _ c.in_ok-program.ensures.checked c.as_slice.ensures _ c.in_err-image.ensures.fault)
 
 pub returns-clause-program : goal.returns-clause-program
-returns-clause-program c = slice_derives _ _ _ _ c.in_ok-program.ensures.terms c.as_slice.ensures c.in_ok-check_bodies.ensures.derive
+returns-clause-program c = slice_program _ _ _ _ c.in_ok-program.ensures.checked c.as_slice.ensures c.in_ok-image.ensures.light
 
 pub returns-clause-compiled : goal.returns-clause-compiled
-returns-clause-compiled c =
-    accepted_texts_are_compiled_lem _ _ _
-    (slice_derives _ _ _ _ c.in_ok-program.ensures.terms c.as_slice.ensures c.in_ok-check_bodies.ensures.derive)
+returns-clause-compiled c = checked_texts_are_compiled _ _ _ c.in_ok-program.ensures.checked
 
 pub returns-clause-sound : goal.returns-clause-sound
-returns-clause-sound c =
-    compiled_is_sound _ _
-    (accepted_texts_are_compiled_lem _ _ _
-    (slice_derives _ _ _ _ c.in_ok-program.ensures.terms c.as_slice.ensures c.in_ok-check_bodies.ensures.derive))
+returns-clause-sound c = compiled_is_sound _ _ (checked_texts_are_compiled _ _ _ c.in_ok-program.ensures.checked)
+
+pub returns-clause-code : goal.returns-clause-code
+returns-clause-code c = rw c.in_ok-code.ensures.kept (slice_image _ _ _ _ c.in_ok-program.ensures.checked c.as_slice.ensures _ c.in_ok-image.ensures.image)
+
+pub returns-clause-sound_code : goal.returns-clause-sound_code
+returns-clause-sound_code c = rw c.in_ok-code.ensures.kept (slice_sound_code _ _ _ _ c.in_ok-program.ensures.checked c.as_slice.ensures _ c.in_ok-image.ensures.image)

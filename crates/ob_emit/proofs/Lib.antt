@@ -1,0 +1,9 @@
+pub mod KindsLemmas
+pub mod CodeLemmas
+pub mod TermsLemmas
+pub mod ScratchLemmas
+pub mod NamesLemmas
+pub mod BodiesLemmas
+pub mod Placed
+pub mod WeightLemmas
+pub mod ImagesLemmas

@@ -1,0 +1,22 @@
+use Rattle.ob_emit.specs.Kinds.{kinds_of}
+use Rattle.ob_emit.proofs.TermsLemmas.{ends_turn, kinds_turn, code_turn, kinds_done}
+use Rattle.ob_emit.proofs.terms.+emit.Goals as goal
+
+pub emit_terms-loop-term-preserved : goal.emit_terms-loop-term-preserved
+emit_terms-loop-term-preserved t c =
+    let l = c.loop-term in
+    let r = c.in_ok-last.ensures in
+    record {
+      ends = ends_turn c.args.terms.now l.term-index c.term-item.result l.ends c.in_ok-last.last c.either-ends.result
+          c.loop-term-test.true c.term-item.is r.ends c.either-ends.ensures l.invariant.ends;
+      kinds = kinds_turn c.args.frame.now.static c.args.terms.now l.term-index c.term-item.result (kinds_of l.kinds.slots)
+          (kinds_of c.emit_form.new.kinds.slots) _ c.loop-term-test.true c.term-item.is r.kinds l.invariant.kinds;
+      code = code_turn c.args.frame.now c.args.terms.now l.term-index c.term-item.result (kinds_of l.kinds.slots)
+          (kinds_of c.emit_form.new.kinds.slots) l.out c.emit_form.new.out _ c.loop-term-test.true c.term-item.is r.kinds r.code
+          l.invariant.code;
+    }
+
+pub emit_terms-returns-clause-kinds : goal.emit_terms-returns-clause-kinds
+emit_terms-returns-clause-kinds t c =
+    kinds_done c.args.frame.now.static c.args.terms.now c.loop-term.term-index (kinds_of c.loop-term.kinds.slots) _
+    c.loop-term-test.false c.loop-term.invariant.kinds

@@ -1,0 +1,82 @@
+-- The code of terms as it is made: what there is so far is handed on, and the targets of jumps ahead are written back.
+use Rattle.std.specs.Prelude.{ℕ, Bool, true, false, not, List, [], ◌∷◌, ◌++◌, length, slice_set, if◌then◌else◌}
+use Rattle.ob_base.specs.declared.id.StateId.{StateId}
+use Rattle.ob_silica.specs.Terms.{SilicaForm, test_form, if_form, SilicaTerms, no_terms, and_term}
+use Rattle.ob_silica.specs.declared.place.Operand.{Operand}
+use Rattle.ob_silica_formed.specs.Holdings.{kind_of_operand, terms_end}
+use Rattle.ob_code.specs.declared.instruction.Instruction.{Instruction}
+use Rattle.ob_code.specs.declared.instruction.Instruction.TheVariants as instruction
+use Rattle.ob_emit_spec.specs.Operands.{slot_read, loads}
+use Rattle.ob_emit_spec.specs.Emission.{EmissionFrame, contract_referred, jump_if, form_code}
+use Rattle.ob_emit.specs.Kinds.{Kinds, holding, kinds_after_form}
+use Rattle.ob_emit.specs.declared.code.Choice.{Choice}
+use Rattle.ob_emit.specs.declared.code.Choice.TheVariants as choice
+
+-- the object of a place is marked as disowned
+abbrev pub disown_code : ℕ → Operand → List Instruction
+disown_code scratch o = loads scratch 0 (o ∷ []) ++ instruction.Disown (slot_read scratch 0 o.place) ∷ []
+
+-- a run is undone, with the text of a place
+abbrev pub revert_code : ℕ → Operand → List Instruction
+revert_code scratch o = loads scratch 0 (o ∷ []) ++ instruction.Revert (slot_read scratch 0 o.place) ∷ []
+
+-- the instruction of a choice with its target
+abbrev pub chooses : Choice → ℕ → Instruction
+chooses (choice.Value a) target = instruction.Unless a target
+chooses (choice.State a contract state) target = instruction.Test a contract state target
+
+-- whether a branch ends with a jump over the other one, by whether the branch ends
+abbrev pub jumps_over_terms : Bool → SilicaTerms → Bool
+jumps_over_terms ends no_terms = false
+jumps_over_terms ends (and_term form span rest) = not ends
+
+-- the test of a branch ends where its end is reached
+abbrev pub test_ended : Bool → List Instruction
+test_ended ends = if ends then [] else instruction.EndTest ∷ []
+
+-- Between two branches: the jump over the other one, if there is one, and the target of the choice, whose place this is.
+abbrev pub between : Choice → Bool → ℕ → List Instruction → List Instruction
+between c jumps start code = slice_set (code ++ jump_if jumps 0) start (chooses c (length (code ++ jump_if jumps 0)))
+
+-- after both branches: the target of the jump over the other one, if there is one, whose place this is
+abbrev pub landed : Bool → ℕ → List Instruction → List Instruction
+landed true place code = slice_set code place (instruction.Jump (length code))
+landed false place code = code
+
+-- a choice after its operand is loaded, from what its branches make of the code before them
+abbrev pub choice_made : Choice → Bool → (List Instruction → List Instruction) → (List Instruction → List Instruction)
+    → List Instruction → List Instruction
+choice_made c jumps branch other code =
+    landed jumps (length (branch (code ++ chooses c 0 ∷ [])))
+    (other (between c jumps (length code) (branch (code ++ chooses c 0 ∷ []))))
+
+-- the operand of a choice is loaded
+abbrev pub with_operand : EmissionFrame → Operand → List Instruction → List Instruction
+with_operand f o code = code ++ loads f.scratch 0 (o ∷ [])
+
+-- the choice by a truth value
+abbrev pub choice_of_value : EmissionFrame → Operand → Choice
+choice_of_value f o = choice.Value (slot_read f.scratch 0 o.place)
+
+-- the choice by the state of an object
+abbrev pub choice_of_state : EmissionFrame → Kinds → Operand → StateId → Choice
+choice_of_state f kinds o state =
+    choice.State (slot_read f.scratch 0 o.place) (contract_referred (kind_of_operand f.static (holding kinds) o)) state
+
+abbrev mutual
+  -- the code after a form, where slots hold values of these kinds
+  pub form_made : EmissionFrame → Kinds → SilicaForm → List Instruction → List Instruction
+  form_made f kinds (test_form o state branch other join) code =
+      choice_made (choice_of_state f kinds o state) (jumps_over_terms (terms_end branch) other)
+      (λ x. terms_made f kinds branch x ++ test_ended (terms_end branch)) (λ x. terms_made f kinds other x)
+      (with_operand f o code)
+  form_made f kinds (if_form o branch other join) code =
+      choice_made (choice_of_value f o) (jumps_over_terms (terms_end branch) other)
+      (λ x. terms_made f kinds branch x) (λ x. terms_made f kinds other x) (with_operand f o code)
+  form_made f kinds form code = code ++ form_code f (holding kinds) form (length code)
+
+  -- the code after terms
+  pub terms_made : EmissionFrame → Kinds → SilicaTerms → List Instruction → List Instruction
+  terms_made f kinds no_terms code = code
+  terms_made f kinds (and_term form span rest) code =
+      terms_made f (kinds_after_form f.static form kinds) rest (form_made f kinds form code)

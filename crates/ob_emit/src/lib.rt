@@ -1,0 +1,16 @@
+//! Emission: from the terms of bodies to an image of instructions, with the targets of jumps ahead written back.
+#![tactic(auto)]
+
+mod bodies;
+mod code;
+mod declarations;
+mod emission;
+mod forms;
+mod frame;
+mod kinds;
+mod operands;
+mod scratch;
+mod terms;
+mod weigh;
+
+pub use emission::{EmitError, emit};

@@ -1,0 +1,6 @@
+pub mod Tables
+pub mod Unnamed
+pub mod Entries
+pub mod Invoking
+pub mod Ahead
+pub mod Whole

@@ -1,0 +1,4 @@
+pub mod Operands
+pub mod Emission
+pub mod EmittedImages
+pub mod Weights

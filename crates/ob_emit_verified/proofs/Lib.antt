@@ -1,0 +1,16 @@
+pub mod Flows
+pub mod Choices
+pub mod Faultless
+pub mod Saying
+pub mod Operands
+pub mod Marks
+pub mod Straight
+pub mod Calls
+pub mod Branches
+pub mod Terms
+pub mod Images
+pub mod Answering
+pub mod Bodies
+pub mod Programs
+pub mod Scratch
+pub mod Sizes

@@ -1,0 +1,153 @@
+//! The first step of a run: it enters its body.
+ghost use Rattle.std.specs.Prelude.{◌≡◌, ◌++◌, List, Some, map};
+ghost use Rattle.ob_heap.specs.Overlays.{Changes};
+ghost use Rattle.ob_heap.specs.Plain.{value_of};
+ghost use Rattle.ob_heap.specs.declared.object.Object.{Object};
+ghost use Rattle.ob_machine_steps.specs.Slots.{first_slots};
+ghost use Rattle.ob_machine_steps.specs.Calling.{calls_object, makes_object};
+ghost use Rattle.ob_machine_steps.specs.Entries.{starting, next_step, nobody};
+ghost use Rattle.ob_machine.specs.Giving.{Gives};
+ghost use Rattle.ob_machine.specs.Phases.{entry_of, enters_body};
+ghost use Rattle.ob_machine.specs.Shown.{shown, told, slots_of, entered_of, world_of, Tells};
+
+use crate::beginning::{is_shared_in, pad, push};
+use crate::entry::Entry;
+use crate::frame::{EnteredBy, Frame};
+use crate::heap::{find, make, note};
+use crate::lookups::{body_at, callee};
+use crate::off::Off;
+use crate::progress::{Cause, Progress};
+use crate::run::Run;
+use ob_base::{ContractId, Duplicate, Items, ObjectId, TxId};
+use ob_code::{Image, NO_RESULT};
+use ob_heap::{Content, Overlay, Value};
+use std::alloc::Global;
+
+fn gather_values(
+    alloc: Global,
+    args: &[Value],
+    out: Items<Option<Value>>,
+) -> Result<Items<Option<Value>>, Off>
+    ensures { Gives result (Some (slots_of out ++ map (λ v. Some v) (map value_of args.now))) slots_of }
+{
+    let mut gathered = out;
+    for value in args {
+        push(&mut gathered, Some(value.copy(alloc)?))?;
+    }
+    Ok(gathered)
+}
+
+// The slots with which a body begins, with these values as its arguments.
+fn first_of(
+    alloc: Global,
+    count: u8,
+    this: ObjectId,
+    args: &[Value],
+) -> Result<Items<Option<Value>>, Off>
+    ensures { Gives result (Some (first_slots count this.0 (map value_of args.now))) slots_of }
+{
+    let mut first = Items::from_vec(Vec::with_capacity(alloc, count as usize)?);
+    push(&mut first, Some(Value::Object(this)))?;
+    let given = gather_values(alloc, args, first)?;
+    pad(count, given)
+}
+
+impl Run {
+    // The body of an entry begins on an object.
+    fn enters_body(
+        &mut self,
+        code: &Image,
+        contract: ContractId,
+        tx: TxId,
+        this: ObjectId,
+        entered: EnteredBy,
+        args: &[Value],
+    ) -> Result<Progress, Off>
+        ensures { (base : List Object) (o : Changes) → Gives result (enters_body code.now (contract, tx) this.0 (entered_of entered) (map value_of args.now) (world_of self.old base o)) (told (shown self.new base o)) }
+    {
+        let body = body_at(code, contract, tx)?;
+        let slots = first_of(self.alloc, body.slots, this, args)?;
+        let share_entered = is_shared_in(entered, body, false);
+        let tests = Items::new(self.alloc);
+        self.top = Frame {
+            this,
+            contract,
+            tx,
+            at: 0,
+            slots,
+            entered,
+            share_entered,
+            tests,
+            into: NO_RESULT,
+        };
+        self.below = Items::new(self.alloc);
+        Ok(Progress::Going)
+    }
+
+    fn enters_object(
+        &mut self,
+        code: &Image,
+        base: &Content,
+        overlay: &mut Overlay,
+        id: ObjectId,
+        entry: &Entry,
+    ) -> Result<Progress, Off>
+        ensures { Tells result (calls_object code.now nobody entry.now.contract entry.now.tx id.0 (map value_of entry.now.args) (world_of self.old base.now.objects overlay.old)) (shown self.new base.now.objects overlay.new) }
+    {
+        note(base, overlay, id)?;
+        if !self.guard.enter(id)? {
+            return Ok(Progress::Aborted(Cause::Reentry(id)));
+        }
+        let object = find(base, overlay, id)?;
+        let answer = callee(code, entry.contract, entry.tx, object)?;
+        self.enters_body(
+            code,
+            answer.0,
+            answer.1,
+            id,
+            EnteredBy::Receiver,
+            entry.args.as_slice(),
+        )
+    }
+
+    fn enters_new(
+        &mut self,
+        code: &Image,
+        base: &Content,
+        overlay: &mut Overlay,
+        entry: &Entry,
+    ) -> Result<Progress, Off>
+        ensures { Tells result (makes_object code.now nobody entry.now.contract (Some entry.now.tx) (map value_of entry.now.args) (world_of self.old base.now.objects overlay.old)) (shown self.new base.now.objects overlay.new) }
+    {
+        match make(self.alloc, base, overlay, entry.contract)? {
+            Some(id) => self.enters_body(
+                code,
+                entry.contract,
+                entry.tx,
+                id,
+                EnteredBy::New,
+                entry.args.as_slice(),
+            ),
+            None => Ok(Progress::Aborted(Cause::Full)),
+        }
+    }
+
+    // Takes the unit of the entry, and enters its body.
+    pub fn begin(
+        &mut self,
+        code: &Image,
+        base: &Content,
+        overlay: &mut Overlay,
+        entry: &Entry,
+    ) -> Result<Progress, Off>
+        ensures { Tells result (next_step code.now (starting (entry_of entry.now) (world_of self.old base.now.objects overlay.old))) (shown self.new base.now.objects overlay.new) }
+    {
+        if !self.units.take() {
+            return Ok(Progress::Aborted(Cause::Fuel));
+        }
+        match entry.receiver {
+            Some(id) => self.enters_object(code, base, overlay, id, entry),
+            None => self.enters_new(code, base, overlay, entry),
+        }
+    }
+}

@@ -1,0 +1,73 @@
+//! The slots of a frame.
+ghost use Rattle.std.specs.Prelude.{◌≡◌, Some, option_map};
+ghost use Rattle.ob_heap.specs.Plain.{value_of};
+ghost use Rattle.ob_machine_steps.specs.Slots.{value_at, truth_at, text_at, reference_at, values_at, with_value_at, first_slots};
+ghost use Rattle.ob_machine.specs.Giving.{Gives};
+ghost use Rattle.ob_machine.specs.Shown.{slots_of, number_of};
+
+use crate::off::Off;
+use ob_base::{Duplicate, Items, ObjectId};
+use ob_heap::{RcStr, Value};
+use std::alloc::Global;
+
+// The value of a slot.
+#[tactic(auto, using(crate::proofs::SlotsLemmas::slot_lemmas))]
+pub fn value(slots: &Items<Option<Value>>, slot: u8) -> Result<&Value, Off>
+    ensures { Gives result (value_at (slots_of slots.now) slot) (λ v. value_of v.now) }
+{
+    match slots.get(slot as usize) {
+        Some(Some(value)) => Ok(value),
+        _ => Err(Off::NoStep),
+    }
+}
+
+// Sets a slot.
+#[tactic(auto, using(crate::proofs::SlotsLemmas::slot_lemmas))]
+pub fn put(slots: &mut Items<Option<Value>>, slot: u8, value: Value) -> Result<(), Off>
+    ensures { Gives result (with_value_at (slots_of slots.old) slot (value_of value)) (λ _. slots_of slots.new) }
+{
+    if (slot as usize) < slots.len() {
+        slots.set(slot as usize, Some(value));
+        Ok(())
+    } else {
+        Err(Off::NoStep)
+    }
+}
+
+// A copy of the value of a slot.
+pub fn copy_of(alloc: Global, slots: &Items<Option<Value>>, slot: u8) -> Result<Value, Off>
+    ensures { Gives result (value_at (slots_of slots.now) slot) value_of }
+{
+    let value = value(slots, slot)?;
+    Ok(value.copy(alloc)?)
+}
+
+// The truth value in a slot.
+pub fn truth(slots: &Items<Option<Value>>, slot: u8) -> Result<bool, Off>
+    ensures { Gives result (truth_at (slots_of slots.now) slot) (λ b. b) }
+{
+    match value(slots, slot)? {
+        Value::Bool(truth) => Ok(*truth),
+        _ => Err(Off::NoStep),
+    }
+}
+
+// The object to which a slot refers.
+pub fn reference(slots: &Items<Option<Value>>, slot: u8) -> Result<ObjectId, Off>
+    ensures { Gives result (reference_at (slots_of slots.now) slot) number_of }
+{
+    match value(slots, slot)? {
+        Value::Object(id) => Ok(*id),
+        _ => Err(Off::NoStep),
+    }
+}
+
+// The text in a slot.
+pub fn text(alloc: Global, slots: &Items<Option<Value>>, slot: u8) -> Result<RcStr, Off>
+    ensures { Gives result (text_at (slots_of slots.now) slot) (λ t. t) }
+{
+    match value(slots, slot)? {
+        Value::Text(text) => Ok(text.copy(alloc)?),
+        _ => Err(Off::NoStep),
+    }
+}

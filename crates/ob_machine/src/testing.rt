@@ -1,0 +1,130 @@
+//! Instructions that test the state of an object, and that end a test.
+ghost use Rattle.std.specs.Prelude.{◌≡◌, ◌+◌, false, List, option_map, OnOk};
+ghost use Rattle.ob_heap.specs.Overlays.{Changes};
+ghost use Rattle.ob_heap.specs.declared.object.Object.{Object};
+ghost use Rattle.ob_heap_spec.specs.Objects.{Object as PlainObject};
+ghost use Rattle.ob_machine_steps.specs.Testing.{branches, tests_this, tests_other, test_step, end_test_step};
+ghost use Rattle.ob_machine.specs.Giving.{Gives};
+ghost use Rattle.ob_machine.specs.Guarding.{locked_by, holds_lock};
+ghost use Rattle.ob_machine.specs.Shown.{shown, told, number_of, Tells};
+
+use crate::heap::{find, note};
+use crate::lookups::is_in_state;
+use crate::off::Off;
+use crate::progress::{Cause, Progress};
+use crate::returning::release;
+use crate::run::Run;
+use crate::slots::reference;
+use crate::waiting::{pop_test, push_test};
+use ob_base::{ContractId, Memory, ObjectId, StateId};
+use ob_code::Image;
+use ob_guard::Guard;
+use ob_heap::{Content, Overlay};
+
+// The lock of a test, if it takes one: of an object that isn't locked.
+fn take_lock(guard: &mut Guard, lock: Option<ObjectId>) -> Result<(), Memory>
+    requires { holds_lock (option_map number_of lock) guard.old ≡ false }
+    ensures { OnOk result (guard.new ≡ locked_by (option_map number_of lock) guard.old) }
+{
+    if let Some(id) = lock {
+        let _taken = guard.lock(id)?;
+    }
+    Ok(())
+}
+
+impl Run {
+    // Where a test holds it is noted, with the lock that it takes; else the run goes to the target.
+    fn branches(
+        &mut self,
+        lock: Option<ObjectId>,
+        target: usize,
+        next: usize,
+        holds: bool,
+    ) -> Result<Progress, Off>
+        requires next { next ≡ self.old.top.at + 1 }
+        requires unlocked { holds_lock (option_map number_of lock) self.old.guard ≡ false }
+        ensures { (base : List Object) (o : Changes) → Gives result (branches (option_map number_of lock) target (shown self.old base o) holds) (told (shown self.new base o)) }
+    {
+        if !holds {
+            return Ok(self.goes_on(target));
+        }
+        take_lock(&mut self.guard, lock)?;
+        push_test(&mut self.top.tests, lock)?;
+        Ok(self.goes_on(next))
+    }
+
+    fn tests_this(
+        &mut self,
+        id: ObjectId,
+        target: usize,
+        next: usize,
+        holds: bool,
+    ) -> Result<Progress, Off>
+        requires { next ≡ self.old.top.at + 1 }
+        ensures { (base : List Object) (o : Changes) → Gives result (tests_this id.0 target (shown self.old base o) holds) (told (shown self.new base o)) }
+    {
+        if self.is_locked_out(id) {
+            return Ok(Progress::Aborted(Cause::State(id, None)));
+        }
+        self.branches(None, target, next, holds)
+    }
+
+    fn tests_other(
+        &mut self,
+        id: ObjectId,
+        shared: bool,
+        target: usize,
+        next: usize,
+        holds: bool,
+    ) -> Result<Progress, Off>
+        requires { next ≡ self.old.top.at + 1 }
+        ensures { (base : List Object) (o : Changes) (x : PlainObject) → x.shared ≡ shared → Gives result (tests_other id.0 x target (shown self.old base o) holds) (told (shown self.new base o)) }
+    {
+        if !shared {
+            return self.branches(None, target, next, holds);
+        }
+        if !self.guard.may_change(id) || self.guard.busy(id) {
+            return Ok(Progress::Aborted(Cause::State(id, None)));
+        }
+        self.branches(Some(id), target, next, holds)
+    }
+
+    pub fn test(
+        &mut self,
+        code: &Image,
+        base: &Content,
+        overlay: &mut Overlay,
+        a: u8,
+        contract: ContractId,
+        state: StateId,
+        target: usize,
+        next: usize,
+    ) -> Result<Progress, Off>
+        requires { next ≡ self.old.top.at + 1 }
+        ensures { Tells result (test_step code.now a contract state target (shown self.old base.now.objects overlay.old)) (shown self.new base.now.objects overlay.new) }
+    {
+        let id = reference(&self.top.slots, a)?;
+        let object = find(base, overlay, id)?;
+        let holds = is_in_state(code, contract, state, object);
+        let shared = object.shared;
+        note(base, overlay, id)?;
+        if a == 0 {
+            self.tests_this(id, target, next, holds)
+        } else {
+            self.tests_other(id, shared, target, next, holds)
+        }
+    }
+
+    pub fn end_test(&mut self, next: usize) -> Result<Progress, Off>
+        requires { next ≡ self.old.top.at + 1 }
+        ensures { (base : List Object) (o : Changes) → Gives result (end_test_step (shown self.old base o)) (told (shown self.new base o)) }
+    {
+        match pop_test(&mut self.top.tests) {
+            None => Err(Off::NoStep),
+            Some(lock) => {
+                release(&mut self.guard, lock);
+                Ok(self.goes_on(next))
+            }
+        }
+    }
+}

@@ -1,0 +1,57 @@
+//! Units of fuel.
+ghost use Rattle.std.specs.Prelude.{◌≡◌, ◌-◌, ◌≤◌, nat_lt};
+ghost use Rattle.ob_machine.specs.Units.{Metered, IsTaken};
+
+use std::marker::Model;
+
+/// The units of a run. Contracts see how many are left, and how many were taken.
+#[derive(Drop)]
+pub struct Units {
+    given: u32,
+    left: u32,
+}
+
+impl Model for Units {
+    ghost use Rattle.std.specs.Prelude.{◌-◌, ◌≤◌};
+    ghost use Rattle.ob_machine.specs.Units.{Metered};
+
+    ghost Value = { Metered };
+
+    ghost view = { λ u. record { fuel = u.left; taken = u.given - u.left } };
+
+    ghost invariant = { λ u. u.left ≤ u.given };
+}
+
+impl Units {
+    /// So many units, none of which is taken.
+    pub fn new(given: u32) -> Units
+        ensures { result ≡ record { fuel = given; taken = 0 } }
+    {
+        Units { given, left: given }
+    }
+
+    /// Takes a unit, if one is left: else the answer is false, and nothing changes.
+    pub fn take(&mut self) -> bool
+        ensures { IsTaken result self.old self.new }
+    {
+        if self.left == 0 {
+            return false;
+        }
+        self.left -= 1;
+        true
+    }
+
+    /// Whether a unit is left.
+    pub fn has_unit(&self) -> bool
+        ensures { result ≡ nat_lt 0 self.now.fuel }
+    {
+        0 < self.left
+    }
+
+    /// How many units were taken.
+    pub fn taken(&self) -> u32
+        ensures { result ≡ self.now.taken }
+    {
+        self.given - self.left
+    }
+}

@@ -1,0 +1,6 @@
+pub mod Marks
+pub mod Meanings
+pub mod Running
+pub mod Sound
+pub mod Emittable
+pub mod Whole
