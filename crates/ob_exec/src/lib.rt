@@ -1,9 +1,2 @@
-//! The answer to one line.
+//! The answer to a request.
 #![tactic(auto)]
-
-mod answering;
-mod find;
-mod store;
-
-pub use answering::{FUEL, answer, changes_nothing, refused};
-pub use store::{Store, StoredHandle};

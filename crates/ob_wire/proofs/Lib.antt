@@ -1,3 +1,3 @@
-pub mod ReplyTexts
 pub mod ReadingLemmas
 pub mod RequestLaws
+pub mod ReplyTexts

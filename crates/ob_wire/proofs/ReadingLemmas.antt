@@ -1,21 +1,29 @@
--- Keys and numbers, one after another.
-use Rattle.std.proofs.Common.{◌≡◌, ℕ, ◌+◌, ◌<◌, ℤ, Bool, true, false, ◌&&◌, List, [], ◌∷◌, ◌++◌, length, map, drop, get_or, Option, Some, None, refl, sym, ◌∙◌, ap, append_assoc}
-use Rattle.std.specs.Prelude.{String, string_bytes}
+-- What the members of a map say of the object, and one argument after another.
+use Rattle.std.proofs.Common.{◌≡◌, ℕ, suc, ◌+◌, ◌<◌, ◌==◌, Bool, true, false, ◌&&◌, List, [], ◌∷◌, ◌++◌, length, map, drop, get_or, Option, Some, None, refl, sym, ◌∙◌, ap, append_assoc, arith}
+use Rattle.std.specs.Prelude.{String, string_bytes, codes, Result, Ok, Err, if◌then◌else◌, nat_le}
 use Rattle.std.specs.declared.alloc.Global.{Global}
 use Rattle.std.specs.List.{list_any, list_all}
-use Rattle.std.specs.Prelude.{Result}
+use Rattle.std.proofs.Common.{Ordering, Less, Equal, Greater, cond}
+use Rattle.std.specs.Ordering.{is_eq, nat_cmp, match_ordering}
+use Rattle.std.specs.Cmp.Lexicographic.{slice_cmp}
 use Rattle.std.specs.Str.{IsUtf8, is_utf8, bytes_eq}
 use Rattle.std.proofs.lemmas.Str.{is_utf8-from_IsUtf8, IsUtf8-from_is_utf8}
+use Rattle.std.proofs.lemmas.Bool.Decides.{nat_tests}
 use Rattle.std.proofs.lemmas.List.{drop_more}
-use Rattle.serde_json.specs.Data.{Data, Members}
-use Rattle.serde_json.specs.Find.{as_object}
-use Rattle.serde_json.specs.View.{view, members_view, items_view}
+use Rattle.std.proofs.lemmas.Slice.Eq.{bytes_eq-Decides}
+use Rattle.std.proofs.lemmas.Map.Text.{is_eq-slice_cmp}
+use Rattle.serde_json.specs.Data.{Data, object, Members, no_members, member}
+use Rattle.serde_json.specs.Find.{get_member, as_str, as_object}
+use Rattle.serde_json.specs.View.{view, members_of, members_view, items_view}
 use Rattle.serde_json.specs.declared.value.Value.{Value}
-use Rattle.serde_json.specs.Read.{read}
-use Rattle.ob_wire.specs.declared.request.Request.{Request}
-use Rattle.ob_wire.specs.declared.reading.WireError.{WireError}
+use Rattle.ob_base.specs.Names.{is_label}
+use Rattle.ob_base.specs.Limits.{longest_name}
 use Rattle.ob_base.specs.Optional.{◌>>=◌}
-use Rattle.ob_wire.specs.Reading.{only_keys, has_only, whole, all_whole, request_in, request_of, Answers}
+use Rattle.ob_base.proofs.OptionalLemmas.{by_cases, both_true}
+use Rattle.ob_wire.specs.Requests.{argument_of, arguments_of, handle_named, handle_argument}
+use Rattle.ob_wire.specs.Reading.{only_keys, has_only, is_one, has_one, ref_in}
+use Rattle.ob_wire.specs.declared.request.Arg.{Arg}
+use Rattle.ob_wire.specs.declared.request.Arg.TheVariants as arg
 
 only_keys-members : (row : List (List ℕ)) (es : List (String Global × Value)) → list_all (λ key. list_any (bytes_eq (string_bytes key)) row) (map (λ e. e.0) es) ≡ only_keys row (members_view es)
 only_keys-members row [] = refl
@@ -25,38 +33,47 @@ only_keys-members row (e ∷ es) = ap (λ (b : Bool). list_any (bytes_eq (string
 pub has_only-members : (row : List (List ℕ)) (value : Data) (es : List (String Global × Value)) → Some (members_view es) ≡ as_object value → list_all (λ key. list_any (bytes_eq (string_bytes key)) row) (map (λ e. e.0) es) ≡ has_only row value
 has_only-members row value es is = only_keys-members row es ∙ ap (λ (o : Option Members). elim o as (λ _. Bool) [ None ↦ false | Some members ↦ only_keys row members ]) is
 
--- what was read before, and what is still to be read
-abbrev pub with_front : List ℤ → Option (List ℤ) → Option (List ℤ)
-with_front front rest = rest >>= λ zs. Some (front ++ zs)
+many : (n : ℕ) → (suc (suc n) == 1) ≡ false
+many n = grind (arith, nat_tests)
 
-with_front-whole : (front : List ℤ) (value : Data) (z : ℤ) (rest : Option (List ℤ)) → whole value ≡ Some z → with_front front (whole value >>= λ z. rest >>= λ zs. Some (z ∷ zs)) ≡ with_front (front ++ z ∷ []) rest
-with_front-whole front value z None is = rw is refl
-with_front-whole front value z (Some zs) is = rw is (ap Some (sym (append_assoc front (z ∷ []) zs)))
+is_one-members : (es : List (String Global × Value)) → (length es == 1) ≡ is_one (members_view es)
+is_one-members [] = refl
+is_one-members (e ∷ []) = refl
+is_one-members (e ∷ f ∷ es) = many (length es)
 
--- one more number
-pub reads_on : (front : List ℤ) (values : List Value) (i : ℕ) (v : Value) (z : ℤ) (all : Option (List ℤ)) → i < length values → v ≡ get_or values i v → whole (view v) ≡ Some z
-    → with_front front (all_whole (items_view (drop i values))) ≡ all → with_front (front ++ z ∷ []) (all_whole (items_view (drop (i + 1) values))) ≡ all
-reads_on front values i v z all lt at is so_far =
+-- whether an object has one member, by its map
+pub has_one-members : (value : Data) (es : List (String Global × Value)) → Some (members_view es) ≡ as_object value → (length es == 1) ≡ has_one value
+has_one-members value es is = is_one-members es ∙ ap (λ (o : Option Members). elim o as (λ _. Bool) [ None ↦ false | Some members ↦ is_one members ]) is
+
+-- one more argument
+pub reads_on : (front : List Arg) (values : List Value) (i : ℕ) (v : Value) (all : List Arg) → i < length values → v ≡ get_or values i v
+    → front ++ arguments_of (items_view (drop i values)) ≡ all → (front ++ argument_of (view v) ∷ []) ++ arguments_of (items_view (drop (i + 1) values)) ≡ all
+reads_on front values i v all lt at so_far =
     let one : drop i values ≡ v ∷ drop (i + 1) values = drop_more values i v lt ∙ ap (λ (x : Value). x ∷ drop (i + 1) values) (sym at) in
-    sym (ap (λ (vs : List Value). with_front front (all_whole (items_view vs))) one ∙ with_front-whole front (view v) z (all_whole (items_view (drop (i + 1) values))) is) ∙ so_far
+    append_assoc front (argument_of (view v) ∷ []) (arguments_of (items_view (drop (i + 1) values)))
+    ∙ sym (ap (λ (vs : List Value). front ++ arguments_of (items_view vs)) one) ∙ so_far
 
-with_front-none : (front : List ℤ) (value : Data) (rest : Option (List ℤ)) → whole value ≡ None → with_front front (whole value >>= λ z. rest >>= λ zs. Some (z ∷ zs)) ≡ None
-with_front-none front value rest is = rw is refl
+by_order : {A : Type 0} (o : Ordering) (a b : A) → match_ordering o a b a ≡ cond (is_eq o) b a
+by_order Less a b = refl
+by_order Equal a b = refl
+by_order Greater a b = refl
 
--- what isn't a whole number
-pub stops_at : (front : List ℤ) (values : List Value) (i : ℕ) (v : Value) (all : Option (List ℤ)) → i < length values → v ≡ get_or values i v → whole (view v) ≡ None
-    → with_front front (all_whole (items_view (drop i values))) ≡ all → all ≡ None
-stops_at front values i v all lt at is so_far =
-    let one : drop i values ≡ v ∷ drop (i + 1) values = drop_more values i v lt ∙ ap (λ (x : Value). x ∷ drop (i + 1) values) (sym at) in
-    sym so_far ∙ ap (λ (vs : List Value). with_front front (all_whole (items_view vs))) one ∙ with_front-none front (view v) (all_whole (items_view (drop (i + 1) values))) is
+-- a member at a key, by whether the first has this key
+pub get_member-more : (key l : List ℕ) (value : Data) (ms : Members) → get_member key (member l value ms) ≡ cond (bytes_eq key l) (Some value) (get_member key ms)
+get_member-more key l value ms = by_order (slice_cmp nat_cmp key l) (get_member key ms) (Some value) ∙ ap (λ (b : Bool). cond b (Some value) (get_member key ms)) (is_eq-slice_cmp key l)
 
-pub gives_read : (line : List ℕ) (value : Data) (r : Result Request WireError) → IsUtf8 line → read line ≡ Some value → Answers (λ request. request) r (request_in value) → Answers (λ request. request) r (request_of line)
-gives_read line value r utf8 is h = rw (is_utf8-from_IsUtf8 line utf8, is) h
+named_by : (b : Bool) (value : Data) → handle_named (cond b (Some value) None >>= as_str) ≡ if b then handle_named (as_str value) else arg.Other
+named_by true value = refl
+named_by false value = refl
 
-none_by : (line : List ℕ) (b : Bool) → is_utf8 line ≡ b → (IsUtf8 line → read line ≡ None) → request_of line ≡ None
-none_by line true is none = rw (is, none (IsUtf8-from_is_utf8 line is)) refl
-none_by line false is none = rw is refl
+-- the handle that an object is, by the string at `ref` where that is its one member
+pub handle_argument-is : (ms : Members) → handle_named (ref_in (object ms)) ≡ handle_argument ms
+handle_argument-is no_members = refl
+handle_argument-is (member key value no_members) =
+    ap (λ (o : Option Data). handle_named (o >>= as_str)) (get_member-more (codes "ref") key value no_members)
+    ∙ named_by (bytes_eq (codes "ref") key) value
+handle_argument-is (member key value (member l other ms)) = refl
 
--- what is no JSON
-pub reads_none : (line : List ℕ) → (IsUtf8 line → read line ≡ None) → request_of line ≡ None
-reads_none line none = none_by line (is_utf8 line) refl none
+-- a label is UTF-8
+pub label_is_utf8 : (bytes : List ℕ) → is_label bytes ≡ true → IsUtf8 bytes
+label_is_utf8 bytes is = IsUtf8-from_is_utf8 bytes (both_true (nat_le 1 (length bytes) && nat_le (length bytes) longest_name) (is_utf8 bytes) is).1

@@ -1,87 +1,155 @@
 -- What a line asks: a relation between its JSON value (RFC 8259) and a request.
-use Rattle.std.specs.Prelude.{ℕ, ◌≡◌, ℤ, pos, ◌≤ℤ◌, List, [], ◌∷◌, Some, is_some, option_and_then, codes, IsTrue}
+use Rattle.std.specs.Prelude.{ℕ, ◌≡◌, ℤ, pos, ◌≤ℤ◌, List, [], ◌∷◌, Option, Some, None, is_some, option_and_then, codes, IsTrue, if◌then◌else◌}
 use Rattle.std.specs.List.{list_any}
 use Rattle.std.specs.Str.{IsUtf8, bytes_eq}
-use Rattle.serde_json.specs.Data.{Data, string, array, object, Items, no_items, item, Members}
-use Rattle.serde_json.specs.Find.{get, as_number, as_i64}
+use Rattle.serde_json.specs.Data.{Data, null, boolean, number, string, array, object, Items, no_items, item, Members, no_members, member}
+use Rattle.serde_json.specs.Find.{get, as_number, as_i64, as_str}
 use Rattle.serde_json.specs.Read.{read}
-use Rattle.ob_base.specs.Names.{is_label}
+use Rattle.ob_base.specs.Names.{is_label, is_text}
+use Rattle.ob_base.specs.declared.permission.Mode.{Mode}
+use Rattle.ob_base.specs.declared.permission.Mode.TheVariants.{Owned, Shared, Unowned}
+use Rattle.ob_wire.specs.declared.reading.Row.{Row}
+use Rattle.ob_wire.specs.declared.reading.Row.TheVariants as row
+use Rattle.ob_wire.specs.declared.request.Arg.{Arg}
+use Rattle.ob_wire.specs.declared.request.Arg.TheVariants as arg
 use Rattle.ob_wire.specs.declared.request.Request.{Request}
 use Rattle.ob_wire.specs.declared.request.Op.{Op}
-use Rattle.ob_wire.specs.declared.request.Op.TheVariants.{New, Call}
+use Rattle.ob_wire.specs.declared.request.Op.TheVariants.{New, Call, Disown, Give, See, Owner}
 
--- The value is an object with exactly these keys.
-pub record HasKeys (keys : List (List ℕ)) (value : Data) : Type 0 where
+-- the keys that a request of a row may have, in the order of their bytes
+abbrev pub keys_of : Row → List (List ℕ)
+keys_of row.New = codes "args" ∷ codes "contract" ∷ codes "id" ∷ codes "into" ∷ codes "op" ∷ codes "who" ∷ []
+keys_of row.Call = codes "args" ∷ codes "id" ∷ codes "into" ∷ codes "on" ∷ codes "op" ∷ codes "tx" ∷ codes "who" ∷ []
+keys_of row.Give = codes "as" ∷ codes "id" ∷ codes "into" ∷ codes "on" ∷ codes "op" ∷ codes "to" ∷ codes "who" ∷ []
+keys_of row.Handle = codes "id" ∷ codes "on" ∷ codes "op" ∷ codes "who" ∷ []
+
+-- the row of what is asked
+abbrev pub row_of : Op → Row
+row_of (New contract args into) = row.New
+row_of (Call on tx args into) = row.Call
+row_of (Give on to into mode) = row.Give
+row_of (Disown on) = row.Handle
+row_of (See on) = row.Handle
+row_of (Owner on) = row.Handle
+
+-- the word for what is asked
+abbrev pub word_of : Op → List ℕ
+word_of (New contract args into) = codes "new"
+word_of (Call on tx args into) = codes "call"
+word_of (Give on to into mode) = codes "give"
+word_of (Disown on) = codes "disown"
+word_of (See on) = codes "see"
+word_of (Owner on) = codes "owner"
+
+-- the word for a mode
+abbrev pub word_of_mode : Mode → List ℕ
+word_of_mode Owned = codes "owned"
+word_of_mode Shared = codes "shared"
+word_of_mode Unowned = codes "unowned"
+
+-- The value is an object with no keys but these.
+pub record HasOnly (keys : List (List ℕ)) (value : Data) : Type 0 where
   pub members : Members
   pub is : value ≡ object members
-  pub exactly : (key : List ℕ) → is_some (get key value) ≡ list_any (bytes_eq key) keys
+  pub only : (key : List ℕ) → IsTrue (is_some (get key value)) → IsTrue (list_any (bytes_eq key) keys)
 
 -- A string of 1 to 64 bytes stands at this key.
 pub record LabelAt (key : List ℕ) (value : Data) (label : List ℕ) : Type 0 where
   pub is : get key value ≡ Some (string label)
   pub fits : IsTrue (is_label label)
 
--- The value is a whole number of 64 bits.
-abbrev pub IsWhole : Data → ℤ → Type 0
-IsWhole value z = option_and_then as_i64 (as_number value) ≡ Some z
+-- The string of 1 to 64 bytes that stands at this key, or none where the key is absent.
+abbrev pub LabelIfAt : List ℕ → Data → Option (List ℕ) → Type 0
+LabelIfAt key value None = get key value ≡ None
+LabelIfAt key value (Some label) = LabelAt key value label
+
+-- the whole number of 64 bits that a value is
+abbrev pub whole : Data → Option ℤ
+whole value = option_and_then as_i64 (as_number value)
 
 -- A whole number from 0 stands at the key `id`.
 pub record IdAt (value : Data) (id : ℤ) : Type 0 where
   pub found : Data
   pub is : get (codes "id") value ≡ Some found
-  pub whole : IsWhole found id
+  pub whole : whole found ≡ Some id
   pub from_zero : pos 0 ≤ℤ id
 
--- The items are these whole numbers.
-abbrev pub AreWhole : Items → List ℤ → Type 0
-AreWhole no_items [] = Unit {0}
-AreWhole no_items (z ∷ zs) = ⊥
-AreWhole (item value items) [] = ⊥
-AreWhole (item value items) (z ∷ zs) = IsWhole value z × AreWhole items zs
+-- a number as an argument: a whole one of 64 bits, or one of no kind
+abbrev pub number_argument : Option ℤ → Arg
+number_argument None = arg.Other
+number_argument (Some z) = arg.Int z
 
--- An array of whole numbers stands at the key `args`.
-pub record ArgsAt (value : Data) (args : List ℤ) : Type 0 where
-  pub items : Items
-  pub is : get (codes "args") value ≡ Some (array items)
-  pub whole : AreWhole items args
+-- a string as an argument: a text of at most 1,024 bytes, or one of no kind
+abbrev pub text_argument : List ℕ → Arg
+text_argument text = if is_text text then arg.Text text else arg.Other
 
--- the keys of a `new`, in the order of their bytes
-abbrev pub keys_of_new : List (List ℕ)
-keys_of_new = codes "contract" ∷ codes "id" ∷ codes "into" ∷ codes "op" ∷ codes "who" ∷ []
+-- a name as an argument: a handle where it is a string of 1 to 64 bytes, or one of no kind
+abbrev pub handle_named : Option (List ℕ) → Arg
+handle_named None = arg.Other
+handle_named (Some name) = if is_label name then arg.Handle name else arg.Other
 
--- the keys of a `call`, in the order of their bytes
-abbrev pub keys_of_call : List (List ℕ)
-keys_of_call = codes "args" ∷ codes "id" ∷ codes "on" ∷ codes "op" ∷ codes "tx" ∷ codes "who" ∷ []
+-- an object as an argument: that of the name in `{"ref":name}`, or one of no kind
+abbrev pub handle_argument : Members → Arg
+handle_argument (member key value no_members) = if bytes_eq (codes "ref") key then handle_named (as_str value) else arg.Other
+handle_argument _ = arg.Other
 
--- The value asks for a new object of this contract under this name.
-pub record AsksNew (value : Data) (contract into : List ℕ) : Type 0 where
-  pub keys : HasKeys keys_of_new value
-  pub op : get (codes "op") value ≡ Some (string (codes "new"))
-  pub contract_label : LabelAt (codes "contract") value contract
-  pub into_at : LabelAt (codes "into") value into
+-- the argument that a value is
+abbrev pub argument_of : Data → Arg
+argument_of null = arg.Other
+argument_of (boolean b) = arg.Bool b
+argument_of (number n) = number_argument (as_i64 n)
+argument_of (string text) = text_argument text
+argument_of (array items) = arg.Other
+argument_of (object members) = handle_argument members
 
--- The value asks to run this transaction on this handle with these arguments.
-pub record AsksCall (value : Data) (on tx : List ℕ) (args : List ℤ) : Type 0 where
-  pub keys : HasKeys keys_of_call value
-  pub op : get (codes "op") value ≡ Some (string (codes "call"))
-  pub on_at : LabelAt (codes "on") value on
-  pub tx_at : LabelAt (codes "tx") value tx
-  pub args_at : ArgsAt value args
+-- the arguments that the items of an array are, in their order
+abbrev pub arguments_of : Items → List Arg
+arguments_of no_items = []
+arguments_of (item value items) = argument_of value ∷ arguments_of items
 
--- The value asks for this.
-abbrev pub AsksOp : Data → Op → Type 0
-AsksOp value (New contract into) = AsksNew value contract into
-AsksOp value (Call on tx args) = AsksCall value on tx args
+-- What stands at `args` is an array of these arguments; where the key is absent there are none.
+abbrev pub AreArgs : Option Data → List Arg → Type 0
+AreArgs None args = args ≡ []
+AreArgs (Some value) args = (items : Items) × (value ≡ array items) × (args ≡ arguments_of items)
+
+-- The word for this mode stands at the key `as`.
+abbrev pub ModeAt : Data → Mode → Type 0
+ModeAt value mode = get (codes "as") value ≡ Some (string (word_of_mode mode))
+
+-- What is asked stands at its keys.
+abbrev pub HasParts : Data → Op → Type 0
+HasParts value (New contract args into) =
+    LabelAt (codes "contract") value contract × AreArgs (get (codes "args") value) args × LabelIfAt (codes "into") value into
+HasParts value (Call on tx args into) =
+    LabelAt (codes "on") value on × LabelAt (codes "tx") value tx × AreArgs (get (codes "args") value) args
+    × LabelIfAt (codes "into") value into
+HasParts value (Give on to into mode) =
+    LabelAt (codes "on") value on × LabelAt (codes "to") value to × LabelAt (codes "into") value into × ModeAt value mode
+HasParts value (Disown on) = LabelAt (codes "on") value on
+HasParts value (See on) = LabelAt (codes "on") value on
+HasParts value (Owner on) = LabelAt (codes "on") value on
 
 -- A value asks this.
 pub record IsRequest (value : Data) (request : Request) : Type 0 where
+  pub keys : HasOnly (keys_of (row_of request.op)) value
   pub id : IdAt value request.id
   pub who : LabelAt (codes "who") value request.who
-  pub op : AsksOp value request.op
+  pub op : get (codes "op") value ≡ Some (string (word_of request.op))
+  pub parts : HasParts value request.op
 
--- A line is the JSON text of a value that asks this.
-pub record Asks (line : List ℕ) (request : Request) : Type 0 where
-  pub value : Data
+-- A line is the JSON text of this value.
+pub record IsJson (line : List ℕ) (value : Data) : Type 0 where
   pub utf8 : IsUtf8 line
   pub json : read line ≡ Some value
-  pub is : IsRequest value request
+
+-- A line is the JSON text of a value that asks this.
+abbrev pub Asks : List ℕ → Request → Type 0
+Asks line request = (value : Data) × IsJson line value × IsRequest value request
+
+-- A line is no JSON text.
+abbrev pub IsNoJson : List ℕ → Type 0
+IsNoJson line = (value : Data) → ¬ (IsJson line value)
+
+-- A line is the JSON text of a value that asks nothing.
+abbrev pub AsksNothing : List ℕ → Type 0
+AsksNothing line = (value : Data) × IsJson line value × ((request : Request) → ¬ (IsRequest value request))

@@ -1,25 +1,30 @@
 //! The request of a line.
-ghost use Rattle.std.specs.Prelude.{◌≡◌, ℕ, List, IfOk, IsErrOf};
+ghost use Rattle.std.specs.Prelude.{◌≡◌, ℕ, List, Some, option_copied, is_some, IfOk, IsErrOf};
 ghost use Rattle.std.specs.List.{list_any, list_all};
 ghost use Rattle.std.specs.BTreeMap.{keys};
 ghost use Rattle.std.specs.String.{string_bytes};
 ghost use Rattle.std.specs.Str.{bytes_eq};
-ghost use Rattle.serde_json.specs.View.{view, items_view};
-ghost use Rattle.ob_wire.specs.Requests.{keys_of_new, keys_of_call, Asks};
-ghost use Rattle.ob_wire.specs.Reading.{has_only, label_at, id_at, args_at, all_whole, new_in, call_in, op_in, request_in, request_of, Answers};
+ghost use Rattle.serde_json.specs.Data.{Data};
+ghost use Rattle.serde_json.specs.View.{view, items_view, number_view};
+ghost use Rattle.serde_json.specs.Find.{as_i64};
+ghost use Rattle.ob_wire.specs.Requests.{keys_of, number_argument, text_argument, handle_named, argument_of, arguments_of, Asks, AsksNothing, IsNoJson, IsRequest};
+ghost use Rattle.ob_wire.specs.Reading.{has_only, has_one, ref_in, label_at, label_if_at, id_at, args_at, mode_named, mode_at, new_in, call_in, give_in, on_in, op_in, request_in, Answers, Reads};
 
-use crate::{Op, Request};
-use ob_base::{Items, Label, NameError};
-use serde_json::{Map, Value};
+use crate::{Arg, Op, Request};
+use ob_base::{Items, Label, Memory, Mode, NameError, Text};
+use serde_json::{Map, Number, Value};
 use std::alloc::{AllocError, Global};
 use thiserror::Error;
 
 /// Why a line has no request.
 #[derive(Clone, Copy, PartialEq, Eq, Debug, Error)]
 pub enum WireError {
-    /// It is no JSON, or its value is no request.
+    /// It is no JSON.
+    #[error("no JSON")]
+    Json,
+    /// It is JSON, but no request.
     #[error("no request")]
-    NoRequest,
+    Shape,
     /// Memory ran out.
     #[error("out of memory")]
     Memory,
@@ -36,6 +41,17 @@ impl From<AllocError> for WireError {
     }
 }
 
+impl From<Memory> for WireError {
+    ghost use Rattle.std.specs.Prelude.{◌≡◌};
+    ghost use Rattle.ob_wire.specs.declared.reading.WireError.TheVariants.{Memory};
+
+    ghost from_gives = { λ _ e. e ≡ Memory };
+
+    fn from(_: Memory) -> WireError {
+        WireError::Memory
+    }
+}
+
 impl From<NameError> for WireError {
     ghost use Rattle.std.specs.Prelude.{◌≡◌};
     ghost use Rattle.ob_wire.specs.Errors.{wire_error};
@@ -44,134 +60,266 @@ impl From<NameError> for WireError {
 
     fn from(error: NameError) -> WireError {
         match error {
-            NameError::Bad => WireError::NoRequest,
+            NameError::Bad => WireError::Shape,
             NameError::Memory => WireError::Memory,
         }
     }
 }
 
-fn is_key_of_new(key: &str) -> bool
-    ensures { result ≡ list_any (bytes_eq key.now) keys_of_new }
-{
-    matches!(key, "contract" | "id" | "into" | "op" | "who")
+// The forms of a request, by the keys that it may have.
+#[derive(Clone, Copy, PartialEq, Eq, Debug)]
+enum Row {
+    // A `new`.
+    New,
+    // A `call`.
+    Call,
+    // A `give`.
+    Give,
+    // A request that names a handle and has nothing else to say.
+    Handle,
 }
 
-fn is_key_of_call(key: &str) -> bool
-    ensures { result ≡ list_any (bytes_eq key.now) keys_of_call }
+fn is_key(row: Row, key: &str) -> bool
+    ensures { result ≡ list_any (bytes_eq key.now) (keys_of row) }
 {
-    matches!(key, "args" | "id" | "on" | "op" | "tx" | "who")
-}
-
-fn are_keys_of_new(members: &Map<String, Value>) -> bool
-    ensures { result ≡ list_all (λ key. list_any (bytes_eq (string_bytes key)) keys_of_new) (keys members.now) }
-{
-    members.keys().all(|key| is_key_of_new(key.as_str()))
-}
-
-fn are_keys_of_call(members: &Map<String, Value>) -> bool
-    ensures { result ≡ list_all (λ key. list_any (bytes_eq (string_bytes key)) keys_of_call) (keys members.now) }
-{
-    members.keys().all(|key| is_key_of_call(key.as_str()))
-}
-
-// Whether the value is an object with no key that a `new` doesn't have.
-fn has_keys_of_new(value: &Value) -> bool
-    ensures { result ≡ has_only keys_of_new (view value.now) }
-{
-    match value.as_object() {
-        Some(members) => are_keys_of_new(members),
-        None => false,
+    match row {
+        Row::New => matches!(key, "args" | "contract" | "id" | "into" | "op" | "who"),
+        Row::Call => matches!(key, "args" | "id" | "into" | "on" | "op" | "tx" | "who"),
+        Row::Give => matches!(key, "as" | "id" | "into" | "on" | "op" | "to" | "who"),
+        Row::Handle => matches!(key, "id" | "on" | "op" | "who"),
     }
 }
 
-// Whether the value is an object with no key that a `call` doesn't have.
-fn has_keys_of_call(value: &Value) -> bool
-    ensures { result ≡ has_only keys_of_call (view value.now) }
+fn are_keys(row: Row, members: &Map<String, Value>) -> bool
+    ensures { result ≡ list_all (λ key. list_any (bytes_eq (string_bytes key)) (keys_of row)) (keys members.now) }
+{
+    members.keys().all(|key| is_key(row, key.as_str()))
+}
+
+// Whether the value is an object with no keys but those of the row.
+fn has_only(row: Row, value: &Value) -> bool
+    ensures { result ≡ has_only (keys_of row) (view value.now) }
 {
     match value.as_object() {
-        Some(members) => are_keys_of_call(members),
+        Some(members) => are_keys(row, members),
         None => false,
     }
 }
 
 // The string of 1 to 64 bytes at a key.
 fn label_at(alloc: Global, value: &Value, key: &str) -> Result<Label, WireError>
-    ensures { Answers (λ label. label) result (label_at key.now (view value.now)) }
+    ensures { Answers result (label_at key.now (view value.now)) }
 {
     let Some(text) = value.get(key).and_then(Value::as_str) else {
-        return Err(WireError::NoRequest);
+        return Err(WireError::Shape);
     };
     Ok(Label::of(alloc, text.as_bytes())?)
 }
 
+// The string of 1 to 64 bytes at a key that may be absent.
+fn label_if_at(alloc: Global, value: &Value, key: &str) -> Result<Option<Label>, WireError>
+    ensures { Answers result (label_if_at key.now (view value.now)) }
+{
+    if value.get(key).is_none() {
+        return Ok(None);
+    }
+    let label = label_at(alloc, value, key)?;
+    Ok(Some(label))
+}
+
 // The whole number from 0 at the key `id`.
 fn id_at(value: &Value) -> Result<i64, WireError>
-    ensures { Answers (λ id. id) result (id_at (view value.now)) }
+    ensures { Answers result (id_at (view value.now)) }
 {
     match value.get("id").and_then(Value::as_i64) {
         Some(id) if id >= 0 => Ok(id),
-        _ => Err(WireError::NoRequest),
+        _ => Err(WireError::Shape),
     }
 }
 
-fn all_whole(alloc: Global, values: &[Value]) -> Result<Items<i64>, WireError>
-    ensures { Answers (λ numbers. numbers) result (all_whole (items_view values.now)) }
+fn number_argument(number: &Number) -> Arg
+    ensures { result ≡ number_argument (as_i64 (number_view number.now)) }
 {
-    let mut numbers = Items::new(alloc);
-    for value in values {
-        let Some(number) = value.as_i64() else {
-            return Err(WireError::NoRequest);
-        };
-        numbers.push(number)?;
+    match number.as_i64() {
+        Some(number) => Arg::Int(number),
+        None => Arg::Other,
     }
-    Ok(numbers)
 }
 
-// The array of whole numbers at the key `args`.
-fn args_at(alloc: Global, value: &Value) -> Result<Items<i64>, WireError>
-    ensures { Answers (λ args. args) result (args_at (view value.now)) }
+fn text_argument(alloc: Global, text: &str) -> Result<Arg, Memory>
+    ensures { IfOk result (λ arg. arg ≡ text_argument text.now) }
 {
-    let Some(values) = value.get("args").and_then(Value::as_array) else {
-        return Err(WireError::NoRequest);
+    match Text::of(alloc, text.as_bytes()) {
+        Ok(text) => Ok(Arg::Text(text)),
+        Err(NameError::Bad) => Ok(Arg::Other),
+        Err(NameError::Memory) => Err(Memory),
+    }
+}
+
+// Whether the value is an object with one member.
+fn has_one(value: &Value) -> bool
+    ensures { result ≡ has_one (view value.now) }
+{
+    match value.as_object() {
+        Some(members) => members.len() == 1,
+        None => false,
+    }
+}
+
+// The string in `{"ref":name}`.
+fn ref_in(value: &Value) -> Option<&str>
+    ensures { option_copied result ≡ ref_in (view value.now) }
+{
+    if !has_one(value) {
+        return None;
+    }
+    value.get("ref").and_then(Value::as_str)
+}
+
+fn handle_argument(alloc: Global, value: &Value) -> Result<Arg, Memory>
+    ensures { IfOk result (λ arg. arg ≡ handle_named (ref_in (view value.now))) }
+{
+    let Some(name) = ref_in(value) else {
+        return Ok(Arg::Other);
     };
-    all_whole(alloc, values)
+    match Label::of(alloc, name.as_bytes()) {
+        Ok(name) => Ok(Arg::Handle(name)),
+        Err(NameError::Bad) => Ok(Arg::Other),
+        Err(NameError::Memory) => Err(Memory),
+    }
+}
+
+fn argument(alloc: Global, value: &Value) -> Result<Arg, Memory>
+    ensures { IfOk result (λ arg. arg ≡ argument_of (view value.now)) }
+{
+    match value {
+        Value::Bool(truth) => Ok(Arg::Bool(*truth)),
+        Value::Number(number) => Ok(number_argument(number)),
+        Value::String(text) => text_argument(alloc, text.as_str()),
+        Value::Object(_) => handle_argument(alloc, value),
+        Value::Null | Value::Array(_) => Ok(Arg::Other),
+    }
+}
+
+fn arguments(alloc: Global, values: &[Value]) -> Result<Items<Arg>, Memory>
+    ensures { IfOk result (λ args. args ≡ arguments_of (items_view values.now)) }
+{
+    let mut args = Items::new(alloc);
+    for value in values {
+        args.push(argument(alloc, value)?)?;
+    }
+    Ok(args)
+}
+
+// The arguments at the key `args`, which may be absent.
+fn args_at(alloc: Global, value: &Value) -> Result<Items<Arg>, WireError>
+    ensures { Answers result (args_at (view value.now)) }
+{
+    let Some(found) = value.get("args") else {
+        return Ok(Items::new(alloc));
+    };
+    let Some(values) = found.as_array() else {
+        return Err(WireError::Shape);
+    };
+    let args = arguments(alloc, values)?;
+    Ok(args)
+}
+
+fn mode_named(word: &str) -> Option<Mode>
+    ensures { result ≡ mode_named word.now }
+{
+    match word {
+        "owned" => Some(Mode::Owned),
+        "shared" => Some(Mode::Shared),
+        "unowned" => Some(Mode::Unowned),
+        _ => None,
+    }
+}
+
+// The mode at the key `as`.
+fn mode_at(value: &Value) -> Result<Mode, WireError>
+    ensures { Answers result (mode_at (view value.now)) }
+{
+    let Some(word) = value.get("as").and_then(Value::as_str) else {
+        return Err(WireError::Shape);
+    };
+    mode_named(word).ok_or(WireError::Shape)
 }
 
 fn new_in(alloc: Global, value: &Value) -> Result<Op, WireError>
-    ensures { Answers (λ op. op) result (new_in (view value.now)) }
+    ensures { Answers result (new_in (view value.now)) }
 {
-    if !has_keys_of_new(value) {
-        return Err(WireError::NoRequest);
+    if !has_only(Row::New, value) {
+        return Err(WireError::Shape);
     }
     let contract = label_at(alloc, value, "contract")?;
-    let into = label_at(alloc, value, "into")?;
-    Ok(Op::New { contract, into })
+    let args = args_at(alloc, value)?;
+    let into = label_if_at(alloc, value, "into")?;
+    Ok(Op::New {
+        contract,
+        args,
+        into,
+    })
 }
 
 fn call_in(alloc: Global, value: &Value) -> Result<Op, WireError>
-    ensures { Answers (λ op. op) result (call_in (view value.now)) }
+    ensures { Answers result (call_in (view value.now)) }
 {
-    if !has_keys_of_call(value) {
-        return Err(WireError::NoRequest);
+    if !has_only(Row::Call, value) {
+        return Err(WireError::Shape);
     }
     let on = label_at(alloc, value, "on")?;
     let tx = label_at(alloc, value, "tx")?;
     let args = args_at(alloc, value)?;
-    Ok(Op::Call { on, tx, args })
+    let into = label_if_at(alloc, value, "into")?;
+    Ok(Op::Call { on, tx, args, into })
+}
+
+fn give_in(alloc: Global, value: &Value) -> Result<Op, WireError>
+    ensures { Answers result (give_in (view value.now)) }
+{
+    if !has_only(Row::Give, value) {
+        return Err(WireError::Shape);
+    }
+    let on = label_at(alloc, value, "on")?;
+    let to = label_at(alloc, value, "to")?;
+    let into = label_at(alloc, value, "into")?;
+    let mode = mode_at(value)?;
+    Ok(Op::Give { on, to, into, mode })
+}
+
+// The handle of a request that has nothing else to say.
+fn on_in(alloc: Global, value: &Value) -> Result<Label, WireError>
+    ensures { Answers result (on_in (view value.now)) }
+{
+    if !has_only(Row::Handle, value) {
+        return Err(WireError::Shape);
+    }
+    label_at(alloc, value, "on")
 }
 
 fn op_in(alloc: Global, value: &Value) -> Result<Op, WireError>
-    ensures { Answers (λ op. op) result (op_in (view value.now)) }
+    ensures { Answers result (op_in (view value.now)) }
 {
     match value.get("op").and_then(Value::as_str) {
         Some("new") => new_in(alloc, value),
         Some("call") => call_in(alloc, value),
-        _ => Err(WireError::NoRequest),
+        Some("give") => give_in(alloc, value),
+        Some("disown") => Ok(Op::Disown {
+            on: on_in(alloc, value)?,
+        }),
+        Some("see") => Ok(Op::See {
+            on: on_in(alloc, value)?,
+        }),
+        Some("owner") => Ok(Op::Owner {
+            on: on_in(alloc, value)?,
+        }),
+        _ => Err(WireError::Shape),
     }
 }
 
 fn request_in(alloc: Global, value: &Value) -> Result<Request, WireError>
-    ensures { Answers (λ request. request) result (request_in (view value.now)) }
+    ensures { Answers result (request_in (view value.now)) }
 {
     let id = id_at(value)?;
     let who = label_at(alloc, value, "who")?;
@@ -180,7 +328,7 @@ fn request_in(alloc: Global, value: &Value) -> Result<Request, WireError>
 }
 
 fn find_request(alloc: Global, line: &[u8]) -> Result<Request, WireError>
-    ensures { Answers (λ request. request) result (request_of line.now) }
+    ensures { Reads result line.now }
 {
     match Value::from_slice(alloc, line) {
         Ok(value) => request_in(alloc, &value),
@@ -188,7 +336,7 @@ fn find_request(alloc: Global, line: &[u8]) -> Result<Request, WireError>
             if error.is_memory() {
                 return Err(WireError::Memory);
             }
-            Err(WireError::NoRequest)
+            Err(WireError::Json)
         }
     }
 }
@@ -196,14 +344,15 @@ fn find_request(alloc: Global, line: &[u8]) -> Result<Request, WireError>
 /// The request that a line asks.
 pub fn read_request(alloc: Global, line: &[u8]) -> Result<Request, WireError>
     ensures asked { IfOk result (λ request. Asks line.now request) }
-    ensures none { IsErrOf result WireError.NoRequest → (request : Request) → ¬ (Asks line.now request) }
-    ensures worked_out { Answers (λ request. request) result (request_of line.now) }
+    ensures no_json { IsErrOf result WireError.Json → IsNoJson line.now }
+    ensures no_request { IsErrOf result WireError.Shape → AsksNothing line.now }
 {
     find_request(alloc, line)
 }
 
-/// A law: what is worked out of a line is what the line asks, so a line asks one request at most.
+/// Laws: what a value asks can be worked out of it, and a line asks one request at most.
 pub fn requests_are_asked()
-    ensures asked { (line : List ℕ) (request : Request) → request_of line ≡ Some request → Asks line request }
-    ensures found { (line : List ℕ) (request : Request) → Asks line request → request_of line ≡ Some request }
+    ensures worked_out { (value : Data) (request : Request) → request_in value ≡ Some request → IsRequest value request }
+    ensures found { (value : Data) (request : Request) → IsRequest value request → request_in value ≡ Some request }
+    ensures one { (line : List ℕ) (first second : Request) → Asks line first → Asks line second → first ≡ second }
 {}

@@ -1,14 +1,14 @@
 //! What a request is answered with.
-ghost use Rattle.std.specs.Prelude.{◌≡◌, IfOk, IfErr};
-ghost use Rattle.serde_json.specs.View.{view};
-ghost use Rattle.ob_wire.specs.Replies.{number_of_refusal, id_json, outcome_json, abort_json, reply_json, reply_text};
+ghost use Rattle.std.specs.Prelude.{◌≡◌, IfOk};
+ghost use Rattle.ob_wire.specs.declared.reply.Outcome.TheVariants as outcome;
 
-use ob_base::{Memory, ObjectId};
-use serde_json::{Value, json};
-use std::alloc::{AllocError, Global};
+use crate::refusal::Refusal;
+use ob_base::{Duplicate, Items, Label, Memory, ObjectId, both, copy_items, copy_option};
+use ob_heap::RcStr;
+use std::alloc::Global;
 
 /// The answer to one line.
-#[derive(Clone, Copy, PartialEq, Eq, Debug)]
+#[derive(Drop)]
 pub struct Reply {
     /// The request's number, where the line is a request.
     pub id: Option<i64>,
@@ -17,7 +17,7 @@ pub struct Reply {
 }
 
 /// How a request went.
-#[derive(Clone, Copy, PartialEq, Eq, Debug)]
+#[derive(Drop)]
 pub enum Answer {
     /// It was done, and gave this.
     Ok(Outcome),
@@ -28,94 +28,170 @@ pub enum Answer {
 }
 
 /// What a request gives.
-#[derive(Clone, Copy, PartialEq, Eq, Debug)]
+#[derive(Drop)]
 pub enum Outcome {
+    /// No result; of an `owner`, that no place owns the object.
+    Nothing,
     /// The number that a transaction returned.
     Int(i64),
-    /// The object that was made.
+    /// The truth value that a transaction returned.
+    Bool(bool),
+    /// The text that a transaction returned.
+    Text(RcStr),
+    /// The object that was made or returned.
+    Object(ObjectId),
+    /// The object that was to be seen.
+    See(Shown),
+    /// The owning handle: its client and its name.
+    Handle(Label, Label),
+    /// The owning field: its object and its name.
+    Field(ObjectId, RcStr),
+}
+
+/// An object as it is shown.
+#[derive(Drop)]
+pub struct Shown {
+    /// Its number.
+    pub object: ObjectId,
+    /// The name of its contract.
+    pub contract: RcStr,
+    /// The name of its state, where it is in one.
+    pub state: Option<RcStr>,
+    /// Whether it was shared.
+    pub shared: bool,
+    /// Whether it was disowned.
+    pub disowned: bool,
+    /// Its available fields, in any order.
+    pub fields: Items<ShownField>,
+}
+
+/// A field as it is shown.
+#[derive(Drop)]
+pub struct ShownField {
+    /// Its name.
+    pub name: RcStr,
+    /// What it holds.
+    pub value: ShownValue,
+}
+
+/// What a field holds.
+#[derive(Drop)]
+pub enum ShownValue {
+    /// A whole number.
+    Int(i64),
+    /// A truth value.
+    Bool(bool),
+    /// A text.
+    Text(RcStr),
+    /// A reference to the object of this number.
     Object(ObjectId),
 }
 
 /// Why a request was undone.
-#[derive(Clone, Copy, PartialEq, Eq, Debug)]
+#[derive(Drop)]
 pub enum Cause {
-    /// A sum left the range of numbers, at the `+` on this line of the program, from 1.
+    /// `revert` was reached, with this text.
+    Revert(RcStr),
+    /// This object is locked, in progress, or in none of the states that are asked; the name of its state stands here where
+    /// the entry of the request asked.
+    State(ObjectId, Option<RcStr>),
+    /// This object was called while a transaction on it was in progress.
+    Reentry(ObjectId),
+    /// A result left the range of numbers, at the operator on this line of the program, from 1.
     Overflow(u32),
     /// More units of fuel were needed than a request has.
     Fuel,
+    /// There are as many objects as there may be.
+    Full,
+    /// What was changed needs so many bytes of the store, which has only so many.
+    Room(u64, u64),
 }
 
-/// Why a line wasn't taken up.
-#[derive(Clone, Copy, PartialEq, Eq, Debug)]
-pub enum Refusal {
-    /// It has more than `LONGEST_LINE` bytes.
-    LongLine,
-    /// It is no request that can be answered.
-    Shape,
+impl Duplicate for Reply {
+    fn copy(&self, alloc: Global) -> Result<Reply, Memory> {
+        Ok(Reply {
+            id: self.id,
+            answer: self.answer.copy(alloc)?,
+        })
+    }
 }
 
-impl Refusal {
-    /// The number that a reply has for it.
-    pub fn number(self) -> u8
-        ensures { result ≡ number_of_refusal self }
-    {
+impl Duplicate for Answer {
+    fn copy(&self, alloc: Global) -> Result<Answer, Memory> {
         match self {
-            Refusal::LongLine => 1,
-            Refusal::Shape => 3,
+            Answer::Ok(outcome) => Ok(Answer::Ok(outcome.copy(alloc)?)),
+            Answer::Abort(cause) => Ok(Answer::Abort(cause.copy(alloc)?)),
+            Answer::Refused(refusal) => Ok(Answer::Refused(*refusal)),
         }
     }
 }
 
-fn id_value(id: Option<i64>) -> Value
-    ensures { view result ≡ id_json id }
+fn copy_handle(alloc: Global, who: &Label, name: &Label) -> Result<Outcome, Memory>
+    ensures { IfOk result (λ it. it ≡ outcome.Handle who.now name.now) }
 {
-    match id {
-        Some(id) => Value::from(id),
-        None => Value::Null,
-    }
+    let (who, name) = both(who.copy(alloc), name.copy(alloc))?;
+    Ok(Outcome::Handle(who, name))
 }
 
-fn outcome_value(alloc: Global, outcome: Outcome) -> Result<Value, AllocError>
-    ensures { IfOk result (λ value. view value ≡ outcome_json outcome) }
-{
-    match outcome {
-        Outcome::Int(number) => Ok(Value::from(number)),
-        Outcome::Object(object) => json!(in alloc; {"object": object.0}),
-    }
-}
-
-fn abort_value(alloc: Global, id: Option<i64>, cause: Cause) -> Result<Value, AllocError>
-    ensures { IfOk result (λ value. view value ≡ abort_json (id_json id) cause) }
-{
-    match cause {
-        Cause::Overflow(line) => {
-            json!(in alloc; {"abort": "overflow", "id": id_value(id), "line": line})
-        }
-        Cause::Fuel => json!(in alloc; {"abort": "fuel", "id": id_value(id)}),
-    }
-}
-
-fn reply_value(alloc: Global, reply: Reply) -> Result<Value, AllocError>
-    ensures { IfOk result (λ value. view value ≡ reply_json reply) }
-{
-    match reply.answer {
-        Answer::Ok(outcome) => {
-            let value = outcome_value(alloc, outcome)?;
-            json!(in alloc; {"id": id_value(reply.id), "ok": value})
-        }
-        Answer::Abort(cause) => abort_value(alloc, reply.id, cause),
-        Answer::Refused(refusal) => {
-            let number = refusal.number();
-            json!(in alloc; {"id": id_value(reply.id), "refused": number})
+impl Duplicate for Outcome {
+    fn copy(&self, alloc: Global) -> Result<Outcome, Memory> {
+        match self {
+            Outcome::Nothing => Ok(Outcome::Nothing),
+            Outcome::Int(number) => Ok(Outcome::Int(*number)),
+            Outcome::Bool(truth) => Ok(Outcome::Bool(*truth)),
+            Outcome::Text(text) => Ok(Outcome::Text(text.copy(alloc)?)),
+            Outcome::Object(object) => Ok(Outcome::Object(*object)),
+            Outcome::See(shown) => Ok(Outcome::See(shown.copy(alloc)?)),
+            Outcome::Handle(who, name) => copy_handle(alloc, who, name),
+            Outcome::Field(object, name) => Ok(Outcome::Field(*object, name.copy(alloc)?)),
         }
     }
 }
 
-/// The line of a reply: one JSON object, compact, with its keys in the order of their bytes (RFC 8259), and a newline.
-pub fn reply_bytes(alloc: Global, reply: Reply) -> Result<Vec<u8>, Memory>
-    ensures { IfOk result (λ bytes. bytes.items ≡ reply_text reply) }
-{
-    let mut text = reply_value(alloc, reply)?.to_string(alloc)?;
-    text.push('\n')?;
-    Ok(text.into_bytes())
+impl Duplicate for Shown {
+    fn copy(&self, alloc: Global) -> Result<Shown, Memory> {
+        let contract = self.contract.copy(alloc)?;
+        let state = copy_option(alloc, &self.state)?;
+        let fields = copy_items(alloc, &self.fields)?;
+        Ok(Shown {
+            object: self.object,
+            contract,
+            state,
+            shared: self.shared,
+            disowned: self.disowned,
+            fields,
+        })
+    }
+}
+
+impl Duplicate for ShownField {
+    fn copy(&self, alloc: Global) -> Result<ShownField, Memory> {
+        let (name, value) = both(self.name.copy(alloc), self.value.copy(alloc))?;
+        Ok(ShownField { name, value })
+    }
+}
+
+impl Duplicate for ShownValue {
+    fn copy(&self, alloc: Global) -> Result<ShownValue, Memory> {
+        match self {
+            ShownValue::Int(number) => Ok(ShownValue::Int(*number)),
+            ShownValue::Bool(truth) => Ok(ShownValue::Bool(*truth)),
+            ShownValue::Text(text) => Ok(ShownValue::Text(text.copy(alloc)?)),
+            ShownValue::Object(object) => Ok(ShownValue::Object(*object)),
+        }
+    }
+}
+
+impl Duplicate for Cause {
+    fn copy(&self, alloc: Global) -> Result<Cause, Memory> {
+        match self {
+            Cause::Revert(text) => Ok(Cause::Revert(text.copy(alloc)?)),
+            Cause::State(object, state) => Ok(Cause::State(*object, copy_option(alloc, state)?)),
+            Cause::Reentry(object) => Ok(Cause::Reentry(*object)),
+            Cause::Overflow(line) => Ok(Cause::Overflow(*line)),
+            Cause::Fuel => Ok(Cause::Fuel),
+            Cause::Full => Ok(Cause::Full),
+            Cause::Room(need, size) => Ok(Cause::Room(*need, *size)),
+        }
+    }
 }

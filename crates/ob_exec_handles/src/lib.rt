@@ -1,0 +1,2 @@
+//! Requests that run nothing, and what a request puts into handles.
+#![tactic(auto)]

@@ -1,0 +1,2 @@
+//! Which place of a store owns an object.
+#![tactic(auto)]

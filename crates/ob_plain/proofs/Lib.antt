@@ -1,6 +1,0 @@
-pub mod EachLoop
-pub mod BodyLaws
-pub mod MemberLaws
-pub mod PartsLoop
-pub mod ResolvedLaws
-pub mod FormLaws
