@@ -3,7 +3,7 @@ use crate::bytes::Bytes;
 use crate::case::Case;
 use crate::kinds::lines::Lines;
 use crate::kinds::{
-    base, calls, code, fronts, image, run, steps, table, terms, tokens, tree, wire,
+    base, calls, code, fronts, image, replies, requests, run, steps, table, terms, tokens, tree,
 };
 use std::alloc::Global;
 
@@ -36,8 +36,6 @@ pub enum CaseKind {
     Tokens,
     /// Whether its tree shows a part.
     Tree,
-    /// Whether the program that `serve` makes of it shows a part.
-    Plain,
     /// Whether each of its tokens counts.
     Whole,
     /// Which fronts of its tokens are programs.
@@ -79,7 +77,6 @@ impl CaseKind {
             "again" => Some(CaseKind::Again),
             "tokens" => Some(CaseKind::Tokens),
             "tree" => Some(CaseKind::Tree),
-            "plain" => Some(CaseKind::Plain),
             "whole" => Some(CaseKind::Whole),
             "fronts" => Some(CaseKind::Fronts),
             "request" => Some(CaseKind::Request),
@@ -114,7 +111,7 @@ impl CaseKind {
         match self {
             CaseKind::Run => ("input", "output"),
             CaseKind::Outside => ("given", "answer"),
-            CaseKind::Tree | CaseKind::Plain => ("part", "answer"),
+            CaseKind::Tree => ("part", "answer"),
             CaseKind::Entries | CaseKind::Calls => ("runs", "answer"),
             _ => ("text", "answer"),
         }
@@ -147,11 +144,10 @@ impl CaseKind {
             CaseKind::Again => tree::again(alloc, asked, lines),
             CaseKind::Tokens => tokens::tokens(alloc, asked, lines),
             CaseKind::Tree => tree::tree(alloc, case.part("text"), asked, lines),
-            CaseKind::Plain => tree::plain(alloc, case.part("text"), asked, lines),
             CaseKind::Whole => fronts::whole(alloc, asked, lines),
             CaseKind::Fronts => fronts::fronts(alloc, asked, lines),
-            CaseKind::Request => wire::request(alloc, asked, lines),
-            CaseKind::Reply => wire::reply(alloc, asked, lines),
+            CaseKind::Request => requests::request(alloc, asked, lines),
+            CaseKind::Reply => replies::reply(alloc, asked, lines),
             CaseKind::Form => base::form(alloc, asked, lines),
             CaseKind::Bytes => base::bytes(alloc, asked, lines),
             CaseKind::Message => base::message(asked, lines),

@@ -23,8 +23,8 @@ fn short_after(beginning: &str, word: &str) -> Option<u8> {
     u8::try_from(number_after(&[beginning], word)?).ok()
 }
 
-// The value that a word tells: `i5`, `true`, `"text"` or `o1`.
-fn value_of(alloc: Global, word: &str) -> Result<Value, Trouble> {
+/// The value that a word tells: `i5`, `true`, `"text"` or `o1`.
+pub fn value_of(alloc: Global, word: &str) -> Result<Value, Trouble> {
     match word {
         "true" => return Ok(Value::Bool(true)),
         "false" => return Ok(Value::Bool(false)),

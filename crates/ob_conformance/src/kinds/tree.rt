@@ -1,11 +1,9 @@
-//! The tree of a text, and the program that it resolves to.
+//! The tree of a text.
 use crate::kinds::lines::Lines;
 use crate::kinds::tokens::put_error;
 use crate::trouble::Trouble;
-use ob_base::{Duplicate, copy_option};
+use ob_base::Duplicate;
 use ob_front::syntax_tree;
-use ob_plain::compile_plain;
-use ob_plain_machine::Plain;
 use ob_tree::Tree;
 use ob_tree_print::print;
 use std::alloc::Global;
@@ -58,21 +56,6 @@ fn put_shown<T: Debug>(alloc: Global, value: &T, part: &[u8], lines: &mut Lines)
 pub fn tree(alloc: Global, text: &[u8], part: &[u8], lines: &mut Lines) {
     match syntax_tree(alloc, text) {
         Ok(tree) => put_shown(alloc, &tree, part, lines),
-        Err(error) => put_error(alloc, error, lines),
-    }
-}
-
-// `shown`, where a copy of the program shows this part; or else the whole copy.
-fn put_plain(alloc: Global, program: &Option<Plain>, part: &[u8], lines: &mut Lines) {
-    if let Some(copy) = lines.made(copy_option(alloc, program)) {
-        put_shown(alloc, &copy, part, lines);
-    }
-}
-
-/// `shown`, where the program that a text resolves to shows this part; or else the whole program, or the fault.
-pub fn plain(alloc: Global, text: &[u8], part: &[u8], lines: &mut Lines) {
-    match compile_plain(alloc, text) {
-        Ok(program) => put_plain(alloc, &program, part, lines),
         Err(error) => put_error(alloc, error, lines),
     }
 }
