@@ -2,7 +2,6 @@ pub mod KindsLemmas
 pub mod CodeLemmas
 pub mod TermsLemmas
 pub mod ScratchLemmas
-pub mod NamesLemmas
 pub mod BodiesLemmas
 pub mod Placed
 pub mod WeightLemmas

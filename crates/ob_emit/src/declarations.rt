@@ -83,7 +83,7 @@ pub fn text_code(alloc: Global, text: &Text) -> Result<CodeText, Memory>
 }
 
 // A name.
-#[tactic(auto, using(crate::proofs::NamesLemmas::name_is_utf8))]
+#[tactic(auto, using(ob_weight_laws::proofs::Parts::name_is_utf8))]
 fn name_code(alloc: Global, name: &Name) -> Result<CodeText, Memory>
     ensures { IfOk result (λ code. code ≡ name.now) }
 {

@@ -1,8 +1,10 @@
 //! The image of a program.
-ghost use Rattle.std.specs.Prelude.{◌≡◌, ◌≤◌, map, length, IfOk, IfErr, OnOk};
+ghost use Rattle.std.specs.Prelude.{◌≡◌, ◌≤◌, map, length, All, IfOk, IfErr, OnOk};
 ghost use Rattle.ob_base.specs.Faults.{limit};
 ghost use Rattle.ob_base.specs.TextErrors.{OnFault};
+ghost use Rattle.ob_table_spec.specs.Conditions.{IsClassTable};
 ghost use Rattle.ob_silica.specs.TermsView.{silica_body_of};
+ghost use Rattle.ob_silica_formed.specs.WellFormedTerms.{IsWellFormedTerms};
 ghost use Rattle.ob_code.specs.Images.{image};
 ghost use Rattle.ob_emit_spec.specs.EmittedImages.{image_of};
 ghost use Rattle.ob_emit_spec.specs.Weights.{weight, most_weight, text_start, IsTooHeavy};
@@ -35,13 +37,15 @@ fn too_heavy() -> ProgramFault
 }
 
 /// The image of a class table and the terms of its bodies, one for each constructor and transaction in their order, or the fault
-/// of a program that weighs more than it may. A body that needs more than 255 slots counts as want of memory, and so does a
-/// number of the table that has no room in the image.
+/// of a program that weighs more than it may. The image of a well-formed program has a spelling, so that it may be encoded. A body
+/// that needs more than 255 slots counts as want of memory, and so does a number of the table that has no room in the image.
 pub fn emit(alloc: Global, table: &Table, bodies: &[TermBody]) -> Result<Image, EmitError>
     requires { StandInOrder table.now (map silica_body_of bodies.now) }
     ensures image { IfOk result (λ image. image ≡ image_of table.now (map silica_body_of bodies.now)) }
     ensures light { OnOk result (weight table.now (map silica_body_of bodies.now) ≤ most_weight) }
     ensures bytes { IfOk result (λ made. length (image.bytes made) ≤ weight table.now (map silica_body_of bodies.now)) }
+    ensures fits { IfOk result (λ made. IsClassTable table.now → All (IsWellFormedTerms table.now) (map silica_body_of bodies.now)
+        → image.fits made) }
     ensures fault { IfErr result (λ e. OnFault e (IsTooHeavy table.now (map silica_body_of bodies.now))) }
 {
     if !is_light(table, bodies) {

@@ -1,6 +1,6 @@
 //! Whether a program weighs no more than it may. What each part weighs is taken off what is left, so that no sum grows past
-//! its type.
-ghost use Rattle.std.specs.Prelude.{◌≡◌, ◌<◌, ◌≤◌, ◌+◌, ◌*◌, true, false, length, map};
+//! its type. On the way each line of the terms is read, so that it is known to have 32 bits.
+ghost use Rattle.std.specs.Prelude.{◌≡◌, ◌<◌, ◌≤◌, ◌+◌, ◌*◌, true, false, length, map, OnSome};
 ghost use Rattle.ob_silica.specs.TermsView.{form_of, terms_of, silica_body_of};
 ghost use Rattle.ob_emit_spec.specs.Weights.{weight_of_constant, weight_of_form, weight_of_terms, weight_of_bodies};
 ghost use Rattle.ob_emit_spec.specs.Weights.{weight, most_weight};
@@ -8,6 +8,7 @@ ghost use Rattle.ob_weight_laws.specs.Counting.{size_of_text, size_of_type, size
 ghost use Rattle.ob_weight_laws.specs.Counting.{size_of_params, size_of_states, size_of_field, size_of_fields};
 ghost use Rattle.ob_weight_laws.specs.Counting.{size_of_signature, size_of_signatures, size_of_contract, size_of_contracts};
 ghost use Rattle.ob_weight_laws.specs.Counting.{size_of_table};
+ghost use Rattle.ob_weight_laws.specs.Lines.{FormLinesFit, LinesFit, AllLinesFit};
 ghost use Rattle.ob_emit.specs.Spending.{Spends};
 
 use ob_base::Name;
@@ -171,7 +172,8 @@ fn spend_constant(value: &Constant, left: usize) -> Option<usize>
 #[cycle(spend_form)]
 #[tactic(auto, using(ob_silica::specs::TermsView::term_views))]
 fn spend_form(form: &Form, left: usize) -> Option<usize>
-    ensures { Spends result (weight_of_form (form_of form.now)) left }
+    ensures weight { Spends result (weight_of_form (form_of form.now)) left }
+    ensures lines { OnSome result (FormLinesFit (form_of form.now)) }
 {
     let left = spend(FORM_WEIGHT, left)?;
     match form {
@@ -193,8 +195,11 @@ fn spend_form(form: &Form, left: usize) -> Option<usize>
             let left = spend_terms(then.as_slice(), left)?;
             spend_terms(otherwise.as_slice(), left)
         }
+        Form::Op { line, .. } => {
+            let _line = *line;
+            Some(left)
+        }
         Form::Unit
-        | Form::Op { .. }
         | Form::Copy { .. }
         | Form::Move { .. }
         | Form::Assert { .. }
@@ -207,9 +212,9 @@ fn spend_form(form: &Form, left: usize) -> Option<usize>
 }
 
 #[cycle(spend_form)]
-#[tactic(auto, using(ob_silica::specs::TermsView::term_views))]
 fn spend_terms(terms: &[Term], left: usize) -> Option<usize>
-    ensures { Spends result (weight_of_terms (terms_of terms.now)) left }
+    ensures weight { Spends result (weight_of_terms (terms_of terms.now)) left }
+    ensures lines { OnSome result (LinesFit (terms_of terms.now)) }
 {
     let mut left = left;
     for term in terms {
@@ -219,7 +224,8 @@ fn spend_terms(terms: &[Term], left: usize) -> Option<usize>
 }
 
 fn spend_bodies(bodies: &[TermBody], left: usize) -> Option<usize>
-    ensures { Spends result (weight_of_bodies (map silica_body_of bodies.now)) left }
+    ensures weight { Spends result (weight_of_bodies (map silica_body_of bodies.now)) left }
+    ensures lines { OnSome result (AllLinesFit (map silica_body_of bodies.now)) }
 {
     let mut left = left;
     for body in bodies {
@@ -230,7 +236,8 @@ fn spend_bodies(bodies: &[TermBody], left: usize) -> Option<usize>
 
 // A program, counted on its class table.
 fn spend_program(table: &Table, bodies: &[TermBody], left: usize) -> Option<usize>
-    ensures { Spends result (size_of_table table.now + weight_of_bodies (map silica_body_of bodies.now)) left }
+    ensures weight { Spends result (size_of_table table.now + weight_of_bodies (map silica_body_of bodies.now)) left }
+    ensures lines { OnSome result (AllLinesFit (map silica_body_of bodies.now)) }
 {
     let left = spend_contracts(table.contracts(), left)?;
     let left = spend(8, left)?;
@@ -242,6 +249,7 @@ fn spend_program(table: &Table, bodies: &[TermBody], left: usize) -> Option<usiz
 pub fn is_light(table: &Table, bodies: &[TermBody]) -> bool
     ensures light { result ≡ true → weight table.now (map silica_body_of bodies.now) ≤ most_weight }
     ensures heavy { result ≡ false → most_weight < weight table.now (map silica_body_of bodies.now) }
+    ensures lines { result ≡ true → AllLinesFit (map silica_body_of bodies.now) }
 {
     spend_program(table, bodies, MOST_WEIGHT).is_some()
 }

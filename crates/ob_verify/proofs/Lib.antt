@@ -2,3 +2,4 @@ pub mod ListLoops
 pub mod RowLoops
 pub mod PassLoops
 pub mod ImageLoops
+pub mod Settling

@@ -1,3 +1,4 @@
 pub mod Bodies
+pub mod Settling
 pub mod Names
 pub mod Answering

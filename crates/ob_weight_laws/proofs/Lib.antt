@@ -3,3 +3,8 @@ pub mod Order
 pub mod Sizes
 pub mod Forms
 pub mod Weighing
+pub mod Rows
+pub mod Few
+pub mod Spelled
+pub mod Parts
+pub mod Spelling

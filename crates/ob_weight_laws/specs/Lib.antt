@@ -1,3 +1,4 @@
 pub mod Bodies
 pub mod Counting
+pub mod Lines
 pub mod Law

@@ -3,4 +3,4 @@
 
 mod laws;
 
-pub use laws::image_within_weight;
+pub use laws::{image_has_spelling, image_within_weight};
