@@ -5,20 +5,28 @@ use Rattle.std.proofs.lemmas.List.{take_all}
 use Rattle.ob_base.specs.Limits.{longest_program, most_taken}
 use Rattle.ob_io.specs.Files.{IsAsked}
 use Rattle.ob_io.specs.Told.{Takes}
-use Rattle.ob_plain_machine.specs.declared.plain.Plain.{Plain}
+use Rattle.std.proofs.Math.Path.{fun_ext}
 use Rattle.ob_base.specs.declared.fault.ProgramFault.{ProgramFault}
 use Rattle.ob_lexer.specs.Flaws.{HasFault, too_long, no_utf8, flawed}
 use Rattle.ob_front.specs.Stages.{at_token, at_row, HasTableFault, at_tree, at_bracket, at_site}
-use Rattle.ob_front.specs.Programs.{HasTermsFault, at_table, at_slot, IsAccepted, HasTextFault, at_terms, at_premise, at_weight}
+use Rattle.ob_table.specs.Tables.{ClassTable}
+use Rattle.ob_silica.specs.Terms.{SilicaBody}
+use Rattle.ob_silica_steps.specs.Configurations.{SilicaProgram}
+use Rattle.ob_code.specs.declared.image.Image.{Image}
+use Rattle.ob_sound_code.specs.SoundCode.{IsSoundCode}
+use Rattle.ob_front.specs.Programs.{HasTermsFault, at_table, at_slot, IsProgram, IsAccepted, HasTextFault, at_terms, at_premise, at_weight}
 use Rattle.ob_front.proofs.ProgramsLaws.{never_accepted_and_faulty_lem}
-use Rattle.ob_plain.specs.Form.{IsOfForm, IsFaulty, in_text, in_form}
-use Rattle.ob_plain.proofs.FormLaws.{never_of_form_and_faulty_lem}
-use Rattle.ob_serve.specs.Served.{Streams, IsAll, Finishes, FailsToRead, FailsToWrite, GivesUp, ReachesLimit}
+use Rattle.ob_serve.specs.Items.{by_source, by_machine, items_of}
+use Rattle.ob_serve.specs.Served.{Streams, Items, IsAll, Finishes, FailsToRead, FailsToWrite, GivesUp, ReachesLimit, EndsAs}
+use Rattle.ob_serve.specs.declared.serving.Served.{Served}
+use Rattle.ob_serve.specs.declared.serving.Served.TheVariants as ended
+use Rattle.ob_serve.proofs.Keeping.{goes_as_source, keeps_sessions}
 use Rattle.ob_run.specs.Asked.{most_read, program_ask}
 use Rattle.ob_run.specs.Commands.{Command, serve, check, file_of, command_of}
 use Rattle.ob_run.specs.Outside.{Outside, streams}
-use Rattle.ob_run.specs.Statuses.{ServesProgram, IsToldBy, IsRefusal, IsFinding, IsOfText, Treats, TreatsFile, IsDone, IsRefused, IsUsage, IsFileFault, IsReadFault, IsWriteFault, IsMemory, IsLong, MeetsStatus, IsSmooth, IsSmoothCheck}
-use Rattle.ob_run.specs.TextRead.{IsReadOf}
+use Rattle.ob_run.specs.Sessions.{fuel_of_request, source_items}
+use Rattle.ob_run.specs.Statuses.{ServesProgram, IsRefusal, IsFinding, IsOfText, Treats, TreatsFile, IsDone, IsRefused, IsUsage, IsFileFault, IsReadFault, IsWriteFault, IsMemory, IsLong, MeetsStatus, IsSmooth, IsSmoothCheck}
+use Rattle.ob_run.specs.TextRead.{IsReadOf, exit_of}
 use Rattle.ob_run.specs.declared.exit.Exit.{Exit}
 use Rattle.ob_run.specs.declared.exit.Exit.TheVariants.{Done, Refused, Usage, ReadFault, WriteFault, FileFault, Memory, Long}
 
@@ -49,43 +57,32 @@ module _ (content : List ℕ) (long : longest_program < length (take most_read c
   too_long_text fault (at_premise table bodies terms fails) = absurd (long_and_short (take most_read content) long terms.has.resolved.is.of.spelled.short)
   too_long_text fault (at_weight table bodies checked heavy) = absurd (long_and_short (take most_read content) long checked.terms.has.resolved.is.of.spelled.short)
 
-  too_long_form : ¬ (IsOfForm content)
-  too_long_form of = long_and_short content (omega (arith, length-take most_read content)) of.1.spelled.short
-
-  too_long_program : (fault : ProgramFault) → IsFaulty (take most_read content) fault → IsFaulty content fault
-  too_long_program fault (in_text has none) = in_text (too_long_text fault has) too_long_form
-  too_long_program fault (in_form is none e) = absurd (long_and_short (take most_read content) long is.is.checked.terms.has.resolved.is.of.spelled.short)
-
-  too_long_told : (command : Command) (fault : ProgramFault) → IsToldBy command (take most_read content) fault → IsToldBy command content fault
-  too_long_told (serve name) fault told = too_long_program fault told
-  too_long_told (check name) fault told = too_long_text fault told
-
-  too_long_refusal : (command : Command) (bytes : List ℕ) → IsRefusal command (take most_read content) bytes → IsRefusal command content bytes
-  too_long_refusal command bytes h = record { fault = h.fault; told = too_long_told command h.fault h.told; line = h.line }
+  too_long_refusal : (bytes : List ℕ) → IsRefusal (take most_read content) bytes → IsRefusal content bytes
+  too_long_refusal bytes h = record { fault = h.fault; told = too_long_text h.fault h.told; line = h.line }
 
   not_found : (command : Command) (bytes : List ℕ) → IsFinding command (take most_read content) bytes → ⊥
   not_found (serve name) bytes h = h
   not_found (check name) bytes h = long_and_short (take most_read content) long h.0.is.checked.terms.has.resolved.is.of.spelled.short
 
-  not_served : (command : Command) (says : Option Plain → Type 0) → ServesProgram command (take most_read content) says → ⊥
-  not_served command says h = long_and_short (take most_read content) long h.has.spelled.short
+  not_served : (command : Command) (says : Items → Type 0) → ServesProgram command (take most_read content) says → ⊥
+  not_served command says h = long_and_short (take most_read content) long h.program.checked.terms.has.resolved.is.of.spelled.short
 
   too_long_of_text : (command : Command) (bytes : List ℕ) → IsOfText command (take most_read content) bytes → IsOfText command content bytes
-  too_long_of_text command bytes (inl h) = inl (too_long_refusal command bytes h)
+  too_long_of_text command bytes (inl h) = inl (too_long_refusal bytes h)
   too_long_of_text command bytes (inr h) = absurd (not_found command bytes h)
 
   too_long_treated : (command : Command) (old new : Streams) (exit : Exit) → Treats command (take most_read content) old new exit → Treats command content old new exit
-  too_long_treated command old new Done (inl h) = absurd (not_served command (λ program. Finishes program old new) h)
+  too_long_treated command old new Done (inl h) = absurd (not_served command (λ items. Finishes items old new) h)
   too_long_treated command old new Done (inr h) = absurd (not_found command h.bytes h.said)
-  too_long_treated command old new Refused h = record { bytes = h.bytes; said = too_long_refusal command h.bytes h.said; written = h.written; input = h.input }
+  too_long_treated command old new Refused h = record { bytes = h.bytes; said = too_long_refusal h.bytes h.said; written = h.written; input = h.input }
   too_long_treated command old new Usage h = h
-  too_long_treated command old new ReadFault h = absurd (not_served command (λ program. FailsToRead program old new) h)
-  too_long_treated command old new WriteFault (inl h) = absurd (not_served command (λ program. FailsToWrite program old new) h)
+  too_long_treated command old new ReadFault h = absurd (not_served command (λ items. FailsToRead items old new) h)
+  too_long_treated command old new WriteFault (inl h) = absurd (not_served command (λ items. FailsToWrite items old new) h)
   too_long_treated command old new WriteFault (inr h) = inr (record { bytes = h.bytes; said = too_long_of_text command h.bytes h.said; cause = h.cause; front = h.front; input = h.input })
   too_long_treated command old new FileFault h = h
   too_long_treated command old new Memory (inl same) = inl same
-  too_long_treated command old new Memory (inr h) = absurd (not_served command (λ program. GivesUp program old new) h)
-  too_long_treated command old new Long h = absurd (not_served command (λ program. ReachesLimit program old new) h)
+  too_long_treated command old new Memory (inr h) = absurd (not_served command (λ items. GivesUp items old new) h)
+  too_long_treated command old new Long h = absurd (not_served command (λ items. ReachesLimit items old new) h)
 
 -- a text that isn't too long was read whole
 whole : (content : List ℕ) → length (take most_read content) ≤ longest_program → take most_read content ≡ content
@@ -110,6 +107,33 @@ treated_all command (Some content) text old new exit read h = record {
   told = refl;
   treats = treated_whole command content old new exit (subst (λ (l : List ℕ). Treats command l old new exit) read h);
 }
+
+-- ---- a session by the code is one by the source meaning
+
+module _ (text : List ℕ) (table : ClassTable) (bodies : List SilicaBody) (code : Image) (program : IsProgram text table bodies) (sound : IsSoundCode (record { table = table; bodies = bodies }) code) where
+  same_items : items_of (by_machine code fuel_of_request) ≡ source_items table
+  same_items = fun_ext (goes_as_source (record { table = table; bodies = bodies }) code fuel_of_request sound)
+
+  -- so its program is served
+  serves : (name : List ℕ) (says : Items → Type 0) → says (items_of (by_machine code fuel_of_request)) → ServesProgram (serve name) text says
+  serves name says said = record {
+    name = name;
+    is = refl;
+    table = table;
+    bodies = bodies;
+    program = program;
+    said = subst says same_items said;
+    kept = keeps_sessions (record { table = table; bodies = bodies }) code fuel_of_request sound;
+  }
+
+  -- and the run ends as the session does
+  pub served_treats : (name : List ℕ) (old new : Streams) (s : Served) → EndsAs (items_of (by_machine code fuel_of_request)) old new s
+      → Treats (serve name) text old new (exit_of s)
+  served_treats name old new ended.Done ends = inl (serves name (λ items. Finishes items old new) ends)
+  served_treats name old new ended.ReadFault ends = serves name (λ items. FailsToRead items old new) ends
+  served_treats name old new ended.WriteFault ends = inl (serves name (λ items. FailsToWrite items old new) ends)
+  served_treats name old new ended.Memory ends = inr (serves name (λ items. GivesUp items old new) ends)
+  served_treats name old new ended.Long ends = serves name (λ items. ReachesLimit items old new) ends
 
 -- ---- what a command did with a text that was read is what its status says
 
@@ -189,23 +213,23 @@ module _ (words : List (List ℕ)) (old new : Outside) (smooth : IsSmooth words 
   not_long : Treats (serve smooth.name) smooth.text (streams old) (streams new) Long → ⊥
   not_long h = too_many old.input.left new.input.left smooth.input h.said.so_far.taken smooth.input_told smooth.few h.said.so_far.took.told h.said.exactly
 
-  -- a text of the form is served
-  pub served : (e : Exit) → MeetsStatus words old new e → IsOfForm smooth.text → (e ≡ Done) ⊎ (e ≡ Memory)
-  served Done h form = inl refl
-  served Memory h form = inr refl
-  served Refused h form = let refusal = (told Refused h).said in absurd (never_of_form_and_faulty_lem smooth.text refusal.fault refusal.told form)
-  served Usage h form = absurd (cc (h.command, smooth.command))
-  served ReadFault h form = absurd (smooth.reads (told ReadFault h).said.cause)
-  served WriteFault h form = absurd (no_write_fault (told WriteFault h))
-  served FileFault h form = absurd (smooth.files h.cause)
-  served Long h form = absurd (not_long (told Long h))
+  -- a text that is accepted is served
+  pub served : (e : Exit) → MeetsStatus words old new e → IsAccepted smooth.text → (e ≡ Done) ⊎ (e ≡ Memory)
+  served Done h accepted = inl refl
+  served Memory h accepted = inr refl
+  served Refused h accepted = let refusal = (told Refused h).said in absurd (never_accepted_and_faulty_lem smooth.text refusal.fault refusal.told accepted)
+  served Usage h accepted = absurd (cc (h.command, smooth.command))
+  served ReadFault h accepted = absurd (smooth.reads (told ReadFault h).said.cause)
+  served WriteFault h accepted = absurd (no_write_fault (told WriteFault h))
+  served FileFault h accepted = absurd (smooth.files h.cause)
+  served Long h accepted = absurd (not_long (told Long h))
 
-  not_done : ¬ (IsOfForm smooth.text) → Treats (serve smooth.name) smooth.text (streams old) (streams new) Done → ⊥
-  not_done fault (inl h) = fault (h.program, h.has)
+  not_done : ¬ (IsAccepted smooth.text) → Treats (serve smooth.name) smooth.text (streams old) (streams new) Done → ⊥
+  not_done fault (inl h) = fault (record { table = h.table; bodies = h.bodies; is = h.program })
   not_done fault (inr h) = h.said
 
-  -- a text that isn't of the form is refused
-  pub refused : (e : Exit) → MeetsStatus words old new e → ¬ (IsOfForm smooth.text) → (e ≡ Refused) ⊎ (e ≡ Memory)
+  -- a text that isn't is refused
+  pub refused : (e : Exit) → MeetsStatus words old new e → ¬ (IsAccepted smooth.text) → (e ≡ Refused) ⊎ (e ≡ Memory)
   refused Done h fault = absurd (not_done fault (told Done h))
   refused Memory h fault = inr refl
   refused Refused h fault = inl refl
@@ -220,7 +244,7 @@ module _ (words : List (List ℕ)) (old new : Outside) (smooth : IsSmoothCheck w
   told_check exit h = treated_told words old new (check smooth.name) smooth.text exit smooth.command smooth.told h
 
   -- `check` serves nothing
-  serves_nothing : (says : Option Plain → Type 0) → ServesProgram (check smooth.name) smooth.text says → ⊥
+  serves_nothing : (says : Items → Type 0) → ServesProgram (check smooth.name) smooth.text says → ⊥
   serves_nothing says h = cc h.is
 
   no_write_fault_check : Treats (check smooth.name) smooth.text (streams old) (streams new) WriteFault → ⊥
@@ -233,13 +257,13 @@ module _ (words : List (List ℕ)) (old new : Outside) (smooth : IsSmoothCheck w
   checked Memory h accepted = inr refl
   checked Refused h accepted = let refusal = (told_check Refused h).said in absurd (never_accepted_and_faulty_lem smooth.text refusal.fault refusal.told accepted)
   checked Usage h accepted = absurd (cc (h.command, smooth.command))
-  checked ReadFault h accepted = absurd (serves_nothing (λ program. FailsToRead program (streams old) (streams new)) (told_check ReadFault h))
+  checked ReadFault h accepted = absurd (serves_nothing (λ items. FailsToRead items (streams old) (streams new)) (told_check ReadFault h))
   checked WriteFault h accepted = absurd (no_write_fault_check (told_check WriteFault h))
   checked FileFault h accepted = absurd (smooth.files h.cause)
-  checked Long h accepted = absurd (serves_nothing (λ program. ReachesLimit program (streams old) (streams new)) (told_check Long h))
+  checked Long h accepted = absurd (serves_nothing (λ items. ReachesLimit items (streams old) (streams new)) (told_check Long h))
 
   not_accepted : ¬ (IsAccepted smooth.text) → Treats (check smooth.name) smooth.text (streams old) (streams new) Done → ⊥
-  not_accepted fault (inl h) = serves_nothing (λ program. Finishes program (streams old) (streams new)) h
+  not_accepted fault (inl h) = serves_nothing (λ items. Finishes items (streams old) (streams new)) h
   not_accepted fault (inr h) = fault h.said.0
 
   -- a text that has none is refused
@@ -248,10 +272,10 @@ module _ (words : List (List ℕ)) (old new : Outside) (smooth : IsSmoothCheck w
   unaccepted Memory h fault = inr refl
   unaccepted Refused h fault = inl refl
   unaccepted Usage h fault = absurd (cc (h.command, smooth.command))
-  unaccepted ReadFault h fault = absurd (serves_nothing (λ program. FailsToRead program (streams old) (streams new)) (told_check ReadFault h))
+  unaccepted ReadFault h fault = absurd (serves_nothing (λ items. FailsToRead items (streams old) (streams new)) (told_check ReadFault h))
   unaccepted WriteFault h fault = absurd (no_write_fault_check (told_check WriteFault h))
   unaccepted FileFault h fault = absurd (smooth.files h.cause)
-  unaccepted Long h fault = absurd (serves_nothing (λ program. ReachesLimit program (streams old) (streams new)) (told_check Long h))
+  unaccepted Long h fault = absurd (serves_nothing (λ items. ReachesLimit items (streams old) (streams new)) (told_check Long h))
 
 -- words that are no command are Usage
 pub unknown : (words : List (List ℕ)) (old new : Outside) (e : Exit) → MeetsStatus words old new e → command_of words ≡ None → e ≡ Usage

@@ -4,6 +4,7 @@ pub mod Asked
 pub mod FaultLine
 pub mod Outside
 pub mod Writes
+pub mod Sessions
 pub mod Statuses
 pub mod ExitStatus
 pub mod TextRead

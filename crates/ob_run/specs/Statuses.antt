@@ -4,37 +4,36 @@ use Rattle.ob_base.specs.Limits.{most_taken}
 use Rattle.ob_base.specs.declared.fault.ProgramFault.{ProgramFault}
 use Rattle.ob_io.specs.Causes.{Rose}
 use Rattle.ob_io.specs.Files.{IsAsked}
-use Rattle.ob_plain_machine.specs.declared.plain.Plain.{Plain}
-use Rattle.ob_front.specs.Programs.{IsAccepted, HasTextFault}
-use Rattle.ob_plain.specs.Form.{HasProgram, IsFaulty}
-use Rattle.ob_serve.specs.Served.{Streams, IsAll, Finishes, FailsToRead, FailsToWrite, GivesUp, ReachesLimit}
+use Rattle.ob_table.specs.Tables.{ClassTable}
+use Rattle.ob_silica.specs.Terms.{SilicaBody}
+use Rattle.ob_front.specs.Programs.{IsProgram, IsAccepted, HasTextFault}
+use Rattle.ob_serve.specs.Served.{Streams, Items, IsAll, Finishes, FailsToRead, FailsToWrite, GivesUp, ReachesLimit}
 use Rattle.ob_run.specs.Asked.{program_ask}
 use Rattle.ob_run.specs.Commands.{Command, serve, check, file_of, command_of}
 use Rattle.ob_run.specs.FaultLine.{fault_line}
 use Rattle.ob_run.specs.Outside.{Outside, streams, KeepsStreams}
+use Rattle.ob_run.specs.Sessions.{source_items, IsKeptAlways}
 use Rattle.ob_run.specs.Writes.{WritesWhole, WritesFront}
 use Rattle.ob_run.specs.declared.exit.Exit.{Exit}
 use Rattle.ob_run.specs.declared.exit.Exit.TheVariants.{Done, Refused, Usage, ReadFault, WriteFault, FileFault, Memory, Long}
 
 -- ---- what a command does with a text
 
--- The command is `serve`, the text is a program, and this is said of the program.
-pub record ServesProgram (command : Command) (text : List ℕ) (says : Option Plain → Type 0) : Type 0 where
+-- The command is `serve`, the text is a program, this is said of the items of its lines by the source meaning, and these are kept,
+-- whatever the lines are.
+pub record ServesProgram (command : Command) (text : List ℕ) (says : Items → Type 0) : Type 0 where
   pub name : List ℕ
   pub is : command ≡ serve name
-  pub program : Option Plain
-  pub has : HasProgram text program
-  pub said : says program
+  pub table : ClassTable
+  pub bodies : List SilicaBody
+  pub program : IsProgram text table bodies
+  pub said : says (source_items table)
+  pub kept : IsKeptAlways table
 
--- the faults that a command tells of a text
-abbrev pub IsToldBy : Command → List ℕ → ProgramFault → Type 0
-IsToldBy (serve name) = IsFaulty
-IsToldBy (check name) = HasTextFault
-
--- The bytes are a command's refusal of a text: the line of a fault that it tells.
-pub record IsRefusal (command : Command) (text bytes : List ℕ) : Type 0 where
+-- The bytes are the refusal of a text: the line of its first fault.
+pub record IsRefusal (text bytes : List ℕ) : Type 0 where
   pub fault : ProgramFault
-  pub told : IsToldBy command text fault
+  pub told : HasTextFault text fault
   pub line : bytes ≡ fault_line fault
 
 -- the line of a text that is accepted
@@ -48,21 +47,21 @@ IsFinding (check name) text bytes = IsAccepted text × (bytes ≡ accepted_line)
 
 -- The bytes are what a command writes of a text: its refusal, or what it finds.
 abbrev pub IsOfText : Command → List ℕ → List ℕ → Type 0
-IsOfText command text bytes = IsRefusal command text bytes ⊎ IsFinding command text bytes
+IsOfText command text bytes = IsRefusal text bytes ⊎ IsFinding command text bytes
 
 -- What each status says of a command, the text that it read and the two streams. Usage and FileFault come before a text
 -- is read.
 abbrev pub Treats : Command → List ℕ → Streams → Streams → Exit → Type 0
 Treats command text old new Done =
-    ServesProgram command text (λ program. Finishes program old new) ⊎ WritesWhole (IsFinding command text) old new
-Treats command text old new Refused = WritesWhole (IsRefusal command text) old new
+    ServesProgram command text (λ items. Finishes items old new) ⊎ WritesWhole (IsFinding command text) old new
+Treats command text old new Refused = WritesWhole (IsRefusal text) old new
 Treats command text old new Usage = ⊥
-Treats command text old new ReadFault = ServesProgram command text (λ program. FailsToRead program old new)
+Treats command text old new ReadFault = ServesProgram command text (λ items. FailsToRead items old new)
 Treats command text old new WriteFault =
-    ServesProgram command text (λ program. FailsToWrite program old new) ⊎ WritesFront (IsOfText command text) old new
+    ServesProgram command text (λ items. FailsToWrite items old new) ⊎ WritesFront (IsOfText command text) old new
 Treats command text old new FileFault = ⊥
-Treats command text old new Memory = (new ≡ old) ⊎ ServesProgram command text (λ program. GivesUp program old new)
-Treats command text old new Long = ServesProgram command text (λ program. ReachesLimit program old new)
+Treats command text old new Memory = (new ≡ old) ⊎ ServesProgram command text (λ items. GivesUp items old new)
+Treats command text old new Long = ServesProgram command text (λ items. ReachesLimit items old new)
 
 -- ---- what a run says
 
@@ -79,7 +78,7 @@ pub record TreatsFile (words : List (List ℕ)) (old new : Outside) (exit : Exit
 abbrev pub IsDone : List (List ℕ) → Outside → Outside → Type 0
 IsDone words old new = TreatsFile words old new Done
 
--- Refused: the text of P has a fault, its line was written, and no input was taken.
+-- Refused: the text of P has a fault, the line of the first was written, and no input was taken.
 abbrev pub IsRefused : List (List ℕ) → Outside → Outside → Type 0
 IsRefused words old new = TreatsFile words old new Refused
 

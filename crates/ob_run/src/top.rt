@@ -1,7 +1,6 @@
 //! The top call.
 ghost use Rattle.std.specs.Prelude.{◌≡◌, ◌≢◌, ◌+◌, ◌≤◌, ◌⊎◌, None, Some, List, ℕ, map, string_bytes, IfOk, IsErrOf};
 ghost use Rattle.ob_front.specs.Programs.{IsAccepted};
-ghost use Rattle.ob_plain.specs.Form.{IsOfForm};
 ghost use Rattle.ob_io.specs.Causes.{Rose};
 ghost use Rattle.ob_io.specs.Files.{NotesAsk};
 ghost use Rattle.ob_run.specs.Asked.{AsksFor, program_ask};
@@ -9,20 +8,22 @@ ghost use Rattle.ob_run.specs.CommandView.{command_view};
 ghost use Rattle.ob_run.specs.Commands.{serve, check, command_of, file_of};
 ghost use Rattle.ob_run.specs.Outside.{outside, faults_of, IsCalm};
 ghost use Rattle.ob_run.specs.Statuses.{Treats, MeetsStatus, IsDone, IsRefused, IsUsage, IsReadFault, IsWriteFault, IsFileFault, IsMemory, IsLong, IsSmooth, IsSmoothCheck};
-ghost use Rattle.ob_run.specs.TextRead.{IsReadOf, TreatsAlone, Refuses, Accepts};
+ghost use Rattle.ob_run.specs.TextRead.{IsReadOf, TreatsAlone, Refuses, Accepts, exit_of};
 
 use crate::command::Command;
 use crate::exit::Exit;
 use crate::fault::fault_line;
 use ob_base::{LONGEST_PROGRAM, ProgramFault};
-use ob_front::{CompileError, check_program};
+use ob_front::{CompileError, check_program, compile};
 use ob_io::{FileError, Files, Sink, Source, write_all};
-use ob_plain::compile_plain;
 use ob_serve::{Served, serve};
 use std::alloc::Global;
 
 /// The most bytes of a program's file that are read: one more than a program may have.
 const MOST_READ: usize = LONGEST_PROGRAM + 1;
+
+/// The units of fuel that each request has.
+const FUEL: u32 = 100_000;
 
 // The text of a command's file, as far as it is read.
 fn read_text<F: Files>(
@@ -85,6 +86,19 @@ fn check_text<K: Sink>(alloc: Global, text: &[u8], output: &mut K) -> Exit
     }
 }
 
+// How the run ends whose session ended so.
+fn exit_of(served: Served) -> Exit
+    ensures { result ≡ exit_of served }
+{
+    match served {
+        Served::Done => Exit::Done,
+        Served::ReadFault => Exit::ReadFault,
+        Served::WriteFault => Exit::WriteFault,
+        Served::Memory => Exit::Memory,
+        Served::Long => Exit::Long,
+    }
+}
+
 // Serves the program of a text, or refuses the text.
 fn serve_text<S: Source, K: Sink>(alloc: Global, text: &[u8], input: &mut S, output: &mut K) -> Exit
     ensures treats { (name : List ℕ) → Treats (serve name) text.now
@@ -99,18 +113,12 @@ fn serve_text<S: Source, K: Sink>(alloc: Global, text: &[u8], input: &mut S, out
     ensures once { (S.view input.new).faults + (K.view output.new).faults
         ≤ (S.view input.old).faults + (K.view output.old).faults + 1 }
 {
-    let program = match compile_plain(alloc, text) {
+    let program = match compile(alloc, text) {
         Ok(program) => program,
         Err(CompileError::Fault(fault)) => return refuse(alloc, fault, output),
         Err(CompileError::Memory) => return Exit::Memory,
     };
-    match serve(alloc, &program, input, output) {
-        Served::Done => Exit::Done,
-        Served::ReadFault => Exit::ReadFault,
-        Served::WriteFault => Exit::WriteFault,
-        Served::Memory => Exit::Memory,
-        Served::Long => Exit::Long,
-    }
+    exit_of(serve(alloc, &program.code, FUEL, input, output))
 }
 
 // Does with a text what the command says.
@@ -210,11 +218,11 @@ pub fn run<F: Files, S: Source, K: Sink>(
     ensures served { (smooth : IsSmooth (map string_bytes words.now)
         (outside (F.view files.old) (S.view input.old) (K.view output.old))
         (outside (F.view files.new) (S.view input.new) (K.view output.new)))
-        → IsOfForm smooth.text → (result ≡ Exit.Done) ⊎ (result ≡ Exit.Memory) }
+        → IsAccepted smooth.text → (result ≡ Exit.Done) ⊎ (result ≡ Exit.Memory) }
     ensures faulty { (smooth : IsSmooth (map string_bytes words.now)
         (outside (F.view files.old) (S.view input.old) (K.view output.old))
         (outside (F.view files.new) (S.view input.new) (K.view output.new)))
-        → ¬ (IsOfForm smooth.text) → (result ≡ Exit.Refused) ⊎ (result ≡ Exit.Memory) }
+        → ¬ (IsAccepted smooth.text) → (result ≡ Exit.Refused) ⊎ (result ≡ Exit.Memory) }
     ensures checked { (smooth : IsSmoothCheck (map string_bytes words.now)
         (outside (F.view files.old) (S.view input.old) (K.view output.old))
         (outside (F.view files.new) (S.view input.new) (K.view output.new)))

@@ -1,1 +1,4 @@
 pub mod Progress
+pub mod Asking
+pub mod Keeping
+pub mod Invoked

@@ -1,4 +1,6 @@
 pub mod Session
-pub mod Replies
+pub mod Asked
+pub mod Items
+pub mod Kept
 pub mod Served
 pub mod Stops

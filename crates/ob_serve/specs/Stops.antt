@@ -7,10 +7,15 @@ use Rattle.ob_io.specs.Told.{Takes, IsEnd}
 use Rattle.ob_io.specs.Lines.{has_newline, has_ended, IsLine, taken, handed, pending}
 use Rattle.ob_io.specs.Views.{SourceView}
 use Rattle.ob_io.specs.declared.lines.Lines.{Lines}
-use Rattle.ob_plain_machine.specs.declared.plain.Plain.{Plain}
-use Rattle.ob_exec.specs.declared.store.Store.{Store}
-use Rattle.ob_serve.specs.Session.{is_blank_line}
-use Rattle.ob_serve.specs.Replies.{answer_of}
+use Rattle.ob_code.specs.declared.image.Image.{Image}
+use Rattle.ob_heap_spec.specs.Contents.{Content}
+use Rattle.ob_rest_spec.specs.AtRest.{IsStoreAtRest}
+use Rattle.ob_silica_steps.specs.Configurations.{SilicaProgram}
+use Rattle.ob_sound_code.specs.SoundCode.{IsSoundCode}
+use Rattle.ob_wire.specs.Replies.{reply_line}
+use Rattle.ob_wire.specs.declared.refusal.Refusal.{Refusal}
+use Rattle.ob_wire.specs.declared.reply.Answer.TheVariants.{Refused}
+use Rattle.ob_serve.specs.Session.{SessionItem, bytes_of, is_blank_line}
 use Rattle.ob_serve.specs.declared.serving.Served.{Served}
 use Rattle.ob_serve.specs.declared.serving.Served.TheVariants.{Done, ReadFault, WriteFault, Memory, Long}
 
@@ -78,9 +83,19 @@ IsStop old new Long = ReadsPart old new × (new.handed ≡ most_taken)
 IsStop old new Memory = ⊤
 IsStop old new WriteFault = ⊥
 
--- the reply to a line, if it gets one, and the store after it
-abbrev pub Replied : Option Plain → Store → Store → List ℕ → Option (Vec ℕ Global) → Type 0
-Replied program old new line None = (is_blank_line line ≡ true) × (new ≡ old)
-Replied program old new line (Some reply) =
-    (is_blank_line line ≡ false) × (reply.items ≡ (answer_of program old line).reply)
-    × (new ≡ (answer_of program old line).after)
+-- the bytes of the reply to a line that is refused
+abbrev pub refusal_line : Refusal → List ℕ
+refusal_line refusal = reply_line (record { id = None; answer = Refused refusal })
+
+-- these bytes and this content are what an item gives
+abbrev pub IsGiven : SessionItem Content → List ℕ → Content → Type 0
+IsGiven item bytes after = (bytes ≡ bytes_of item.reply) × (after ≡ item.after)
+
+-- the reply to a line, if it gets one, and what the store holds after it
+abbrev pub Replied : (Content → List ℕ → SessionItem Content) → Content → Content → List ℕ → Option (Vec ℕ Global) → Type 0
+Replied item old new line None = (is_blank_line line ≡ true) × (new ≡ old)
+Replied item old new line (Some reply) = (is_blank_line line ≡ false) × IsGiven (item old line) reply.items new
+
+-- a store is at rest for each program of which the code is sound
+abbrev pub IsAtRestBy : Image → Content → Type 0
+IsAtRestBy image content = (program : SilicaProgram) → IsSoundCode program image → IsStoreAtRest program.table content

@@ -1,6 +1,9 @@
 //! The session: lines in, replies out.
 #![tactic(auto)]
 
+mod answering;
+mod laws;
 mod serving;
 
+pub use laws::{lines_are_asked, sessions_are_kept};
 pub use serving::{Served, serve};

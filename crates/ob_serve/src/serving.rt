@@ -1,20 +1,19 @@
 //! The session.
-ghost use Rattle.std.specs.Prelude.{◌≡◌, ◌≢◌, ◌+◌, ◌<◌, ◌≤◌, List, ℕ, length, IsTrue, IfOk, IfErr};
-ghost use Rattle.std.specs.List.{list_all};
-ghost use Rattle.ob_base.specs.Limits.{longest_line, most_taken};
+ghost use Rattle.std.specs.Prelude.{◌≡◌, ◌≢◌, ◌+◌, ◌≤◌, IfOk, IfErr};
+ghost use Rattle.ob_base.specs.Limits.{most_taken};
 ghost use Rattle.ob_io.specs.Lines.{EndIsTold, CountsTaken, taken};
 ghost use Rattle.ob_io.specs.Told.{TakesAtMost};
-ghost use Rattle.ob_exec.specs.Sound.{IsSound};
-ghost use Rattle.ob_plain_machine.specs.Closed.{is_closed_program};
-ghost use Rattle.ob_serve.specs.Session.{is_space, is_blank_line};
+ghost use Rattle.ob_serve.specs.Items.{by_machine, items_of};
+ghost use Rattle.ob_serve.specs.Kept.{IsSound};
 ghost use Rattle.ob_serve.specs.Served.{EndsAs};
-ghost use Rattle.ob_serve.specs.Stops.{reader, IsFull, ReadsLine, IsStop, Replied};
+ghost use Rattle.ob_serve.specs.Stops.{reader, ReadsLine, IsStop};
 
+use crate::answering::reply_to;
 use ob_base::{Failed, Memory};
-use ob_exec::{Store, answer, refused};
+use ob_exec_entries::Names;
+use ob_heap::Content;
 use ob_io::{Lines, Next, Sink, Source, write_all};
-use ob_plain_machine::Plain;
-use ob_wire::{Refusal, reply_bytes};
+use ob_verify::Verified;
 use std::alloc::Global;
 
 /// How a session ended.
@@ -30,51 +29,6 @@ pub enum Served {
     Memory,
     /// 2^40 bytes of input were taken, and no more are.
     Long,
-}
-
-fn is_space(byte: u8) -> bool
-    ensures { result ≡ is_space byte }
-{
-    matches!(byte, b' ' | b'\t' | b'\r')
-}
-
-fn are_spaces(line: &[u8]) -> bool
-    ensures { result ≡ list_all is_space line.now }
-{
-    line.iter().all(|byte| is_space(*byte))
-}
-
-fn is_blank(line: &[u8]) -> bool
-    requires { length line.now ≤ longest_line }
-    ensures { result ≡ is_blank_line line.now }
-{
-    are_spaces(line)
-}
-
-// The reply to a line, unless it is blank.
-fn reply_to(
-    alloc: Global,
-    program: &Option<Plain>,
-    store: &mut Store,
-    is_long: bool,
-    line: &[u8],
-) -> Result<Option<Vec<u8>>, Memory>
-    requires short { length line.now ≤ longest_line }
-    requires sound { IsSound program.now store.old }
-    requires closed { IsTrue (is_closed_program program.now) }
-    ensures replied { IfOk result (λ reply. (full : List ℕ) → IsFull is_long line.now full →
-        Replied program.now store.old store.new full reply) }
-    ensures sound { IsSound program.now store.new }
-{
-    if is_long {
-        let reply = reply_bytes(alloc, refused(Refusal::LongLine))?;
-        return Ok(Some(reply));
-    }
-    if is_blank(line) {
-        return Ok(None);
-    }
-    let reply = answer(alloc, program, store, line)?;
-    Ok(Some(reply_bytes(alloc, reply)?))
 }
 
 // The next line, and whether it is too long; or how the session ends.
@@ -104,15 +58,17 @@ fn next_line<S: Source>(
     }
 }
 
-/// Answers the lines of the input, one after another, on a store in memory that is blank at first.
+/// Answers the lines of the input, one after another, by the code of a program and with so many units of fuel for each, on a store in
+/// memory that is empty at first. A reply is written once the store is the one after its line.
 pub fn serve<S: Source, K: Sink>(
     alloc: Global,
-    program: &Option<Plain>,
+    code: &Verified,
+    fuel: u32,
     input: &mut S,
     output: &mut K,
 ) -> Served
-    requires { IsTrue (is_closed_program program.now) }
-    ensures ends { EndsAs program.now
+    requires { IsSound code.now }
+    ensures ends { EndsAs (items_of (by_machine code.now fuel))
         (record { input = S.view input.old; output = K.view output.old })
         (record { input = S.view input.new; output = K.view output.new })
         result }
@@ -131,17 +87,20 @@ pub fn serve<S: Source, K: Sink>(
     ensures once { (S.view input.new).faults + (K.view output.new).faults
         ≤ (S.view input.old).faults + (K.view output.old).faults + 1 }
 {
+    let Ok(names) = Names::of(alloc, code.image()) else {
+        return Served::Memory;
+    };
     let Ok(mut lines) = Lines::new(alloc) else {
         return Served::Memory;
     };
     let mut line = Vec::new(alloc);
-    let mut store = Store::blank(alloc);
+    let mut content = Content::new(alloc);
     'lines: loop {
         let is_long = match next_line(&mut lines, input, &mut line) {
             Ok(is_long) => is_long,
             Err(served) => return served,
         };
-        let reply = match reply_to(alloc, program, &mut store, is_long, &line) {
+        let reply = match reply_to(alloc, code, &names, fuel, &mut content, is_long, &line) {
             Ok(Some(reply)) => reply,
             Ok(None) => continue 'lines,
             Err(Memory) => return Served::Memory,
