@@ -1,1 +1,4 @@
 pub mod Coming
+pub mod Parts
+pub mod Marking
+pub mod Putting

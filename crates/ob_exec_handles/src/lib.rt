@@ -1,2 +1,13 @@
 //! Requests that run nothing, and what a request puts into handles.
 #![tactic(auto)]
+
+mod answered;
+mod changing;
+mod delta;
+mod marking;
+mod putting;
+mod states;
+
+pub use answered::{Answered, refused, unchanged};
+pub use delta::delta_with;
+pub use states::state_told;
