@@ -134,3 +134,12 @@ marked_now (Ok u) mark base old mid new n x y at but e g other =
     objects
     ∙ sym (ap (λ r. option_map_or (λ o. set (objects_over base old) n (marked mark o)) r (objects_over base old)) there)
     ∙ sym (ap (λ b. if b then objects_over base old else option_map_or (λ o. set (objects_over base old) n (marked mark o)) (object_at (objects_over base old) n) (objects_over base old)) other)
+
+-- One put after another.
+
+pub marks_turn : (os new : List PlainObject) (puts : List ((Label × Label) × Handle)) (i : ℕ) (p : (Label × Label) × Handle) (all : List PlainObject)
+    → i < length puts → p ≡ get_or puts i p → new ≡ with_put_marks os (named_of p ∷ [])
+    → with_put_marks os (map named_of (drop i puts)) ≡ all → with_put_marks new (map named_of (drop (i + 1) puts)) ≡ all
+marks_turn os new puts i p all l at e h =
+    ap (λ xs. with_put_marks xs (map named_of (drop (i + 1) puts))) e
+    ∙ sym (ap (λ ps. with_put_marks os (map named_of ps)) (drop_more puts i p l ∙ ap (λ x. x ∷ drop (i + 1) puts) (sym at))) ∙ h

@@ -22,12 +22,11 @@ pub fn unchanged(alloc: Global, answer: Answer) -> Answered
     ensures told { result.answer ≡ answer }
     ensures same { (base : Stored) → LeadsTo base result.delta (content_of base) }
 {
+    let objects = Sequence::new(alloc);
+    let handles = Sequence::new(alloc);
     Answered {
         answer,
-        delta: Delta {
-            objects: Sequence::new(alloc),
-            handles: Sequence::new(alloc),
-        },
+        delta: Delta { objects, handles },
     }
 }
 

@@ -58,8 +58,8 @@ fn set_mark(
     mark: Mark,
     id: ObjectId,
 ) -> Result<(), Memory>
-    requires { id.0 < length (laid_over base.now.objects overlay.old) }
-    requires { is_marked mark id.0 (objects_over base.now.objects overlay.old) ≡ false }
+    requires within { id.0 < length (laid_over base.now.objects overlay.old) }
+    requires other { is_marked mark id.0 (objects_over base.now.objects overlay.old) ≡ false }
     ensures { OnOk result (objects_over base.now.objects overlay.new ≡ with_mark mark id.0 (objects_over base.now.objects overlay.old)) }
 {
     let object = overlay.take(alloc, base, id)?;
@@ -67,7 +67,7 @@ fn set_mark(
 }
 
 // The object of a number is marked.
-fn mark(
+fn mark_object(
     alloc: Global,
     base: &Content,
     overlay: &mut Overlay,
@@ -92,7 +92,7 @@ fn mark_put(
     ensures { OnOk result (objects_over base.now.objects overlay.new ≡ with_put_marks (objects_over base.now.objects overlay.old) (named_of put.now ∷ [])) }
 {
     match put.1.mode {
-        Mode::Shared => mark(alloc, base, overlay, Mark::Shared, put.1.object),
+        Mode::Shared => mark_object(alloc, base, overlay, Mark::Shared, put.1.object),
         Mode::Owned | Mode::Unowned => Ok(()),
     }
 }

@@ -1,11 +1,10 @@
 //! The names of states.
-ghost use Rattle.std.specs.Prelude.{◌≡◌, option_map, IfOk};
+ghost use Rattle.std.specs.Prelude.{◌≡◌, option_map, option_and_then, IfOk};
 ghost use Rattle.std.specs.Option.{option_copied};
 ghost use Rattle.ob_heap.specs.Contents.{content_of};
 ghost use Rattle.ob_heap_spec.specs.Worlds.{by_state};
 ghost use Rattle.ob_invocation_spec.specs.Showing.{contract_of_object, state_name, told_state};
 ghost use Rattle.ob_machine_steps.specs.ImageTables.{contract_of_code, table_of_image};
-ghost use Rattle.ob_base.specs.Optional.{◌>>=◌};
 
 use ob_base::{Memory, ObjectId, StateId};
 use ob_code::{CodeText, ContractCode, Image};
@@ -38,7 +37,7 @@ fn state_name(
     contract: &ContractCode,
     state: Option<StateId>,
 ) -> Result<Option<RcStr>, Memory>
-    ensures { IfOk result (λ name. name ≡ (state >>= state_name (contract_of_code contract.now))) }
+    ensures { IfOk result (λ name. name ≡ option_and_then (state_name (contract_of_code contract.now)) state) }
 {
     let Some(state) = state else {
         return Ok(None);
