@@ -1,3 +1,4 @@
 pub mod PartsLemmas
 pub mod MarkingLemmas
 pub mod PuttingLemmas
+pub mod DeltaLemmas

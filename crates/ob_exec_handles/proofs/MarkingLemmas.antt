@@ -1,9 +1,9 @@
 -- Marks on objects.
-use Rattle.std.proofs.Common.{◌≡◌, ℕ, ◌<◌, ◌+◌, Bool, true, false, List, [], ◌∷◌, length, map, set, drop, get_or, Option, Some, None, Result, Ok, Err, refl, sym, ap, subst, ◌∙◌, true≢false, arith}
+use Rattle.std.proofs.Common.{◌≡◌, ℕ, ◌<◌, Bool, true, false, List, [], ◌∷◌, length, map, set, Option, Some, None, Result, Ok, Err, refl, sym, ap, subst, ◌∙◌, true≢false, arith}
 use Rattle.std.specs.Prelude.{slice_get, slice_set, option_map, OnOk, if◌then◌else◌}
 use Rattle.std.specs.Option.{option_map_or}
 use Rattle.std.proofs.lemmas.Option.{slice_get-map, slice_get_within}
-use Rattle.std.proofs.lemmas.List.{length-map, length-set, map-set, drop_more, drop_all}
+use Rattle.std.proofs.lemmas.List.{length-map, length-set, map-set}
 use Rattle.ob_base.specs.declared.name.Label.{Label}
 use Rattle.ob_heap_spec.specs.Objects.{Object as PlainObject}
 use Rattle.ob_heap_spec.specs.Contents.{object_at}
@@ -134,12 +134,3 @@ marked_now (Ok u) mark base old mid new n x y at but e g other =
     objects
     ∙ sym (ap (λ r. option_map_or (λ o. set (objects_over base old) n (marked mark o)) r (objects_over base old)) there)
     ∙ sym (ap (λ b. if b then objects_over base old else option_map_or (λ o. set (objects_over base old) n (marked mark o)) (object_at (objects_over base old) n) (objects_over base old)) other)
-
--- One put after another.
-
-pub marks_turn : (os new : List PlainObject) (puts : List ((Label × Label) × Handle)) (i : ℕ) (p : (Label × Label) × Handle) (all : List PlainObject)
-    → i < length puts → p ≡ get_or puts i p → new ≡ with_put_marks os (named_of p ∷ [])
-    → with_put_marks os (map named_of (drop i puts)) ≡ all → with_put_marks new (map named_of (drop (i + 1) puts)) ≡ all
-marks_turn os new puts i p all l at e h =
-    ap (λ xs. with_put_marks xs (map named_of (drop (i + 1) puts))) e
-    ∙ sym (ap (λ ps. with_put_marks os (map named_of ps)) (drop_more puts i p l ∙ ap (λ x. x ∷ drop (i + 1) puts) (sym at))) ∙ h

@@ -1,6 +1,6 @@
 -- Handles that are put, and what differs then.
 use lib.Dec.{T}
-use Rattle.std.proofs.Common.{◌≡◌, ℕ, zero, suc, ◌<◌, ◌+◌, Bool, true, false, cond, List, [], ◌∷◌, ◌++◌, length, map, drop, get_or, Option, Some, None, refl, sym, ap, subst, ◌∙◌, true≢false, eqb→eq, append_assoc, arith}
+use Rattle.std.proofs.Common.{◌≡◌, ℕ, zero, suc, ◌<◌, Bool, true, false, cond, List, [], ◌∷◌, length, map, Option, Some, None, refl, sym, ap, subst, ◌∙◌, true≢false, arith}
 use Rattle.std.specs.Prelude.{not, ◌&&◌, nat_eq, filter, AllPairs, slice_index_or, if◌then◌else◌}
 use Rattle.std.specs.Option.{option_map_or, option_or}
 use Rattle.std.specs.List.{AllByRecursion}
@@ -12,7 +12,6 @@ use Rattle.std.specs.declared.cmp.Ordering.{Ordering}
 use Rattle.std.specs.declared.cmp.Ordering.TheVariants.{Less, Equal, Greater}
 use Rattle.std.proofs.lemmas.Bool.Decides.{Decides-eqb}
 use Rattle.std.proofs.lemmas.Cmp.{on_total}
-use Rattle.std.proofs.lemmas.List.{drop_more}
 use Rattle.std.proofs.lemmas.List.Elements.{All-from_recursion}
 use Rattle.std.proofs.lemmas.Map.Text.{is_eq-slice_cmp}
 use Rattle.ob_base.specs.declared.name.Label.{Label}
@@ -254,34 +253,3 @@ puts_lead base last puts changes ob ol is e =
       is = ap (map named_of) (others_lead base last puts ob ol is) ∙ puts_follow puts base;
       others = All-from_recursion (Changed base) (changes_by (other_puts base last)) (others_change base last);
     })
-
--- One put after another.
-
-pub put_turn : (store new puts : List Held) (i : ℕ) (p : Held) (all : List Held) → i < length puts → p ≡ get_or puts i p
-    → new ≡ with_handle p.0 p.1 store → with_handles store (changes_by (drop i puts)) ≡ all → with_handles new (changes_by (drop (i + 1) puts)) ≡ all
-put_turn store new puts i p all l at e h =
-    ap (λ hs. with_handles hs (changes_by (drop (i + 1) puts))) e
-    ∙ sym (ap (λ ps. with_handles store (changes_by ps)) (drop_more puts i p l ∙ ap (λ x. x ∷ drop (i + 1) puts) (sym at))) ∙ h
-
-changes_append : (ps qs : List Held) → changes_by (ps ++ qs) ≡ changes_by ps ++ changes_by qs
-changes_append [] qs = refl
-changes_append (p ∷ ps) qs = ap (λ r. (p.0, Some p.1) ∷ r) (changes_append ps qs)
-
-others_append : (base ps qs : List Held) → other_puts base (ps ++ qs) ≡ other_puts base ps ++ other_puts base qs
-others_append base [] qs = refl
-others_append base (p ∷ ps) qs = by (not (stands_so base p)) (others_append base ps qs)
-  where
-    by : (t : Bool) → other_puts base (ps ++ qs) ≡ other_puts base ps ++ other_puts base qs
-        → cond t (p ∷ other_puts base (ps ++ qs)) (other_puts base (ps ++ qs)) ≡ cond t (p ∷ other_puts base ps) (other_puts base ps) ++ other_puts base qs
-    by true e = ap (λ r. p ∷ r) e
-    by false e = e
-
-pub other_turn : (base : List Held) (changes new : List Change) (puts : List Held) (i : ℕ) (p : Held) (all : List Change) → i < length puts → p ≡ get_or puts i p
-    → new ≡ changes ++ changes_by (other_puts base (p ∷ [])) → changes ++ changes_by (other_puts base (drop i puts)) ≡ all
-    → new ++ changes_by (other_puts base (drop (i + 1) puts)) ≡ all
-other_turn base changes new puts i p all l at e h =
-    ap (λ cs. cs ++ changes_by (other_puts base (drop (i + 1) puts))) e
-    ∙ append_assoc changes (changes_by (other_puts base (p ∷ []))) (changes_by (other_puts base (drop (i + 1) puts)))
-    ∙ ap (λ cs. changes ++ cs) (sym (changes_append (other_puts base (p ∷ [])) (other_puts base (drop (i + 1) puts)))
-    ∙ ap changes_by (sym (others_append base (p ∷ []) (drop (i + 1) puts)))
-    ∙ ap (λ ps. changes_by (other_puts base ps)) (sym (drop_more puts i p l ∙ ap (λ x. x ∷ drop (i + 1) puts) (sym at)))) ∙ h

@@ -17,9 +17,10 @@ pub fn changed_objects(
     requires { length (laid_over base.now.objects overlay.now) ≤ most_objects }
     ensures { IfOk result (λ changes. ObjectsLead base.now.objects changes (objects_over base.now.objects overlay.now)) }
 {
+    let delta = overlay.delta(alloc, base)?;
     let Delta {
         objects,
         handles: _,
-    } = overlay.delta(alloc, base)?;
+    } = delta;
     Ok(objects)
 }

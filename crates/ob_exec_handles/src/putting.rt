@@ -118,5 +118,7 @@ pub fn changes_with(
     // `handles` says that names stand in order.
     let _before = base.handles();
     let last = last_puts(alloc, puts)?;
-    others(alloc, base, last.handles())
+    let after = last.handles();
+    let changes = others(alloc, base, after)?;
+    Ok(changes)
 }
