@@ -2,3 +2,5 @@ pub mod PartsLemmas
 pub mod MarkingLemmas
 pub mod PuttingLemmas
 pub mod DeltaLemmas
+pub mod ChangingLemmas
+pub mod InvokingLemmas

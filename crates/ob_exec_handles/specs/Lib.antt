@@ -2,3 +2,4 @@ pub mod Coming
 pub mod Parts
 pub mod Marking
 pub mod Putting
+pub mod Giving

@@ -6,6 +6,9 @@ use Rattle.std.specs.List.{enumerate_from, cons_option}
 use Rattle.std.proofs.lemmas.List.{drop_more}
 use Rattle.std.proofs.lemmas.Option.{slice_get-map}
 use Rattle.ob_base.specs.Optional.{◌>>=◌, where_true}
+use Rattle.ob_base.specs.declared.id.FieldId.{FieldId}
+use Rattle.ob_base.specs.declared.permission.Mode.{Mode}
+use Rattle.ob_heap.specs.declared.value.Value.{Value}
 use Rattle.ob_base.specs.declared.name.Label.{Label}
 use Rattle.ob_code.specs.declared.image.ContractCode.{ContractCode}
 use Rattle.ob_code.specs.declared.image.FieldCode.{FieldCode}
@@ -19,7 +22,7 @@ use Rattle.ob_table.specs.declared.contract.Contract.{Contract}
 use Rattle.ob_heap.specs.declared.object.Object.{Object}
 use Rattle.ob_heap.specs.declared.object.Handle.{Handle}
 use Rattle.ob_heap.specs.Contents.{named_of}
-use Rattle.ob_heap.specs.Plain.{object_of}
+use Rattle.ob_heap.specs.Plain.{object_of, value_of}
 use Rattle.ob_heap_spec.specs.Contents.{Content}
 use Rattle.ob_heap_spec.specs.Objects.{Object as PlainObject}
 use Rattle.ob_heap_spec.specs.Values.{Value as PlainValue, int_value, bool_value, text_value, reference}
@@ -27,7 +30,7 @@ use Rattle.ob_machine_steps.specs.ImageTables.{type_of_code, contract_of_code, f
 use Rattle.ob_rest_spec.specs.Incoming.{StorePlace, stored_field, IncomingReference, incoming_by_field, incoming_by_handle, fields_onto, handles_onto}
 use Rattle.ob_rest_spec.specs.Modes.{is_owned}
 use Rattle.ob_rest_spec.specs.References.{FieldReference, reference_of, references_of, field_references, available_value}
-use Rattle.ob_owners.specs.Scanning.{first_of, refers_to, owning_place, owning_field, owning_in_object, owning_in_fields, owning_handle, owning_in_handles}
+use Rattle.ob_owners.specs.Scanning.{first_of, refers_to, owned_value, owning_place, owning_field, owning_in_object, owning_in_fields, owning_handle, owning_in_handles}
 use Rattle.ob_owners.specs.Spots.{owner_place}
 
 -- The first that is found.
@@ -112,41 +115,53 @@ owner_is table content n =
 
 -- One field.
 
-pub owning_reference : (n : ℕ) (c : Contract) (holder : ℕ) (o : PlainObject) (k : ℕ) (f : FieldCode) (id : ContractId) (p : PermCode) (v : PlainValue)
-    → f.of ≡ type.Reference id p → available_value c o k ≡ Some v
-    → owning_field n c holder o (k, field_of_code f) ≡ where_true (refers_to n v && is_owned p.mode) (stored_field holder k)
-owning_reference n c holder o k f id p v of at =
-    ap (λ r. reference_of holder k (type_of_code f.of) r >>= owning_place n) at
-    ∙ ap (λ t. reference_of holder k (type_of_code t) (Some v) >>= owning_place n) of ∙ by v
+pub entry_owns : (holder n place : ℕ) (mode : Mode) (entry : FieldId × Value) (found : Option PlainValue) (r : Option FieldId)
+    → Some (value_of entry.1) ≡ found → entry.0.0 ≡ place → r ≡ where_true (refers_to n (value_of entry.1) && is_owned mode) entry.0
+    → option_map (λ (k : FieldId). stored_field holder k.0) r ≡ owned_value n mode (stored_field holder place) found
+entry_owns holder n place mode entry found r at number is =
+    ap (option_map (λ (k : FieldId). stored_field holder k.0)) is ∙ by (refers_to n (value_of entry.1) && is_owned mode)
+    ∙ ap (λ k. where_true (refers_to n (value_of entry.1) && is_owned mode) (stored_field holder k)) number
+    ∙ ap (owned_value n mode (stored_field holder place)) at
   where
-    by : (w : PlainValue) → (reference_of holder k (type_of_code (type.Reference id p)) (Some w) >>= owning_place n)
-        ≡ where_true (refers_to n w && is_owned p.mode) (stored_field holder k)
-    by (int_value z) = refl
-    by (bool_value b) = refl
-    by (text_value bytes) = refl
-    by (reference m) = refl
+    by : (b : Bool) → option_map (λ (k : FieldId). stored_field holder k.0) (where_true b entry.0) ≡ where_true b (stored_field holder entry.0.0)
+    by true = refl
+    by false = refl
 
-none_of_type : (n holder k : ℕ) (t : TypeCode) (r : Option PlainValue) → ((id : ContractId) (p : PermCode) → ¬ (t ≡ type.Reference id p))
-    → (reference_of holder k (type_of_code t) r >>= owning_place n) ≡ None
-none_of_type n holder k type.Int r h = refl
-none_of_type n holder k type.Bool r h = refl
-none_of_type n holder k type.Text r h = refl
-none_of_type n holder k (type.Reference id p) r h = absurd (h id p refl)
+-- what a field of a type owns by a value that it has
+owned_by_type : ℕ → ℕ → ℕ → TypeCode → Option PlainValue → Option StorePlace
+owned_by_type n holder k t r = reference_of holder k (type_of_code t) r >>= owning_place n
 
-pub owning_no_reference : (n : ℕ) (c : Contract) (holder : ℕ) (o : PlainObject) (k : ℕ) (f : FieldCode) → ((id : ContractId) (p : PermCode) → ¬ (f.of ≡ type.Reference id p))
+reference_owns : (n holder k : ℕ) (id : ContractId) (p : PermCode) (r : Option PlainValue)
+    → owned_value n p.mode (stored_field holder k) r ≡ owned_by_type n holder k (type.Reference id p) r
+unfolding owned_by_type
+reference_owns n holder k id p None = refl
+reference_owns n holder k id p (Some (int_value z)) = refl
+reference_owns n holder k id p (Some (bool_value b)) = refl
+reference_owns n holder k id p (Some (text_value bytes)) = refl
+reference_owns n holder k id p (Some (reference m)) = refl
+
+pub field_owns : (n : ℕ) (c : Contract) (holder : ℕ) (o : PlainObject) (k : ℕ) (f : FieldCode) (id : ContractId) (p : PermCode) → f.of ≡ type.Reference id p
+    → owned_value n p.mode (stored_field holder k) (available_value c o k) ≡ owning_field n c holder o (k, field_of_code f)
+unfolding owned_by_type
+field_owns n c holder o k f id p of =
+    reference_owns n holder k id p (available_value c o k) ∙ ap (λ t. owned_by_type n holder k t (available_value c o k)) (sym of)
+
+-- whether a field's type is that of a reference
+abbrev pub is_reference : TypeCode → Bool
+is_reference (type.Reference id p) = true
+is_reference t = false
+
+owns_nothing : (n holder k : ℕ) (t : TypeCode) (r : Option PlainValue) → is_reference t ≡ false → None ≡ owned_by_type n holder k t r
+unfolding owned_by_type
+owns_nothing n holder k type.Int r h = refl
+owns_nothing n holder k type.Bool r h = refl
+owns_nothing n holder k type.Text r h = refl
+owns_nothing n holder k (type.Reference id p) r h = absurd cc
+
+pub field_owns_nothing : (n : ℕ) (c : Contract) (holder : ℕ) (o : PlainObject) (k : ℕ) (f : FieldCode) → is_reference f.of ≡ false
     → None ≡ owning_field n c holder o (k, field_of_code f)
-owning_no_reference n c holder o k f h = sym (none_of_type n holder k f.of (available_value c o k) h)
-
-none_of_none : (n holder k : ℕ) (t : TypeCode) → (reference_of holder k (type_of_code t) None >>= owning_place n) ≡ None
-none_of_none n holder k type.Int = refl
-none_of_none n holder k type.Bool = refl
-none_of_none n holder k type.Text = refl
-none_of_none n holder k (type.Reference id p) = refl
-
-pub owning_no_value : (n : ℕ) (c : Contract) (holder : ℕ) (o : PlainObject) (k : ℕ) (f : FieldCode) → None ≡ available_value c o k
-    → None ≡ owning_field n c holder o (k, field_of_code f)
-owning_no_value n c holder o k f h =
-    sym (none_of_none n holder k f.of) ∙ ap (λ r. reference_of holder k (type_of_code f.of) r >>= owning_place n) h
+unfolding owned_by_type
+field_owns_nothing n c holder o k f h = owns_nothing n holder k f.of (available_value c o k) h
 
 -- One object.
 

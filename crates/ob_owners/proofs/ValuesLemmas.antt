@@ -1,5 +1,5 @@
 -- The values of available fields.
-use Rattle.std.proofs.Common.{◌≡◌, ℕ, Bool, true, false, List, [], ◌∷◌, map, Option, Some, None, refl, sym, ap, ◌∙◌}
+use Rattle.std.proofs.Common.{◌≡◌, ℕ, Bool, true, false, List, [], ◌∷◌, map, Option, Some, None, refl, sym, ap, subst, ◌∙◌}
 use Rattle.std.specs.Prelude.{nat_eq, slice_get, option_map, IfSome, if◌then◌else◌}
 use Rattle.std.specs.Option.{option_map_or}
 use Rattle.std.proofs.lemmas.Bool.Decides.{Decides-eqb}
@@ -19,7 +19,7 @@ use Rattle.ob_machine_steps.specs.ImageTables.{contract_of_code, field_of_code}
 use Rattle.ob_rest_spec.specs.References.{available_value}
 use Rattle.ob_owners.specs.Scanning.{entry_at}
 
-pub entry_number : (k : ℕ) (es : List (FieldId × Value)) → IfSome (entry_at k es) (λ e. e.0.0 ≡ k)
+entry_number : (k : ℕ) (es : List (FieldId × Value)) → IfSome (entry_at k es) (λ e. e.0.0 ≡ k)
 entry_number k [] = tt
 entry_number k (e ∷ es) = by (nat_eq e.0.0 k) refl (entry_number k es)
   where
@@ -42,23 +42,32 @@ value_by : (c : ContractCode) (o : Object) (k : ℕ) → available_value (contra
     ≡ (if option_map_or (is_available o.state) (option_map field_of_code (slice_get c.fields k)) false then fields_of o.fields k else None)
 value_by c o k = ap (λ (r : Option Field). if option_map_or (is_available o.state) r false then fields_of o.fields k else None) (slice_get-map field_of_code c.fields k)
 
-pub value_there : (c : ContractCode) (o : Object) (k : ℕ) (f : FieldCode) → slice_get c.fields k ≡ Some f → is_available_in o.state f ≡ true
-    → option_map (λ (e : FieldId × Value). value_of e.1) (entry_at k o.fields) ≡ available_value (contract_of_code c) (object_of o) k
-value_there c o k f at is =
-    entry_value k o.fields
-    ∙ sym (ap (λ b. if b then fields_of o.fields k else None) is)
-    ∙ sym (ap (λ r. if option_map_or (is_available o.state) (option_map field_of_code r) false then fields_of o.fields k else None) at)
+-- the entry of a field, by whether it is available
+abbrev entry_if : Bool → ℕ → List (FieldId × Value) → Option (FieldId × Value)
+entry_if b k es = if b then entry_at k es else None
+
+entry_if_value : (b : Bool) (k : ℕ) (es : List (FieldId × Value))
+    → option_map (λ (e : FieldId × Value). value_of e.1) (entry_if b k es) ≡ (if b then fields_of es k else None)
+entry_if_value true k es = entry_value k es
+entry_if_value false k es = refl
+
+entry_if_number : (b : Bool) (k : ℕ) (es : List (FieldId × Value)) → IfSome (entry_if b k es) (λ e. e.0.0 ≡ k)
+entry_if_number true k es = entry_number k es
+entry_if_number false k es = tt
+
+pub value_there : (c : ContractCode) (o : Object) (k : ℕ) (f : FieldCode) (r : Option (FieldId × Value)) → slice_get c.fields k ≡ Some f
+    → r ≡ (if is_available_in o.state f then entry_at k o.fields else None)
+    → option_map (λ (e : FieldId × Value). value_of e.1) r ≡ available_value (contract_of_code c) (object_of o) k
+value_there c o k f r at is =
+    ap (option_map (λ (e : FieldId × Value). value_of e.1)) is ∙ entry_if_value (is_available_in o.state f) k o.fields
+    ∙ sym (ap (λ (g : Option FieldCode). if option_map_or (is_available o.state) (option_map field_of_code g) false then fields_of o.fields k else None) at)
     ∙ sym (value_by c o k)
 
-pub value_hidden : (c : ContractCode) (o : Object) (k : ℕ) (f : FieldCode) → slice_get c.fields k ≡ Some f → is_available_in o.state f ≡ false
-    → None ≡ available_value (contract_of_code c) (object_of o) k
-value_hidden c o k f at is =
-    sym (ap (λ b. if b then fields_of o.fields k else None) is)
-    ∙ sym (ap (λ r. if option_map_or (is_available o.state) (option_map field_of_code r) false then fields_of o.fields k else None) at)
-    ∙ sym (value_by c o k)
+pub number_there : (o : Object) (k : ℕ) (f : FieldCode) (r : Option (FieldId × Value)) → r ≡ (if is_available_in o.state f then entry_at k o.fields else None)
+    → IfSome r (λ e. e.0.0 ≡ k)
+number_there o k f r is = subst (λ x. IfSome x (λ e. e.0.0 ≡ k)) (sym is) (entry_if_number (is_available_in o.state f) k o.fields)
 
-pub value_missing : (c : ContractCode) (o : Object) (k : ℕ) → slice_get c.fields k ≡ None
-    → None ≡ available_value (contract_of_code c) (object_of o) k
+pub value_missing : (c : ContractCode) (o : Object) (k : ℕ) → slice_get c.fields k ≡ None → None ≡ available_value (contract_of_code c) (object_of o) k
 value_missing c o k at =
-    sym (ap (λ r. if option_map_or (is_available o.state) (option_map field_of_code r) false then fields_of o.fields k else None) at)
+    sym (ap (λ (g : Option FieldCode). if option_map_or (is_available o.state) (option_map field_of_code g) false then fields_of o.fields k else None) at)
     ∙ sym (value_by c o k)

@@ -4,6 +4,7 @@ use Rattle.std.specs.Option.{option_map_or, option_or}
 use Rattle.std.specs.List.{enumerate_from}
 use Rattle.ob_base.specs.Optional.{◌>>=◌, where_true}
 use Rattle.ob_base.specs.declared.id.FieldId.{FieldId}
+use Rattle.ob_base.specs.declared.permission.Mode.{Mode}
 use Rattle.ob_table.specs.Tables.{ClassTable, contract_at}
 use Rattle.ob_table.specs.declared.contract.Contract.{Contract}
 use Rattle.ob_table.specs.declared.contract.Field.{Field}
@@ -29,6 +30,10 @@ first_of go (x ∷ xs) = option_or (go x) (first_of go xs)
 abbrev pub refers_to : ℕ → PlainValue → Bool
 refers_to n (reference m) = nat_eq m n
 refers_to n value = false
+
+-- the place of a field of this mode, where a value that it has owns the object of a number
+abbrev pub owned_value : ℕ → Mode → StorePlace → Option PlainValue → Option StorePlace
+owned_value n mode place found = found >>= λ v. where_true (refers_to n v && is_owned mode) place
 
 -- the place of a reference in a field, where it owns the object of a number
 abbrev pub owning_place : ℕ → FieldReference → Option StorePlace

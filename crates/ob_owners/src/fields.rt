@@ -1,12 +1,14 @@
 //! The field that owns an object.
-ghost use Rattle.std.specs.Prelude.{◌≡◌, ℕ, Some, map, option_map, IfOk};
+ghost use Rattle.std.specs.Prelude.{◌≡◌, ◌&&◌, ℕ, map, option_map, IfOk};
 ghost use Rattle.std.specs.List.{enumerate_from};
+ghost use Rattle.ob_base.specs.Optional.{where_true};
 ghost use Rattle.ob_base.specs.declared.id.FieldId.{FieldId as FieldNumber};
 ghost use Rattle.ob_heap.specs.Plain.{object_of, value_of};
 ghost use Rattle.ob_machine_steps.specs.ImageTables.{contract_of_code, field_of_code, table_of_image};
 ghost use Rattle.ob_rest_spec.specs.Incoming.{stored_field};
 ghost use Rattle.ob_rest_spec.specs.Modes.{is_owned};
-ghost use Rattle.ob_owners.specs.Scanning.{first_of, refers_to, owning_field, owning_in_object, owning_in_fields};
+ghost use Rattle.ob_rest_spec.specs.References.{available_value};
+ghost use Rattle.ob_owners.specs.Scanning.{first_of, refers_to, owned_value, owning_field, owning_in_object, owning_in_fields};
 ghost use Rattle.ob_owners.specs.Spots.{place_of};
 
 use crate::spot::Spot;
@@ -35,6 +37,32 @@ fn refers_to(value: &Value, id: ObjectId) -> bool
     }
 }
 
+// The number of a field, where its value is a reference by which it owns the object of a number.
+fn owning_entry(entry: &(FieldId, Value), mode: Mode, id: ObjectId) -> Option<FieldId>
+    ensures { result ≡ where_true (refers_to id.0 (value_of entry.now.1) && is_owned mode) entry.now.0 }
+{
+    if refers_to(&entry.1, id) && is_owned(mode) {
+        return Some(entry.0);
+    }
+    None
+}
+
+// The number of the field at a place, declared with this mode, where it owns the object of a number.
+fn owning_reference(
+    contract: &ContractCode,
+    object: &Object,
+    place: usize,
+    mode: Mode,
+    id: ObjectId,
+) -> Option<FieldId>
+    ensures { (holder : ℕ) → option_map (λ (k : FieldNumber). stored_field holder k.0) result ≡ owned_value id.0 mode (stored_field holder place) (available_value (contract_of_code contract.now) (object_of object.now) place) }
+{
+    match available(contract, object, place) {
+        Some(entry) => owning_entry(entry, mode, id),
+        None => None,
+    }
+}
+
 // The number of the field at a place, where it owns the object of a number.
 fn owning_field(
     contract: &ContractCode,
@@ -45,14 +73,12 @@ fn owning_field(
 ) -> Option<FieldId>
     ensures { (holder : ℕ) → option_map (λ (k : FieldNumber). stored_field holder k.0) result ≡ owning_field id.0 (contract_of_code contract.now) holder (object_of object.now) (place, field_of_code field.now) }
 {
-    let TypeCode::Reference(_, perm) = field.of else {
-        return None;
-    };
-    let entry = available(contract, object, place)?;
-    if refers_to(&entry.1, id) && is_owned(perm.mode) {
-        return Some(entry.0);
+    match field.of {
+        TypeCode::Reference(_, perm) => owning_reference(contract, object, place, perm.mode, id),
+        TypeCode::Int => None,
+        TypeCode::Bool => None,
+        TypeCode::Text => None,
     }
-    None
 }
 
 // The number of the first such field of an object of a contract.

@@ -1,5 +1,5 @@
 //! The values of the fields that are available in an object's state.
-ghost use Rattle.std.specs.Prelude.{◌≡◌, ℕ, option_map, option_copied, IfSome};
+ghost use Rattle.std.specs.Prelude.{◌≡◌, None, option_map, option_copied, IfSome, if◌then◌else◌};
 ghost use Rattle.ob_base.specs.declared.id.FieldId.{FieldId as FieldNumber};
 ghost use Rattle.ob_heap.specs.declared.value.Value.{Value as FieldValue};
 ghost use Rattle.ob_heap.specs.Plain.{object_of, value_of};
@@ -64,6 +64,20 @@ fn find(items: &[(FieldId, Value)], place: usize) -> Option<&(FieldId, Value)>
     None
 }
 
+// The same where the field is available in the object's state.
+fn available_in<'a>(
+    object: &'a Object,
+    place: usize,
+    field: &FieldCode,
+) -> Option<&'a (FieldId, Value)>
+    ensures { option_copied result ≡ (if is_available_in object.now.state field.now then entry_at place object.now.fields else None) }
+{
+    if is_available(object.state, field) {
+        return find(object.fields.as_slice(), place);
+    }
+    None
+}
+
 /// The value of the field at a place among a contract's fields, with the field's number, where it is available in the
 /// object's state.
 pub fn available<'a>(
@@ -75,7 +89,7 @@ pub fn available<'a>(
     ensures number { IfSome (option_copied result) (λ (e : FieldNumber × FieldValue). e.0.0 ≡ place) }
 {
     match contract.fields.get(place) {
-        Some(field) if is_available(object.state, field) => find(object.fields.as_slice(), place),
-        _ => None,
+        Some(field) => available_in(object, place, field),
+        None => None,
     }
 }
