@@ -18,6 +18,8 @@ pub enum CaseKind {
     Terms,
     /// The instructions of the code of its program.
     Code,
+    /// The bytes of that code.
+    Compiled,
     /// What runs of that code come to, where the text is a part, and what is asked tells the runs.
     Calls,
     /// Whether `check` writes one line of each front of its bytes.
@@ -68,6 +70,7 @@ impl CaseKind {
             "table" => Some(CaseKind::Table),
             "terms" => Some(CaseKind::Terms),
             "code" => Some(CaseKind::Code),
+            "compiled" => Some(CaseKind::Compiled),
             "calls" => Some(CaseKind::Calls),
             "cuts" => Some(CaseKind::Cuts),
             "serve" => Some(CaseKind::Serve),
@@ -133,6 +136,7 @@ impl CaseKind {
             CaseKind::Table => table::table(alloc, asked, lines),
             CaseKind::Terms => terms::terms(alloc, asked, lines),
             CaseKind::Code => code::code(alloc, asked, lines),
+            CaseKind::Compiled => code::compiled(alloc, asked, lines),
             CaseKind::Calls => {
                 calls::calls(alloc, case.part("text"), case.part("objects"), asked, lines)
             }

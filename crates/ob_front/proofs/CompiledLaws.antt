@@ -9,8 +9,10 @@ use Rattle.ob_base.specs.declared.id.TxId.{TxId}
 use Rattle.ob_table.specs.Tables.{ClassTable, contract_at, signature_at}
 use Rattle.ob_table.specs.declared.contract.Contract.{Contract}
 use Rattle.ob_table.specs.declared.contract.Signature.{Signature}
+use Rattle.ob_table_spec.specs.Conditions.{IsClassTable}
 use Rattle.ob_table_spec.specs.WellFormed.{place_of_body}
 use Rattle.ob_silica.specs.Terms.{SilicaBody}
+use Rattle.ob_silica_formed.specs.WellFormedTerms.{IsWellFormedTerms}
 use Rattle.ob_lower_spec.specs.BodyTerms.{Lowers, LowersWith, AllLower}
 use Rattle.ob_lower_formed.specs.Law.{HasFewSlots}
 use Rattle.ob_lower_formed.proofs.Law.{lowering_makes_all_well}
@@ -19,6 +21,7 @@ use Rattle.ob_front.specs.Lowered.{AreLoweredTo}
 use Rattle.ob_front.specs.Programs.{IsChecked, IsProgram, HasTextFault}
 use Rattle.ob_base.specs.TextErrors.{OnFault}
 use Rattle.ob_base.specs.declared.text_error.TextError.{TextError}
+use Rattle.ob_code.specs.Images.{image as image_format}
 use Rattle.ob_code.specs.declared.image.Image.{Image}
 use Rattle.ob_emit_spec.specs.Weights.{weight, most_weight, IsTooHeavy}
 use Rattle.ob_silica.specs.TermsView.{silica_body_of}
@@ -125,6 +128,13 @@ module _ (text : List ℕ) (table : ClassTable) (bodies slice : List TermBody) (
   slice_too_heavy cause told =
       weight_told text table (map silica_body_of bodies) cause is
       (subst (λ bs. OnFault cause (IsTooHeavy table (map silica_body_of bs))) whole told)
+
+  pub slice_fits : (made : Image)
+      → (IsClassTable table → All (IsWellFormedTerms table) (map silica_body_of slice) → image_format.fits made)
+      → image_format.fits made
+  slice_fits made fits =
+      fits compiled.lowered.table (subst (λ bs. All (IsWellFormedTerms table) (map silica_body_of bs)) (sym whole)
+      (λ k d lt. (compiled.checked k d lt).well_formed))
 
   module _ (image : Image) (emitted : image ≡ image_of table (map silica_body_of slice)) where
     pub slice_image : image ≡ image_of table (map silica_body_of bodies)

@@ -4,6 +4,7 @@ ghost use Rattle.ob_base.specs.declared.fault.ProgramFault.{ProgramFault};
 ghost use Rattle.ob_silica.specs.Terms.{SilicaBody};
 ghost use Rattle.ob_silica.specs.TermsView.{silica_body_of};
 ghost use Rattle.ob_table.specs.Tables.{ClassTable};
+ghost use Rattle.ob_code.specs.Images.{image};
 ghost use Rattle.ob_code.specs.declared.image.Image.{Image};
 ghost use Rattle.ob_emit_spec.specs.EmittedImages.{image_of};
 ghost use Rattle.ob_front.specs.Programs.{HasTerms, HasTermsFault, IsChecked, IsProgram, IsAccepted, HasTextFault};
@@ -84,12 +85,14 @@ fn checked(alloc: Global, text: &[u8]) -> Result<LoweredProgram, CompileError>
 /// The program of a text, or its first fault: one that `lowered` tells, or the first premise of the permission rules that
 /// fails, body by body, or `LIMIT` at the text's start where the program weighs more than it may. The program is sound: no request
 /// of it on a store at rest goes wrong, each leaves the store at rest, and each stored asset that was never shared nor disowned has
-/// exactly one owner. Its code is sound: the machine runs each request to the end that the source meaning says.
+/// exactly one owner. Its code is sound: the machine runs each request to the end that the source meaning says. The code has a
+/// spelling, so that it may be encoded.
 pub fn compile(alloc: Global, text: &[u8]) -> Result<Compiled, CompileError>
     ensures program { IfOk result (λ c. IsProgram text.now c.table (map silica_body_of c.bodies)) }
     ensures compiled { IfOk result (λ c. IsCompiledProgram c.table (map silica_body_of c.bodies)) }
     ensures sound { IfOk result (λ c. IsSoundProgram c.table (map silica_body_of c.bodies)) }
     ensures code { IfOk result (λ c. c.code ≡ image_of c.table (map silica_body_of c.bodies)) }
+    ensures fits { IfOk result (λ c. image.fits c.code) }
     ensures sound_code { IfOk result (λ c. HasSoundCode c.table (map silica_body_of c.bodies) c.code) }
     ensures fault { IfErr result (λ e. OnFault e (HasTextFault text.now)) }
 {

@@ -1,8 +1,10 @@
-//! The instructions of a program's bodies, in the words by which images are told.
+//! The instructions of a program's bodies, in the words by which images are told, and the bytes of its code.
+ghost use Rattle.ob_code.specs.Images.{image};
+
 use crate::kinds::lines::Lines;
 use crate::kinds::tokens::put_error;
 use ob_base::{ContractId, FieldId, Operator, StateId, TxId};
-use ob_code::{BodyCode, ContractCode, Image, Instruction};
+use ob_code::{BodyCode, ContractCode, Image, Instruction, encode};
 use ob_front::compile;
 use std::alloc::Global;
 
@@ -290,6 +292,26 @@ pub fn put_image(lines: &mut Lines, image: &Image) {
 pub fn code(alloc: Global, text: &[u8], lines: &mut Lines) {
     match compile(alloc, text) {
         Ok(program) => put_image(lines, program.code.image()),
+        Err(error) => put_error(alloc, error, lines),
+    }
+}
+
+// Puts the bytes of an image in hexadecimal digits.
+fn put_encoded(alloc: Global, code: &Image, lines: &mut Lines)
+    requires { image.fits code.now }
+{
+    if let Some(bytes) = lines.made(encode(alloc, code)) {
+        for byte in &bytes {
+            lines.put_byte(*byte);
+        }
+        lines.end();
+    }
+}
+
+/// The bytes of the code that a text's program is compiled to, in hexadecimal digits, or the text's fault.
+pub fn compiled(alloc: Global, text: &[u8], lines: &mut Lines) {
+    match compile(alloc, text) {
+        Ok(program) => put_encoded(alloc, program.code.image(), lines),
         Err(error) => put_error(alloc, error, lines),
     }
 }

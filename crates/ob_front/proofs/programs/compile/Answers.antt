@@ -1,5 +1,5 @@
 use Rattle.std.proofs.lemmas.Result.{err_from_is_err_and}
-use Rattle.ob_front.proofs.CompiledLaws.{slice_in_order, slice_program, slice_too_heavy, slice_image, slice_verified, slice_sound_code, checked_texts_are_compiled, compiled_is_sound}
+use Rattle.ob_front.proofs.CompiledLaws.{slice_in_order, slice_program, slice_too_heavy, slice_image, slice_fits, slice_verified, slice_sound_code, checked_texts_are_compiled, compiled_is_sound}
 use Rattle.ob_front.proofs.programs.compile.Goals as goal
 
 pub emit-requires : goal.emit-requires
@@ -27,3 +27,6 @@ returns-clause-code c = rw c.in_ok-code.ensures.kept (slice_image _ _ _ _ c.in_o
 
 pub returns-clause-sound_code : goal.returns-clause-sound_code
 returns-clause-sound_code c = rw c.in_ok-code.ensures.kept (slice_sound_code _ _ _ _ c.in_ok-program.ensures.checked c.as_slice.ensures _ c.in_ok-image.ensures.image)
+
+pub returns-clause-fits : goal.returns-clause-fits
+returns-clause-fits c = rw c.in_ok-code.ensures.kept (slice_fits _ _ _ _ c.in_ok-program.ensures.checked c.as_slice.ensures _ c.in_ok-image.ensures.fits)
