@@ -11,12 +11,11 @@ use Rattle.ob_lexer.specs.Flaws.{HasFault, too_long, no_utf8, flawed}
 use Rattle.ob_front.specs.Stages.{at_token, at_row, HasTableFault, at_tree, at_bracket, at_site}
 use Rattle.ob_table.specs.Tables.{ClassTable}
 use Rattle.ob_silica.specs.Terms.{SilicaBody}
-use Rattle.ob_silica_steps.specs.Configurations.{SilicaProgram}
 use Rattle.ob_code.specs.declared.image.Image.{Image}
 use Rattle.ob_sound_code.specs.SoundCode.{IsSoundCode}
 use Rattle.ob_front.specs.Programs.{HasTermsFault, at_table, at_slot, IsProgram, IsAccepted, HasTextFault, at_terms, at_premise, at_weight}
 use Rattle.ob_front.proofs.ProgramsLaws.{never_accepted_and_faulty_lem}
-use Rattle.ob_serve.specs.Items.{by_source, by_machine, items_of}
+use Rattle.ob_serve.specs.Items.{by_machine, items_of}
 use Rattle.ob_serve.specs.Served.{Streams, Items, IsAll, Finishes, FailsToRead, FailsToWrite, GivesUp, ReachesLimit, EndsAs}
 use Rattle.ob_serve.specs.declared.serving.Served.{Served}
 use Rattle.ob_serve.specs.declared.serving.Served.TheVariants as ended

@@ -1,8 +1,7 @@
 -- The sessions of a program that is served (this project's own).
 use Rattle.std.specs.Prelude.{ℕ}
 use Rattle.ob_table.specs.Tables.{ClassTable}
-use Rattle.ob_code.specs.declared.image.Image.{Image}
-use Rattle.ob_serve.specs.Items.{by_source, by_machine, items_of}
+use Rattle.ob_serve.specs.Items.{by_source, items_of}
 use Rattle.ob_serve.specs.Kept.{KeepsSessions}
 use Rattle.ob_serve.specs.Served.{Items}
 

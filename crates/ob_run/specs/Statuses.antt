@@ -1,5 +1,5 @@
 -- What each status of a run says of the words, the files and the two streams, before and after.
-use Rattle.std.specs.Prelude.{ℕ, ◌≡◌, ◌<◌, ◌⊎◌, ◌++◌, List, [], ◌∷◌, length, codes, Option, None, Some}
+use Rattle.std.specs.Prelude.{ℕ, ◌≡◌, ◌<◌, ◌⊎◌, ◌++◌, List, [], ◌∷◌, length, codes, None, Some}
 use Rattle.ob_base.specs.Limits.{most_taken}
 use Rattle.ob_base.specs.declared.fault.ProgramFault.{ProgramFault}
 use Rattle.ob_io.specs.Causes.{Rose}

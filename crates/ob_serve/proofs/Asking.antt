@@ -1,6 +1,6 @@
 -- What a line asks is worked out, and the names in it are labels.
-use Rattle.std.proofs.Common.{◌≡◌, ℕ, ℤ, ◌<◌, ◌≤◌, Bool, true, false, ◌&&◌, List, [], ◌∷◌, ◌++◌, length, map, Option, Some, None, refl, ◌∙◌, ap, arith}
-use Rattle.std.specs.Prelude.{Result, Ok, Err, IfOk, nat_lt, option_to_list, codes, if◌then◌else◌}
+use Rattle.std.proofs.Common.{◌≡◌, ℕ, ℤ, ◌<◌, ◌≤◌, Bool, true, false, ◌&&◌, List, ◌∷◌, ◌++◌, length, map, Option, Some, None, refl, ◌∙◌, ap, arith}
+use Rattle.std.specs.Prelude.{Ok, Err, IfOk, nat_lt, option_to_list, codes, if◌then◌else◌}
 use Rattle.std.specs.List.{list_all}
 use Rattle.std.specs.Str.{is_utf8, bytes_eq}
 use Rattle.std.proofs.lemmas.Bool.Decides.{nat_tests}
@@ -15,8 +15,7 @@ use Rattle.ob_invocation_spec.specs.Requests as asked
 use Rattle.ob_invocation_spec.specs.Requests.{argument_names, names_in, HasLabels}
 use Rattle.ob_wire.specs.Meanings.{argument_meant, operation_of, request_of}
 use Rattle.ob_wire.specs.Reading.{request_in, value_of}
-use Rattle.ob_wire.specs.Requests.{LabelIfAt, number_argument, text_argument, handle_named, handle_argument, argument_of, arguments_of, AreArgs, HasParts, IsRequest, IsJson, Asks, IsNoJson, AsksNothing}
-use Rattle.ob_wire.specs.declared.refusal.Refusal.{Refusal}
+use Rattle.ob_wire.specs.Requests.{LabelIfAt, number_argument, handle_named, handle_argument, argument_of, arguments_of, AreArgs, HasParts, IsRequest, IsJson, Asks, IsNoJson, AsksNothing}
 use Rattle.ob_wire.specs.declared.refusal.Refusal.TheVariants.{LongLine, Json, Shape}
 use Rattle.ob_wire.specs.declared.request.Arg.{Arg}
 use Rattle.ob_wire.specs.declared.request.Arg.TheVariants as arg

@@ -9,7 +9,7 @@ use Rattle.ob_heap_spec.specs.Objects.{Object}
 use Rattle.ob_heap_spec.specs.Contents.{HandleName, Handle, Content}
 use Rattle.ob_heap.specs.Plain.{object_of}
 use Rattle.ob_heap.specs.Contents.{Stored, content_of, named_of}
-use Rattle.ob_heap.specs.Deltas.{with_handles, AreNext, IsDelta}
+use Rattle.ob_heap.specs.Deltas.{with_handles, IsDelta}
 use Rattle.ob_heap.specs.Differences.{with_objects}
 use Rattle.ob_heap.specs.declared.delta.Delta.{Delta}
 use Rattle.ob_invocation_spec.specs.Replies.{Invocation, invoked, goes_wrong}
@@ -22,8 +22,8 @@ use Rattle.ob_wire.specs.Reading.{value_of}
 use Rattle.ob_wire.specs.declared.refusal.Refusal.{Refusal}
 use Rattle.ob_wire.specs.declared.refusal.Refusal.TheVariants.{LongLine}
 use Rattle.ob_wire.specs.declared.request.Request.{Request}
-use Rattle.ob_serve.specs.Session.{SessionItem, is_blank_line}
-use Rattle.ob_serve.specs.Asked.{asked_by, asked_by_value}
+use Rattle.ob_serve.specs.Session.{is_blank_line}
+use Rattle.ob_serve.specs.Asked.{asked_by_value}
 use Rattle.ob_serve.specs.Items.{RequestMeaning, invoked_item, item_of_asked, item_of}
 use Rattle.ob_serve.specs.Stops.{IsFull, IsGiven, Replied, refusal_line}
 use Rattle.ob_serve.proofs.Asking.{asks_too_long, asks_by_value}
@@ -31,10 +31,6 @@ use Rattle.ob_serve.proofs.Asking.{asks_too_long, asks_by_value}
 -- a delta is one of a content that has the same objects
 pub delta_stays : (old new : Stored) (delta : Delta) → new.objects ≡ old.objects → IsDelta old delta → IsDelta new delta
 delta_stays old new delta same is = record { objects = is.objects; next = rw same is.next; handles = is.handles }
-
--- stores with the same objects and handles hold the same
-pub holds_same : (old new : Stored) → new.objects ≡ old.objects → new.handles ≡ old.handles → content_of new ≡ content_of old
-holds_same old new objects handles = rw (objects, handles) refl
 
 abbrev holding : List Object → List (HandleName × Handle) → Content
 holding objects handles = record { objects = objects; handles = handles }

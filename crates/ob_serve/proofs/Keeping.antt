@@ -1,5 +1,5 @@
 -- Each item of a session over sound code is kept, and is the same by the code and by the source meaning.
-use Rattle.std.proofs.Common.{◌≡◌, ℕ, ℤ, Bool, true, false, List, [], ◌∷◌, Option, Some, None, refl, sym, ◌∙◌, ap, subst, arith}
+use Rattle.std.proofs.Common.{◌≡◌, ℕ, ℤ, List, [], ◌∷◌, Some, refl, sym, ◌∙◌, ap, subst, arith}
 use Rattle.std.specs.Prelude.{Result, Ok, Err, IfOk}
 use Rattle.ob_table.specs.Tables.{ClassTable}
 use Rattle.ob_code.specs.declared.image.Image.{Image}
@@ -22,9 +22,9 @@ use Rattle.ob_wire.specs.declared.refusal.Refusal.{Refusal}
 use Rattle.ob_wire.specs.declared.request.Request.{Request}
 use Rattle.ob_serve.specs.Session.{SessionItem, session, requests_in}
 use Rattle.ob_serve.specs.Asked.{asked_by}
-use Rattle.ob_serve.specs.Items.{RequestMeaning, by_source, by_machine, refused_item, invoked_item, item_of_asked, item_of, items_of}
+use Rattle.ob_serve.specs.Items.{by_source, by_machine, refused_item, invoked_item, item_of_asked, item_of}
 use Rattle.ob_serve.specs.Stops.{IsAtRestBy}
-use Rattle.ob_serve.specs.Kept.{says_done, was_done, IsKept, AreKept, KeepsSessions, GoesAsSource}
+use Rattle.ob_serve.specs.Kept.{says_done, IsKept, AreKept, KeepsSessions, GoesAsSource}
 use Rattle.ob_serve.proofs.Asking.{asked_labels}
 
 -- the store at the start is at rest

@@ -1,5 +1,5 @@
 -- The session of a program over a store in memory, for any meaning of requests (this project's own).
-use Rattle.std.specs.Prelude.{ℕ, ℤ, List, Option, Some, None, Result, Ok, Err}
+use Rattle.std.specs.Prelude.{ℕ, ℤ, List, Some, None, Result, Ok, Err}
 use Rattle.ob_table.specs.Tables.{ClassTable}
 use Rattle.ob_code.specs.declared.image.Image.{Image}
 use Rattle.ob_heap_spec.specs.Contents.{Content, empty_content}

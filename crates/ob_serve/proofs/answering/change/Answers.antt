@@ -1,4 +1,4 @@
-use Rattle.ob_serve.proofs.Invoked.{delta_stays, holds_same}
+use Rattle.ob_serve.proofs.Invoked.{delta_stays}
 use Rattle.ob_serve.proofs.answering.change.Goals as goal
 
 pub apply-requires-clause-delta : goal.apply-requires-clause-delta
