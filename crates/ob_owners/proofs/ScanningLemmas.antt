@@ -1,9 +1,9 @@
 -- The first owning place is the owner.
-use Rattle.std.proofs.Common.{◌≡◌, ℕ, ◌+◌, ◌<◌, Bool, true, false, cond, List, [], ◌∷◌, ◌++◌, map, length, drop, get_or, Option, Some, None, refl, sym, ap, ◌∙◌}
-use Rattle.std.specs.Prelude.{nat_eq, ◌&&◌, slice_get, option_map, filter, find, filter_map, flat_map}
+use Rattle.std.proofs.Common.{◌≡◌, ℕ, ◌+◌, ◌<◌, ◌≤◌, Bool, true, false, cond, List, [], ◌∷◌, ◌++◌, map, length, drop, get_or, Option, Some, None, refl, sym, ap, ◌∙◌}
+use Rattle.std.specs.Prelude.{nat_eq, ◌&&◌, slice_get, is_some, option_map, filter, find, filter_map, flat_map}
 use Rattle.std.specs.Option.{option_map_or, option_or}
 use Rattle.std.specs.List.{enumerate_from, cons_option}
-use Rattle.std.proofs.lemmas.List.{drop_more}
+use Rattle.std.proofs.lemmas.List.{drop_more, drop_all}
 use Rattle.std.proofs.lemmas.Option.{slice_get-map}
 use Rattle.ob_base.specs.Optional.{◌>>=◌, where_true}
 use Rattle.ob_base.specs.declared.id.FieldId.{FieldId}
@@ -19,6 +19,7 @@ use Rattle.ob_code.specs.declared.image.TypeCode.TheVariants as type
 use Rattle.ob_base.specs.declared.id.ContractId.{ContractId}
 use Rattle.ob_table.specs.Tables.{ClassTable, contract_at}
 use Rattle.ob_table.specs.declared.contract.Contract.{Contract}
+use Rattle.ob_table.specs.declared.contract.Field.{Field}
 use Rattle.ob_heap.specs.declared.object.Object.{Object}
 use Rattle.ob_heap.specs.declared.object.Handle.{Handle}
 use Rattle.ob_heap.specs.Contents.{named_of}
@@ -177,3 +178,35 @@ pub object_missing : (code : Image) (n holder : ℕ) (o : Object) → slice_get 
 object_missing code n holder o at =
     sym (ap (λ r. option_map_or (λ (d : Contract). first_of (owning_field n d holder (object_of o)) (enumerate_from 0 d.fields)) r None)
     (slice_get-map contract_of_code code.contracts o.contract.0 ∙ ap (option_map contract_of_code) at))
+
+-- One field after another.
+
+pub field_turn : (go : (ℕ × Field) → Option StorePlace) (items own : List FieldCode) (place : ℕ) (f : FieldCode) → items ≡ own → place < length items
+    → f ≡ get_or items place f → first_of go (enumerate_from place (map field_of_code (drop place own)))
+    ≡ option_or (go (place, field_of_code f)) (first_of go (enumerate_from (place + 1) (map field_of_code (drop (place + 1) own))))
+field_turn go items own place f e l at =
+    ap (λ fs. first_of go (enumerate_from place (map field_of_code fs)))
+    (ap (drop place) (sym e) ∙ drop_more items place f l ∙ ap (λ x. x ∷ drop (place + 1) items) (sym at) ∙ ap (λ fs. f ∷ drop (place + 1) fs) e)
+
+pub fields_end : (go : (ℕ × Field) → Option StorePlace) (items own : List FieldCode) (place : ℕ) → items ≡ own → length items ≤ place
+    → first_of go (enumerate_from place (map field_of_code (drop place own))) ≡ None
+fields_end go items own place e l =
+    ap (λ fs. first_of go (enumerate_from place (map field_of_code fs))) (ap (drop place) (sym e) ∙ drop_all place items l)
+
+pub first_here : {A B : Type 0} (f : A → B) (r : Option A) (x rest : Option B) → is_some r ≡ true → option_map f r ≡ x → option_or x rest ≡ option_map f r
+first_here f None x rest h e = absurd cc
+first_here f (Some a) x rest h e = ap (λ y. option_or y rest) (sym e)
+
+pub not_here : {A B : Type 0} (f : A → B) (r : Option A) (x rest : Option B) → is_some r ≡ false → option_map f r ≡ x → option_or x rest ≡ rest
+not_here f None x rest h e = ap (λ y. option_or y rest) (sym e)
+not_here f (Some a) x rest h e = absurd cc
+
+-- Fields, and then handles.
+
+pub scan_field : (table : ClassTable) (content : Content) (n : ℕ) (place : StorePlace) → Some place ≡ owning_in_fields table content.objects n
+    → Some place ≡ owner_place table content n
+scan_field table content n place e = sym (owner_is table content n ∙ ap (λ r. option_or r (owning_in_handles content.handles n)) (sym e))
+
+pub scan_handle : (table : ClassTable) (content : Content) (n : ℕ) → None ≡ owning_in_fields table content.objects n
+    → owning_in_handles content.handles n ≡ owner_place table content n
+scan_handle table content n e = sym (owner_is table content n ∙ ap (λ r. option_or r (owning_in_handles content.handles n)) (sym e))

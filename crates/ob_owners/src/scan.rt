@@ -47,7 +47,6 @@ fn owning_in_handles(
 }
 
 /// The place of the owner of the object of a number, looked for at one place after another.
-#[tactic(auto, using(crate::proofs::ScanningLemmas::owner_is))]
 pub fn owner_scan(
     alloc: Global,
     code: &Image,

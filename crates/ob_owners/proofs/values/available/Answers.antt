@@ -6,9 +6,9 @@ use Rattle.ob_owners.proofs.values.available.Goals as goal
 pub returns-in-Some : goal.returns-in-Some
 returns-in-Some c = record {
   value = value_there c.args.contract.now c.args.object.now c.args.place c.in-Some.field.now (option_copied c.available_in.result)
-      (sym c.get.ensures ∙ ap option_copied c.in-Some.is) c.available_in.ensures;
+      (sym c.get.ensures.value ∙ ap option_copied c.in-Some.is) c.available_in.ensures;
   number = number_there c.args.object.now c.args.place c.in-Some.field.now (option_copied c.available_in.result) c.available_in.ensures;
 }
 
 pub returns-in-None-clause-value : goal.returns-in-None-clause-value
-returns-in-None-clause-value c = value_missing c.args.contract.now c.args.object.now c.args.place (sym c.get.ensures ∙ ap option_copied c.in-None.is)
+returns-in-None-clause-value c = value_missing c.args.contract.now c.args.object.now c.args.place (sym c.get.ensures.value ∙ ap option_copied c.in-None.is)
