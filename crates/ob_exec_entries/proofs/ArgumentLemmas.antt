@@ -1,6 +1,6 @@
 -- Arguments, one after another.
 use Rattle.std.proofs.Common.{◌≡◌, ℕ, zero, suc, ◌+◌, ◌<◌, ◌≤◌, Bool, true, false, List, [], ◌∷◌, ◌++◌, map, length, drop, take, get_or, min, Option, Some, None, refl, sym, ap, subst, ◌∙◌, cond, add-one, drop-cons, append-nil, append_assoc, arith}
-use Rattle.std.specs.Prelude.{filter_map, zip, option_map, option_to_list, not, ◌||◌, ◌&&◌, nat_eq, count_by, if◌then◌else◌}
+use Rattle.std.specs.Prelude.{filter_map, zip, option_map, option_to_list, not, ◌||◌, ◌&&◌, nat_eq, count_by, fold, if◌then◌else◌}
 use Rattle.std.specs.List.{list_any, list_all, cons_option}
 use Rattle.std.proofs.lemmas.List.{map-append, drop_all}
 use Rattle.ob_code.specs.declared.image.ParamCode.{ParamCode}
@@ -71,6 +71,13 @@ pub filter_map-map : {X Y Z : Type 0} (f : X → Y) (h : Y → Option Z) (xs : L
 filter_map-map f h [] = refl
 filter_map-map f h (x ∷ xs) = ap (cons_option (h (f x))) (filter_map-map f h xs)
 
+fold-map : {X Y : Type 0} (f : X → Y) (g : Y → ℕ) (a : ℕ) (xs : List X) → fold (λ n y. n + g y) a (map f xs) ≡ fold (λ n x. n + g (f x)) a xs
+fold-map f g a [] = refl
+fold-map f g a (x ∷ xs) = fold-map f g (a + g (f x)) xs
+
 pub count-map : {X Y : Type 0} (f : X → Y) (p : Y → Bool) (xs : List X) → count_by p (map f xs) ≡ count_by (λ x. p (f x)) xs
-count-map f p [] = refl
-count-map f p (x ∷ xs) = ap (λ n. cond (p (f x)) 1 0 + n) (count-map f p xs)
+count-map f p xs = fold-map f (λ y. cond (p y) 1 0) 0 xs
+
+pub any-alike : {X : Type 0} (p q : X → Bool) (xs : List X) → ((x : X) → p x ≡ q x) → list_any p xs ≡ list_any q xs
+any-alike p q [] h = refl
+any-alike p q (x ∷ xs) h = ap (λ b. b || list_any p xs) (h x) ∙ ap (λ b. q x || b) (any-alike p q xs h)

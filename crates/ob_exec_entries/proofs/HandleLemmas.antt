@@ -24,11 +24,12 @@ pub handle_same : (n : HandleName) (hs : List ((Label × Label) × Handle)) → 
 handle_same n [] = refl
 handle_same n (h ∷ hs) =
     ap (λ (b : Bool). if b then Some (handle_of h.1) else find_key name_order n (map named_of hs)) (same_either_way n (name_of h.0))
-    ∙ by (is_eq (name_order (name_of h.0) n))
+    ∙ by (is_eq (name_order (name_of h.0) n)) (handle_same n hs)
   where
-    by : (b : Bool) → (if b then Some (handle_of h.1) else find_key name_order n (map named_of hs))
+    by : (b : Bool) → find_key name_order n (map named_of hs) ≡ option_map handle_of (handle_at n hs)
+        → (if b then Some (handle_of h.1) else find_key name_order n (map named_of hs))
         ≡ option_map handle_of (if b then Some h.1 else handle_at n hs)
-    by true = refl
-    by false = handle_same n hs
+    by true rest = refl
+    by false rest = rest
 
 pub ruleset handles = (handle_same)

@@ -6,4 +6,6 @@ pub mod HandleLemmas
 pub mod ImageLemmas
 pub mod NamingLemmas
 pub mod NumberedLemmas
+pub mod ResultLemmas
+pub mod TargetLemmas
 pub mod ValueLemmas
