@@ -1,5 +1,5 @@
 -- What a request comes to, as the code tells it: an answer, and what differs in the store (this project's own).
-use Rattle.std.specs.Prelude.{◌≡◌, ◌≤◌, map, length, All, Some, slice_get, ⊥}
+use Rattle.std.specs.Prelude.{◌≡◌, ◌≤◌, map, length, All, Some, slice_get}
 use Rattle.ob_base.specs.Limits.{most_objects}
 use Rattle.ob_heap_spec.specs.Contents.{Content}
 use Rattle.ob_heap.specs.Plain.{object_of}

@@ -1,1 +1,5 @@
 pub mod Coming
+pub mod Parts
+pub mod Marking
+pub mod Putting
+pub mod Giving

@@ -130,7 +130,8 @@ impl Content {
 
     /// The handles with their names, in the order of the names.
     pub fn handles(&self) -> &[((Label, Label), Handle)]
-        ensures { result.now ≡ self.now.handles }
+        ensures handles { result.now ≡ self.now.handles }
+        ensures order { IsInOrder self.now.handles }
     {
         self.handles.as_slice()
     }

@@ -1,0 +1,6 @@
+pub mod PartsLemmas
+pub mod MarkingLemmas
+pub mod PuttingLemmas
+pub mod DeltaLemmas
+pub mod ChangingLemmas
+pub mod InvokingLemmas

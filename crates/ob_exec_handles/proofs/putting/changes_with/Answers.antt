@@ -1,0 +1,12 @@
+use Rattle.std.proofs.Common.{rules, ap, ◌∙◌}
+use Rattle.ob_heap.specs.Contents.{IsInOrder}
+use Rattle.ob_exec_handles.specs.Putting.{changes_by, other_puts}
+use Rattle.ob_exec_handles.proofs.PuttingLemmas.{puts_lead}
+use Rattle.ob_exec_handles.proofs.putting.changes_with.Goals as goal
+
+pub returns : goal.returns
+returns c =
+    let before : IsInOrder c.args.base.now.handles = search rules in
+    puts_lead c.args.base.now.handles c.in_ok-last.last.handles c.args.puts.now c.in_ok-changes.changes before c.handles-after.ensures.order
+    c.in_ok-last.ensures
+    (c.in_ok-changes.ensures ∙ ap (λ hs. changes_by (other_puts c.args.base.now.handles hs)) c.handles-after.ensures.handles)

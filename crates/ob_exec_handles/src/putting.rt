@@ -1,0 +1,124 @@
+//! Handles that are put among those of a store.
+ghost use Rattle.std.specs.Prelude.{◌≡◌, [], ◌∷◌, ◌++◌, map, IfOk, OnOk};
+ghost use Rattle.ob_heap.specs.Contents.{named_of, IsInOrder};
+ghost use Rattle.ob_heap.specs.Deltas.{with_handle, with_handles};
+ghost use Rattle.ob_invocation_spec.specs.Handles.{put_handles};
+ghost use Rattle.ob_exec_handles.specs.Parts.{HandlesLead};
+ghost use Rattle.ob_exec_handles.specs.Putting.{same_mode, same_handle, stands_so, changes_by, other_puts};
+
+use ob_base::{Duplicate, Label, Memory, Mode, both};
+use ob_heap::{Content, Delta, Handle, Sequence, apply, reserve};
+use std::alloc::Global;
+
+fn is_same_mode(a: Mode, b: Mode) -> bool
+    ensures { result ≡ same_mode a b }
+{
+    match (a, b) {
+        (Mode::Owned, Mode::Owned) => true,
+        (Mode::Shared, Mode::Shared) => true,
+        (Mode::Unowned, Mode::Unowned) => true,
+        _ => false,
+    }
+}
+
+fn is_same(a: Handle, b: Handle) -> bool
+    ensures { result ≡ same_handle a b }
+{
+    a.object.0 == b.object.0 && is_same_mode(a.mode, b.mode)
+}
+
+// Whether a name stands for this handle already.
+fn stands_so(base: &Content, put: &((Label, Label), Handle)) -> bool
+    ensures { result ≡ stands_so base.now.handles put.now }
+{
+    match base.handle(&put.0.0, &put.0.1) {
+        Some(handle) => is_same(handle, put.1),
+        None => false,
+    }
+}
+
+/// A copy of a name.
+pub fn copy_name(alloc: Global, name: &(Label, Label)) -> Result<(Label, Label), Memory>
+    ensures { IfOk result (λ copy. copy ≡ name.now) }
+{
+    both(name.0.copy(alloc), name.1.copy(alloc))
+}
+
+// A handle is put among those of a store.
+fn put(
+    alloc: Global,
+    store: &mut Content,
+    name: (Label, Label),
+    handle: Handle,
+) -> Result<(), Memory>
+    ensures { OnOk result (store.new.handles ≡ with_handle name handle store.old.handles) }
+{
+    let mut handles = Sequence::new(alloc);
+    handles.push((name, Some(handle)))?;
+    let delta = Delta {
+        objects: Sequence::new(alloc),
+        handles,
+    };
+    reserve(store, &delta)?;
+    apply(store, delta);
+    Ok(())
+}
+
+// The handles that are put, as a store of these alone has them: in the order of their names, under each the last.
+fn last_puts(alloc: Global, puts: &[((Label, Label), Handle)]) -> Result<Content, Memory>
+    ensures { IfOk result (λ store. store.handles ≡ with_handles [] (changes_by puts.now)) }
+{
+    let mut store = Content::new(alloc);
+    for put in puts {
+        let name = copy_name(alloc, &put.0)?;
+        self::put(alloc, &mut store, name, put.1)?;
+    }
+    Ok(store)
+}
+
+// Adds a handle that is put, where it changes something.
+fn add_other(
+    changes: &mut Sequence<((Label, Label), Option<Handle>)>,
+    alloc: Global,
+    base: &Content,
+    put: &((Label, Label), Handle),
+) -> Result<(), Memory>
+    ensures { OnOk result (changes.new ≡ changes.old ++ changes_by (other_puts base.now.handles (put.now ∷ []))) }
+{
+    if stands_so(base, put) {
+        return Ok(());
+    }
+    let name = copy_name(alloc, &put.0)?;
+    changes.push((name, Some(put.1)))
+}
+
+// Those of these handles that change something.
+fn others(
+    alloc: Global,
+    base: &Content,
+    puts: &[((Label, Label), Handle)],
+) -> Result<Sequence<((Label, Label), Option<Handle>)>, Memory>
+    ensures { IfOk result (λ changes. changes ≡ changes_by (other_puts base.now.handles puts.now)) }
+{
+    let mut changes = Sequence::new(alloc);
+    for put in puts {
+        add_other(&mut changes, alloc, base, put)?;
+    }
+    Ok(changes)
+}
+
+/// What differs among the handles of a store where these are put among them, one after another.
+pub fn changes_with(
+    alloc: Global,
+    base: &Content,
+    puts: &[((Label, Label), Handle)],
+) -> Result<Sequence<((Label, Label), Option<Handle>)>, Memory>
+    ensures { IfOk result (λ changes. HandlesLead base.now.handles changes (put_handles (map named_of base.now.handles) (map named_of puts.now))) }
+{
+    // `handles` says that names stand in order.
+    let _before = base.handles();
+    let last = last_puts(alloc, puts)?;
+    let after = last.handles();
+    let changes = others(alloc, base, after)?;
+    Ok(changes)
+}

@@ -1,0 +1,2 @@
+pub mod ValuesLemmas
+pub mod ScanningLemmas
