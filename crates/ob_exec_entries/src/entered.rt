@@ -1,5 +1,5 @@
 //! What a request enters.
-use ob_base::{ContractId, Items, Label, Mode, ObjectId, TxId};
+use ob_base::{ContractId, Items, Label, Memory, Mode, ObjectId, TxId};
 use ob_code::PermCode;
 use ob_heap::{Handle, Value};
 use ob_wire::Refusal;
@@ -45,4 +45,15 @@ pub enum EnterError {
     Refused(Refusal),
     /// Memory ran out.
     Memory,
+}
+
+impl From<Memory> for EnterError {
+    ghost use Rattle.std.specs.Prelude.{◌≡◌};
+    ghost use Rattle.ob_exec_entries.specs.declared.entered.EnterError.TheVariants.{Memory};
+
+    ghost from_gives = { λ _ e. e ≡ Memory };
+
+    fn from(_: Memory) -> EnterError {
+        EnterError::Memory
+    }
 }

@@ -1,0 +1,11 @@
+pub mod ArgumentLemmas
+pub mod CheckLemmas
+pub mod EnteringLemmas
+pub mod FindingLemmas
+pub mod HandleLemmas
+pub mod ImageLemmas
+pub mod NamingLemmas
+pub mod NumberedLemmas
+pub mod ResultLemmas
+pub mod TargetLemmas
+pub mod ValueLemmas
