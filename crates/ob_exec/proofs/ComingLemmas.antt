@@ -1,0 +1,134 @@
+-- What comes of the end of a run.
+use Rattle.std.proofs.Common.{◌≡◌, ◌≤◌, ℕ, Bool, true, false, List, [], ◌∷◌, ◌++◌, length, map, Option, Some, None, refl, sym, ap, subst, ◌∙◌}
+use Rattle.std.specs.Prelude.{option_map, flat_map, fold, slice_set, if◌then◌else◌}
+use Rattle.std.specs.Option.{option_map_or}
+use Rattle.std.proofs.lemmas.List.{length-map}
+use Rattle.std.proofs.Math.ListN.{length-set}
+use Rattle.ob_base.specs.Limits.{most_objects}
+use Rattle.ob_base.specs.declared.permission.Mode.{Mode}
+use Rattle.ob_heap_spec.specs.Objects as plain
+use Rattle.ob_heap_spec.specs.Values as values
+use Rattle.ob_heap_spec.specs.Contents.{Content, object_at}
+use Rattle.ob_heap_spec.specs.Worlds.{World, ReadItem, RunOutcome, gives, aborts, wrong, is_made, with_read, object_item, read_object, set_object, edit_object}
+use Rattle.ob_heap_spec.specs.Marks.{has_mark, mark_shared}
+use Rattle.ob_heap.specs.declared.delta.Delta.{Delta}
+use Rattle.ob_heap.specs.declared.object.Object.{Object}
+use Rattle.ob_heap.specs.declared.value.Value.{Value}
+use Rattle.ob_heap.specs.Contents.{Stored, content_of}
+use Rattle.ob_heap.specs.Overlays.{Changes, laid_over, objects_over}
+use Rattle.ob_heap.specs.Plain.{object_of, value_of}
+use Rattle.ob_rest_spec.specs.Modes.{is_shared}
+use Rattle.ob_invocation_spec.specs.Entries.{Entry, handle_uses}
+use Rattle.ob_invocation_spec.specs.Entering.{put_after_use, put_given, puts_after, first_outside_use, outside_cause, run_entry}
+use Rattle.ob_invocation_spec.specs.Handles.{NamedHandle, handle_name, mark_put, mark_puts}
+use Rattle.ob_invocation_spec.specs.Invocation.{done_with, ended, after_entry_test}
+use Rattle.ob_invocation_spec.specs.Replies.{Invocation, invoked, aborted}
+use Rattle.ob_invocation_spec.specs.Showing.{told_state, reply_of_result}
+use Rattle.ob_code.specs.declared.image.Image.{Image}
+use Rattle.ob_table.specs.Tables.{ClassTable}
+use Rattle.ob_machine.specs.Shown.{cause_of}
+use Rattle.ob_machine.specs.declared.progress.Cause.{Cause}
+use Rattle.ob_machine.specs.declared.progress.Progress.{Progress}
+use Rattle.ob_machine.specs.declared.progress.Progress.TheVariants.{Finished, Aborted, Going}
+use Rattle.ob_wire.specs.declared.reply.Answer.{Answer}
+use Rattle.ob_exec_handles.specs.Coming.{ComesTo, IsInLimits}
+use Rattle.ob_exec_entries.specs.Entering.{use_of}
+use Rattle.ob_exec_entries.specs.declared.entered.Entered.{Entered}
+use Rattle.ob_exec.specs.Ending.{IsRight, EndsSo}
+use Rattle.ob_exec.specs.Standing.{StandsFor}
+
+-- Handles that are put leave as many objects.
+
+if_length : (b : Bool) (w v : World) (n : ℕ) → length w.objects ≡ n → length v.objects ≡ n → length (if b then w else v).objects ≡ n
+if_length true w v n e f = e
+if_length false w v n e f = f
+
+read_length : (w : World) (n : ℕ) → length (read_object w n).objects ≡ length w.objects
+read_length w n = if_length (is_made w n) w (with_read w (object_item n)) (length w.objects) refl refl
+
+edited_length : (f : plain.Object → plain.Object) (n : ℕ) (w : World) (o : Option plain.Object)
+    → length (option_map_or (λ x. set_object w n (f x)) o w).objects ≡ length w.objects
+edited_length f n w None = refl
+edited_length f n w (Some o) = length-set w.objects n (f o)
+
+edit_length : (f : plain.Object → plain.Object) (n : ℕ) (w : World) → length (edit_object f n w).objects ≡ length w.objects
+edit_length f n w = edited_length f n w (object_at w.objects n)
+
+shared_length : (w : World) (n : ℕ) → length (mark_shared n w).objects ≡ length w.objects
+shared_length w n =
+    if_length (has_mark (λ o. o.shared) (read_object w n) n) (read_object w n) (edit_object (λ o. record o { shared = true }) n (read_object w n)) (length w.objects)
+    (read_length w n) (edit_length (λ o. record o { shared = true }) n (read_object w n) ∙ read_length w n)
+
+put_length : (w : World) (h : NamedHandle) → length (mark_put w h).objects ≡ length w.objects
+put_length w h = if_length (is_shared h.1.mode) (mark_shared h.1.object w) w (length w.objects) (shared_length w h.1.object) refl
+
+puts_length : (puts : List NamedHandle) (w : World) → length (mark_puts w puts).objects ≡ length w.objects
+puts_length [] w = refl
+puts_length (h ∷ puts) w = puts_length puts (mark_put w h) ∙ put_length w h
+
+-- The end of a run.
+
+pub right_in_limits : (table : ClassTable) (content : Content) (e : Entry) (reads : List ReadItem) (o : RunOutcome (Option values.Value))
+    → IsInLimits (ended table content e reads o) → IsRight o
+right_in_limits table content e reads (gives result w) h = tt
+right_in_limits table content e reads (aborts cause s) h = tt
+right_in_limits table content e reads wrong h = absurd h
+
+-- an end that is told so
+pub within_limits : (table : ClassTable) (content : Content) (e : Entry) (reads : List ReadItem) (o : RunOutcome (Option values.Value))
+    (given : Option Value) (base : List Object) (changes : Changes) → IsInLimits (ended table content e reads o)
+    → EndsSo o (Finished given) base changes → length (laid_over base changes) ≤ most_objects
+within_limits table content e reads (gives result w) given base changes h end =
+    subst (λ n. n ≤ most_objects)
+    (puts_length (puts_after content e result) w ∙ ap length end.1 ∙ length-map (laid_over base changes) object_of) h
+within_limits table content e reads (aborts cause s) given base changes h end = absurd end
+within_limits table content e reads wrong given base changes h end = absurd end
+
+pub comes_done : (table : ClassTable) (content : Content) (e : Entry) (reads : List ReadItem) (o : RunOutcome (Option values.Value))
+    (given : Option Value) (base : Stored) (changes : Changes) (puts : List NamedHandle) (answer : Answer) (delta : Delta)
+    → EndsSo o (Finished given) base.objects changes → puts_after content e (option_map value_of given) ≡ puts
+    → ((w : World) (read : List ReadItem) → w.objects ≡ objects_over base.objects changes
+        → ComesTo (done_with (reply_of_result (option_map value_of given)) content puts w read) base answer delta)
+    → ComesTo (ended table content e reads o) base answer delta
+comes_done table content e reads (gives result w) given base changes puts answer delta end same h =
+    subst (λ r. ComesTo (ended table content e reads (gives r w)) base answer delta) (sym end.0)
+    (subst (λ p. ComesTo (done_with (reply_of_result (option_map value_of given)) content p w reads) base answer delta) (sym same) (h w reads end.1))
+comes_done table content e reads (aborts cause s) given base changes puts answer delta end same h = absurd end
+comes_done table content e reads wrong given base changes puts answer delta end same h = absurd end
+
+-- what comes of an abort by this cause
+abbrev pub AbortsSo : ClassTable → Stored → Cause → Answer → Delta → Type 0
+AbortsSo table base cause answer delta =
+    (taken : ℕ) (reads : List ReadItem) → ComesTo (invoked (record {
+      reply = aborted (cause_of cause) (told_state table (content_of base).objects (cause_of cause));
+      content = content_of base;
+      taken = taken;
+      reads = reads;
+    })) base answer delta
+
+pub comes_aborted : (table : ClassTable) (e : Entry) (reads : List ReadItem) (o : RunOutcome (Option values.Value))
+    (cause : Cause) (base : Stored) (changes : Changes) (answer : Answer) (delta : Delta)
+    → EndsSo o (Aborted cause) base.objects changes → AbortsSo table base cause answer delta
+    → ComesTo (ended table (content_of base) e reads o) base answer delta
+comes_aborted table e reads (gives result w) cause base changes answer delta end h = absurd end
+comes_aborted table e reads (aborts by s) cause base changes answer delta end h =
+    subst (λ c. ComesTo (ended table (content_of base) e reads (aborts c s)) base answer delta) (sym end) (h s.taken (s.reads ++ reads))
+comes_aborted table e reads wrong cause base changes answer delta end h = absurd end
+
+pub never_going : (o : RunOutcome (Option values.Value)) (base : List Object) (changes : Changes) → EndsSo o Going base changes → ⊥
+never_going (gives result w) base changes end = end
+never_going (aborts cause s) base changes end = end
+never_going wrong base changes end = end
+
+-- What is entered.
+
+-- what handles become is told by the uses of what is entered
+pub puts_same : (content : Content) (who : List ℕ) (into : Option (List ℕ)) (entered : Entered) (e : Entry) (result : Option values.Value)
+    → StandsFor content who into entered e
+    → puts_after content e result
+    ≡ flat_map put_after_use (map (use_of who) entered.uses) ++ option_map_or (λ name. put_given (handle_name who name) entered.given result) into []
+puts_same content who into entered e result s =
+    ap (λ us. flat_map put_after_use us ++ option_map_or (λ name. put_given (handle_name e.who name) e.given result) e.into []) (sym s.uses)
+    ∙ ap (λ x. flat_map put_after_use (map (use_of who) entered.uses) ++ option_map_or (λ name. put_given (handle_name x name) e.given result) e.into []) s.client
+    ∙ ap (λ g. flat_map put_after_use (map (use_of who) entered.uses) ++ option_map_or (λ name. put_given (handle_name who name) g result) e.into []) (sym s.given)
+    ∙ ap (λ i. flat_map put_after_use (map (use_of who) entered.uses) ++ option_map_or (λ name. put_given (handle_name who name) entered.given result) i []) s.name

@@ -1,0 +1,91 @@
+use Rattle.std.proofs.Common.{◌≡◌, map, Some, sym, subst, ◌∙◌}
+use Rattle.std.specs.Prelude.{option_map, IsSome}
+use Rattle.std.proofs.lemmas.Result.{IfOk-weaker}
+use Rattle.ob_heap.specs.Contents.{content_of, named_of}
+use Rattle.ob_heap.specs.Plain.{value_of}
+use Rattle.ob_machine_steps.specs.Entries.{started}
+use Rattle.ob_machine_steps.specs.ImageTables.{table_of_image}
+use Rattle.ob_machine_steps.specs.Meanings.{outcome}
+use Rattle.ob_machine.specs.declared.progress.Progress.TheVariants.{Finished, Aborted, Going}
+use Rattle.ob_exec_entries.specs.Entering.{machine_entry}
+use Rattle.ob_exec_handles.specs.Coming.{ComesTo, IsInLimits}
+use Rattle.ob_exec.specs.Bodies.{body_number}
+use Rattle.ob_exec.specs.Ending.{EndsSo}
+use Rattle.ob_exec.proofs.ComingLemmas.{AbortsSo, within_limits, comes_done, comes_aborted, never_going, puts_same}
+use Rattle.ob_exec.proofs.RunLemmas.{runs_some, starts_right, comes_of_end}
+use Rattle.ob_exec.proofs.StartLemmas.{with_number}
+use Rattle.ob_exec.proofs.entering.run.Goals as goal
+
+pub body_number-requires : goal.body_number-requires
+body_number-requires c =
+    subst (λ image. IsSome (body_number image (machine_entry c.args.entered).receiver c.args.entered.contract c.args.entered.tx)) (sym c.image.ensures.image)
+    (runs_some c.args.code.now (content_of c.args.content.now) c.args.fuel c.args.who.now c.args.into.now c.args.entered c.requires.0 c.requires.1 c.requires.2)
+
+pub run_to_end-requires : goal.run_to_end-requires
+run_to_end-requires c =
+    let number : body_number c.args.code.now (machine_entry c.args.entered).receiver c.args.entered.contract c.args.entered.tx ≡ Some c.in_ok-body_number.field-0 =
+    subst (λ image. body_number image (machine_entry c.args.entered).receiver c.args.entered.contract c.args.entered.tx ≡ Some c.in_ok-body_number.field-0)
+    c.image.ensures.image c.in_ok-body_number.ensures in
+    record {
+      fresh = c.new-overlay.ensures;
+      right = starts_right c.args.code.now (content_of c.args.content.now) c.args.fuel c.args.who.now c.args.into.now c.args.entered
+          c.requires.0 c.in_ok-body_number.field-0 c.requires.1 c.requires.2 number;
+    }
+
+pub finish-requires : goal.finish-requires
+finish-requires c =
+    let image = c.args.code.now in
+    let base = c.args.content.now in
+    let content = content_of base in
+    let number : body_number image (machine_entry c.args.entered).receiver c.args.entered.contract c.args.entered.tx ≡ Some c.in_ok-body_number.field-0 =
+    subst (λ code. body_number code (machine_entry c.args.entered).receiver c.args.entered.contract c.args.entered.tx ≡ Some c.in_ok-body_number.field-0)
+    c.image.ensures.image c.in_ok-body_number.ensures in
+    let end = outcome image (started image (with_number c.in_ok-body_number.field-0 (machine_entry c.args.entered)) content.objects c.args.fuel) in
+    within_limits (table_of_image image) content c.requires.1.entry c.requires.1.reads end c.in-Finished.value base.objects c.run_to_end.new.overlay
+    (subst IsInLimits (comes_of_end image content c.args.fuel c.args.who.now c.args.into.now c.args.entered c.requires.0 c.in_ok-body_number.field-0 c.requires.1 number) c.requires.2)
+    (subst (λ p. EndsSo end p base.objects c.run_to_end.new.overlay) c.in-Finished.is c.in_ok-value.ensures)
+
+pub unreachable-requires : goal.unreachable-requires
+unreachable-requires c =
+    let image = c.args.code.now in
+    let base = c.args.content.now in
+    let end = outcome image (started image (with_number c.in_ok-body_number.field-0 (machine_entry c.args.entered)) (content_of base).objects c.args.fuel) in
+    never_going end base.objects c.run_to_end.new.overlay
+    (subst (λ p. EndsSo end p base.objects c.run_to_end.new.overlay) c.in-Going.is c.in_ok-value.ensures)
+
+pub returns-in-Finished : goal.returns-in-Finished
+returns-in-Finished c = λ i k.
+    let image = c.args.code.now in
+    let base = c.args.content.now in
+    let content = content_of base in
+    let entered = c.args.entered in
+    let number : body_number image (machine_entry entered).receiver entered.contract entered.tx ≡ Some c.in_ok-body_number.field-0 =
+    subst (λ code. body_number code (machine_entry entered).receiver entered.contract entered.tx ≡ Some c.in_ok-body_number.field-0)
+    c.image.ensures.image c.in_ok-body_number.ensures in
+    let end = outcome image (started image (with_number c.in_ok-body_number.field-0 (machine_entry entered)) content.objects c.args.fuel) in
+    let puts = map named_of c.in_ok-puts-in-Finished.puts in
+    IfOk-weaker c.finish.result _ _
+    (λ a h. subst (λ j. ComesTo j base a.answer a.delta)
+    (sym (comes_of_end image content c.args.fuel c.args.who.now c.args.into.now entered i c.in_ok-body_number.field-0 k number))
+    (comes_done (table_of_image image) content k.entry k.reads end c.in-Finished.value base c.run_to_end.new.overlay puts a.answer a.delta
+    (subst (λ p. EndsSo end p base.objects c.run_to_end.new.overlay) c.in-Finished.is c.in_ok-value.ensures)
+    (puts_same content c.args.who.now c.args.into.now entered k.entry (option_map value_of c.in-Finished.value) k.stands ∙ sym c.in_ok-puts-in-Finished.ensures) h))
+    c.finish.ensures
+
+pub returns-in-Aborted : goal.returns-in-Aborted
+returns-in-Aborted c = λ i k.
+    let image = c.args.code.now in
+    let base = c.args.content.now in
+    let content = content_of base in
+    let entered = c.args.entered in
+    let number : body_number image (machine_entry entered).receiver entered.contract entered.tx ≡ Some c.in_ok-body_number.field-0 =
+    subst (λ code. body_number code (machine_entry entered).receiver entered.contract entered.tx ≡ Some c.in_ok-body_number.field-0)
+    c.image.ensures.image c.in_ok-body_number.ensures in
+    let end = outcome image (started image (with_number c.in_ok-body_number.field-0 (machine_entry entered)) content.objects c.args.fuel) in
+    IfOk-weaker c.abort.result _ _
+    (λ a h. subst (λ j. ComesTo j base a.answer a.delta)
+    (sym (comes_of_end image content c.args.fuel c.args.who.now c.args.into.now entered i c.in_ok-body_number.field-0 k number))
+    (comes_aborted (table_of_image image) k.entry k.reads end c.in-Aborted.cause base c.run_to_end.new.overlay a.answer a.delta
+    (subst (λ p. EndsSo end p base.objects c.run_to_end.new.overlay) c.in-Aborted.is c.in_ok-value.ensures)
+    (subst (λ code. AbortsSo (table_of_image code) base c.in-Aborted.cause a.answer a.delta) c.image-in-Aborted.ensures.image h)))
+    c.abort.ensures

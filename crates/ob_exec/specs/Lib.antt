@@ -1,0 +1,5 @@
+pub mod Outside
+pub mod Putting
+pub mod Bodies
+pub mod Ending
+pub mod Standing

@@ -1,0 +1,41 @@
+-- For what the thing stands that a request enters, as the code keeps it (this project's own).
+use Rattle.std.specs.Prelude.{◌≡◌, ℕ, List, map, Option}
+use Rattle.ob_heap_spec.specs.Contents.{Content}
+use Rattle.ob_heap_spec.specs.Worlds.{ReadItem}
+use Rattle.ob_invocation_spec.specs.Entries.{Entry, handle_uses}
+use Rattle.ob_invocation_spec.specs.Entering.{run_entry}
+use Rattle.ob_invocation_spec.specs.Invocation.{ended, enter_entry}
+use Rattle.ob_invocation_spec.specs.Replies.{Invocation}
+use Rattle.ob_code.specs.declared.image.Image.{Image}
+use Rattle.ob_machine_steps.specs.ImageTables.{table_of_image}
+use Rattle.ob_machine_steps.specs.Meanings.{machine_meaning, entry_of_request}
+use Rattle.ob_exec_entries.specs.Entering.{use_of, machine_entry}
+use Rattle.ob_exec_entries.specs.declared.entered.Entered.{Entered}
+
+-- What is entered stands for an entry of this client's request, with this name for the handle on what it gives.
+pub record StandsFor (content : Content) (who : List ℕ) (into : Option (List ℕ)) (entered : Entered) (e : Entry) : Type 0 where
+  pub client : e.who ≡ who
+  pub name : e.into ≡ into
+  pub machine : machine_entry entered ≡ entry_of_request content e
+  pub uses : map (use_of who) entered.uses ≡ handle_uses content e
+  pub given : entered.given ≡ e.given
+
+-- what comes of an entry, with what the checks of its request have read
+abbrev pub Way : Type 0
+Way = List ReadItem → Entry → Invocation
+
+-- by code, with so many units
+abbrev pub entering : Image → Content → ℕ → Way
+entering image content fuel reads e = enter_entry (machine_meaning image) (table_of_image image) content fuel reads e
+
+-- the same once it has passed its entry test
+abbrev pub running : Image → Content → ℕ → Way
+running image content fuel reads e =
+    ended (table_of_image image) content e reads (run_entry (machine_meaning image) content fuel e)
+
+-- An invocation is what comes so of what this stands for.
+pub record ComesBy (way : Way) (content : Content) (who : List ℕ) (into : Option (List ℕ)) (entered : Entered) (i : Invocation) : Type 0 where
+  pub entry : Entry
+  pub reads : List ReadItem
+  pub stands : StandsFor content who into entered entry
+  pub is : i ≡ way reads entry

@@ -1,0 +1,83 @@
+//! The run of what is entered.
+ghost use Rattle.std.specs.Prelude.{◌≡◌, Some, map, option_map, position, IsSome, IfOk};
+ghost use Rattle.ob_heap.specs.Overlays.{no_changes};
+ghost use Rattle.ob_heap.specs.Plain.{object_of};
+ghost use Rattle.ob_code.specs.Code.{is_constructor};
+ghost use Rattle.ob_machine_steps.specs.Entries.{started};
+ghost use Rattle.ob_machine_steps.specs.Images.{constructor_of};
+ghost use Rattle.ob_machine_steps.specs.Meanings.{outcome};
+ghost use Rattle.ob_machine.specs.Phases.{entry_of};
+ghost use Rattle.ob_machine.specs.Shown.{number_of};
+ghost use Rattle.ob_exec.specs.Ending.{IsRight, EndsSo};
+ghost use Rattle.ob_exec.specs.Bodies.{body_number};
+
+use ob_base::{ContractId, Memory, ObjectId, TxId};
+use ob_code::{BodyCode, Image};
+use ob_heap::{Content, Overlay};
+use ob_machine::{Entry, Machine, Progress};
+use ob_verify::Verified;
+use std::alloc::Global;
+
+fn is_constructor(body: &BodyCode) -> bool
+    ensures { result ≡ is_constructor body.now }
+{
+    (body.flags >> 1) & 1 == 1
+}
+
+// The place of the first constructor among bodies.
+fn constructor_place(bodies: &[BodyCode]) -> Option<usize>
+    ensures { result ≡ position is_constructor bodies.now }
+{
+    bodies.iter().position(|body| is_constructor(body))
+}
+
+// The number of a contract's constructor. There are always fewer than 2^32 bodies, of which memory has so many.
+fn constructor_of(code: &Image, contract: ContractId) -> Result<Option<TxId>, Memory>
+    ensures { IfOk result (λ found. found ≡ constructor_of code.now contract) }
+{
+    match code.contracts.get(contract.0 as usize) {
+        None => Ok(None),
+        Some(own) => match constructor_place(own.bodies.as_slice()) {
+            None => Ok(None),
+            Some(place) if place > 0xffff_ffff => Err(Memory),
+            Some(place) => Ok(Some(TxId(place as u32))),
+        },
+    }
+}
+
+/// The number of the body that runs: on an object, that of its transaction; else that of the constructor, which there is.
+pub fn body_number(
+    code: &Image,
+    receiver: Option<ObjectId>,
+    contract: ContractId,
+    tx: TxId,
+) -> Result<TxId, Memory>
+    requires { IsSome (body_number code.now (option_map number_of receiver) contract tx) }
+    ensures { IfOk result (λ number. body_number code.now (option_map number_of receiver) contract tx ≡ Some number) }
+{
+    if receiver.is_some() {
+        return Ok(tx);
+    }
+    match constructor_of(code, contract)? {
+        Some(number) => Ok(number),
+        None => unreachable!(),
+    }
+}
+
+/// Runs an entry with so many units to its end, which it must come to.
+pub fn run_to_end(
+    alloc: Global,
+    code: &Verified,
+    content: &Content,
+    overlay: &mut Overlay,
+    entry: Entry,
+    fuel: u32,
+) -> Result<Progress, Memory>
+    requires fresh { overlay.old ≡ no_changes }
+    requires right { IsRight (outcome code.now (started code.now (entry_of entry) (map object_of content.now.objects) fuel)) }
+    ensures { IfOk result (λ progress. EndsSo (outcome code.now (started code.now (entry_of entry) (map object_of content.now.objects) fuel)) progress content.now.objects overlay.new) }
+{
+    let _image = code.image();
+    let mut machine = Machine::enter(alloc, code, content, overlay, entry, fuel)?;
+    machine.run_slice(code, content, overlay, fuel)
+}
