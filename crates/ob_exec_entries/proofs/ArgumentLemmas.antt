@@ -1,11 +1,11 @@
 -- Arguments, one after another.
-use Rattle.std.proofs.Common.{◌≡◌, ℕ, zero, suc, ◌+◌, ◌<◌, ◌≤◌, Bool, true, false, List, [], ◌∷◌, ◌++◌, map, length, drop, take, get_or, min, Option, Some, None, refl, sym, ap, subst, ◌∙◌, cond, add-one, drop-cons, append-nil, append_assoc, arith}
-use Rattle.std.specs.Prelude.{filter_map, zip, option_map, option_to_list, not, ◌||◌, ◌&&◌, nat_eq, count_by, fold, if◌then◌else◌}
+use Rattle.std.proofs.Common.{◌≡◌, ℕ, zero, suc, ◌+◌, ◌<◌, Bool, List, [], ◌∷◌, ◌++◌, map, length, drop, get_or, min, Option, Some, None, refl, sym, ap, ◌∙◌, cond, add-one, drop-cons, append_assoc, arith}
+use Rattle.std.specs.Prelude.{filter_map, zip, option_map, option_to_list, ◌||◌, ◌&&◌, count_by, fold}
 use Rattle.std.specs.List.{list_any, list_all, cons_option}
 use Rattle.std.proofs.lemmas.List.{map-append, drop_all}
 use Rattle.ob_code.specs.declared.image.ParamCode.{ParamCode}
 use Rattle.ob_heap_spec.specs.Contents.{Content}
-use Rattle.ob_invocation_spec.specs.Entries.{HandleUse, use_of_argument}
+use Rattle.ob_invocation_spec.specs.Entries.{use_of_argument}
 use Rattle.ob_machine_steps.specs.ImageTables.{param_of_code}
 use Rattle.ob_wire.specs.Meanings.{argument_meant}
 use Rattle.ob_wire.specs.declared.request.Arg.{Arg}

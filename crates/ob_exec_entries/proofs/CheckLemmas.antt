@@ -1,5 +1,5 @@
 -- Checks, one after another.
-use Rattle.std.proofs.Common.{◌≡◌, ℕ, Bool, true, false, List, [], ◌∷◌, ◌++◌, map, Option, Some, None, refl, sym, ap, ◌∙◌, append-nil}
+use Rattle.std.proofs.Common.{◌≡◌, ℕ, Bool, true, false, List, [], ◌∷◌, ◌++◌, map, Option, Some, refl, ap, ◌∙◌, append-nil}
 use Rattle.std.specs.Prelude.{◌||◌, is_none, option_map, if◌then◌else◌}
 use Rattle.std.specs.List.{list_any}
 use Rattle.ob_heap_spec.specs.Contents.{Content}
@@ -52,8 +52,8 @@ found_some table content found e h =
 pub call_refusal : (table : ClassTable) (content : Content) (who on name : List ℕ) (args : List Arg) (into : Option (List ℕ))
     → refusal_of (call_checks table content who (record { on = on; tx = name; args = map argument_meant args; into = into }))
     ≡ (if is_no_handle content (handle_name who on) || list_any (names_no_handle content who) args then Some no_handle
-       else if is_none (entry_of_call table content who (record { on = on; tx = name; args = map argument_meant args; into = into })) then Some no_transaction
-       else refusal_of (found_checks table content (entry_of_call table content who (record { on = on; tx = name; args = map argument_meant args; into = into }))))
+    else if is_none (entry_of_call table content who (record { on = on; tx = name; args = map argument_meant args; into = into })) then Some no_transaction
+    else refusal_of (found_checks table content (entry_of_call table content who (record { on = on; tx = name; args = map argument_meant args; into = into }))))
 call_refusal table content who on name args into =
     let found = entry_of_call table content who (record { on = on; tx = name; args = map argument_meant args; into = into }) in
     let rest = check no_transaction (is_none found) ∷ found_checks table content found in
@@ -63,9 +63,9 @@ call_refusal table content who on name args into =
 pub new_refusal : (table : ClassTable) (content : Content) (who name : List ℕ) (args : List Arg) (into : Option (List ℕ))
     → refusal_of (new_checks table content who (record { contract = name; args = map argument_meant args; into = into }))
     ≡ (if list_any (names_no_handle content who) args then Some no_handle
-       else if is_no_contract table name then Some no_contract
-       else if is_not_main table name then Some not_main
-       else refusal_of (found_checks table content (entry_of_new table who (record { contract = name; args = map argument_meant args; into = into }))))
+    else if is_no_contract table name then Some no_contract
+    else if is_not_main table name then Some not_main
+    else refusal_of (found_checks table content (entry_of_new table who (record { contract = name; args = map argument_meant args; into = into }))))
 new_refusal table content who name args into =
     let found = entry_of_new table who (record { contract = name; args = map argument_meant args; into = into }) in
     handles_first content who args

@@ -1,6 +1,6 @@
 -- Names are found as the class table of an image has them.
-use Rattle.std.proofs.Common.{◌≡◌, ℕ, zero, suc, List, [], ◌∷◌, map, Option, refl, sym, ap, ◌∙◌}
-use Rattle.std.specs.Prelude.{bytes_eq, position, slice_get, option_map}
+use Rattle.std.proofs.Common.{◌≡◌, ℕ, zero, suc, List, [], ◌∷◌, map, refl, sym, ap, ◌∙◌}
+use Rattle.std.specs.Prelude.{bytes_eq, slice_get, option_map}
 use Rattle.ob_base.specs.Optional.{◌>>=◌}
 use Rattle.ob_table.specs.Tables.{contract_named, contract_id}
 use Rattle.ob_table.specs.declared.contract.Contract.{Contract}
@@ -9,7 +9,7 @@ use Rattle.ob_heap_spec.specs.Dispatch.{transaction_named}
 use Rattle.ob_code.specs.declared.image.BodyCode.{BodyCode}
 use Rattle.ob_code.specs.declared.image.ContractCode.{ContractCode}
 use Rattle.ob_code.specs.declared.image.Image.{Image}
-use Rattle.ob_machine_steps.specs.ImageTables.{signature_of_code, contract_of_code, table_of_image}
+use Rattle.ob_machine_steps.specs.ImageTables.{signature_of_code, contract_of_code}
 use Rattle.ob_exec_entries.specs.Naming.{IsNamesOf, contract_names, body_names, AreNumbered, tx_id}
 use Rattle.ob_exec_entries.specs.Numbered.{number_in, IsNumbering}
 use Rattle.ob_exec_entries.specs.declared.names.Names.{Names}

@@ -1,5 +1,5 @@
 -- A map of names, seen as a list, and the numbers that it gives.
-use Rattle.std.proofs.Common.{◌≡◌, ℕ, suc, zero, ◌+◌, ◌<◌, ◌≤◌, Bool, true, false, true≢false, List, [], ◌∷◌, ◌++◌, Option, Some, None, cond, refl, sym, ap, subst, ◌∙◌, length, take, map, get_or, not, ltb, arith}
+use Rattle.std.proofs.Common.{◌≡◌, ℕ, suc, ◌+◌, ◌<◌, ◌≤◌, Bool, true, false, true≢false, List, [], ◌∷◌, ◌++◌, Option, Some, None, cond, refl, sym, ap, subst, ◌∙◌, length, take, map, get_or, not, arith}
 use Rattle.std.specs.Prelude.{nat_eq, nat_lt, bytes_eq, position, option_map, is_some, if◌then◌else◌}
 use Rattle.std.specs.List.{position_or_len}
 use Rattle.std.specs.Cmp.Lexicographic.{pointwise}
@@ -24,7 +24,7 @@ pub position-cons : {X : Type 0} (p : X → Bool) (x : X) (xs : List X)
     → position p (x ∷ xs) ≡ cond (p x) (Some 0) (option_map suc (position p xs))
 position-cons p x xs =
     elim (p x) as (λ b. cond (nat_lt (cond (not b) (1 + position_or_len p xs) 0) (suc (length xs))) (Some (cond (not b) (1 + position_or_len p xs) 0)) None
-      ≡ cond b (Some 0) (option_map suc (position p xs))) [
+    ≡ cond b (Some 0) (option_map suc (position p xs))) [
       | true ↦ grind arith
       | false ↦ by (nat_lt (position_or_len p xs) (length xs)) refl
     ]

@@ -1,5 +1,5 @@
 -- What is asked of what a request would enter, as the code has it.
-use Rattle.std.proofs.Common.{◌≡◌, ℕ, Bool, true, false, List, map, Option, refl, sym, ap, ◌∙◌, not}
+use Rattle.std.proofs.Common.{◌≡◌, ℕ, Bool, false, List, map, Option, sym, ap, ◌∙◌, not}
 use Rattle.std.specs.Prelude.{zip, filter_map, option_to_list, nat_eq, nat_lt, ◌&&◌, ◌||◌}
 use Rattle.std.specs.List.{list_any, list_all}
 use Rattle.ob_base.specs.declared.id.ContractId.{ContractId}

@@ -83,7 +83,13 @@ fn is_object_for(code: &Image, content: &Content, param: &ParamCode, id: ObjectI
     }
 }
 
-fn is_handle_for(code: &Image, content: &Content, who: &Label, param: &ParamCode, name: &Label) -> bool
+fn is_handle_for(
+    code: &Image,
+    content: &Content,
+    who: &Label,
+    param: &ParamCode,
+    name: &Label,
+) -> bool
     ensures { result ≡ is_argument_for (table_of_image code.now) (content_of content.now) who.now (param_of_code param.now) (argument_meant (Arg.Handle name.now)) }
 {
     match find_handle(content, who, name) {
@@ -93,7 +99,13 @@ fn is_handle_for(code: &Image, content: &Content, who: &Label, param: &ParamCode
 }
 
 // Whether an argument is of a parameter's type.
-fn is_argument_for(code: &Image, content: &Content, who: &Label, param: &ParamCode, arg: &Arg) -> bool
+fn is_argument_for(
+    code: &Image,
+    content: &Content,
+    who: &Label,
+    param: &ParamCode,
+    arg: &Arg,
+) -> bool
     ensures { result ≡ is_argument_for (table_of_image code.now) (content_of content.now) who.now (param_of_code param.now) (argument_meant arg.now) }
 {
     match arg {
@@ -106,18 +118,26 @@ fn is_argument_for(code: &Image, content: &Content, who: &Label, param: &ParamCo
 }
 
 // Whether an argument isn't of its parameter's type.
-pub fn have_other_kind(code: &Image, content: &Content, who: &Label, params: &[ParamCode], args: &[Arg]) -> bool
+pub fn have_other_kind(
+    code: &Image,
+    content: &Content,
+    who: &Label,
+    params: &[ParamCode],
+    args: &[Arg],
+) -> bool
     ensures { result ≡ list_any (λ pair. not (is_argument_for (table_of_image code.now) (content_of content.now) who.now (param_of_code pair.0) (argument_meant pair.1))) (zip params.now args.now) }
 {
-    params
-        .iter()
-        .zip(args)
-        .any(|(param, arg)| !is_argument_for(code, content, who, param, arg))
+    params.iter().zip(args).any(|(param, arg)| !is_argument_for(code, content, who, param, arg))
 }
 
 // The uses of handles.
 
-fn used_for(alloc: Global, param: &ParamCode, name: &Label, handle: Handle) -> Result<Option<HandleUse>, Memory>
+fn used_for(
+    alloc: Global,
+    param: &ParamCode,
+    name: &Label,
+    handle: Handle,
+) -> Result<Option<HandleUse>, Memory>
     ensures { IfOk result (λ u. (who : List ℕ) → option_map (use_of who) u ≡ used_for (type_of_param param.now) (exit_of_param param.now) (handle_name who name.now) (handle_of handle)) }
 {
     match param {
@@ -133,7 +153,13 @@ fn used_for(alloc: Global, param: &ParamCode, name: &Label, handle: Handle) -> R
 }
 
 // The use of the handle that an argument names, if it names one.
-fn use_of_argument(alloc: Global, content: &Content, who: &Label, param: &ParamCode, arg: &Arg) -> Result<Option<HandleUse>, Memory>
+fn use_of_argument(
+    alloc: Global,
+    content: &Content,
+    who: &Label,
+    param: &ParamCode,
+    arg: &Arg,
+) -> Result<Option<HandleUse>, Memory>
     ensures { IfOk result (λ u. option_map (use_of who.now) u ≡ use_of_argument (content_of content.now) who.now (param_of_code param.now) (argument_meant arg.now)) }
 {
     match arg {
@@ -155,7 +181,13 @@ pub fn add_use(uses: &mut Items<HandleUse>, found: Option<HandleUse>) -> Result<
 }
 
 // The uses of handles for arguments, in their order.
-pub fn uses_of(alloc: Global, content: &Content, who: &Label, params: &[ParamCode], args: &[Arg]) -> Result<Items<HandleUse>, Memory>
+pub fn uses_of(
+    alloc: Global,
+    content: &Content,
+    who: &Label,
+    params: &[ParamCode],
+    args: &[Arg],
+) -> Result<Items<HandleUse>, Memory>
     ensures { IfOk result (λ uses. map (use_of who.now) uses ≡ uses_of (content_of content.now) who.now params.now args.now) }
 {
     let mut uses = Items::new(alloc);
@@ -176,7 +208,12 @@ fn text_of(alloc: Global, text: &Text) -> Result<RcStr, Memory>
     }
 }
 
-fn value_of(alloc: Global, content: &Content, who: &Label, arg: &Arg) -> Result<Option<Value>, Memory>
+fn value_of(
+    alloc: Global,
+    content: &Content,
+    who: &Label,
+    arg: &Arg,
+) -> Result<Option<Value>, Memory>
     ensures { IfOk result (λ v. option_map plain_value v ≡ value_of (content_of content.now) who.now (argument_meant arg.now)) }
 {
     match arg {
@@ -207,7 +244,12 @@ fn add_value(values: &mut Items<Value>, found: Option<Value>) -> Result<(), Memo
 }
 
 // The values of the arguments, in their order.
-pub fn values_of(alloc: Global, content: &Content, who: &Label, args: &[Arg]) -> Result<Items<Value>, Memory>
+pub fn values_of(
+    alloc: Global,
+    content: &Content,
+    who: &Label,
+    args: &[Arg],
+) -> Result<Items<Value>, Memory>
     ensures { IfOk result (λ values. map plain_value values ≡ filter_map (value_of (content_of content.now) who.now) (map argument_meant args.now)) }
 {
     let mut values = Items::new(alloc);

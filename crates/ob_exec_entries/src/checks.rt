@@ -88,14 +88,26 @@ impl<'a> Target<'a> {
     fn has_other_kind(&self, code: &Image, content: &Content) -> bool
         ensures { result ≡ has_other_kind (table_of_image code.now) (content_of content.now) self.now }
     {
-        have_other_kind(code, content, self.who, self.body.params.as_slice(), self.args.as_slice())
+        have_other_kind(
+            code,
+            content,
+            self.who,
+            self.body.params.as_slice(),
+            self.args.as_slice(),
+        )
     }
 
     // The uses of handles for the arguments.
     fn argument_uses(&self, alloc: Global, content: &Content) -> Result<Items<HandleUse>, Memory>
         ensures { IfOk result (λ uses. map (use_of self.now.who) uses ≡ argument_uses (content_of content.now) self.now) }
     {
-        uses_of(alloc, content, self.who, self.body.params.as_slice(), self.args.as_slice())
+        uses_of(
+            alloc,
+            content,
+            self.who,
+            self.body.params.as_slice(),
+            self.args.as_slice(),
+        )
     }
 
     fn receiver_serves(&self) -> bool
@@ -133,7 +145,11 @@ impl<'a> Target<'a> {
     }
 
     // The use of the receiver's handle, and then those for the arguments.
-    fn handle_uses(&self, alloc: Global, arguments: Items<HandleUse>) -> Result<Items<HandleUse>, Memory>
+    fn handle_uses(
+        &self,
+        alloc: Global,
+        arguments: Items<HandleUse>,
+    ) -> Result<Items<HandleUse>, Memory>
         ensures { IfOk result (λ uses. map (use_of self.now.who) uses ≡ option_to_list self.now.receiver ++ map (use_of self.now.who) arguments) }
     {
         let mut uses = Items::new(alloc);
@@ -181,7 +197,12 @@ impl<'a> Target<'a> {
     }
 
     // The uses of handles for the arguments, where these pass their checks.
-    fn check_arguments(&self, alloc: Global, code: &Image, content: &Content) -> Result<Items<HandleUse>, EnterError>
+    fn check_arguments(
+        &self,
+        alloc: Global,
+        code: &Image,
+        content: &Content,
+    ) -> Result<Items<HandleUse>, EnterError>
         ensures refused { IfErr result (IsRefusedBy (entry_checks (table_of_image code.now) (content_of content.now) self.now)) }
         ensures passed { OnOk result (refusal_of (entry_checks (table_of_image code.now) (content_of content.now) self.now) ≡ refusal_of (later_checks (content_of content.now) self.now)) }
         ensures uses { IfOk result (λ uses. map (use_of self.now.who) uses ≡ argument_uses (content_of content.now) self.now) }
@@ -218,7 +239,12 @@ impl<'a> Target<'a> {
     }
 
     // What is entered, with the values of the arguments.
-    fn entered(&self, alloc: Global, content: &Content, uses: Items<HandleUse>) -> Result<Entered, Memory>
+    fn entered(
+        &self,
+        alloc: Global,
+        content: &Content,
+        uses: Items<HandleUse>,
+    ) -> Result<Entered, Memory>
         ensures machine { IfOk result (λ entered. machine_entry entered ≡ entry_of_request (content_of content.now) self.now) }
         ensures uses { IfOk result (λ entered. entered.uses ≡ uses) }
         ensures given { IfOk result (λ entered. entered.given ≡ self.now.given) }
@@ -236,7 +262,12 @@ impl<'a> Target<'a> {
     }
 
     // It is entered, or refused by the first check that holds.
-    pub fn enter(&self, alloc: Global, code: &Image, content: &Content) -> Result<Entered, EnterError>
+    pub fn enter(
+        &self,
+        alloc: Global,
+        code: &Image,
+        content: &Content,
+    ) -> Result<Entered, EnterError>
         ensures refused { IfErr result (IsRefusedBy (entry_checks (table_of_image code.now) (content_of content.now) self.now)) }
         ensures entered { IfOk result (EntersSo (content_of content.now) (entry_checks (table_of_image code.now) (content_of content.now) self.now) (Some self.now) self.now.who) }
     {

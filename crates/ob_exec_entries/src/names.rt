@@ -17,12 +17,7 @@ pub struct Names {
 }
 
 // Adds the name of a thing at this place; there are always fewer than 2^32 of what memory holds of them.
-fn add_at(
-    numbering: &mut Numbering,
-    alloc: Global,
-    name: &[u8],
-    place: usize,
-) -> Result<(), Memory>
+fn add_at(numbering: &mut Numbering, alloc: Global, name: &[u8], place: usize) -> Result<(), Memory>
     ensures { OnOk result (numbering.new ≡ added numbering.old name.now place) }
 {
     if place > 0xffff_ffff {

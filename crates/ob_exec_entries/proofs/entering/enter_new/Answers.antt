@@ -1,4 +1,4 @@
-use Rattle.std.proofs.Common.{◌≡◌, true, false, List, Some, None, sym, ap, ◌∙◌}
+use Rattle.std.proofs.Common.{◌≡◌, true, false, Some, None, sym, ap, ◌∙◌}
 use Rattle.std.specs.Prelude.{option_map, Option}
 use Rattle.std.specs.List.{list_any}
 use Rattle.ob_base.specs.Optional.{◌>>=◌}
@@ -9,7 +9,6 @@ use Rattle.ob_invocation_spec.specs.Refusals.{new_checks, entry_checks}
 use Rattle.ob_machine_steps.specs.ImageTables.{table_of_image}
 use Rattle.ob_table.specs.Tables.{contract_named}
 use Rattle.ob_wire.specs.Refusals.{refusal_told}
-use Rattle.ob_wire.specs.declared.request.Arg.{Arg}
 use Rattle.ob_exec_entries.specs.Arguments.{names_no_handle}
 use Rattle.ob_exec_entries.specs.Entering.{EntersSo, IsRefusedBy}
 use Rattle.ob_exec_entries.specs.Targets.{made_by}

@@ -1,4 +1,4 @@
-use Rattle.std.proofs.Common.{List, ap, subst}
+use Rattle.std.proofs.Common.{List, subst}
 use Rattle.ob_code.specs.declared.image.ContractCode.{ContractCode}
 use Rattle.ob_exec_entries.specs.Naming.{contract_names, AreNumbered}
 use Rattle.ob_exec_entries.specs.Numbered.{IsNumbering}

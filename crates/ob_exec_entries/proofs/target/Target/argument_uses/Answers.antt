@@ -14,7 +14,7 @@ returns c =
     let t = c.self.inside in
     let content = content_of c.args.content.now in
     let same : uses_of content t.who.now c.as_slice.result.now c.as_slice-2.result.now
-        ≡ argument_uses content (c.args.self.now) =
+    ≡ argument_uses content (c.args.self.now) =
     ap (λ (ps : List ParamCode). uses_of content t.who.now ps c.as_slice-2.result.now) c.as_slice.ensures
     ∙ ap (λ (args : List Arg). uses_of content t.who.now t.body.now.params args) c.as_slice-2.ensures
     ∙ sym (uses_seen content t.who.now t.contract t.tx t.body.now (option_map (λ r. (r.0.now, r.1)) t.receiver) t.given t.args.now t.into.now)
