@@ -1,10 +1,11 @@
 //! The answer to a request.
-ghost use Rattle.std.specs.Prelude.{◌≡◌, Some, map, IfOk};
+ghost use Rattle.std.specs.Prelude.{◌≡◌, ℕ, Some, map, IfOk};
 ghost use Rattle.ob_heap.specs.Contents.{content_of};
 ghost use Rattle.ob_machine_steps.specs.ImageTables.{table_of_image};
 ghost use Rattle.ob_machine_steps.specs.Meanings.{machine_meaning, machine_invocation};
 ghost use Rattle.ob_invocation_spec.specs.Invocation.{invoke_new, invoke_call, invoke_operation};
 ghost use Rattle.ob_wire.specs.Meanings.{argument_meant, operation_of, request_of};
+ghost use Rattle.ob_owners.specs.Spots.{owner_place};
 ghost use Rattle.ob_exec_entries.specs.Naming.{IsNamesOf};
 ghost use Rattle.ob_exec_handles.specs.Coming.{ComesTo, IsInLimits};
 
@@ -13,6 +14,7 @@ use ob_base::{Items, Label, Memory};
 use ob_exec_entries::{EnterError, Names, enter_call, enter_new};
 use ob_exec_handles::{Answered, disown, give, owner, refused, see};
 use ob_heap::{Content, Delta};
+use ob_owners::Index;
 use ob_verify::Verified;
 use ob_wire::{Arg, Op, Reply, Request};
 use std::alloc::Global;
@@ -63,16 +65,18 @@ fn answer_call(
 }
 
 // What a client's operation comes to.
-fn answer_operation(
+fn answer_operation<I: Index>(
     alloc: Global,
     code: &Verified,
     names: &Names,
     content: &Content,
+    index: &I,
     who: &Label,
     op: &Op,
     fuel: u32,
 ) -> Result<Answered, Memory>
     requires names { IsNamesOf names.now code.now }
+    requires index { (n : ℕ) → I.owner index.now n ≡ owner_place (table_of_image code.now) (content_of content.now) n }
     requires right { IsInLimits (invoke_operation (machine_meaning code.now) (table_of_image code.now) (content_of content.now) fuel who.now (operation_of op.now)) }
     ensures { IfOk result (λ a. ComesTo (invoke_operation (machine_meaning code.now) (table_of_image code.now) (content_of content.now) fuel who.now (operation_of op.now)) content.now a.answer a.delta) }
 {
@@ -88,21 +92,23 @@ fn answer_operation(
         Op::Disown { on } => disown(alloc, content, who, on),
         Op::Give { on, to, into, mode } => give(alloc, content, who, on, to, into, *mode),
         Op::See { on } => see(alloc, code.image(), content, who, on),
-        Op::Owner { on } => owner(alloc, code.image(), content, who, on),
+        Op::Owner { on } => owner(alloc, code.image(), content, index, who, on),
     }
 }
 
-/// What a request is answered by the code of a program, and what differs in the store after it. The request must not go wrong,
-/// which sound code gives, and leave no more objects than there may be.
-pub fn answer(
+/// What a request is answered by the code of a program, and what differs in the store after it. The index tells the owners of the
+/// store's objects. The request must not go wrong, which sound code gives, and leave no more objects than there may be.
+pub fn answer<I: Index>(
     alloc: Global,
     code: &Verified,
     names: &Names,
     content: &Content,
+    index: &I,
     request: &Request,
     fuel: u32,
 ) -> Result<(Reply, Delta), Memory>
     requires names { IsNamesOf names.now code.now }
+    requires index { (n : ℕ) → I.owner index.now n ≡ owner_place (table_of_image code.now) (content_of content.now) n }
     requires right { IsInLimits (machine_invocation code.now (content_of content.now) (request_of request.now) fuel) }
     ensures id { IfOk result (λ a. a.0.id ≡ Some request.now.id) }
     ensures answer { IfOk result (λ a. ComesTo (machine_invocation code.now (content_of content.now) (request_of request.now) fuel) content.now a.0.answer a.1) }
@@ -112,6 +118,7 @@ pub fn answer(
         code,
         names,
         content,
+        index,
         &request.who,
         &request.op,
         fuel,
