@@ -4,3 +4,4 @@ pub mod PuttingLemmas
 pub mod DeltaLemmas
 pub mod ChangingLemmas
 pub mod InvokingLemmas
+pub mod ShowingLemmas

@@ -7,11 +7,15 @@ mod delta;
 mod disowning;
 mod giving;
 mod marking;
+mod owning;
 mod putting;
+mod seeing;
 mod states;
 
 pub use answered::{Answered, refused, unchanged};
 pub use delta::delta_with;
 pub use disowning::disown;
 pub use giving::give;
+pub use owning::owner;
+pub use seeing::see;
 pub use states::state_told;
