@@ -62,6 +62,7 @@ pub fn owner_scan(
 }
 
 /// A store in memory, which tells owners by going over all places.
+#[derive(Drop)]
 pub struct Scan<'a> {
     /// The code of the program.
     pub code: &'a Image,
