@@ -1,5 +1,5 @@
 -- What a run changed and the handles that are put, as one delta.
-use Rattle.std.proofs.Common.{◌≡◌, List, length, map, Option, sym, ap, subst, ◌∙◌}
+use Rattle.std.proofs.Common.{◌≡◌, List, map, Option, sym, ap, subst, ◌∙◌}
 use Rattle.ob_base.specs.declared.id.ObjectId.{ObjectId}
 use Rattle.ob_base.specs.declared.name.Label.{Label}
 use Rattle.ob_heap_spec.specs.Worlds.{World}

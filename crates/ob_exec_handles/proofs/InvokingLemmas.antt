@@ -1,8 +1,8 @@
 -- What requests that run nothing come to.
-use Rattle.std.proofs.Common.{◌≡◌, ℕ, ◌<◌, Bool, true, false, cond, List, [], ◌∷◌, ◌++◌, length, map, Option, Some, None, refl, sym, ap, subst, ◌∙◌, true≢false, arith}
-use Rattle.std.specs.Prelude.{not, is_none, is_some, nat_le, slice_get, option_map, if◌then◌else◌}
+use Rattle.std.proofs.Common.{◌≡◌, ℕ, Bool, true, false, cond, List, [], ◌∷◌, ◌++◌, length, map, Option, Some, None, refl, sym, ap, subst, ◌∙◌, arith}
+use Rattle.std.specs.Prelude.{not, is_none, is_some, nat_le, option_map, if◌then◌else◌}
 use Rattle.std.specs.Option.{option_map_or}
-use Rattle.std.specs.Ordering.{is_eq, ordering_reverse, eq_by_cmp}
+use Rattle.std.specs.Ordering.{is_eq, ordering_reverse}
 use Rattle.std.specs.FinMap.Entries.{find as find_key}
 use Rattle.std.specs.declared.cmp.Ordering.{Ordering}
 use Rattle.std.specs.declared.cmp.Ordering.TheVariants.{Less, Equal, Greater}
@@ -14,15 +14,14 @@ use Rattle.ob_base.specs.declared.name.Label.{Label}
 use Rattle.ob_base.specs.declared.permission.Mode.{Mode}
 use Rattle.ob_base.specs.declared.permission.Mode.TheVariants.{Owned, Shared, Unowned}
 use Rattle.ob_heap_spec.specs.Contents.{HandleName, Handle as PlainHandle, Content, name_order}
-use Rattle.ob_heap_spec.specs.Objects.{Object as PlainObject}
 use Rattle.ob_heap_spec.specs.Worlds.{ReadItem}
 use Rattle.ob_heap_spec.specs.Marks.{mark_disowned}
 use Rattle.ob_rest_spec.specs.Modes.{is_owned, is_shared}
-use Rattle.ob_invocation_spec.specs.Checks.{Check, refusal_of, reads_of, left_as_it_was, refused_or, with_found}
+use Rattle.ob_invocation_spec.specs.Checks.{refusal_of, reads_of, left_as_it_was, refused_or, with_found}
 use Rattle.ob_invocation_spec.specs.Entering.{handle_in}
 use Rattle.ob_invocation_spec.specs.Handles.{NamedHandle, handle_name, serves, put_handles, mark_puts, are_handles_full}
 use Rattle.ob_invocation_spec.specs.Handles as asked
-use Rattle.ob_invocation_spec.specs.Invocation.{still_world, with_handle, disowned_world, disown_handle, invoke_disown, giver_after, puts_of_give, give_from, invoke_give}
+use Rattle.ob_invocation_spec.specs.Invocation.{still_world, with_handle, disowned_world, disown_handle, giver_after, puts_of_give, give_from, invoke_give}
 use Rattle.ob_invocation_spec.specs.Refusals.{handle_check, making_checks, give_checks, is_taken}
 use Rattle.ob_invocation_spec.specs.Replies.{Refusal, Invocation, refused, no_handle, permission}
 use Rattle.ob_invocation_spec.specs.Requests.{GiveRequest}
@@ -30,7 +29,6 @@ use Rattle.ob_heap.specs.declared.delta.Delta.{Delta}
 use Rattle.ob_heap.specs.declared.object.Object.{Object}
 use Rattle.ob_heap.specs.declared.object.Handle.{Handle}
 use Rattle.ob_heap.specs.Contents.{Stored, content_of, name_of, named_of, handle_at}
-use Rattle.ob_heap.specs.Deltas.{without_handle}
 use Rattle.ob_heap.specs.Plain.{object_of, handle_of}
 use Rattle.ob_heap.proofs.HandlesLemmas.{names_total}
 use Rattle.ob_heap.proofs.LookLemmas.{plain_without}

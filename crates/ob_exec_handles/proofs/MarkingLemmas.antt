@@ -1,10 +1,9 @@
 -- Marks on objects.
-use Rattle.std.proofs.Common.{◌≡◌, ℕ, ◌<◌, Bool, true, false, List, [], ◌∷◌, length, map, set, Option, Some, None, Result, Ok, Err, refl, sym, ap, subst, ◌∙◌, true≢false, arith}
+use Rattle.std.proofs.Common.{◌≡◌, ℕ, ◌<◌, Bool, true, false, List, [], ◌∷◌, length, map, set, Option, Some, None, Result, Ok, Err, refl, sym, ap, ◌∙◌, arith}
 use Rattle.std.specs.Prelude.{slice_get, slice_set, option_map, OnOk, if◌then◌else◌}
 use Rattle.std.specs.Option.{option_map_or}
-use Rattle.std.proofs.lemmas.Option.{slice_get-map, slice_get_within}
+use Rattle.std.proofs.lemmas.Option.{slice_get-map}
 use Rattle.std.proofs.lemmas.List.{length-map, length-set, map-set}
-use Rattle.ob_base.specs.declared.name.Label.{Label}
 use Rattle.ob_heap_spec.specs.Objects.{Object as PlainObject}
 use Rattle.ob_heap_spec.specs.Contents.{object_at}
 use Rattle.ob_heap_spec.specs.Marks.{has_mark as has_mark_in, mark_shared, mark_disowned}
@@ -12,8 +11,6 @@ use Rattle.ob_heap_spec.specs.Worlds.{World, object_item, is_made, with_read, se
 use Rattle.ob_rest_spec.specs.Modes.{is_shared}
 use Rattle.ob_invocation_spec.specs.Handles.{NamedHandle, mark_put, mark_puts}
 use Rattle.ob_heap.specs.declared.object.Object.{Object}
-use Rattle.ob_heap.specs.declared.object.Handle.{Handle}
-use Rattle.ob_heap.specs.Contents.{named_of}
 use Rattle.ob_heap.specs.Overlays.{Changes, laid_over, objects_over, IsSameBut}
 use Rattle.ob_heap.specs.Plain.{object_of}
 use Rattle.ob_exec_handles.specs.Marking.{has_mark, marked, is_marked, with_mark, with_put_mark, with_put_marks}
@@ -93,28 +90,6 @@ pub still_as_many : (base : List Object) (old new : Changes) (puts : List NamedH
     → length (laid_over base new) ≡ length (laid_over base old)
 still_as_many base old new puts e =
     sym (length-map (laid_over base new) object_of) ∙ ap length e ∙ puts_length puts (objects_over base old) ∙ length-map (laid_over base old) object_of
-
--- Of the objects under an overlay.
-
-pub marked_looked : (mark : Mark) (base : List Object) (c : Changes) (n : ℕ) → is_marked mark n (objects_over base c)
-    ≡ option_map_or (λ o. has_mark mark (object_of o)) (slice_get (laid_over base c) n) true
-marked_looked mark base c n =
-    ap (λ r. option_map_or (has_mark mark) r true) (slice_get-map object_of (laid_over base c) n) ∙ by (slice_get (laid_over base c) n)
-  where
-    by : (r : Option Object) → option_map_or (has_mark mark) (option_map object_of r) true ≡ option_map_or (λ o. has_mark mark (object_of o)) r true
-    by None = refl
-    by (Some o) = refl
-
-pub marked_already : (mark : Mark) (n : ℕ) (os : List PlainObject) → is_marked mark n os ≡ true → os ≡ with_mark mark n os
-marked_already mark n os e = sym (ap (λ b. if b then os else option_map_or (λ o. slice_set os n (marked mark o)) (object_at os n) os) e)
-
-pub unmarked_within : (mark : Mark) (base : List Object) (c : Changes) (n : ℕ) → is_marked mark n (objects_over base c) ≡ false
-    → n < length (laid_over base c)
-unmarked_within mark base c n e = by (slice_get (laid_over base c) n) refl (sym (marked_looked mark base c n) ∙ e)
-  where
-    by : (r : Option Object) → slice_get (laid_over base c) n ≡ r → option_map_or (λ o. has_mark mark (object_of o)) r true ≡ false → n < length (laid_over base c)
-    by (Some o) is f = slice_get_within (laid_over base c) n o is
-    by None is f = absurd (true≢false f)
 
 pub still_within : (n : ℕ) (old mid : List Object) (x : Object) → IsSameBut n old mid → n < length old → n < length mid
 still_within n old mid x h l =

@@ -1,7 +1,7 @@
 -- Handles that are put, and what differs then.
 use lib.Dec.{T}
 use Rattle.std.proofs.Common.{◌≡◌, ℕ, zero, suc, ◌<◌, Bool, true, false, cond, List, [], ◌∷◌, length, map, Option, Some, None, refl, sym, ap, subst, ◌∙◌, true≢false, arith}
-use Rattle.std.specs.Prelude.{not, ◌&&◌, nat_eq, filter, AllPairs, slice_index_or, if◌then◌else◌}
+use Rattle.std.specs.Prelude.{not, ◌&&◌, nat_eq, AllPairs, slice_index_or}
 use Rattle.std.specs.Option.{option_map_or, option_or}
 use Rattle.std.specs.List.{AllByRecursion}
 use Rattle.std.specs.Cmp.{IsTotalOrder}
@@ -17,7 +17,6 @@ use Rattle.std.proofs.lemmas.Map.Text.{is_eq-slice_cmp}
 use Rattle.ob_base.specs.declared.name.Label.{Label}
 use Rattle.ob_base.specs.declared.permission.Mode.{Mode}
 use Rattle.ob_base.specs.declared.permission.Mode.TheVariants.{Owned, Shared, Unowned}
-use Rattle.ob_heap_spec.specs.Contents.{HandleName, name_order}
 use Rattle.ob_heap.specs.declared.object.Handle.{Handle}
 use Rattle.ob_heap.specs.Contents.{name_of, named_of, handle_at, IsInOrder, IsBeforeAll}
 use Rattle.ob_heap.specs.Deltas.{label_order, with_handle, with_handles}
@@ -241,9 +240,9 @@ others_lead : (base last puts : List Held) → IsInOrder base → IsInOrder last
 others_lead base last puts ob ol is =
     same_entries label_order labels_total one_name (with_handles base (changes_by (other_puts base last))) (with_handles base (changes_by puts))
     (sorted _ (order_after (other_puts base last) base ob)) (sorted _ (order_after puts base ob)) (λ q.
-      each_over (other_puts base last) (others_order base last ol) base q ∙ others_over base last ol q
-      ∙ ap (λ hs. option_or (at q hs) (at q base)) is
-      ∙ sym (put_over puts base [] base (λ r. refl) q))
+    each_over (other_puts base last) (others_order base last ol) base q ∙ others_over base last ol q
+    ∙ ap (λ hs. option_or (at q hs) (at q base)) is
+    ∙ sym (put_over puts base [] base (λ r. refl) q))
 
 pub puts_lead : (base last puts : List Held) (changes : List Change) → IsInOrder base → IsInOrder last → last ≡ with_handles [] (changes_by puts)
     → changes ≡ changes_by (other_puts base last) → HandlesLead base changes (put_handles (map named_of base) (map named_of puts))

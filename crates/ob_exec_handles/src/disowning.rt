@@ -74,12 +74,7 @@ fn disown_handle(
 }
 
 /// The client gives up its handle of this name.
-pub fn disown(
-    alloc: Global,
-    base: &Content,
-    who: &Label,
-    on: &Label,
-) -> Result<Answered, Memory>
+pub fn disown(alloc: Global, base: &Content, who: &Label, on: &Label) -> Result<Answered, Memory>
     ensures { IfOk result (λ a. ComesTo (invoke_disown (content_of base.now) (handle_name who.now on.now)) base.now a.answer a.delta) }
 {
     match base.handle(who, on) {

@@ -9,7 +9,6 @@ use Rattle.ob_base.specs.Optional.{◌>>=◌, where_true}
 use Rattle.ob_base.specs.declared.id.FieldId.{FieldId}
 use Rattle.ob_base.specs.declared.permission.Mode.{Mode}
 use Rattle.ob_heap.specs.declared.value.Value.{Value}
-use Rattle.ob_base.specs.declared.name.Label.{Label}
 use Rattle.ob_code.specs.declared.image.ContractCode.{ContractCode}
 use Rattle.ob_code.specs.declared.image.FieldCode.{FieldCode}
 use Rattle.ob_code.specs.declared.image.Image.{Image}
@@ -21,8 +20,6 @@ use Rattle.ob_table.specs.Tables.{ClassTable, contract_at}
 use Rattle.ob_table.specs.declared.contract.Contract.{Contract}
 use Rattle.ob_table.specs.declared.contract.Field.{Field}
 use Rattle.ob_heap.specs.declared.object.Object.{Object}
-use Rattle.ob_heap.specs.declared.object.Handle.{Handle}
-use Rattle.ob_heap.specs.Contents.{named_of}
 use Rattle.ob_heap.specs.Plain.{object_of, value_of}
 use Rattle.ob_heap_spec.specs.Contents.{Content}
 use Rattle.ob_heap_spec.specs.Objects.{Object as PlainObject}
@@ -30,8 +27,8 @@ use Rattle.ob_heap_spec.specs.Values.{Value as PlainValue, int_value, bool_value
 use Rattle.ob_machine_steps.specs.ImageTables.{type_of_code, contract_of_code, field_of_code, table_of_image}
 use Rattle.ob_rest_spec.specs.Incoming.{StorePlace, stored_field, IncomingReference, incoming_by_field, incoming_by_handle, fields_onto, handles_onto}
 use Rattle.ob_rest_spec.specs.Modes.{is_owned}
-use Rattle.ob_rest_spec.specs.References.{FieldReference, reference_of, references_of, field_references, available_value}
-use Rattle.ob_owners.specs.Scanning.{first_of, refers_to, owned_value, owning_place, owning_field, owning_in_object, owning_in_fields, owning_handle, owning_in_handles}
+use Rattle.ob_rest_spec.specs.References.{reference_of, references_of, field_references, available_value}
+use Rattle.ob_owners.specs.Scanning.{first_of, refers_to, owned_value, owning_place, owning_field, owning_in_object, owning_in_fields, owning_in_handles}
 use Rattle.ob_owners.specs.Spots.{owner_place}
 
 -- The first that is found.

@@ -1,5 +1,5 @@
 -- The values of available fields.
-use Rattle.std.proofs.Common.{◌≡◌, ℕ, Bool, true, false, List, [], ◌∷◌, map, Option, Some, None, refl, sym, ap, subst, ◌∙◌}
+use Rattle.std.proofs.Common.{◌≡◌, ℕ, Bool, true, false, List, [], ◌∷◌, Option, Some, None, refl, sym, ap, subst, ◌∙◌}
 use Rattle.std.specs.Prelude.{nat_eq, slice_get, option_map, IfSome, if◌then◌else◌}
 use Rattle.std.specs.Option.{option_map_or}
 use Rattle.std.proofs.lemmas.Bool.Decides.{Decides-eqb}
@@ -13,7 +13,6 @@ use Rattle.ob_heap.specs.declared.value.Value.{Value}
 use Rattle.ob_heap.specs.Fields.{value_at}
 use Rattle.ob_heap.specs.Plain.{object_of, value_of, fields_of}
 use Rattle.ob_heap_spec.specs.Objects.{is_available}
-use Rattle.ob_heap_spec.specs.Values.{Value as PlainValue}
 use Rattle.ob_machine_steps.specs.Images.{is_available_in}
 use Rattle.ob_machine_steps.specs.ImageTables.{contract_of_code, field_of_code}
 use Rattle.ob_rest_spec.specs.References.{available_value}

@@ -1,4 +1,4 @@
-use Rattle.std.proofs.Common.{◌≤◌, map, sym, ap, subst, ◌∙◌}
+use Rattle.std.proofs.Common.{◌≤◌, map, sym, subst}
 use Rattle.ob_base.specs.Limits.{most_objects}
 use Rattle.ob_heap.specs.Contents.{named_of}
 use Rattle.ob_exec_handles.proofs.DeltaLemmas.{delta_leads}

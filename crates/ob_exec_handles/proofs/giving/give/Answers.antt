@@ -1,9 +1,7 @@
-use Rattle.std.proofs.Common.{◌≡◌, ◌∙◌, ◌++◌, ◌∷◌, [], map, sym, ap}
+use Rattle.std.proofs.Common.{◌∙◌, map, sym, ap}
 use Rattle.ob_heap.specs.Contents.{content_of, named_of}
 use Rattle.ob_heap.specs.Plain.{handle_of}
 use Rattle.ob_invocation_spec.specs.Checks.{refusal_of}
-use Rattle.ob_invocation_spec.specs.Handles.{handle_name}
-use Rattle.ob_invocation_spec.specs.Invocation.{giver_after, puts_of_give}
 use Rattle.ob_invocation_spec.specs.Requests.{GiveRequest}
 use Rattle.ob_wire.specs.declared.reply.Answer.TheVariants as answer
 use Rattle.ob_wire.specs.declared.reply.Outcome.TheVariants as outcome
