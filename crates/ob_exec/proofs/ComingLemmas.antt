@@ -1,11 +1,10 @@
 -- What comes of the end of a run.
 use Rattle.std.proofs.Common.{◌≡◌, ◌≤◌, ℕ, Bool, true, false, List, [], ◌∷◌, ◌++◌, length, map, Option, Some, None, refl, sym, ap, subst, ◌∙◌}
-use Rattle.std.specs.Prelude.{option_map, flat_map, fold, slice_set, if◌then◌else◌}
+use Rattle.std.specs.Prelude.{option_map, flat_map, if◌then◌else◌}
 use Rattle.std.specs.Option.{option_map_or}
 use Rattle.std.proofs.lemmas.List.{length-map}
 use Rattle.std.proofs.Math.ListN.{length-set}
 use Rattle.ob_base.specs.Limits.{most_objects}
-use Rattle.ob_base.specs.declared.permission.Mode.{Mode}
 use Rattle.ob_heap_spec.specs.Objects as plain
 use Rattle.ob_heap_spec.specs.Values as values
 use Rattle.ob_heap_spec.specs.Contents.{Content, object_at}
@@ -18,17 +17,15 @@ use Rattle.ob_heap.specs.Contents.{Stored, content_of}
 use Rattle.ob_heap.specs.Overlays.{Changes, laid_over, objects_over}
 use Rattle.ob_heap.specs.Plain.{object_of, value_of}
 use Rattle.ob_rest_spec.specs.Modes.{is_shared}
-use Rattle.ob_invocation_spec.specs.Entries.{Entry, handle_uses}
-use Rattle.ob_invocation_spec.specs.Entering.{put_after_use, put_given, puts_after, first_outside_use, outside_cause, run_entry}
+use Rattle.ob_invocation_spec.specs.Entries.{Entry}
+use Rattle.ob_invocation_spec.specs.Entering.{put_after_use, put_given, puts_after}
 use Rattle.ob_invocation_spec.specs.Handles.{NamedHandle, handle_name, mark_put, mark_puts}
-use Rattle.ob_invocation_spec.specs.Invocation.{done_with, ended, after_entry_test}
-use Rattle.ob_invocation_spec.specs.Replies.{Invocation, invoked, aborted}
+use Rattle.ob_invocation_spec.specs.Invocation.{done_with, ended}
+use Rattle.ob_invocation_spec.specs.Replies.{invoked, aborted}
 use Rattle.ob_invocation_spec.specs.Showing.{told_state, reply_of_result}
-use Rattle.ob_code.specs.declared.image.Image.{Image}
 use Rattle.ob_table.specs.Tables.{ClassTable}
 use Rattle.ob_machine.specs.Shown.{cause_of}
 use Rattle.ob_machine.specs.declared.progress.Cause.{Cause}
-use Rattle.ob_machine.specs.declared.progress.Progress.{Progress}
 use Rattle.ob_machine.specs.declared.progress.Progress.TheVariants.{Finished, Aborted, Going}
 use Rattle.ob_wire.specs.declared.reply.Answer.{Answer}
 use Rattle.ob_exec_handles.specs.Coming.{ComesTo, IsInLimits}
@@ -88,7 +85,7 @@ pub comes_done : (table : ClassTable) (content : Content) (e : Entry) (reads : L
     (given : Option Value) (base : Stored) (changes : Changes) (puts : List NamedHandle) (answer : Answer) (delta : Delta)
     → EndsSo o (Finished given) base.objects changes → puts_after content e (option_map value_of given) ≡ puts
     → ((w : World) (read : List ReadItem) → w.objects ≡ objects_over base.objects changes
-        → ComesTo (done_with (reply_of_result (option_map value_of given)) content puts w read) base answer delta)
+    → ComesTo (done_with (reply_of_result (option_map value_of given)) content puts w read) base answer delta)
     → ComesTo (ended table content e reads o) base answer delta
 comes_done table content e reads (gives result w) given base changes puts answer delta end same h =
     subst (λ r. ComesTo (ended table content e reads (gives r w)) base answer delta) (sym end.0)

@@ -18,7 +18,7 @@ use Rattle.ob_code.specs.declared.image.BodyCode.{BodyCode}
 use Rattle.ob_code.specs.declared.image.Image.{Image}
 use Rattle.ob_code.specs.declared.image.ParamCode.{ParamCode}
 use Rattle.ob_code.specs.Code.{body_code}
-use Rattle.ob_machine_steps.specs.Configurations.{Configuration, End, ended, aborted, Next, goes, stops}
+use Rattle.ob_machine_steps.specs.Configurations.{End, ended, aborted, Next, goes, stops}
 use Rattle.ob_machine_steps.specs.Entries.{MachineEntry, Phase, running, lock_receiver, args_come_in, receiver_comes_in, comes_into_body, entry_world, started, next_step}
 use Rattle.ob_machine_steps.specs.ImageTables.{perm_of_code, type_of_param}
 use Rattle.ob_machine_steps.specs.Measures.{LeadsAhead, steps_left}

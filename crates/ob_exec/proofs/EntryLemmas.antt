@@ -1,10 +1,8 @@
 -- What a request enters, and what comes of one that is refused.
-use Rattle.std.proofs.Common.{◌≡◌, ℕ, Bool, true, false, List, Option, Some, None, refl, sym, ap, ◌∙◌}
-use Rattle.std.specs.Prelude.{not, option_map, if◌then◌else◌}
+use Rattle.std.proofs.Common.{◌≡◌, ℕ, Bool, true, false, List, Option, Some, None, sym, ap, ◌∙◌}
+use Rattle.std.specs.Prelude.{not, option_map}
 use Rattle.ob_base.specs.Optional.{◌>>=◌, where_true}
-use Rattle.ob_base.specs.declared.id.ContractId.{ContractId}
 use Rattle.ob_table.specs.Tables.{ClassTable, contract_at, contract_named, signature_at}
-use Rattle.ob_table.specs.declared.contract.Signature.{Signature}
 use Rattle.ob_table_spec.specs.WellFormed.{constructor_at}
 use Rattle.ob_verify_spec.proofs.Cells.{none_some, some_same}
 use Rattle.ob_heap_spec.specs.Contents.{Content, object_at}

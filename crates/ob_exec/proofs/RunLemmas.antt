@@ -1,5 +1,5 @@
 -- What comes of the run of what is entered, and of its entry test.
-use Rattle.std.proofs.Common.{◌≡◌, ◌≤◌, ℕ, List, map, Option, Some, None, refl, sym, ap, subst, ◌∙◌}
+use Rattle.std.proofs.Common.{◌≡◌, ℕ, List, map, Option, Some, None, refl, sym, ap, subst, ◌∙◌}
 use Rattle.std.specs.Prelude.{option_map, find, IsSome}
 use Rattle.ob_base.specs.declared.id.TxId.{TxId}
 use Rattle.ob_verify_spec.proofs.Cells.{none_some, some_same}
@@ -17,7 +17,7 @@ use Rattle.ob_code.specs.declared.image.Image.{Image}
 use Rattle.ob_table.specs.Tables.{ClassTable}
 use Rattle.ob_machine_steps.specs.Entries.{started}
 use Rattle.ob_machine_steps.specs.ImageTables.{table_of_image}
-use Rattle.ob_machine_steps.specs.Meanings.{outcome, machine_meaning, entry_of_request}
+use Rattle.ob_machine_steps.specs.Meanings.{outcome, machine_meaning}
 use Rattle.ob_machine.specs.Shown.{cause_of}
 use Rattle.ob_machine.specs.declared.progress.Cause.{Cause}
 use Rattle.ob_wire.specs.declared.reply.Answer.{Answer}

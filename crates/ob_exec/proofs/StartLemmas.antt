@@ -30,7 +30,7 @@ runs_on image content fuel e tx None h =
     requests_run image content fuel (record e { receiver = None; tx = tx }) (record { constructor = λ none. h })
 runs_on image content fuel e tx (Some u) h =
     subst (λ x. run_entry (machine_meaning image) content fuel (record e { receiver = Some u })
-        ≡ outcome image (started image (with_number x (entry_of_request content (record e { receiver = Some u }))) content.objects fuel)) (some_same h)
+    ≡ outcome image (started image (with_number x (entry_of_request content (record e { receiver = Some u }))) content.objects fuel)) (some_same h)
     (requests_run image content fuel (record e { receiver = Some u }) (record { constructor = λ none. absurd (let same : ◌≡◌ {A = Option HandleUse} (Some u) None = none in cc) }))
 
 pub runs_by : (image : Image) (content : Content) (fuel : ℕ) (e : Entry) (tx : TxId)

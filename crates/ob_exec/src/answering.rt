@@ -34,7 +34,16 @@ fn answer_new(
     requires right { IsInLimits (invoke_new (machine_meaning code.now) (table_of_image code.now) (content_of content.now) fuel who.now (record { contract = contract.now; args = map argument_meant args.now; into = into.now })) }
     ensures { IfOk result (λ a. ComesTo (invoke_new (machine_meaning code.now) (table_of_image code.now) (content_of content.now) fuel who.now (record { contract = contract.now; args = map argument_meant args.now; into = into.now })) content.now a.answer a.delta) }
 {
-    match enter_new(alloc, code.image(), names, content, who, contract, args, into) {
+    match enter_new(
+        alloc,
+        code.image(),
+        names,
+        content,
+        who,
+        contract,
+        args,
+        into,
+    ) {
         Ok(entered) => enter(alloc, code, content, who, into, entered, fuel),
         Err(EnterError::Refused(refusal)) => Ok(refused(alloc, refusal)),
         Err(EnterError::Memory) => Err(Memory),

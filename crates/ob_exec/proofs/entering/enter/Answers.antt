@@ -1,4 +1,4 @@
-use Rattle.std.proofs.Common.{◌≡◌, map, Some, None, sym, ap, subst, ◌∙◌}
+use Rattle.std.proofs.Common.{◌≡◌, map, Some, None, subst}
 use Rattle.std.specs.Prelude.{option_map, find}
 use Rattle.std.proofs.lemmas.Result.{IfOk-weaker}
 use Rattle.ob_heap.specs.Contents.{content_of}
@@ -6,7 +6,6 @@ use Rattle.ob_invocation_spec.specs.Entering.{is_outside_use, outside_cause}
 use Rattle.ob_machine_steps.specs.ImageTables.{table_of_image}
 use Rattle.ob_machine.specs.Shown.{cause_of}
 use Rattle.ob_exec_entries.specs.Entering.{use_of}
-use Rattle.ob_exec_handles.specs.Coming.{ComesTo}
 use Rattle.ob_exec.proofs.ComingLemmas.{AbortsSo}
 use Rattle.ob_exec.proofs.RunLemmas.{passes_test, fails_test}
 use Rattle.ob_exec.proofs.entering.enter.Goals as goal

@@ -6,7 +6,6 @@ use Rattle.ob_heap.specs.Plain.{value_of}
 use Rattle.ob_machine_steps.specs.Entries.{started}
 use Rattle.ob_machine_steps.specs.ImageTables.{table_of_image}
 use Rattle.ob_machine_steps.specs.Meanings.{outcome}
-use Rattle.ob_machine.specs.declared.progress.Progress.TheVariants.{Finished, Aborted, Going}
 use Rattle.ob_exec_entries.specs.Entering.{machine_entry}
 use Rattle.ob_exec_handles.specs.Coming.{ComesTo, IsInLimits}
 use Rattle.ob_exec.specs.Bodies.{body_number}

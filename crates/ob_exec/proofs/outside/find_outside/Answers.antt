@@ -1,4 +1,4 @@
-use Rattle.std.proofs.Common.{◌≡◌, map, Some, sym, ap, ◌∙◌, rules, arith}
+use Rattle.std.proofs.Common.{◌≡◌, map, Some, sym, ap, ◌∙◌, rules}
 use Rattle.std.specs.Prelude.{find, option_map}
 use Rattle.ob_heap.specs.Plain.{object_of}
 use Rattle.ob_invocation_spec.specs.Entering.{is_outside_use, outside_cause}
