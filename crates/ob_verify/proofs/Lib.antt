@@ -2,4 +2,3 @@ pub mod ListLoops
 pub mod RowLoops
 pub mod PassLoops
 pub mod ImageLoops
-pub mod Settling

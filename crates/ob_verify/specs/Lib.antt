@@ -1,4 +1,3 @@
 pub mod Bodies
-pub mod Settling
 pub mod Names
 pub mod Answering

@@ -6,7 +6,6 @@ ghost use Rattle.ob_verify_spec.specs.Kinds.{fits, fits_contract};
 ghost use Rattle.ob_verify_spec.specs.Frames.{constructor_code, kind_of_field};
 
 use crate::kinds::{implements_number, is_constructor, kind_of_type, same_kind};
-use crate::settled::Settled;
 use ob_base::{ContractId, FieldId, TxId};
 use ob_code::{BodyCode, ContractCode, Image};
 use ob_table::Kind;
@@ -15,8 +14,8 @@ use std::marker::Model;
 /// A body, the contract that it stands in with its number, and the image.
 #[derive(Drop)]
 pub struct CodeFrame<'a> {
-    /// The image, with what is settled of it.
-    pub image: &'a Settled,
+    /// The image.
+    pub image: &'a Image,
     /// The number of the body's contract.
     pub here: ContractId,
     /// The body's contract.

@@ -7,9 +7,8 @@ ghost use Rattle.ob_verify.specs.Bodies.{frames_in};
 use crate::frame::CodeFrame;
 use crate::kinds::is_interface;
 use crate::pass::{FaultAt, first_fault};
-use crate::settled::Settled;
 use ob_base::{ContractId, Memory};
-use ob_code::ContractCode;
+use ob_code::{ContractCode, Image};
 use std::alloc::Global;
 
 // The first fault of a body; an interface's body has none.
@@ -37,7 +36,7 @@ pub fn number_after(first: u32, places: usize) -> Result<u32, Memory>
 #[tactic(auto, using(crate::proofs::ImageLoops::bodies))]
 fn fault_in_contract(
     alloc: Global,
-    image: &Settled,
+    image: &Image,
     here: ContractId,
     own: &ContractCode,
     first: u32,
@@ -62,10 +61,10 @@ fn fault_in_contract(
 
 /// The first fault of an image, and the number of its body.
 #[tactic(auto, using(crate::proofs::ImageLoops::contracts))]
-pub fn fault_in_image(alloc: Global, image: &Settled) -> Result<Option<(u32, FaultAt)>, Memory>
+pub fn fault_in_image(alloc: Global, image: &Image) -> Result<Option<(u32, FaultAt)>, Memory>
     ensures { IfOk result (λ found. found ≡ first_fault_of 0 (frames_of image.now)) }
 {
-    let contracts = image.code().contracts.as_slice();
+    let contracts = image.contracts.as_slice();
     let mut first = 0;
     for i in 0..contracts.len() {
         let own = &contracts[i];

@@ -2,7 +2,6 @@
 //! bytecode verification", J. Automated Reasoning 30, 2003).
 #![tactic(auto)]
 
-mod answers;
 mod calls;
 mod conditions;
 mod frame;
@@ -13,7 +12,6 @@ mod needs;
 mod numbers;
 mod pass;
 mod rows;
-mod settled;
 mod verifying;
 
 pub use numbers::{

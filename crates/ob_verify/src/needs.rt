@@ -103,10 +103,9 @@ fn holds_for_call(
 fn holds_given(frame: &CodeFrame<'_>, row: &[Option<Kind>], given: &[(FieldId, u8)]) -> bool
     ensures { result ≡ list_all (meets frame.now.image (held_at row.now)) (needs_of_given frame.now given.now) }
 {
-    let image = frame.image.code();
     for i in 0..given.len() {
         let (field, slot) = given[i];
-        if !holds_known(image, row, slot, frame.kind_of_field(field)) {
+        if !holds_known(frame.image, row, slot, frame.kind_of_field(field)) {
             return false;
         }
     }
@@ -132,7 +131,7 @@ fn holds_operands(image: &Image, row: &[Option<Kind>], operator: Operator, a: u8
 pub fn meets_needs(frame: &CodeFrame<'_>, instruction: &Instruction, row: &[Option<Kind>]) -> bool
     ensures { result ≡ list_all (meets frame.now.image (held_at row.now)) (needs frame.now instruction.now) }
 {
-    let image = frame.image.code();
+    let image = frame.image;
     match instruction {
         Instruction::Copy { a, .. } => holds_value(row, *a),
         Instruction::Store { field, a } => holds_known(image, row, *a, frame.kind_of_field(*field)),

@@ -142,7 +142,7 @@ fn pass(
     match take_row(rows, place) {
         Some(mut row) => {
             apply(frame, instruction, &mut row);
-            put_rows(alloc, frame.image.code(), place, instruction, rows, row)
+            put_rows(alloc, frame.image, place, instruction, rows, row)
         }
         None => Ok(()),
     }

@@ -81,7 +81,7 @@ pub fn apply(frame: &CodeFrame<'_>, instruction: &Instruction, row: &mut KindRow
             contract,
             tx,
             ..
-        } => set_result(row, *slot, body_code(frame.image.code(), *contract, *tx)),
+        } => set_result(row, *slot, body_code(frame.image, *contract, *tx)),
         Instruction::SelfCall { slot, tx, .. } => {
             set_result(row, *slot, frame.own.bodies.get(tx.0 as usize));
         }

@@ -5,7 +5,6 @@ ghost use Rattle.ob_verify.specs.Answering.{Refuses};
 
 use crate::image::{fault_in_image, number_after};
 use crate::numbers::number_of;
-use crate::settled::Settled;
 use ob_base::{Duplicate, Memory};
 use ob_code::Image;
 use std::alloc::Global;
@@ -80,20 +79,16 @@ impl Duplicate for Verified {
 /// none, and of its first instruction that has one, and there the least number. A fault whose body or instruction has a number
 /// of 2^32 or more counts as want of memory.
 ///
-/// It takes time in proportion to the image, up to a logarithm, beside two things: each contract is asked once for each
-/// transaction of the interface that it implements, and each `new` passes the bodies that stand before the constructor. It keeps
-/// what slots hold only for places that some instruction has led to and that it hasn't come to yet.
+/// It takes time in proportion to the image, beside what calls of interfaces ask of each contract, and what `new` looks for in
+/// one. It keeps what slots hold only for places that some instruction has led to and that it hasn't come to yet.
 #[tactic(auto, using(ob_verify_spec::proofs::Images::tells_of_image))]
 pub fn verify(alloc: Global, image: Image) -> Result<Verified, VerifyError>
     ensures kept { IfOk result (λ v. v ≡ image) }
     ensures verified { OnOk result (IsVerified image) }
     ensures refused { IfErr result (Refuses image) }
 {
-    let settled = Settled::of(alloc, image)?;
-    match fault_in_image(alloc, &settled)? {
-        None => Ok(Verified {
-            image: settled.into_code(),
-        }),
+    match fault_in_image(alloc, &image)? {
+        None => Ok(Verified { image }),
         Some((body, at)) => Err(VerifyError::Fault {
             number: number_of(at.fault),
             body,
