@@ -1,7 +1,7 @@
 //! The lines of replies.
 use crate::kinds::lines::Lines;
-use crate::kinds::told::value_of;
 use crate::kinds::tokens::text_of;
+use crate::kinds::told::value_of;
 use crate::trouble::Trouble;
 use ob_base::{Duplicate, Items, Label, NameError, ObjectId};
 use ob_heap::{RcStr, Value};
