@@ -1,4 +1,3 @@
-pub mod Outside
 pub mod Putting
 pub mod Bodies
 pub mod Ending

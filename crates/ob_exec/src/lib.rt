@@ -4,7 +4,6 @@
 mod answering;
 mod ending;
 mod entering;
-mod lookups;
 mod outside;
 mod puts;
 mod running;

@@ -10,12 +10,12 @@ ghost use Rattle.ob_machine.specs.Shown.{cause_of};
 ghost use Rattle.ob_invocation_spec.specs.Entering.{is_outside_use, outside_cause};
 ghost use Rattle.ob_exec_entries.specs.Entering.{use_of};
 
-use crate::lookups::is_in_states;
 use ob_base::{Items, Mode};
 use ob_code::Image;
 use ob_exec_entries::HandleUse;
 use ob_heap::Content;
 use ob_machine::Cause;
+use ob_machine_lookups::is_in_states;
 
 // Whether the object of a use is in none of the states of its entry; where there is no object it is in none.
 fn is_in_none(code: &Image, content: &Content, used: &HandleUse) -> bool

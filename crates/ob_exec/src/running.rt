@@ -1,8 +1,7 @@
 //! The run of what is entered.
-ghost use Rattle.std.specs.Prelude.{◌≡◌, Some, map, option_map, position, IsSome, IfOk};
+ghost use Rattle.std.specs.Prelude.{◌≡◌, Some, map, option_map, IsSome, IfOk};
 ghost use Rattle.ob_heap.specs.Overlays.{no_changes};
 ghost use Rattle.ob_heap.specs.Plain.{object_of};
-ghost use Rattle.ob_code.specs.Code.{is_constructor};
 ghost use Rattle.ob_machine_steps.specs.Entries.{started};
 ghost use Rattle.ob_machine_steps.specs.Images.{constructor_of};
 ghost use Rattle.ob_machine_steps.specs.Meanings.{outcome};
@@ -12,30 +11,18 @@ ghost use Rattle.ob_exec.specs.Ending.{IsRight, EndsSo};
 ghost use Rattle.ob_exec.specs.Bodies.{body_number};
 
 use ob_base::{ContractId, Memory, ObjectId, TxId};
-use ob_code::{BodyCode, Image};
+use ob_code::Image;
+use ob_code_lookups::{constructor_place, contract_code};
 use ob_heap::{Content, Overlay};
 use ob_machine::{Entry, Machine, Progress};
 use ob_verify::Verified;
 use std::alloc::Global;
 
-fn is_constructor(body: &BodyCode) -> bool
-    ensures { result ≡ is_constructor body.now }
-{
-    (body.flags >> 1) & 1 == 1
-}
-
-// The place of the first constructor among bodies.
-fn constructor_place(bodies: &[BodyCode]) -> Option<usize>
-    ensures { result ≡ position is_constructor bodies.now }
-{
-    bodies.iter().position(|body| is_constructor(body))
-}
-
 // The number of a contract's constructor. There are always fewer than 2^32 bodies, of which memory has so many.
 fn constructor_of(code: &Image, contract: ContractId) -> Result<Option<TxId>, Memory>
     ensures { IfOk result (λ found. found ≡ constructor_of code.now contract) }
 {
-    match code.contracts.get(contract.0 as usize) {
+    match contract_code(code, contract) {
         None => Ok(None),
         Some(own) => match constructor_place(own.bodies.as_slice()) {
             None => Ok(None),

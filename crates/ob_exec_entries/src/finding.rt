@@ -11,11 +11,12 @@ ghost use Rattle.ob_exec_entries.specs.Naming.{IsNamesOf};
 ghost use Rattle.ob_exec_entries.specs.Targets.{made_by, called_by};
 
 use crate::arguments::find_handle;
-use crate::lookups::{body_code, constructor_code, is_private, mode_of_result};
+use crate::lookups::{body_code, constructor_code, mode_of_result};
 use crate::names::Names;
 use crate::target::Target;
 use ob_base::{ContractId, Items, Label, ObjectId, TxId};
 use ob_code::Image;
+use ob_code_lookups::is_private;
 use ob_heap::{Content, Handle};
 use ob_wire::Arg;
 

@@ -5,44 +5,13 @@ ghost use Rattle.ob_table.specs.Tables.{contract_at, signature_of};
 ghost use Rattle.ob_table.specs.declared.contract.Contract.{Contract};
 ghost use Rattle.ob_table.specs.declared.seen.Kind.TheVariants.{Reference};
 ghost use Rattle.ob_table_spec.specs.WellFormed.{constructor_at, is_implemented, serves_as};
-ghost use Rattle.ob_code.specs.Code.{is_marked, is_interface, is_private, contract_code, body_code};
+ghost use Rattle.ob_code.specs.Code.{is_marked, is_interface, contract_code, body_code};
 ghost use Rattle.ob_invocation_spec.specs.Entries.{mode_of_result};
 ghost use Rattle.ob_machine_steps.specs.ImageTables.{type_of_code, signature_of_code, interface_of, table_of_image};
 
 use ob_base::{ContractId, Mode, TxId};
 use ob_code::{BodyCode, ContractCode, Image, TypeCode};
-
-fn is_marked(bit: u8, flags: u8) -> bool
-    requires { bit < 8 }
-    ensures { result ≡ is_marked bit flags }
-{
-    (flags >> bit) & 1 == 1
-}
-
-fn is_interface(contract: &ContractCode) -> bool
-    ensures { result ≡ is_interface contract.now }
-{
-    is_marked(2, contract.flags)
-}
-
-fn is_main(contract: &ContractCode) -> bool
-    ensures { result ≡ is_marked 1 contract.now.flags }
-{
-    is_marked(1, contract.flags)
-}
-
-// Whether a body is that of a private transaction.
-pub fn is_private(body: &BodyCode) -> bool
-    ensures { result ≡ is_private body.now }
-{
-    is_marked(0, body.flags)
-}
-
-fn contract_code(code: &Image, id: ContractId) -> Option<&ContractCode>
-    ensures { option_copied result ≡ contract_code code.now id }
-{
-    code.contracts.get(id.0 as usize)
-}
+use ob_code_lookups::{contract_code, is_interface, is_main};
 
 // The constructor or transaction of a number.
 #[tactic(auto, using(crate::proofs::ImageLemmas::signatures))]

@@ -1,5 +1,4 @@
 pub mod SlotsLemmas
-pub mod NamesLemmas
 pub mod WorldLemmas
 pub mod FieldLemmas
 pub mod WaitingLemmas

@@ -9,7 +9,7 @@ ghost use Rattle.ob_machine.specs.Shown.{shown, told, slots_of, frame_of, entere
 
 use crate::changing::is_set;
 use crate::frame::{EnteredBy, Frame};
-use crate::lookups::{body_at, is_shared_at_entry};
+use crate::lookups::body_at;
 use crate::off::Off;
 use crate::progress::Progress;
 use crate::run::Run;
@@ -17,6 +17,7 @@ use crate::slots::copy_of;
 use crate::waiting::push_frame;
 use ob_base::{ContractId, Items, ObjectId, TxId};
 use ob_code::{BodyCode, Image};
+use ob_code_lookups::is_shared_at_entry;
 use ob_heap::Value;
 use std::alloc::Global;
 use std::mem;

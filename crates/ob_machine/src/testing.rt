@@ -9,7 +9,6 @@ ghost use Rattle.ob_machine.specs.Guarding.{locked_by, holds_lock};
 ghost use Rattle.ob_machine.specs.Shown.{shown, told, number_of, Tells};
 
 use crate::heap::{find, note};
-use crate::lookups::is_in_state;
 use crate::off::Off;
 use crate::progress::{Cause, Progress};
 use crate::returning::release;
@@ -20,6 +19,7 @@ use ob_base::{ContractId, Memory, ObjectId, StateId};
 use ob_code::Image;
 use ob_guard::Guard;
 use ob_heap::{Content, Overlay};
+use ob_machine_lookups::is_in_state;
 
 // The lock of a test, if it takes one: of an object that isn't locked.
 fn take_lock(guard: &mut Guard, lock: Option<ObjectId>) -> Result<(), Memory>

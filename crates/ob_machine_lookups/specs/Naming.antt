@@ -1,4 +1,4 @@
--- How the code tells of what a use finds its object (this project's own).
+-- What one contract calls the states of another (this project's own).
 use Rattle.std.specs.Prelude.{ℕ}
 use Rattle.ob_perm.specs.Naming.{seen}
 use Rattle.ob_code.specs.declared.image.ContractCode.{ContractCode}

@@ -1,51 +1,20 @@
-//! In which states an object is, as an image says it.
+//! As which state a contract or interface sees the state of an object.
 ghost use Rattle.std.specs.Prelude.{◌≡◌};
-ghost use Rattle.std.specs.Option.{option_copied};
+ghost use Rattle.ob_code.specs.Code.{contract_code};
 ghost use Rattle.ob_heap.specs.Plain.{object_of};
-ghost use Rattle.ob_heap_spec.specs.Objects.{state_number};
+ghost use Rattle.ob_machine_steps.specs.Images.{bits_of, state_seen_by, is_in_state_of, named_between};
+ghost use Rattle.ob_machine_lookups.specs.Naming.{named_as};
 ghost use Rattle.ob_perm.specs.Masks.{states_of};
 ghost use Rattle.ob_table_spec.specs.Names.{number_of};
-ghost use Rattle.ob_code.specs.Code.{contract_code};
-ghost use Rattle.ob_machine_steps.specs.Images.{bits_of, state_seen_by, named_between};
-ghost use Rattle.ob_exec.specs.Outside.{named_as};
 
+use crate::available::{bits, has_bit, state_number};
 use ob_base::{ContractId, NO_STATE_BIT, OTHER_STATE_BIT, StateId};
 use ob_code::{CodeText, ContractCode, Image};
+use ob_code_lookups::contract_code;
 use ob_heap::Object;
 
-// The number whose bits are those of a number with a sign.
-fn bits(number: i64) -> u64
-    ensures { result ≡ bits_of number }
-{
-    if number < 0 {
-        u64::MAX - (-(number + 1)) as u64
-    } else {
-        number as u64
-    }
-}
-
-#[tactic(auto, unfolding(ob_perm::specs::Masks::states_of))]
-fn has_bit(set: u64, number: usize) -> bool
-    ensures { result ≡ states_of set number }
-{
-    if number >= 64 {
-        return false;
-    }
-    (set >> number) & 1 == 1
-}
-
-// The number of a state, or that of no state.
-fn state_number(state: Option<StateId>) -> u8
-    ensures { result ≡ state_number state }
-{
-    match state {
-        Some(state) => state.0,
-        None => NO_STATE_BIT,
-    }
-}
-
 // The place of the first of these names that is the same.
-#[tactic(auto, using(ob_machine::proofs::NamesLemmas::numbering))]
+#[tactic(auto, using(crate::proofs::NamesLemmas::numbering))]
 fn place_of_name(name: &[u8], names: &[CodeText]) -> Option<usize>
     ensures { result ≡ number_of name.now names.now }
 {
@@ -73,17 +42,11 @@ fn named_as(declared: &ContractCode, own: &ContractCode, number: u8) -> usize
     }
 }
 
-fn find_contract(code: &Image, id: ContractId) -> Option<&ContractCode>
-    ensures { option_copied result ≡ contract_code code.now id }
-{
-    code.contracts.get(id.0 as usize)
-}
-
 // As which state the contract or interface of a number sees a state of another contract.
 fn named_between(code: &Image, declared: ContractId, own: ContractId, number: u8) -> usize
     ensures { result ≡ named_between (contract_code code.now declared) (contract_code code.now own) number }
 {
-    match (find_contract(code, declared), find_contract(code, own)) {
+    match (contract_code(code, declared), contract_code(code, own)) {
         (Some(declared), Some(own)) => named_as(declared, own, number),
         _ => OTHER_STATE_BIT as usize,
     }
@@ -98,6 +61,13 @@ fn state_seen(code: &Image, declared: ContractId, object: &Object) -> usize
         return number as usize;
     }
     named_between(code, declared, object.contract, number)
+}
+
+/// Whether an object is in a state of a contract or interface.
+pub fn is_in_state(code: &Image, declared: ContractId, state: StateId, object: &Object) -> bool
+    ensures { result ≡ is_in_state_of code.now declared state (object_of object.now) }
+{
+    state_seen(code, declared, object) == state.0 as usize
 }
 
 /// Whether an object is in one of these states of a contract or interface, which are a set of bits.
