@@ -1,6 +1,5 @@
 pub mod EndLemmas
 pub mod StartLemmas
 pub mod ComingLemmas
-pub mod EntryLemmas
 pub mod RunLemmas
 pub mod UseLemmas
