@@ -1,7 +1,8 @@
 //! The line of a reply.
-ghost use Rattle.std.specs.Prelude.{◌≡◌, codes, IfOk};
+ghost use Rattle.std.specs.Prelude.{◌≡◌, codes, false, string_bytes, IfOk};
 ghost use Rattle.serde_json.specs.Data.{string, member, no_members};
 ghost use Rattle.serde_json.specs.View.{view, members_view};
+ghost use Rattle.serde_json.specs.Written.{has_float, compact_text};
 ghost use Rattle.ob_wire.specs.Replies.{id_json, text_json, number_json, object_json, value_json, with_fields, shown_json, outcome_json, abort_with, abort_json, reply_json, reply_line};
 ghost use Rattle.ob_wire.specs.declared.reply.Outcome.TheVariants.{Handle, Field};
 ghost use Rattle.ob_wire.specs.declared.reply.Cause.TheVariants as cause;
@@ -199,11 +200,19 @@ fn reply_value(alloc: Global, reply: &Reply) -> Result<Value, AllocError>
     }
 }
 
+// The compact text of a JSON value, whose numbers are whole.
+fn compact_text(alloc: Global, value: &Value) -> Result<String, Memory>
+    ensures { IfOk result (λ text. has_float (view value.now) ≡ false → string_bytes text ≡ compact_text (view value.now)) }
+{
+    Ok(value.to_string(alloc)?)
+}
+
 /// The line of a reply: one JSON object, compact, with its keys in the order of their bytes (RFC 8259), and a newline.
 pub fn reply_bytes(alloc: Global, reply: &Reply) -> Result<Vec<u8>, Memory>
     ensures { IfOk result (λ bytes. bytes.items ≡ reply_line reply.now) }
 {
-    let mut text = reply_value(alloc, reply)?.to_string(alloc)?;
+    let value = reply_value(alloc, reply)?;
+    let mut text = compact_text(alloc, &value)?;
     text.push('\n')?;
     Ok(text.into_bytes())
 }

@@ -6,5 +6,5 @@ use Rattle.ob_wire.proofs.writing.reply_bytes.Goals as goal
 pub returns : goal.returns
 unfolding encode
 returns c =
-    let text = rw c.in_ok-reply_value.ensures at c.in_ok-text.ensures.text in
+    let text = rw c.in_ok-value.ensures at c.in_ok-text.ensures in
     ap (λ v. v.items) c.into_bytes.ensures.value ∙ c.in_ok-push.ensures.bytes ∙ ap (λ (l : List ℕ). l ++ 10 ∷ []) (text (is_whole c.args.reply.now))
