@@ -2,7 +2,7 @@ use Rattle.std.proofs.Common.{◌≡◌, ◌+◌, sym, ap, ◌∙◌, arith}
 use Rattle.ob_verify_spec.specs.Frames.{frames_of}
 use Rattle.ob_verify_spec.specs.Passing.{first_fault_of}
 use Rattle.ob_verify.proofs.ImageLoops.{contract_passed}
-use Rattle.ob_verify.proofs.image.fault_in_image.Goals as goal
+use Rattle.ob_verify.proofs.image.fault_in_contracts.Goals as goal
 
 pub loop-i-preserved : goal.loop-i-preserved
 loop-i-preserved c =
