@@ -1,18 +1,25 @@
 -- The survey of an image's contracts, one contract after another.
-use Rattle.std.proofs.Common.{◌≡◌, ◌≢◌, ℕ, zero, suc, ◌+◌, ◌<◌, ◌≤◌, Bool, true, false, cond, ◌&&◌, ◌||◌, not, List, [], ◌∷◌, ◌++◌, length, map, take, drop, get_or, Option, Some, None, refl, sym, ap, ap₂, subst, ◌∙◌, arith, add-one, append-nil}
+use Rattle.std.proofs.Common.{◌≡◌, ◌≢◌, ℕ, zero, suc, ◌+◌, ◌<◌, ◌≤◌, Bool, true, false, cond, ◌&&◌, ◌||◌, not, List, [], ◌∷◌, ◌++◌, length, map, take, drop, get_or, Option, Some, None, refl, sym, ap, ap₂, subst, ◌∙◌, arith, add-one, append-nil, take-append-drop, min, ⊎_elim}
 use Rattle.std.specs.Prelude.{slice_get, slice_set, option_map, position, find, ◌==◌, if◌then◌else◌}
-use Rattle.std.specs.Option.{option_and_then}
+use Rattle.std.specs.Option.{option_and_then, option_flatten}
 use Rattle.std.specs.List.{list_all}
 use Rattle.std.proofs.Math.ListN.{drop_of_length-le}
-use Rattle.std.proofs.lemmas.List.{take_more, take_all, map-append}
+use Rattle.std.proofs.lemmas.List.{take_more, take_all, map-append, length-set}
 use Rattle.std.proofs.lemmas.List.Folds.{list_all-append}
+use Rattle.std.proofs.lemmas.Bool.{eqb-true, eq-eqb}
 use Rattle.std.proofs.lemmas.Option.{slice_get-map}
+use Rattle.ob_base.specs.Optional.{◌>>=◌}
+use Rattle.ob_base.specs.declared.id.ContractId.{ContractId}
+use Rattle.ob_base.specs.declared.id.TxId.{TxId}
 use Rattle.ob_code.specs.declared.image.BodyCode.{BodyCode}
 use Rattle.ob_code.specs.declared.image.ContractCode.{ContractCode}
-use Rattle.ob_code.specs.Code.{is_interface, is_constructor}
+use Rattle.ob_code.specs.declared.image.Image.{Image}
+use Rattle.ob_code.specs.Code.{is_interface, is_constructor, contract_code, body_code}
 use Rattle.ob_verify_spec.specs.Kinds.{implements_number}
+use Rattle.ob_verify_spec.specs.Frames.{constructor_code}
 use Rattle.ob_verify_spec.specs.Conditions.{has_answer, answers_if_implemented}
 use Rattle.ob_verify.specs.Surveys.{numbered, answers, answers_from, also, is_asked, also_from, constructor_places}
+use Rattle.ob_verify.proofs.ListLoops.{past_one}
 use Rattle.ob_verify.proofs.PlaceLemmas.{found_at_place}
 
 -- Lists that are made one element after another.
@@ -26,7 +33,7 @@ mapped_end f xs i l = ap (map f) (take_all i xs l)
 
 -- One contract is asked for each transaction of one.
 
-pub also_turn : (own : ContractCode) (asked : List BodyCode) (row : List Bool) (i : ℕ) (b : BodyCode) (r : Bool) → i < length asked → i < length row
+also_turn : (own : ContractCode) (asked : List BodyCode) (row : List Bool) (i : ℕ) (b : BodyCode) (r : Bool) → i < length asked → i < length row
     → take i row ++ also own (drop i asked) (drop i row)
     ≡ take (suc i) (slice_set row i (get_or row i r && has_answer (get_or asked i b) own))
     ++ also own (drop (suc i) asked) (drop (suc i) (slice_set row i (get_or row i r && has_answer (get_or asked i b) own)))
@@ -38,9 +45,34 @@ also_turn own (a ∷ asked) (x ∷ row) (suc i) b r l k =
     let q : i < length row = omega arith in
     ap (λ z. x ∷ z) (also_turn own asked row i b r p q)
 
-also_none : (own : ContractCode) (row : List Bool) (asked : List BodyCode) → also own asked [] ≡ []
-also_none own row [] = refl
-also_none own row (b ∷ asked) = refl
+pub asked_turn : (own : ContractCode) (asked : List BodyCode) (row next all : List Bool) (i : ℕ) (a : BodyCode) (r v : Bool) → i < length asked → i < length row
+    → a ≡ get_or asked i a → r ≡ get_or row i r → v ≡ (r && has_answer a own) → next ≡ slice_set row i v
+    → all ≡ take i row ++ also own (drop i asked) (drop i row) → all ≡ take (i + 1) next ++ also own (drop (i + 1) asked) (drop (i + 1) next)
+asked_turn own asked row next all i a r v l k p q f n e =
+    let same : (get_or row i r && has_answer (get_or asked i a) own) ≡ v = sym (f ∙ ap₂ (λ x y. x && has_answer y own) q p) in
+    rw add-one (e ∙ also_turn own asked row i a r l k
+    ∙ ap (λ w. take (suc i) (slice_set row i w) ++ also own (drop (suc i) asked) (drop (suc i) (slice_set row i w))) same
+    ∙ ap (λ z. take (suc i) z ++ also own (drop (suc i) asked) (drop (suc i) z)) (sym n))
+
+pub asked_length : (row next : List Bool) (i n : ℕ) (v : Bool) → length row ≡ n → next ≡ slice_set row i v → length next ≡ n
+asked_length row next i n v e f = ap length f ∙ length-set row i v ∙ e
+
+also_none : (own : ContractCode) (asked : List BodyCode) → also own asked [] ≡ []
+also_none own [] = refl
+also_none own (b ∷ asked) = refl
+
+pub also_end : (own : ContractCode) (asked : List BodyCode) (row all : List Bool) (i : ℕ) → min (length asked) (length row) ≤ i
+    → all ≡ take i row ++ also own (drop i asked) (drop i row) → row ≡ all
+also_end own asked row all i l e = sym (e ∙ ⊎_elim
+    (λ f. ap (λ z. take i row ++ also own z (drop i row)) f ∙ take-append-drop i row)
+    (λ f. ap (λ z. take i row ++ also own (drop i asked) z) f ∙ ap (λ z. take i row ++ z) (also_none own (drop i asked)) ∙ append-nil (take i row) ∙ take_all i row (past i row f))
+    (past_one asked row i l))
+  where
+    past : (i : ℕ) (xs : List Bool) → drop i xs ≡ [] → length xs ≤ i
+    past zero [] f = omega arith
+    past zero (x ∷ xs) f = absurd cc
+    past (suc i) [] f = omega arith
+    past (suc i) (x ∷ xs) f = let k = past i xs f in omega (arith, k)
 
 -- Which contracts are asked.
 
@@ -48,7 +80,7 @@ pub not_asked : (own : ContractCode) (n : ℕ) → own.implements ≢ n + 1 → 
 not_asked own n ne = by (own.implements == n + 1) refl
   where
     by : (b : Bool) → (own.implements == n + 1) ≡ b → (b && not (is_interface own)) ≡ false
-    by true e = absurd (ne (omega (arith, e)))
+    by true e = absurd (ne (eqb-true own.implements (n + 1) e))
     by false e = refl
 
 pub interface_not_asked : (own : ContractCode) (n : ℕ) → is_interface own ≡ true → is_asked own n ≡ false
@@ -61,7 +93,7 @@ interface_not_asked own n e = by (implements_number (numbered n) own) (is_interf
     by false false e = absurd cc
 
 is_asked_once : (own : ContractCode) (n : ℕ) → own.implements ≡ n + 1 → is_interface own ≡ false → is_asked own n ≡ true
-is_asked_once own n e i = by (own.implements == n + 1) (is_interface own) (omega (arith, e)) i
+is_asked_once own n e i = by (own.implements == n + 1) (is_interface own) (eq-eqb own.implements (n + 1) e) i
   where
     by : (a b : Bool) → a ≡ true → b ≡ false → (a && not b) ≡ true
     by true false e f = refl
@@ -154,6 +186,11 @@ answers_turn cs rows next i own l is h e =
 pub answers_end : (cs : List ContractCode) (rows : List (List Bool)) (i : ℕ) → length cs ≤ i → rows ≡ answers_from (take i cs) 0 cs → rows ≡ answers_from cs 0 cs
 answers_end cs rows i l h = h ∙ ap (λ z. answers_from z 0 cs) (take_all i cs l)
 
+-- what a borrowed part of a list was made, put back
+pub put_back : {A : Type 0} (new old : List A) (n : ℕ) → length new ≡ n → length old ≡ n → take n (new ++ drop (length new) old) ≡ new
+put_back new old n e f =
+    ap (λ z. take n (new ++ z)) (drop_of_length-le old (omega (arith, e, f))) ∙ ap (take n) (append-nil new) ∙ take_all n new (omega (arith, e))
+
 -- Looking up.
 
 row_at : (seen : List ContractCode) (n : ℕ) (cs : List ContractCode) (k : ℕ)
@@ -169,25 +206,45 @@ row_at seen n (c ∷ cs) (suc k) =
 pub answer_at : (seen cs : List ContractCode) (k tx : ℕ)
     → option_and_then (λ row. slice_get row tx) (slice_get (answers_from seen 0 cs) k)
     ≡ option_map (λ (b : BodyCode). list_all (answers_if_implemented (numbered k) b) seen) (option_and_then (λ (c : ContractCode). slice_get c.bodies tx) (slice_get cs k))
-answer_at seen cs k tx = ap (option_and_then (λ row. slice_get row tx)) (row_at seen 0 cs k) ∙ by (slice_get cs k)
+answer_at seen cs k tx = ap (option_and_then (λ row. slice_get row tx)) (row_at seen 0 cs k ∙ ap (λ z. option_map (λ (c : ContractCode). answers seen z c.bodies) (slice_get cs k)) from_zero) ∙ by (slice_get cs k)
   where
-    by : (o : Option ContractCode) → option_and_then (λ row. slice_get row tx) (option_map (λ (c : ContractCode). answers seen (0 + k) c.bodies) o)
+    from_zero : 0 + k ≡ k
+    from_zero = omega arith
+
+    by : (o : Option ContractCode) → option_and_then (λ row. slice_get row tx) (option_map (λ (c : ContractCode). answers seen k c.bodies) o)
         ≡ option_map (λ (b : BodyCode). list_all (answers_if_implemented (numbered k) b) seen) (option_and_then (λ (c : ContractCode). slice_get c.bodies tx) o)
     by None = refl
     by (Some c) = slice_get-map (λ (b : BodyCode). list_all (answers_if_implemented (numbered k) b) seen) c.bodies tx
 
--- the constructor of the contract of a number, by its place
-pub constructor_at : (cs : List ContractCode) (k : ℕ)
-    → option_and_then (λ (c : ContractCode). find is_constructor c.bodies) (slice_get cs k)
-    ≡ option_and_then (λ (c : ContractCode). option_and_then (slice_get c.bodies) (position is_constructor c.bodies)) (slice_get cs k)
-constructor_at cs k = by (slice_get cs k)
+-- what a survey says of a transaction
+pub answered : (m seen : Image) (rows : List (List Bool)) (c : ContractId) (tx : TxId) (asked : BodyCode) (o : Option Bool) → rows ≡ answers_from seen.contracts 0 seen.contracts → seen ≡ m
+    → o ≡ option_and_then (λ row. slice_get row tx.0) (slice_get rows c.0) → body_code m c tx ≡ Some asked
+    → o ≡ Some (list_all (answers_if_implemented c asked) m.contracts)
+answered m seen rows c tx asked o r s a b =
+    a ∙ ap (λ z. option_and_then (λ row. slice_get row tx.0) (slice_get z c.0)) (r ∙ ap (λ (z : Image). answers_from z.contracts 0 z.contracts) s)
+    ∙ answer_at m.contracts m.contracts c.0 tx.0
+    ∙ ap (option_map (λ (x : BodyCode). list_all (answers_if_implemented c x) m.contracts)) (by (slice_get m.contracts c.0) ∙ b)
   where
-    by : (o : Option ContractCode) → option_and_then (λ (c : ContractCode). find is_constructor c.bodies) o
-        ≡ option_and_then (λ (c : ContractCode). option_and_then (slice_get c.bodies) (position is_constructor c.bodies)) o
+    by : (o : Option ContractCode) → option_and_then (λ (c : ContractCode). slice_get c.bodies tx.0) o ≡ (o >>= λ (c : ContractCode). slice_get c.bodies tx.0)
     by None = refl
-    by (Some c) = found_at_place is_constructor c.bodies
+    by (Some c) = refl
 
-pub ruleset unasked_all = (unasked_yet)
-pub ruleset asking = (also_turn)
+-- what a survey says of a constructor
+pub constructed : (m seen : Image) (places : List (Option ℕ)) (c : ContractId) (own : ContractCode) → places ≡ constructor_places seen.contracts → seen ≡ m → contract_code m c ≡ Some own
+    → constructor_code m c ≡ option_and_then (slice_get own.bodies) (option_flatten (slice_get places c.0))
+constructed m seen places c own p s e =
+    let here : slice_get places c.0 ≡ Some (position is_constructor own.bodies) =
+    ap (λ z. slice_get z c.0) (p ∙ ap (λ (z : Image). constructor_places z.contracts) s)
+    ∙ slice_get-map (λ (z : ContractCode). position is_constructor z.bodies) m.contracts c.0
+    ∙ ap (option_map (λ (z : ContractCode). position is_constructor z.bodies)) e in
+    ap (option_and_then (λ (z : ContractCode). find is_constructor z.bodies)) e
+    ∙ found_at_place is_constructor own.bodies
+    ∙ sym (ap (λ z. option_and_then (slice_get own.bodies) (option_flatten z)) here)
+
+pub ruleset mapped = (mapped_turn, mapped_end)
+
+pub ruleset asking = (asked_turn, asked_length, also_end)
+
 pub ruleset asking_one = (none_asked, one_asked)
+
 pub ruleset asking_all = (answers_turn, answers_end, unasked_yet)

@@ -114,7 +114,13 @@ fn holds_given(frame: &CodeFrame<'_>, row: &[Option<Kind>], given: &[(FieldId, u
 }
 
 // Whether the slots of an operator's operands hold what it wants.
-fn holds_operands(image: &Surveyed<'_>, row: &[Option<Kind>], operator: Operator, a: u8, b: u8) -> bool
+fn holds_operands(
+    image: &Surveyed<'_>,
+    row: &[Option<Kind>],
+    operator: Operator,
+    a: u8,
+    b: u8,
+) -> bool
     ensures { result ≡ list_all (meets image.now (held_at row.now)) (needs_of_operator operator a b) }
 {
     match operator {
@@ -143,12 +149,7 @@ pub fn meets_needs(frame: &CodeFrame<'_>, instruction: &Instruction, row: &[Opti
         }
         Instruction::Change { given, .. } => holds_given(frame, row, given.as_slice()),
         Instruction::New { contract, args, .. } => {
-            holds_for_call(
-                image,
-                row,
-                args.as_slice(),
-                image.constructor(*contract),
-            )
+            holds_for_call(image, row, args.as_slice(), image.constructor(*contract))
         }
         Instruction::Call {
             a,

@@ -1,14 +1,14 @@
 //! What is found out about the contracts of an image once, before its bodies are passed: so a call of an interface's transaction
 //! asks nothing of the contracts that implement it, and a `new` looks for no constructor.
-ghost use Rattle.std.specs.Prelude.{◌≡◌, Some, true, map, position, find, IfOk, OnOk};
+ghost use Rattle.std.specs.Prelude.{◌≡◌, ℕ, ◌+◌, ◌<◌, ◌&&◌, Some, true, false, map, position, slice_get, IfOk, OnOk, IfSome, OnSome, IfNone};
 ghost use Rattle.std.specs.List.{list_all};
-ghost use Rattle.std.specs.Option.{option_copied};
+ghost use Rattle.std.specs.Option.{option_copied, option_and_then, option_flatten};
 ghost use Rattle.ob_code.specs.declared.image.BodyCode.{BodyCode};
-ghost use Rattle.ob_code.specs.Code.{is_constructor, contract_code, body_code};
+ghost use Rattle.ob_code.specs.Code.{is_interface, is_constructor, contract_code, body_code};
 ghost use Rattle.ob_verify_spec.specs.Frames.{constructor_code};
-ghost use Rattle.ob_verify_spec.specs.Conditions.{answers_if_implemented};
+ghost use Rattle.ob_verify_spec.specs.Conditions.{has_answer, answers_if_implemented};
 ghost use Rattle.ob_verify.specs.Named.{ArePlaces};
-ghost use Rattle.ob_verify.specs.Surveys.{answers_from, also, also_from, constructor_places};
+ghost use Rattle.ob_verify.specs.Surveys.{answers_from, also, is_asked, also_from, constructor_places};
 
 use crate::answers::has_answer;
 use crate::kinds::{is_constructor, is_interface};
@@ -22,8 +22,8 @@ use std::marker::Model;
 #[derive(Drop)]
 pub struct Surveyed<'a> {
     image: &'a Image,
-    answered: Vec<Items<bool>>,
-    constructors: Vec<Option<usize>>,
+    answered: Items<Items<bool>>,
+    constructors: Items<Option<usize>>,
 }
 
 impl<'a> Model for Surveyed<'a> {
@@ -34,10 +34,11 @@ impl<'a> Model for Surveyed<'a> {
 
     ghost view = { λ s. s.image.now };
 
-    ghost invariant = { λ s. IsSurvey s.image.now s.answered.items s.constructors.items };
+    ghost invariant = { λ s. IsSurvey s.image.now s.answered s.constructors };
 }
 
 // Whether contracts answer for transactions before any is asked.
+#[tactic(auto, using(crate::proofs::SurveyLoops::mapped))]
 fn unasked(alloc: Global, bodies: &[BodyCode]) -> Result<Items<bool>, Memory>
     ensures { IfOk result (λ row. row ≡ map (λ b. true) bodies.now) }
 {
@@ -49,7 +50,7 @@ fn unasked(alloc: Global, bodies: &[BodyCode]) -> Result<Items<bool>, Memory>
 }
 
 // The same for all contracts.
-#[tactic(auto, using(crate::proofs::SurveyLoops::unasked_all))]
+#[tactic(auto, using(crate::proofs::SurveyLoops::mapped))]
 fn unasked_all(alloc: Global, contracts: &[ContractCode]) -> Result<Vec<Items<bool>>, Memory>
     ensures { IfOk result (λ rows. rows.items ≡ map (λ c. map (λ b. true) c.bodies) contracts.now) }
 {
@@ -60,6 +61,14 @@ fn unasked_all(alloc: Global, contracts: &[ContractCode]) -> Result<Vec<Items<bo
     Ok(rows)
 }
 
+// Whether all that were asked for a transaction answer, and one more contract.
+fn still_answered(own: &ContractCode, places: &Places, asked: &BodyCode, so_far: bool) -> bool
+    requires { ArePlaces places.now own.now.bodies }
+    ensures { result ≡ (so_far && has_answer asked.now own.now) }
+{
+    so_far && has_answer(asked, own, places)
+}
+
 // Asks a contract for each of the transactions for which all that were asked answer.
 #[tactic(auto, using(crate::proofs::SurveyLoops::asking))]
 fn ask_each(own: &ContractCode, places: &Places, asked: &[BodyCode], row: &mut Items<bool>)
@@ -68,7 +77,7 @@ fn ask_each(own: &ContractCode, places: &Places, asked: &[BodyCode], row: &mut I
 {
     let count = asked.len().min(row.len());
     for place in 0..count {
-        let still = row.as_slice()[place] && has_answer(&asked[place], own, places);
+        let still = still_answered(own, places, &asked[place], row.as_slice()[place]);
         row.set(place, still);
     }
 }
@@ -87,6 +96,23 @@ fn ask(
     Ok(())
 }
 
+// The number of the contract that a contract has to answer for, where that is below this number.
+fn asked_below(own: &ContractCode, count: usize) -> Option<usize>
+    ensures below { IfSome result (λ n. n < count) }
+    ensures declared { IfSome result (λ n. own.now.implements ≡ n + 1) }
+    ensures contract { OnSome result (is_interface own.now ≡ false) }
+    ensures none { IfNone result ((n : ℕ) → n < count → is_asked own.now n ≡ false) }
+{
+    if is_interface(own) || own.implements == 0 {
+        return None;
+    }
+    let number = (own.implements - 1) as usize;
+    if number >= count {
+        return None;
+    }
+    Some(number)
+}
+
 // Asks a contract for the transactions of the one that it implements, if it implements one.
 #[tactic(auto, using(crate::proofs::SurveyLoops::asking_one))]
 fn ask_for_declared(
@@ -97,19 +123,16 @@ fn ask_for_declared(
 ) -> Result<(), Memory>
     ensures { OnOk result (rows.new ≡ also_from own.now 0 contracts.now rows.old) }
 {
-    if is_interface(own) || own.implements == 0 {
-        return Ok(());
+    let count = contracts.len().min(rows.len());
+    match asked_below(own, count) {
+        Some(number) => ask(
+            alloc,
+            own,
+            contracts[number].bodies.as_slice(),
+            &mut rows[number],
+        ),
+        None => Ok(()),
     }
-    let number = (own.implements - 1) as usize;
-    if number >= contracts.len() || number >= rows.len() {
-        return Ok(());
-    }
-    ask(
-        alloc,
-        own,
-        contracts[number].bodies.as_slice(),
-        &mut rows[number],
-    )
 }
 
 // Whether contracts answer for the transactions of the ones that they implement.
@@ -131,6 +154,7 @@ fn constructor_place(bodies: &[BodyCode]) -> Option<usize>
 }
 
 // Where each contract has its constructor.
+#[tactic(auto, using(crate::proofs::SurveyLoops::mapped))]
 fn constructor_places(
     alloc: Global,
     contracts: &[ContractCode],
@@ -144,6 +168,26 @@ fn constructor_places(
     Ok(places)
 }
 
+// What stands at a number of a contract and one of its transactions.
+fn answer_at(rows: &Items<Items<bool>>, contract: usize, tx: usize) -> Option<bool>
+    ensures { result ≡ option_and_then (λ row. slice_get row tx) (slice_get rows.now contract) }
+{
+    match rows.get(contract) {
+        Some(row) => row.get(tx).copied(),
+        None => None,
+    }
+}
+
+// The place at the number of a contract.
+fn place_at(places: &Items<Option<usize>>, contract: usize) -> Option<usize>
+    ensures { result ≡ option_flatten (slice_get places.now contract) }
+{
+    match places.get(contract) {
+        Some(place) => *place,
+        None => None,
+    }
+}
+
 impl<'a> Surveyed<'a> {
     /// The image, surveyed.
     pub fn of(alloc: Global, image: &'a Image) -> Result<Surveyed<'a>, Memory>
@@ -153,8 +197,8 @@ impl<'a> Surveyed<'a> {
         let constructors = constructor_places(alloc, image.contracts.as_slice())?;
         Ok(Surveyed {
             image,
-            answered,
-            constructors,
+            answered: Items::from_vec(answered),
+            constructors: Items::from_vec(constructors),
         })
     }
 
@@ -179,12 +223,11 @@ impl<'a> Surveyed<'a> {
     pub fn constructor(&self, contract: ContractId) -> Option<&BodyCode>
         ensures { option_copied result ≡ constructor_code self.now contract }
     {
-        let place = match self.constructors.get(contract.0 as usize) {
-            Some(Some(place)) => *place,
-            _ => return None,
-        };
         match self.contract(contract) {
-            Some(own) => own.bodies.get(place),
+            Some(own) => match place_at(&self.constructors, contract.0 as usize) {
+                Some(place) => own.bodies.get(place),
+                None => None,
+            },
             None => None,
         }
     }
@@ -195,11 +238,8 @@ impl<'a> Surveyed<'a> {
         ensures { (asked : BodyCode) → body_code self.now contract tx ≡ Some asked
             → result ≡ list_all (answers_if_implemented contract asked) self.now.contracts }
     {
-        match self.answered.get(contract.0 as usize) {
-            Some(row) => match row.get(tx.0 as usize) {
-                Some(answered) => *answered,
-                None => true,
-            },
+        match answer_at(&self.answered, contract.0 as usize, tx.0 as usize) {
+            Some(answered) => answered,
             None => true,
         }
     }
