@@ -10,7 +10,7 @@ use Rattle.std.proofs.lemmas.Slice.Eq.{bytes_eq-Decides}
 use Rattle.std.proofs.lemmas.List.{take_more, take_all, length-take-le}
 use Rattle.ob_code.specs.declared.image.BodyCode.{BodyCode}
 use Rattle.ob_code.specs.Code.{is_constructor, is_transaction_named}
-use Rattle.ob_verify.specs.Named.{place_in, added, plain, with_body, ArePlaces}
+use Rattle.ob_verify.specs.Named.{place_in, added, plain, with_body, HavePlaces}
 
 pub find-plain : (name : List ℕ) (es : List (Vec ℕ × ℕ)) → lookup (λ k. pointwise nat_eq name k.items) es ≡ place_in name (plain es)
 find-plain name [] = refl
@@ -99,7 +99,7 @@ kept None n = refl
 kept (Some k) n = refl
 
 -- the name of one more body has the next place, unless it has one or is a constructor's
-body_push : (bs : List BodyCode) (es : List (List ℕ × ℕ)) (b : BodyCode) → ArePlaces es bs → ArePlaces (with_body es b (length bs)) (bs ++ b ∷ [])
+body_push : (bs : List BodyCode) (es : List (List ℕ × ℕ)) (b : BodyCode) → HavePlaces es bs → HavePlaces (with_body es b (length bs)) (bs ++ b ∷ [])
 body_push bs es b h name =
     by (is_constructor b)
     ∙ ap (λ o. if is_some o then o else if is_transaction_named name b then Some (length bs) else None) (h name)
@@ -111,18 +111,18 @@ body_push bs es b h name =
     by false = place_in-added name es b.name (length bs)
 
 pub bodies_turn : (bs : List BodyCode) (es : List (List ℕ × ℕ)) (i : ℕ) (b : BodyCode) → i < length bs → b ≡ get_or bs i b
-    → ArePlaces es (take i bs) → ArePlaces (with_body es b i) (take (i + 1) bs)
+    → HavePlaces es (take i bs) → HavePlaces (with_body es b i) (take (i + 1) bs)
 bodies_turn bs es i b l is h =
     let here : take (i + 1) bs ≡ take i bs ++ b ∷ [] = take_more bs i b l ∙ ap (λ y. take i bs ++ y ∷ []) (sym is) in
     let count : length (take i bs) ≡ i = length-take-le i bs (omega arith) in
-    subst (λ ys. ArePlaces (with_body es b i) ys) (sym here)
-    (subst (λ n. ArePlaces (with_body es b n) (take i bs ++ b ∷ [])) count (body_push (take i bs) es b h))
+    subst (λ ys. HavePlaces (with_body es b i) ys) (sym here)
+    (subst (λ n. HavePlaces (with_body es b n) (take i bs ++ b ∷ [])) count (body_push (take i bs) es b h))
 
-pub bodies_end : (bs : List BodyCode) (es : List (List ℕ × ℕ)) (i : ℕ) → length bs ≤ i → ArePlaces es (take i bs) → ArePlaces es bs
-bodies_end bs es i l h = subst (λ ys. ArePlaces es ys) (take_all i bs l) h
+pub bodies_end : (bs : List BodyCode) (es : List (List ℕ × ℕ)) (i : ℕ) → length bs ≤ i → HavePlaces es (take i bs) → HavePlaces es bs
+bodies_end bs es i l h = subst (λ ys. HavePlaces es ys) (take_all i bs l) h
 
 -- what is found by a place is what is found by its name
-pub found_by : (bs : List BodyCode) (es : List (List ℕ × ℕ)) (name : List ℕ) → ArePlaces es bs → find (is_transaction_named name) bs ≡ option_and_then (slice_get bs) (place_in name es)
+pub found_by : (bs : List BodyCode) (es : List (List ℕ × ℕ)) (name : List ℕ) → HavePlaces es bs → find (is_transaction_named name) bs ≡ option_and_then (slice_get bs) (place_in name es)
 found_by bs es name h = found_at_place (is_transaction_named name) bs ∙ ap (option_and_then (slice_get bs)) (sym (h name))
 
 pub ruleset found = (found_by)

@@ -22,5 +22,5 @@ abbrev pub with_body : List (List ℕ × ℕ) → BodyCode → ℕ → List (Lis
 with_body es b place = if is_constructor b then es else added es b.name place
 
 -- each name has the place of the first transaction that has it, and no other has a place
-abbrev pub ArePlaces : List (List ℕ × ℕ) → List BodyCode → Type 0
-ArePlaces es bodies = (name : List ℕ) → place_in name es ≡ position (is_transaction_named name) bodies
+abbrev pub HavePlaces : List (List ℕ × ℕ) → List BodyCode → Type 0
+HavePlaces es bodies = (name : List ℕ) → place_in name es ≡ position (is_transaction_named name) bodies

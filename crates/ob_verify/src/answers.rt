@@ -2,7 +2,7 @@
 ghost use Rattle.std.specs.Prelude.{◌≡◌, map};
 ghost use Rattle.ob_verify_spec.specs.Kinds.{kind_of_param};
 ghost use Rattle.ob_verify_spec.specs.Conditions.{same_kinds, same_result, answers_for, has_answer};
-ghost use Rattle.ob_verify.specs.Named.{ArePlaces};
+ghost use Rattle.ob_verify.specs.Named.{HavePlaces};
 
 use crate::kinds::{is_private, kind_of_param, kind_of_result, same_kind};
 use crate::transactions::Places;
@@ -45,7 +45,7 @@ fn answers_for(asked: &BodyCode, body: &BodyCode) -> bool
 /// Whether a contract's first transaction of a name can answer for one of an interface, by the places of its transactions.
 #[tactic(auto, using(crate::proofs::PlaceLemmas::found))]
 pub fn has_answer(asked: &BodyCode, own: &ContractCode, places: &Places) -> bool
-    requires { ArePlaces places.now own.now.bodies }
+    requires { HavePlaces places.now own.now.bodies }
     ensures { result ≡ has_answer asked.now own.now }
 {
     match places.find(asked.name.as_bytes()) {

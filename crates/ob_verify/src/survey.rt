@@ -7,8 +7,8 @@ ghost use Rattle.ob_code.specs.declared.image.BodyCode.{BodyCode};
 ghost use Rattle.ob_code.specs.Code.{is_interface, is_constructor, contract_code, body_code};
 ghost use Rattle.ob_verify_spec.specs.Frames.{constructor_code};
 ghost use Rattle.ob_verify_spec.specs.Conditions.{has_answer, answers_if_implemented};
-ghost use Rattle.ob_verify.specs.Named.{ArePlaces};
-ghost use Rattle.ob_verify.specs.Surveys.{answers_from, also, is_asked, also_from, constructor_places};
+ghost use Rattle.ob_verify.specs.Named.{HavePlaces};
+ghost use Rattle.ob_verify.specs.Surveys.{all_answers_by, with_answers, is_asked, with_answers_from, constructor_places};
 
 use crate::answers::has_answer;
 use crate::kinds::{is_constructor, is_interface};
@@ -63,7 +63,7 @@ fn unasked_all(alloc: Global, contracts: &[ContractCode]) -> Result<Vec<Items<bo
 
 // Whether all that were asked for a transaction answer, and one more contract.
 fn still_answered(own: &ContractCode, places: &Places, asked: &BodyCode, so_far: bool) -> bool
-    requires { ArePlaces places.now own.now.bodies }
+    requires { HavePlaces places.now own.now.bodies }
     ensures { result ≡ (so_far && has_answer asked.now own.now) }
 {
     so_far && has_answer(asked, own, places)
@@ -72,8 +72,8 @@ fn still_answered(own: &ContractCode, places: &Places, asked: &BodyCode, so_far:
 // Asks a contract for each of the transactions for which all that were asked answer.
 #[tactic(auto, using(crate::proofs::SurveyLoops::asking))]
 fn ask_each(own: &ContractCode, places: &Places, asked: &[BodyCode], row: &mut Items<bool>)
-    requires { ArePlaces places.now own.now.bodies }
-    ensures { row.new ≡ also own.now asked.now row.old }
+    requires { HavePlaces places.now own.now.bodies }
+    ensures { row.new ≡ with_answers own.now asked.now row.old }
 {
     let count = asked.len().min(row.len());
     for place in 0..count {
@@ -89,7 +89,7 @@ fn ask(
     asked: &[BodyCode],
     row: &mut Items<bool>,
 ) -> Result<(), Memory>
-    ensures { OnOk result (row.new ≡ also own.now asked.now row.old) }
+    ensures { OnOk result (row.new ≡ with_answers own.now asked.now row.old) }
 {
     let places = places_of(alloc, own.bodies.as_slice())?;
     ask_each(own, &places, asked, row);
@@ -121,7 +121,7 @@ fn ask_for_declared(
     contracts: &[ContractCode],
     rows: &mut [Items<bool>],
 ) -> Result<(), Memory>
-    ensures { OnOk result (rows.new ≡ also_from own.now 0 contracts.now rows.old) }
+    ensures { OnOk result (rows.new ≡ with_answers_from own.now 0 contracts.now rows.old) }
 {
     let count = contracts.len().min(rows.len());
     match asked_below(own, count) {
@@ -137,8 +137,8 @@ fn ask_for_declared(
 
 // Whether contracts answer for the transactions of the ones that they implement.
 #[tactic(auto, using(crate::proofs::SurveyLoops::asking_all))]
-fn answers(alloc: Global, contracts: &[ContractCode]) -> Result<Vec<Items<bool>>, Memory>
-    ensures { IfOk result (λ rows. rows.items ≡ answers_from contracts.now 0 contracts.now) }
+fn all_answers(alloc: Global, contracts: &[ContractCode]) -> Result<Vec<Items<bool>>, Memory>
+    ensures { IfOk result (λ rows. rows.items ≡ all_answers_by contracts.now 0 contracts.now) }
 {
     let mut rows = unasked_all(alloc, contracts)?;
     for own in contracts {
@@ -193,7 +193,7 @@ impl<'a> Surveyed<'a> {
     pub fn of(alloc: Global, image: &'a Image) -> Result<Surveyed<'a>, Memory>
         ensures { IfOk result (λ surveyed. surveyed ≡ image.now) }
     {
-        let answered = answers(alloc, image.contracts.as_slice())?;
+        let answered = all_answers(alloc, image.contracts.as_slice())?;
         let constructors = constructor_places(alloc, image.contracts.as_slice())?;
         Ok(Surveyed {
             image,

@@ -1,6 +1,6 @@
 //! The transactions of a contract by their names.
 ghost use Rattle.std.specs.Prelude.{◌≡◌, [], ◌∷◌, ◌++◌, None, OnOk, IfOk};
-ghost use Rattle.ob_verify.specs.Named.{place_in, added, plain, with_body, ArePlaces};
+ghost use Rattle.ob_verify.specs.Named.{place_in, added, plain, with_body, HavePlaces};
 
 use crate::kinds::is_constructor;
 use indexmap::IndexMap;
@@ -92,7 +92,7 @@ impl Places {
 
 /// The places of a contract's transactions by their names.
 pub fn places_of(alloc: Global, bodies: &[BodyCode]) -> Result<Places, Memory>
-    ensures { IfOk result (λ places. ArePlaces places bodies.now) }
+    ensures { IfOk result (λ places. HavePlaces places bodies.now) }
 {
     let mut places = Places::new(alloc);
     for (place, body) in bodies.iter().enumerate() {

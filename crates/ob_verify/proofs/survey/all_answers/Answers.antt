@@ -1,6 +1,6 @@
 use Rattle.std.proofs.Common.{◌∙◌, arith}
 use Rattle.ob_verify.proofs.SurveyLoops.{answers_turn, put_back}
-use Rattle.ob_verify.proofs.survey.answers.Goals as goal
+use Rattle.ob_verify.proofs.survey.all_answers.Goals as goal
 
 pub loop-own-preserved : goal.loop-own-preserved
 loop-own-preserved c =
