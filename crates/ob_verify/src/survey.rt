@@ -1,6 +1,7 @@
 //! What is found out about the contracts of an image once, before its bodies are passed: so a call of an interface's transaction
 //! asks nothing of the contracts that implement it, and a `new` looks for no constructor.
-ghost use Rattle.std.specs.Prelude.{◌≡◌, ℕ, ◌+◌, ◌<◌, ◌&&◌, Some, true, false, map, position, slice_get, IfOk, OnOk, IfSome, OnSome, IfNone};
+ghost use Rattle.std.specs.Prelude.{◌≡◌, ℕ, ◌+◌, ◌<◌, ◌&&◌, Some, true, false, map, position, slice_get};
+ghost use Rattle.std.specs.Prelude.{IfOk, OnOk, IfSome, OnSome, IfNone};
 ghost use Rattle.std.specs.List.{list_all};
 ghost use Rattle.std.specs.Option.{option_copied, option_and_then, option_flatten};
 ghost use Rattle.ob_code.specs.declared.image.BodyCode.{BodyCode};
