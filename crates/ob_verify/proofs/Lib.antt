@@ -2,3 +2,5 @@ pub mod ListLoops
 pub mod RowLoops
 pub mod PassLoops
 pub mod ImageLoops
+pub mod PlaceLemmas
+pub mod SurveyLoops

@@ -49,7 +49,7 @@ abbrev pub needs_with : List ℕ → List ParamCode → List Need
 needs_with args ps = needs_of_args args (map kind_of_param ps)
 
 -- one of two lists is at its end
-past_one : {A B : Type 0} (xs : List A) (ys : List B) (i : ℕ) → min (length xs) (length ys) ≤ i → (drop i xs ≡ []) ⊎ (drop i ys ≡ [])
+pub past_one : {A B : Type 0} (xs : List A) (ys : List B) (i : ℕ) → min (length xs) (length ys) ≤ i → (drop i xs ≡ []) ⊎ (drop i ys ≡ [])
 past_one xs ys i h = ⊎_elim (λ more. inr (drop_of_length-le ys (omega (arith, h, more)))) (λ past. inl (drop_of_length-le xs past)) (cases_lt i (length xs))
 
 no_needs : (args : List ℕ) → needs_with args [] ≡ []

@@ -1,3 +1,5 @@
 pub mod Bodies
 pub mod Names
 pub mod Answering
+pub mod Named
+pub mod Surveys

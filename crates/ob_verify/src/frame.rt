@@ -1,13 +1,12 @@
 //! A body with what stands around it, and what is looked up there.
-ghost use Rattle.std.specs.Prelude.{◌≡◌, find, slice_get};
-ghost use Rattle.std.specs.Option.{option_copied};
-ghost use Rattle.ob_code.specs.Code.{is_constructor, contract_code, body_code};
+ghost use Rattle.std.specs.Prelude.{◌≡◌};
 ghost use Rattle.ob_verify_spec.specs.Kinds.{fits, fits_contract};
-ghost use Rattle.ob_verify_spec.specs.Frames.{constructor_code, kind_of_field};
+ghost use Rattle.ob_verify_spec.specs.Frames.{kind_of_field};
 
-use crate::kinds::{implements_number, is_constructor, kind_of_type, same_kind};
-use ob_base::{ContractId, FieldId, TxId};
-use ob_code::{BodyCode, ContractCode, Image};
+use crate::kinds::{implements_number, kind_of_type, same_kind};
+use crate::survey::Surveyed;
+use ob_base::{ContractId, FieldId};
+use ob_code::{BodyCode, ContractCode};
 use ob_table::Kind;
 use std::marker::Model;
 
@@ -15,7 +14,7 @@ use std::marker::Model;
 #[derive(Drop)]
 pub struct CodeFrame<'a> {
     /// The image.
-    pub image: &'a Image,
+    pub image: &'a Surveyed<'a>,
     /// The number of the body's contract.
     pub here: ContractId,
     /// The body's contract.
@@ -32,54 +31,20 @@ impl<'a> Model for CodeFrame<'a> {
     ghost view = { λ f. record { image = f.image.now; here = f.here; own = f.own.now; body = f.body.now } };
 }
 
-/// The contract or interface of a number.
-pub fn contract_code(image: &Image, contract: ContractId) -> Option<&ContractCode>
-    ensures { option_copied result ≡ contract_code image.now contract }
-{
-    image.contracts.get(contract.0 as usize)
-}
-
-/// The constructor or transaction of a contract, by its number there.
-pub fn body_code(image: &Image, contract: ContractId, tx: TxId) -> Option<&BodyCode>
-    ensures { option_copied result ≡ body_code image.now contract tx }
-{
-    match contract_code(image, contract) {
-        Some(own) => own.bodies.get(tx.0 as usize),
-        None => None,
-    }
-}
-
-/// The first constructor among bodies.
-pub fn first_constructor(bodies: &[BodyCode]) -> Option<&BodyCode>
-    ensures { option_copied result ≡ find is_constructor bodies.now }
-{
-    bodies.iter().find(|body| is_constructor(body))
-}
-
-/// The constructor of a contract.
-pub fn constructor_code(image: &Image, contract: ContractId) -> Option<&BodyCode>
-    ensures { option_copied result ≡ constructor_code image.now contract }
-{
-    match contract_code(image, contract) {
-        Some(own) => first_constructor(own.bodies.as_slice()),
-        None => None,
-    }
-}
-
-fn fits_contract(image: &Image, given: ContractId, wanted: ContractId) -> bool
+fn fits_contract(image: &Surveyed<'_>, given: ContractId, wanted: ContractId) -> bool
     ensures { result ≡ fits_contract image.now given wanted }
 {
     if given.0 == wanted.0 {
         return true;
     }
-    match contract_code(image, given) {
+    match image.contract(given) {
         Some(own) => implements_number(wanted, own),
         None => false,
     }
 }
 
 /// Whether a value of the first kind may stand where the second is wanted.
-pub fn fits(image: &Image, given: Kind, wanted: Kind) -> bool
+pub fn fits(image: &Surveyed<'_>, given: Kind, wanted: Kind) -> bool
     ensures { result ≡ fits image.now given wanted }
 {
     match (given, wanted) {

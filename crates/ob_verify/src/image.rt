@@ -1,12 +1,13 @@
 //! The first fault of an image.
 ghost use Rattle.std.specs.Prelude.{◌≡◌, ◌+◌, ◌≤◌, ◌^◌, IfOk, OnErr};
-ghost use Rattle.ob_verify_spec.specs.Frames.{frames_of};
+ghost use Rattle.ob_verify_spec.specs.Frames.{frames_from, frames_of};
 ghost use Rattle.ob_verify_spec.specs.Passing.{checked_fault, first_fault_of};
 ghost use Rattle.ob_verify.specs.Bodies.{frames_in};
 
 use crate::frame::CodeFrame;
 use crate::kinds::is_interface;
 use crate::pass::{FaultAt, first_fault};
+use crate::survey::Surveyed;
 use ob_base::{ContractId, Memory};
 use ob_code::{ContractCode, Image};
 use std::alloc::Global;
@@ -34,11 +35,11 @@ pub fn number_after(first: u32, places: usize) -> Result<u32, Memory>
 
 // The first fault of the bodies of a contract, and the number of its body; the first body has this number.
 #[tactic(auto, using(crate::proofs::ImageLoops::bodies))]
-fn fault_in_contract(
+fn fault_in_contract<'a>(
     alloc: Global,
-    image: &Image,
+    image: &'a Surveyed<'a>,
     here: ContractId,
-    own: &ContractCode,
+    own: &'a ContractCode,
     first: u32,
 ) -> Result<Option<(u32, FaultAt)>, Memory>
     ensures { IfOk result (λ found. found ≡ first_fault_of first (frames_in image.now here own.now)) }
@@ -59,12 +60,15 @@ fn fault_in_contract(
     Ok(None)
 }
 
-/// The first fault of an image, and the number of its body.
+// The first fault of the bodies of contracts, which are those of the image.
 #[tactic(auto, using(crate::proofs::ImageLoops::contracts))]
-pub fn fault_in_image(alloc: Global, image: &Image) -> Result<Option<(u32, FaultAt)>, Memory>
-    ensures { IfOk result (λ found. found ≡ first_fault_of 0 (frames_of image.now)) }
+fn fault_in_contracts<'a>(
+    alloc: Global,
+    image: &'a Surveyed<'a>,
+    contracts: &'a [ContractCode],
+) -> Result<Option<(u32, FaultAt)>, Memory>
+    ensures { IfOk result (λ found. found ≡ first_fault_of 0 (frames_from image.now 0 contracts.now)) }
 {
-    let contracts = image.contracts.as_slice();
     let mut first = 0;
     for i in 0..contracts.len() {
         let own = &contracts[i];
@@ -75,4 +79,12 @@ pub fn fault_in_image(alloc: Global, image: &Image) -> Result<Option<(u32, Fault
         first = number_after(first, own.bodies.len())?;
     }
     Ok(None)
+}
+
+/// The first fault of an image, and the number of its body.
+pub fn fault_in_image(alloc: Global, image: &Image) -> Result<Option<(u32, FaultAt)>, Memory>
+    ensures { IfOk result (λ found. found ≡ first_fault_of 0 (frames_of image.now)) }
+{
+    let surveyed = Surveyed::of(alloc, image)?;
+    fault_in_contracts(alloc, &surveyed, image.contracts.as_slice())
 }

@@ -3,10 +3,10 @@ ghost use Rattle.std.specs.Prelude.{◌≡◌};
 ghost use Rattle.ob_verify_spec.specs.Kinds.{is_plain_interface, interface_at, interface_declared, interface_of};
 ghost use Rattle.ob_verify_spec.specs.Kinds.{one_kind, common, both_hold};
 
-use crate::frame::contract_code;
 use crate::kinds::{is_interface, same_kind};
+use crate::survey::Surveyed;
 use ob_base::ContractId;
-use ob_code::{ContractCode, Image};
+use ob_code::ContractCode;
 use ob_table::Kind;
 
 // Whether a contract is an interface that implements none.
@@ -17,10 +17,10 @@ fn is_plain_interface(contract: &ContractCode) -> bool
 }
 
 // A reference to the interface of a number, where it is one that implements none.
-fn interface_at(image: &Image, number: u32) -> Option<Kind>
+fn interface_at(image: &Surveyed<'_>, number: u32) -> Option<Kind>
     ensures { result ≡ interface_at image.now number }
 {
-    match contract_code(image, ContractId(number)) {
+    match image.contract(ContractId(number)) {
         Some(contract) => {
             if is_plain_interface(contract) {
                 Some(Kind::Reference(ContractId(number)))
@@ -34,7 +34,7 @@ fn interface_at(image: &Image, number: u32) -> Option<Kind>
 
 // The interface that is declared as implemented, by its number and 1; 0 stands for none.
 #[tactic(auto, using(crate::proofs::RowLoops::declared_by))]
-fn interface_declared(image: &Image, implements: u32) -> Option<Kind>
+fn interface_declared(image: &Surveyed<'_>, implements: u32) -> Option<Kind>
     ensures { result ≡ interface_declared image.now implements }
 {
     if implements == 0 {
@@ -44,11 +44,11 @@ fn interface_declared(image: &Image, implements: u32) -> Option<Kind>
 }
 
 // The interface of a kind: of references to a contract the one that it is or implements, if there is one.
-fn interface_of(image: &Image, kind: Kind) -> Option<Kind>
+fn interface_of(image: &Surveyed<'_>, kind: Kind) -> Option<Kind>
     ensures { result ≡ interface_of image.now kind }
 {
     match kind {
-        Kind::Reference(contract) => match contract_code(image, contract) {
+        Kind::Reference(contract) => match image.contract(contract) {
             Some(own) => {
                 if is_plain_interface(own) {
                     Some(Kind::Reference(contract))
@@ -79,7 +79,7 @@ fn one_kind(one: Option<Kind>, other: Option<Kind>) -> Option<Kind>
 }
 
 // What two kinds have in common: the kind, where they are the same, or else the interface of both.
-fn common(image: &Image, one: Kind, other: Kind) -> Option<Kind>
+fn common(image: &Surveyed<'_>, one: Kind, other: Kind) -> Option<Kind>
     ensures { result ≡ common image.now one other }
 {
     if same_kind(one, other) {
@@ -90,7 +90,7 @@ fn common(image: &Image, one: Kind, other: Kind) -> Option<Kind>
 }
 
 /// What a slot is known to hold where two ways meet: what its kinds on both have in common.
-pub fn both_hold(image: &Image, one: Option<Kind>, other: Option<Kind>) -> Option<Kind>
+pub fn both_hold(image: &Surveyed<'_>, one: Option<Kind>, other: Option<Kind>) -> Option<Kind>
     ensures { result ≡ both_hold image.now one other }
 {
     match (one, other) {

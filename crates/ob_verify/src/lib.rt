@@ -2,6 +2,7 @@
 //! bytecode verification", J. Automated Reasoning 30, 2003).
 #![tactic(auto)]
 
+mod answers;
 mod calls;
 mod conditions;
 mod frame;
@@ -12,6 +13,8 @@ mod needs;
 mod numbers;
 mod pass;
 mod rows;
+mod survey;
+mod transactions;
 mod verifying;
 
 pub use numbers::{

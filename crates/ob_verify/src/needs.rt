@@ -7,10 +7,11 @@ ghost use Rattle.ob_verify_spec.specs.Instructions.{of_kind, passes, are_alike, 
 ghost use Rattle.ob_verify_spec.specs.Instructions.{needs_of_given, needs_of_operator, needs};
 ghost use Rattle.ob_verify_spec.specs.Passing.{held_at};
 
-use crate::frame::{CodeFrame, body_code, constructor_code, fits};
+use crate::frame::{CodeFrame, fits};
 use crate::kinds::{is_reference, kind_of_param, kind_of_result, same_kind};
+use crate::survey::Surveyed;
 use ob_base::{FieldId, Operator};
-use ob_code::{BodyCode, Image, Instruction, ParamCode};
+use ob_code::{BodyCode, Instruction, ParamCode};
 use ob_table::Kind;
 
 /// What a slot holds by a row.
@@ -51,7 +52,7 @@ fn are_alike(one: Option<Kind>, other: Option<Kind>) -> bool
 }
 
 // Whether a slot holds a value of a kind, or of one that may stand for it.
-fn holds_kind(image: &Image, row: &[Option<Kind>], slot: u8, wanted: Kind) -> bool
+fn holds_kind(image: &Surveyed<'_>, row: &[Option<Kind>], slot: u8, wanted: Kind) -> bool
     ensures { result ≡ meets image.now (held_at row.now) (of_kind slot wanted) }
 {
     match held(row, usize::from(slot)) {
@@ -61,7 +62,7 @@ fn holds_kind(image: &Image, row: &[Option<Kind>], slot: u8, wanted: Kind) -> bo
 }
 
 // The same, where a kind is known.
-fn holds_known(image: &Image, row: &[Option<Kind>], slot: u8, wanted: Option<Kind>) -> bool
+fn holds_known(image: &Surveyed<'_>, row: &[Option<Kind>], slot: u8, wanted: Option<Kind>) -> bool
     ensures { result ≡ list_all (meets image.now (held_at row.now)) (need_of slot wanted) }
 {
     match wanted {
@@ -72,7 +73,7 @@ fn holds_known(image: &Image, row: &[Option<Kind>], slot: u8, wanted: Option<Kin
 
 // Whether the slots of arguments hold what the parameters want, as far as both go.
 #[tactic(auto, using(crate::proofs::ListLoops::arguments))]
-fn holds_args(image: &Image, row: &[Option<Kind>], args: &[u8], params: &[ParamCode]) -> bool
+fn holds_args(image: &Surveyed<'_>, row: &[Option<Kind>], args: &[u8], params: &[ParamCode]) -> bool
     ensures { result ≡ list_all (meets image.now (held_at row.now)) (needs_of_args args.now (map kind_of_param params.now)) }
 {
     let count = args.len().min(params.len());
@@ -85,7 +86,7 @@ fn holds_args(image: &Image, row: &[Option<Kind>], args: &[u8], params: &[ParamC
 }
 
 fn holds_for_call(
-    image: &Image,
+    image: &Surveyed<'_>,
     row: &[Option<Kind>],
     args: &[u8],
     callee: Option<&BodyCode>,
@@ -113,7 +114,13 @@ fn holds_given(frame: &CodeFrame<'_>, row: &[Option<Kind>], given: &[(FieldId, u
 }
 
 // Whether the slots of an operator's operands hold what it wants.
-fn holds_operands(image: &Image, row: &[Option<Kind>], operator: Operator, a: u8, b: u8) -> bool
+fn holds_operands(
+    image: &Surveyed<'_>,
+    row: &[Option<Kind>],
+    operator: Operator,
+    a: u8,
+    b: u8,
+) -> bool
     ensures { result ≡ list_all (meets image.now (held_at row.now)) (needs_of_operator operator a b) }
 {
     match operator {
@@ -142,12 +149,7 @@ pub fn meets_needs(frame: &CodeFrame<'_>, instruction: &Instruction, row: &[Opti
         }
         Instruction::Change { given, .. } => holds_given(frame, row, given.as_slice()),
         Instruction::New { contract, args, .. } => {
-            holds_for_call(
-                image,
-                row,
-                args.as_slice(),
-                constructor_code(image, *contract),
-            )
+            holds_for_call(image, row, args.as_slice(), image.constructor(*contract))
         }
         Instruction::Call {
             a,
@@ -155,7 +157,7 @@ pub fn meets_needs(frame: &CodeFrame<'_>, instruction: &Instruction, row: &[Opti
             tx,
             args,
             ..
-        } => match body_code(image, *contract, *tx) {
+        } => match image.body(*contract, *tx) {
             Some(body) => {
                 holds_kind(image, row, *a, Kind::Reference(*contract))
                     && holds_args(image, row, args.as_slice(), body.params.as_slice())

@@ -11,8 +11,9 @@ use crate::conditions::{bad_field, bad_jump, bad_slot, lacks_slots};
 use crate::frame::CodeFrame;
 use crate::needs::meets_needs;
 use crate::rows::{KindRow, apply, entry_row, meet_with};
+use crate::survey::Surveyed;
 use ob_base::{Items, Memory};
-use ob_code::{Image, Instruction};
+use ob_code::Instruction;
 use ob_table::Kind;
 use ob_verify_spec::CodeFault;
 use std::alloc::Global;
@@ -64,7 +65,7 @@ fn take_row(rows: &mut [Option<KindRow>], place: usize) -> Option<KindRow>
 
 // One more way leads to a place.
 #[tactic(auto, using(crate::proofs::PassLoops::putting))]
-fn put_row(image: &Image, rows: &mut [Option<KindRow>], place: usize, row: KindRow)
+fn put_row(image: &Surveyed<'_>, rows: &mut [Option<KindRow>], place: usize, row: KindRow)
     ensures { rows.new ≡ put_row image.now rows.old place row }
 {
     if place >= rows.len() {
@@ -83,7 +84,7 @@ fn put_row(image: &Image, rows: &mut [Option<KindRow>], place: usize, row: KindR
 #[tactic(auto, using(crate::proofs::PassLoops::putting))]
 fn put_copy(
     alloc: Global,
-    image: &Image,
+    image: &Surveyed<'_>,
     rows: &mut [Option<KindRow>],
     place: usize,
     row: &[Option<Kind>],
@@ -106,7 +107,7 @@ fn put_copy(
 // The ways go on after the instruction at a place, with this row.
 fn put_rows(
     alloc: Global,
-    image: &Image,
+    image: &Surveyed<'_>,
     place: usize,
     instruction: &Instruction,
     rows: &mut [Option<KindRow>],

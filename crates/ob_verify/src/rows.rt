@@ -6,12 +6,13 @@ ghost use Rattle.ob_verify_spec.specs.Frames.{kinds_of_params};
 ghost use Rattle.ob_verify_spec.specs.Instructions.{kind_given, slot_of_result, effect_of_call, effect};
 ghost use Rattle.ob_verify_spec.specs.Passing.{row_of, meet, row_after, held_at};
 
-use crate::frame::{CodeFrame, body_code};
+use crate::frame::CodeFrame;
 use crate::interfaces::both_hold;
 use crate::kinds::{kind_of_param, kind_of_result};
 use crate::needs::held;
+use crate::survey::Surveyed;
 use ob_base::{Items, Memory, Operator};
-use ob_code::{BodyCode, Image, Instruction, NO_RESULT, ParamCode};
+use ob_code::{BodyCode, Instruction, NO_RESULT};
 use ob_table::Kind;
 use std::alloc::Global;
 
@@ -81,7 +82,7 @@ pub fn apply(frame: &CodeFrame<'_>, instruction: &Instruction, row: &mut KindRow
             contract,
             tx,
             ..
-        } => set_result(row, *slot, body_code(frame.image, *contract, *tx)),
+        } => set_result(row, *slot, frame.image.body(*contract, *tx)),
         Instruction::SelfCall { slot, tx, .. } => {
             set_result(row, *slot, frame.own.bodies.get(tx.0 as usize));
         }
@@ -91,7 +92,7 @@ pub fn apply(frame: &CodeFrame<'_>, instruction: &Instruction, row: &mut KindRow
 
 /// Makes a row what it is where another way meets it.
 #[tactic(auto, using(crate::proofs::RowLoops::meeting))]
-pub fn meet_with(image: &Image, row: &mut KindRow, other: &[Option<Kind>])
+pub fn meet_with(image: &Surveyed<'_>, row: &mut KindRow, other: &[Option<Kind>])
     ensures { row.new ≡ meet image.now row.old other.now }
 {
     for slot in 0..row.len() {

@@ -79,8 +79,9 @@ impl Duplicate for Verified {
 /// none, and of its first instruction that has one, and there the least number. A fault whose body or instruction has a number
 /// of 2^32 or more counts as want of memory.
 ///
-/// It takes time in proportion to the image, beside what calls of interfaces ask of each contract, and what `new` looks for in
-/// one. It keeps what slots hold only for places that some instruction has led to and that it hasn't come to yet.
+/// It takes time in proportion to the image where each contract that implements an interface has its transactions: they are
+/// asked once, before the bodies are passed. It keeps what slots hold only for places that some instruction has led to and that
+/// it hasn't come to yet.
 #[tactic(auto, using(ob_verify_spec::proofs::Images::tells_of_image))]
 pub fn verify(alloc: Global, image: Image) -> Result<Verified, VerifyError>
     ensures kept { IfOk result (λ v. v ≡ image) }
