@@ -1,5 +1,5 @@
 -- Marks on objects.
-use Rattle.std.proofs.Common.{◌≡◌, ℕ, ◌<◌, Bool, true, false, List, [], ◌∷◌, length, map, set, Option, Some, None, Result, Ok, Err, refl, sym, ap, ◌∙◌, arith}
+use Rattle.std.proofs.Common.{◌≡◌, ℕ, zero, suc, ◌<◌, Bool, true, false, List, [], ◌∷◌, length, map, set, Option, Some, None, Result, Ok, Err, refl, sym, ap, ◌∙◌, arith}
 use Rattle.std.specs.Prelude.{slice_get, slice_set, option_map, OnOk, if◌then◌else◌}
 use Rattle.std.specs.Option.{option_map_or}
 use Rattle.std.proofs.lemmas.Option.{slice_get-map}
@@ -11,7 +11,9 @@ use Rattle.ob_heap_spec.specs.Worlds.{World, object_item, is_made, with_read, se
 use Rattle.ob_rest_spec.specs.Modes.{is_shared}
 use Rattle.ob_invocation_spec.specs.Handles.{NamedHandle, mark_put, mark_puts}
 use Rattle.ob_heap.specs.declared.object.Object.{Object}
-use Rattle.ob_heap.specs.Overlays.{Changes, laid_over, objects_over, IsSameBut}
+use Rattle.ob_heap.specs.Overlays.{Changes, laid_over, objects_over}
+use Rattle.ob_heap.specs.declared.edit.Edit.{Edit}
+use Rattle.ob_heap.specs.Edits.{with_edit, IsEdited}
 use Rattle.ob_heap.specs.Plain.{object_of}
 use Rattle.ob_exec_handles.specs.Marking.{has_mark, marked, is_marked, with_mark, with_put_mark, with_put_marks}
 use Rattle.ob_exec_handles.specs.declared.marking.Mark.{Mark}
@@ -91,21 +93,21 @@ pub still_as_many : (base : List Object) (old new : Changes) (puts : List NamedH
 still_as_many base old new puts e =
     sym (length-map (laid_over base new) object_of) ∙ ap length e ∙ puts_length puts (objects_over base old) ∙ length-map (laid_over base old) object_of
 
-pub still_within : (n : ℕ) (old mid : List Object) (x : Object) → IsSameBut n old mid → n < length old → n < length mid
-still_within n old mid x h l =
-    let e : length mid ≡ length old = sym (length-set mid n x) ∙ ap length (h x) ∙ length-set old n x in
-    omega (arith, e, l)
+there : (xs : List Object) (n : ℕ) → n < length xs → (x : Object) × (slice_get xs n ≡ Some x)
+there [] n h = absurd (omega arith)
+there (x ∷ xs) zero h = (x, refl)
+there (x ∷ xs) (suc n) h = there xs n (omega arith)
 
-pub marked_now : {E : Type 0} (r : Result (Unit {0}) E) (mark : Mark) (base : List Object) (old mid new : Changes) (n : ℕ) (x y : Object)
-    → slice_get (laid_over base old) n ≡ Some x → IsSameBut n (laid_over base old) (laid_over base mid)
-    → OnOk r (laid_over base new ≡ set (laid_over base mid) n y) → object_of y ≡ marked mark (object_of x)
-    → is_marked mark n (objects_over base old) ≡ false
+pub marked_now : {E : Type 0} (r : Result (Unit {0}) E) (mark : Mark) (base : List Object) (old new : Changes) (n : ℕ) (e : Edit)
+    → n < length (laid_over base old) → OnOk r (IsEdited n e (laid_over base old) (laid_over base new))
+    → ((o : Object) → object_of (with_edit e o) ≡ marked mark (object_of o)) → is_marked mark n (objects_over base old) ≡ false
     → OnOk r (objects_over base new ≡ with_mark mark n (objects_over base old))
-marked_now (Err u) mark base old mid new n x y at but e g other = tt
-marked_now (Ok u) mark base old mid new n x y at but e g other =
-    let objects : objects_over base new ≡ set (objects_over base old) n (marked mark (object_of x)) =
-    ap (map object_of) (e ∙ but y) ∙ map-set object_of (laid_over base old) n y ∙ ap (set (objects_over base old) n) g in
-    let there : object_at (objects_over base old) n ≡ Some (object_of x) = slice_get-map object_of (laid_over base old) n ∙ ap (option_map object_of) at in
+marked_now (Err u) mark base old new n e h by g other = tt
+marked_now (Ok u) mark base old new n e h by g other =
+    let x = there (laid_over base old) n h in
+    let objects : objects_over base new ≡ set (objects_over base old) n (marked mark (object_of x.0)) =
+    ap (map object_of) (by x.0 x.1) ∙ map-set object_of (laid_over base old) n (with_edit e x.0) ∙ ap (set (objects_over base old) n) (g x.0) in
+    let there : object_at (objects_over base old) n ≡ Some (object_of x.0) = slice_get-map object_of (laid_over base old) n ∙ ap (option_map object_of) x.1 in
     objects
     ∙ sym (ap (λ r. option_map_or (λ o. set (objects_over base old) n (marked mark o)) r (objects_over base old)) there)
     ∙ sym (ap (λ b. if b then objects_over base old else option_map_or (λ o. set (objects_over base old) n (marked mark o)) (object_at (objects_over base old) n) (objects_over base old)) other)

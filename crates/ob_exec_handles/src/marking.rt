@@ -1,12 +1,14 @@
 //! Marks on the objects of a store.
 ghost use Rattle.std.specs.Prelude.{◌≡◌, ◌<◌, false, [], ◌∷◌, map, length, OnOk};
+ghost use Rattle.ob_heap.specs.declared.object.Object.{Object};
+ghost use Rattle.ob_heap.specs.Edits.{with_edit};
 ghost use Rattle.ob_heap.specs.Overlays.{laid_over, objects_over};
 ghost use Rattle.ob_heap.specs.Contents.{named_of};
 ghost use Rattle.ob_heap.specs.Plain.{object_of};
 ghost use Rattle.ob_exec_handles.specs.Marking.{has_mark, marked, is_marked, with_mark, with_put_marks};
 
 use ob_base::{Label, Memory, Mode, ObjectId};
-use ob_heap::{Content, Handle, Object, Overlay};
+use ob_heap::{Content, Edit, Handle, Object, Overlay};
 use std::alloc::Global;
 
 /// A mark on an object (Coblenz et al., TOPLAS 42(3), 2020, "Permissions"; marks are this project's own).
@@ -40,6 +42,16 @@ pub fn marked(mark: Mark, object: Object) -> Object
     object
 }
 
+// What is done to an object that gets a mark.
+fn edit_of(mark: Mark) -> Edit
+    ensures { (o : Object) → object_of (with_edit result o) ≡ marked mark (object_of o) }
+{
+    match mark {
+        Mark::Shared => Edit::Shared,
+        Mark::Disowned => Edit::Disowned,
+    }
+}
+
 // Whether the object of a number has a mark already; where there is no object there is none to set.
 fn is_marked(base: &Content, overlay: &Overlay, mark: Mark, id: ObjectId) -> bool
     ensures { result ≡ is_marked mark id.0 (objects_over base.now.objects overlay.now) }
@@ -62,8 +74,7 @@ fn set_mark(
     requires other { is_marked mark id.0 (objects_over base.now.objects overlay.old) ≡ false }
     ensures { OnOk result (objects_over base.now.objects overlay.new ≡ with_mark mark id.0 (objects_over base.now.objects overlay.old)) }
 {
-    let object = overlay.take(alloc, base, id)?;
-    overlay.set(base, id, marked(mark, object))
+    overlay.edit(alloc, base, id, edit_of(mark))
 }
 
 // The object of a number is marked.

@@ -1,14 +1,18 @@
 -- Changes laid over the objects of a base.
-use Rattle.std.proofs.Common.{◌≡◌, ℕ, zero, suc, ◌+◌, ◌-◌, ◌<◌, ◌≤◌, Bool, true, false, cond, List, [], ◌∷◌, ◌++◌, length, Option, None, Some, refl, sym, ap, subst, ◌∙◌, arith, set, get_or, eq-eqb, length-append, zero-add}
-use Rattle.std.specs.Prelude.{nat_eq, nat_lt, slice_get, if◌then◌else◌}
-use Rattle.std.specs.Option.{unwrap_or, option_map}
+use Rattle.std.proofs.Common.{◌≡◌, ℕ, zero, suc, ◌+◌, ◌-◌, ◌<◌, ◌≤◌, Bool, true, false, cond, List, [], ◌∷◌, ◌++◌, length, Option, None, Some, refl, sym, ap, subst, ◌∙◌, arith, set, get_or, eq-eqb, eqb→eq, length-append, zero-add}
+use Rattle.std.specs.Prelude.{nat_eq, nat_lt, slice_get, ◌||◌, if◌then◌else◌}
+use Rattle.std.specs.List.{list_any}
+use lib.Dec.{T, eqb}
+use Rattle.std.specs.Option.{unwrap_or, option_map, option_eq}
 use Rattle.std.specs.Map.{lookup}
 use Rattle.std.specs.Result.{OnOk, IfOk}
 use Rattle.std.specs.Prelude.{Result, Ok, Err}
 use Rattle.std.specs.Ordering.{nat_cmp, is_eq}
 use Rattle.std.specs.declared.cmp.Ordering.TheVariants.{Less, Equal, Greater}
 use Rattle.ob_heap.specs.declared.object.Object.{Object}
-use Rattle.ob_heap.specs.Overlays.{changed_at, IsPut, IsTaken, IsSameBut, laid_from, laid_over, Changes}
+use Rattle.ob_heap.specs.declared.edit.Edit.{Edit}
+use Rattle.ob_heap.specs.Edits.{with_edit, IsEdited}
+use Rattle.ob_heap.specs.Overlays.{changed_at, IsPut, IsEditedOver, laid_from, laid_over, with_number, Changes}
 
 clash : (m n : ℕ) → nat_lt m n ≡ true → nat_eq m n ≡ true → ⊥
 clash m n e f = grind arith
@@ -65,16 +69,6 @@ laid_put k x old new put n zero (o ∷ os) e =
 laid_put k x old new put n (suc i) (o ∷ os) e =
     ap (λ r. unwrap_or r o ∷ laid_from new (suc n) os) (put n ∙ ap (λ b. if b then Some x else changed_at n old) (differs_above k n (omega arith)))
     ∙ ap (λ r. unwrap_or (changed_at n old) o ∷ r) (laid_put k x old new put (suc n) i os (omega arith))
-
--- without the change of a number nothing else is another
-pub laid_take : (k : ℕ) (x : Object) (old new : List (ℕ × Object)) → IsTaken k old new → (n i : ℕ) (os : List Object) → n + i ≡ k
-    → set (laid_from new n os) i x ≡ set (laid_from old n os) i x
-laid_take k x old new put n i [] e = refl
-laid_take k x old new put n zero (o ∷ os) e =
-    ap (λ r. x ∷ r) (laid_same old new (suc n) os (λ m l. put m ∙ ap (λ b. if b then None else changed_at m old) (differs k m (omega arith))))
-laid_take k x old new put n (suc i) (o ∷ os) e =
-    ap (λ r. unwrap_or r o ∷ set (laid_from new (suc n) os) i x) (put n ∙ ap (λ b. if b then None else changed_at n old) (differs_above k n (omega arith)))
-    ∙ ap (λ r. unwrap_or (changed_at n old) o ∷ r) (laid_take k x old new put (suc n) i os (omega arith))
 
 -- what a map says of its update
 pub updated : (k : ℕ) (w : Option Object) (old new : List (ℕ × Object))
@@ -146,64 +140,80 @@ set_in_base base k o changed new made h put =
     let l : k < length (laid_from changed 0 base) = subst (λ (m : ℕ). k < m) (sym (length-laid changed 0 base)) h in
     ap (λ r. r ++ made) (laid_put k o changed new put 0 k base (zero-add k)) ∙ sym (set_left (laid_from changed 0 base) made k o l)
 
-pub set_in_base_ok : {E : Type 0} (r : Result Unit E) (base : List Object) (k : ℕ) (o : Object) (changed new : List (ℕ × Object)) (made : List Object)
-    → k < length base → OnOk r (IsPut k o changed new) → OnOk r (laid_from new 0 base ++ made ≡ set (laid_from changed 0 base ++ made) k o)
-set_in_base_ok (Ok u) base k o changed new made h put = set_in_base base k o changed new made h put
-set_in_base_ok (Err e) base k o changed new made h put = tt
-
 pub set_in_made : (base : List Object) (k : ℕ) (o : Object) (changed : List (ℕ × Object)) (made : List Object) → length base ≤ k
     → laid_from changed 0 base ++ set made (k - length base) o ≡ set (laid_from changed 0 base ++ made) k o
 set_in_made base k o changed made h =
     let l : length (laid_from changed 0 base) ≡ length base = length-laid changed 0 base in
     sym (set_right (laid_from changed 0 base) made k o (omega arith) ∙ ap (λ m. laid_from changed 0 base ++ set made (k - m) o) l)
 
-pub set_again : (xs : List Object) (n : ℕ) (y o : Object) → set (set xs n y) n o ≡ set xs n o
-set_again [] n y o = refl
-set_again (x ∷ xs) zero y o = refl
-set_again (x ∷ xs) (suc n) y o = ap (λ r. x ∷ r) (set_again xs n y o)
+-- what is done to an object of the base, and to one that was made
+pub edited_in_base : {E : Type 0} (r : Result Unit E) (base : List Object) (k : ℕ) (e : Edit) (changed new : List (ℕ × Object)) (made : List Object)
+    → k < length base → OnOk r (IsEditedOver base k e changed new) → OnOk r (IsEdited k e (laid_from changed 0 base ++ made) (laid_from new 0 base ++ made))
+edited_in_base (Err x) base k e changed new made h edited = tt
+edited_in_base (Ok u) base k e changed new made h edited = λ o at.
+    let x = there base k h in
+    let c : Changes = record { changed = changed; made = made; reads = []; next = false } in
+    let is : unwrap_or (changed_at k changed) x.0 ≡ o =
+    ap (λ r. unwrap_or r o) (sym (over_base base c k h ∙ ap (option_map (λ y. unwrap_or (changed_at k changed) y)) x.1) ∙ at) in
+    set_in_base base k (with_edit e o) changed new made h (subst (λ y. IsPut k (with_edit e y) changed new) is (edited x.0 x.1))
 
-pub laid_changed : (base : List Object) (es : List (ℕ × Object)) (n : ℕ) (o : Object) → n < length base → changed_at n es ≡ Some o
-    → slice_get (laid_from es 0 base) n ≡ Some o
-laid_changed base es n o h e =
-    let x = there base n h in
-    laid_get es 0 n base ∙ ap (λ m. option_map (λ y. unwrap_or (changed_at m es) y) (slice_get base n)) (zero-add n)
-    ∙ ap (option_map (λ y. unwrap_or (changed_at n es) y)) x.1 ∙ ap (λ r. Some (unwrap_or r x.0)) e
+pub edited_in_made : {E : Type 0} (r : Result Unit E) (base : List Object) (k : ℕ) (e : Edit) (changed : List (ℕ × Object)) (made new : List Object)
+    → length base ≤ k → OnOk r (IsEdited (k - length base) e made new) → OnOk r (IsEdited k e (laid_from changed 0 base ++ made) (laid_from changed 0 base ++ new))
+edited_in_made (Err x) base k e changed made new h edited = tt
+edited_in_made (Ok u) base k e changed made new h edited = λ o at.
+    let c : Changes = record { changed = changed; made = made; reads = []; next = false } in
+    ap (λ r. laid_from changed 0 base ++ r) (edited o (look_made base c k h ∙ at)) ∙ set_in_made base k (with_edit e o) changed made h
 
-pub laid_kept : (base : List Object) (es : List (ℕ × Object)) (n : ℕ) (o : Object) → n < length base → changed_at n es ≡ None
-    → o ≡ get_or base n o → slice_get (laid_from es 0 base) n ≡ Some o
-laid_kept base es n o h e is =
-    laid_get es 0 n base ∙ ap (λ m. option_map (λ y. unwrap_or (changed_at m es) y) (slice_get base n)) (zero-add n)
-    ∙ ap (option_map (λ y. unwrap_or (changed_at n es) y)) (found base n o h is) ∙ ap (λ r. Some (unwrap_or r o)) e
+-- what is done to an object that the map has, and to a copy of one that it hasn't
+pub edited_there : (n : ℕ) (e : Edit) (base : List Object) (old new : List (ℕ × Object)) (x y : Object) → changed_at n old ≡ Some x → y ≡ with_edit e x
+    → ((q : ℕ) → lookup (λ j. is_eq (nat_cmp q j)) new ≡ cond (is_eq (nat_cmp n q)) (Some y) (lookup (λ j. is_eq (nat_cmp q j)) old))
+    → IsEditedOver base n e old new
+edited_there n e base old new x y at is h = λ o b m. updated n (Some y) old new h m
+    ∙ ap (λ z. if nat_eq n m then Some z else changed_at m old) (is ∙ ap (λ r. with_edit e (unwrap_or r o)) (sym at))
+
+pub edited_there_ok : {E : Type 0} (r : Result Unit E) (n : ℕ) (e : Edit) (base : List Object) (old new : List (ℕ × Object)) (x y : Object)
+    → changed_at n old ≡ Some x → OnOk r (y ≡ with_edit e x)
+    → ((q : ℕ) → lookup (λ j. is_eq (nat_cmp q j)) new ≡ cond (is_eq (nat_cmp n q)) (Some y) (lookup (λ j. is_eq (nat_cmp q j)) old))
+    → OnOk r (IsEditedOver base n e old new)
+edited_there_ok (Err u) n e base old new x y at is h = tt
+edited_there_ok (Ok u) n e base old new x y at is h = edited_there n e base old new x y at is h
+
+pub edited_copy : {E : Type 0} (r : Result Unit E) (n : ℕ) (e : Edit) (base : List Object) (old new : List (ℕ × Object)) (x y : Object) → changed_at n old ≡ None
+    → x ≡ get_or base n x → n < length base → y ≡ with_edit e x → OnOk r (IsPut n y old new) → OnOk r (IsEditedOver base n e old new)
+edited_copy (Err u) n e base old new x y none is h by put = tt
+edited_copy (Ok u) n e base old new x y none is h by put = λ o b m.
+    let same : x ≡ o = ap (λ r. unwrap_or r o) (sym (found base n x h is) ∙ b) in
+    put m ∙ ap (λ z. if nat_eq n m then Some z else changed_at m old) (by ∙ ap (with_edit e) (same ∙ ap (λ r. unwrap_or r o) (sym none)))
   where
     found : (xs : List Object) (m : ℕ) (x : Object) → m < length xs → x ≡ get_or xs m x → slice_get xs m ≡ Some x
     found [] m x l f = absurd (omega arith)
     found (y ∷ ys) zero x l f = ap Some (sym f)
     found (y ∷ ys) (suc m) x l f = found ys m x (omega arith) f
 
-pub over_laid : (base : List Object) (c : Changes) (n : ℕ) → n < length base → slice_get (laid_over base c) n ≡ slice_get (laid_from c.changed 0 base) n
-over_laid base c n h = slice_get_left (laid_from c.changed 0 base) c.made n (subst (λ (m : ℕ). n < m) (sym (length-laid c.changed 0 base)) h)
+pub read_last : (r : Option ℕ) (n : ℕ) → option_eq eqb r (Some n) ≡ true → r ≡ Some n
+read_last None n e = absurd cc
+read_last (Some m) n e = ap Some (eqb→eq m n (subst T (sym e) tt))
 
-pub take_object_ok : {E : Type 0} (r : Result Object E) (base : List Object) (c : Changes) (n : ℕ) → n < length base
-    → IfOk r (λ o. slice_get (laid_from c.changed 0 base) n ≡ Some o) → IfOk r (λ o. slice_get (laid_over base c) n ≡ Some o)
-take_object_ok (Ok o) base c n h e = over_laid base c n h ∙ e
-take_object_ok (Err e) base c n h f = tt
+or_true : (b : Bool) {c : Bool} → c ≡ true → (b || c) ≡ true
+or_true true e = refl
+or_true false e = e
 
-take_in_base : (base : List Object) (k : ℕ) (changed new : List (ℕ × Object)) (made : List Object) → k < length base
-    → IsTaken k changed new → IsSameBut k (laid_from changed 0 base ++ made) (laid_from new 0 base ++ made)
-take_in_base base k changed new made h taken o =
-    let l : k < length (laid_from changed 0 base) = subst (λ (m : ℕ). k < m) (sym (length-laid changed 0 base)) h in
-    let m : k < length (laid_from new 0 base) = subst (λ (m : ℕ). k < m) (sym (length-laid new 0 base)) h in
-    set_left (laid_from new 0 base) made k o m ∙ ap (λ r. r ++ made) (laid_take k o changed new taken 0 k base (zero-add k))
-    ∙ sym (set_left (laid_from changed 0 base) made k o l)
+-- an object that was read last is read once more
+pub read_again : (n : ℕ) (ns : List ℕ) → slice_get ns (length ns - 1) ≡ Some n → with_number n ns ≡ ns
+read_again n ns e = ap (λ b. if b then ns else ns ++ n ∷ []) (among ns e)
+  where
+    itself : (n : ℕ) → nat_eq n n ≡ true
+    itself n = grind arith
 
-pub take_in_base_ok : {E : Type 0} (r : Result Object E) (base : List Object) (k : ℕ) (changed new : List (ℕ × Object)) (made : List Object)
-    → k < length base → IsTaken k changed new → OnOk r (IsSameBut k (laid_from changed 0 base ++ made) (laid_from new 0 base ++ made))
-take_in_base_ok (Ok o) base k changed new made h taken = take_in_base base k changed new made h taken
-take_in_base_ok (Err e) base k changed new made h taken = tt
+    after : (m : ℕ) (ms : List ℕ) → length (m ∷ ms) - 1 ≡ length ms
+    after m ms = omega arith
 
-pub take_in_made : (base : List Object) (k : ℕ) (changed : List (ℕ × Object)) (made new : List Object) → length base ≤ k
-    → IsSameBut (k - length base) made new → IsSameBut k (laid_from changed 0 base ++ made) (laid_from changed 0 base ++ new)
-take_in_made base k changed made new h rest o =
-    sym (set_in_made base k o changed new h) ∙ ap (λ r. laid_from changed 0 base ++ r) (rest o) ∙ set_in_made base k o changed made h
+    by : (m : ℕ) (ms : List ℕ) → slice_get (m ∷ ms) (length ms) ≡ Some n → (nat_eq n m || list_any (nat_eq n) ms) ≡ true
+    by m [] f = ap (λ r. nat_eq n (unwrap_or r n) || false) f ∙ ap (λ b. b || false) (itself n)
+    by m (k ∷ ks) f = or_true (nat_eq n m) (by k ks f)
+
+    among : (ns : List ℕ) → slice_get ns (length ns - 1) ≡ Some n → list_any (nat_eq n) ns ≡ true
+    among [] f = absurd cc
+    among (m ∷ ms) f = by m ms (sym (ap (slice_get (m ∷ ms)) (after m ms)) ∙ f)
 
 pub ruleset over = (length_over)

@@ -1,5 +1,6 @@
 pub mod Ascending
 pub mod Fields
+pub mod Edits
 pub mod Plain
 pub mod Overlays
 pub mod Contents

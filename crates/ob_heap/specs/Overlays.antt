@@ -1,8 +1,10 @@
 -- What a run has changed of the objects of a store, and what it has read (this project's own).
 use Rattle.std.specs.List.{list_any}
-use Rattle.std.specs.Prelude.{◌≡◌, ℕ, suc, Bool, false, nat_eq, nat_lt, length, map, slice_set, List, [], ◌∷◌, ◌++◌, Option, Some, None, if◌then◌else◌}
+use Rattle.std.specs.Prelude.{◌≡◌, ℕ, suc, Bool, false, nat_eq, nat_lt, length, map, slice_get, List, [], ◌∷◌, ◌++◌, Option, Some, None, if◌then◌else◌}
 use Rattle.std.specs.Option.{unwrap_or}
 use Rattle.ob_heap.specs.declared.object.Object.{Object}
+use Rattle.ob_heap.specs.declared.edit.Edit.{Edit}
+use Rattle.ob_heap.specs.Edits.{with_edit}
 use Rattle.ob_heap.specs.Plain.{object_of}
 use Rattle.ob_heap_spec.specs.Objects.{Object as PlainObject}
 
@@ -15,9 +17,10 @@ changed_at n (e ∷ es) = if nat_eq n e.0 then Some e.1 else changed_at n es
 abbrev pub IsPut : ℕ → Object → List (ℕ × Object) → List (ℕ × Object) → Type 0
 IsPut n o old new = (m : ℕ) → changed_at m new ≡ (if nat_eq n m then Some o else changed_at m old)
 
--- at one number there is none any more, and at the others what there was
-abbrev pub IsTaken : ℕ → List (ℕ × Object) → List (ℕ × Object) → Type 0
-IsTaken n old new = (m : ℕ) → changed_at m new ≡ (if nat_eq n m then None else changed_at m old)
+-- this was done to the object of a number, which is that of the base if it wasn't changed before; at the others there is what there
+-- was
+abbrev pub IsEditedOver : List Object → ℕ → Edit → List (ℕ × Object) → List (ℕ × Object) → Type 0
+IsEditedOver base n e old new = (o : Object) → slice_get base n ≡ Some o → IsPut n (with_edit e (unwrap_or (changed_at n old) o)) old new
 
 -- What a run has changed and read: objects of the base by their numbers, as they are now; the objects that it has made;
 -- the numbers of the objects of the base that it has read, each once; whether it has read which number is the next.
@@ -53,10 +56,6 @@ pub record IsSameBeside (old new : Changes) : Type 0 where
   pub made : length new.made ≡ length old.made
   pub reads : new.reads ≡ old.reads
   pub next : new.next ≡ old.next
-
--- the objects are the same but for the one of a number, which may be any
-abbrev pub IsSameBut : ℕ → List Object → List Object → Type 0
-IsSameBut n old new = (o : Object) → slice_set new n o ≡ slice_set old n o
 
 -- the objects of a base with the changes laid over them, as plain data
 abbrev pub objects_over : List Object → Changes → List PlainObject

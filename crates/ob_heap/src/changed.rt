@@ -1,10 +1,11 @@
 //! Objects by their numbers, as a run has changed them.
-ghost use Rattle.std.specs.Prelude.{◌≡◌, [], ◌∷◌, ◌++◌, ℕ, OnOk, OnErr};
+ghost use Rattle.std.specs.Prelude.{◌≡◌, ◌<◌, [], ◌∷◌, ◌++◌, ℕ, length, OnOk, OnErr};
 ghost use Rattle.std.specs.Option.{option_copied};
-ghost use Rattle.ob_heap.specs.Overlays.{changed_at, IsPut, IsTaken};
+ghost use Rattle.ob_heap.specs.Overlays.{changed_at, IsPut, IsEditedOver};
 ghost use Rattle.ob_heap.specs.Ascending.{IsAscending};
 ghost use Rattle.ob_heap.specs.Differences.{other_objects};
 
+use crate::edit::{Edit, change};
 use crate::object::Object;
 use crate::same::is_other;
 use crate::sequence::Sequence;
@@ -44,11 +45,23 @@ fn put_in(map: &mut BTreeMap<u32, Object>, id: u32, object: Object) -> Result<()
     }
 }
 
-fn take_from(map: &mut BTreeMap<u32, Object>, id: u32) -> Option<Object>
-    ensures value { result ≡ changed_at id map.old.entries }
-    ensures rest { IsTaken id map.old.entries map.new.entries }
+// Does this to the object of a number: where it lies, or to a copy of the one that the base has, which is put.
+fn edit_in(
+    map: &mut BTreeMap<u32, Object>,
+    alloc: Global,
+    base: &[Object],
+    id: u32,
+    edit: Edit,
+) -> Result<(), Memory>
+    requires { id < length base.now }
+    ensures { OnOk result (IsEditedOver base.now id edit map.old.entries map.new.entries) }
 {
-    map.remove(&id)
+    if let Some(object) = map.get_mut(&id) {
+        return change(object, edit);
+    }
+    let mut object = base[id as usize].copy(alloc)?;
+    change(&mut object, edit)?;
+    put_in(map, id, object)
 }
 
 fn add_other(
@@ -101,14 +114,6 @@ impl Changed {
         find_in(&self.map, id)
     }
 
-    /// The object of this number becomes this one.
-    pub fn put(&mut self, id: u32, object: Object) -> Result<(), Memory>
-        ensures ok { OnOk result (IsPut id object self.old self.new) }
-        ensures err { OnErr result (self.new ≡ self.old) }
-    {
-        put_in(&mut self.map, id, object)
-    }
-
     /// Adds those that differ from the base.
     pub fn add_others(
         &self,
@@ -122,11 +127,17 @@ impl Changed {
         add_others(found, alloc, base, &self.map)
     }
 
-    /// Takes the object of this number out.
-    pub fn take(&mut self, id: u32) -> Option<Object>
-        ensures value { result ≡ changed_at id self.old }
-        ensures rest { IsTaken id self.old self.new }
+    /// Does this to the object of this number. Only where it wasn't touched before is it copied from the base.
+    pub fn edit(
+        &mut self,
+        alloc: Global,
+        base: &[Object],
+        id: u32,
+        edit: Edit,
+    ) -> Result<(), Memory>
+        requires { id < length base.now }
+        ensures { OnOk result (IsEditedOver base.now id edit self.old self.new) }
     {
-        take_from(&mut self.map, id)
+        edit_in(&mut self.map, alloc, base, id, edit)
     }
 }

@@ -5,6 +5,7 @@ mod applied;
 mod changed;
 mod content;
 mod delta;
+mod edit;
 mod fields;
 mod laws;
 mod object;
@@ -15,6 +16,7 @@ mod value;
 
 pub use content::{Content, apply, reserve};
 pub use delta::Delta;
+pub use edit::Edit;
 pub use fields::Fields;
 pub use laws::{
     handles_are_changed, plain_fields_follow, plain_handles_follow, plain_objects_follow,

@@ -5,20 +5,20 @@ ghost use Rattle.ob_base.specs.Limits.{most_objects};
 ghost use Rattle.ob_heap.specs.declared.object.Object.{Object};
 ghost use Rattle.ob_heap.specs.Ascending.{IsAscending};
 ghost use Rattle.ob_heap.specs.Differences.{differing, numbered_from, with_objects};
-ghost use Rattle.ob_heap.specs.Overlays.{no_changes, laid_over, noted, with_number, IsSameBeside, IsSameBut, IsTaken, laid_from};
+ghost use Rattle.ob_heap.specs.Edits.{IsEdited};
+ghost use Rattle.ob_heap.specs.Overlays.{no_changes, laid_over, noted, with_number, IsSameBeside};
 
 use crate::changed::Changed;
 use crate::content::Content;
 use crate::delta::Delta;
-use crate::fields::Fields;
+use crate::edit::{Edit, change};
 use crate::object::Object;
 use crate::sequence::Sequence;
 use indexmap::IndexSet;
-use ob_base::{ContractId, Duplicate, MOST_OBJECTS, Memory, ObjectId};
+use ob_base::{Duplicate, MOST_OBJECTS, Memory, ObjectId};
 use sqlite_items::at;
 use std::alloc::{AllocFailed, Global};
 use std::marker::Model;
-use std::mem;
 use thiserror::Error;
 
 /// Why no object was made.
@@ -60,44 +60,12 @@ impl Model for Overlay {
     ghost view = { λ o. record { changed = o.changed; made = o.made.items; reads = o.reads.keys; next = o.next } };
 }
 
-fn put_made(made: &mut Vec<Object>, place: usize, object: Object)
+fn edit_made(made: &mut Vec<Object>, place: usize, edit: Edit) -> Result<(), Memory>
     requires { place < length made.old.items }
-    ensures { made.new.items ≡ slice_set made.old.items place object }
+    ensures edited { OnOk result (IsEdited place edit made.old.items made.new.items) }
+    ensures len { OnOk result (length made.new.items ≡ length made.old.items) }
 {
-    made[place] = object;
-}
-
-fn take_made(made: &mut Vec<Object>, alloc: Global, place: usize) -> Object
-    requires { place < length made.old.items }
-    ensures object { slice_get made.old.items place ≡ Some result }
-    ensures rest { IsSameBut place made.old.items made.new.items }
-    ensures len { length made.new.items ≡ length made.old.items }
-{
-    let none = Object {
-        contract: ContractId(0),
-        state: None,
-        fields: Fields::new(alloc),
-        shared: false,
-        disowned: false,
-    };
-    mem::replace(&mut made[place], none)
-}
-
-fn take_or_copy(
-    changed: &mut Changed,
-    alloc: Global,
-    objects: &[Object],
-    id: u32,
-) -> Result<Object, Memory>
-    requires { id < length objects.now }
-    ensures object { IfOk result (λ object. slice_get (laid_from changed.old 0 objects.now) id ≡ Some object) }
-    ensures rest { IsTaken id changed.old changed.new }
-{
-    if let Some(object) = changed.take(id) {
-        return Ok(object);
-    }
-    let object = objects[id as usize].copy(alloc)?;
-    Ok(object)
+    change(&mut made[place], edit)
 }
 
 fn add_made(
@@ -119,6 +87,10 @@ fn add_made(
 fn add_number(reads: &mut IndexSet<u32>, id: u32) -> Result<(), Memory>
     ensures { OnOk result (reads.new.keys ≡ with_number id reads.old.keys) }
 {
+    // The object that was read last is read again most often.
+    if reads.last().copied() == Some(id) {
+        return Ok(());
+    }
     match reads.insert(id) {
         Ok(_) => Ok(()),
         Err(_) => Err(Memory),
@@ -165,38 +137,26 @@ impl Overlay {
         Ok(())
     }
 
-    /// The object of this number becomes this one.
+    /// Does this to the object of this number, where it lies. Only where the run hadn't touched it before is it copied from the
+    /// base.
     #[tactic(auto, using(crate::proofs::OverlaysLemmas::over))]
-    pub fn set(&mut self, base: &Content, id: ObjectId, object: Object) -> Result<(), Memory>
+    pub fn edit(
+        &mut self,
+        alloc: Global,
+        base: &Content,
+        id: ObjectId,
+        edit: Edit,
+    ) -> Result<(), Memory>
         requires { id.0 < length (laid_over base.now.objects self.old) }
-        ensures objects { OnOk result (laid_over base.now.objects self.new ≡ slice_set (laid_over base.now.objects self.old) id.0 object) }
-        ensures same { OnOk result (IsSameBeside self.old self.new) }
-    {
-        let count = base.objects().len();
-        let number = id.0 as usize;
-        if number < count {
-            self.changed.put(id.0, object)
-        } else {
-            put_made(&mut self.made, number - count, object);
-            Ok(())
-        }
-    }
-
-    /// Takes the object of this number out, to be changed and set again: what stands in its place until then is any
-    /// object. Only where the run hadn't touched it before is it copied from the base.
-    #[tactic(auto, using(crate::proofs::OverlaysLemmas::over))]
-    pub fn take(&mut self, alloc: Global, base: &Content, id: ObjectId) -> Result<Object, Memory>
-        requires { id.0 < length (laid_over base.now.objects self.old) }
-        ensures object { IfOk result (λ object. slice_get (laid_over base.now.objects self.old) id.0 ≡ Some object) }
-        ensures objects { OnOk result (IsSameBut id.0 (laid_over base.now.objects self.old) (laid_over base.now.objects self.new)) }
+        ensures objects { OnOk result (IsEdited id.0 edit (laid_over base.now.objects self.old) (laid_over base.now.objects self.new)) }
         ensures same { OnOk result (IsSameBeside self.old self.new) }
     {
         let objects = base.objects();
         let number = id.0 as usize;
         if number < objects.len() {
-            take_or_copy(&mut self.changed, alloc, objects, id.0)
+            self.changed.edit(alloc, objects, id.0, edit)
         } else {
-            Ok(take_made(&mut self.made, alloc, number - objects.len()))
+            edit_made(&mut self.made, number - objects.len(), edit)
         }
     }
 

@@ -9,4 +9,5 @@ pub mod BeginningLemmas
 pub mod CallLemmas
 pub mod SliceLemmas
 pub mod AlikeLemmas
+pub mod StretchLemmas
 pub mod MarkingLemmas

@@ -5,14 +5,16 @@ use Rattle.std.specs.Prelude.{nat_eq, nat_lt, nat_le, slice_get, option_map, Con
 use Rattle.std.specs.Option.{option_map_or}
 use Rattle.std.specs.List.{list_any}
 use Rattle.std.proofs.lemmas.Option.{slice_get-map, slice_get_within}
-use Rattle.std.proofs.lemmas.List.{length-map, length-set, map-set, map-append}
+use Rattle.std.proofs.lemmas.List.{length-map, map-set, map-append}
 use Rattle.std.proofs.lemmas.List.Elements.{Contains-append_left, Contains-append_right, Contains-append_cases}
 use Rattle.ob_heap_spec.specs.Objects.{Object as PlainObject}
 use Rattle.ob_heap_spec.specs.Contents.{object_at}
 use Rattle.ob_heap_spec.specs.Marks.{has_mark}
 use Rattle.ob_heap_spec.specs.Worlds.{World, ReadItem, object_item, next_item, make_object, is_made, with_read, set_object, read_object, edit_object, SameWorld, ReadSame, AllRead}
 use Rattle.ob_heap.specs.declared.object.Object.{Object}
-use Rattle.ob_heap.specs.Overlays.{Changes, laid_over, laid_from, objects_over, noted, with_number, IsSameBeside, IsSameBut}
+use Rattle.ob_heap.specs.Overlays.{Changes, laid_over, laid_from, objects_over, noted, with_number, IsSameBeside}
+use Rattle.ob_heap.specs.declared.edit.Edit.{Edit}
+use Rattle.ob_heap.specs.Edits.{with_edit, IsEdited}
 use Rattle.ob_heap.specs.Plain.{object_of}
 use Rattle.ob_heap.proofs.OverlaysLemmas.{length-laid}
 use Rattle.ob_machine.specs.Shown.{world_of, next_read}
@@ -129,36 +131,36 @@ read_ok (Err x) base old new n e = tt
 
 -- Changes of objects.
 
-pub still_within : (n : ℕ) (old mid : List Object) (x : Object) → IsSameBut n old mid → n < length old → n < length mid
-still_within n old mid x h l =
-    let e : length mid ≡ length old = sym (length-set mid n x) ∙ ap length (h x) ∙ length-set old n x in
-    omega (arith, e, l)
-
-world_as : (m : Run) (base : List Object) (old mid new : Changes) (objects : List PlainObject)
-    → objects_over base new ≡ objects → IsSameBeside old mid → IsSameBeside mid new → world_of m base new ≡ record (world_of m base old) { objects = objects }
-world_as m base old mid new objects e s t =
+world_as : (m : Run) (base : List Object) (old new : Changes) (objects : List PlainObject)
+    → objects_over base new ≡ objects → IsSameBeside old new → world_of m base new ≡ record (world_of m base old) { objects = objects }
+world_as m base old new objects e s =
     ap {B = World} (λ x. record (world_of m base new) { objects = x }) e
-    ∙ ap {B = World} (λ x. record (world_of m base new) { objects = objects; made = x }) (t.made ∙ s.made)
-    ∙ ap {B = World} (λ x. record (world_of m base old) { objects = objects; reads = next_read new.next ++ map object_item x }) (t.reads ∙ s.reads)
-    ∙ ap {B = World} (λ x. record (world_of m base old) { objects = objects; reads = next_read x ++ map object_item old.reads }) (t.next ∙ s.next)
+    ∙ ap {B = World} (λ x. record (world_of m base new) { objects = objects; made = x }) s.made
+    ∙ ap {B = World} (λ x. record (world_of m base old) { objects = objects; reads = next_read new.next ++ map object_item x }) s.reads
+    ∙ ap {B = World} (λ x. record (world_of m base old) { objects = objects; reads = next_read x ++ map object_item old.reads }) s.next
 
-pub edited : (f : PlainObject → PlainObject) (m : Run) (base : List Object) (old mid new : Changes) (n : ℕ) (x y : Object)
-    → slice_get (laid_over base old) n ≡ Some x → IsSameBut n (laid_over base old) (laid_over base mid) → IsSameBeside old mid
-    → laid_over base new ≡ set (laid_over base mid) n y → IsSameBeside mid new → object_of y ≡ f (object_of x)
-    → world_of m base new ≡ edit_object f n (world_of m base old)
-edited f m base old mid new n x y at but s e t g =
+edited : (f : PlainObject → PlainObject) (m : Run) (base : List Object) (old new : Changes) (n : ℕ) (e : Edit) (x : Object)
+    → slice_get (laid_over base old) n ≡ Some x → IsEdited n e (laid_over base old) (laid_over base new) → IsSameBeside old new
+    → object_of (with_edit e x) ≡ f (object_of x) → world_of m base new ≡ edit_object f n (world_of m base old)
+edited f m base old new n e x at by s g =
     let objects : objects_over base new ≡ set (objects_over base old) n (f (object_of x)) =
-    ap (map object_of) (e ∙ but y) ∙ map-set object_of (laid_over base old) n y ∙ ap (set (objects_over base old) n) g in
+    ap (map object_of) (by x at) ∙ map-set object_of (laid_over base old) n (with_edit e x) ∙ ap (set (objects_over base old) n) g in
     let there : object_at (objects_over base old) n ≡ Some (object_of x) = found base old n ∙ ap (option_map object_of) at in
-    world_as m base old mid new (set (objects_over base old) n (f (object_of x))) objects s t
+    world_as m base old new (set (objects_over base old) n (f (object_of x))) objects s
     ∙ sym (ap (λ r. option_map_or (λ o. set_object (world_of m base old) n (f o)) r (world_of m base old)) there)
 
-pub edited_ok : {E : Type 0} (f : PlainObject → PlainObject) (r : Result (Unit {0}) E) (base : List Object) (old mid new : Changes) (n : ℕ) (x y : Object)
-    → slice_get (laid_over base old) n ≡ Some x → IsSameBut n (laid_over base old) (laid_over base mid) → IsSameBeside old mid
-    → OnOk r (laid_over base new ≡ set (laid_over base mid) n y) → OnOk r (IsSameBeside mid new) → object_of y ≡ f (object_of x)
+there : (xs : List Object) (n : ℕ) → n < length xs → (x : Object) × (slice_get xs n ≡ Some x)
+there [] n h = absurd (omega arith)
+there (x ∷ xs) zero h = (x, refl)
+there (x ∷ xs) (suc n) h = there xs n (omega arith)
+
+-- what is done to an object is done to its plain data
+pub edited_ok : {E : Type 0} (f : PlainObject → PlainObject) (r : Result (Unit {0}) E) (base : List Object) (old new : Changes) (n : ℕ) (e : Edit)
+    → n < length (laid_over base old) → OnOk r (IsEdited n e (laid_over base old) (laid_over base new)) → OnOk r (IsSameBeside old new)
+    → ((x : Object) → object_of (with_edit e x) ≡ f (object_of x))
     → OnOk r ((m : Run) → world_of m base new ≡ edit_object f n (world_of m base old))
-edited_ok f (Ok u) base old mid new n x y at but s e t g = λ m. edited f m base old mid new n x y at but s e t g
-edited_ok f (Err u) base old mid new n x y at but s e t g = tt
+edited_ok f (Ok u) base old new n e h by s g = λ m. let x = there (laid_over base old) n h in edited f m base old new n e x.0 x.1 by s (g x.0)
+edited_ok f (Err u) base old new n e h by s g = tt
 
 -- Marks.
 

@@ -11,3 +11,4 @@ pub mod Calls
 pub mod Making
 pub mod Phases
 pub mod Slicing
+pub mod Stretching

@@ -21,7 +21,7 @@ use ob_heap::{Content, Fields, Object, Overlay, Value};
 use std::alloc::Global;
 
 // Whether a field of an object is available in its state.
-fn is_storable(code: &Image, object: &Object, field: FieldId) -> Result<bool, Off>
+pub fn is_storable(code: &Image, object: &Object, field: FieldId) -> Result<bool, Off>
     ensures { Gives result (is_storable code.now field (object_of object.now)) (λ b. b) }
 {
     let own = contract_at(code, object.contract)?;

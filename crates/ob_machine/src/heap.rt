@@ -15,7 +15,7 @@ ghost use Rattle.ob_machine.specs.declared.run.Run.{Run};
 
 use crate::off::Off;
 use ob_base::{ContractId, Duplicate, FieldId, Memory, ObjectId, StateId};
-use ob_heap::{Content, Fields, MakeError, Object, Overlay, Value};
+use ob_heap::{Content, Edit, Fields, MakeError, Object, Overlay, Value};
 use std::alloc::Global;
 
 // The object of a number.
@@ -60,9 +60,7 @@ pub fn set_field(
     requires { id.0 < length (laid_over base.now.objects overlay.old) }
     ensures { OnOk result ((m : Run) → world_of m base.now.objects overlay.new ≡ edit_object (with_field field.0 (value_of value)) id.0 (world_of m base.now.objects overlay.old)) }
 {
-    let mut object = overlay.take(alloc, base, id)?;
-    object.fields.put(field, value)?;
-    overlay.set(base, id, object)
+    overlay.edit(alloc, base, id, Edit::Field(field, value))
 }
 
 // The object of a number gets a state, and these fields in place of its own.
@@ -77,10 +75,7 @@ pub fn set_state(
     requires { id.0 < length (laid_over base.now.objects overlay.old) }
     ensures { OnOk result ((m : Run) → world_of m base.now.objects overlay.new ≡ edit_object (with_state state (fields_of fields)) id.0 (world_of m base.now.objects overlay.old)) }
 {
-    let mut object = overlay.take(alloc, base, id)?;
-    object.state = Some(state);
-    object.fields = fields;
-    overlay.set(base, id, object)
+    overlay.edit(alloc, base, id, Edit::State(state, fields))
 }
 
 fn set_shared(
@@ -92,9 +87,7 @@ fn set_shared(
     requires { id.0 < length (laid_over base.now.objects overlay.old) }
     ensures { OnOk result ((m : Run) → world_of m base.now.objects overlay.new ≡ edit_object shared_now id.0 (world_of m base.now.objects overlay.old)) }
 {
-    let mut object = overlay.take(alloc, base, id)?;
-    object.shared = true;
-    overlay.set(base, id, object)
+    overlay.edit(alloc, base, id, Edit::Shared)
 }
 
 fn set_disowned(
@@ -106,9 +99,7 @@ fn set_disowned(
     requires { id.0 < length (laid_over base.now.objects overlay.old) }
     ensures { OnOk result ((m : Run) → world_of m base.now.objects overlay.new ≡ edit_object disowned_now id.0 (world_of m base.now.objects overlay.old)) }
 {
-    let mut object = overlay.take(alloc, base, id)?;
-    object.disowned = true;
-    overlay.set(base, id, object)
+    overlay.edit(alloc, base, id, Edit::Disowned)
 }
 
 fn is_shared(base: &Content, overlay: &Overlay, id: ObjectId) -> bool

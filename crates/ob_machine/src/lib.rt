@@ -21,6 +21,7 @@ mod slice;
 mod slots;
 mod step;
 mod straight;
+mod stretch;
 mod testing;
 mod units;
 mod waiting;

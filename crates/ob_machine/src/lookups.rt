@@ -1,11 +1,12 @@
 //! What stands in an image at a number.
-ghost use Rattle.std.specs.Prelude.{◌≡◌, ◌<◌, ◌+◌, ◌^◌, OnOk, position, slice_get, Some};
+ghost use Rattle.std.specs.Prelude.{◌≡◌, ◌<◌, ◌+◌, ◌^◌, ℕ, IfOk, OnOk, position, slice_get, Some};
 ghost use Rattle.ob_heap.specs.Plain.{object_of};
 ghost use Rattle.ob_code.specs.Code.{contract_code, body_code, is_transaction_named};
-ghost use Rattle.ob_machine_steps.specs.Images.{instruction_at, constructor_number};
+ghost use Rattle.ob_machine_steps.specs.Images.{instruction_of, instruction_at, constructor_number};
 ghost use Rattle.ob_machine_steps.specs.Images.{transaction_number, has_field_code, callee};
 ghost use Rattle.ob_machine.specs.Giving.{Gives};
 ghost use Rattle.ob_machine.specs.Images.{answered_by};
+ghost use Rattle.ob_machine.specs.Stretching.{IsBodyOf};
 
 use crate::off::Off;
 use ob_base::{ContractId, FieldId, Items, StateId, TxId};
@@ -63,6 +64,26 @@ pub fn fetch(
         Some(body) => instruction_in(&body.instructions, place),
         None => Err(Off::NoStep),
     }
+}
+
+// The instructions of a body that are run.
+fn code_in(own: &ContractCode, tx: TxId) -> Result<&Items<Instruction>, Off>
+    ensures { IfOk result (λ instructions. (place : ℕ) → instruction_of own.now tx place ≡ slice_get instructions.now place) }
+{
+    if is_interface(own) {
+        return Err(Off::NoStep);
+    }
+    match own.bodies.get(tx.0 as usize) {
+        Some(body) => Ok(&body.instructions),
+        None => Err(Off::NoStep),
+    }
+}
+
+// The instructions of the body of a number that are run; an interface's bodies have none.
+pub fn code_of(code: &Image, contract: ContractId, tx: TxId) -> Result<&Items<Instruction>, Off>
+    ensures { IfOk result (λ instructions. IsBodyOf code.now contract tx instructions.now) }
+{
+    code_in(contract_at(code, contract)?, tx)
 }
 
 // A number for a place; there are always fewer than 2^32 of what memory holds of them.

@@ -3,6 +3,8 @@ ghost use Rattle.std.specs.Prelude.{◌≡◌, option_map, IsSome, IfOk};
 ghost use Rattle.ob_machine_steps.specs.Runs.{takes_unit, IsSoundIn};
 ghost use Rattle.ob_machine.specs.Phases.{phase_of, HasBegun};
 ghost use Rattle.ob_machine.specs.Slicing.{Pays, Tries, StopsSo, ComesTo, stop_told};
+ghost use Rattle.ob_machine.specs.Stretching.{Turns};
+ghost use Rattle.ob_machine_steps.specs.Measures.{LeadsAhead};
 
 use crate::lookups::fetch;
 use crate::machine::Machine;
@@ -22,7 +24,7 @@ pub enum Turn {
     Made(Progress, u32),
 }
 
-fn takes_unit(instruction: &Instruction) -> bool
+pub fn takes_unit(instruction: &Instruction) -> bool
     ensures { result ≡ takes_unit instruction.now }
 {
     match instruction {
@@ -35,7 +37,7 @@ fn takes_unit(instruction: &Instruction) -> bool
 }
 
 // What a slice has left once it has paid, if it can.
-fn left_after(paid: bool, left: u32) -> Option<u32>
+pub fn left_after(paid: bool, left: u32) -> Option<u32>
     ensures { Pays result paid left }
 {
     if !paid {
@@ -92,7 +94,7 @@ impl Machine {
         }
     }
 
-    // A turn of a slice.
+    // A turn of a slice: the steps up to the next call, test or end, and then that one.
     fn turn(
         &mut self,
         code: &Image,
@@ -100,12 +102,15 @@ impl Machine {
         overlay: &mut Overlay,
         left: u32,
     ) -> Result<Turn, Off>
-        ensures { Tries result code.now left (phase_of self.old base.now.objects overlay.old) self.new base.now.objects overlay.new }
+        requires { LeadsAhead code.now }
+        ensures { Turns result code.now left (phase_of self.old base.now.objects overlay.old) self.new base.now.objects overlay.new }
     {
         if self.entry.is_some() {
-            self.first_turn(code, base, overlay, left)
-        } else {
-            self.later_turn(code, base, overlay, left)
+            return self.first_turn(code, base, overlay, left);
+        }
+        match self.run.stretch(code, base, overlay, left) {
+            Ok(rest) => self.later_turn(code, base, overlay, rest),
+            Err(off) => Err(off),
         }
     }
 

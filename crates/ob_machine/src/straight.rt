@@ -31,7 +31,12 @@ fn text_of(alloc: Global, constant: &CodeText) -> Result<RcStr, Off>
 }
 
 // What an operator gives of what two slots hold.
-fn operate(operator: Operator, slots: &Items<Option<Value>>, a: u8, b: u8) -> Result<Operated, Off>
+pub fn operate(
+    operator: Operator,
+    slots: &Items<Option<Value>>,
+    a: u8,
+    b: u8,
+) -> Result<Operated, Off>
     ensures { Gives result (operation operator (slots_of slots.now) a b) operated_of }
 {
     match operator {

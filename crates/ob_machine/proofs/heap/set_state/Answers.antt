@@ -1,17 +1,11 @@
-use Rattle.std.proofs.Common.{Some, refl}
-use Rattle.ob_heap.specs.Overlays.{laid_over}
+use Rattle.std.proofs.Common.{refl}
+use Rattle.ob_heap.specs.declared.edit.Edit.TheVariants.{State}
 use Rattle.ob_heap.specs.Plain.{fields_of}
 use Rattle.ob_machine.specs.Editing.{with_state}
-use Rattle.ob_machine.proofs.WorldLemmas.{still_within, edited_ok}
+use Rattle.ob_machine.proofs.WorldLemmas.{edited_ok}
 use Rattle.ob_machine.proofs.heap.set_state.Goals as goal
-
-pub set-requires : goal.set-requires
-set-requires c =
-    still_within c.args.id.0 (laid_over c.args.base.now.objects c.args.overlay.now) (laid_over c.args.base.now.objects c.take.new.self)
-    c.in_ok-object.object c.in_ok-object.ensures.objects c.requires
 
 pub returns : goal.returns
 returns c =
-    edited_ok (with_state c.args.state (fields_of c.args.fields)) c.set.result c.args.base.now.objects c.args.overlay.now c.take.new.self c.set.new.self
-    c.args.id.0 c.in_ok-object.object (record c.in_ok-object.object { state = Some c.args.state; fields = c.args.fields })
-    c.in_ok-object.ensures.object c.in_ok-object.ensures.objects c.in_ok-object.ensures.same c.set.ensures.objects c.set.ensures.same refl
+    edited_ok (with_state c.args.state (fields_of c.args.fields)) c.edit.result c.args.base.now.objects c.args.overlay.now c.edit.new.self c.args.id.0 (State c.args.state c.args.fields) c.requires
+    c.edit.ensures.objects c.edit.ensures.same (λ x. refl)

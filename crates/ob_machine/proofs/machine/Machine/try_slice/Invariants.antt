@@ -1,10 +1,10 @@
 use Rattle.ob_machine_steps.specs.Measures.{steps_left}
 use Rattle.ob_machine.specs.Phases.{phase_of}
-use Rattle.ob_machine.proofs.SliceLemmas.{At}
+use Rattle.ob_machine.specs.Stretching.{LeadsOn}
 use Rattle.ob_machine.proofs.machine.Machine.try_slice.Given as goal
 
 abbrev pub invariant-steps : goal.invariant-steps
-invariant-steps l = At l.image l.fn.units l.left (phase_of l.fn.self l.base.objects l.fn.overlay) (phase_of l.self l.base.objects l.overlay)
+invariant-steps l = LeadsOn l.image l.fn.units (phase_of l.fn.self l.base.objects l.fn.overlay) l.left (phase_of l.self l.base.objects l.overlay)
 
 abbrev pub decreases-steps : goal.decreases-steps
 decreases-steps l = steps_left l.image (phase_of l.self l.base.objects l.overlay)

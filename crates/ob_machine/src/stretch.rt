@@ -1,0 +1,219 @@
+//! A stretch of a run: steps inside one body that neither call nor test nor end. Its instructions are looked up once.
+ghost use Rattle.std.specs.Prelude.{◌≡◌, ◌+◌, List, Some, Ok};
+ghost use Rattle.ob_heap.specs.Overlays.{Changes};
+ghost use Rattle.ob_heap.specs.Plain.{value_of};
+ghost use Rattle.ob_heap.specs.declared.object.Object.{Object};
+ghost use Rattle.ob_machine_steps.specs.Changing.{store_step};
+ghost use Rattle.ob_machine_steps.specs.Measures.{LeadsAhead};
+ghost use Rattle.ob_machine_steps.specs.Parts.{sets, goes_to};
+ghost use Rattle.ob_machine_steps.specs.Steps.{act};
+ghost use Rattle.ob_machine_steps.specs.Straight.{unit_step, copy_step, load_step, op_step, unless_step};
+ghost use Rattle.ob_machine.specs.Shown.{shown};
+ghost use Rattle.ob_machine.specs.Stretching.{IsBodyOf, Acts, Strides, Stretches};
+
+use crate::changing::is_storable;
+use crate::heap::{field_value, find, set_field};
+use crate::lookups::code_of;
+use crate::off::Off;
+use crate::operations::Operated;
+use crate::run::Run;
+use crate::slice::{left_after, takes_unit};
+use crate::slots::{copy_of, put, truth};
+use crate::straight::operate;
+use ob_base::{FieldId, Items, Operator};
+use ob_code::{Image, Instruction};
+use ob_heap::{Content, Overlay, Value};
+
+impl Run {
+    fn puts(&mut self, slot: u8, value: Value, next: usize) -> Result<bool, Off>
+        requires { next ≡ self.old.top.at + 1 }
+        ensures { (base : List Object) (o : Changes) → Acts result (sets slot (value_of value) (shown self.old base o)) (shown self.old base o) (shown self.new base o) }
+    {
+        put(&mut self.top.slots, slot, value)?;
+        self.top.at = next;
+        Ok(true)
+    }
+
+    // Where no unit is left, nothing is done: the run aborts then.
+    fn pays(&mut self, next: usize) -> bool
+        requires { next ≡ self.old.top.at + 1 }
+        ensures { (base : List Object) (o : Changes) → Acts (Ok result) (unit_step (shown self.old base o)) (shown self.old base o) (shown self.new base o) }
+    {
+        if !self.units.take() {
+            return false;
+        }
+        self.top.at = next;
+        true
+    }
+
+    fn copies(&mut self, slot: u8, a: u8, next: usize) -> Result<bool, Off>
+        requires { next ≡ self.old.top.at + 1 }
+        ensures { (base : List Object) (o : Changes) → Acts result (copy_step slot a (shown self.old base o)) (shown self.old base o) (shown self.new base o) }
+    {
+        let value = copy_of(self.alloc, &self.top.slots, a)?;
+        self.puts(slot, value, next)
+    }
+
+    fn loads(
+        &mut self,
+        base: &Content,
+        overlay: &Overlay,
+        slot: u8,
+        field: FieldId,
+        next: usize,
+    ) -> Result<bool, Off>
+        requires { next ≡ self.old.top.at + 1 }
+        ensures { Acts result (load_step slot field (shown self.old base.now.objects overlay.now)) (shown self.old base.now.objects overlay.now) (shown self.new base.now.objects overlay.now) }
+    {
+        let value = field_value(self.alloc, find(base, overlay, self.top.this)?, field)?;
+        self.puts(slot, value, next)
+    }
+
+    fn stores(
+        &mut self,
+        code: &Image,
+        base: &Content,
+        overlay: &mut Overlay,
+        field: FieldId,
+        a: u8,
+        next: usize,
+    ) -> Result<bool, Off>
+        requires { next ≡ self.old.top.at + 1 }
+        ensures { Acts result (store_step code.now field a (shown self.old base.now.objects overlay.old)) (shown self.old base.now.objects overlay.old) (shown self.new base.now.objects overlay.new) }
+    {
+        let value = copy_of(self.alloc, &self.top.slots, a)?;
+        if !is_storable(code, find(base, overlay, self.top.this)?, field)? {
+            return Err(Off::NoStep);
+        }
+        set_field(self.alloc, base, overlay, self.top.this, field, value)?;
+        self.top.at = next;
+        Ok(true)
+    }
+
+    // Where the result is no `int`, nothing is done: the run aborts then.
+    fn operates(
+        &mut self,
+        slot: u8,
+        operator: Operator,
+        a: u8,
+        b: u8,
+        line: u32,
+        next: usize,
+    ) -> Result<bool, Off>
+        requires { next ≡ self.old.top.at + 1 }
+        ensures { (base : List Object) (o : Changes) → Acts result (op_step slot operator a b line (shown self.old base o)) (shown self.old base o) (shown self.new base o) }
+    {
+        match operate(operator, &self.top.slots, a, b)? {
+            Operated::Value(value) => self.puts(slot, value, next),
+            Operated::Overflows => Ok(false),
+            Operated::OtherKinds => Err(Off::NoStep),
+        }
+    }
+
+    fn jumps(&mut self, place: usize) -> bool
+        ensures { (base : List Object) (o : Changes) → Acts (Ok result) (goes_to place (shown self.old base o)) (shown self.old base o) (shown self.new base o) }
+    {
+        self.top.at = place;
+        true
+    }
+
+    fn jumps_unless(&mut self, a: u8, target: usize, next: usize) -> Result<bool, Off>
+        requires { next ≡ self.old.top.at + 1 }
+        ensures { (base : List Object) (o : Changes) → Acts result (unless_step a target (shown self.old base o)) (shown self.old base o) (shown self.new base o) }
+    {
+        let place = if truth(&self.top.slots, a)? {
+            next
+        } else {
+            target
+        };
+        Ok(self.jumps(place))
+    }
+
+    // Makes a step inside the body, if the instruction has one.
+    fn acts(
+        &mut self,
+        code: &Image,
+        base: &Content,
+        overlay: &mut Overlay,
+        instruction: &Instruction,
+        next: usize,
+    ) -> Result<bool, Off>
+        requires { next ≡ self.old.top.at + 1 }
+        ensures { Acts result (act code.now instruction.now (shown self.old base.now.objects overlay.old)) (shown self.old base.now.objects overlay.old) (shown self.new base.now.objects overlay.new) }
+    {
+        match instruction {
+            Instruction::Unit => Ok(self.pays(next)),
+            Instruction::Int { slot, value } => self.puts(*slot, Value::Int(*value), next),
+            Instruction::Bool { slot, value } => self.puts(*slot, Value::Bool(*value == 1), next),
+            Instruction::Copy { slot, a } => self.copies(*slot, *a, next),
+            Instruction::Load { slot, field } => self.loads(base, overlay, *slot, *field, next),
+            Instruction::Store { field, a } => self.stores(code, base, overlay, *field, *a, next),
+            Instruction::Op {
+                slot,
+                operator,
+                a,
+                b,
+                line,
+            } => self.operates(*slot, *operator, *a, *b, *line, next),
+            Instruction::Jump { target } => Ok(self.jumps(*target as usize)),
+            Instruction::Unless { a, target } => self.jumps_unless(*a, *target as usize, next),
+            _ => Ok(false),
+        }
+    }
+
+    // The same, with the instruction at its place and the units of a slice.
+    fn stride(
+        &mut self,
+        code: &Image,
+        instructions: &Items<Instruction>,
+        base: &Content,
+        overlay: &mut Overlay,
+        left: u32,
+    ) -> Result<Option<u32>, Off>
+        requires { IsBodyOf code.now self.old.top.contract self.old.top.tx instructions.now }
+        ensures { Strides result code.now left (shown self.old base.now.objects overlay.old) (shown self.new base.now.objects overlay.new) }
+    {
+        let _length = instructions.len();
+        match instructions.get(self.top.at) {
+            None => Ok(None),
+            Some(instruction) => {
+                let next = self.top.at + 1;
+                let paid = takes_unit(instruction) && self.units.has_unit();
+                match left_after(paid, left) {
+                    None => Ok(None),
+                    Some(rest) => {
+                        match self.acts(code, base, overlay, instruction, next)? {
+                            true => Ok(Some(rest)),
+                            false => Ok(None),
+                        }
+                    }
+                }
+            }
+        }
+    }
+
+    // Makes steps as long as they are inside the body and the slice has the units for them. The answer is what it has left.
+    pub fn stretch(
+        &mut self,
+        code: &Image,
+        base: &Content,
+        overlay: &mut Overlay,
+        units: u32,
+    ) -> Result<u32, Off>
+        requires { LeadsAhead code.now }
+        ensures { Stretches result code.now units (shown self.old base.now.objects overlay.old) (shown self.new base.now.objects overlay.new) }
+    {
+        let instructions = match code_of(code, self.top.contract, self.top.tx) {
+            Ok(instructions) => instructions,
+            Err(_) => return Ok(units),
+        };
+        let mut left = units;
+        'strides: loop {
+            match self.stride(code, instructions, base, overlay, left) {
+                Ok(Some(rest)) => left = rest,
+                Ok(None) => return Ok(left),
+                Err(off) => return Err(off),
+            }
+        }
+    }
+}
