@@ -4,9 +4,10 @@ ghost use Rattle.ob_verify_spec.specs.Kinds.{kind_of_param};
 ghost use Rattle.ob_verify_spec.specs.Conditions.{same_kinds, same_result, answers_for, has_answer};
 ghost use Rattle.ob_verify.specs.Named.{HavePlaces};
 
-use crate::kinds::{is_private, kind_of_param, kind_of_result, same_kind};
+use crate::kinds::{kind_of_param, kind_of_result, same_kind};
 use crate::transactions::Places;
 use ob_code::{BodyCode, ContractCode, ParamCode};
+use ob_code_lookups::is_private;
 use ob_table::Kind;
 
 #[tactic(auto, using(crate::proofs::ListLoops::params))]

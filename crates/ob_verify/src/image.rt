@@ -5,11 +5,11 @@ ghost use Rattle.ob_verify_spec.specs.Passing.{checked_fault, first_fault_of};
 ghost use Rattle.ob_verify.specs.Bodies.{frames_in};
 
 use crate::frame::CodeFrame;
-use crate::kinds::is_interface;
 use crate::pass::{FaultAt, first_fault};
 use crate::survey::Surveyed;
 use ob_base::{ContractId, Memory};
 use ob_code::{ContractCode, Image};
+use ob_code_lookups::is_interface;
 use std::alloc::Global;
 
 // The first fault of a body; an interface's body has none.

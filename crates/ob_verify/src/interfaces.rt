@@ -3,10 +3,11 @@ ghost use Rattle.std.specs.Prelude.{◌≡◌};
 ghost use Rattle.ob_verify_spec.specs.Kinds.{is_plain_interface, interface_at, interface_declared, interface_of};
 ghost use Rattle.ob_verify_spec.specs.Kinds.{one_kind, common, both_hold};
 
-use crate::kinds::{is_interface, same_kind};
+use crate::kinds::same_kind;
 use crate::survey::Surveyed;
 use ob_base::ContractId;
 use ob_code::ContractCode;
+use ob_code_lookups::is_interface;
 use ob_table::Kind;
 
 // Whether a contract is an interface that implements none.

@@ -1,6 +1,5 @@
-//! The kinds of values in code, and the marks of contracts and bodies.
-ghost use Rattle.std.specs.Prelude.{◌≡◌, ◌<◌, option_map};
-ghost use Rattle.ob_code.specs.Code.{is_marked, is_interface, is_private, is_constructor};
+//! The kinds of values in code.
+ghost use Rattle.std.specs.Prelude.{◌≡◌, option_map};
 ghost use Rattle.ob_verify_spec.specs.Kinds.{kind_of_type, kind_of_param, same_kind};
 ghost use Rattle.ob_verify_spec.specs.Kinds.{implements_number, is_reference};
 ghost use Rattle.ob_verify_spec.specs.Frames.{kind_of_result};
@@ -61,35 +60,6 @@ pub fn is_reference(kind: Kind) -> bool
     ensures { result ≡ is_reference kind }
 {
     matches!(kind, Kind::Reference(_))
-}
-
-// Whether a bit is among marks.
-fn is_marked(bit: u8, flags: u8) -> bool
-    requires { bit < 8 }
-    ensures { result ≡ is_marked bit flags }
-{
-    (flags >> bit) & 1 == 1
-}
-
-/// Whether it is an interface.
-pub fn is_interface(contract: &ContractCode) -> bool
-    ensures { result ≡ is_interface contract.now }
-{
-    is_marked(2, contract.flags)
-}
-
-/// Whether a transaction is called on `this` alone.
-pub fn is_private(body: &BodyCode) -> bool
-    ensures { result ≡ is_private body.now }
-{
-    is_marked(0, body.flags)
-}
-
-/// Whether a body is a constructor's.
-pub fn is_constructor(body: &BodyCode) -> bool
-    ensures { result ≡ is_constructor body.now }
-{
-    is_marked(1, body.flags)
 }
 
 /// Whether a contract implements the interface of a number.

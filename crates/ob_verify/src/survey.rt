@@ -12,10 +12,10 @@ ghost use Rattle.ob_verify.specs.Named.{HavePlaces};
 ghost use Rattle.ob_verify.specs.Surveys.{all_answers_by, with_answers, is_asked, with_answers_from, constructor_places};
 
 use crate::answers::has_answer;
-use crate::kinds::{is_constructor, is_interface};
 use crate::transactions::{Places, places_of};
 use ob_base::{ContractId, Items, Memory, TxId};
 use ob_code::{BodyCode, ContractCode, Image};
+use ob_code_lookups::{body_code, constructor_place, contract_code, is_interface};
 use std::alloc::Global;
 use std::marker::Model;
 
@@ -148,12 +148,6 @@ fn all_answers(alloc: Global, contracts: &[ContractCode]) -> Result<Vec<Items<bo
     Ok(rows)
 }
 
-fn constructor_place(bodies: &[BodyCode]) -> Option<usize>
-    ensures { result ≡ position is_constructor bodies.now }
-{
-    bodies.iter().position(|body| is_constructor(body))
-}
-
 // Where each contract has its constructor.
 #[tactic(auto, using(crate::proofs::SurveyLoops::mapped))]
 fn constructor_places(
@@ -207,17 +201,14 @@ impl<'a> Surveyed<'a> {
     pub fn contract(&self, contract: ContractId) -> Option<&ContractCode>
         ensures { option_copied result ≡ contract_code self.now contract }
     {
-        self.image.contracts.get(contract.0 as usize)
+        contract_code(self.image, contract)
     }
 
     /// The constructor or transaction of a contract, by its number there.
     pub fn body(&self, contract: ContractId, tx: TxId) -> Option<&BodyCode>
         ensures { option_copied result ≡ body_code self.now contract tx }
     {
-        match self.contract(contract) {
-            Some(own) => own.bodies.get(tx.0 as usize),
-            None => None,
-        }
+        body_code(self.image, contract, tx)
     }
 
     /// The constructor of a contract, in a time that doesn't grow with the number of its bodies.

@@ -2,10 +2,10 @@
 ghost use Rattle.std.specs.Prelude.{◌≡◌, [], ◌∷◌, ◌++◌, None, OnOk, IfOk};
 ghost use Rattle.ob_verify.specs.Named.{place_in, added, plain, with_body, HavePlaces};
 
-use crate::kinds::is_constructor;
 use indexmap::IndexMap;
 use ob_base::Memory;
 use ob_code::BodyCode;
+use ob_code_lookups::is_constructor;
 use std::alloc::Global;
 use std::marker::Model;
 
