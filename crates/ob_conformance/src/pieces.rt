@@ -78,16 +78,17 @@ fn put_hex(digits: &str, into: &mut Bytes) {
     }
 }
 
-// `times` and a part: the part so many times. Each `#` in it is the number of the time, from 0.
+// `times` and a part: the part so many times; with `lines`, each time with a newline. Each `#` in it is the number of the time, from 0.
 fn put_times(alloc: Global, count: &str, times: &str, into: &mut Bytes) {
-    match (number_of(count), times.strip_prefix("times ")) {
-        (Ok(count), Some(part)) => put_part(alloc, count, part, into),
+    match (number_of(count), times.split_once(' ')) {
+        (Ok(count), Some(("times", part))) => put_part(alloc, count, part, b"", into),
+        (Ok(count), Some(("lines", part))) => put_part(alloc, count, part, b"\n", into),
         (Err(trouble), _) => into.fail(trouble),
-        (_, None) => into.fail(Trouble::Line("an unknown piece")),
+        _ => into.fail(Trouble::Line("an unknown piece")),
     }
 }
 
-fn put_part(alloc: Global, count: u64, part: &str, into: &mut Bytes) {
+fn put_part(alloc: Global, count: u64, part: &str, end: &[u8], into: &mut Bytes) {
     let is_numbered = part.contains('#');
     for number in 0..count {
         if is_numbered {
@@ -95,6 +96,7 @@ fn put_part(alloc: Global, count: u64, part: &str, into: &mut Bytes) {
         } else {
             into.put(part.as_bytes());
         }
+        into.put(end);
     }
 }
 
