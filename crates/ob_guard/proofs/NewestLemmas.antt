@@ -107,3 +107,50 @@ reverse_pop n keys left (Some k) e found there =
 -- a new key goes last
 pub reverse_insert : (n : ℕ) (keys : List ℕ) → is_among n (reverse keys) ≡ false → reverse (insert_key nat_eq keys n) ≡ n ∷ reverse keys
 reverse_insert n keys h = ap (λ b. reverse (if b then keys else keys ++ n ∷ [])) (sym (among_reverse n keys) ∙ h) ∙ reverse_push n keys
+
+-- Numbers before others.
+
+pub among_both : (n : ℕ) (ks fs : List ℕ) → is_among n (ks ++ fs) ≡ (is_among n ks || is_among n fs)
+among_both n ks fs = list_any-append (nat_eq n) ks fs
+
+pub without_there : (n : ℕ) (ks fs : List ℕ) → is_among n ks ≡ true → without_first n (ks ++ fs) ≡ without_first n ks ++ fs
+without_there n [] fs h = absurd (true≢false (sym h))
+without_there n (k ∷ ks) fs h = by (nat_eq n k) h (without_there n ks fs)
+  where
+    by : (b : Bool) → (b || is_among n ks) ≡ true → (is_among n ks ≡ true → without_first n (ks ++ fs) ≡ without_first n ks ++ fs)
+        → cond b (ks ++ fs) (k ∷ without_first n (ks ++ fs)) ≡ cond b ks (k ∷ without_first n ks) ++ fs
+    by true e rest = refl
+    by false e rest = ap (λ r. k ∷ r) (rest e)
+
+pub without_absent : (n : ℕ) (ks fs : List ℕ) → is_among n ks ≡ false → without_first n (ks ++ fs) ≡ ks ++ without_first n fs
+without_absent n [] fs h = refl
+without_absent n (k ∷ ks) fs h = by (nat_eq n k) h (without_absent n ks fs)
+  where
+    by : (b : Bool) → (b || is_among n ks) ≡ false → (is_among n ks ≡ false → without_first n (ks ++ fs) ≡ ks ++ without_first n fs)
+        → cond b (ks ++ fs) (k ∷ without_first n (ks ++ fs)) ≡ k ∷ (ks ++ without_first n fs)
+    by true e rest = absurd (true≢false e)
+    by false e rest = ap (λ r. k ∷ r) (rest e)
+
+-- the oldest goes, or isn't the one
+pub without_oldest : (n : ℕ) (o : Option ℕ) → is_among n (option_to_list o) ≡ true → without_first n (option_to_list o) ≡ []
+without_oldest n None h = absurd (true≢false (sym h))
+without_oldest n (Some m) h = by (nat_eq n m) h
+  where
+    by : (b : Bool) → (b || false) ≡ true → cond b [] (m ∷ []) ≡ []
+    by true e = refl
+    by false e = absurd (true≢false (sym e))
+
+pub without_other : (n : ℕ) (o : Option ℕ) → is_among n (option_to_list o) ≡ false → without_first n (option_to_list o) ≡ option_to_list o
+without_other n None h = refl
+without_other n (Some m) h = by (nat_eq n m) h
+  where
+    by : (b : Bool) → (b || false) ≡ false → cond b [] (m ∷ []) ≡ m ∷ []
+    by true e = absurd (true≢false e)
+    by false e = refl
+
+pub not_in_both : (n : ℕ) (ks fs : List ℕ) → is_among n (ks ++ fs) ≡ false → is_among n ks ≡ false
+not_in_both n ks fs h = by (is_among n ks) (sym (among_both n ks fs) ∙ h)
+  where
+    by : (b : Bool) → (b || is_among n fs) ≡ false → b ≡ false
+    by true e = absurd (true≢false e)
+    by false e = refl

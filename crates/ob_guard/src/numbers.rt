@@ -1,5 +1,6 @@
 //! Numbers that are there at most once each, of which the newest goes first in practice.
 ghost use Rattle.std.specs.Prelude.{◌≡◌, [], ◌∷◌, false, reverse, OnOk, OnErr};
+ghost use Rattle.std.specs.Option.{option_to_list};
 ghost use Rattle.ob_heap_spec.specs.Marks.{is_among, without_first};
 
 use indexmap::IndexSet;
@@ -7,23 +8,38 @@ use ob_base::Memory;
 use std::alloc::Global;
 use std::marker::Model;
 
-/// Numbers that are there at most once each. Contracts see them as a list, the newest first.
+/// Numbers that are there at most once each. Contracts see them as a list, the newest first. The oldest mostly stands alone, so it
+/// has a place of its own, which takes no memory.
 #[derive(Drop)]
 pub struct Numbers {
+    oldest: Option<u32>,
     set: IndexSet<u32>,
 }
 
 impl Model for Numbers {
-    ghost use Rattle.std.specs.Prelude.{ℕ, List, reverse};
+    ghost use Rattle.std.specs.Prelude.{ℕ, List, reverse, ◌++◌};
+    ghost use Rattle.std.specs.Option.{option_to_list};
 
     ghost Value = { List ℕ };
 
-    ghost view = { λ n. reverse n.set.keys };
+    ghost view = { λ n. reverse n.set.keys ++ option_to_list n.oldest };
+}
+
+fn is_oldest(oldest: Option<u32>, number: u32) -> bool
+    ensures { result ≡ is_among number (option_to_list oldest) }
+{
+    match oldest {
+        Some(other) => number == other,
+        None => false,
+    }
 }
 
 fn is_in(set: &IndexSet<u32>, number: u32) -> bool
     ensures { result ≡ is_among number (reverse set.now.keys) }
 {
+    if set.is_empty() {
+        return false;
+    }
     set.contains(&number)
 }
 
@@ -56,15 +72,17 @@ impl Numbers {
         ensures { result ≡ [] }
     {
         Numbers {
+            oldest: None,
             set: IndexSet::new(alloc),
         }
     }
 
     /// Whether the number is there.
+    #[tactic(auto, using(crate::proofs::NewestLemmas::among_both))]
     pub fn has(&self, number: u32) -> bool
         ensures { result ≡ is_among number self.now }
     {
-        is_in(&self.set, number)
+        is_in(&self.set, number) || is_oldest(self.oldest, number)
     }
 
     /// Adds a number that isn't there.
@@ -73,6 +91,10 @@ impl Numbers {
         ensures ok { OnOk result (self.new ≡ number ∷ self.old) }
         ensures err { OnErr result (self.new ≡ self.old) }
     {
+        if self.oldest.is_none() && self.set.is_empty() {
+            self.oldest = Some(number);
+            return Ok(());
+        }
         put_last(&mut self.set, number)
     }
 
@@ -80,6 +102,10 @@ impl Numbers {
     pub fn remove(&mut self, number: u32)
         ensures { self.new ≡ without_first number self.old }
     {
-        take_out(&mut self.set, number);
+        if is_in(&self.set, number) {
+            take_out(&mut self.set, number);
+        } else if is_oldest(self.oldest, number) {
+            self.oldest = None;
+        }
     }
 }

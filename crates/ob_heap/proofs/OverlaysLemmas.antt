@@ -5,7 +5,7 @@ use Rattle.std.specs.List.{list_any}
 use lib.Dec.{T, eqb}
 use Rattle.std.specs.Option.{unwrap_or, option_map, option_eq}
 use Rattle.std.specs.Map.{lookup}
-use Rattle.std.specs.Result.{OnOk, IfOk}
+use Rattle.std.specs.Result.{OnOk}
 use Rattle.std.specs.Prelude.{Result, Ok, Err}
 use Rattle.std.specs.Ordering.{nat_cmp, is_eq}
 use Rattle.std.specs.declared.cmp.Ordering.TheVariants.{Less, Equal, Greater}

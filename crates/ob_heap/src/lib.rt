@@ -10,6 +10,7 @@ mod fields;
 mod laws;
 mod object;
 mod overlay;
+mod reads;
 mod same;
 mod sequence;
 mod value;

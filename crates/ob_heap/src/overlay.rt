@@ -6,15 +6,15 @@ ghost use Rattle.ob_heap.specs.declared.object.Object.{Object};
 ghost use Rattle.ob_heap.specs.Ascending.{IsAscending};
 ghost use Rattle.ob_heap.specs.Differences.{differing, numbered_from, with_objects};
 ghost use Rattle.ob_heap.specs.Edits.{IsEdited};
-ghost use Rattle.ob_heap.specs.Overlays.{no_changes, laid_over, noted, with_number, IsSameBeside};
+ghost use Rattle.ob_heap.specs.Overlays.{no_changes, laid_over, noted, IsSameBeside};
 
 use crate::changed::Changed;
 use crate::content::Content;
 use crate::delta::Delta;
 use crate::edit::{Edit, change};
 use crate::object::Object;
+use crate::reads::Reads;
 use crate::sequence::Sequence;
-use indexmap::IndexSet;
 use ob_base::{Duplicate, MOST_OBJECTS, Memory, ObjectId};
 use sqlite_items::at;
 use std::alloc::{AllocFailed, Global};
@@ -48,7 +48,7 @@ impl From<AllocFailed<Object>> for MakeError {
 pub struct Overlay {
     changed: Changed,
     made: Vec<Object>,
-    reads: IndexSet<u32>,
+    reads: Reads,
     next: bool,
 }
 
@@ -57,7 +57,7 @@ impl Model for Overlay {
 
     ghost Value = { Changes };
 
-    ghost view = { λ o. record { changed = o.changed; made = o.made.items; reads = o.reads.keys; next = o.next } };
+    ghost view = { λ o. record { changed = o.changed; made = o.made.items; reads = o.reads; next = o.next } };
 }
 
 fn edit_made(made: &mut Vec<Object>, place: usize, edit: Edit) -> Result<(), Memory>
@@ -84,19 +84,6 @@ fn add_made(
     Ok(())
 }
 
-fn add_number(reads: &mut IndexSet<u32>, id: u32) -> Result<(), Memory>
-    ensures { OnOk result (reads.new.keys ≡ with_number id reads.old.keys) }
-{
-    // The object that was read last is read again most often.
-    if reads.last().copied() == Some(id) {
-        return Ok(());
-    }
-    match reads.insert(id) {
-        Ok(_) => Ok(()),
-        Err(_) => Err(Memory),
-    }
-}
-
 impl Overlay {
     /// Nothing is changed, made or read.
     pub fn new(alloc: Global) -> Overlay
@@ -105,7 +92,7 @@ impl Overlay {
         Overlay {
             changed: Changed::new(alloc),
             made: Vec::new(alloc),
-            reads: IndexSet::new(alloc),
+            reads: Reads::new(alloc),
             next: false,
         }
     }
@@ -132,7 +119,7 @@ impl Overlay {
         ensures { OnOk result (self.new ≡ noted (length base.now.objects) id.0 self.old) }
     {
         if (id.0 as usize) < base.objects().len() {
-            add_number(&mut self.reads, id.0)?;
+            self.reads.add(id.0)?;
         }
         Ok(())
     }
@@ -209,10 +196,10 @@ impl Overlay {
     }
 
     /// The numbers of the objects that the run has read, each once.
-    pub fn reads(&self) -> &[u32]
-        ensures { result.now ≡ self.now.reads }
+    pub fn reads(&self, alloc: Global) -> Result<Vec<u32>, Memory>
+        ensures { IfOk result (λ reads. reads.items ≡ self.now.reads) }
     {
-        self.reads.as_slice()
+        self.reads.list(alloc)
     }
 
     /// Whether the run has read which number is the next.

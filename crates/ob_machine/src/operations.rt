@@ -46,6 +46,7 @@ fn remainder(x: i64, y: i64) -> Operated
     Operated::Value(Value::Int(x % y))
 }
 
+#[inline(always)]
 fn of_ints(operator: Operator, x: i64, y: i64) -> Operated
     ensures { operated_of result ≡ of_two operator (int_value x) (int_value y) }
 {
@@ -97,6 +98,7 @@ fn of_texts(operator: Operator, x: &str, y: &str) -> Operated
 }
 
 /// What an operator of two operands gives of them.
+#[inline(always)]
 pub fn of_two(operator: Operator, x: &Value, y: &Value) -> Operated
     ensures { operated_of result ≡ of_two operator (value_of x.now) (value_of y.now) }
 {

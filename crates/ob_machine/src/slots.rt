@@ -22,6 +22,7 @@ pub fn value(slots: &Items<Option<Value>>, slot: u8) -> Result<&Value, Off>
 }
 
 // Sets a slot.
+#[inline(always)]
 #[tactic(auto, using(crate::proofs::SlotsLemmas::slot_lemmas))]
 pub fn put(slots: &mut Items<Option<Value>>, slot: u8, value: Value) -> Result<(), Off>
     ensures { Gives result (with_value_at (slots_of slots.old) slot (value_of value)) (λ _. slots_of slots.new) }
@@ -35,6 +36,7 @@ pub fn put(slots: &mut Items<Option<Value>>, slot: u8, value: Value) -> Result<(
 }
 
 // A copy of the value of a slot.
+#[inline(always)]
 pub fn copy_of(alloc: Global, slots: &Items<Option<Value>>, slot: u8) -> Result<Value, Off>
     ensures { Gives result (value_at (slots_of slots.now) slot) value_of }
 {

@@ -31,6 +31,7 @@ fn text_of(alloc: Global, constant: &CodeText) -> Result<RcStr, Off>
 }
 
 // What an operator gives of what two slots hold.
+#[inline(always)]
 pub fn operate(
     operator: Operator,
     slots: &Items<Option<Value>>,

@@ -25,6 +25,7 @@ use ob_code::{Image, Instruction};
 use ob_heap::{Content, Overlay, Value};
 
 impl Run {
+    #[inline(always)]
     fn puts(&mut self, slot: u8, value: Value, next: usize) -> Result<bool, Off>
         requires { next ≡ self.old.top.at + 1 }
         ensures { (base : List Object) (o : Changes) → Acts result (sets slot (value_of value) (shown self.old base o)) (shown self.old base o) (shown self.new base o) }
@@ -46,6 +47,7 @@ impl Run {
         true
     }
 
+    #[inline(always)]
     fn copies(&mut self, slot: u8, a: u8, next: usize) -> Result<bool, Off>
         requires { next ≡ self.old.top.at + 1 }
         ensures { (base : List Object) (o : Changes) → Acts result (copy_step slot a (shown self.old base o)) (shown self.old base o) (shown self.new base o) }
@@ -54,6 +56,7 @@ impl Run {
         self.puts(slot, value, next)
     }
 
+    #[inline(always)]
     fn loads(
         &mut self,
         base: &Content,
@@ -69,6 +72,7 @@ impl Run {
         self.puts(slot, value, next)
     }
 
+    #[inline(always)]
     fn stores(
         &mut self,
         code: &Image,
@@ -91,6 +95,7 @@ impl Run {
     }
 
     // Where the result is no `int`, nothing is done: the run aborts then.
+    #[inline(always)]
     fn operates(
         &mut self,
         slot: u8,
@@ -130,6 +135,7 @@ impl Run {
     }
 
     // Makes a step inside the body, if the instruction has one.
+    #[inline(always)]
     fn acts(
         &mut self,
         code: &Image,
@@ -162,6 +168,7 @@ impl Run {
     }
 
     // The same, with the instruction at its place and the units of a slice.
+    #[inline(always)]
     fn stride(
         &mut self,
         code: &Image,

@@ -164,7 +164,7 @@ fn put_progress(progress: &Option<Progress>, lines: &mut Lines) {
 
 // Puts what a run read: objects in the order of their numbers, and whether the next number.
 fn put_reads(alloc: Global, overlay: &Overlay, lines: &mut Lines) -> Result<(), Trouble> {
-    let mut reads = Vec::from_slice(alloc, overlay.reads())?;
+    let mut reads = overlay.reads(alloc)?;
     reads.sort()?;
     if !reads.is_empty() || overlay.has_read_next() {
         lines.put("; reads");

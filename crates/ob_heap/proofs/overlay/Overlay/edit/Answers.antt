@@ -1,4 +1,4 @@
-use Rattle.std.proofs.Common.{◌≡◌, ◌<◌, ◌≤◌, ◌-◌, length, ap, sym, subst, ◌∙◌, ◌++◌}
+use Rattle.std.proofs.Common.{◌<◌, ◌≤◌, ◌-◌, length, subst, ◌++◌}
 use Rattle.std.specs.Result.{OnOk}
 use Rattle.ob_heap.specs.Edits.{IsEdited}
 use Rattle.ob_heap.specs.Overlays.{Changes, laid_over, laid_from, IsEditedOver}
