@@ -1,13 +1,13 @@
 -- The code of terms as it is made: what there is so far is handed on, and the targets of jumps ahead are written back.
-use Rattle.std.specs.Prelude.{ℕ, Bool, true, false, not, List, [], ◌∷◌, ◌++◌, length, slice_set, if◌then◌else◌}
+use Rattle.std.specs.Prelude.{ℕ, Bool, true, false, not, List, [], ◌∷◌, ◌++◌, length, slice_set, if◌then◌else◌, None}
 use Rattle.ob_base.specs.declared.id.StateId.{StateId}
-use Rattle.ob_silica.specs.Terms.{SilicaForm, test_form, if_form, SilicaTerms, no_terms, and_term}
+use Rattle.ob_silica.specs.Terms.{SilicaForm, new_form, call_form, call_this_form, test_form, if_form, return_form, revert_form, SilicaTerms, no_terms, and_term}
 use Rattle.ob_silica.specs.declared.place.Operand.{Operand}
 use Rattle.ob_silica_formed.specs.Holdings.{kind_of_operand, terms_end}
 use Rattle.ob_code.specs.declared.instruction.Instruction.{Instruction}
 use Rattle.ob_code.specs.declared.instruction.Instruction.TheVariants as instruction
 use Rattle.ob_emit_spec.specs.Operands.{slot_read, loads}
-use Rattle.ob_emit_spec.specs.Emission.{EmissionFrame, contract_referred, jump_if, form_code}
+use Rattle.ob_emit_spec.specs.Emission.{EmissionFrame, contract_referred, jump_if, new_code, call_code, call_this_code, form_code}
 use Rattle.ob_emit.specs.Kinds.{Kinds, holding, kinds_after_form}
 use Rattle.ob_emit.specs.declared.code.Choice.{Choice}
 use Rattle.ob_emit.specs.declared.code.Choice.TheVariants as choice
@@ -19,6 +19,25 @@ disown_code scratch o = loads scratch 0 (o ∷ []) ++ instruction.Disown (slot_r
 -- a run is undone, with the text of a place
 abbrev pub revert_code : ℕ → Operand → List Instruction
 revert_code scratch o = loads scratch 0 (o ∷ []) ++ instruction.Revert (slot_read scratch 0 o.place) ∷ []
+
+-- the code of a form that enters a body; of each other form, none
+abbrev pub entering_code : EmissionFrame → SilicaForm → List Instruction
+entering_code f (new_form k contract args) = new_code f k contract args
+entering_code f (call_form k receiver contract tx args) = call_code f k receiver contract tx args
+entering_code f (call_this_form k tx args) = call_this_code f k tx args
+entering_code f form = []
+
+-- The code of a form that has no branches, for which neither kinds nor the place count; of one that has, none.
+abbrev pub straight_code : EmissionFrame → SilicaForm → List Instruction
+straight_code f (test_form o state branch other join) = []
+straight_code f (if_form o branch other join) = []
+straight_code f form = form_code f (holding (λ k. None)) form 0
+
+-- whether nothing is reached after a form that has no branches
+abbrev pub straight_ends : SilicaForm → Bool
+straight_ends (return_form place) = true
+straight_ends (revert_form text) = true
+straight_ends form = false
 
 -- the instruction of a choice with its target
 abbrev pub chooses : Choice → ℕ → Instruction
@@ -33,6 +52,11 @@ jumps_over_terms ends (and_term form span rest) = not ends
 -- the test of a branch ends where its end is reached
 abbrev pub test_ended : Bool → List Instruction
 test_ended ends = if ends then [] else instruction.EndTest ∷ []
+
+-- what the first branch of a choice ends with: only one by a state is a test
+abbrev pub branch_ended : Choice → Bool → List Instruction
+branch_ended (choice.Value a) ends = []
+branch_ended (choice.State a contract state) ends = test_ended ends
 
 -- Between two branches: the jump over the other one, if there is one, and the target of the choice, whose place this is.
 abbrev pub between : Choice → Bool → ℕ → List Instruction → List Instruction
@@ -80,3 +104,9 @@ abbrev mutual
   terms_made f kinds no_terms code = code
   terms_made f kinds (and_term form span rest) code =
       terms_made f (kinds_after_form f.static form kinds) rest (form_made f kinds form code)
+
+-- a choice with its branches, after its operand is loaded: the code after both
+abbrev pub branches_made : EmissionFrame → Kinds → Choice → SilicaTerms → SilicaTerms → List Instruction → List Instruction
+branches_made f kinds c branch other =
+    choice_made c (jumps_over_terms (terms_end branch) other)
+    (λ x. terms_made f kinds branch x ++ branch_ended c (terms_end branch)) (λ x. terms_made f kinds other x)

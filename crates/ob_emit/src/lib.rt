@@ -10,6 +10,7 @@ mod frame;
 mod kinds;
 mod operands;
 mod scratch;
+mod straight;
 mod terms;
 mod weigh;
 

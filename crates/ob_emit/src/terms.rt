@@ -1,22 +1,19 @@
 //! The code of terms.
-ghost use Rattle.std.specs.Prelude.{◌≡◌, ◌||◌, OnOk, IfOk};
+ghost use Rattle.std.specs.Prelude.{◌≡◌, ◌++◌, ◌||◌, ◌&&◌, OnOk, IfOk};
 ghost use Rattle.ob_silica.specs.TermsView.{form_of, terms_of};
-ghost use Rattle.ob_silica_formed.specs.Holdings.{form_ends, terms_end, slot_of_place};
+ghost use Rattle.ob_silica_formed.specs.Holdings.{form_ends, terms_end};
 ghost use Rattle.ob_emit_spec.specs.Emission.{contract_referred};
-ghost use Rattle.ob_emit.specs.Kinds.{kinds_of, kinds_after_form, kinds_after};
-ghost use Rattle.ob_emit.specs.Making.{choice_of_value, choice_of_state, with_operand, jumps_over_terms, form_made, terms_made};
+ghost use Rattle.ob_emit.specs.Kinds.{kinds_of, joined_kinds, kinds_after_form, kinds_after};
+ghost use Rattle.ob_emit.specs.Making.{choice_of_value, choice_of_state, with_operand, jumps_over_terms, branch_ended};
+ghost use Rattle.ob_emit.specs.Making.{branches_made, form_made, terms_made};
 
 use crate::code::{Choice, Code};
-use crate::forms::{
-    put_call, put_call_this, put_change, put_constant, put_copy, put_disown, put_move, put_new,
-    put_operation, put_return, put_revert,
-};
 use crate::frame::EmissionFrame;
-use crate::kinds::{Kinds, kind_of_constant, kind_of_operator};
+use crate::kinds::Kinds;
 use crate::operands::load;
+use crate::straight::emit_straight;
 use ob_base::{ContractId, Duplicate, Memory, StateId};
-use ob_code::Instruction;
-use ob_silica::{Form, Operand, Place, Term};
+use ob_silica::{Form, Operand, Term};
 use ob_table::Kind;
 
 // The contract or interface to which a place refers; the place of a test is known to be a reference.
@@ -77,15 +74,47 @@ fn either(a: bool, b: bool) -> bool
     a || b
 }
 
-// The slot of a place, if it has one.
-fn slot_of_place(place: Place) -> Option<u8>
-    ensures { result ≡ slot_of_place place }
+// The first branch of a choice ends here.
+fn end_branch(choice: Choice, ends: bool, out: &mut Code) -> Result<(), Memory>
+    ensures { OnOk result (out.new ≡ out.old ++ branch_ended choice ends) }
 {
-    match place {
-        Place::This => Some(0),
-        Place::Slot(slot) => Some(slot),
-        Place::Field(_) => None,
+    match choice {
+        Choice::Value(_) => Ok(()),
+        Choice::State(..) => out.put_end_test(ends),
     }
+}
+
+// A choice whose operand is loaded, with its two branches: their code, and whether nothing is reached after them.
+#[cycle(emit)]
+#[tactic(auto, using(ob_silica::specs::TermsView::term_views, crate::proofs::CodeLemmas::codes))]
+fn emit_branches(
+    choice: Choice,
+    then: &[Term],
+    otherwise: &[Term],
+    frame: &EmissionFrame<'_>,
+    kinds: &mut Kinds,
+    out: &mut Code,
+) -> Result<bool, Memory>
+    ensures ends { IfOk result (λ ends. ends ≡ (terms_end (terms_of then.now) && terms_end (terms_of otherwise.now))) }
+    ensures kinds { OnOk result (kinds_of kinds.new.slots
+        ≡ joined_kinds (terms_end (terms_of then.now)) (terms_end (terms_of otherwise.now))
+        (kinds_after frame.now.static (terms_of then.now) (kinds_of kinds.old.slots))
+        (kinds_after frame.now.static (terms_of otherwise.now) (kinds_of kinds.old.slots))) }
+    ensures code { OnOk result (out.new ≡ branches_made frame.now (kinds_of kinds.old.slots) choice
+        (terms_of then.now) (terms_of otherwise.now) out.old) }
+{
+    let start = out.here();
+    out.put_choice(choice)?;
+    let mut other = kinds.copy(out.alloc())?;
+    let ends = emit_terms(then, frame, kinds, out)?;
+    end_branch(choice, ends, out)?;
+    let middle = out.here();
+    let jumps = jumps_over(ends, otherwise);
+    out.put_between(choice, jumps, start)?;
+    let other_ends = emit_terms(otherwise, frame, &mut other, out)?;
+    out.land(jumps, middle);
+    kinds.join(out.alloc(), ends, other_ends, other)?;
+    Ok(ends && other_ends)
 }
 
 // A form: its code, and whether nothing is reached after it.
@@ -102,77 +131,7 @@ fn emit_form(
         ≡ kinds_after_form frame.now.static (form_of form.now) (kinds_of kinds.old.slots)) }
     ensures code { OnOk result (out.new ≡ form_made frame.now (kinds_of kinds.old.slots) (form_of form.now) out.old) }
 {
-    let scratch = frame.scratch();
     match form {
-        Form::Unit => {
-            out.put(Instruction::Unit)?;
-            Ok(false)
-        }
-        Form::Const { slot, value } => {
-            put_constant(*slot, value, out)?;
-            kinds.put(Some(*slot), Some(kind_of_constant(value)))?;
-            Ok(false)
-        }
-        Form::Op {
-            slot,
-            operator,
-            a,
-            b,
-            line,
-        } => {
-            put_operation(scratch, *slot, *operator, *a, *b, *line, out)?;
-            kinds.put(Some(*slot), Some(kind_of_operator(*operator)))?;
-            Ok(false)
-        }
-        Form::Copy { to, from } => {
-            put_copy(scratch, *to, *from, out)?;
-            let kind = kinds.kind_at(frame, from.place);
-            kinds.put(slot_of_place(*to), kind)?;
-            Ok(false)
-        }
-        Form::Move { to, from, contract } => {
-            put_move(frame, *to, *from, out)?;
-            let kind = contract.map(Kind::Reference);
-            kinds.put(slot_of_place(*to), kind)?;
-            Ok(false)
-        }
-        Form::New {
-            slot,
-            contract,
-            args,
-        } => {
-            put_new(frame, *slot, *contract, args.as_slice(), out)?;
-            kinds.put(Some(*slot), Some(Kind::Reference(*contract)))?;
-            Ok(false)
-        }
-        Form::Call {
-            slot,
-            receiver,
-            contract,
-            tx,
-            args,
-        } => {
-            put_call(
-                frame,
-                *slot,
-                *receiver,
-                *contract,
-                *tx,
-                args.as_slice(),
-                out,
-            )?;
-            kinds.put(*slot, frame.kind_of_result(*contract, *tx))?;
-            Ok(false)
-        }
-        Form::CallThis { slot, tx, args } => {
-            put_call_this(frame, *slot, *tx, args.as_slice(), out)?;
-            kinds.put(*slot, frame.kind_of_result(frame.here(), *tx))?;
-            Ok(false)
-        }
-        Form::Change { state, given } => {
-            put_change(frame, *state, given.as_slice(), out)?;
-            Ok(false)
-        }
         Form::Test {
             place,
             state,
@@ -181,18 +140,8 @@ fn emit_form(
             ..
         } => {
             let choice = choose_by_state(frame, kinds, *place, *state, out)?;
-            let start = out.here();
-            out.put_choice(choice)?;
-            let mut other = kinds.copy(out.alloc())?;
-            let ends = emit_terms(then.as_slice(), frame, kinds, out)?;
-            out.put_end_test(ends)?;
-            let middle = out.here();
-            let jumps = jumps_over(ends, otherwise.as_slice());
-            out.put_between(choice, jumps, start)?;
-            let other_ends = emit_terms(otherwise.as_slice(), frame, &mut other, out)?;
-            out.land(jumps, middle);
-            kinds.join(out.alloc(), ends, other_ends, other)?;
-            Ok(ends && other_ends)
+            let (then, otherwise) = (then.as_slice(), otherwise.as_slice());
+            emit_branches(choice, then, otherwise, frame, kinds, out)
         }
         Form::If {
             a,
@@ -201,35 +150,24 @@ fn emit_form(
             ..
         } => {
             let choice = choose_by_value(frame, *a, out)?;
-            let start = out.here();
-            out.put_choice(choice)?;
-            let mut other = kinds.copy(out.alloc())?;
-            let ends = emit_terms(then.as_slice(), frame, kinds, out)?;
-            let middle = out.here();
-            let jumps = jumps_over(ends, otherwise.as_slice());
-            out.put_between(choice, jumps, start)?;
-            let other_ends = emit_terms(otherwise.as_slice(), frame, &mut other, out)?;
-            out.land(jumps, middle);
-            kinds.join(out.alloc(), ends, other_ends, other)?;
-            Ok(ends && other_ends)
+            let (then, otherwise) = (then.as_slice(), otherwise.as_slice());
+            emit_branches(choice, then, otherwise, frame, kinds, out)
         }
-        Form::Disown { place } => {
-            put_disown(scratch, *place, out)?;
-            Ok(false)
-        }
-        Form::Drop { slot } => {
-            kinds.put(Some(*slot), None)?;
-            Ok(false)
-        }
-        Form::Return { place } => {
-            put_return(frame, *place, out)?;
-            Ok(true)
-        }
-        Form::Revert { text } => {
-            put_revert(scratch, *text, out)?;
-            Ok(true)
-        }
-        Form::Assert { .. } | Form::BadRow => Ok(false),
+        Form::Unit
+        | Form::Const { .. }
+        | Form::Op { .. }
+        | Form::Copy { .. }
+        | Form::Move { .. }
+        | Form::New { .. }
+        | Form::Call { .. }
+        | Form::CallThis { .. }
+        | Form::Change { .. }
+        | Form::Assert { .. }
+        | Form::Disown { .. }
+        | Form::Drop { .. }
+        | Form::Return { .. }
+        | Form::Revert { .. }
+        | Form::BadRow => emit_straight(form, frame, kinds, out),
     }
 }
 
