@@ -11,7 +11,7 @@ ghost use Rattle.ob_heap_spec.specs.Objects.{state_number};
 ghost use Rattle.ob_perm.specs.Masks.{states_of};
 ghost use Rattle.ob_machine.specs.Giving.{Gives};
 ghost use Rattle.ob_machine.specs.Images.{named_as, answered_by};
-ghost use Rattle.ob_machine.specs.Stretching.{IsBodyOf};
+ghost use Rattle.ob_machine.specs.Stretching.{AreInstructionsOf};
 
 use crate::off::Off;
 use ob_base::{ContractId, FieldId, Items, NO_STATE_BIT, OTHER_STATE_BIT, StateId, TxId};
@@ -117,7 +117,7 @@ fn code_in(own: &ContractCode, tx: TxId) -> Result<&Items<Instruction>, Off>
 
 // The instructions of the body of a number that are run; an interface's bodies have none.
 pub fn code_of(code: &Image, contract: ContractId, tx: TxId) -> Result<&Items<Instruction>, Off>
-    ensures { IfOk result (λ instructions. IsBodyOf code.now contract tx instructions.now) }
+    ensures { IfOk result (λ instructions. AreInstructionsOf code.now contract tx instructions.now) }
 {
     code_in(contract_at(code, contract)?, tx)
 }
