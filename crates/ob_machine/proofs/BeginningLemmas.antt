@@ -46,11 +46,11 @@ pub first_gives : {A : Type 0} (r : Result A Off) (show : A → Slots) (slots : 
     → Gives r (Some (padded count given)) show → Gives r (given_first slots args this count) show
 first_gives r show slots args this count one given e g h = subst (λ x. Gives r x show) (sym (first_is slots args this count one given e g)) h
 
-pub first_fails : {A : Type 0} (off : Off) (show : A → Slots) (slots : Slots) (args : List ℕ) (this count : ℕ) (one : Slots)
-    → one ≡ Some (reference this) ∷ [] → Gives {A = A} {B = Slots} (Err off) (gathered slots args one) show
+pub first_fails : {A C : Type 0} (off : Off) (show : A → Slots) (shows : C → Slots) (slots : Slots) (args : List ℕ) (this count : ℕ) (one : Slots)
+    → one ≡ Some (reference this) ∷ [] → Gives {A = C} {B = Slots} (Err off) (gathered slots args one) shows
     → Gives {A = A} {B = Slots} (Err off) (given_first slots args this count) show
-first_fails Memory show slots args this count one e h = tt
-first_fails NoStep show slots args this count one e h =
+first_fails Memory show shows slots args this count one e h = tt
+first_fails NoStep show shows slots args this count one e h =
     by (values_at slots args) (sym (gathered_all slots args one) ∙ h)
   where
     by : (r : Option (List PlainValue)) → (r >>= λ vs. Some (one ++ set_all vs)) ≡ None → (r >>= λ vs. Some (first_slots count this vs)) ≡ None

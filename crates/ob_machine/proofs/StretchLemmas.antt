@@ -17,7 +17,7 @@ use Rattle.ob_machine_laws.specs.Laws.{SameNext}
 use Rattle.ob_machine.specs.Phases.{phase_of, HasBegun}
 use Rattle.ob_machine.specs.Shown.{cause_of, shown, world_of}
 use Rattle.ob_machine.specs.Slicing.{ComesTo, Tries}
-use Rattle.ob_machine.specs.Stretching.{IsBodyOf, IsSameBody, LeadsOn, Strides, Stretches, Turns}
+use Rattle.ob_machine.specs.Stretching.{AreInstructionsOf, IsSameBody, LeadsOn, Strides, Stretches, Turns}
 use Rattle.ob_machine.specs.declared.machine.Machine.{Machine}
 use Rattle.ob_machine.specs.declared.off.Off.{Off}
 use Rattle.ob_machine.specs.declared.off.Off.TheVariants.{Memory, NoStep}
@@ -47,9 +47,9 @@ same_next n d e = subst (λ x. SameNext x (Some (goes d))) (sym e) (phase_itself
 pub record Stretched (image : Image) (units left : ℕ) (start now : Configuration) (instructions : List Instruction) : Type 0 where
   pub on : LeadsOn image units (running start) left (running now)
   pub less : steps_left image (running now) ≤ steps_left image (running start)
-  pub body : IsBodyOf image now.top.contract now.top.tx instructions
+  pub body : AreInstructionsOf image now.top.contract now.top.tx instructions
 
-pub stretch_begins : (image : Image) (units : ℕ) (c : Configuration) (instructions : List Instruction) → IsBodyOf image c.top.contract c.top.tx instructions
+pub stretch_begins : (image : Image) (units : ℕ) (c : Configuration) (instructions : List Instruction) → AreInstructionsOf image c.top.contract c.top.tx instructions
     → Stretched image units units c c instructions
 stretch_begins image units c instructions body = record { on = λ found h. h; less = omega arith; body = body }
 
@@ -64,7 +64,7 @@ strode image units left rest start c d instructions r x ahead s t e f =
     record {
       on = λ found g. s.on found (comes_on image left rest (running c) (running d) (goes_at image left left rest (running c) (running c) d (at_start image left (running c)) h.0 h.1 n) found g);
       less = at_or_below (steps_left image (running d)) (steps_left image (running c)) (steps_left image (running start)) (lower image (running c) d ahead n) s.less;
-      body = subst (λ k. IsBodyOf image d.top.contract k instructions) (sym h.3.1) (subst (λ k. IsBodyOf image k c.top.tx instructions) (sym h.3.0) s.body);
+      body = subst (λ k. AreInstructionsOf image d.top.contract k instructions) (sym h.3.1) (subst (λ k. AreInstructionsOf image k c.top.tx instructions) (sym h.3.0) s.body);
     }
 
 pub strode_less : (image : Image) (left rest : ℕ) (c d : Configuration) (r : Result (Option ℕ) Off) (x : Option ℕ) → LeadsAhead image

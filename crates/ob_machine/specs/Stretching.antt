@@ -21,8 +21,8 @@ use Rattle.ob_machine.specs.declared.slice.Turn.{Turn}
 use Rattle.ob_machine.specs.declared.slice.Turn.TheVariants.{Waits, Made}
 
 -- these are the instructions of the body of a number
-abbrev pub IsBodyOf : Image → ContractId → TxId → List Instruction → Type 0
-IsBodyOf image contract tx instructions = (place : ℕ) → instruction_at image contract tx place ≡ slice_get instructions place
+abbrev pub AreInstructionsOf : Image → ContractId → TxId → List Instruction → Type 0
+AreInstructionsOf image contract tx instructions = (place : ℕ) → instruction_at image contract tx place ≡ slice_get instructions place
 
 -- two configurations are in the same body
 abbrev pub IsSameBody : Configuration → Configuration → Type 0

@@ -35,8 +35,8 @@ pub fn are_set(slots: &Items<Option<Value>>, args: &[u8]) -> bool
 }
 
 #[tactic(auto, using(crate::proofs::SlotsLemmas::slots_push))]
-pub fn push(slots: &mut Items<Option<Value>>, value: Option<Value>) -> Result<(), Off>
-    ensures { Gives result (Some (pushed (slots_of slots.old) (option_map value_of value))) (λ _. slots_of slots.new) }
+pub fn push(slots: &mut Vec<Option<Value>>, value: Option<Value>) -> Result<(), Off>
+    ensures { Gives result (Some (pushed (slots_of slots.old.items) (option_map value_of value))) (λ _. slots_of slots.new.items) }
 {
     match slots.push(value) {
         Ok(()) => Ok(()),
@@ -48,9 +48,9 @@ fn gather(
     alloc: Global,
     slots: &Items<Option<Value>>,
     args: &[u8],
-    out: Items<Option<Value>>,
-) -> Result<Items<Option<Value>>, Off>
-    ensures { Gives result (gathered (slots_of slots.now) args.now (slots_of out)) slots_of }
+    out: Vec<Option<Value>>,
+) -> Result<Vec<Option<Value>>, Off>
+    ensures { Gives result (gathered (slots_of slots.now) args.now (slots_of out.items)) (λ v. slots_of v.items) }
 {
     let mut gathered = out;
     for slot in args {
@@ -59,15 +59,16 @@ fn gather(
     Ok(gathered)
 }
 
-pub fn pad(count: u8, slots: Items<Option<Value>>) -> Result<Items<Option<Value>>, Off>
-    ensures { Gives result (Some (padded count (slots_of slots))) slots_of }
+pub fn pad(count: u8, slots: Vec<Option<Value>>) -> Result<Items<Option<Value>>, Off>
+    ensures { Gives result (Some (padded count (slots_of slots.items))) slots_of }
 {
     let missing = (count as usize).saturating_sub(slots.len());
     let mut padded = slots;
+    padded.reserve(missing)?;
     for place in 0..missing {
-        push(&mut padded, None)?;
+        padded.push_reserved(None);
     }
-    Ok(padded)
+    Ok(Items::from_vec(padded))
 }
 
 // The slots with which a body begins.
@@ -80,7 +81,7 @@ fn first(
 ) -> Result<Items<Option<Value>>, Off>
     ensures { Gives result (given_first (slots_of slots.now) args.now this.0 count) slots_of }
 {
-    let mut first = Items::from_vec(Vec::with_capacity(alloc, count as usize)?);
+    let mut first = Vec::with_capacity(alloc, count as usize)?;
     push(&mut first, Some(Value::Object(this)))?;
     match gather(alloc, slots, args, first) {
         Ok(given) => pad(count, given),

@@ -26,9 +26,9 @@ use std::alloc::Global;
 fn gather_values(
     alloc: Global,
     args: &[Value],
-    out: Items<Option<Value>>,
-) -> Result<Items<Option<Value>>, Off>
-    ensures { Gives result (Some (slots_of out ++ map (λ v. Some v) (map value_of args.now))) slots_of }
+    out: Vec<Option<Value>>,
+) -> Result<Vec<Option<Value>>, Off>
+    ensures { Gives result (Some (slots_of out.items ++ map (λ v. Some v) (map value_of args.now))) (λ v. slots_of v.items) }
 {
     let mut gathered = out;
     for value in args {
@@ -46,7 +46,7 @@ fn first_of(
 ) -> Result<Items<Option<Value>>, Off>
     ensures { Gives result (Some (first_slots count this.0 (map value_of args.now))) slots_of }
 {
-    let mut first = Items::from_vec(Vec::with_capacity(alloc, count as usize)?);
+    let mut first = Vec::with_capacity(alloc, count as usize)?;
     push(&mut first, Some(Value::Object(this)))?;
     let given = gather_values(alloc, args, first)?;
     pad(count, given)

@@ -6,7 +6,7 @@ ghost use Rattle.ob_machine_steps.specs.Images.{instruction_of, instruction_at, 
 ghost use Rattle.ob_machine_steps.specs.Images.{transaction_number, has_field_code, callee};
 ghost use Rattle.ob_machine.specs.Giving.{Gives};
 ghost use Rattle.ob_machine.specs.Images.{answered_by};
-ghost use Rattle.ob_machine.specs.Stretching.{IsBodyOf};
+ghost use Rattle.ob_machine.specs.Stretching.{AreInstructionsOf};
 
 use crate::off::Off;
 use ob_base::{ContractId, FieldId, Items, StateId, TxId};
@@ -83,7 +83,7 @@ fn code_in(own: &ContractCode, tx: TxId) -> Result<&Items<Instruction>, Off>
 
 // The instructions of the body of a number that are run; an interface's bodies have none.
 pub fn code_of(code: &Image, contract: ContractId, tx: TxId) -> Result<&Items<Instruction>, Off>
-    ensures { IfOk result (λ instructions. IsBodyOf code.now contract tx instructions.now) }
+    ensures { IfOk result (λ instructions. AreInstructionsOf code.now contract tx instructions.now) }
 {
     code_in(contract_at(code, contract)?, tx)
 }

@@ -9,7 +9,7 @@ ghost use Rattle.ob_machine_steps.specs.Parts.{sets, goes_to};
 ghost use Rattle.ob_machine_steps.specs.Steps.{act};
 ghost use Rattle.ob_machine_steps.specs.Straight.{unit_step, copy_step, load_step, op_step, unless_step};
 ghost use Rattle.ob_machine.specs.Shown.{shown};
-ghost use Rattle.ob_machine.specs.Stretching.{IsBodyOf, Acts, Strides, Stretches};
+ghost use Rattle.ob_machine.specs.Stretching.{AreInstructionsOf, Acts, Strides, Stretches};
 
 use crate::changing::is_storable;
 use crate::heap::{field_value, find, set_field};
@@ -177,7 +177,7 @@ impl Run {
         overlay: &mut Overlay,
         left: u32,
     ) -> Result<Option<u32>, Off>
-        requires { IsBodyOf code.now self.old.top.contract self.old.top.tx instructions.now }
+        requires { AreInstructionsOf code.now self.old.top.contract self.old.top.tx instructions.now }
         ensures { Strides result code.now left (shown self.old base.now.objects overlay.old) (shown self.new base.now.objects overlay.new) }
     {
         let _length = instructions.len();
