@@ -1,7 +1,8 @@
 -- The code of terms as it is made: what there is so far is handed on, and the targets of jumps ahead are written back.
 use Rattle.std.specs.Prelude.{ℕ, Bool, true, false, not, List, [], ◌∷◌, ◌++◌, length, slice_set, if◌then◌else◌, None}
 use Rattle.ob_base.specs.declared.id.StateId.{StateId}
-use Rattle.ob_silica.specs.Terms.{SilicaForm, new_form, call_form, call_this_form, test_form, if_form, return_form, revert_form, SilicaTerms, no_terms, and_term}
+use Rattle.ob_silica.specs.Terms.{SilicaForm, new_form, call_form, call_this_form, test_form, if_form, return_form, revert_form}
+use Rattle.ob_silica.specs.Terms.{SilicaTerms, no_terms, and_term}
 use Rattle.ob_silica.specs.declared.place.Operand.{Operand}
 use Rattle.ob_silica_formed.specs.Holdings.{kind_of_operand, terms_end}
 use Rattle.ob_code.specs.declared.instruction.Instruction.{Instruction}
@@ -87,6 +88,18 @@ abbrev pub choice_of_state : EmissionFrame → Kinds → Operand → StateId →
 choice_of_state f kinds o state =
     choice.State (slot_read f.scratch 0 o.place) (contract_referred (kind_of_operand f.static (holding kinds) o)) state
 
+-- what a form with branches chooses by; each other form has no choice, and any stands for it
+abbrev pub choice_of_form : EmissionFrame → Kinds → SilicaForm → Choice
+choice_of_form f kinds (test_form o state branch other join) = choice_of_state f kinds o state
+choice_of_form f kinds (if_form o branch other join) = choice_of_value f o
+choice_of_form f kinds form = choice.Value 0
+
+-- the operand of a form with branches is loaded; for each other form nothing is
+abbrev pub with_operand_of : EmissionFrame → SilicaForm → List Instruction → List Instruction
+with_operand_of f (test_form o state branch other join) code = with_operand f o code
+with_operand_of f (if_form o branch other join) code = with_operand f o code
+with_operand_of f form code = code
+
 abbrev mutual
   -- the code after a form, where slots hold values of these kinds
   pub form_made : EmissionFrame → Kinds → SilicaForm → List Instruction → List Instruction
@@ -104,9 +117,3 @@ abbrev mutual
   terms_made f kinds no_terms code = code
   terms_made f kinds (and_term form span rest) code =
       terms_made f (kinds_after_form f.static form kinds) rest (form_made f kinds form code)
-
--- a choice with its branches, after its operand is loaded: the code after both
-abbrev pub branches_made : EmissionFrame → Kinds → Choice → SilicaTerms → SilicaTerms → List Instruction → List Instruction
-branches_made f kinds c branch other =
-    choice_made c (jumps_over_terms (terms_end branch) other)
-    (λ x. terms_made f kinds branch x ++ branch_ended c (terms_end branch)) (λ x. terms_made f kinds other x)

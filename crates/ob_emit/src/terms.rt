@@ -1,11 +1,11 @@
 //! The code of terms.
-ghost use Rattle.std.specs.Prelude.{◌≡◌, ◌++◌, ◌||◌, ◌&&◌, OnOk, IfOk};
+ghost use Rattle.std.specs.Prelude.{◌≡◌, ◌++◌, ◌||◌, length, OnOk, IfOk};
 ghost use Rattle.ob_silica.specs.TermsView.{form_of, terms_of};
 ghost use Rattle.ob_silica_formed.specs.Holdings.{form_ends, terms_end};
 ghost use Rattle.ob_emit_spec.specs.Emission.{contract_referred};
-ghost use Rattle.ob_emit.specs.Kinds.{kinds_of, joined_kinds, kinds_after_form, kinds_after};
+ghost use Rattle.ob_emit.specs.Kinds.{kinds_of, kinds_after_form, kinds_after};
 ghost use Rattle.ob_emit.specs.Making.{choice_of_value, choice_of_state, with_operand, jumps_over_terms, branch_ended};
-ghost use Rattle.ob_emit.specs.Making.{branches_made, form_made, terms_made};
+ghost use Rattle.ob_emit.specs.Making.{choice_of_form, with_operand_of, between, form_made, terms_made};
 
 use crate::code::{Choice, Code};
 use crate::frame::EmissionFrame;
@@ -74,8 +74,8 @@ fn either(a: bool, b: bool) -> bool
     a || b
 }
 
-// The first branch of a choice ends here.
-fn end_branch(choice: Choice, ends: bool, out: &mut Code) -> Result<(), Memory>
+// What the first branch of a choice ends with.
+fn put_branch_end(choice: Choice, ends: bool, out: &mut Code) -> Result<(), Memory>
     ensures { OnOk result (out.new ≡ out.old ++ branch_ended choice ends) }
 {
     match choice {
@@ -84,37 +84,40 @@ fn end_branch(choice: Choice, ends: bool, out: &mut Code) -> Result<(), Memory>
     }
 }
 
-// A choice whose operand is loaded, with its two branches: their code, and whether nothing is reached after them.
-#[cycle(emit)]
-#[tactic(auto, using(ob_silica::specs::TermsView::term_views, crate::proofs::CodeLemmas::codes))]
-fn emit_branches(
-    choice: Choice,
-    then: &[Term],
-    otherwise: &[Term],
+// What a form with branches chooses by, with its operand loaded; for each other form nothing is loaded.
+#[tactic(auto, using(ob_silica::specs::TermsView::term_views))]
+fn choose(
+    form: &Form,
     frame: &EmissionFrame<'_>,
-    kinds: &mut Kinds,
+    kinds: &Kinds,
     out: &mut Code,
-) -> Result<bool, Memory>
-    ensures ends { IfOk result (λ ends. ends ≡ (terms_end (terms_of then.now) && terms_end (terms_of otherwise.now))) }
-    ensures kinds { OnOk result (kinds_of kinds.new.slots
-        ≡ joined_kinds (terms_end (terms_of then.now)) (terms_end (terms_of otherwise.now))
-        (kinds_after frame.now.static (terms_of then.now) (kinds_of kinds.old.slots))
-        (kinds_after frame.now.static (terms_of otherwise.now) (kinds_of kinds.old.slots))) }
-    ensures code { OnOk result (out.new ≡ branches_made frame.now (kinds_of kinds.old.slots) choice
-        (terms_of then.now) (terms_of otherwise.now) out.old) }
+) -> Result<Choice, Memory>
+    ensures choice { IfOk result (λ c. c ≡ choice_of_form frame.now (kinds_of kinds.now.slots) (form_of form.now)) }
+    ensures code { OnOk result (out.new ≡ with_operand_of frame.now (form_of form.now) out.old) }
 {
-    let start = out.here();
-    out.put_choice(choice)?;
-    let mut other = kinds.copy(out.alloc())?;
-    let ends = emit_terms(then, frame, kinds, out)?;
-    end_branch(choice, ends, out)?;
-    let middle = out.here();
-    let jumps = jumps_over(ends, otherwise);
+    match form {
+        Form::Test { place, state, .. } => choose_by_state(frame, kinds, *place, *state, out),
+        Form::If { a, .. } => choose_by_value(frame, *a, out),
+        _ => Ok(Choice::Value(0)),
+    }
+}
+
+// The first branch of a choice ends here: the place of the jump over the other one, if there is one.
+#[tactic(auto, using(crate::proofs::CodeLemmas::codes))]
+fn end_first_branch(
+    choice: Choice,
+    start: u32,
+    ends: bool,
+    jumps: bool,
+    out: &mut Code,
+) -> Result<u32, Memory>
+    ensures place { IfOk result (λ place. place ≡ length (out.old ++ branch_ended choice ends)) }
+    ensures code { OnOk result (out.new ≡ between choice jumps start (out.old ++ branch_ended choice ends)) }
+{
+    put_branch_end(choice, ends, out)?;
+    let place = out.here();
     out.put_between(choice, jumps, start)?;
-    let other_ends = emit_terms(otherwise, frame, &mut other, out)?;
-    out.land(jumps, middle);
-    kinds.join(out.alloc(), ends, other_ends, other)?;
-    Ok(ends && other_ends)
+    Ok(place)
 }
 
 // A form: its code, and whether nothing is reached after it.
@@ -133,25 +136,26 @@ fn emit_form(
 {
     match form {
         Form::Test {
-            place,
-            state,
             then,
             otherwise,
             ..
-        } => {
-            let choice = choose_by_state(frame, kinds, *place, *state, out)?;
-            let (then, otherwise) = (then.as_slice(), otherwise.as_slice());
-            emit_branches(choice, then, otherwise, frame, kinds, out)
         }
-        Form::If {
-            a,
+        | Form::If {
             then,
             otherwise,
             ..
         } => {
-            let choice = choose_by_value(frame, *a, out)?;
-            let (then, otherwise) = (then.as_slice(), otherwise.as_slice());
-            emit_branches(choice, then, otherwise, frame, kinds, out)
+            let choice = choose(form, frame, kinds, out)?;
+            let start = out.here();
+            out.put_choice(choice)?;
+            let mut other = kinds.copy(out.alloc())?;
+            let ends = emit_terms(then.as_slice(), frame, kinds, out)?;
+            let jumps = jumps_over(ends, otherwise.as_slice());
+            let middle = end_first_branch(choice, start, ends, jumps, out)?;
+            let other_ends = emit_terms(otherwise.as_slice(), frame, &mut other, out)?;
+            out.land(jumps, middle);
+            kinds.join(out.alloc(), ends, other_ends, other)?;
+            Ok(ends && other_ends)
         }
         Form::Unit
         | Form::Const { .. }
