@@ -1,0 +1,6 @@
+pub mod Spelled
+pub mod Unique
+pub mod Bytes
+pub mod Cut
+pub mod Appending
+pub mod Beginning
