@@ -42,6 +42,7 @@ pub trait Disk {
     /// Brings all bytes and their number to the disk for good: after it, a crash leaves what a read gives.
     fn sync(&mut self) -> Result<(), Failed>
         ensures durable { OnOk result ((c : List ℕ) → (view self.new).now c → Reads (view self.new) c) }
+        ensures same { OnOk result ((view self.new).content ≡ (view self.old).content) }
         ensures quiet { IsQuiet (view self.old) (view self.new) }
         ensures cause { HasCause (view self.old).faults (view self.new).faults result };
 

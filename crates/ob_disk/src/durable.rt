@@ -1,5 +1,5 @@
 //! Writes that come to the disk for good.
-ghost use Rattle.std.specs.Prelude.{◌<◌, ◌+◌, ◌^◌, length, OnOk};
+ghost use Rattle.std.specs.Prelude.{◌≡◌, ◌<◌, ◌+◌, ◌^◌, length, OnOk};
 ghost use Rattle.ob_disk_spec.specs.Disk.{Reads, WrittenOver, IsQuiet};
 ghost use Rattle.ob_disk_spec.specs.Durable.{Throughout, During, TornFrom};
 ghost use Rattle.ob_io.specs.Causes.{HasCause};
@@ -22,6 +22,7 @@ pub fn durable_write<D: Disk>(disk: &mut D, at: u64, bytes: &[u8]) -> Result<(),
 /// Syncs: what a read gives has come to the disk for good.
 pub fn settle<D: Disk>(disk: &mut D) -> Result<(), Failed>
     ensures durable { OnOk result (Throughout (D.view disk.new) (Reads (D.view disk.new))) }
+    ensures same { OnOk result ((D.view disk.new).content ≡ (D.view disk.old).content) }
     ensures quiet { IsQuiet (D.view disk.old) (D.view disk.new) }
     ensures cause { HasCause (D.view disk.old).faults (D.view disk.new).faults result }
 {

@@ -280,9 +280,10 @@ impl Disk for MemoryDisk {
     fn sync(&mut self) -> Result<(), Failed>
         ensures durable { OnOk result ((c : List ℕ) → (memory_disk_view self.new).now c →
             Reads (memory_disk_view self.new) c) }
+        ensures same { OnOk result ((memory_disk_view self.new).content ≡ (memory_disk_view self.old).content) }
         ensures quiet { IsQuiet (memory_disk_view self.old) (memory_disk_view self.new) }
         ensures cause { HasCause (memory_disk_view self.old).faults (memory_disk_view self.new).faults result }
-        ensures same { (memory_disk_view self.new).content ≡ (memory_disk_view self.old).content }
+        ensures always { (memory_disk_view self.new).content ≡ (memory_disk_view self.old).content }
         ensures planned { IsTrue (is_to_fail (disk_plan self.old)) → IsErr result }
         ensures counts { CountsCall (disk_plan self.old) (disk_plan self.new) }
         ensures room { memory_disk_room self.new ≡ memory_disk_room self.old }

@@ -124,6 +124,7 @@ impl Disk for SureDisk {
     fn sync(&mut self) -> Result<(), Failed>
         ensures durable { OnOk result ((c : List ℕ) → (sure_disk_view self.new).now c →
             Reads (sure_disk_view self.new) c) }
+        ensures same { OnOk result ((sure_disk_view self.new).content ≡ (sure_disk_view self.old).content) }
         ensures quiet { IsQuiet (sure_disk_view self.old) (sure_disk_view self.new) }
         ensures cause { HasCause (sure_disk_view self.old).faults (sure_disk_view self.new).faults result }
         ensures sure { IsOk result }

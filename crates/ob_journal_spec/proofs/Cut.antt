@@ -12,7 +12,7 @@ take_past (x ∷ xs) ys k =
     let same : length (x ∷ xs) + k ≡ suc (length xs + k) = omega arith in ap (λ (n : ℕ). take n (x ∷ (xs ++ ys))) same ∙ ap (λ (l : List ℕ). x ∷ l) (take_past xs ys k)
 
 -- the same, by how many bytes are kept
-cut_past : (xs ys : List ℕ) (n k : ℕ) → n ≡ length xs + k → take n (xs ++ ys) ≡ xs ++ take k ys
+pub cut_past : (xs ys : List ℕ) (n k : ℕ) → n ≡ length xs + k → take n (xs ++ ys) ≡ xs ++ take k ys
 cut_past xs ys n k is = ap (λ (m : ℕ). take m (xs ++ ys)) is ∙ take_past xs ys k
 
 -- what is left behind a range of a cut

@@ -4,3 +4,5 @@ pub mod Bytes
 pub mod Cut
 pub mod Appending
 pub mod Beginning
+pub mod Reading
+pub mod Whole
