@@ -4,7 +4,7 @@ ghost use Rattle.ob_table.specs.Tables.{ClassTable};
 ghost use Rattle.ob_heap_spec.specs.Contents.{Content};
 ghost use Rattle.ob_store_spec.specs.Payloads.{Changes};
 ghost use Rattle.ob_store_spec.specs.Changes.{Says, LeadFrom};
-ghost use Rattle.ob_store_spec.specs.Stores.{StoreProgram, StoreState, IsStoreOf};
+ghost use Rattle.ob_store_spec.specs.Stores.{StoreProgram, StoreState, StoreRefusal, IsStoreOf, IsRefused};
 
 /// A payload says one row of changes at most.
 pub fn one_saying()
@@ -18,4 +18,12 @@ pub fn one_content()
         LeadFrom table start payloads a → LeadFrom table start payloads b → a ≡ b }
     ensures store { (program : StoreProgram) (area : List ℕ) (a b : StoreState) →
         IsStoreOf program area a → IsStoreOf program area b → a ≡ b }
+{}
+
+/// An area is refused for one cause at most, and for none where it stands for a store.
+pub fn one_refusal()
+    ensures refusal { (program : StoreProgram) (area : List ℕ) (r s : StoreRefusal) →
+        IsRefused program area r → IsRefused program area s → r ≡ s }
+    ensures apart { (program : StoreProgram) (area : List ℕ) (r : StoreRefusal) (s : StoreState) →
+        IsRefused program area r → ¬ (IsStoreOf program area s) }
 {}

@@ -3,4 +3,4 @@
 
 mod laws;
 
-pub use laws::{one_content, one_saying};
+pub use laws::{one_content, one_refusal, one_saying};
