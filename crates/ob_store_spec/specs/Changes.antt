@@ -18,7 +18,8 @@ use Rattle.ob_store_spec.specs.Payloads.{StoredObject, Changes, payload}
 abbrev pub fields_from : ℕ → List Field → Option StateId → List Value → Numbered Value
 fields_from k [] state values = nothing
 fields_from k (f ∷ fs) state [] = nothing
-fields_from k (f ∷ fs) state (v ∷ vs) = if is_available state f then put (fields_from (suc k) fs state vs) k v else fields_from (suc k) fs state (v ∷ vs)
+fields_from k (f ∷ fs) state (v ∷ vs) =
+    if is_available state f then put (fields_from (suc k) fs state vs) k v else fields_from (suc k) fs state (v ∷ vs)
 
 -- an object, by what a payload says of it
 abbrev pub object_of : ClassTable → StoredObject → Object
@@ -32,7 +33,8 @@ object_of table o = record {
 
 -- the objects with this one, in the place of the one of its number, or behind the others
 abbrev pub with_object : ClassTable → List Object → StoredObject → List Object
-with_object table objects o = if nat_lt o.number (length objects) then slice_set objects o.number (object_of table o) else objects ++ object_of table o ∷ []
+with_object table objects o =
+    if nat_lt o.number (length objects) then slice_set objects o.number (object_of table o) else objects ++ object_of table o ∷ []
 
 -- the handles after one is put or removed; the removal of one that isn't there changes nothing
 abbrev pub with_change : List NamedHandle → HandleName × Option Handle → List NamedHandle
@@ -41,7 +43,10 @@ with_change handles (name, Some h) = put_handle handles (name, h)
 
 -- the content after changes
 abbrev pub with_changes : ClassTable → Content → Changes → Content
-with_changes table content changes = record { objects = fold (with_object table) content.objects changes.objects; handles = fold with_change content.handles changes.handles }
+with_changes table content changes = record {
+  objects = fold (with_object table) content.objects changes.objects;
+  handles = fold with_change content.handles changes.handles;
+}
 
 -- those of these objects that are past so many have the next numbers
 abbrev pub AreNext : ℕ → List StoredObject → Type 0
@@ -74,4 +79,5 @@ pub record Says (table : ClassTable) (content : Content) (changes : Changes) (by
 -- payloads lead from a content to another, one after the other
 abbrev pub LeadFrom : ClassTable → Content → List (List ℕ) → Content → Type 0
 LeadFrom table content [] end = content ≡ end
-LeadFrom table content (p ∷ ps) end = (changes : Changes) × Says table content changes p × LeadFrom table (with_changes table content changes) ps end
+LeadFrom table content (p ∷ ps) end =
+    (changes : Changes) × Says table content changes p × LeadFrom table (with_changes table content changes) ps end

@@ -46,7 +46,11 @@ state_of_byte n = if n == 255 then None else Some (record { 0 = n })
 
 -- a state, or none
 unfoldable pub state : Format (Option StateId)
-state = record { fits = λ s. (byte_of_state s < 256) × (state_of_byte (byte_of_state s) ≡ s); bytes = λ s. u8_bytes (byte_of_state s); read = read_as state_of_byte any_byte.read }
+state = record {
+  fits = λ s. (byte_of_state s < 256) × (state_of_byte (byte_of_state s) ≡ s);
+  bytes = λ s. u8_bytes (byte_of_state s);
+  read = read_as state_of_byte any_byte.read;
+}
 
 -- the byte of the marks
 abbrev pub number_of_marks : Bool × Bool → ℕ
@@ -92,11 +96,14 @@ text_of other = None
 
 -- a value
 unfoldable pub value : Format Value
-value = by_kinds number_of_value (variant int_value int_of integer ∷ variant bool_value truth_of truth ∷ variant text_value text_of text ∷ variant reference referred number ∷ [])
+value =
+    by_kinds number_of_value
+    (variant int_value int_of integer ∷ variant bool_value truth_of truth ∷ variant text_value text_of text ∷ variant reference referred number ∷ [])
 
 -- how many fields of a contract are available in a state
 abbrev pub available_count : ClassTable → ContractId → Option StateId → ℕ
-available_count table contract state = option_map_or (λ c. length (filter (is_available state) c.fields)) (contract_at table contract) 0
+available_count table contract state =
+    option_map_or (λ c. length (filter (is_available state) c.fields)) (contract_at table contract) 0
 
 -- an object, up to its values: its number, its contract, its state and its marks
 unfoldable pub object_head : Format (ℕ × (ContractId × (Option StateId × (Bool × Bool))))
@@ -128,4 +135,5 @@ handle = of_parts (λ p. (record { who = p.0; name = p.1.0 }, p.1.1)) (λ h. (h.
 
 -- a payload, relative to a class table
 unfoldable pub payload : ClassTable → Format Changes
-payload table = of_parts (λ p. record { objects = p.0; handles = p.1 }) (λ c. (c.objects, c.handles)) (counted (object table) ⨟ counted handle)
+payload table =
+    of_parts (λ p. record { objects = p.0; handles = p.1 }) (λ c. (c.objects, c.handles)) (counted (object table) ⨟ counted handle)
