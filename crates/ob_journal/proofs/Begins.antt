@@ -8,7 +8,7 @@ use Rattle.ob_disk_spec.specs.Disk.{DiskView, Reads, WrittenOver, overwritten, I
 use Rattle.ob_disk_spec.specs.Durable.{May, Throughout, During, TornFrom}
 use Rattle.ob_disk_spec.proofs.Moments.{throughout_to, throughout_may, during_to, during_then, quiet}
 use Rattle.ob_journal_spec.specs.Spellings.{header}
-use Rattle.ob_journal_spec.specs.Areas.{Stands, IsBlank, IsBlankOrBegun, begun, area_of, next_gate}
+use Rattle.ob_journal_spec.specs.Areas.{StandsFor, IsBlank, IsBlankOrBegun, begun, area_of, next_gate}
 use Rattle.ob_journal_spec.proofs.Beginning.{IsHeaded, short_torn, short_closed, closed_torn, heads, headed_torn, headed_opens}
 use Rattle.ob_journal_spec.proofs.Bytes.{put_inside}
 use Rattle.ob_journal_spec.proofs.Whole.{either_in, stands_in, blank_out}
@@ -68,7 +68,7 @@ pub begun_during : (old mid new : DiskView) (size : ℕ) (image : List ℕ) → 
 begun_during old mid new size image within fresh look start =
     during_then old mid new _ (still_blank old mid size image fresh look) (during_to mid new _ _ start (λ c is. either_in size image c within is))
 
-pub begun_whole : (v : DiskView) (size : ℕ) (image : List ℕ) → next_gate (begun image) < size → Throughout v (Stands (begun image)) → Throughout v (λ c. Stands (begun image) (area_of size c))
+pub begun_whole : (v : DiskView) (size : ℕ) (image : List ℕ) → next_gate (begun image) < size → Throughout v (StandsFor (begun image)) → Throughout v (λ c. StandsFor (begun image) (area_of size c))
 begun_whole v size image within now = throughout_to v _ _ now (λ c is. stands_in size (begun image) c within is)
 
 -- ---- the writes
@@ -92,5 +92,5 @@ module _ (image built : List ℕ) (small : length image < 2 ^ 32) (is : built �
   pub gate_torn : (w : DiskView) → Throughout w (IsHeaded image) → (c : List ℕ) → TornFrom w 0 1 c → IsBlankOrBegun image c
   gate_torn w now c a = headed_torn image small one_fits from_one a.0 c (throughout_may w _ now a.0 a.1) a.2
 
-  pub gate_there : (w x : DiskView) → Throughout w (IsHeaded image) → Throughout x (WrittenOver (Reads w) 0 (1 ∷ [])) → Throughout x (Stands (begun image))
+  pub gate_there : (w x : DiskView) → Throughout w (IsHeaded image) → Throughout x (WrittenOver (Reads w) 0 (1 ∷ [])) → Throughout x (StandsFor (begun image))
   gate_there w x now then = throughout_to x _ _ then (λ c a. headed_opens image small one_fits from_one a.0 c (now.content a.0 a.1) a.2)

@@ -5,15 +5,15 @@ use Rattle.ob_disk_spec.specs.Disk.{DiskView, Reads}
 use Rattle.ob_disk_spec.specs.Durable.{May, Throughout, During}
 use Rattle.ob_disk_spec.proofs.Moments.{throughout_to, throughout_may}
 use Rattle.ob_journal_spec.specs.Spellings.{sized}
-use Rattle.ob_journal_spec.specs.Areas.{Journaled, Front, Stands, IsBlank, HasHeader, HasRecord, IsNoStore, IsDamaged, area_of, next_gate, with_payload}
+use Rattle.ob_journal_spec.specs.Areas.{Journaled, Front, StandsFor, IsBlank, HasHeader, HasRecord, IsNoStore, IsDamaged, area_of, next_gate, with_payload}
 use Rattle.ob_journal_spec.proofs.Reading.{headed, one_more, damages}
 use Rattle.ob_journal_spec.proofs.Bytes.{size-append}
 use Rattle.ob_journal_spec.proofs.Spelled.{length-sized}
-use Rattle.ob_journal.specs.Contents.{IsRead, Surveys}
+use Rattle.ob_journal.specs.Surveys.{IsRead, Surveys}
 use Rattle.ob_journal.specs.Moments.{IsWhole, IsFresh, IsAppend}
 use Rattle.ob_journal.specs.declared.error.AreaFault.{AreaFault}
 use Rattle.ob_journal.specs.declared.error.AreaFault.TheVariants.{NotStore, Damaged}
-use Rattle.ob_journal.specs.declared.records.Contents.{Contents}
+use Rattle.ob_journal.specs.declared.records.ReadArea.{ReadArea}
 use Rattle.ob_journal.specs.declared.records.Survey.{Survey}
 use Rattle.ob_journal.specs.declared.records.Survey.TheVariants.{Blank, Standing}
 
@@ -34,7 +34,7 @@ module _ (old mid new : DiskView) (settled : Throughout mid (Reads mid)) (first 
   pub found_blank : ((c : List ℕ) → Reads old c → IsBlank (area_of size c)) → IsFresh size new
   found_blank blank = record { settled = still_settled mid new settled look second; blank = λ c reads. blank c (sym first ∙ (sym second ∙ reads)) }
 
-  pub found_whole : (j : Journaled) → ((c : List ℕ) → Reads old c → Stands j (area_of size c)) → IsWhole size j new
+  pub found_whole : (j : Journaled) → ((c : List ℕ) → Reads old c → StandsFor j (area_of size c)) → IsWhole size j new
   found_whole j stands = throughout_to new _ _ (still_settled mid new settled look second) (λ c reads. stands c (sym first ∙ (sym second ∙ reads)))
 
 -- the header was read
@@ -60,7 +60,7 @@ damaged_there j bytes behind gate front within is_open is none = damages j bytes
 pub blank_survey : (s : Survey) (bytes : List ℕ) → s ≡ Blank → Surveys (Ok s) bytes → IsBlank bytes
 blank_survey s bytes is said = let P : Survey → Type 0 = λ s. Surveys (Ok s) bytes in subst P is said
 
-pub standing_survey : (s : Survey) (c : Contents) (bytes : List ℕ) → s ≡ Standing c → Surveys (Ok s) bytes → IsRead c bytes
+pub standing_survey : (s : Survey) (c : ReadArea) (bytes : List ℕ) → s ≡ Standing c → Surveys (Ok s) bytes → IsRead c bytes
 standing_survey s c bytes is said = let P : Survey → Type 0 = λ s. Surveys (Ok s) bytes in subst P is said
 
 pub no_store_survey : (f : AreaFault) (bytes : List ℕ) → f ≡ NotStore → Surveys (Err f) bytes → IsNoStore bytes

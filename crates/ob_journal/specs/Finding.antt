@@ -2,8 +2,8 @@
 use Rattle.std.specs.Prelude.{ℕ, ◌≡◌, ◌≤◌, ◌+◌, ⊤, List, Result, Ok, Err}
 use Rattle.ob_disk_spec.specs.Disk.{DiskView}
 use Rattle.ob_io.specs.Causes.{Rose}
-use Rattle.ob_journal_spec.specs.Areas.{Stands, IsBlank, IsNoStore, IsDamaged}
-use Rattle.ob_journal.specs.Contents.{plain}
+use Rattle.ob_journal_spec.specs.Areas.{StandsFor, IsBlank, IsNoStore, IsDamaged}
+use Rattle.ob_journal.specs.Surveys.{plain}
 use Rattle.ob_journal.specs.Moments.{IsFresh, IsWhole}
 use Rattle.ob_journal.specs.declared.error.JournalError.{JournalError}
 use Rattle.ob_journal.specs.declared.error.JournalError.TheVariants.{NotStore, Damaged, Room, DiskFault, Memory}
@@ -13,7 +13,7 @@ use Rattle.ob_journal.specs.declared.journal.Found.TheVariants.{Blank, Current}
 -- the answer is what the area stands for, or why it stands for nothing
 abbrev pub Finds : ℕ → Result Found JournalError → List ℕ → Type 0
 Finds size (Ok Blank) area = IsBlank area
-Finds size (Ok (Current journal)) area = Stands (plain journal.contents) area × (journal.area ≡ size)
+Finds size (Ok (Current journal)) area = StandsFor (plain journal.contents) area × (journal.area ≡ size)
 Finds size (Err NotStore) area = IsNoStore area
 Finds size (Err (Damaged offset)) area = IsDamaged offset area
 Finds size (Err (Room need size_)) area = ⊥

@@ -3,7 +3,7 @@ use Rattle.std.specs.Prelude.{ℕ, ◌≡◌, ◌<◌, ◌≤◌, ◌+◌, List,
 use Rattle.ob_disk_spec.specs.Disk.{DiskView}
 use Rattle.ob_journal_spec.specs.Spellings.{sized}
 use Rattle.ob_journal_spec.specs.Areas.{Journaled, begun, next_gate}
-use Rattle.ob_journal.specs.Contents.{plain}
+use Rattle.ob_journal.specs.Surveys.{plain}
 use Rattle.ob_journal.specs.Moments.{IsWhole}
 use Rattle.ob_journal.specs.declared.error.BuildError.{BuildError}
 use Rattle.ob_journal.specs.declared.error.BuildError.TheVariants as of_build

@@ -1,5 +1,5 @@
 pub mod Parts
-pub mod Contents
+pub mod Surveys
 pub mod Finding
 pub mod Journals
 pub mod Moments

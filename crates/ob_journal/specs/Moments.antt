@@ -3,11 +3,11 @@ use Rattle.std.specs.Prelude.{ℕ, ◌≡◌, ◌≤◌, ◌+◌, Bool, true, fa
 use Rattle.ob_disk_spec.specs.Disk.{DiskView, Reads}
 use Rattle.ob_disk_spec.specs.Durable.{Throughout}
 use Rattle.ob_journal_spec.specs.Spellings.{sized}
-use Rattle.ob_journal_spec.specs.Areas.{Journaled, Stands, IsBlank, area_of, next_gate}
+use Rattle.ob_journal_spec.specs.Areas.{Journaled, StandsFor, IsBlank, area_of, next_gate}
 
 -- the area of the disk and of each image of it stands for this
 abbrev pub IsWhole : ℕ → Journaled → DiskView → Type 0
-IsWhole size j v = Throughout v (λ c. Stands j (area_of size c))
+IsWhole size j v = Throughout v (λ c. StandsFor j (area_of size c))
 
 -- what was built appends this payload behind the records, within the area
 pub record IsAppend (size : ℕ) (j : Journaled) (payload : List ℕ) (gate : ℕ) (built : List ℕ) : Type 0 where

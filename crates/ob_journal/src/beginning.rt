@@ -4,7 +4,7 @@ ghost use Rattle.ob_disk_spec.specs.Disk.{Reads, IsQuiet};
 ghost use Rattle.ob_disk_spec.specs.Durable.{May, Throughout, During};
 ghost use Rattle.ob_io.specs.Causes.{HasCause};
 ghost use Rattle.ob_journal_spec.specs.Spellings.{header};
-ghost use Rattle.ob_journal_spec.specs.Areas.{Stands, IsBlank, IsBlankOrBegun, begun};
+ghost use Rattle.ob_journal_spec.specs.Areas.{StandsFor, IsBlank, IsBlankOrBegun, begun};
 ghost use Rattle.ob_journal.specs.Moments.{LooksClosed, LooksBlank, OpensByOne};
 
 use ob_base::{Failed, Memory, put_i64, put_u32};
@@ -61,7 +61,7 @@ fn open_area<D: Disk>(disk: &mut D, built: &[u8]) -> Result<(), Failed>
     requires { length built.now < 2 ^ 62 }
     ensures begun { OnOk result ((image : List ℕ) → length image < 2 ^ 32 →
         built.now ≡ header.bytes (pos 1, image) ++ 0 ∷ [] →
-        Throughout (D.view disk.old) (LooksBlank true) → Throughout (D.view disk.new) (Stands (begun image))) }
+        Throughout (D.view disk.old) (LooksBlank true) → Throughout (D.view disk.new) (StandsFor (begun image))) }
     ensures crash { (image : List ℕ) → length image < 2 ^ 32 → built.now ≡ header.bytes (pos 1, image) ++ 0 ∷ [] →
         Throughout (D.view disk.old) (LooksBlank true) →
         During (D.view disk.old) (D.view disk.new) (IsBlankOrBegun image) }
@@ -78,7 +78,7 @@ pub fn start<D: Disk>(disk: &mut D, closed: bool, built: &[u8]) -> Result<(), Fa
     requires { length built.now < 2 ^ 62 }
     ensures begun { OnOk result ((image : List ℕ) → length image < 2 ^ 32 →
         built.now ≡ header.bytes (pos 1, image) ++ 0 ∷ [] →
-        Throughout (D.view disk.old) (LooksBlank closed) → Throughout (D.view disk.new) (Stands (begun image))) }
+        Throughout (D.view disk.old) (LooksBlank closed) → Throughout (D.view disk.new) (StandsFor (begun image))) }
     ensures crash { (image : List ℕ) → length image < 2 ^ 32 → built.now ≡ header.bytes (pos 1, image) ++ 0 ∷ [] →
         Throughout (D.view disk.old) (LooksBlank closed) →
         During (D.view disk.old) (D.view disk.new) (IsBlankOrBegun image) }

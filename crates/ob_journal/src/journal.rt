@@ -1,13 +1,13 @@
 //! The journal.
 ghost use Rattle.std.specs.Prelude.{◌≡◌, ◌≤◌, ◌<◌, ◌^◌};
 ghost use Rattle.ob_journal_spec.specs.Areas.{next_gate};
-ghost use Rattle.ob_journal.specs.Contents.{plain};
+ghost use Rattle.ob_journal.specs.Surveys.{plain};
 
 use crate::appending::{put_record, record_of};
 use crate::beginning::{header_of, is_closed, start};
 use crate::error::{AreaFault, BuildError, DiskFault, JournalError, ReadFault};
 use crate::finding::{measure, read_front};
-use crate::records::{Contents, Survey, begun_contents, copied, put_last, survey_area};
+use crate::records::{ReadArea, Survey, begun_area, copied, put_last, survey_area};
 use ob_base::Memory;
 use ob_disk::Disk;
 use std::alloc::Global;
@@ -16,7 +16,7 @@ use std::alloc::Global;
 #[derive(Drop)]
 pub struct Journal {
     area: u64,
-    contents: Contents,
+    contents: ReadArea,
     ghost small: { area ≤ 2 ^ 31 },
     ghost within: { contents.gate < area },
     ghost place: { contents.gate ≡ next_gate (plain contents) },
@@ -44,7 +44,7 @@ impl Journal {
     ghost use Rattle.ob_disk_spec.specs.Durable.{May, Throughout, During};
     ghost use Rattle.ob_io.specs.Causes.{HasCause};
     ghost use Rattle.ob_journal_spec.specs.Areas.{with_payload, StandsWithOrWithout, IsBlankOrBegun, area_of};
-    ghost use Rattle.ob_journal.specs.Contents.{payload_of};
+    ghost use Rattle.ob_journal.specs.Surveys.{payload_of};
     ghost use Rattle.ob_journal.specs.Moments.{IsFresh, OpensByOne};
     ghost use Rattle.ob_journal.specs.Finding.{Finds, IsFoundIn, FaultsAs};
     ghost use Rattle.ob_journal.specs.Journals.{journaled, area_size, Holds, HasSpare, IsBuilt, payload_built, bytes_built, Builds, Begins};
@@ -108,7 +108,7 @@ impl Journal {
         let Ok(()) = start(disk, closed, header.as_slice()) else {
             return Err(JournalError::DiskFault);
         };
-        let contents = begun_contents(alloc, kept);
+        let contents = begun_area(alloc, kept);
         Ok(Journal { area, contents })
     }
 

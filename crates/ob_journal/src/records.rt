@@ -1,7 +1,7 @@
 //! What an area says, read from its bytes.
 ghost use Rattle.std.specs.Prelude.{◌≡◌, ◌+◌, ◌<◌, ◌≤◌, ◌^◌, ◌++◌, ◌∷◌, [], length, take, map, vec_len, vec_capacity, IfOk, OnOk};
 ghost use Rattle.ob_journal_spec.specs.Areas.{Front, begun, with_payload};
-ghost use Rattle.ob_journal.specs.Contents.{payload_of, plain, ReadsRecords, Surveys};
+ghost use Rattle.ob_journal.specs.Surveys.{payload_of, plain, ReadsRecords, Surveys};
 
 use crate::error::AreaFault;
 use crate::parts::{behind, header, record_behind};
@@ -10,7 +10,7 @@ use std::alloc::Global;
 
 /// What an area says: its serial, its image, the payloads of its records, and where the gate behind them is.
 #[derive(Drop)]
-pub struct Contents {
+pub struct ReadArea {
     /// The serial.
     pub serial: i64,
     /// The bytes of the image.
@@ -27,7 +27,7 @@ pub enum Survey {
     /// It is blank.
     Blank,
     /// It stands for this.
-    Standing(Contents),
+    Standing(ReadArea),
 }
 
 // Puts a payload behind the others.
@@ -47,13 +47,13 @@ pub fn copied(alloc: Global, bytes: &[u8]) -> Result<Vec<u8>, Memory>
 }
 
 /// An area that has just been begun for an image.
-pub fn begun_contents(alloc: Global, image: Vec<u8>) -> Contents
+pub fn begun_area(alloc: Global, image: Vec<u8>) -> ReadArea
     requires { length image.items < 2 ^ 62 }
     ensures plain { plain result ≡ begun image.items }
     ensures gate { result.gate ≡ 17 + length image.items }
 {
     let gate = image.len() as u64 + 17;
-    Contents {
+    ReadArea {
         serial: 1,
         image,
         payloads: Vec::new(alloc),
@@ -62,7 +62,7 @@ pub fn begun_contents(alloc: Global, image: Vec<u8>) -> Contents
 }
 
 // The records behind a header.
-fn records(alloc: Global, bytes: &[u8], serial: i64, image: Vec<u8>) -> Result<Contents, AreaFault>
+fn records(alloc: Global, bytes: &[u8], serial: i64, image: Vec<u8>) -> Result<ReadArea, AreaFault>
     requires front { Front (record { serial = serial; image = image.items; payloads = [] }) (take (17 + length image.items) bytes.now) }
     requires within { 17 + length image.items < length bytes.now }
     requires small { length bytes.now ≤ 2 ^ 31 }
@@ -79,7 +79,7 @@ fn records(alloc: Global, bytes: &[u8], serial: i64, image: Vec<u8>) -> Result<C
         };
         gate += 5 + payload.len();
     }
-    Ok(Contents {
+    Ok(ReadArea {
         serial,
         image,
         payloads,
@@ -108,7 +108,7 @@ pub fn survey_area(alloc: Global, bytes: &[u8]) -> Result<Survey, AreaFault>
 }
 
 /// Puts a payload behind the others. It takes no memory.
-pub fn put_last(contents: &mut Contents, payload: Vec<u8>)
+pub fn put_last(contents: &mut ReadArea, payload: Vec<u8>)
     requires room { vec_len contents.old.payloads < vec_capacity contents.old.payloads }
     requires small { contents.old.gate + length payload.items < 2 ^ 62 }
     ensures payloads { plain contents.new ≡ with_payload (plain contents.old) payload.items }

@@ -5,7 +5,7 @@ use Rattle.std.specs.Int.{w64}
 use Rattle.std.specs.Int.RustNames.{FitsSigned}
 use Rattle.ob_disk_spec.specs.Disk.{Torn, overwritten}
 use Rattle.ob_journal_spec.specs.Spellings.{header}
-use Rattle.ob_journal_spec.specs.Areas.{Front, Stands, IsBlank, IsBlankOrBegun, begun}
+use Rattle.ob_journal_spec.specs.Areas.{Front, StandsFor, IsBlank, IsBlankOrBegun, begun}
 use Rattle.ob_journal_spec.proofs.Bytes.{torn_behind, torn_byte, put_inside}
 
 -- its gate is closed by a byte
@@ -39,7 +39,7 @@ module _ (image : List ℕ) where
     begun_front : (gate : ℕ) → 0 < gate → Front (begun image) (gate ∷ (header.bytes (pos 1, image) ++ []))
     begun_front gate is_open = record { gate = gate; records = []; is_open = is_open; is = refl; fits = (tt, (one_fits, (fits, refl))); from_one = from_one; payloads = refl }
 
-    begun_at : (gate : ℕ) (rest c : List ℕ) → 0 < gate → c ≡ gate ∷ (header.bytes (pos 1, image) ++ 0 ∷ rest) → Stands (begun image) c
+    begun_at : (gate : ℕ) (rest c : List ℕ) → 0 < gate → c ≡ gate ∷ (header.bytes (pos 1, image) ++ 0 ∷ rest) → StandsFor (begun image) c
     begun_at gate rest c is_open is = record {
       front = gate ∷ (header.bytes (pos 1, image) ++ []);
       behind = rest;
@@ -56,7 +56,7 @@ module _ (image : List ℕ) where
     headed_torn d c was torn =
         let now = torn_byte [] (header.bytes (pos 1, image) ++ 0 ∷ was.0) c 0 0 refl (subst (λ (l : List ℕ). Torn 0 1 l c) was.1 torn) in begun_or_blank now.0 was.0 c now.1
 
-    pub headed_opens : (d c : List ℕ) → IsHeaded d → c ≡ overwritten 0 (1 ∷ []) d → Stands (begun image) c
+    pub headed_opens : (d c : List ℕ) → IsHeaded d → c ≡ overwritten 0 (1 ∷ []) d → StandsFor (begun image) c
     unfolding IsHeaded
     headed_opens d c was is =
         begun_at 1 was.0 c (omega arith) (is ∙ ap (overwritten 0 (1 ∷ [])) was.1 ∙ put_inside [] (0 ∷ (header.bytes (pos 1, image) ++ 0 ∷ was.0)) (1 ∷ []) 0 refl)

@@ -1,11 +1,11 @@
 -- An area at the front of a disk, and the bytes of the disk.
 use Rattle.std.proofs.Common.{◌≡◌, inl, inr, ℕ, zero, suc, ◌-◌, ◌<◌, List, ◌∷◌, ◌++◌, take, drop, sym, ◌∙◌, ap, arith, length-take, take-append-drop}
-use Rattle.ob_journal_spec.specs.Areas.{Journaled, Stands, IsBlank, IsBlankOrBegun, begun, next_gate}
+use Rattle.ob_journal_spec.specs.Areas.{Journaled, StandsFor, IsBlank, IsBlankOrBegun, begun, next_gate}
 use Rattle.ob_journal_spec.proofs.Bytes.{length-front}
 use Rattle.ob_journal_spec.proofs.Cut.{cut_past}
 
 -- what stands within the area stands in it
-pub stands_in : (size : ℕ) (j : Journaled) (c : List ℕ) → next_gate j < size → Stands j c → Stands j (take size c)
+pub stands_in : (size : ℕ) (j : Journaled) (c : List ℕ) → next_gate j < size → StandsFor j c → StandsFor j (take size c)
 stands_in size j c within was =
     let long = length-front j was.front was.open_front in
     let left = size - next_gate j in

@@ -29,7 +29,7 @@ pub record Front (j : Journaled) (bytes : List ℕ) : Type 0 where
   pub payloads : Records j.payloads records
 
 -- An area stands for this: behind its records is a closed gate, and behind that anything.
-pub record Stands (j : Journaled) (area : List ℕ) : Type 0 where
+pub record StandsFor (j : Journaled) (area : List ℕ) : Type 0 where
   pub front : List ℕ
   pub behind : List ℕ
   pub is : area ≡ front ++ 0 ∷ behind
@@ -100,8 +100,8 @@ pub record IsDamaged (offset : ℕ) (area : List ℕ) : Type 0 where
 
 -- the area stands for the records with this one or without it
 abbrev pub StandsWithOrWithout : Journaled → List ℕ → List ℕ → Type 0
-StandsWithOrWithout j payload area = Stands j area ⊎ Stands (with_payload j payload) area
+StandsWithOrWithout j payload area = StandsFor j area ⊎ StandsFor (with_payload j payload) area
 
 -- the area is blank, or begun for this image
 abbrev pub IsBlankOrBegun : List ℕ → List ℕ → Type 0
-IsBlankOrBegun image area = IsBlank area ⊎ Stands (begun image) area
+IsBlankOrBegun image area = IsBlank area ⊎ StandsFor (begun image) area

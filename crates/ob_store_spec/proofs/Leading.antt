@@ -5,11 +5,11 @@ use Rattle.ob_heap_spec.specs.Contents.{Content, empty_content}
 use Rattle.ob_journal_spec.specs.Areas.{Journaled, next_gate}
 use Rattle.ob_journal_spec.proofs.Unique.{one_stands, blank_or_stands}
 use Rattle.ob_store_spec.specs.Payloads.{Changes}
-use Rattle.ob_store_spec.specs.Changes.{Says, LeadFrom, with_changes}
+use Rattle.ob_store_spec.specs.Changes.{SaysChanges, LeadFrom, with_changes}
 use Rattle.ob_store_spec.specs.Stores.{StoreProgram, StoreState, IsStoreOf}
 use Rattle.ob_store_spec.proofs.Sayings.{one_spelled}
 
-pub one_saying : (table : ClassTable) (content : Content) (a b : Changes) (bytes : List ℕ) → Says table content a bytes → Says table content b bytes → a ≡ b
+pub one_saying : (table : ClassTable) (content : Content) (a b : Changes) (bytes : List ℕ) → SaysChanges table content a bytes → SaysChanges table content b bytes → a ≡ b
 one_saying table content a b bytes p q = one_spelled table a b bytes p.spelled q.spelled
 
 pub one_content : (table : ClassTable) (start : Content) (payloads : List (List ℕ)) (a b : Content) → LeadFrom table start payloads a → LeadFrom table start payloads b → a ≡ b

@@ -6,11 +6,11 @@ use Rattle.ob_table.specs.Tables.{ClassTable}
 use Rattle.ob_heap_spec.specs.Contents.{Content, empty_content}
 use Rattle.ob_rest_spec.specs.AtRest.{first_failing_object}
 use Rattle.ob_rest_laws.proofs.FirstFailing.{told}
-use Rattle.ob_journal_spec.specs.Areas.{Journaled, Stands, size_of}
+use Rattle.ob_journal_spec.specs.Areas.{Journaled, StandsFor, size_of}
 use Rattle.ob_journal_spec.specs.Differing.{DifferAt}
 use Rattle.ob_journal_spec.proofs.Unique.{one_stands, one_damage, whole_or_damaged, blank_or_stands, blank_or_damaged, blank_or_no_store, no_store_or_stands, no_store_or_damaged}
 use Rattle.ob_store_spec.specs.Payloads.{Changes}
-use Rattle.ob_store_spec.specs.Changes.{Says, LeadFrom, with_changes}
+use Rattle.ob_store_spec.specs.Changes.{SaysChanges, LeadFrom, with_changes}
 use Rattle.ob_store_spec.specs.Stores.{StoreProgram, StoreState, IsStoreOf, IsOpened, IsOtherProgram, IsBadPayload, IsNotAtRest, StoreRefusal, not_store, damaged, other_program, not_at_rest, IsRefused}
 use Rattle.ob_store_spec.proofs.Leading.{one_saying, one_content}
 
@@ -18,8 +18,8 @@ use Rattle.ob_store_spec.proofs.Leading.{one_saying, one_content}
 
 module _ (table : ClassTable) where
   -- where payloads lead on, the one behind a front of them says something
-  through : (start end mid : Content) (before after : List (List ℕ)) (bad : List ℕ) → LeadFrom table start (before ++ bad ∷ after) end → LeadFrom table start before mid → (changes : Changes) × Says table mid changes bad
-  through start end mid [] after bad all here = (all.0, subst (λ (c : Content). Says table c all.0 bad) here all.1)
+  through : (start end mid : Content) (before after : List (List ℕ)) (bad : List ℕ) → LeadFrom table start (before ++ bad ∷ after) end → LeadFrom table start before mid → (changes : Changes) × SaysChanges table mid changes bad
+  through start end mid [] after bad all here = (all.0, subst (λ (c : Content). SaysChanges table c all.0 bad) here all.1)
   through start end mid (p ∷ before) after bad all here =
       let same = one_saying table start all.0 here.0 p all.1 here.1 in
       let rest = subst (λ (c : Changes). LeadFrom table (with_changes table start c) (before ++ bad ∷ after) end) same all.2 in
@@ -32,14 +32,14 @@ module _ (table : ClassTable) where
   tail e = cc
 
   -- two such fronts are one
-  same_before : (start m n : Content) (xs ys es fs : List (List ℕ)) (b c : List ℕ) → xs ++ b ∷ es ≡ ys ++ c ∷ fs → LeadFrom table start xs m → LeadFrom table start ys n → ((k : Changes) → ¬ (Says table m k b)) → ((k : Changes) → ¬ (Says table n k c)) → xs ≡ ys
+  same_before : (start m n : Content) (xs ys es fs : List (List ℕ)) (b c : List ℕ) → xs ++ b ∷ es ≡ ys ++ c ∷ fs → LeadFrom table start xs m → LeadFrom table start ys n → ((k : Changes) → ¬ (SaysChanges table m k b)) → ((k : Changes) → ¬ (SaysChanges table n k c)) → xs ≡ ys
   same_before start m n [] [] es fs b c is p q none other = refl
   same_before start m n [] (y ∷ ys) es fs b c is p q none other =
-      let says = subst (λ (l : List ℕ). Says table start q.0 l) (sym (head is)) q.1 in absurd (none q.0 (subst (λ (x : Content). Says table x q.0 b) p says))
+      let says = subst (λ (l : List ℕ). SaysChanges table start q.0 l) (sym (head is)) q.1 in absurd (none q.0 (subst (λ (x : Content). SaysChanges table x q.0 b) p says))
   same_before start m n (x ∷ xs) [] es fs b c is p q none other =
-      let says = subst (λ (l : List ℕ). Says table start p.0 l) (head is) p.1 in absurd (other p.0 (subst (λ (k : Content). Says table k p.0 c) q says))
+      let says = subst (λ (l : List ℕ). SaysChanges table start p.0 l) (head is) p.1 in absurd (other p.0 (subst (λ (k : Content). SaysChanges table k p.0 c) q says))
   same_before start m n (x ∷ xs) (y ∷ ys) es fs b c is p q none other =
-      let says = subst (λ (l : List ℕ). Says table start q.0 l) (sym (head is)) q.1 in
+      let says = subst (λ (l : List ℕ). SaysChanges table start q.0 l) (sym (head is)) q.1 in
       let same = one_saying table start p.0 q.0 x p.1 says in
       let rest = subst (λ (k : Changes). LeadFrom table (with_changes table start k) ys n) (sym same) q.2 in
       ap (λ (l : List ℕ). l ∷ xs) (head is) ∙ ap (λ (ls : List (List ℕ)). y ∷ ls) (same_before (with_changes table start p.0) m n xs ys es fs b c (tail is) p.2 rest none other)
@@ -70,7 +70,7 @@ never_same n xs ys p same = p.at (ap (λ (l : List ℕ). first (drop n l)) same)
 -- ---- one cause
 
 module _ (program : StoreProgram) (area : List ℕ) where
-  private_says : (j k : Journaled) → Stands j area → Stands k area → k ≡ j
+  private_says : (j k : Journaled) → StandsFor j area → StandsFor k area → k ≡ j
   private_says j k s t = one_stands area k j t s
 
   bad_or_opened : (n : ℕ) (j : Journaled) (content : Content) → IsBadPayload program area n → IsOpened program area j content → ⊥
@@ -80,7 +80,7 @@ module _ (program : StoreProgram) (area : List ℕ) where
       let all = subst (λ (l : List (List ℕ)). LeadFrom program.table empty_content l content) p.payloads leads in
       let says = through program.table empty_content content p.content p.before p.after p.bad all p.content_is in p.says_none says.0 says.1
 
-  other_or_image : (n : ℕ) (j : Journaled) → IsOtherProgram program area n → Stands j area → j.image ≡ program.image → ⊥
+  other_or_image : (n : ℕ) (j : Journaled) → IsOtherProgram program area n → StandsFor j area → j.image ≡ program.image → ⊥
   other_or_image n j p s image =
       let same = private_says p.says j p.stands s in never_same n p.says.image program.image p.differ (sym (ap (λ (k : Journaled). k.image) same) ∙ image)
 

@@ -72,7 +72,7 @@ pub record AreChangesOf (table : ClassTable) (content : Content) (changes : Chan
   pub few_handles : length (with_changes table content changes).handles ≤ most_handles
 
 -- the bytes are a payload that says these changes of a content
-pub record Says (table : ClassTable) (content : Content) (changes : Changes) (bytes : List ℕ) : Type 0 where
+pub record SaysChanges (table : ClassTable) (content : Content) (changes : Changes) (bytes : List ℕ) : Type 0 where
   pub are_changes : AreChangesOf table content changes
   pub spelled : Spells (payload table) changes bytes
 
@@ -80,4 +80,4 @@ pub record Says (table : ClassTable) (content : Content) (changes : Changes) (by
 abbrev pub LeadFrom : ClassTable → Content → List (List ℕ) → Content → Type 0
 LeadFrom table content [] end = content ≡ end
 LeadFrom table content (p ∷ ps) end =
-    (changes : Changes) × Says table content changes p × LeadFrom table (with_changes table content changes) ps end
+    (changes : Changes) × SaysChanges table content changes p × LeadFrom table (with_changes table content changes) ps end

@@ -4,10 +4,10 @@ use Rattle.std.specs.Prelude.{ℕ, ℤ, pos, ◌≡◌, ◌+◌, ◌⊎◌, List
 use Rattle.ob_table.specs.Tables.{ClassTable}
 use Rattle.ob_heap_spec.specs.Contents.{Content, empty_content}
 use Rattle.ob_rest_spec.specs.AtRest.{IsAtRest, first_failing_object}
-use Rattle.ob_journal_spec.specs.Areas.{Journaled, Stands, IsBlank, IsNoStore, IsDamaged, size_of, next_gate, begun}
+use Rattle.ob_journal_spec.specs.Areas.{Journaled, StandsFor, IsBlank, IsNoStore, IsDamaged, size_of, next_gate, begun}
 use Rattle.ob_journal_spec.specs.Differing.{DifferAt}
 use Rattle.ob_store_spec.specs.Payloads.{Changes}
-use Rattle.ob_store_spec.specs.Changes.{Says, LeadFrom}
+use Rattle.ob_store_spec.specs.Changes.{SaysChanges, LeadFrom}
 
 -- a program, as a store knows it: its class table, and the bytes of its image
 pub record StoreProgram : Type 0 where
@@ -22,7 +22,7 @@ pub record StoreState : Type 0 where
 
 -- the area stands for records of this program, which lead to this content
 pub record IsOpened (program : StoreProgram) (area : List ℕ) (j : Journaled) (content : Content) : Type 0 where
-  pub stands : Stands j area
+  pub stands : StandsFor j area
   pub image : j.image ≡ program.image
   pub content_is : LeadFrom program.table empty_content j.payloads content
 
@@ -48,13 +48,13 @@ IsStoreOf program area s = IsBlankStore program area s ⊎ IsOpenStore program a
 -- the stored image isn't the program's: they first differ at this offset, or one ends there
 pub record IsOtherProgram (program : StoreProgram) (area : List ℕ) (offset : ℕ) : Type 0 where
   pub says : Journaled
-  pub stands : Stands says area
+  pub stands : StandsFor says area
   pub differ : DifferAt offset says.image program.image
 
 -- the payload of the record whose gate is at this offset says no changes of the content before it, and each before it does
 pub record IsBadPayload (program : StoreProgram) (area : List ℕ) (offset : ℕ) : Type 0 where
   pub says : Journaled
-  pub stands : Stands says area
+  pub stands : StandsFor says area
   pub image : says.image ≡ program.image
   pub before : List (List ℕ)
   pub bad : List ℕ
@@ -62,7 +62,7 @@ pub record IsBadPayload (program : StoreProgram) (area : List ℕ) (offset : ℕ
   pub payloads : says.payloads ≡ before ++ bad ∷ after
   pub content : Content
   pub content_is : LeadFrom program.table empty_content before content
-  pub says_none : (changes : Changes) → ¬ (Says program.table content changes bad)
+  pub says_none : (changes : Changes) → ¬ (SaysChanges program.table content changes bad)
   pub at : offset ≡ 17 + length says.image + size_of before
 
 -- the store isn't at rest: this is its first object that fails

@@ -3,13 +3,13 @@ ghost use Rattle.std.specs.Prelude.{◌≡◌, ℕ, List};
 ghost use Rattle.ob_table.specs.Tables.{ClassTable};
 ghost use Rattle.ob_heap_spec.specs.Contents.{Content};
 ghost use Rattle.ob_store_spec.specs.Payloads.{Changes};
-ghost use Rattle.ob_store_spec.specs.Changes.{Says, LeadFrom};
+ghost use Rattle.ob_store_spec.specs.Changes.{SaysChanges, LeadFrom};
 ghost use Rattle.ob_store_spec.specs.Stores.{StoreProgram, StoreState, StoreRefusal, IsStoreOf, IsRefused};
 
 /// A payload says one row of changes at most.
 pub fn one_saying()
     ensures { (table : ClassTable) (content : Content) (a b : Changes) (bytes : List ℕ) →
-        Says table content a bytes → Says table content b bytes → a ≡ b }
+        SaysChanges table content a bytes → SaysChanges table content b bytes → a ≡ b }
 {}
 
 /// Payloads lead to one content at most, and an area stands for one store at most.

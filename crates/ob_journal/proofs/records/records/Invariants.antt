@@ -1,6 +1,6 @@
 use Rattle.std.proofs.Common.{◌<◌, ◌-◌, length, take, map}
 use Rattle.ob_journal_spec.specs.Areas.{Front}
-use Rattle.ob_journal.specs.Contents.{payload_of}
+use Rattle.ob_journal.specs.Surveys.{payload_of}
 use Rattle.ob_journal.proofs.records.records.Given as goal
 
 -- the records before the gate were read

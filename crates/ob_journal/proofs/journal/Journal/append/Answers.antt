@@ -1,7 +1,7 @@
 use Rattle.std.proofs.Common.{◌∙◌, sym, ap, subst, arith}
 use Rattle.ob_disk_spec.specs.Durable.{Throughout}
-use Rattle.ob_journal_spec.specs.Areas.{Journaled, Stands, area_of, next_gate}
-use Rattle.ob_journal.specs.Contents.{plain}
+use Rattle.ob_journal_spec.specs.Areas.{Journaled, StandsFor, area_of, next_gate}
+use Rattle.ob_journal.specs.Surveys.{plain}
 use Rattle.ob_journal.proofs.Fronts.{appends, next_more}
 use Rattle.ob_journal.proofs.journal.Journal.append.Goals as goal
 
@@ -32,4 +32,4 @@ returns-clause-whole g c = λ holds.
     let s = c.args.self.now in
     let p = c.args.built.payload.items in
     let now = c.in-Ok.ensures.whole s.area (plain s.contents) p (appends s.area (plain s.contents) p _ s.contents.gate s.place s.small c.requires.built.within (c.as_slice.ensures.value ∙ c.requires.built.is)) holds in
-    subst (λ (j : Journaled). Throughout (g.D.Disk.view c.put_record.new.disk) (λ c'. Stands j (area_of s.area c'))) (sym c.put_last.ensures.payloads) now
+    subst (λ (j : Journaled). Throughout (g.D.Disk.view c.put_record.new.disk) (λ c'. StandsFor j (area_of s.area c'))) (sym c.put_last.ensures.payloads) now

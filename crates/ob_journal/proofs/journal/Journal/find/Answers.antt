@@ -1,6 +1,6 @@
 use Rattle.std.proofs.Common.{ℕ, take, ap, ◌∙◌, refl}
-use Rattle.ob_journal_spec.specs.Areas.{Stands, IsBlank, IsNoStore, IsDamaged}
-use Rattle.ob_journal.specs.Contents.{plain}
+use Rattle.ob_journal_spec.specs.Areas.{StandsFor, IsBlank, IsNoStore, IsDamaged}
+use Rattle.ob_journal.specs.Surveys.{plain}
 use Rattle.ob_journal.proofs.Fronts.{of_area, found_blank, found_whole, blank_survey, standing_survey, no_store_survey, damaged_survey}
 use Rattle.ob_journal.proofs.journal.Journal.find.Goals as goal
 
@@ -14,7 +14,7 @@ returns-in-Ok-Blank-clause-whole g c =
 
 pub returns-in-Ok-Standing-clause-found : goal.returns-in-Ok-Standing-clause-found
 returns-in-Ok-Standing-clause-found g c = λ c' reads. (
-  of_area (Stands (plain c.in-Ok-Standing.contents)) c.as_slice.result.now c' c.in-Ok.count c.args.area (standing_survey _ c.in-Ok-Standing.contents _ c.in-Ok-Standing.field-0-is c.in-Ok-Standing.ensures).stands
+  of_area (StandsFor (plain c.in-Ok-Standing.contents)) c.as_slice.result.now c' c.in-Ok.count c.args.area (standing_survey _ c.in-Ok-Standing.contents _ c.in-Ok-Standing.field-0-is c.in-Ok-Standing.ensures).stands
       (c.as_slice.ensures.value ∙ c.in-Ok-read_front.ensures.bytes c' (c.in-Ok.ensures.same ∙ reads) ∙ ap (λ (n : ℕ). take n c') c.min.ensures) (c.in-Ok.ensures.length c' reads),
   refl,
 )
