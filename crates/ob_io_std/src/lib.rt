@@ -1,9 +1,11 @@
-//! The edge to the real world: sources, sinks and files over std.
+//! The edge to the real world: sources, sinks, files and disks over std.
 #![tactic(auto)]
 
 mod adapters;
+mod disk;
 
 pub use adapters::{StdFiles, StdSink, StdSource};
+pub use disk::FileDisk;
 
 #[cfg(test)]
 mod tests;

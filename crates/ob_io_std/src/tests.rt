@@ -1,6 +1,7 @@
 //! The adapters over std, where no case reaches: the bytes of files, which no contract tells, and faults.
-use crate::{StdFiles, StdSource};
+use crate::{FileDisk, StdFiles, StdSource};
 use ob_base::Failed;
+use ob_disk::Disk;
 use ob_io::{FileError, Files, Source};
 use std::io::Read;
 use std::test::Fail;
@@ -53,5 +54,24 @@ fn files_count_a_fault(rt: HostRuntime) -> Result<(), Fail> {
     let result = files.read("ob_std_lacking", 9, &mut Vec::new(rt.alloc()));
     assert_eq!(rt; result, Err(FileError::Failed));
     assert_eq!(rt; files.faults(), 1);
+    Ok(())
+}
+
+#[test]
+fn disk_keeps_what_is_written(rt: HostRuntime) -> Result<(), Fail> {
+    let mut disk = FileDisk::new(&rt);
+    assert_eq!(rt; disk.attach("ob_std_disk"), Ok(()));
+    assert_eq!(rt; disk.write(2, b"ab"), Ok(()));
+    assert_eq!(rt; disk.sync(), Ok(()));
+    assert_eq!(rt; disk.len(), Ok(4));
+    let mut disk = FileDisk::new(&rt);
+    let mut bytes = [9; 4];
+    assert_eq!(rt; disk.read(0, &mut bytes), Err(Failed));
+    assert_eq!(rt; disk.attach("ob_std_disk"), Ok(()));
+    assert_eq!(rt; disk.read(0, &mut bytes), Ok(()));
+    assert_eq!(rt; bytes, *b"\0\0ab");
+    assert_eq!(rt; disk.read(1, &mut bytes), Err(Failed));
+    assert_eq!(rt; disk.faults(), 2);
+    fs::remove_file(&rt, "ob_std_disk")?;
     Ok(())
 }

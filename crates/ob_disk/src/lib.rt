@@ -1,0 +1,14 @@
+//! Disks, what a crash at any moment may leave of them, writes that come to a disk for good, and disks in memory.
+#![tactic(auto)]
+
+mod bytes;
+mod disk;
+mod durable;
+mod memory;
+mod plan;
+mod sure;
+
+pub use disk::Disk;
+pub use durable::{durable_write, settle};
+pub use memory::MemoryDisk;
+pub use sure::SureDisk;

@@ -1,0 +1,21 @@
+-- What is said of a disk and of each image of it together.
+use Rattle.std.specs.Prelude.{ℕ, ◌⊎◌, List}
+use Rattle.ob_disk_spec.specs.Disk.{DiskView, Reads, After, Torn, LeavesOnly}
+
+-- what a read gives, where it is told, or an image
+abbrev pub May : DiskView → List ℕ → Type 0
+May v c = Reads v c ⊎ v.now c
+
+-- the disk as it reads and each image of it have P
+pub record Throughout (v : DiskView) (P : List ℕ → Type 0) : Type 0 where
+  pub content : (c : List ℕ) → Reads v c → P c
+  pub images : (c : List ℕ) → v.now c → P c
+
+-- Between two moments, the last of them counted in, a crash leaves only what has P, and so the disk reads in the end.
+pub record During (old new : DiskView) (P : List ℕ → Type 0) : Type 0 where
+  pub since : LeavesOnly old new P
+  pub now : Throughout new P
+
+-- a torn form of the disk or of an image of it
+abbrev pub TornFrom : DiskView → ℕ → ℕ → List ℕ → Type 0
+TornFrom v at n c = After (May v) (Torn at n) c

@@ -1,0 +1,4 @@
+pub mod Appends
+pub mod Begins
+pub mod Headers
+pub mod Fronts

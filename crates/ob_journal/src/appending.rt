@@ -1,0 +1,42 @@
+//! A record is put on a disk.
+ghost use Rattle.std.specs.Prelude.{◌≡◌, ◌+◌, ◌<◌, ◌≤◌, ◌^◌, ◌++◌, ◌∷◌, [], ℕ, List, length, IfOk, OnOk};
+ghost use Rattle.ob_disk_spec.specs.Disk.{Reads, WrittenOver};
+ghost use Rattle.ob_disk_spec.specs.Durable.{Throughout, During};
+ghost use Rattle.ob_io.specs.Causes.{HasCause};
+ghost use Rattle.ob_journal_spec.specs.Spellings.{sized};
+ghost use Rattle.ob_journal_spec.specs.Areas.{Journaled, with_payload, StandsWithOrWithout, area_of};
+ghost use Rattle.ob_journal.specs.Moments.{IsWhole, IsAppend};
+
+use ob_base::{Failed, Memory, put_u32};
+use ob_disk::{Disk, durable_write};
+use std::alloc::Global;
+
+/// Puts what was built behind a closed gate, and then opens that. A crash in it, and an `Err`, leave the area with the
+/// record or without it.
+pub fn put_record<D: Disk>(disk: &mut D, gate: u64, built: &[u8]) -> Result<(), Failed>
+    requires { gate + length built.now < 2 ^ 62 }
+    ensures whole { OnOk result ((size : ℕ) (j : Journaled) (payload : List ℕ) → IsAppend size j payload gate built.now →
+        IsWhole size j (D.view disk.old) → IsWhole size (with_payload j payload) (D.view disk.new)) }
+    ensures crash { (size : ℕ) (j : Journaled) (payload : List ℕ) → IsAppend size j payload gate built.now →
+        IsWhole size j (D.view disk.old) →
+        During (D.view disk.old) (D.view disk.new) (λ c. StandsWithOrWithout j payload (area_of size c)) }
+    ensures written { OnOk result (Throughout (D.view disk.new)
+        (WrittenOver (WrittenOver (Reads (D.view disk.old)) (gate + 1) built.now) gate (1 ∷ []))) }
+    ensures cause { HasCause (D.view disk.old).faults (D.view disk.new).faults result }
+{
+    durable_write(disk, gate + 1, built)?;
+    durable_write(disk, gate, &[1])?;
+    Ok(())
+}
+
+/// The bytes that append a record: its payload with the number of its bytes, and a closed gate.
+pub fn record_of(alloc: Global, payload: &[u8]) -> Result<Vec<u8>, Memory>
+    requires { length payload.now < 2 ^ 32 }
+    ensures { IfOk result (λ bytes. bytes.items ≡ sized.bytes payload.now ++ 0 ∷ []) }
+{
+    let mut bytes = Vec::new(alloc);
+    put_u32(&mut bytes, payload.len() as u32)?;
+    bytes.extend_from_slice(payload)?;
+    bytes.push(0)?;
+    Ok(bytes)
+}

@@ -1,0 +1,13 @@
+//! A journal: records on a disk behind the bytes of an image, each of them whole or not there, whenever a crash comes.
+#![tactic(auto)]
+
+mod appending;
+mod beginning;
+mod error;
+mod finding;
+mod journal;
+mod parts;
+mod records;
+
+pub use error::{BuildError, DiskFault, JournalError};
+pub use journal::{Built, Found, Journal};

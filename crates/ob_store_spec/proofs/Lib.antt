@@ -1,0 +1,4 @@
+pub mod Single
+pub mod Sayings
+pub mod Leading
+pub mod Refusing

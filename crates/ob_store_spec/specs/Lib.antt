@@ -1,0 +1,3 @@
+pub mod Payloads
+pub mod Changes
+pub mod Stores

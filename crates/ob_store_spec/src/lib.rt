@@ -1,0 +1,6 @@
+//! What the payloads of a journal say of a store, what a disk stands for, and why it is refused.
+#![tactic(auto)]
+
+mod laws;
+
+pub use laws::{one_content, one_refusal, one_saying};
