@@ -3,7 +3,8 @@ use crate::bytes::Bytes;
 use crate::case::Case;
 use crate::kinds::lines::Lines;
 use crate::kinds::{
-    base, calls, code, fronts, image, replies, requests, run, steps, table, terms, tokens, tree,
+    base, calls, code, disk, fronts, image, replies, requests, run, steps, table, terms, tokens,
+    tree,
 };
 use std::alloc::Global;
 
@@ -60,6 +61,8 @@ pub enum CaseKind {
     Steps,
     /// The same, where the image is a part and the text tells the runs.
     Entries,
+    /// What steps on a disk, and of a journal on it, come to.
+    Disk,
 }
 
 impl CaseKind {
@@ -91,6 +94,7 @@ impl CaseKind {
             "encoded" => Some(CaseKind::Encoded),
             "steps" => Some(CaseKind::Steps),
             "entries" => Some(CaseKind::Entries),
+            "disk" => Some(CaseKind::Disk),
             _ => None,
         }
     }
@@ -163,6 +167,7 @@ impl CaseKind {
             CaseKind::Entries => {
                 steps::steps(alloc, case.part("text"), case.part("objects"), asked, lines)
             }
+            CaseKind::Disk => disk::disk(alloc, asked, lines),
         }
     }
 }

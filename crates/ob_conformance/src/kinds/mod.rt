@@ -3,6 +3,7 @@ pub mod base;
 pub mod bodies;
 pub mod calls;
 pub mod code;
+pub mod disk;
 pub mod fronts;
 pub mod image;
 pub mod lines;
