@@ -135,7 +135,8 @@ impl Desk {
     fn append(&mut self, words: &str, lines: &mut Lines) -> Result<(), Trouble> {
         let payload = bytes_of_words(self.alloc, words.as_bytes())?;
         let Some(journal) = &mut self.journal else {
-            return Err(Trouble::Line("no journal was found"));
+            lines.put(" no journal");
+            return Ok(());
         };
         journal.reserve()?;
         match journal.build(self.alloc, &payload) {
