@@ -29,7 +29,7 @@ use std::alloc::Global;
 fn are_handles_full(content: &Content) -> bool
     ensures { result ≡ are_handles_full (content_of content.now) }
 {
-    content.handles().len() >= MOST_HANDLES
+    content.count_handles() >= MOST_HANDLES
 }
 
 fn is_served(used: &HandleUse) -> bool

@@ -52,7 +52,7 @@ fn is_taken(base: &Content, who: &Label, name: &Label) -> bool
 fn are_handles_full(base: &Content) -> bool
     ensures { result ≡ are_handles_full (content_of base.now) }
 {
-    base.handles().len() >= MOST_HANDLES
+    base.count_handles() >= MOST_HANDLES
 }
 
 // Why a handle that is there isn't given, if it isn't.

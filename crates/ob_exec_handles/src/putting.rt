@@ -1,13 +1,13 @@
 //! Handles that are put among those of a store.
 ghost use Rattle.std.specs.Prelude.{◌≡◌, [], ◌∷◌, ◌++◌, map, IfOk, OnOk};
 ghost use Rattle.ob_heap.specs.Contents.{named_of, IsInOrder};
-ghost use Rattle.ob_heap.specs.Deltas.{with_handle, with_handles};
+ghost use Rattle.ob_heap.specs.Deltas.{with_handles};
 ghost use Rattle.ob_invocation_spec.specs.Handles.{put_handles};
 ghost use Rattle.ob_exec_handles.specs.Parts.{HandlesLead};
 ghost use Rattle.ob_exec_handles.specs.Putting.{same_mode, same_handle, stands_so, changes_by, other_puts};
 
 use ob_base::{Duplicate, Label, Memory, Mode, both};
-use ob_heap::{Content, Delta, Handle, Sequence, apply, reserve};
+use ob_heap::{Content, Handle, Sequence, add_handle};
 use std::alloc::Global;
 
 fn is_same_mode(a: Mode, b: Mode) -> bool
@@ -44,36 +44,20 @@ pub fn copy_name(alloc: Global, name: &(Label, Label)) -> Result<(Label, Label),
     both(name.0.copy(alloc), name.1.copy(alloc))
 }
 
-// A handle is put among those of a store.
-fn put(
-    alloc: Global,
-    store: &mut Content,
-    name: (Label, Label),
-    handle: Handle,
-) -> Result<(), Memory>
-    ensures { OnOk result (store.new.handles ≡ with_handle name handle store.old.handles) }
-{
-    let mut handles = Sequence::new(alloc);
-    handles.push((name, Some(handle)))?;
-    let delta = Delta {
-        objects: Sequence::new(alloc),
-        handles,
-    };
-    reserve(store, &delta)?;
-    apply(store, delta);
-    Ok(())
-}
-
 // The handles that are put, as a store of these alone has them: in the order of their names, under each the last.
-fn last_puts(alloc: Global, puts: &[((Label, Label), Handle)]) -> Result<Content, Memory>
-    ensures { IfOk result (λ store. store.handles ≡ with_handles [] (changes_by puts.now)) }
+fn last_puts(
+    alloc: Global,
+    puts: &[((Label, Label), Handle)],
+) -> Result<Vec<((Label, Label), Handle)>, Memory>
+    ensures last { IfOk result (λ last. last.items ≡ with_handles [] (changes_by puts.now)) }
+    ensures order { IfOk result (λ last. IsInOrder last.items) }
 {
-    let mut store = Content::new(alloc);
+    let mut last = Vec::new(alloc);
     for put in puts {
         let name = copy_name(alloc, &put.0)?;
-        self::put(alloc, &mut store, name, put.1)?;
+        add_handle(&mut last, name, put.1)?;
     }
-    Ok(store)
+    Ok(last)
 }
 
 // Adds a handle that is put, where it changes something.
@@ -115,10 +99,8 @@ pub fn changes_with(
 ) -> Result<Sequence<((Label, Label), Option<Handle>)>, Memory>
     ensures { IfOk result (λ changes. HandlesLead base.now.handles changes (put_handles (map named_of base.now.handles) (map named_of puts.now))) }
 {
-    // `handles` says that names stand in order.
-    let _before = base.handles();
+    // `count_handles` says that names stand in order.
+    let _count = base.count_handles();
     let last = last_puts(alloc, puts)?;
-    let after = last.handles();
-    let changes = others(alloc, base, after)?;
-    Ok(changes)
+    others(alloc, base, last.as_slice())
 }

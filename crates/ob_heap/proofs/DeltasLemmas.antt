@@ -12,7 +12,7 @@ use Rattle.ob_base.specs.declared.name.Label.{Label}
 use Rattle.ob_heap.specs.declared.object.Object.{Object}
 use Rattle.ob_heap.specs.declared.object.Handle.{Handle}
 use Rattle.ob_heap.specs.Contents.{name_of, place_of_name, IsInOrder, IsBeforeAll}
-use Rattle.ob_heap.specs.Deltas.{label_order, is_name_at, with_handle, without_handle, with_change, AreAtMost}
+use Rattle.ob_heap.specs.Deltas.{label_order, is_name_at, with_handle, without_handle}
 use Rattle.ob_heap.specs.Differences.{with_objects}
 use Rattle.ob_heap_spec.specs.Contents.{HandleName}
 use Rattle.ob_heap.proofs.HandlesLemmas.{names_total, place_of_name-le}
@@ -74,7 +74,7 @@ pub ruleset counts = (length-with_objects, with_objects-le, count_turn, count_en
 abbrev pub Held : Type 0
 Held = (Label × Label) × Handle
 
-turned : (a b : Label × Label) → label_order a b ≡ ordering_reverse (label_order b a)
+pub turned : (a b : Label × Label) → label_order a b ≡ ordering_reverse (label_order b a)
 turned a b = names_total.antisymm (name_of a) (name_of b)
 
 pub at_below : (n : HandleName) (hs : List Held) (i : ℕ) → is_name_at n hs i ≡ true → i < length hs
@@ -126,16 +126,16 @@ pub with_handle_longer : (n : Label × Label) (h : Handle) (hs : List Held) → 
 with_handle_longer n h hs b = sym (ap length (with_handle_insert n h hs b))
     ∙ length-insert-at hs (place_of_name (name_of n) hs) (n, h) (place_of_name-le (name_of n) hs)
 
-before_from : (m n : Label × Label) (hs : List Held) → label_order m n ≡ Less → IsBeforeAll n hs → IsBeforeAll m hs
+pub before_from : (m n : Label × Label) (hs : List Held) → label_order m n ≡ Less → IsBeforeAll n hs → IsBeforeAll m hs
 before_from m n [] l b = tt
 before_from m n (y ∷ hs) l b = (names_total.trans (name_of m) (name_of n) (name_of y.0) l b.0, before_from m n hs l b.1)
 
-before_same : (m n : Label × Label) (hs : List Held) → label_order m n ≡ Equal → IsBeforeAll m hs → IsBeforeAll n hs
+pub before_same : (m n : Label × Label) (hs : List Held) → label_order m n ≡ Equal → IsBeforeAll m hs → IsBeforeAll n hs
 before_same m n [] e b = tt
 before_same m n (y ∷ hs) e b = (sym (names_total.congr (name_of m) (name_of n) (name_of y.0) e) ∙ b.0, before_same m n hs e b.1)
 
 -- nothing goes where all the names come after this one
-kept_all : (n : Label × Label) (hs : List Held) → IsBeforeAll n hs → without_handle n hs ≡ hs
+pub kept_all : (n : Label × Label) (hs : List Held) → IsBeforeAll n hs → without_handle n hs ≡ hs
 kept_all n [] b = refl
 kept_all n (y ∷ hs) b = ap (λ o. cond (not (is_eq o)) (y ∷ without_handle n hs) (without_handle n hs)) b.0 ∙ ap (λ r. y ∷ r) (kept_all n hs b.1)
 
@@ -210,12 +210,8 @@ without_handle_order n (y ∷ hs) o =
       | false ↦ rest
     ]
 
-pub with_change_order : (n : Label × Label) (c : Option Handle) (hs : List Held) → IsInOrder hs → IsInOrder (with_change n c hs)
-with_change_order n None hs o = without_handle_order n hs o
-with_change_order n (Some h) hs o = with_handle_order n h hs o
-
--- a change makes at most one handle more
-with_handle-le : (n : Label × Label) (h : Handle) (hs : List Held) → length (with_handle n h hs) ≤ suc (length hs)
+-- one that is put makes at most one more, and none more where one goes
+pub with_handle-le : (n : Label × Label) (h : Handle) (hs : List Held) → length (with_handle n h hs) ≤ suc (length hs)
 with_handle-le n h [] = omega arith
 with_handle-le n h (y ∷ hs) =
     let rest = with_handle-le n h hs in
@@ -225,33 +221,13 @@ with_handle-le n h (y ∷ hs) =
       | Greater ↦ omega arith
     ]
 
-without_handle-le : (n : Label × Label) (hs : List Held) → length (without_handle n hs) ≤ suc (length hs)
+pub without_handle-le : (n : Label × Label) (hs : List Held) → length (without_handle n hs) ≤ length hs
 without_handle-le n [] = omega arith
 without_handle-le n (y ∷ hs) =
     let rest = without_handle-le n hs in
-    elim (not (is_eq (label_order n y.0))) as (λ q. length (cond q (y ∷ without_handle n hs) (without_handle n hs)) ≤ suc (suc (length hs))) [
+    elim (not (is_eq (label_order n y.0))) as (λ q. length (cond q (y ∷ without_handle n hs) (without_handle n hs)) ≤ suc (length hs)) [
       | true ↦ omega arith
       | false ↦ omega arith
     ]
 
-pub with_change-le : (n : Label × Label) (c : Option Handle) (hs : List Held) → length (with_change n c hs) ≤ suc (length hs)
-with_change-le n None hs = without_handle-le n hs
-with_change-le n (Some h) hs = with_handle-le n h hs
-
-pub at_most : (most : ℕ) (hs : List Held) (ds : List ((Label × Label) × Option Handle)) → length hs + length ds ≤ most → AreAtMost most hs ds
-at_most most hs [] h = tt
-at_most most hs (d ∷ ds) h =
-    let one = with_change-le d.0 d.1 hs in
-    (omega arith, at_most most (with_change d.0 d.1 hs) ds (omega arith))
-
-pub room_for : (hs : List Held) (ds found : List ((Label × Label) × Option Handle)) (room : ℕ) → found ≡ ds → length hs + length found ≤ room
-    → AreAtMost (length hs + (room - length hs)) hs ds
-room_for hs ds found room same h =
-    let e : length found ≡ length ds = ap length same in
-    at_most (length hs + (room - length hs)) hs ds (omega arith)
-
-pub at_most_more : (most more : ℕ) (hs : List Held) (ds : List ((Label × Label) × Option Handle)) → most ≤ more → AreAtMost most hs ds → AreAtMost more hs ds
-at_most_more most more hs [] l h = tt
-at_most_more most more hs (d ∷ ds) l h = let a = h.0 in (omega arith, at_most_more most more (with_change d.0 d.1 hs) ds l h.1)
-
-pub ruleset changes = (place_of_name-le, at_below, with_handle_insert, without_handle_remove, without_handle_none, with_change_order, at_most_more)
+pub ruleset changes = (place_of_name-le, at_below, with_handle_insert, without_handle_remove, without_handle_none, with_handle_order, with_handle-le, without_handle-le)

@@ -6,3 +6,4 @@ pub mod PlainLemmas
 pub mod HandlesLemmas
 pub mod DeltasLemmas
 pub mod LookLemmas
+pub mod BlocksLemmas

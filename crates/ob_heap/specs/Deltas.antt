@@ -58,12 +58,7 @@ pub record IsDelta (c : Stored) (d : Delta) : Type 0 where
   pub next : AreNext (length c.objects) d.objects
   pub handles : AllPairs (λ (a b : (Label × Label) × Option Handle). label_order a.0 b.0 ≡ Less) d.handles
 
--- there are never more handles than so many while they are changed
-abbrev pub AreAtMost : ℕ → List ((Label × Label) × Handle) → List ((Label × Label) × Option Handle) → Type 0
-AreAtMost most hs [] = ⊤
-AreAtMost most hs (d ∷ ds) = (length (with_change d.0 d.1 hs) ≤ most) × AreAtMost most (with_change d.0 d.1 hs) ds
-
 -- a content has room for what a delta adds
 pub record HasRoom (c : Stored) (d : Delta) : Type 0 where
   pub objects : length (with_objects c.objects d.objects) ≤ length c.objects + c.object_room
-  pub handles : AreAtMost (length c.handles + c.handle_room) c.handles d.handles
+  pub handles : length d.handles ≤ c.handle_room

@@ -4,5 +4,6 @@ pub mod Edits
 pub mod Plain
 pub mod Overlays
 pub mod Contents
+pub mod Blocks
 pub mod Differences
 pub mod Deltas

@@ -1,18 +1,18 @@
 //! What a store holds (this project's own).
 ghost use Rattle.std.specs.Prelude.{◌≡◌, [], slice_get, length, OnOk};
 ghost use Rattle.std.specs.Option.{option_copied};
-ghost use Rattle.std.specs.Ordering.{is_eq, is_lt};
-ghost use Rattle.ob_heap_spec.specs.Contents.{name_order};
-ghost use Rattle.ob_heap.specs.Contents.{name_of, handle_at, place_of_name, IsInOrder};
+ghost use Rattle.ob_heap.specs.Blocks.{joined};
+ghost use Rattle.ob_heap.specs.Contents.{handle_at, IsInOrder};
 ghost use Rattle.ob_heap.specs.Deltas.{with_handles, IsDelta, HasRoom};
 ghost use Rattle.ob_heap.specs.Differences.{with_objects};
 
 use crate::applied::{change_handles, count_with, set_objects};
+use crate::block::Block;
 use crate::delta::Delta;
+use crate::handles::Handles;
 use crate::object::{Handle, Object};
 use ob_base::{Label, Memory, ObjectId};
 use std::alloc::Global;
-use std::cmp::Ordering;
 use std::marker::Model;
 
 /// The objects, the place of each being its number, and the handles in the order of their names, each name once: the
@@ -20,79 +20,22 @@ use std::marker::Model;
 #[derive(Drop)]
 pub struct Content {
     objects: Vec<Object>,
-    handles: Vec<((Label, Label), Handle)>,
+    handles: Handles,
 }
 
 impl Model for Content {
     ghost use Rattle.std.specs.Prelude.{◌-◌};
     ghost use Rattle.std.specs.Vec.{vec_len, vec_capacity};
-    ghost use Rattle.ob_heap.specs.Contents.{Stored, IsInOrder};
+    ghost use Rattle.ob_heap.specs.Contents.{Stored};
 
     ghost Value = { Stored };
 
     ghost view = { λ c. record {
       objects = c.objects.items;
-      handles = c.handles.items;
+      handles = c.handles.handles;
       object_room = vec_capacity c.objects - vec_len c.objects;
-      handle_room = vec_capacity c.handles - vec_len c.handles;
+      handle_room = c.handles.room;
     } };
-
-    ghost invariant = { λ c. IsInOrder c.handles.items };
-}
-
-fn is_before(handle: &((Label, Label), Handle), who: &Label, name: &Label) -> bool
-    ensures { result ≡ is_lt (name_order (name_of handle.now.0) (record { who = who.now; name = name.now })) }
-{
-    order(handle, who, name) == Ordering::Less
-}
-
-/// Whether the handle has this name.
-pub fn has_name(handle: &((Label, Label), Handle), who: &Label, name: &Label) -> bool
-    ensures { result ≡ is_eq (name_order (name_of handle.now.0) (record { who = who.now; name = name.now })) }
-{
-    order(handle, who, name) == Ordering::Equal
-}
-
-fn order(handle: &((Label, Label), Handle), who: &Label, name: &Label) -> Ordering
-    ensures { result ≡ name_order (name_of handle.now.0) (record { who = who.now; name = name.now }) }
-{
-    let first = handle.0.0.as_bytes().cmp(who.as_bytes());
-    let second = handle.0.1.as_bytes().cmp(name.as_bytes());
-    first.then(second)
-}
-
-/// The place of the first handle whose name doesn't come before this one, or the end.
-#[tactic(auto, using(crate::proofs::HandlesLemmas::places))]
-pub fn place_of(handles: &[((Label, Label), Handle)], who: &Label, name: &Label) -> usize
-    requires { IsInOrder handles.now }
-    ensures { result ≡ place_of_name (record { who = who.now; name = name.now }) handles.now }
-{
-    let mut low = 0;
-    let mut high = handles.len();
-    while low < high {
-        let middle = low + (high - low) / 2;
-        if is_before(&handles[middle], who, name) {
-            low = middle + 1;
-        } else {
-            high = middle;
-        }
-    }
-    low
-}
-
-fn find(handles: &[((Label, Label), Handle)], who: &Label, name: &Label) -> Option<Handle>
-    requires { IsInOrder handles.now }
-    ensures { result ≡ handle_at (record { who = who.now; name = name.now }) handles.now }
-{
-    let place = place_of(handles, who, name);
-    if place >= handles.len() {
-        return None;
-    }
-    let handle = &handles[place];
-    if has_name(handle, who, name) {
-        return Some(handle.1);
-    }
-    None
 }
 
 impl Content {
@@ -103,7 +46,7 @@ impl Content {
     {
         Content {
             objects: Vec::new(alloc),
-            handles: Vec::new(alloc),
+            handles: Handles::new(alloc),
         }
     }
 
@@ -125,15 +68,22 @@ impl Content {
     pub fn handle(&self, who: &Label, name: &Label) -> Option<Handle>
         ensures { result ≡ handle_at (record { who = who.now; name = name.now }) self.now.handles }
     {
-        find(self.handles.as_slice(), who, name)
+        self.handles.find(who, name)
     }
 
-    /// The handles with their names, in the order of the names.
-    pub fn handles(&self) -> &[((Label, Label), Handle)]
-        ensures handles { result.now ≡ self.now.handles }
+    /// How many handles there are.
+    pub fn count_handles(&self) -> usize
+        ensures count { result ≡ length self.now.handles }
         ensures order { IsInOrder self.now.handles }
     {
-        self.handles.as_slice()
+        self.handles.count()
+    }
+
+    /// The handles with their names, in blocks, one after another in the order of the names.
+    pub fn handle_blocks(&self) -> &[Block]
+        ensures { joined result.now ≡ self.now.handles }
+    {
+        self.handles.blocks()
     }
 }
 

@@ -2,19 +2,23 @@
 #![tactic(auto)]
 
 mod applied;
+mod block;
 mod changed;
 mod content;
 mod delta;
 mod edit;
 mod fields;
+mod handles;
 mod laws;
 mod object;
+mod ordered;
 mod overlay;
 mod reads;
 mod same;
 mod sequence;
 mod value;
 
+pub use block::Block;
 pub use content::{Content, apply, reserve};
 pub use delta::Delta;
 pub use edit::Edit;
@@ -24,6 +28,7 @@ pub use laws::{
     same_objects_are_equal,
 };
 pub use object::{Handle, Object};
+pub use ordered::add_handle;
 pub use overlay::{MakeError, Overlay};
 pub use sequence::Sequence;
 pub use value::{RcStr, Value};

@@ -1,5 +1,6 @@
 //! The owner of an object, looked for at one place after another.
 ghost use Rattle.std.specs.Prelude.{◌≡◌, ◌&&◌, nat_eq, map, option_map, IfOk};
+ghost use Rattle.ob_heap.specs.Blocks.{joined};
 ghost use Rattle.ob_heap.specs.Contents.{content_of, named_of};
 ghost use Rattle.ob_machine_steps.specs.ImageTables.{table_of_image};
 ghost use Rattle.ob_rest_spec.specs.Modes.{is_owned};
@@ -12,7 +13,7 @@ use crate::index::Index;
 use crate::spot::Spot;
 use ob_base::{Duplicate, Label, Memory, ObjectId, both};
 use ob_code::Image;
-use ob_heap::{Content, Handle};
+use ob_heap::{Block, Content, Handle};
 use std::alloc::Global;
 
 // Whether a handle owns the object of a number.
@@ -46,6 +47,22 @@ fn owning_in_handles(
     Ok(None)
 }
 
+// The first handle in blocks, one after another, that owns the object of a number.
+fn owning_in_blocks(
+    alloc: Global,
+    blocks: &[Block],
+    id: ObjectId,
+) -> Result<Option<Spot>, Memory>
+    ensures { IfOk result (λ spot. option_map place_of spot ≡ owning_in_handles (map named_of (joined blocks.now)) id.0) }
+{
+    for block in blocks {
+        if let Some(spot) = owning_in_handles(alloc, block.as_slice(), id)? {
+            return Ok(Some(spot));
+        }
+    }
+    Ok(None)
+}
+
 /// The place of the owner of the object of a number, looked for at one place after another.
 pub fn owner_scan(
     alloc: Global,
@@ -57,7 +74,7 @@ pub fn owner_scan(
 {
     match owning_in_fields(code, content.objects(), id)? {
         Some(spot) => Ok(Some(spot)),
-        None => owning_in_handles(alloc, content.handles(), id),
+        None => owning_in_blocks(alloc, content.handle_blocks(), id),
     }
 }
 

@@ -1,6 +1,6 @@
 use Rattle.std.proofs.Common.{◌∙◌, sym}
 use Rattle.ob_heap.proofs.HandlesLemmas.{find_found, find_other, find_none}
-use Rattle.ob_heap.proofs.content.find.Goals as goal
+use Rattle.ob_heap.proofs.ordered.find.Goals as goal
 
 pub returns-then-place-handles : goal.returns-then-place-handles
 returns-then-place-handles c = find_none (record { who = c.args.who.now; name = c.args.name.now }) c.args.handles.now c.place_of-place.result

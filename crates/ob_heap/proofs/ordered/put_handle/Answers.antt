@@ -4,7 +4,7 @@ use Rattle.std.specs.Vec.{vec_capacity, vec_len}
 use Rattle.ob_heap.specs.Contents.{name_of, place_of_name}
 use Rattle.ob_heap.specs.Deltas.{is_name_at}
 use Rattle.ob_heap.proofs.DeltasLemmas.{with_handle_set, with_handle_insert, with_handle_longer}
-use Rattle.ob_heap.proofs.applied.put_handle.Goals as goal
+use Rattle.ob_heap.proofs.ordered.put_handle.Goals as goal
 
 pub returns-then-has_at-clause-items : goal.returns-then-has_at-clause-items
 returns-then-has_at-clause-items c =

@@ -1,6 +1,6 @@
 use Rattle.std.proofs.Common.{◌≤◌, ◌-◌, length}
 use Rattle.ob_heap.specs.Contents.{place_of_name}
-use Rattle.ob_heap.proofs.content.place_of.Given as goal
+use Rattle.ob_heap.proofs.ordered.place_of.Given as goal
 
 abbrev pub invariant-loop-low : goal.invariant-loop-low
 invariant-loop-low l = record {

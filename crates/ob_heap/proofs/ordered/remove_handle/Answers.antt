@@ -3,7 +3,7 @@ use Rattle.std.specs.List.{remove}
 use Rattle.ob_heap.specs.Contents.{name_of, place_of_name}
 use Rattle.ob_heap.specs.Deltas.{is_name_at}
 use Rattle.ob_heap.proofs.DeltasLemmas.{without_handle_remove}
-use Rattle.ob_heap.proofs.applied.remove_handle.Goals as goal
+use Rattle.ob_heap.proofs.ordered.remove_handle.Goals as goal
 
 pub returns-then-has_at-clause-items : goal.returns-then-has_at-clause-items
 returns-then-has_at-clause-items c =
