@@ -102,5 +102,6 @@ pub fn changes_with(
     // `count_handles` says that names stand in order.
     let _count = base.count_handles();
     let last = last_puts(alloc, puts)?;
-    others(alloc, base, last.as_slice())
+    let changes = others(alloc, base, last.as_slice())?;
+    Ok(changes)
 }

@@ -3,11 +3,13 @@ use Rattle.std.proofs.Common.{◌≡◌, ℕ, ◌+◌, ◌<◌, ◌≤◌, Bool,
 use Rattle.std.specs.Prelude.{nat_eq, ◌&&◌, slice_get, is_some, option_map, filter, find, filter_map, flat_map}
 use Rattle.std.specs.Option.{option_map_or, option_or}
 use Rattle.std.specs.List.{enumerate_from, cons_option}
-use Rattle.std.proofs.lemmas.List.{drop_more, drop_all}
+use Rattle.std.proofs.lemmas.List.{drop_more, drop_all, map-append}
 use Rattle.std.proofs.lemmas.Option.{slice_get-map}
 use Rattle.ob_base.specs.Optional.{◌>>=◌, where_true}
 use Rattle.ob_base.specs.declared.id.FieldId.{FieldId}
 use Rattle.ob_base.specs.declared.permission.Mode.{Mode}
+use Rattle.ob_base.specs.declared.name.Label.{Label}
+use Rattle.ob_heap.specs.declared.object.Handle.{Handle}
 use Rattle.ob_heap.specs.declared.value.Value.{Value}
 use Rattle.ob_code.specs.declared.image.ContractCode.{ContractCode}
 use Rattle.ob_code.specs.declared.image.FieldCode.{FieldCode}
@@ -20,6 +22,8 @@ use Rattle.ob_table.specs.Tables.{ClassTable, contract_at}
 use Rattle.ob_table.specs.declared.contract.Contract.{Contract}
 use Rattle.ob_table.specs.declared.contract.Field.{Field}
 use Rattle.ob_heap.specs.declared.object.Object.{Object}
+use Rattle.ob_heap.specs.Blocks.{joined}
+use Rattle.ob_heap.specs.Contents.{named_of}
 use Rattle.ob_heap.specs.Plain.{object_of, value_of}
 use Rattle.ob_heap_spec.specs.Contents.{Content}
 use Rattle.ob_heap_spec.specs.Objects.{Object as PlainObject}
@@ -28,7 +32,7 @@ use Rattle.ob_machine_steps.specs.ImageTables.{type_of_code, contract_of_code, f
 use Rattle.ob_rest_spec.specs.Incoming.{StorePlace, stored_field, IncomingReference, incoming_by_field, incoming_by_handle, fields_onto, handles_onto}
 use Rattle.ob_rest_spec.specs.Modes.{is_owned}
 use Rattle.ob_rest_spec.specs.References.{reference_of, references_of, field_references, available_value}
-use Rattle.ob_owners.specs.Scanning.{first_of, refers_to, owned_value, owning_place, owning_field, owning_in_object, owning_in_fields, owning_in_handles}
+use Rattle.ob_owners.specs.Scanning.{first_of, refers_to, owned_value, owning_place, owning_field, owning_in_object, owning_in_fields, owning_handle, owning_in_handles}
 use Rattle.ob_owners.specs.Spots.{owner_place}
 
 -- The first that is found.
@@ -207,3 +211,16 @@ scan_field table content n place e = sym (owner_is table content n ∙ ap (λ r.
 pub scan_handle : (table : ClassTable) (content : Content) (n : ℕ) → None ≡ owning_in_fields table content.objects n
     → owning_in_handles content.handles n ≡ owner_place table content n
 scan_handle table content n e = sym (owner_is table content n ∙ ap (λ r. option_or r (owning_in_handles content.handles n)) (sym e))
+
+-- The first in blocks of handles.
+
+pub first_in_blocks : (bs : List (List ((Label × Label) × Handle))) (i : ℕ) (b : List ((Label × Label) × Handle)) (n : ℕ) → i < length bs → b ≡ get_or bs i b
+    → owning_in_handles (map named_of (joined (drop i bs))) n
+    ≡ option_or (owning_in_handles (map named_of b) n) (owning_in_handles (map named_of (joined (drop (i + 1) bs))) n)
+first_in_blocks bs i b n h e =
+    ap (λ cs. owning_in_handles (map named_of (joined cs)) n) (drop_more bs i b h ∙ ap (λ c. c ∷ drop (i + 1) bs) (sym e))
+    ∙ ap (λ hs. owning_in_handles hs n) (map-append named_of b (joined (drop (i + 1) bs)))
+    ∙ first_append (owning_handle n) (map named_of b) (map named_of (joined (drop (i + 1) bs)))
+
+pub none_in_blocks : (bs : List (List ((Label × Label) × Handle))) (i : ℕ) (n : ℕ) → length bs ≤ i → owning_in_handles (map named_of (joined (drop i bs))) n ≡ None
+none_in_blocks bs i n h = ap (λ cs. owning_in_handles (map named_of (joined cs)) n) (drop_all i bs h)

@@ -56,8 +56,9 @@ fn owning_in_blocks(
     ensures { IfOk result (λ spot. option_map place_of spot ≡ owning_in_handles (map named_of (joined blocks.now)) id.0) }
 {
     for block in blocks {
-        if let Some(spot) = owning_in_handles(alloc, block.as_slice(), id)? {
-            return Ok(Some(spot));
+        match owning_in_handles(alloc, block.as_slice(), id)? {
+            Some(spot) => return Ok(Some(spot)),
+            None => {}
         }
     }
     Ok(None)

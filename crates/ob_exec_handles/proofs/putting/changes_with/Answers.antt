@@ -7,6 +7,6 @@ use Rattle.ob_exec_handles.proofs.putting.changes_with.Goals as goal
 pub returns : goal.returns
 returns c =
     let before : IsInOrder c.args.base.now.handles = search rules in
-    puts_lead c.args.base.now.handles c.in_ok-last.last.handles c.args.puts.now c.in_ok-changes.changes before c.handles-after.ensures.order
-    c.in_ok-last.ensures
-    (c.in_ok-changes.ensures ∙ ap (λ hs. changes_by (other_puts c.args.base.now.handles hs)) c.handles-after.ensures.handles)
+    puts_lead c.args.base.now.handles c.in_ok-last.last.items c.args.puts.now c.in_ok-changes.changes before c.in_ok-last.ensures.order
+    c.in_ok-last.ensures.last
+    (c.in_ok-changes.ensures ∙ ap (λ hs. changes_by (other_puts c.args.base.now.handles hs)) c.as_slice.ensures.value)

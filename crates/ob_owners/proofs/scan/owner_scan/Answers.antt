@@ -17,9 +17,9 @@ returns-in-Some c =
 
 pub returns-in-None : goal.returns-in-None
 returns-in-None c =
-    IfOk-weaker c.owning_in_handles.result _ _
-    (λ spot e. e ∙ ap (λ hs. owning_in_handles (map named_of hs) c.args.id.0) c.handles.ensures.handles
+    IfOk-weaker c.owning_in_blocks.result _ _
+    (λ spot e. e ∙ ap (λ hs. owning_in_handles (map named_of hs) c.args.id.0) c.handle_blocks.ensures
     ∙ scan_handle (table_of_image c.args.code.now) (content_of c.args.content.now) c.args.id.0
     (ap (option_map place_of) (sym c.in-None.is) ∙ c.in_ok-spot.ensures
     ∙ ap (λ os. owning_in_fields (table_of_image c.args.code.now) (map object_of os) c.args.id.0) c.objects.ensures))
-    c.owning_in_handles.ensures
+    c.owning_in_blocks.ensures
