@@ -1,5 +1,5 @@
 -- Handles in blocks.
-use Rattle.std.proofs.Common.{◌≡◌, ℕ, zero, suc, ◌+◌, ◌-◌, ◌<◌, ◌≤◌, Bool, true, false, cond, List, [], ◌∷◌, ◌++◌, length, Option, None, Some, refl, sym, ap, ◌∙◌, true≢false, arith, get_or, set, take, drop, subst}
+use Rattle.std.proofs.Common.{◌≡◌, ℕ, zero, suc, ◌+◌, ◌-◌, ◌<◌, ◌≤◌, Bool, true, false, cond, List, [], ◌∷◌, ◌++◌, length, None, Some, refl, sym, ap, ◌∙◌, true≢false, arith, get_or, set, take, drop, subst}
 use Rattle.std.specs.Prelude.{⊤, nat_eq, not, is_some, if◌then◌else◌}
 use Rattle.std.specs.List.{insert, remove}
 use Rattle.std.proofs.lemmas.Bool.{eqb-true}
@@ -14,7 +14,6 @@ use Rattle.ob_heap.specs.declared.object.Handle.{Handle}
 use Rattle.ob_heap.specs.Blocks.{joined, block_place, start_after, starts_after, AreFilled}
 use Rattle.ob_heap.specs.Contents.{name_of, handle_at, IsInOrder, IsBeforeAll}
 use Rattle.ob_heap.specs.Deltas.{label_order, with_handle, without_handle}
-use Rattle.ob_heap_spec.specs.Contents.{HandleName, name_order}
 use Rattle.ob_heap.proofs.HandlesLemmas.{names_total}
 use Rattle.ob_heap.proofs.DeltasLemmas.{Held, turned, before_from, before_same, kept_all}
 
@@ -57,6 +56,7 @@ up_to n (x ∷ xs) y ys o s = (by (label_order y.0 n) refl s, up_to n xs y ys o.
   where
     less : label_order x.0 y.0 ≡ Less
     less = (before_right x.0 xs (y ∷ ys) o.0).0
+
     by : (q : Ordering) → label_order y.0 n ≡ q → is_gt q ≡ false → label_order n x.0 ≡ Greater
     by Less is s = turned n x.0 ∙ ap ordering_reverse (names_total.trans (name_of x.0) (name_of y.0) (name_of n) less is)
     by Equal is s = sym (names_total.congr (name_of y.0) (name_of n) (name_of x.0) is) ∙ turned y.0 x.0 ∙ ap ordering_reverse less

@@ -14,7 +14,7 @@ use std::marker::Model;
 // How many handles a block takes.
 const BLOCK_SIZE: usize = 64;
 
-/// Handles with their names, as many as it has room for at most.
+/// Handles with their names, 64 at most.
 #[derive(Drop)]
 pub struct Block {
     items: Vec<((Label, Label), Handle)>,
@@ -35,10 +35,7 @@ impl Model for Block {
 }
 
 // The last handle of one list goes to the front of the other.
-fn move_last(
-    lower: &mut Vec<((Label, Label), Handle)>,
-    upper: &mut Vec<((Label, Label), Handle)>,
-)
+fn move_last(lower: &mut Vec<((Label, Label), Handle)>, upper: &mut Vec<((Label, Label), Handle)>)
     requires filled { 0 < length lower.old.items }
     requires room { length upper.old.items < vec_capacity upper.old }
     ensures items { lower.new.items ++ upper.new.items ≡ lower.old.items ++ upper.old.items }
@@ -54,13 +51,14 @@ fn move_last(
     }
 }
 
-// The later half of the handles of a full block go into an empty one.
+// The later half of the handles of a full block goes into an empty one.
 fn halve(lower: &mut Vec<((Label, Label), Handle)>, upper: &mut Vec<((Label, Label), Handle)>)
     requires full { length lower.old.items ≡ block_size }
     requires empty { upper.old.items ≡ [] }
     requires room { block_size ≤ vec_capacity upper.old }
     ensures items { lower.new.items ++ upper.new.items ≡ lower.old.items }
-    ensures len { (length lower.new.items ≡ 32) × (length upper.new.items ≡ 32) }
+    ensures lower { (0 < length lower.new.items) × (length lower.new.items < block_size) }
+    ensures upper { (0 < length upper.new.items) × (length upper.new.items < block_size) }
     ensures capacity { (vec_capacity lower.old ≤ vec_capacity lower.new) × (vec_capacity upper.old ≤ vec_capacity upper.new) }
 {
     for _ in 0..BLOCK_SIZE / 2 {

@@ -1,6 +1,6 @@
 //! Handles in the order of their names, in one list.
 ghost use Rattle.std.specs.Prelude.{◌≡◌, ◌≤◌, length, OnOk};
-ghost use Rattle.std.specs.Ordering.{is_eq, is_lt, is_gt};
+ghost use Rattle.std.specs.Ordering.{is_eq, is_lt};
 ghost use Rattle.std.specs.Vec.{vec_capacity};
 ghost use Rattle.ob_heap_spec.specs.Contents.{name_order};
 ghost use Rattle.ob_heap.specs.Blocks.{starts_after};

@@ -48,11 +48,7 @@ fn owning_in_handles(
 }
 
 // The first handle in blocks, one after another, that owns the object of a number.
-fn owning_in_blocks(
-    alloc: Global,
-    blocks: &[Block],
-    id: ObjectId,
-) -> Result<Option<Spot>, Memory>
+fn owning_in_blocks(alloc: Global, blocks: &[Block], id: ObjectId) -> Result<Option<Spot>, Memory>
     ensures { IfOk result (λ spot. option_map place_of spot ≡ owning_in_handles (map named_of (joined blocks.now)) id.0) }
 {
     for block in blocks {

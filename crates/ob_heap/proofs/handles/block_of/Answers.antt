@@ -1,5 +1,5 @@
-use Rattle.std.proofs.Common.{◌≡◌, ◌≤◌, ◌+◌, ◌-◌, ◌/◌, ◌∙◌, ap, sym, true, false, length, arith}
-use Rattle.ob_heap.specs.Blocks.{block_place, starts_after}
+use Rattle.std.proofs.Common.{◌+◌, ◌-◌, ◌/◌, ◌∙◌, ap, sym, true, false, arith}
+use Rattle.ob_heap.specs.Blocks.{starts_after}
 use Rattle.ob_heap_spec.specs.Contents.{HandleName}
 use Rattle.ob_heap.proofs.BlocksLemmas.{block_place-le, before_place, after_place}
 use Rattle.ob_heap.proofs.handles.block_of.Goals as goal

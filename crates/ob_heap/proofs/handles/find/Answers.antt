@@ -2,7 +2,7 @@ use Rattle.std.proofs.Common.{◌∙◌, ◌≤◌, ap, sym, subst, length}
 use Rattle.ob_heap.specs.Blocks.{joined}
 use Rattle.ob_heap.specs.Contents.{handle_at, IsInOrder}
 use Rattle.ob_heap_spec.specs.Contents.{HandleName}
-use Rattle.ob_heap.proofs.BlocksLemmas.{IsBlockOf, order_at, find_at, no_blocks}
+use Rattle.ob_heap.proofs.BlocksLemmas.{order_at, find_at, no_blocks}
 use Rattle.ob_heap.proofs.handles.find.Goals as goal
 
 pub returns-then-place-blocks : goal.returns-then-place-blocks

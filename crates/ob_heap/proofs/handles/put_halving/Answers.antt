@@ -2,7 +2,7 @@ use Rattle.std.proofs.Common.{◌≡◌, ◌+◌, ◌∙◌, ◌≤◌, suc, ap,
 use Rattle.std.specs.List.{insert}
 use Rattle.std.proofs.lemmas.List.{get_or_default}
 use Rattle.ob_heap.specs.Blocks.{block_size, joined, AreFilled}
-use Rattle.ob_heap.proofs.BlocksLemmas.{IsBlockOf, order_at, put_at, insert_joined, filled_set, filled_insert}
+use Rattle.ob_heap.proofs.BlocksLemmas.{order_at, put_at, insert_joined, filled_set, filled_insert}
 use Rattle.ob_heap.proofs.handles.put_halving.Goals as goal
 
 pub put_halving-requires-clause-order : goal.put_halving-requires-clause-order

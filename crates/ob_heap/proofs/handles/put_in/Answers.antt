@@ -1,7 +1,7 @@
 use Rattle.std.proofs.Common.{◌∙◌, ◌<◌, ap, sym, subst, [], length, set}
 use Rattle.std.proofs.lemmas.List.{get_or_default}
 use Rattle.ob_heap.specs.Blocks.{block_size, joined}
-use Rattle.ob_heap.proofs.BlocksLemmas.{IsBlockOf, order_at, put_at, filled_set, put_filled}
+use Rattle.ob_heap.proofs.BlocksLemmas.{order_at, put_at, filled_set, put_filled}
 use Rattle.ob_heap.proofs.handles.put_in.Goals as goal
 
 pub put-requires-clause-order : goal.put-requires-clause-order

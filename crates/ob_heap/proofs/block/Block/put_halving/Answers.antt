@@ -1,4 +1,4 @@
-use Rattle.std.proofs.Common.{◌≡◌, ◌<◌, ◌∙◌, ◌++◌, true, false, ap, sym, subst, length, arith}
+use Rattle.std.proofs.Common.{◌≡◌, ◌<◌, ◌∙◌, ◌++◌, true, false, ap, sym, subst, length}
 use Rattle.ob_heap.specs.Blocks.{starts_after}
 use Rattle.ob_heap.specs.Contents.{name_of}
 use Rattle.ob_heap.proofs.BlocksLemmas.{lower_order, upper_order, put_lower, put_upper, put_filled}
@@ -22,9 +22,10 @@ returns-then-starts_after-clause-items c =
     ∙ put_lower c.args.name c.args.handle lower upper c.args.self.now (c.halve.ensures.items ∙ c.self.view_is) c.requires.order s
 
 pub returns-then-starts_after-clause-filled : goal.returns-then-starts_after-clause-filled
-returns-then-starts_after-clause-filled c =
-    (subst (λ hs. 0 < length hs) (sym c.put.ensures) (put_filled c.args.name c.args.handle c.halve.new.lower.items),
-    subst (λ n. 0 < n) (sym c.halve.ensures.len.1) (omega arith))
+returns-then-starts_after-clause-filled c = (
+  subst (λ hs. 0 < length hs) (sym c.put.ensures) (put_filled c.args.name c.args.handle c.halve.new.lower.items),
+  c.halve.ensures.upper.0,
+)
 
 pub returns-else-starts_after-clause-items : goal.returns-else-starts_after-clause-items
 returns-else-starts_after-clause-items c =
@@ -34,4 +35,4 @@ returns-else-starts_after-clause-items c =
     sym (ap (starts_after (name_of c.args.name)) c.as_slice.ensures) ∙ sym c.starts_after.ensures ∙ c.if-starts_after.false in
     ap (λ hs. lower ++ hs) c.put-else-starts_after.ensures
     ∙ put_upper c.args.name c.args.handle lower upper c.args.self.now (c.halve.ensures.items ∙ c.self.view_is) c.requires.order
-    (subst (λ n. 0 < n) (sym c.halve.ensures.len.1) (omega arith)) s
+    c.halve.ensures.upper.0 s

@@ -1,4 +1,4 @@
-use Rattle.std.proofs.Common.{◌≡◌, ◌<◌, ◌≤◌, ◌+◌, ◌-◌, ◌^◌, ◌∙◌, suc, ap, sym, subst, length, arith}
+use Rattle.std.proofs.Common.{◌≡◌, ◌<◌, ◌≤◌, ◌+◌, ◌-◌, ◌^◌, ◌∙◌, ap, sym, subst, length, arith}
 use Rattle.std.specs.Vec.{vec_len, vec_capacity}
 use Rattle.ob_heap.specs.Blocks.{joined, AreBlocks}
 use Rattle.ob_heap.specs.Contents.{IsInOrder}
