@@ -102,12 +102,7 @@ fn add_others(
 }
 
 // A copy of the object that the base has at a number, with this done to it.
-fn edited_copy(
-    alloc: Global,
-    base: &[Object],
-    id: u32,
-    edit: Edit,
-) -> Result<(u32, Object), Memory>
+fn edited_copy(alloc: Global, base: &[Object], id: u32, edit: Edit) -> Result<(u32, Object), Memory>
     requires { id < length base.now }
     ensures { IfOk result (λ item. IsEditedCopy base.now id edit item) }
 {
