@@ -22,6 +22,10 @@ IsPut n o old new = (m : ℕ) → changed_at m new ≡ (if nat_eq n m then Some 
 abbrev pub IsEditedOver : List Object → ℕ → Edit → List (ℕ × Object) → List (ℕ × Object) → Type 0
 IsEditedOver base n e old new = (o : Object) → slice_get base n ≡ Some o → IsPut n (with_edit e (unwrap_or (changed_at n old) o)) old new
 
+-- this is a number with the object that the base has there, to which this was done
+abbrev pub IsEditedCopy : List Object → ℕ → Edit → ℕ × Object → Type 0
+IsEditedCopy base n e item = (item.0 ≡ n) × ((o : Object) → slice_get base n ≡ Some o → item.1 ≡ with_edit e o)
+
 -- What a run has changed and read: objects of the base by their numbers, as they are now; the objects that it has made;
 -- the numbers of the objects of the base that it has read, each once; whether it has read which number is the next.
 pub record Changes : Type 0 where

@@ -21,6 +21,7 @@ pub enum Edit {
 }
 
 /// Does this to an object, where it lies.
+#[inline(always)]
 pub fn change(object: &mut Object, edit: Edit) -> Result<(), Memory>
     ensures { OnOk result (object.new ≡ with_edit edit object.old) }
 {

@@ -1,7 +1,7 @@
 //! The values of an object's fields.
-ghost use Rattle.std.specs.Prelude.{◌≡◌, [], ◌∷◌, ◌++◌, ℕ, nat_eq, nat_le, IfOk, OnOk, OnErr, remove, length, slice_get};
+ghost use Rattle.std.specs.Prelude.{◌≡◌, [], ◌∷◌, ◌++◌, ◌≤◌, ℕ, nat_eq, nat_le, IfOk, OnOk, OnErr, remove, length, slice_get};
 ghost use Rattle.std.specs.Option.{option_copied};
-ghost use Rattle.std.specs.List.{position_or_len};
+ghost use Rattle.std.specs.List.{insert, position_or_len};
 ghost use Rattle.ob_heap.specs.Fields.{place_of, is_at, value_at, with_value, without_value};
 
 use crate::value::Value;
@@ -61,6 +61,24 @@ fn has_at(items: &[(FieldId, Value)], place: usize, field: FieldId) -> bool
     }
 }
 
+// A field and its value go in at a place.
+#[inline(never)]
+fn insert_at(
+    items: &mut Vec<(FieldId, Value)>,
+    place: usize,
+    item: (FieldId, Value),
+) -> Result<(), Memory>
+    requires { place ≤ length items.old.items }
+    ensures ok { OnOk result (items.new.items ≡ insert items.old.items place item) }
+    ensures err { OnErr result (items.new.items ≡ items.old.items) }
+{
+    match items.insert(place, item) {
+        Ok(()) => Ok(()),
+        Err(_) => Err(Memory),
+    }
+}
+
+#[inline(always)]
 #[tactic(auto, using(crate::proofs::FieldsLemmas::places))]
 fn put_in(items: &mut Vec<(FieldId, Value)>, field: FieldId, value: Value) -> Result<(), Memory>
     ensures ok { OnOk result (items.new.items ≡ with_value field value items.old.items) }
@@ -71,10 +89,7 @@ fn put_in(items: &mut Vec<(FieldId, Value)>, field: FieldId, value: Value) -> Re
         items[place] = (field, value);
         return Ok(());
     }
-    match items.insert(place, (field, value)) {
-        Ok(()) => Ok(()),
-        Err(_) => Err(Memory),
-    }
+    insert_at(items, place, (field, value))
 }
 
 #[tactic(auto, using(crate::proofs::FieldsLemmas::places))]
@@ -108,6 +123,7 @@ impl Fields {
     }
 
     /// The value of the field, if it has one.
+    #[inline(always)]
     pub fn get(&self, field: FieldId) -> Option<&Value>
         ensures { option_copied result ≡ value_at field self.now }
     {
@@ -115,6 +131,7 @@ impl Fields {
     }
 
     /// The field gets the value, in place of one that it has.
+    #[inline(always)]
     pub fn put(&mut self, field: FieldId, value: Value) -> Result<(), Memory>
         ensures ok { OnOk result (self.new ≡ with_value field value self.old) }
         ensures err { OnErr result (self.new ≡ self.old) }

@@ -60,6 +60,7 @@ impl Model for Overlay {
     ghost view = { λ o. record { changed = o.changed; made = o.made.items; reads = o.reads; next = o.next } };
 }
 
+#[inline(never)]
 fn edit_made(made: &mut Vec<Object>, place: usize, edit: Edit) -> Result<(), Memory>
     requires { place < length made.old.items }
     ensures edited { OnOk result (IsEdited place edit made.old.items made.new.items) }
@@ -98,6 +99,7 @@ impl Overlay {
     }
 
     /// The object of this number as the run has left it. Nothing is noted.
+    #[inline(always)]
     pub fn look<'a>(&'a self, base: &'a Content, id: ObjectId) -> Option<&'a Object>
         ensures { option_copied result ≡ slice_get (laid_over base.now.objects self.now) id.0 }
     {
@@ -126,6 +128,7 @@ impl Overlay {
 
     /// Does this to the object of this number, where it lies. Only where the run hadn't touched it before is it copied from the
     /// base.
+    #[inline(always)]
     #[tactic(auto, using(crate::proofs::OverlaysLemmas::over))]
     pub fn edit(
         &mut self,
