@@ -1,14 +1,14 @@
 -- Noting the places one after another.
-use Rattle.std.proofs.Common.{◌≡◌, ℕ, ◌+◌, ◌<◌, ◌≤◌, List, [], ◌∷◌, ◌++◌, map, drop, length, get_or, Option, Some, None, refl, sym, ap, ◌∙◌}
+use Rattle.std.proofs.Common.{◌≡◌, ℕ, ◌+◌, ◌<◌, List, [], map, drop, length, get_or, Option, Some, None, refl, sym, ap, ◌∙◌}
 use Rattle.std.specs.Prelude.{option_map, filter_map, flat_map, slice_get}
 use Rattle.std.specs.Option.{option_map_or, option_to_list}
 use Rattle.std.specs.List.{enumerate_from, cons_option}
-use Rattle.std.proofs.lemmas.List.{drop_more, map-append}
+use Rattle.std.proofs.lemmas.List.{map-append}
 use Rattle.ob_base.specs.declared.name.Label.{Label}
 use Rattle.ob_code.specs.declared.image.ContractCode.{ContractCode}
 use Rattle.ob_code.specs.declared.image.FieldCode.{FieldCode}
 use Rattle.ob_code.specs.declared.image.Image.{Image}
-use Rattle.ob_table.specs.Tables.{ClassTable, contract_at}
+use Rattle.ob_table.specs.Tables.{ClassTable}
 use Rattle.ob_table.specs.declared.contract.Contract.{Contract}
 use Rattle.ob_heap.specs.declared.object.Handle.{Handle}
 use Rattle.ob_heap.specs.declared.object.Object.{Object}
@@ -19,7 +19,7 @@ use Rattle.ob_machine_steps.specs.ImageTables.{contract_of_code, field_of_code, 
 use Rattle.ob_rest_spec.specs.References.{FieldReference, reference_of, references_of, field_references, available_value}
 use Rattle.ob_owners.specs.declared.tally.Holding.{Holding}
 use Rattle.ob_owners.specs.declared.tally.Tally.{Tally}
-use Rattle.ob_owners.specs.Noting.{holding_of_field, holding_of_handle, holdings, noted, after_holdings}
+use Rattle.ob_owners.specs.Noting.{holding_of_field, holding_of_handle, holdings, tallies_with, after_holdings}
 use Rattle.ob_owners.specs.Referring.{references_by}
 use Rattle.ob_owners.proofs.ScanningLemmas.{rest_turn}
 use Rattle.ob_owners.proofs.SeenLemmas.{contract_by}
@@ -29,7 +29,7 @@ use Rattle.ob_owners.proofs.TallyLaws.{after_append}
 
 pub handle_turn : (handles : List ((Label × Label) × Handle)) (i : ℕ) (h : (Label × Label) × Handle) (ts : List Tally) → i < length handles → h ≡ get_or handles i h
     → after_holdings (map holding_of_handle (map named_of (drop i handles))) ts
-    ≡ after_holdings (map holding_of_handle (map named_of (drop (i + 1) handles))) (noted (holding_of_handle (named_of h)) ts)
+    ≡ after_holdings (map holding_of_handle (map named_of (drop (i + 1) handles))) (tallies_with (holding_of_handle (named_of h)) ts)
 handle_turn handles i h ts l at =
     ap (λ hs. after_holdings (map holding_of_handle (map named_of hs)) ts) (rest_turn handles handles i h refl l at)
 

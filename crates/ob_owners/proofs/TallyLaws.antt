@@ -12,35 +12,35 @@ use Rattle.ob_table.specs.Tables.{ClassTable}
 use Rattle.ob_heap_spec.specs.Contents.{HandleName, Handle, Content, object_at}
 use Rattle.ob_heap_spec.specs.Objects.{Object}
 use Rattle.ob_rest_spec.specs.AtRest.{fails}
-use Rattle.ob_rest_spec.specs.Failing.{FailingWay, fails_by, every_way, failing_ways, is_asset, is_marked, is_outside_declaration, is_outside_states}
+use Rattle.ob_rest_spec.specs.Failing.{fails_by, every_way, is_asset, is_marked, is_outside_declaration, is_outside_states}
 use Rattle.ob_rest_spec.specs.Incoming.{IncomingReference, incoming_by_field, incoming_by_handle, incoming_references, fields_onto, handles_onto, owners}
 use Rattle.ob_rest_spec.specs.Modes.{is_owned, is_shared}
 use Rattle.ob_rest_spec.specs.References.{FieldReference, field_references}
 use Rattle.ob_owners.specs.declared.tally.Holding.{Holding}
 use Rattle.ob_owners.specs.declared.tally.OwnerCount.{OwnerCount}
-use Rattle.ob_owners.specs.declared.tally.OwnerCount.TheVariants.{Zero, One, Many}
+use Rattle.ob_owners.specs.declared.tally.OwnerCount.TheVariants.{Zero, Many}
 use Rattle.ob_owners.specs.declared.tally.Tally.{Tally}
-use Rattle.ob_owners.specs.Noting.{holding_of_field, holding_of_handle, holdings, empty_tally, one_more, with_holding, changed_at, noted, after_holdings}
+use Rattle.ob_owners.specs.Noting.{holding_of_field, holding_of_handle, holdings, empty_tally, one_owner_more, with_holding, with_change_at, tallies_with, after_holdings}
 use Rattle.ob_owners.specs.Tallies.{owner_count, tally_of, AreTallies, is_zero, is_many, refers_to_other, fails_by_owners, fails_tallied}
 
 -- A list changed at a place.
 
-pub changed_is_set : {A : Type 0} (f : A → A) (xs : List A) (k : ℕ) (d x : A) → k < length xs → x ≡ f (get_or xs k d) → set xs k x ≡ changed_at k f xs
+pub changed_is_set : {A : Type 0} (f : A → A) (xs : List A) (k : ℕ) (d x : A) → k < length xs → x ≡ f (get_or xs k d) → set xs k x ≡ with_change_at k f xs
 changed_is_set f [] k d x h e = absurd (omega arith)
 changed_is_set f (y ∷ ys) zero d x h e = ap (λ z. z ∷ ys) e
 changed_is_set f (y ∷ ys) (suc k) d x h e = ap (λ zs. y ∷ zs) (changed_is_set f ys k d x (omega arith) e)
 
-pub changed_past : {A : Type 0} (f : A → A) (xs : List A) (k : ℕ) → length xs ≤ k → xs ≡ changed_at k f xs
+pub changed_past : {A : Type 0} (f : A → A) (xs : List A) (k : ℕ) → length xs ≤ k → xs ≡ with_change_at k f xs
 changed_past f [] k h = refl
 changed_past f (y ∷ ys) zero h = absurd (omega arith)
 changed_past f (y ∷ ys) (suc k) h = ap (λ zs. y ∷ zs) (changed_past f ys k (omega arith))
 
-changed_same : {A : Type 0} (f : A → A) (xs : List A) (k : ℕ) → slice_get (changed_at k f xs) k ≡ option_map f (slice_get xs k)
+changed_same : {A : Type 0} (f : A → A) (xs : List A) (k : ℕ) → slice_get (with_change_at k f xs) k ≡ option_map f (slice_get xs k)
 changed_same f [] k = refl
 changed_same f (x ∷ xs) zero = refl
 changed_same f (x ∷ xs) (suc k) = changed_same f xs k
 
-changed_other : {A : Type 0} (f : A → A) (xs : List A) (k n : ℕ) → k ≢ n → slice_get (changed_at k f xs) n ≡ slice_get xs n
+changed_other : {A : Type 0} (f : A → A) (xs : List A) (k n : ℕ) → k ≢ n → slice_get (with_change_at k f xs) n ≡ slice_get xs n
 changed_other f [] k n ne = refl
 changed_other f (x ∷ xs) zero zero ne = absurd (ne refl)
 changed_other f (x ∷ xs) zero (suc n) ne = refl
@@ -48,11 +48,11 @@ changed_other f (x ∷ xs) (suc k) zero ne = refl
 changed_other f (x ∷ xs) (suc k) (suc n) ne = changed_other f xs k n (λ e. ne (ap suc e))
 
 changed_there : {A : Type 0} (f : A → A) (xs : List A) (k n : ℕ)
-    → slice_get (changed_at k f xs) n ≡ (if nat_eq k n then option_map f (slice_get xs n) else slice_get xs n)
+    → slice_get (with_change_at k f xs) n ≡ (if nat_eq k n then option_map f (slice_get xs n) else slice_get xs n)
 changed_there {A} f xs k n = by (nat_eq k n) refl
   where
-    by : (b : Bool) → nat_eq k n ≡ b → slice_get (changed_at k f xs) n ≡ (if b then option_map f (slice_get xs n) else slice_get xs n)
-    by true is = let same : k ≡ n = (Decides-eqb k n).0 is in ap (λ m. slice_get (changed_at m f xs) n) same ∙ changed_same f xs n
+    by : (b : Bool) → nat_eq k n ≡ b → slice_get (with_change_at k f xs) n ≡ (if b then option_map f (slice_get xs n) else slice_get xs n)
+    by true is = let same : k ≡ n = (Decides-eqb k n).0 is in ap (λ m. slice_get (with_change_at m f xs) n) same ∙ changed_same f xs n
     by false is = changed_other f xs k n (λ e. absurd (cc (is, (Decides-eqb k n).1 e)))
 
 -- The tally of one object.
@@ -72,7 +72,7 @@ after_there n [] ts = by (slice_get ts n)
     by None = refl
     by (Some t) = refl
 after_there n (h ∷ hs) ts =
-    after_there n hs (noted h ts)
+    after_there n hs (tallies_with h ts)
     ∙ ap (option_map (tallied (filter (onto n) hs))) (changed_there (with_holding h) ts h.object.0 n)
     ∙ by (onto n h) (slice_get ts n)
   where
@@ -85,12 +85,12 @@ after_there n (h ∷ hs) ts =
 
 pub after_append : (hs ks : List Holding) (ts : List Tally) → after_holdings (hs ++ ks) ts ≡ after_holdings ks (after_holdings hs ts)
 after_append [] ks ts = refl
-after_append (h ∷ hs) ks ts = after_append hs ks (noted h ts)
+after_append (h ∷ hs) ks ts = after_append hs ks (tallies_with h ts)
 
 -- so many owners more
 abbrev more : ℕ → OwnerCount → OwnerCount
 more zero c = c
-more (suc n) c = more n (one_more c)
+more (suc n) c = more n (one_owner_more c)
 
 more_many : (n : ℕ) → more n Many ≡ Many
 more_many zero = refl
@@ -131,7 +131,7 @@ tallied_is (h ∷ hs) t =
     tallied_is hs (with_holding h t)
     ∙ same_tally _ _ _ _ _ _ (by (owning h)) (or_assoc t.shared (sharing h) (list_any sharing hs)) (or_assoc t.outside h.outside (list_any outside hs))
   where
-    by : (b : Bool) → more (length (filter owning hs)) (if b then one_more t.owners else t.owners)
+    by : (b : Bool) → more (length (filter owning hs)) (if b then one_owner_more t.owners else t.owners)
         ≡ more (length (cond b (h ∷ filter owning hs) (filter owning hs))) t.owners
     by true = refl
     by false = refl

@@ -1,5 +1,5 @@
 -- Noting one place after another (this project's own).
-use Rattle.std.specs.Prelude.{ℕ, zero, suc, Bool, false, ◌||◌, List, [], ◌∷◌, ◌++◌, map, if◌then◌else◌}
+use Rattle.std.specs.Prelude.{ℕ, zero, suc, false, ◌||◌, List, [], ◌∷◌, ◌++◌, map, if◌then◌else◌}
 use Rattle.std.specs.Option.{option_map_or}
 use Rattle.ob_table.specs.Tables.{ClassTable}
 use Rattle.ob_heap_spec.specs.Objects.{Object}
@@ -34,30 +34,30 @@ abbrev pub empty_tally : Tally
 empty_tally = record { owners = Zero; shared = false; outside = false }
 
 -- one owner more
-abbrev pub one_more : OwnerCount → OwnerCount
-one_more Zero = One
-one_more One = Many
-one_more Many = Many
+abbrev pub one_owner_more : OwnerCount → OwnerCount
+one_owner_more Zero = One
+one_owner_more One = Many
+one_owner_more Many = Many
 
 -- a tally with one place more
 abbrev pub with_holding : Holding → Tally → Tally
 with_holding h t = record {
-  owners = if is_owned h.mode then one_more t.owners else t.owners;
+  owners = if is_owned h.mode then one_owner_more t.owners else t.owners;
   shared = t.shared || is_shared h.mode;
   outside = t.outside || h.outside;
 }
 
 -- a list in which the thing at a place, if there is one, is another
-abbrev pub changed_at : {A : Type 0} → ℕ → (A → A) → List A → List A
-changed_at n f [] = []
-changed_at zero f (x ∷ xs) = f x ∷ xs
-changed_at (suc n) f (x ∷ xs) = x ∷ changed_at n f xs
+abbrev pub with_change_at : {A : Type 0} → ℕ → (A → A) → List A → List A
+with_change_at n f [] = []
+with_change_at zero f (x ∷ xs) = f x ∷ xs
+with_change_at (suc n) f (x ∷ xs) = x ∷ with_change_at n f xs
 
 -- the tallies of the objects, by number, with one place more
-abbrev pub noted : Holding → List Tally → List Tally
-noted h tallies = changed_at h.object.0 (with_holding h) tallies
+abbrev pub tallies_with : Holding → List Tally → List Tally
+tallies_with h tallies = with_change_at h.object.0 (with_holding h) tallies
 
 -- the same with more places, one after another
 abbrev pub after_holdings : List Holding → List Tally → List Tally
 after_holdings [] tallies = tallies
-after_holdings (h ∷ hs) tallies = after_holdings hs (noted h tallies)
+after_holdings (h ∷ hs) tallies = after_holdings hs (tallies_with h tallies)

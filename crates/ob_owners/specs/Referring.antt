@@ -14,13 +14,13 @@ abbrev pub number_of_object : ObjectId → ℕ
 number_of_object id = id.0
 
 -- the number of the object to which a value refers
-abbrev pub object_in : Value → Option ℕ
-object_in (reference n) = Some n
-object_in value = None
+abbrev pub object_referred : Value → Option ℕ
+object_referred (reference n) = Some n
+object_referred value = None
 
 -- a reference as that in the field of an object, by their numbers
-abbrev pub reference_at : ℕ → ℕ → ReferenceCode → FieldReference
-reference_at holder k r =
+abbrev pub field_reference_of : ℕ → ℕ → ReferenceCode → FieldReference
+field_reference_of holder k r =
     record { holder = holder; field = k; contract = r.contract; perm = perm_of_code r.perm; object = r.object.0 }
 
 -- the references in the available fields of an object of a contract

@@ -1,8 +1,7 @@
 -- What is gathered of each object in one pass over the places of a store, and when an object fails by it (this project's
 -- own).
-use Rattle.std.specs.Prelude.{◌≡◌, ℕ, zero, suc, Bool, true, false, not, ◌&&◌, ◌||◌, List, Option, option_map, slice_get, find, length}
-use Rattle.std.specs.Option.{option_map_or}
-use Rattle.std.specs.List.{list_any, range_with_len}
+use Rattle.std.specs.Prelude.{◌≡◌, ℕ, zero, suc, Bool, true, false, not, ◌&&◌, ◌||◌, List, option_map, slice_get}
+use Rattle.std.specs.List.{list_any}
 use Rattle.ob_table.specs.Tables.{ClassTable}
 use Rattle.ob_heap_spec.specs.Objects.{Object}
 use Rattle.ob_heap_spec.specs.Contents.{Content, object_at}

@@ -1,4 +1,4 @@
-//! Where the owner of an object stands in a store.
+//! Where the owner of an object stands in a store, and whether a store is at rest.
 #![tactic(auto)]
 
 mod error;

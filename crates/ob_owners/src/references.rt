@@ -4,7 +4,7 @@ ghost use Rattle.std.specs.Option.{option_and_then};
 ghost use Rattle.ob_heap.specs.Plain.{object_of, value_of};
 ghost use Rattle.ob_machine_steps.specs.ImageTables.{contract_of_code, type_of_code};
 ghost use Rattle.ob_rest_spec.specs.References.{reference_of, available_value};
-ghost use Rattle.ob_owners.specs.Referring.{object_in, number_of_object, reference_at};
+ghost use Rattle.ob_owners.specs.Referring.{object_referred, number_of_object, field_reference_of};
 
 use crate::values::available;
 use ob_base::{ContractId, ObjectId};
@@ -23,8 +23,8 @@ pub struct FieldReference {
 }
 
 // The object to which a value refers.
-fn object_in(value: &Value) -> Option<ObjectId>
-    ensures { option_map number_of_object result ≡ object_in (value_of value.now) }
+fn object_referred(value: &Value) -> Option<ObjectId>
+    ensures { option_map number_of_object result ≡ object_referred (value_of value.now) }
 {
     match value {
         Value::Object(id) => Some(*id),
@@ -34,10 +34,10 @@ fn object_in(value: &Value) -> Option<ObjectId>
 
 // The object to which the value of the field at a place refers.
 fn object_held(contract: &ContractCode, object: &Object, place: usize) -> Option<ObjectId>
-    ensures { option_map number_of_object result ≡ option_and_then object_in (available_value (contract_of_code contract.now) (object_of object.now) place) }
+    ensures { option_map number_of_object result ≡ option_and_then object_referred (available_value (contract_of_code contract.now) (object_of object.now) place) }
 {
     match available(contract, object, place) {
-        Some(entry) => object_in(&entry.1),
+        Some(entry) => object_referred(&entry.1),
         None => None,
     }
 }
@@ -49,7 +49,7 @@ pub fn reference_at(
     place: usize,
     field: &FieldCode,
 ) -> Option<FieldReference>
-    ensures { (holder : ℕ) → option_map (reference_at holder place) result ≡ reference_of holder place (type_of_code field.now.of) (available_value (contract_of_code contract.now) (object_of object.now) place) }
+    ensures { (holder : ℕ) → option_map (field_reference_of holder place) result ≡ reference_of holder place (type_of_code field.now.of) (available_value (contract_of_code contract.now) (object_of object.now) place) }
 {
     let TypeCode::Reference(declared, perm) = field.of else {
         return None;

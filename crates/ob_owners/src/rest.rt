@@ -1,5 +1,5 @@
 //! Whether a store is at rest.
-ghost use Rattle.std.specs.Prelude.{◌≡◌, ◌≤◌, ℕ, false, not, map, find, length, option_map, IfSome, OnOk};
+ghost use Rattle.std.specs.Prelude.{◌≡◌, ◌≤◌, ℕ, false, not, map, length, option_map, OnOk};
 ghost use Rattle.std.specs.List.{list_any};
 ghost use Rattle.std.specs.Option.{option_map_or};
 ghost use Rattle.ob_base.specs.Limits.{most_objects, most_handles};
@@ -8,10 +8,10 @@ ghost use Rattle.ob_heap.specs.Plain.{object_of};
 ghost use Rattle.ob_heap_spec.specs.Contents.{IsContent};
 ghost use Rattle.ob_machine_steps.specs.ImageTables.{contract_of_code, table_of_image};
 ghost use Rattle.ob_rest_spec.specs.AtRest.{IsStoreAtRest, first_failing_object};
-ghost use Rattle.ob_rest_spec.specs.Failing.{refers_as_declared, is_marked};
+ghost use Rattle.ob_rest_spec.specs.Failing.{refers_as_declared};
 ghost use Rattle.ob_owners.specs.Answers.{IsRestAnswer};
-ghost use Rattle.ob_owners.specs.Referring.{reference_at, references_by};
-ghost use Rattle.ob_owners.specs.Tallies.{AreTallies, refers_to_other, fails_by_owners, fails_tallied, is_many, is_zero};
+ghost use Rattle.ob_owners.specs.Referring.{field_reference_of, references_by};
+ghost use Rattle.ob_owners.specs.Tallies.{AreTallies, refers_to_other, fails_by_owners, fails_tallied};
 
 use crate::error::RestError;
 use crate::references::{FieldReference, reference_at};
@@ -24,7 +24,7 @@ use std::alloc::Global;
 
 // Whether a reference is to an object of the declared contract, or of one that implements it.
 fn refers_as_declared(code: &Image, objects: &[Object], reference: FieldReference) -> bool
-    ensures { (holder k : ℕ) → result ≡ refers_as_declared (table_of_image code.now) (map object_of objects.now) (reference_at holder k reference) }
+    ensures { (holder k : ℕ) → result ≡ refers_as_declared (table_of_image code.now) (map object_of objects.now) (field_reference_of holder k reference) }
 {
     match objects.get(reference.object.0 as usize) {
         Some(object) => serves_as(code, reference.contract, object.contract),
@@ -34,7 +34,7 @@ fn refers_as_declared(code: &Image, objects: &[Object], reference: FieldReferenc
 
 // Whether what was found in a field refers to an object of another contract than is declared.
 fn is_other(code: &Image, objects: &[Object], found: Option<FieldReference>) -> bool
-    ensures { (holder k : ℕ) → result ≡ option_map_or (λ r. not (refers_as_declared (table_of_image code.now) (map object_of objects.now) r)) (option_map (reference_at holder k) found) false }
+    ensures { (holder k : ℕ) → result ≡ option_map_or (λ r. not (refers_as_declared (table_of_image code.now) (map object_of objects.now) r)) (option_map (field_reference_of holder k) found) false }
 {
     match found {
         Some(reference) => !refers_as_declared(code, objects, reference),

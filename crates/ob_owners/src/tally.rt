@@ -7,9 +7,9 @@ ghost use Rattle.ob_heap_spec.specs.Contents.{HandleName};
 ghost use Rattle.ob_machine_steps.specs.ImageTables.{contract_of_code, table_of_image};
 ghost use Rattle.ob_rest_spec.specs.Modes.{is_shared};
 ghost use Rattle.ob_rest_spec.specs.References.{references_of, field_references};
-ghost use Rattle.ob_owners.specs.Referring.{reference_at, references_by};
+ghost use Rattle.ob_owners.specs.Referring.{field_reference_of, references_by};
 ghost use Rattle.ob_owners.specs.Tallies.{AreTallies};
-ghost use Rattle.ob_owners.specs.Noting.{empty_tally, one_more, with_holding, noted, after_holdings, holding_of_field, holding_of_handle, holdings};
+ghost use Rattle.ob_owners.specs.Noting.{empty_tally, one_owner_more, with_holding, tallies_with, after_holdings, holding_of_field, holding_of_handle, holdings};
 
 use crate::fields::is_owned;
 use crate::references::{FieldReference, reference_at};
@@ -64,8 +64,8 @@ fn empty_tally() -> Tally
 }
 
 // One owner more.
-fn one_more(owners: OwnerCount) -> OwnerCount
-    ensures { result ≡ one_more owners }
+fn one_owner_more(owners: OwnerCount) -> OwnerCount
+    ensures { result ≡ one_owner_more owners }
 {
     match owners {
         OwnerCount::Zero => OwnerCount::One,
@@ -88,7 +88,7 @@ fn with_holding(tally: Tally, holding: Holding) -> Tally
     ensures { result ≡ with_holding holding tally }
 {
     let owners = if is_owned(holding.mode) {
-        one_more(tally.owners)
+        one_owner_more(tally.owners)
     } else {
         tally.owners
     };
@@ -101,7 +101,7 @@ fn with_holding(tally: Tally, holding: Holding) -> Tally
 
 // Notes one place more.
 fn note(tallies: &mut [Tally], holding: Holding)
-    ensures { tallies.new ≡ noted holding tallies.old }
+    ensures { tallies.new ≡ tallies_with holding tallies.old }
 {
     let place = holding.object.0 as usize;
     if place < tallies.len() {
@@ -111,7 +111,7 @@ fn note(tallies: &mut [Tally], holding: Holding)
 
 // Whether a field owns its object, which is in none of the states with which the field is declared.
 fn is_outside(code: &Image, objects: &[Object], reference: FieldReference) -> bool
-    ensures { (holder k : ℕ) → result ≡ (holding_of_field (table_of_image code.now) (map object_of objects.now) (reference_at holder k reference)).outside }
+    ensures { (holder k : ℕ) → result ≡ (holding_of_field (table_of_image code.now) (map object_of objects.now) (field_reference_of holder k reference)).outside }
 {
     match objects.get(reference.object.0 as usize) {
         Some(object) => {
@@ -124,7 +124,7 @@ fn is_outside(code: &Image, objects: &[Object], reference: FieldReference) -> bo
 
 // How a field holds the object to which it refers.
 fn holding_of_field(code: &Image, objects: &[Object], reference: FieldReference) -> Holding
-    ensures { (holder k : ℕ) → result ≡ holding_of_field (table_of_image code.now) (map object_of objects.now) (reference_at holder k reference) }
+    ensures { (holder k : ℕ) → result ≡ holding_of_field (table_of_image code.now) (map object_of objects.now) (field_reference_of holder k reference) }
 {
     Holding {
         object: reference.object,
@@ -140,7 +140,7 @@ fn note_found(
     found: Option<FieldReference>,
     tallies: &mut [Tally],
 )
-    ensures { (holder k : ℕ) → tallies.new ≡ after_holdings (map (holding_of_field (table_of_image code.now) (map object_of objects.now)) (option_to_list (option_map (reference_at holder k) found))) tallies.old }
+    ensures { (holder k : ℕ) → tallies.new ≡ after_holdings (map (holding_of_field (table_of_image code.now) (map object_of objects.now)) (option_to_list (option_map (field_reference_of holder k) found))) tallies.old }
 {
     if let Some(reference) = found {
         note(tallies, holding_of_field(code, objects, reference));

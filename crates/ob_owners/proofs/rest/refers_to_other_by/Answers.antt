@@ -5,7 +5,7 @@ use Rattle.ob_heap.specs.Plain.{object_of}
 use Rattle.ob_machine_steps.specs.ImageTables.{contract_of_code, table_of_image}
 use Rattle.ob_rest_spec.specs.Failing.{refers_as_declared}
 use Rattle.ob_rest_spec.specs.References.{FieldReference}
-use Rattle.ob_owners.specs.Referring.{reference_at}
+use Rattle.ob_owners.specs.Referring.{field_reference_of}
 use Rattle.ob_owners.proofs.NotingLemmas.{references_from}
 use Rattle.ob_owners.proofs.RestLemmas.{fields_asked}
 use Rattle.ob_owners.proofs.ScanningLemmas.{rest_end}
@@ -17,7 +17,7 @@ returns-then-is_other c = λ holder.
     sym (c.loop-place.invariant holder
     ∙ fields_asked (λ r. not (refers_as_declared (table_of_image c.args.code.now) (map object_of c.args.objects.now) r))
     (contract_of_code c.args.contract.now) holder (object_of c.args.object.now) c.as_slice-field-items.result.now c.args.contract.now.fields place
-    c.field-item.result (option_map (reference_at holder place) c.reference_at.result) true
+    c.field-item.result (option_map (field_reference_of holder place) c.reference_at.result) true
     c.as_slice-field-items.ensures c.loop-place-test.true c.field-item.is (c.reference_at.ensures holder)
     (sym c.if-is_other.true ∙ c.is_other.ensures holder place))
 
@@ -27,7 +27,7 @@ loop-place-preserved c = λ holder.
     c.loop-place.invariant holder
     ∙ fields_asked (λ r. not (refers_as_declared (table_of_image c.args.code.now) (map object_of c.args.objects.now) r))
     (contract_of_code c.args.contract.now) holder (object_of c.args.object.now) c.as_slice-field-items.result.now c.args.contract.now.fields place
-    c.field-item.result (option_map (reference_at holder place) c.reference_at.result) false
+    c.field-item.result (option_map (field_reference_of holder place) c.reference_at.result) false
     c.as_slice-field-items.ensures c.loop-place-test.true c.field-item.is (c.reference_at.ensures holder)
     (sym c.if-is_other.false ∙ c.is_other.ensures holder place)
 

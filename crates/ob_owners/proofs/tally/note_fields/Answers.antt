@@ -3,7 +3,7 @@ use Rattle.std.specs.Prelude.{option_map}
 use Rattle.ob_heap.specs.Plain.{object_of}
 use Rattle.ob_machine_steps.specs.ImageTables.{contract_of_code, table_of_image}
 use Rattle.ob_owners.specs.Noting.{holding_of_field, after_holdings}
-use Rattle.ob_owners.specs.Referring.{reference_at}
+use Rattle.ob_owners.specs.Referring.{field_reference_of}
 use Rattle.ob_owners.proofs.NotingLemmas.{references_from, fields_noted}
 use Rattle.ob_owners.proofs.ScanningLemmas.{rest_end}
 use Rattle.ob_owners.proofs.tally.note_fields.Goals as goal
@@ -13,7 +13,7 @@ loop-place-preserved c = λ holder.
     let place = c.loop-place.place in
     fields_noted (holding_of_field (table_of_image c.args.code.now) (map object_of c.args.objects.now)) (contract_of_code c.args.contract.now) holder
     (object_of c.args.object.now) c.as_slice-field-items.result.now c.args.contract.now.fields place c.field-item.result
-    (option_map (reference_at holder place) c.reference_at-found.result) c.loop-place.tallies c.note_found.new.tallies c.as_slice-field-items.ensures
+    (option_map (field_reference_of holder place) c.reference_at-found.result) c.loop-place.tallies c.note_found.new.tallies c.as_slice-field-items.ensures
     c.loop-place-test.true c.field-item.is (c.reference_at-found.ensures holder) (c.note_found.ensures holder place)
     ∙ c.loop-place.invariant holder
 

@@ -5,7 +5,7 @@ use Rattle.ob_heap.specs.Contents.{content_of}
 use Rattle.ob_heap.specs.Plain.{object_of}
 use Rattle.ob_machine_steps.specs.ImageTables.{table_of_image}
 use Rattle.ob_owners.specs.declared.tally.Tally.{Tally}
-use Rattle.ob_owners.specs.Noting.{empty_tally, after_holdings, holdings}
+use Rattle.ob_owners.specs.Noting.{after_holdings, holdings}
 use Rattle.ob_owners.proofs.TallyLaws.{noted_all}
 use Rattle.ob_owners.proofs.tally.tallies.Goals as goal
 
