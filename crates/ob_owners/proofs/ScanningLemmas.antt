@@ -182,17 +182,26 @@ object_missing code n holder o at =
 
 -- One field after another.
 
+-- what is left of a list at a place: the thing there, and what is after it
+pub rest_turn : {A : Type 0} (items own : List A) (place : ℕ) (x : A) → items ≡ own → place < length items → x ≡ get_or items place x
+    → drop place own ≡ x ∷ drop (place + 1) own
+rest_turn {A} items own place x e l at =
+    ap (drop place) (sym e) ∙ drop_more items place x l ∙ ap (λ y. y ∷ drop (place + 1) items) (sym at) ∙ ap (λ ys. x ∷ drop (place + 1) ys) e
+
 pub field_turn : (go : (ℕ × Field) → Option StorePlace) (items own : List FieldCode) (place : ℕ) (f : FieldCode) → items ≡ own → place < length items
     → f ≡ get_or items place f → first_of go (enumerate_from place (map field_of_code (drop place own)))
     ≡ option_or (go (place, field_of_code f)) (first_of go (enumerate_from (place + 1) (map field_of_code (drop (place + 1) own))))
 field_turn go items own place f e l at =
-    ap (λ fs. first_of go (enumerate_from place (map field_of_code fs)))
-    (ap (drop place) (sym e) ∙ drop_more items place f l ∙ ap (λ x. x ∷ drop (place + 1) items) (sym at) ∙ ap (λ fs. f ∷ drop (place + 1) fs) e)
+    ap (λ fs. first_of go (enumerate_from place (map field_of_code fs))) (rest_turn items own place f e l at)
+
+-- nothing is left of a list past its end
+pub rest_end : {A : Type 0} (items own : List A) (place : ℕ) → items ≡ own → length items ≤ place → drop place own ≡ []
+rest_end items own place e l = ap (drop place) (sym e) ∙ drop_all place items l
 
 pub fields_end : (go : (ℕ × Field) → Option StorePlace) (items own : List FieldCode) (place : ℕ) → items ≡ own → length items ≤ place
     → first_of go (enumerate_from place (map field_of_code (drop place own))) ≡ None
 fields_end go items own place e l =
-    ap (λ fs. first_of go (enumerate_from place (map field_of_code fs))) (ap (drop place) (sym e) ∙ drop_all place items l)
+    ap (λ fs. first_of go (enumerate_from place (map field_of_code fs))) (rest_end items own place e l)
 
 pub first_here : {A B : Type 0} (f : A → B) (r : Option A) (x rest : Option B) → is_some r ≡ true → option_map f r ≡ x → option_or x rest ≡ option_map f r
 first_here f None x rest h e = absurd cc

@@ -15,7 +15,7 @@ use ob_code::{ContractCode, FieldCode};
 use ob_heap::{Object, Value};
 
 // The number whose bits are those of a number with a sign.
-fn bits(number: i64) -> u64
+pub fn bits(number: i64) -> u64
     ensures { result ≡ bits_of number }
 {
     if number < 0 {
@@ -26,7 +26,7 @@ fn bits(number: i64) -> u64
 }
 
 // The number of a state, or that of no state.
-fn state_number(state: Option<StateId>) -> u8
+pub fn state_number(state: Option<StateId>) -> u8
     ensures { result ≡ state_number state }
 {
     match state {
@@ -36,7 +36,7 @@ fn state_number(state: Option<StateId>) -> u8
 }
 
 #[tactic(auto, unfolding(ob_perm::specs::Masks::states_of))]
-fn has_bit(set: u64, number: u8) -> bool
+pub fn has_bit(set: u64, number: usize) -> bool
     ensures { result ≡ states_of set number }
 {
     if number >= 64 {
@@ -49,7 +49,7 @@ fn has_bit(set: u64, number: u8) -> bool
 fn is_available(state: Option<StateId>, field: &FieldCode) -> bool
     ensures { result ≡ is_available_in state field.now }
 {
-    has_bit(bits(field.available), state_number(state))
+    has_bit(bits(field.available), state_number(state) as usize)
 }
 
 // The value of the field at a place, with the field's number.
