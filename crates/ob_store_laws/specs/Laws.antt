@@ -1,5 +1,5 @@
 -- What differs between two stores, as a payload says it (this project's own).
-use Rattle.std.specs.Prelude.{◌≡◌, ◌×◌, ◌≤◌, length}
+use Rattle.std.specs.Prelude.{◌≡◌, ◌≤◌, length}
 use Rattle.ob_table.specs.Tables.{ClassTable}
 use Rattle.ob_heap_spec.specs.Contents.{Content, IsContent}
 use Rattle.ob_rest_spec.specs.AtRest.{IsStoreAtRest}

@@ -1,5 +1,5 @@
 -- What differs between two contents, as a payload says it (this project's own).
-use Rattle.std.specs.Prelude.{ℕ, suc, Bool, false, not, ◌×◌, List, [], ◌∷◌, ◌++◌, map, filter, Option, option_to_list, if◌then◌else◌}
+use Rattle.std.specs.Prelude.{ℕ, suc, Bool, false, not, List, [], ◌∷◌, ◌++◌, map, filter, Option, option_to_list, if◌then◌else◌}
 use Rattle.std.specs.Option.{option_map_or}
 use Rattle.std.specs.Str.{bytes_eq}
 use Rattle.ob_base.specs.declared.id.StateId.{StateId}

@@ -1,6 +1,6 @@
 -- What becomes of a store where a request leads to another content: its area gets a record of what differs, or has no room for it
 -- (this project's own).
-use Rattle.std.specs.Prelude.{ℕ, Bool, true, false, ◌×◌, ◌+◌, ◌&&◌, nat_lt, List, [], ◌∷◌, length, Option, Some, None, Result, Ok, Err, if◌then◌else◌}
+use Rattle.std.specs.Prelude.{ℕ, Bool, true, false, ◌+◌, ◌&&◌, nat_lt, List, [], ◌∷◌, length, Option, Some, None, Result, Ok, Err, if◌then◌else◌}
 use Rattle.ob_table.specs.Tables.{ClassTable}
 use Rattle.ob_heap_spec.specs.Contents.{Content}
 use Rattle.ob_store_spec.specs.Payloads.{Changes, payload}

@@ -1,0 +1,4 @@
+pub mod Entries
+pub mod Handles
+pub mod Objects
+pub mod News
