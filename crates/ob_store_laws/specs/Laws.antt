@@ -1,10 +1,11 @@
 -- What differs between two stores, as a payload says it (this project's own).
-use Rattle.std.specs.Prelude.{◌≡◌, ◌≤◌, length}
+use Rattle.std.specs.Prelude.{◌≡◌, ◌≤◌, All, length}
 use Rattle.ob_table.specs.Tables.{ClassTable}
-use Rattle.ob_heap_spec.specs.Contents.{Content, IsContent}
+use Rattle.ob_heap_spec.specs.Contents.{Content, IsObject, IsContent}
 use Rattle.ob_rest_spec.specs.AtRest.{IsStoreAtRest}
 use Rattle.ob_heap.specs.Contents.{Stored, content_of}
 use Rattle.ob_heap.specs.Deltas.{IsDelta}
+use Rattle.ob_heap.specs.Plain.{object_of}
 use Rattle.ob_heap.specs.declared.delta.Delta.{Delta}
 use Rattle.ob_store_spec.specs.Payloads.{Changes, payload}
 use Rattle.ob_store_spec.specs.Changes.{AreChangesOf, with_changes}
@@ -29,10 +30,10 @@ NewsAreDifferences =
     (table : ClassTable) (base : Stored) (delta : Delta) → IsContent table (content_of base) → IsDelta base delta
     → news_of table base delta ≡ changes_between table (content_of base) (content_with base delta)
 
--- The changes that a delta says make of a content what the delta makes of it, where they are changes of it.
+-- The changes that a delta says make of a content what the delta makes of it, where its objects are of the class table then.
 abbrev pub ChangesAreMadeAsDeltas : Type 0
 ChangesAreMadeAsDeltas =
-    (table : ClassTable) (base : Stored) (delta : Delta) → IsDelta base delta → AreChangesOf table (content_of base) (changes_of table delta)
+    (table : ClassTable) (base : Stored) (delta : Delta) → All (λ e. IsObject table (content_with base delta).objects (object_of e.1)) delta.objects
     → with_changes table (content_of base) (changes_of table delta) ≡ content_with base delta
 
 -- Changes keep a content one of its class table.
