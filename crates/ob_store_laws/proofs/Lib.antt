@@ -4,3 +4,4 @@ pub mod Objects
 pub mod News
 pub mod Again
 pub mod Made
+pub mod Keeping
