@@ -1,3 +1,4 @@
+pub mod Tails
 pub mod Entries
 pub mod Handles
 pub mod Objects
@@ -5,3 +6,6 @@ pub mod News
 pub mod Again
 pub mod Made
 pub mod Keeping
+pub mod Fitting
+pub mod Differing
+pub mod Said

@@ -16,6 +16,7 @@ use Rattle.ob_heap_spec.specs.Objects.{Object as PlainObject}
 use Rattle.ob_store_spec.specs.Payloads.{StoredObject, object}
 use Rattle.ob_store_spec.specs.Between.{stored_object, stored_from, is_stored_so}
 use Rattle.ob_store_laws.specs.Recorded.{object_change}
+use Rattle.ob_store_laws.proofs.Tails.{IsTail, whole_tail, rest_tail, first_of_tail, length_more, is_lower, not_lower}
 
 -- an object with its number
 abbrev Numbered : Type 0
@@ -39,12 +40,6 @@ from_below : (n m : ℕ) (es : List Numbered) → n ≡ m → IsBelowAll (λ (e 
 from_below n m [] same b = tt
 from_below n m (e ∷ es) same b = let low = b.0 in omega arith
 
-is_lower : (m n : ℕ) → m < n → nat_lt m n ≡ true
-is_lower m n h = grind arith
-
-not_lower : (m n : ℕ) → m ≡ n → nat_lt m n ≡ false
-not_lower m n h = grind arith
-
 same_number : (m n : ℕ) → nat_eq m n ≡ true → m ≡ n
 same_number m n h = grind arith
 
@@ -60,9 +55,6 @@ next_past n e es from next = subst (λ b. AreNext (if b then n else suc n) es) (
 
 next_within : (n : ℕ) (e : Numbered) (es : List Numbered) → e.0.0 < n → AreNext n (e ∷ es) → AreNext n es
 next_within n e es low next = subst (λ b. AreNext (if b then n else suc n) es) (is_lower e.0.0 n low) next.1
-
-length_more : (front : List Object) (n : ℕ) (o : Object) → n ≡ length front → suc n ≡ length (front ++ o ∷ [])
-length_more front n o is = let l = length-append front (o ∷ []) in omega arith
 
 -- Objects after a delta.
 
@@ -110,28 +102,18 @@ module _ (table : ClassTable) (base : List Object) where
   abbrev is_new : StoredObject → Bool
   is_new o = not (is_stored_so table (map object_of base) o)
 
-  -- these are the objects of the base from a number on
-  abbrev AreOfBase : ℕ → List Object → Type 0
-  AreOfBase n os = (i : ℕ) → slice_get base (n + i) ≡ slice_get os i
-
   old : (n : ℕ) (o : Object) → slice_get base n ≡ Some o → is_new (stored_object table n (object_of o)) ≡ false
   old n o at =
       ap (λ r. not (option_map_or (λ x. bytes_eq ((object table).bytes (stored_object table n x)) ((object table).bytes (stored_object table n (object_of o)))) r false))
       (slice_get-map object_of base n ∙ ap (option_map object_of) at)
       ∙ ap not ((bytes_eq-Decides ((object table).bytes (stored_object table n (object_of o))) ((object table).bytes (stored_object table n (object_of o)))).1 refl)
 
-  rest_of_base : (n : ℕ) (o : Object) (os : List Object) → AreOfBase n (o ∷ os) → AreOfBase (suc n) os
-  rest_of_base n o os h i = let same : suc n + i ≡ n + suc i = omega arith in ap (slice_get base) same ∙ h (suc i)
-
-  old_first : (n : ℕ) (o : Object) (os : List Object) → AreOfBase n (o ∷ os) → is_new (stored_object table n (object_of o)) ≡ false
-  old_first n o os h = let same : n ≡ n + 0 = omega arith in old n o (ap (slice_get base) same ∙ h 0)
-
-  none_new : (n : ℕ) (os : List Object) → AreOfBase n os → filter is_new (stored_from table n (map object_of os)) ≡ []
+  none_new : (n : ℕ) (os : List Object) → IsTail base n os → filter is_new (stored_from table n (map object_of os)) ≡ []
   none_new n [] h = refl
   none_new n (o ∷ os) h =
       ap (λ b. cond b (stored_object table n (object_of o) ∷ filter is_new (stored_from table (suc n) (map object_of os))) (filter is_new (stored_from table (suc n) (map object_of os))))
-      (old_first n o os h)
-      ∙ none_new (suc n) os (rest_of_base n o os h)
+      (old n o (first_of_tail base n o os h))
+      ∙ none_new (suc n) os (rest_tail base n o os h)
 
   stored_past : (n : ℕ) (es : List Numbered) → Ascend es → IsFrom n es → AreNext n es
       → stored_from table n (map object_of (map (λ e. e.1) es)) ≡ map (object_change table) es
@@ -141,15 +123,15 @@ module _ (table : ClassTable) (base : List Object) where
       ap (λ m. stored_object table m (object_of e.1) ∷ stored_from table (suc n) (map object_of (map (λ d. d.1) es))) (sym same)
       ∙ ap (λ os. object_change table e ∷ os) (stored_past (suc n) es up.1 (from_below n e.0.0 es (sym same) up.0) (next_past n e es from next))
 
-  news_within : (n count : ℕ) (os : List Object) (es : List Numbered) → count ≡ n + length os → AreOfBase n os → Ascend es → IsFrom n es → AreNext count es
+  news_within : (n count : ℕ) (os : List Object) (es : List Numbered) → count ≡ n + length os → IsTail base n os → Ascend es → IsFrom n es → AreNext count es
       → filter is_new (stored_from table n (map object_of (laid n os es))) ≡ filter is_new (map (object_change table) es)
   news_within n count [] es all h up from next =
       let none : count ≡ n = omega arith in ap (filter is_new) (stored_past n es up from (subst (λ k. AreNext k es) none next))
   news_within n count (o ∷ os) [] all h up from next = none_new n (o ∷ os) h
   news_within n count (o ∷ os) (e ∷ es) all h up from next =
       by (nat_eq e.0.0 n) refl
-      (λ same. news_within (suc n) count os es (omega arith) (rest_of_base n o os h) up.1 (from_below n e.0.0 es (sym same) up.0) (next_within count e es (omega arith) next))
-      (λ later. news_within (suc n) count os (e ∷ es) (omega arith) (rest_of_base n o os h) up later next)
+      (λ same. news_within (suc n) count os es (omega arith) (rest_tail base n o os h) up.1 (from_below n e.0.0 es (sym same) up.0) (next_within count e es (omega arith) next))
+      (λ later. news_within (suc n) count os (e ∷ es) (omega arith) (rest_tail base n o os h) up later next)
     where
       kept : List StoredObject → StoredObject → List StoredObject
       kept rest o = cond (is_new o) (o ∷ rest) rest
@@ -166,14 +148,14 @@ module _ (table : ClassTable) (base : List Object) where
       by false there rest behind =
           ap (λ b. cond b (stored_object table n (object_of o) ∷ filter is_new (stored_from table (suc n) (map object_of (laid (suc n) os (e ∷ es)))))
           (filter is_new (stored_from table (suc n) (map object_of (laid (suc n) os (e ∷ es))))))
-          (old_first n o os h)
+          (old n o (first_of_tail base n o os h))
           ∙ behind (later_number e.0.0 n there from)
 
   pub news_differ : (es : List Numbered) → Ascend es → AreNext (length base) es
       → filter is_new (map (object_change table) es) ≡ filter is_new (stored_from table 0 (map object_of (with_objects base es)))
   news_differ es up next =
       sym (ap (λ os. filter is_new (stored_from table 0 (map object_of os))) (within [] base es 0 (length base) refl all up (from es) next)
-      ∙ news_within 0 (length base) base es all (λ i. ap (slice_get base) (zero-add i)) up (from es) next)
+      ∙ news_within 0 (length base) base es all (whole_tail base) up (from es) next)
     where
       all : length base ≡ 0 + length base
       all = omega arith
