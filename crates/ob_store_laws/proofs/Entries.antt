@@ -1,7 +1,6 @@
 -- Lists of entries in the order of their keys: which are in it, and what is found in them.
-use Rattle.std.proofs.Common.{◌≡◌, ◌∙◌, zero, suc, Bool, true, false, cond, List, [], ◌∷◌, map, Option, Some, None, refl, sym, ap, subst, arith}
+use Rattle.std.proofs.Common.{◌≡◌, ◌∙◌, suc, Bool, true, false, cond, List, [], ◌∷◌, map, Option, Some, None, refl, sym, ap, subst, arith}
 use Rattle.std.specs.Prelude.{T, ◌&&◌, filter, All, AllPairs, option_map}
-use Rattle.std.specs.Cmp.{IsTotalOrder}
 use Rattle.std.specs.Ordering.{is_lt, is_eq, eq_by_cmp}
 use Rattle.std.specs.FinMap.Entries.{find as find_key, below_all, is_sorted}
 use Rattle.std.specs.declared.cmp.Ordering.{Ordering}

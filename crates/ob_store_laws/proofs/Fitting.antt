@@ -1,6 +1,6 @@
 -- What stands in a store of a class table has a spelling, if payloads can tell the contracts and the states from one another.
-use Rattle.std.proofs.Common.{◌≡◌, ◌∙◌, ℕ, suc, ℤ, pos, negsuc, ◌<◌, ◌≤◌, ◌^◌, Bool, true, false, List, [], ◌∷◌, ◌++◌, length, Option, Some, None, refl, sym, ap, subst, arith}
-use Rattle.std.specs.Prelude.{nat_eq, nat_lt, nat_le, ◌&&◌, FitsSigned, IsTrue, IfSome, IsSomeAnd, All, filter, slice_get, option_to_list, if◌then◌else◌}
+use Rattle.std.proofs.Common.{◌≡◌, ℕ, suc, ℤ, pos, negsuc, ◌<◌, ◌≤◌, ◌^◌, Bool, true, false, List, [], ◌∷◌, ◌++◌, length, Option, Some, None, refl, ap, arith}
+use Rattle.std.specs.Prelude.{nat_eq, nat_le, ◌&&◌, FitsSigned, IsTrue, IfSome, IsSomeAnd, All, filter, slice_get, option_to_list, if◌then◌else◌}
 use Rattle.std.specs.Int.{w64}
 use Rattle.std.specs.Option.{option_map_or}
 use Rattle.std.specs.Str.{is_utf8}
@@ -9,9 +9,8 @@ use Rattle.std.proofs.lemmas.List.Elements.{All-head, All-tail}
 use Rattle.std.proofs.lemmas.Option.{slice_get_within}
 use Rattle.std.proofs.lemmas.Str.{IsUtf8-from_is_utf8}
 use Rattle.ob_base.specs.Limits.{most_objects, longest_name, longest_string}
-use Rattle.ob_base.specs.Names.{is_label, is_text}
+use Rattle.ob_base.specs.Names.{is_label}
 use Rattle.ob_base.specs.Numbers.{is_int}
-use Rattle.ob_base.specs.declared.id.ContractId.{ContractId}
 use Rattle.ob_base.specs.declared.id.StateId.{StateId}
 use Rattle.ob_base.specs.declared.permission.Mode.{Mode}
 use Rattle.ob_base.specs.declared.permission.Mode.TheVariants.{Owned, Shared, Unowned}
@@ -28,7 +27,7 @@ use Rattle.ob_heap_spec.specs.Values.{Value, Numbered, int_value, bool_value, te
 use Rattle.ob_heap_spec.specs.Objects.{Object, is_available}
 use Rattle.ob_heap_spec.specs.Contents.{HandleName, Handle, IsValueOf, IsStateOf, IsObjectOf, IsObject}
 use Rattle.ob_invocation_laws.proofs.Marking.{item_of}
-use Rattle.ob_store_spec.specs.Payloads.{state_of_byte, byte_of_state, state, marks, truth, value, object_head, object, hold, held, handle, available_count}
+use Rattle.ob_store_spec.specs.Payloads.{state, marks, truth, value, object_head, object, hold, held, handle}
 use Rattle.ob_store_spec.specs.Between.{values_from, stored_object}
 use Rattle.ob_store_laws.specs.Recorded.{IsStorable}
 use Rattle.ob_store_laws.proofs.Again.{have_values, length-values}

@@ -1,11 +1,11 @@
 -- Changes keep a content one of its class table.
-use Rattle.std.proofs.Common.{◌≡◌, ℕ, ◌<◌, ◌≤◌, Bool, true, false, List, [], ◌∷◌, ◌++◌, length, Option, Some, None, refl, sym, subst, arith, length-append, length-set, le_trans}
-use Rattle.std.specs.Prelude.{nat_lt, not, fold, set, slice_get, All, AllPairs, IfSome, IsSomeAnd, if◌then◌else◌}
+use Rattle.std.proofs.Common.{◌≡◌, ℕ, ◌≤◌, Bool, true, false, List, [], ◌∷◌, ◌++◌, length, Option, Some, None, refl, subst, arith, length-append, length-set}
+use Rattle.std.specs.Prelude.{nat_lt, not, fold, set, slice_get, All, IfSome, IsSomeAnd, if◌then◌else◌}
 use Rattle.std.specs.Ordering.{eq_by_cmp}
 use Rattle.std.specs.FinMap.Entries.{put as put_key, by_order}
 use Rattle.std.specs.declared.cmp.Ordering.{Ordering}
 use Rattle.std.specs.declared.cmp.Ordering.TheVariants.{Less, Equal, Greater}
-use Rattle.std.proofs.lemmas.List.Elements.{All-nil, All-cons, All-head, All-tail, All-set, All-push, All-filter, All-weaker}
+use Rattle.std.proofs.lemmas.List.Elements.{All-cons, All-head, All-tail, All-set, All-push, All-filter, All-weaker}
 use Rattle.ob_table.specs.Tables.{ClassTable, contract_at}
 use Rattle.ob_table.specs.declared.contract.Contract.{Contract}
 use Rattle.ob_table.specs.declared.contract.Field.{Field}
@@ -13,11 +13,11 @@ use Rattle.ob_table.specs.declared.contract.ResolvedType.{ResolvedType}
 use Rattle.ob_table.specs.declared.contract.ResolvedType.TheVariants.{Int, Bool as BoolKind, Text, Reference}
 use Rattle.ob_heap_spec.specs.Values.{Value, int_value, bool_value, text_value, reference}
 use Rattle.ob_heap_spec.specs.Objects.{Object}
-use Rattle.ob_heap_spec.specs.Contents.{HandleName, Handle, Content, IsValueOf, IsObjectOf, IsObject, IsHandle, IsContent, name_order}
+use Rattle.ob_heap_spec.specs.Contents.{HandleName, Handle, Content, IsValueOf, IsObjectOf, IsObject, IsHandle, name_order}
 use Rattle.ob_invocation_spec.specs.Handles.{NamedHandle}
 use Rattle.ob_invocation_laws.proofs.Kept.{one_name}
-use Rattle.ob_store_spec.specs.Payloads.{StoredObject, Changes}
-use Rattle.ob_store_spec.specs.Changes.{object_of, with_object, with_change, with_changes, IsHandleChange, AreChangesOf}
+use Rattle.ob_store_spec.specs.Payloads.{StoredObject}
+use Rattle.ob_store_spec.specs.Changes.{object_of, with_object, with_change, with_changes, IsHandleChange}
 use Rattle.ob_store_laws.specs.Laws.{ChangesKeepContents}
 use Rattle.ob_store_laws.proofs.Entries.{sorted_of, of_sorted}
 use Rattle.ob_store_laws.proofs.Handles.{Change, sorted_changed}

@@ -1,5 +1,5 @@
 -- What a delta's changes make of a content is what the delta makes of it.
-use Rattle.std.proofs.Common.{◌≡◌, ◌∙◌, ℕ, Bool, true, false, List, [], ◌∷◌, ◌++◌, length, map, set, refl, sym, ap}
+use Rattle.std.proofs.Common.{◌≡◌, ◌∙◌, Bool, true, false, List, [], ◌∷◌, ◌++◌, length, map, set, refl, sym, ap}
 use Rattle.std.specs.Prelude.{nat_lt, fold, All, if◌then◌else◌}
 use Rattle.std.proofs.lemmas.List.{length-map, map-append, map-set}
 use Rattle.std.proofs.lemmas.List.Elements.{All-head, All-tail}

@@ -1,15 +1,10 @@
 -- What a delta says anew is what differs after it.
-use Rattle.std.proofs.Common.{◌≡◌, ◌∙◌, List, map, sym, ap}
-use Rattle.std.specs.Prelude.{T, filter, fold}
+use Rattle.std.proofs.Common.{◌≡◌, ◌∙◌, map, sym, ap}
+use Rattle.std.specs.Prelude.{T, filter}
 use Rattle.std.specs.FinMap.Entries.{is_sorted}
-use Rattle.ob_table.specs.Tables.{ClassTable}
-use Rattle.ob_heap.specs.Contents.{Stored, content_of, named_of}
-use Rattle.ob_heap.specs.Deltas.{IsDelta, label_order}
-use Rattle.ob_heap.specs.declared.delta.Delta.{Delta}
-use Rattle.ob_heap_spec.specs.Contents.{Content, IsContent, name_order}
-use Rattle.ob_invocation_spec.specs.Handles.{NamedHandle}
-use Rattle.ob_store_spec.specs.Payloads.{StoredObject}
-use Rattle.ob_store_spec.specs.Changes.{with_change}
+use Rattle.ob_heap.specs.Contents.{content_of}
+use Rattle.ob_heap.specs.Deltas.{label_order}
+use Rattle.ob_heap_spec.specs.Contents.{name_order}
 use Rattle.ob_store_spec.specs.Between.{changed_objects, changed_handles}
 use Rattle.ob_store_laws.specs.Recorded.{handle_change, news_of, content_with}
 use Rattle.ob_store_laws.specs.Laws.{NewsAreDifferences}

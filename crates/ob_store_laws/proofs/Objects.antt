@@ -1,9 +1,9 @@
 -- Objects after a delta, and what differs then.
-use Rattle.std.proofs.Common.{◌≡◌, ◌∙◌, ℕ, zero, suc, ◌+◌, ◌<◌, ◌≤◌, Bool, true, false, cond, List, [], ◌∷◌, ◌++◌, length, map, set, Option, Some, None, refl, sym, ap, subst, arith, append_assoc, append-nil, length-append, zero-add}
-use Rattle.std.specs.Prelude.{nat_eq, nat_lt, not, filter, slice_get, option_map, bytes_eq, if◌then◌else◌}
+use Rattle.std.proofs.Common.{◌≡◌, ◌∙◌, ℕ, suc, ◌+◌, ◌<◌, ◌≤◌, Bool, true, false, cond, List, [], ◌∷◌, ◌++◌, length, map, set, Some, refl, sym, ap, subst, arith, append_assoc, append-nil, length-append}
+use Rattle.std.specs.Prelude.{nat_eq, not, filter, slice_get, option_map, bytes_eq, if◌then◌else◌}
 use Rattle.std.specs.Option.{option_map_or}
 use Rattle.std.proofs.lemmas.List.{set_at}
-use Rattle.std.proofs.lemmas.Option.{slice_get-map, slice_get_past}
+use Rattle.std.proofs.lemmas.Option.{slice_get-map}
 use Rattle.std.proofs.lemmas.Slice.Eq.{bytes_eq-Decides}
 use Rattle.ob_base.specs.declared.id.ObjectId.{ObjectId}
 use Rattle.ob_table.specs.Tables.{ClassTable}
@@ -12,7 +12,6 @@ use Rattle.ob_heap.specs.Ascending.{IsBelowAll, IsAscending}
 use Rattle.ob_heap.specs.Deltas.{AreNext}
 use Rattle.ob_heap.specs.Differences.{with_objects}
 use Rattle.ob_heap.specs.Plain.{object_of}
-use Rattle.ob_heap_spec.specs.Objects.{Object as PlainObject}
 use Rattle.ob_store_spec.specs.Payloads.{StoredObject, object}
 use Rattle.ob_store_spec.specs.Between.{stored_object, stored_from, is_stored_so}
 use Rattle.ob_store_laws.specs.Recorded.{object_change}

@@ -1,6 +1,6 @@
 -- What differs between two stores at rest is changes of the first that lead to the second, and may be spelled.
-use Rattle.std.proofs.Common.{◌≡◌, ◌∙◌, ℕ, ◌+◌, ◌<◌, ◌≤◌, Bool, true, false, cond, List, [], ◌∷◌, ◌++◌, length, Option, Some, None, refl, sym, ap, subst, arith}
-use Rattle.std.specs.Prelude.{not, is_some, filter, fold, slice_get, All, AllPairs, IfSome, IsTrue}
+use Rattle.std.proofs.Common.{◌≡◌, ◌∙◌, ℕ, ◌+◌, ◌<◌, ◌≤◌, Bool, true, false, cond, List, [], ◌∷◌, ◌++◌, length, Some, refl, sym, ap, subst, arith}
+use Rattle.std.specs.Prelude.{is_some, filter, slice_get, All, IfSome, IsTrue}
 use Rattle.std.specs.Ordering.{eq_by_cmp}
 use Rattle.std.specs.FinMap.Entries.{find as find_key, length-put, is_sorted-put}
 use Rattle.std.proofs.lemmas.List.{length-map}
@@ -11,20 +11,19 @@ use Rattle.std.proofs.lemmas.Option.{slice_get_within}
 use Rattle.ob_base.specs.Limits.{most_objects, most_handles}
 use Rattle.ob_base.specs.Names.{is_label}
 use Rattle.ob_table.specs.Tables.{ClassTable}
-use Rattle.ob_format_spec.specs.Combinators.{Each}
 use Rattle.ob_heap_spec.specs.Objects.{Object}
-use Rattle.ob_heap_spec.specs.Contents.{HandleName, Handle, Content, IsObject, IsHandle, name_order}
+use Rattle.ob_heap_spec.specs.Contents.{HandleName, Content, IsObject, IsHandle, name_order}
 use Rattle.ob_rest_spec.specs.AtRest.{IsStoreAtRest}
 use Rattle.ob_invocation_spec.specs.Handles.{NamedHandle, put_handle, put_handles}
 use Rattle.ob_invocation_laws.proofs.Handles.{names_total}
 use Rattle.ob_invocation_laws.proofs.Marking.{item_of}
-use Rattle.ob_store_spec.specs.Payloads.{StoredObject, Changes, object, held, handle, payload}
-use Rattle.ob_store_spec.specs.Changes.{object_of, with_changes, AreNext, IsHandleChange, AreChangesOf}
+use Rattle.ob_store_spec.specs.Payloads.{Changes, object, held, handle, payload}
+use Rattle.ob_store_spec.specs.Changes.{object_of, with_changes, IsHandleChange, AreChangesOf}
 use Rattle.ob_store_spec.specs.Between.{stored_object, stored_from, changes_between}
 use Rattle.ob_store_spec.proofs.Sayings.{object_single, held_lawful}
 use Rattle.ob_store_spec.proofs.Single.{lawful_single}
 use Rattle.ob_store_laws.specs.Recorded.{IsStorable}
-use Rattle.ob_store_laws.specs.Laws.{IsSaid, DifferencesAreSaid}
+use Rattle.ob_store_laws.specs.Laws.{DifferencesAreSaid}
 use Rattle.ob_store_laws.proofs.Again.{object_again}
 use Rattle.ob_store_laws.proofs.Entries.{sorted_of, of_sorted, sorted_filter}
 use Rattle.ob_store_laws.proofs.Keeping.{all_put}
@@ -170,11 +169,23 @@ module _ (table : ClassTable) (before after : Content) (storable : IsStorable ta
   fits : (payload table).fits changes
   unfolding payload
   fits = (
-    (omega (arith, few_objects), (refl, each_of (object table).fits changes.objects
-        (All-filter (differs table before.objects after.objects) (object table).fits (stored_from table 0 after.objects)
-        (all_stored table (object table).fits after.objects fits_after 0 after.objects (whole_tail after.objects))))),
-    (omega (arith, few_handles), (refl, each_of handle.fits changes.handles
-        (all_handles handle.fits (λ n is. handle_fits (n, at n after.handles) is.who is.name (held_after n))))),
+    (
+      omega (arith, few_objects),
+      (
+        refl,
+        each_of (object table).fits changes.objects
+            (All-filter (differs table before.objects after.objects) (object table).fits (stored_from table 0 after.objects)
+            (all_stored table (object table).fits after.objects fits_after 0 after.objects (whole_tail after.objects))),
+      ),
+    ),
+    (
+      omega (arith, few_handles),
+      (
+        refl,
+        each_of handle.fits changes.handles
+            (all_handles handle.fits (λ n is. handle_fits (n, at n after.handles) is.who is.name (held_after n))),
+      ),
+    ),
   )
 
 pub differences_are_said : DifferencesAreSaid

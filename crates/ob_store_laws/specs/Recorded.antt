@@ -1,5 +1,5 @@
 -- A delta, as a payload has it (this project's own).
-use Rattle.std.specs.Prelude.{◌≤◌, ◌^◌, not, List, map, filter, length, All, Option, option_map}
+use Rattle.std.specs.Prelude.{◌≤◌, ◌^◌, not, map, filter, length, All, Option, option_map}
 use Rattle.ob_base.specs.declared.id.ObjectId.{ObjectId}
 use Rattle.ob_base.specs.declared.name.Label.{Label}
 use Rattle.ob_table.specs.Tables.{ClassTable}
