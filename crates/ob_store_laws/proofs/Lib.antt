@@ -9,3 +9,4 @@ pub mod Keeping
 pub mod Fitting
 pub mod Differing
 pub mod Said
+pub mod Deltas

@@ -10,7 +10,7 @@ use Rattle.ob_heap.specs.declared.delta.Delta.{Delta}
 use Rattle.ob_store_spec.specs.Payloads.{Changes, payload}
 use Rattle.ob_store_spec.specs.Changes.{AreChangesOf, with_changes}
 use Rattle.ob_store_spec.specs.Between.{changes_between}
-use Rattle.ob_store_laws.specs.Recorded.{changes_of, news_of, content_with, IsStorable}
+use Rattle.ob_store_laws.specs.Recorded.{changes_of, news_of, content_with, IsStorable, IsDeltaOf}
 
 -- What differs between a content and a later one is changes of the first that lead to the second, and may be spelled.
 pub record IsSaid (table : ClassTable) (before after : Content) (changes : Changes) : Type 0 where
@@ -29,6 +29,11 @@ abbrev pub NewsAreDifferences : Type 0
 NewsAreDifferences =
     (table : ClassTable) (base : Stored) (delta : Delta) → IsContent table (content_of base) → IsDelta base delta
     → news_of table base delta ≡ changes_between table (content_of base) (content_with base delta)
+
+-- What a delta of a class table says of a content are changes of it.
+abbrev pub DeltasSayChanges : Type 0
+DeltasSayChanges =
+    (table : ClassTable) (base : Stored) (delta : Delta) → IsDeltaOf table base delta → AreChangesOf table (content_of base) (changes_of table delta)
 
 -- The changes that a delta says make of a content what the delta makes of it, where its objects are of the class table then.
 abbrev pub ChangesAreMadeAsDeltas : Type 0

@@ -1,5 +1,5 @@
 //! Laws of deltas and of the payloads that say them.
-ghost use Rattle.ob_store_laws.specs.Laws.{DifferencesAreSaid, NewsAreDifferences, ChangesAreMadeAsDeltas, ChangesKeepContents};
+ghost use Rattle.ob_store_laws.specs.Laws.{DifferencesAreSaid, NewsAreDifferences, DeltasSayChanges, ChangesAreMadeAsDeltas, ChangesKeepContents};
 
 /// What differs between two stores at rest may be said by a payload, which leads from the one to the other.
 pub fn differences_are_said()
@@ -9,6 +9,11 @@ pub fn differences_are_said()
 /// What a delta says that a content doesn't is just what differs after it.
 pub fn news_are_differences()
     ensures { NewsAreDifferences }
+{}
+
+/// What a delta of a class table says of a content are changes of it.
+pub fn deltas_say_changes()
+    ensures { DeltasSayChanges }
 {}
 
 /// What a payload says of a content comes to what the delta makes of it.

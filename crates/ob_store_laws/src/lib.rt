@@ -4,5 +4,6 @@
 mod laws;
 
 pub use laws::{
-    changes_are_made_as_deltas, changes_keep_contents, differences_are_said, news_are_differences,
+    changes_are_made_as_deltas, changes_keep_contents, deltas_say_changes, differences_are_said,
+    news_are_differences,
 };

@@ -1,5 +1,5 @@
 -- Objects fail in the same ways by a class table without names.
-use Rattle.std.proofs.Common.{◌≡◌, ◌∙◌, ℕ, Bool, true, false, List, [], ◌∷◌, ◌++◌, Option, Some, refl, sym, ap}
+use Rattle.std.proofs.Common.{◌≡◌, ◌∙◌, ℕ, Bool, false, List, [], ◌∷◌, ◌++◌, Some, refl, sym, ap}
 use Rattle.std.proofs.Math.Path.{fun_ext}
 use Rattle.std.specs.Prelude.{not, ◌&&◌, ◌||◌, ◌==◌, nat_eq, nat_lt, map, filter, filter_map, flat_map, find, length}
 use Rattle.std.specs.List.{list_any, enumerate_from, range_with_len}
@@ -9,11 +9,10 @@ use Rattle.ob_base.specs.declared.permission.Mode.TheVariants.{Owned, Shared, Un
 use Rattle.ob_perm.specs.Masks.{states_of, held}
 use Rattle.ob_perm.specs.Permissions.{owns}
 use Rattle.ob_perm.specs.States.{States}
-use Rattle.ob_table.specs.Tables.{ClassTable, contract_at}
+use Rattle.ob_table.specs.Tables.{ClassTable}
 use Rattle.ob_table.specs.declared.seen.Kind.TheVariants.{Reference}
 use Rattle.ob_heap_spec.specs.Objects.{Object, is_in_states}
 use Rattle.ob_heap_spec.specs.Contents.{Content, object_at}
-use Rattle.ob_heap_spec.specs.GoingWrong.{is_held_within}
 use Rattle.ob_rest_spec.specs.AtRest.{first_failing_object}
 use Rattle.ob_rest_spec.specs.Failing.{is_marked, is_asset, is_outside_declaration, refers_as_declared, FailingWay, many_owners, owned_and_marked, lost_asset, shared_unmarked, outside_states, other_contract, every_way, fails_by, failing_ways}
 use Rattle.ob_rest_spec.specs.Incoming.{incoming_by_field, incoming_by_handle, handles_onto, incoming_references, fields_onto, owners}

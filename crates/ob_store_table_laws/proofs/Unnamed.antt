@@ -16,7 +16,7 @@ use Rattle.ob_emit_laws.specs.Names.{contract_without_names, without_names}
 use Rattle.ob_emit_laws.proofs.Unnamed.{said_alike, contract_unnamed}
 use Rattle.ob_store_spec.specs.Payloads.{StoredObject, Changes, value, available_count, object_head, object, handle, payload}
 use Rattle.ob_store_spec.specs.Changes.{fields_from, object_of, with_object, with_change, with_changes}
-use Rattle.ob_store_spec.specs.Between.{values_from, stored_object, stored_from, is_stored_so, changed_objects, changed_handles, changes_between}
+use Rattle.ob_store_spec.specs.Between.{values_from, stored_object, stored_from, is_stored_so, changed_handles, changes_between}
 
 module _ (table : ClassTable) where
   -- what is said of a contract that has other names at most

@@ -1,5 +1,5 @@
 -- A store by a class table without names is one by the class table, and the other way round.
-use Rattle.std.proofs.Common.{◌≡◌, ◌∙◌, ℕ, List, Option, Some, None, refl, sym, ap, subst}
+use Rattle.std.proofs.Common.{◌≡◌, ◌∙◌, ℕ, Option, Some, None, refl, sym, ap, subst}
 use Rattle.std.specs.Prelude.{Ok, if◌then◌else◌}
 use Rattle.ob_table.specs.Tables.{ClassTable}
 use Rattle.ob_heap_spec.specs.Contents.{Content}

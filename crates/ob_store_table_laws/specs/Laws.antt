@@ -7,7 +7,7 @@ use Rattle.ob_rest_spec.specs.AtRest.{IsStoreAtRest, first_failing_object}
 use Rattle.ob_rest_spec.specs.Failing.{failing_ways}
 use Rattle.ob_emit_laws.specs.Names.{without_names}
 use Rattle.ob_store_spec.specs.Payloads.{Changes, payload}
-use Rattle.ob_store_spec.specs.Changes.{with_changes, AreChangesOf, SaysChanges, LeadFrom}
+use Rattle.ob_store_spec.specs.Changes.{with_changes, SaysChanges, LeadFrom}
 use Rattle.ob_store_spec.specs.Between.{changes_between}
 use Rattle.ob_store_spec.specs.Stores.{StoreState, StoreRefusal, IsStoreOf, IsRefused}
 use Rattle.ob_store_spec.specs.Settling.{settled}
