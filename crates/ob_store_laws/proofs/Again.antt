@@ -61,7 +61,8 @@ passed k f fs state (v ∷ vs) e = ap (λ b. if b then put (fields_from (suc k) 
 none_below : (k : ℕ) (fs : List Field) (state : Option StateId) (vs : List Value) (j : ℕ) → j < k → fields_from k fs state vs j ≡ None
 none_below k [] state vs j low = refl
 none_below k (f ∷ fs) state [] j low = refl
-none_below k (f ∷ fs) state (v ∷ vs) j low = by (is_available state f) (none_below (suc k) fs state vs j (omega arith)) (none_below (suc k) fs state (v ∷ vs) j (omega arith))
+none_below k (f ∷ fs) state (v ∷ vs) j low =
+    by (is_available state f) (none_below (suc k) fs state vs j (omega arith)) (none_below (suc k) fs state (v ∷ vs) j (omega arith))
   where
     by : (b : Bool) → fields_from (suc k) fs state vs j ≡ None → fields_from (suc k) fs state (v ∷ vs) j ≡ None
         → (if b then put (fields_from (suc k) fs state vs) k v else fields_from (suc k) fs state (v ∷ vs)) j ≡ None

@@ -43,10 +43,13 @@ module _ (table : ClassTable) where
 pub deltas_say_changes : DeltasSayChanges
 deltas_say_changes table base delta is = record {
   ascending = ascending table delta.objects is.is_delta.objects;
-  next = subst (λ n. AreNext n (changes_of table delta).objects) (sym (length-map base.objects object_of)) (next table (length base.objects) delta.objects is.is_delta.next);
-  objects = All-map (λ o. IsObject table (with_changes table (content_of base) (changes_of table delta)).objects (stored.object_of table o)) (object_change table) delta.objects
+  next = subst (λ n. AreNext n (changes_of table delta).objects) (sym (length-map base.objects object_of))
+      (next table (length base.objects) delta.objects is.is_delta.next);
+  objects = All-map (λ o. IsObject table (with_changes table (content_of base) (changes_of table delta)).objects (stored.object_of table o))
+      (object_change table) delta.objects
       (All-weaker (λ e. IsObject table (content_with base delta).objects (object_of e.1))
-      (λ e. IsObject table (with_changes table (content_of base) (changes_of table delta)).objects (stored.object_of table (object_change table e))) each delta.objects is.objects);
+      (λ e. IsObject table (with_changes table (content_of base) (changes_of table delta)).objects (stored.object_of table (object_change table e)))
+      each delta.objects is.objects);
   in_order = of_sorted name_order (changes_of table delta).handles (changes_sorted delta.handles (sorted_of label_order delta.handles is.is_delta.handles));
   handles = subst (λ (c : Content). All (IsHandleChange (length c.objects)) (changes_of table delta).handles) (sym leads)
       (All-map (IsHandleChange (length (content_with base delta).objects)) handle_change delta.handles is.handles);

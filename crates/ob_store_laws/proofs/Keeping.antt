@@ -43,7 +43,8 @@ value_grows objects after more (Reference id p) (text_value z) is = absurd is
 value_grows objects after more (Reference id p) (reference n) is = omega arith
 
 -- an object of a class table is one where there are more objects
-pub object_grows : (table : ClassTable) (objects after : List Object) → length objects ≤ length after → (o : Object) → IsObject table objects o → IsObject table after o
+pub object_grows : (table : ClassTable) (objects after : List Object) → length objects ≤ length after → (o : Object)
+    → IsObject table objects o → IsObject table after o
 object_grows table objects after more o is = by (contract_at table o.contract) is
   where
     at_field : (v : Value) (f : Option Field) → IsSomeAnd f (λ f. IsValueOf objects f.of v) → IsSomeAnd f (λ f. IsValueOf after f.of v)
@@ -73,7 +74,8 @@ module _ (table : ClassTable) where
   more_after os [] = omega arith
   more_after os (c ∷ cs) = let one = more_with os c in let rest = more_after (with_object table os c) cs in omega arith
 
-  all_after : (P : Object → Type 0) (os : List Object) (cs : List StoredObject) → All P os → All (λ c. P (object_of table c)) cs → All P (fold (with_object table) os cs)
+  all_after : (P : Object → Type 0) (os : List Object) (cs : List StoredObject) → All P os → All (λ c. P (object_of table c)) cs
+      → All P (fold (with_object table) os cs)
   all_after P os [] all changed = all
   all_after P os (c ∷ cs) all changed =
       all_after P (with_object table os c) cs (by (nat_lt c.number (length os))) (All-tail (λ d. P (object_of table d)) c cs changed)
@@ -92,7 +94,8 @@ module _ (P : NamedHandle → Type 0) where
   all_put n h [] here all = All-cons P (n, h) [] here all
   all_put n h (y ∷ hs) here all = by (name_order n y.0) refl (all_put n h hs here (All-tail P y hs all))
     where
-      by : (o : Ordering) → name_order n y.0 ≡ o → All P (put_key name_order n h hs) → All P (by_order o ((n, h) ∷ y ∷ hs) ((y.0, h) ∷ hs) (y ∷ put_key name_order n h hs))
+      by : (o : Ordering) → name_order n y.0 ≡ o → All P (put_key name_order n h hs)
+          → All P (by_order o ((n, h) ∷ y ∷ hs) ((y.0, h) ∷ hs) (y ∷ put_key name_order n h hs))
       by Less is rest = All-cons P (n, h) (y ∷ hs) here all
       by Equal is rest = All-cons P (y.0, h) hs (subst (λ k. P (k, h)) (one_name n y.0 is) here) (All-tail P y hs all)
       by Greater is rest = All-cons P y (put_key name_order n h hs) (All-head P y hs all) rest
@@ -117,7 +120,8 @@ may_put objects (n, Some h) is = record { who = is.who; name = is.name; object =
 pub changes_keep_contents : ChangesKeepContents
 changes_keep_contents table content changes was are = record {
   objects = all_after table (IsObject table after.objects) content.objects changes.objects
-      (All-weaker (IsObject table content.objects) (IsObject table after.objects) (object_grows table content.objects after.objects more) content.objects was.objects) are.objects;
+      (All-weaker (IsObject table content.objects) (IsObject table after.objects) (object_grows table content.objects after.objects more)
+      content.objects was.objects) are.objects;
   handles = all_changed (IsHandle after.objects) content.handles changes.handles
       (All-weaker (IsHandle content.objects) (IsHandle after.objects) handle_grows content.handles was.handles)
       (All-weaker (IsHandleChange (length after.objects)) (MayPut (IsHandle after.objects)) (may_put after.objects) changes.handles are.handles);

@@ -27,7 +27,8 @@ module _ (table : ClassTable) (objects : List PlainObject) where
       → with_object table (map object_of os) (object_change table e)
       ≡ map object_of (if nat_lt e.0.0 (length os) then set os e.0.0 e.1 else os ++ e.1 ∷ [])
   one_follows os e is =
-      ap (λ o. if nat_lt e.0.0 (length (map object_of os)) then set (map object_of os) e.0.0 o else map object_of os ++ o ∷ []) (object_again table objects e.0.0 (object_of e.1) is)
+      ap (λ o. if nat_lt e.0.0 (length (map object_of os)) then set (map object_of os) e.0.0 o else map object_of os ++ o ∷ [])
+      (object_again table objects e.0.0 (object_of e.1) is)
       ∙ ap (λ n. if nat_lt e.0.0 n then set (map object_of os) e.0.0 (object_of e.1) else map object_of os ++ object_of e.1 ∷ []) (length-map os object_of)
       ∙ by (nat_lt e.0.0 (length os))
     where

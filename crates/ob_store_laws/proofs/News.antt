@@ -22,5 +22,7 @@ news_are_differences table base delta content is =
 
     differ : (news_of table base delta).handles ≡ changed_handles (content_of base) (content_with base delta)
     differ =
-        handles.news_differ (content_of base) (map handle_change delta.handles) (sorted_of name_order (content_of base).handles content.order) (handles.changes_sorted delta.handles sorted)
-        ∙ sym (ap (λ hs. filter (handles.is_new (content_of base)) (handles.of_both (content_of base).handles hs)) (handles.handles_follow base.handles delta.handles))
+        handles.news_differ (content_of base) (map handle_change delta.handles) (sorted_of name_order (content_of base).handles content.order)
+        (handles.changes_sorted delta.handles sorted)
+        ∙ sym (ap (λ hs. filter (handles.is_new (content_of base)) (handles.of_both (content_of base).handles hs))
+        (handles.handles_follow base.handles delta.handles))

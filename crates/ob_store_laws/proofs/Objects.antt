@@ -1,5 +1,5 @@
 -- Objects after a delta, and what differs then.
-use Rattle.std.proofs.Common.{◌≡◌, ◌∙◌, ℕ, suc, ◌+◌, ◌<◌, ◌≤◌, Bool, true, false, cond, List, [], ◌∷◌, ◌++◌, length, map, set, Some, refl, sym, ap, subst, arith, append_assoc, append-nil, length-append}
+use Rattle.std.proofs.Common.{◌≡◌, ◌∙◌, ℕ, suc, ◌+◌, ◌<◌, ◌≤◌, Bool, true, false, cond, List, [], ◌∷◌, ◌++◌, length, map, set, Option, Some, refl, sym, ap, subst, arith, append_assoc, append-nil, length-append}
 use Rattle.std.specs.Prelude.{nat_eq, not, filter, slice_get, option_map, bytes_eq, if◌then◌else◌}
 use Rattle.std.specs.Option.{option_map_or}
 use Rattle.std.proofs.lemmas.List.{set_at}
@@ -12,6 +12,7 @@ use Rattle.ob_heap.specs.Ascending.{IsBelowAll, IsAscending}
 use Rattle.ob_heap.specs.Deltas.{AreNext}
 use Rattle.ob_heap.specs.Differences.{with_objects}
 use Rattle.ob_heap.specs.Plain.{object_of}
+use Rattle.ob_heap_spec.specs.Objects.{Object as PlainObject}
 use Rattle.ob_store_spec.specs.Payloads.{StoredObject, object}
 use Rattle.ob_store_spec.specs.Between.{stored_object, stored_from, is_stored_so}
 use Rattle.ob_store_laws.specs.Recorded.{object_change}
@@ -87,7 +88,8 @@ within front (o ∷ os) (e ∷ es) n count is all up from next =
         → with_objects (front ++ o ∷ os) (e ∷ es) ≡ front ++ cond b (e.1 ∷ laid (suc n) os es) (o ∷ laid (suc n) os (e ∷ es))
     by true here set_here behind =
         let same = same_number e.0.0 n here in
-        ap (λ b. with_objects (if b then set (front ++ o ∷ os) e.0.0 e.1 else (front ++ o ∷ os) ++ e.1 ∷ []) es) (is_lower e.0.0 (length (front ++ o ∷ os)) (omega (arith, total)))
+        ap (λ b. with_objects (if b then set (front ++ o ∷ os) e.0.0 e.1 else (front ++ o ∷ os) ++ e.1 ∷ []) es)
+        (is_lower e.0.0 (length (front ++ o ∷ os)) (omega (arith, total)))
         ∙ ap (λ xs. with_objects xs es) (set_at front o os e.1 e.0.0 (sym is ∙ sym same) ∙ sym (append_assoc front (e.1 ∷ []) os))
         ∙ set_here same ∙ append_assoc front (e.1 ∷ []) (laid (suc n) os es)
     by false there set_here behind =
@@ -96,21 +98,30 @@ within front (o ∷ os) (e ∷ es) n count is all up from next =
 
 -- What differs.
 
+-- whether an object, if there is one, is stored as this one of a number
+abbrev pub stored_as : ClassTable → ℕ → PlainObject → Option PlainObject → Bool
+stored_as table n o r =
+    option_map_or (λ x. bytes_eq ((object table).bytes (stored_object table n x)) ((object table).bytes (stored_object table n o))) r false
+
 module _ (table : ClassTable) (base : List Object) where
   -- whether an object isn't stored so in the base
   abbrev is_new : StoredObject → Bool
   is_new o = not (is_stored_so table (map object_of base) o)
 
+  -- those of these that aren't stored so, from a number on
+  abbrev new_from : ℕ → List Object → List StoredObject
+  new_from n os = filter is_new (stored_from table n (map object_of os))
+
   old : (n : ℕ) (o : Object) → slice_get base n ≡ Some o → is_new (stored_object table n (object_of o)) ≡ false
   old n o at =
-      ap (λ r. not (option_map_or (λ x. bytes_eq ((object table).bytes (stored_object table n x)) ((object table).bytes (stored_object table n (object_of o)))) r false))
+      ap (λ r. not (stored_as table n (object_of o) r))
       (slice_get-map object_of base n ∙ ap (option_map object_of) at)
       ∙ ap not ((bytes_eq-Decides ((object table).bytes (stored_object table n (object_of o))) ((object table).bytes (stored_object table n (object_of o)))).1 refl)
 
-  none_new : (n : ℕ) (os : List Object) → IsTail base n os → filter is_new (stored_from table n (map object_of os)) ≡ []
+  none_new : (n : ℕ) (os : List Object) → IsTail base n os → new_from n os ≡ []
   none_new n [] h = refl
   none_new n (o ∷ os) h =
-      ap (λ b. cond b (stored_object table n (object_of o) ∷ filter is_new (stored_from table (suc n) (map object_of os))) (filter is_new (stored_from table (suc n) (map object_of os))))
+      ap (λ b. cond b (stored_object table n (object_of o) ∷ new_from (suc n) os) (new_from (suc n) os))
       (old n o (first_of_tail base n o os h))
       ∙ none_new (suc n) os (rest_tail base n o os h)
 
@@ -123,30 +134,31 @@ module _ (table : ClassTable) (base : List Object) where
       ∙ ap (λ os. object_change table e ∷ os) (stored_past (suc n) es up.1 (from_below n e.0.0 es (sym same) up.0) (next_past n e es from next))
 
   news_within : (n count : ℕ) (os : List Object) (es : List Numbered) → count ≡ n + length os → IsTail base n os → Ascend es → IsFrom n es → AreNext count es
-      → filter is_new (stored_from table n (map object_of (laid n os es))) ≡ filter is_new (map (object_change table) es)
+      → new_from n (laid n os es) ≡ filter is_new (map (object_change table) es)
   news_within n count [] es all h up from next =
       let none : count ≡ n = omega arith in ap (filter is_new) (stored_past n es up from (subst (λ k. AreNext k es) none next))
   news_within n count (o ∷ os) [] all h up from next = none_new n (o ∷ os) h
   news_within n count (o ∷ os) (e ∷ es) all h up from next =
       by (nat_eq e.0.0 n) refl
-      (λ same. news_within (suc n) count os es (omega arith) (rest_tail base n o os h) up.1 (from_below n e.0.0 es (sym same) up.0) (next_within count e es (omega arith) next))
+      (λ same. news_within (suc n) count os es (omega arith) (rest_tail base n o os h) up.1 (from_below n e.0.0 es (sym same) up.0)
+      (next_within count e es (omega arith) next))
       (λ later. news_within (suc n) count os (e ∷ es) (omega arith) (rest_tail base n o os h) up later next)
     where
       kept : List StoredObject → StoredObject → List StoredObject
       kept rest o = cond (is_new o) (o ∷ rest) rest
 
       by : (b : Bool) → nat_eq e.0.0 n ≡ b
-          → (e.0.0 ≡ n → filter is_new (stored_from table (suc n) (map object_of (laid (suc n) os es))) ≡ filter is_new (map (object_change table) es))
-          → (suc n ≤ e.0.0 → filter is_new (stored_from table (suc n) (map object_of (laid (suc n) os (e ∷ es)))) ≡ filter is_new (map (object_change table) (e ∷ es)))
+          → (e.0.0 ≡ n → new_from (suc n) (laid (suc n) os es) ≡ filter is_new (map (object_change table) es))
+          → (suc n ≤ e.0.0 → new_from (suc n) (laid (suc n) os (e ∷ es)) ≡ filter is_new (map (object_change table) (e ∷ es)))
           → filter is_new (stored_from table n (map object_of (cond b (e.1 ∷ laid (suc n) os es) (o ∷ laid (suc n) os (e ∷ es)))))
           ≡ filter is_new (map (object_change table) (e ∷ es))
       by true here rest behind =
           let same = same_number e.0.0 n here in
-          ap (λ m. kept (filter is_new (stored_from table (suc n) (map object_of (laid (suc n) os es)))) (stored_object table m (object_of e.1))) (sym same)
+          ap (λ m. kept (new_from (suc n) (laid (suc n) os es)) (stored_object table m (object_of e.1))) (sym same)
           ∙ ap (λ r. kept r (object_change table e)) (rest same)
       by false there rest behind =
-          ap (λ b. cond b (stored_object table n (object_of o) ∷ filter is_new (stored_from table (suc n) (map object_of (laid (suc n) os (e ∷ es)))))
-          (filter is_new (stored_from table (suc n) (map object_of (laid (suc n) os (e ∷ es))))))
+          ap (λ b. cond b (stored_object table n (object_of o) ∷ new_from (suc n) (laid (suc n) os (e ∷ es)))
+          (new_from (suc n) (laid (suc n) os (e ∷ es))))
           (old n o (first_of_tail base n o os h))
           ∙ behind (later_number e.0.0 n there from)
 

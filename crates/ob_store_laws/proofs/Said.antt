@@ -91,8 +91,10 @@ module _ (table : ClassTable) (before after : Content) (storable : IsStorable ta
   told = record {
     again = λ n a at. object_again table after.objects n a (object_after n a at);
     same = λ n a b at there bytes.
-        let one = (object_single table (stored_object table n b) (stored_object table n a) [] [] (fits_before n b there) (fits_after n a at) (ap (λ l. l ++ []) bytes)).0 in
-        sym (object_again table before.objects n b (object_before n b there)) ∙ ap (object_of table) one ∙ object_again table after.objects n a (object_after n a at);
+        let one = (object_single table (stored_object table n b) (stored_object table n a) [] [] (fits_before n b there)
+        (fits_after n a at) (ap (λ l. l ++ []) bytes)).0 in
+        sym (object_again table before.objects n b (object_before n b there)) ∙ ap (object_of table) one
+        ∙ object_again table after.objects n a (object_after n a at);
   }
 
   ordered_before : InOrder before.handles
@@ -142,7 +144,8 @@ module _ (table : ClassTable) (before after : Content) (storable : IsStorable ta
 
   are_changes : AreChangesOf table before changes
   are_changes = record {
-    ascending = AllPairs-filter (λ a b. a.number < b.number) (differs table before.objects after.objects) (stored_from table 0 after.objects) (ascending table 0 after.objects);
+    ascending = AllPairs-filter (λ a b. a.number < b.number) (differs table before.objects after.objects) (stored_from table 0 after.objects)
+        (ascending table 0 after.objects);
     next = next_changed table before.objects after.objects 0 after.objects (omega arith);
     objects = all_objects;
     in_order = of_sorted name_order changes.handles

@@ -35,7 +35,8 @@ module _ (table : ClassTable) where
   onto_unnamed objects n = ap (λ (refs : References). filter (λ r. nat_eq r.object n) (flat_map (λ o. refs o.0 o.1) (enumerate_from 0 objects))) references_unnamed
 
   incoming_unnamed : (content : Content) (n : ℕ) → incoming_references (without_names table) content n ≡ incoming_references table content n
-  incoming_unnamed content n = ap (λ fields. map incoming_by_field fields ++ map incoming_by_handle (handles_onto content.handles n)) (onto_unnamed content.objects n)
+  incoming_unnamed content n =
+      ap (λ fields. map incoming_by_field fields ++ map incoming_by_handle (handles_onto content.handles n)) (onto_unnamed content.objects n)
 
   owners_unnamed : (content : Content) (n : ℕ) → owners (without_names table) content n ≡ owners table content n
   owners_unnamed content n = ap (λ rs. length (filter (λ r. is_owned r.mode) rs)) (incoming_unnamed content n)
@@ -54,7 +55,8 @@ module _ (table : ClassTable) where
 
   refers_unnamed : (objects : List Object) → refers_as_declared (without_names table) objects ≡ refers_as_declared table objects
   refers_unnamed objects = fun_ext (λ r.
-      ap (λ (serves : Object → Bool). option_map_or serves (object_at objects r.object) false) (fun_ext (λ o. serves_unnamed table (Reference r.contract) (Reference o.contract))))
+      ap (λ (serves : Object → Bool). option_map_or serves (object_at objects r.object) false)
+      (fun_ext (λ o. serves_unnamed table (Reference r.contract) (Reference o.contract))))
 
   fails_unnamed : (content : Content) (n : ℕ) (o : Object) (way : FailingWay) → fails_by way (without_names table) content n o ≡ fails_by way table content n o
   fails_unnamed content n o many_owners = ap (nat_lt 1) (owners_unnamed content n)

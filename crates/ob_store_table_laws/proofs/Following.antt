@@ -45,15 +45,16 @@ module _ (t u : ClassTable) (f : Follows t u) where
   changes_follow content changes are = record {
     ascending = are.ascending;
     next = are.next;
-    objects = All-weaker (λ o. IsObject t (with_changes t content changes).objects (object_of t o)) (λ o. IsObject u (with_changes u content changes).objects (object_of u o))
-        each changes.objects are.objects;
+    objects = All-weaker (λ o. IsObject t (with_changes t content changes).objects (object_of t o))
+        (λ o. IsObject u (with_changes u content changes).objects (object_of u o)) each changes.objects are.objects;
     in_order = are.in_order;
     handles = subst (λ c. All (IsHandleChange (length c.objects)) changes.handles) (f.leads content changes) are.handles;
     few_objects = subst (λ c. length c.objects ≤ most_objects) (f.leads content changes) are.few_objects;
     few_handles = subst (λ c. length c.handles ≤ most_handles) (f.leads content changes) are.few_handles;
   }
     where
-      each : (o : StoredObject) → IsObject t (with_changes t content changes).objects (object_of t o) → IsObject u (with_changes u content changes).objects (object_of u o)
+      each : (o : StoredObject) → IsObject t (with_changes t content changes).objects (object_of t o)
+          → IsObject u (with_changes u content changes).objects (object_of u o)
       each o is =
           subst (λ (made : StoredObject → Object). IsObject u (with_changes u content changes).objects (made o)) f.made
           (subst (λ c. IsObject u c.objects (object_of t o)) (f.leads content changes) (f.objects (with_changes t content changes).objects (object_of t o) is))
@@ -72,7 +73,8 @@ module _ (t u : ClassTable) (f : Follows t u) where
     subst (λ c. LeadFrom u c payloads end) (f.leads content leads.0) (leading_follows (with_changes t content leads.0) payloads end leads.2),
   )
 
-  pub area_follows : (image area : List ℕ) (s : StoreState) → IsStoreOf (record { table = t; image = image }) area s → IsStoreOf (record { table = u; image = image }) area s
+  pub area_follows : (image area : List ℕ) (s : StoreState) → IsStoreOf (record { table = t; image = image }) area s
+      → IsStoreOf (record { table = u; image = image }) area s
   area_follows image area s (inl blank) = inl (record { blank = blank.blank; content = blank.content; gate = blank.gate; serial = blank.serial })
   area_follows image area s (inr stored) = inr (record {
     says = stored.says;
@@ -88,7 +90,8 @@ module _ (t u : ClassTable) (f : Follows t u) where
 
 -- what says nothing by the one says nothing by the other, so a refusal needs both ways
 module _ (t u : ClassTable) (f : Follows t u) (back : Follows u t) where
-  pub refusal_follows : (image area : List ℕ) (r : StoreRefusal) → IsRefused (record { table = t; image = image }) area r → IsRefused (record { table = u; image = image }) area r
+  pub refusal_follows : (image area : List ℕ) (r : StoreRefusal) → IsRefused (record { table = t; image = image }) area r
+      → IsRefused (record { table = u; image = image }) area r
   refusal_follows image area not_store is = is
   refusal_follows image area (damaged offset) (inl is) = inl is
   refusal_follows image area (damaged offset) (inr bad) = inr (record {

@@ -50,19 +50,24 @@ module _ (table : ClassTable) where
   pub payload_unnamed : payload (without_names table) ≡ payload table
   unfolding payload
   payload_unnamed =
-      ap (λ (f : Format StoredObject). of_parts (λ p. let made : Changes = record { objects = p.0; handles = p.1 } in made) (λ c. (c.objects, c.handles)) (counted f ⨟ counted handle))
+      ap (λ (f : Format StoredObject). of_parts (λ p. let made : Changes = record { objects = p.0; handles = p.1 } in made)
+      (λ c. (c.objects, c.handles)) (counted f ⨟ counted handle))
       object_unnamed
 
   -- What differs.
 
   from_unnamed : (n : ℕ) (os : List Object) → stored_from (without_names table) n os ≡ stored_from table n os
   from_unnamed n [] = refl
-  from_unnamed n (o ∷ os) = ap (λ (g : ℕ → Object → StoredObject). g n o ∷ stored_from (without_names table) (suc n) os) stored_unnamed ∙ ap (λ rest. stored_object table n o ∷ rest) (from_unnamed (suc n) os)
+  from_unnamed n (o ∷ os) =
+      ap (λ (g : ℕ → Object → StoredObject). g n o ∷ stored_from (without_names table) (suc n) os) stored_unnamed
+      ∙ ap (λ rest. stored_object table n o ∷ rest) (from_unnamed (suc n) os)
 
   so_unnamed : (objects : List Object) → is_stored_so (without_names table) objects ≡ is_stored_so table objects
   so_unnamed objects = fun_ext (λ o.
-      ap (λ (f : Format StoredObject). option_map_or (λ x. bytes_eq (f.bytes (stored_object (without_names table) o.number x)) (f.bytes o)) (object_at objects o.number) false) object_unnamed
-      ∙ ap (λ (g : ℕ → Object → StoredObject). option_map_or (λ x. bytes_eq ((object table).bytes (g o.number x)) ((object table).bytes o)) (object_at objects o.number) false) stored_unnamed)
+      ap (λ (f : Format StoredObject). option_map_or (λ x. bytes_eq (f.bytes (stored_object (without_names table) o.number x)) (f.bytes o))
+      (object_at objects o.number) false) object_unnamed
+      ∙ ap (λ (g : ℕ → Object → StoredObject). option_map_or (λ x. bytes_eq ((object table).bytes (g o.number x)) ((object table).bytes o))
+      (object_at objects o.number) false) stored_unnamed)
 
   pub differences_unnamed : (before after : Content) → changes_between (without_names table) before after ≡ changes_between table before after
   differences_unnamed before after =
@@ -78,7 +83,10 @@ module _ (table : ClassTable) where
 
   pub changes_unnamed : (content : Content) (changes : Changes) → with_changes (without_names table) content changes ≡ with_changes table content changes
   changes_unnamed content changes =
-      ap (λ (g : List Object → StoredObject → List Object). record { objects = fold g content.objects changes.objects; handles = fold with_change content.handles changes.handles }) with_unnamed
+      ap (λ (g : List Object → StoredObject → List Object). record {
+        objects = fold g content.objects changes.objects;
+        handles = fold with_change content.handles changes.handles;
+      }) with_unnamed
 
   -- Objects of the class table.
 

@@ -43,9 +43,11 @@ payloads_unnamed table changes = record {
     fits : Format Changes → Type 0
     fits p = p.fits changes
 
-pub settled_unnamed : (table : ClassTable) (size : Option ℕ) (s : StoreState) (after : Content) → settled (without_names table) size s after ≡ settled table size s after
+pub settled_unnamed : (table : ClassTable) (size : Option ℕ) (s : StoreState) (after : Content)
+    → settled (without_names table) size s after ≡ settled table size s after
 settled_unnamed table None s after = refl
 settled_unnamed table (Some size) s after =
-    ap (λ (d : Changes). if say_nothing d then Ok (record s { content = after }) else recorded size s after ((payload (without_names table)).bytes d)) (differences_unnamed table s.content after)
+    ap (λ (d : Changes). if say_nothing d then Ok (record s { content = after }) else recorded size s after ((payload (without_names table)).bytes d))
+    (differences_unnamed table s.content after)
     ∙ ap (λ (p : Format Changes). if say_nothing (changes_between table s.content after) then Ok (record s { content = after })
     else recorded size s after (p.bytes (changes_between table s.content after))) (payload_unnamed table)
