@@ -88,7 +88,7 @@ hold_lawful = of_parts_lawful (λ p. record { object = p.0; mode = p.1 }) (λ h.
 some_again : (x : Option Handle) (p : Handle) → x ≡ Some p → Some p ≡ x
 some_again x p e = cc
 
-held_lawful : Lawful held
+pub held_lawful : Lawful held
 unfolding held
 held_lawful =
     kinds_lawful number_of_held (constant None ∷ variant (λ h. Some h) (λ h. h) hold ∷ []) (
@@ -114,7 +114,7 @@ head_single =
     both_single number (contract_id ⨟ (state ⨟ marks)) (lawful_single number number_lawful)
     (both_single contract_id (state ⨟ marks) (lawful_single contract_id contract_id_lawful) (both_single state marks state_single (lawful_single marks marks_lawful)))
 
-object_single : (table : ClassTable) → Single (object table)
+pub object_single : (table : ClassTable) → Single (object table)
 unfolding object
 object_single table =
     parts_single (λ p. record { number = p.0.0; contract = p.0.1.0; state = p.0.1.1.0; marks = p.0.1.1.1; values = p.1 }) (λ o. ((o.number, (o.contract, (o.state, o.marks))), o.values))

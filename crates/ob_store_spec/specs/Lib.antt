@@ -1,3 +1,5 @@
 pub mod Payloads
 pub mod Changes
 pub mod Stores
+pub mod Between
+pub mod Settling

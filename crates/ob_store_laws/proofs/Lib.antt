@@ -1,0 +1,12 @@
+pub mod Tails
+pub mod Entries
+pub mod Handles
+pub mod Objects
+pub mod News
+pub mod Again
+pub mod Made
+pub mod Keeping
+pub mod Fitting
+pub mod Differing
+pub mod Said
+pub mod Deltas

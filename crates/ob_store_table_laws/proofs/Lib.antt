@@ -1,0 +1,4 @@
+pub mod Unnamed
+pub mod Failing
+pub mod Following
+pub mod Whole
