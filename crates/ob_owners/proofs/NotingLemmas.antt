@@ -12,6 +12,7 @@ use Rattle.ob_table.specs.Tables.{ClassTable}
 use Rattle.ob_table.specs.declared.contract.Contract.{Contract}
 use Rattle.ob_heap.specs.declared.object.Handle.{Handle}
 use Rattle.ob_heap.specs.declared.object.Object.{Object}
+use Rattle.ob_heap.specs.Blocks.{joined}
 use Rattle.ob_heap.specs.Contents.{Stored, content_of, named_of}
 use Rattle.ob_heap.specs.Plain.{object_of}
 use Rattle.ob_heap_spec.specs.Objects.{Object as PlainObject}
@@ -32,6 +33,19 @@ pub handle_turn : (handles : List ((Label × Label) × Handle)) (i : ℕ) (h : (
     ≡ after_holdings (map holding_of_handle (map named_of (drop (i + 1) handles))) (tallies_with (holding_of_handle (named_of h)) ts)
 handle_turn handles i h ts l at =
     ap (λ hs. after_holdings (map holding_of_handle (map named_of hs)) ts) (rest_turn handles handles i h refl l at)
+
+-- the handles of a block, and those of the blocks after it
+pub block_turn : (blocks : List (List ((Label × Label) × Handle))) (i : ℕ) (b : List ((Label × Label) × Handle)) (ts us : List Tally) → i < length blocks → b ≡ get_or blocks i b
+    → us ≡ after_holdings (map holding_of_handle (map named_of b)) ts
+    → after_holdings (map holding_of_handle (map named_of (joined (drop (i + 1) blocks)))) us
+    ≡ after_holdings (map holding_of_handle (map named_of (joined (drop i blocks)))) ts
+block_turn blocks i b ts us l at note =
+    let rest = joined (drop (i + 1) blocks) in
+    ap (after_holdings (map holding_of_handle (map named_of rest))) note
+    ∙ sym (after_append (map holding_of_handle (map named_of b)) (map holding_of_handle (map named_of rest)) ts)
+    ∙ sym (ap (λ hs. after_holdings hs ts) (map-append holding_of_handle (map named_of b) (map named_of rest)))
+    ∙ sym (ap (λ hs. after_holdings (map holding_of_handle hs) ts) (map-append named_of b rest))
+    ∙ sym (ap (λ bs. after_holdings (map holding_of_handle (map named_of (joined bs))) ts) (rest_turn blocks blocks i b refl l at))
 
 -- The fields of an object.
 

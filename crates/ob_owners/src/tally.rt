@@ -1,6 +1,7 @@
 //! What the places of a store say of each object, noted in one pass over them.
 ghost use Rattle.std.specs.Prelude.{◌≡◌, ℕ, map, option_map, IfOk};
 ghost use Rattle.std.specs.Option.{option_to_list};
+ghost use Rattle.ob_heap.specs.Blocks.{joined};
 ghost use Rattle.ob_heap.specs.Contents.{content_of, named_of};
 ghost use Rattle.ob_heap.specs.Plain.{object_of, handle_of};
 ghost use Rattle.ob_heap_spec.specs.Contents.{HandleName};
@@ -16,7 +17,7 @@ use crate::references::{FieldReference, reference_at};
 use crate::seen::is_in_states;
 use ob_base::{Label, Memory, Mode, ObjectId};
 use ob_code::{ContractCode, Image};
-use ob_heap::{Content, Handle, Object};
+use ob_heap::{Block, Content, Handle, Object};
 use std::alloc::Global;
 
 /// How many places own an object.
@@ -201,12 +202,21 @@ fn note_handles(handles: &[((Label, Label), Handle)], tallies: &mut [Tally])
     }
 }
 
+// Notes the handles of blocks, one after another.
+fn note_blocks(blocks: &[Block], tallies: &mut [Tally])
+    ensures { tallies.new ≡ after_holdings (map holding_of_handle (map named_of (joined blocks.now))) tallies.old }
+{
+    for block in blocks {
+        note_handles(block.as_slice(), tallies);
+    }
+}
+
 // Notes all places of a store.
 fn note_places(code: &Image, content: &Content, tallies: &mut [Tally])
     ensures { tallies.new ≡ after_holdings (holdings (table_of_image code.now) (content_of content.now)) tallies.old }
 {
     note_objects(code, content.objects(), tallies);
-    note_handles(content.handles(), tallies);
+    note_blocks(content.handle_blocks(), tallies);
 }
 
 /// The tally of each object, by one pass over the fields of the objects and one over the handles.
