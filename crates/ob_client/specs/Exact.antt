@@ -25,10 +25,12 @@ abbrev mutual
   IsExact (array items) = AreExact items
   IsExact (object members) = (with_members no_members members ≡ members) × HasExact members
 
+  -- items, each of which is
   pub AreExact : Items → Type 0
   AreExact no_items = ⊤
   AreExact (item value items) = IsExact value × AreExact items
 
+  -- members with such keys and values
   pub HasExact : Members → Type 0
   HasExact no_members = ⊤
   HasExact (member key value members) = IsTrue (is_utf8 key) × IsExact value × HasExact members

@@ -55,10 +55,11 @@ holding_after number (restock candy) held = record held { candies = drop 1 held.
 holding_after number (buy coin) held =
     record { coins = drop 1 held.coins; candies = held.candies ++ number ∷ []; is_full = false }
 
--- the names of the handles on the coin and on the candy that a request gave
+-- the name of the handle on the coin that a request gave
 abbrev pub coin_name : ℕ → List ℕ
 coin_name number = codes "c" ++ decimal number
 
+-- the name of the handle on the candy that a request gave
 abbrev pub candy_name : ℕ → List ℕ
 candy_name number = codes "d" ++ decimal number
 

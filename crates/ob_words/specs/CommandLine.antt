@@ -29,6 +29,7 @@ command_line = with_rule (with_rule (with_rule (with_rule (with_rule bare_line
     (option_rule (codes "fuel"))) (option_rule (codes "lanes"))) (option_rule (codes "slice")))
     command_rule) words_rule
 
+-- there is no cause
 abbrev pub is_none : Kinds → Bool
 is_none [] = true
 is_none (kind ∷ kinds) = false
