@@ -3,8 +3,8 @@ use crate::bytes::Bytes;
 use crate::case::Case;
 use crate::kinds::lines::Lines;
 use crate::kinds::{
-    base, calls, code, disk, fronts, image, replies, requests, run, steps, table, terms, tokens,
-    tree,
+    asked, base, calls, client, code, disk, fronts, image, replies, requests, run, steps, table,
+    terms, tokens, tree,
 };
 use std::alloc::Global;
 
@@ -63,6 +63,12 @@ pub enum CaseKind {
     Entries,
     /// What steps on a disk, and of a journal on it, come to.
     Disk,
+    /// What the words of a command line ask for.
+    Asked,
+    /// The line by which a client sends the request that it asks.
+    Sent,
+    /// The lines of the trial of the length that it is.
+    Trial,
 }
 
 impl CaseKind {
@@ -95,6 +101,9 @@ impl CaseKind {
             "steps" => Some(CaseKind::Steps),
             "entries" => Some(CaseKind::Entries),
             "disk" => Some(CaseKind::Disk),
+            "asked" => Some(CaseKind::Asked),
+            "sent" => Some(CaseKind::Sent),
+            "trial" => Some(CaseKind::Trial),
             _ => None,
         }
     }
@@ -168,6 +177,9 @@ impl CaseKind {
                 steps::steps(alloc, case.part("text"), case.part("objects"), asked, lines)
             }
             CaseKind::Disk => disk::disk(alloc, asked, lines),
+            CaseKind::Asked => asked::asked(alloc, asked, lines),
+            CaseKind::Sent => client::sent(alloc, asked, lines),
+            CaseKind::Trial => client::trial(alloc, asked, lines),
         }
     }
 }

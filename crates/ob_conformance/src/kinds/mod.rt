@@ -1,7 +1,9 @@
 //! What each kind of case answers.
+pub mod asked;
 pub mod base;
 pub mod bodies;
 pub mod calls;
+pub mod client;
 pub mod code;
 pub mod disk;
 pub mod fronts;

@@ -1,0 +1,5 @@
+mod NewlineLemmas
+mod ExactLemmas
+mod RequestLaws
+mod RequestValues
+mod TrialLemmas

@@ -1,0 +1,5 @@
+pub mod RequestLines
+pub mod Sendable
+pub mod Exact
+pub mod Trials
+pub mod TrialView

@@ -1,0 +1,6 @@
+mod NumberLemmas
+mod RefusalLemmas
+mod RowLemmas
+mod WalkLemmas
+mod PartLemmas
+mod WrittenLemmas

@@ -1,0 +1,6 @@
+pub mod CommandLine
+pub mod Settings
+pub mod Asked
+pub mod AskedView
+pub mod Written
+pub mod Worked
