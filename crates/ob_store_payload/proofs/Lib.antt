@@ -1,0 +1,4 @@
+pub mod Spellings
+pub mod RowLemmas
+pub mod ValueLemmas
+pub mod PayloadLemmas
