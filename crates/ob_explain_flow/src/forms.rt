@@ -9,7 +9,7 @@ use crate::uses::{Role, Use, role_in_words, use_at, uses_of};
 use ob_base::{
     ASSERT_FAILS, BAD_TRANSITION, ContractId, FieldId, Memory, Mode, NOT_OWNING, NOT_SHARED, Perm,
     TEST_TWICE, TEST_UNOWNED, THIS_IN_CONSTRUCTOR, UNDER_TEST, USED_TWICE, VIEW_CHANGES,
-    WRONG_STATE,
+    WRONG_STATE, is_letter_or_digit,
 };
 use ob_explain_page::{Explanation, said, shown_at, word_of};
 use ob_flow_context::is_tested;
@@ -103,6 +103,11 @@ fn help_with_state(
         Some(contract) => first_state(contract, perm.states),
         None => "S",
     };
+    if !name.bytes().all(|byte| is_letter_or_digit(byte)) {
+        return Ok(format!(in case.alloc;
+            "put it into a variable, and test the state of that, as in `if (x in {state}) {{ .. }}`."
+        )?);
+    }
     Ok(format!(in case.alloc;
         "test the state first, as in `if ({name} in {state}) {{ .. }}`, or come in with it."
     )?)
@@ -125,7 +130,9 @@ pub fn explain_permission(case: &Case<'_>) -> Result<Explanation, Memory> {
             let wanted = type_in_words(alloc, table, of)?;
             format!(in alloc; "`{name}` is held as `{held}` here, and {role} wants `{wanted}`")?
         }
-        None => format!(in alloc; "`{name}` is held as `{held}` here, and {role} wants an owner")?,
+        None => format!(in alloc;
+            "`{name}` is held as `{held}` here, and `disown` wants an owner"
+        )?,
     };
     let note = if number == NOT_OWNING {
         why_not_owner(case, place)?
@@ -319,7 +326,7 @@ fn explain_under_test(case: &Case<'_>) -> Result<Explanation, Memory> {
             "`{name}` is under test in this branch, and isn't owned any more at its end"
         )?,
         _ => format!(in alloc;
-            "`{name}` is under test here, or hands on what is, and must stay as it is until the branch ends"
+            "`{name}` can't stand here: what the `if` around tests stays as it is until that branch ends"
         )?,
     };
     let note = match operand_at(case)? {

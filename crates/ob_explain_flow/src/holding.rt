@@ -61,7 +61,9 @@ fn perm_in_words(alloc: Global, contract: &Contract, perm: Perm) -> Result<Strin
         Mode::Unowned => said(alloc, "Unowned"),
         Mode::Owned => {
             let list = states_in_words(alloc, contract, perm.states)?;
-            let knows_all = !has_bit(perm.states, NO_STATE_BIT)
+            let known = !contract.interface || has_bit(perm.states, OTHER_STATE_BIT);
+            let knows_all = known
+                && !has_bit(perm.states, NO_STATE_BIT)
                 && subset(all_of(contract), perm.states);
             if list.is_empty() || knows_all {
                 said(alloc, "Owned")

@@ -133,7 +133,9 @@ impl Lettings {
     ) -> Result<(), Memory> {
         note_shared(alloc, frame, context, &term.form, &mut self.found)?;
         let before = self.made;
-        self.made = made_shared(frame, &term.form);
+        if !matches!(&term.form, Form::Drop { .. }) {
+            self.made = made_shared(frame, &term.form);
+        }
         match (&term.form, before) {
             (Form::Disown { place }, _) => {
                 let kind = context.kind(place.place);

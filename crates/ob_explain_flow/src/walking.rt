@@ -53,10 +53,9 @@ pub struct Found<'a> {
 impl<'a> Notes<'a> {
     // A slot is set by the term at this place.
     fn set_slot(&mut self, slot: u8, at: Span) -> Result<(), Memory> {
-        for _ in 0..256 {
-            if self.set.len() <= usize::from(slot) {
-                self.set.push(None)?;
-            }
+        let missing = (usize::from(slot) + 1).saturating_sub(self.set.len());
+        for _ in 0..missing {
+            self.set.push(None)?;
         }
         if let Some(entry) = self.set.get_mut(usize::from(slot)) {
             *entry = Some(at);
