@@ -13,17 +13,17 @@ use Rattle.ob_journal.specs.declared.journal.Found.TheVariants.{Blank, Current}
 -- the answer is what the area stands for, or why it stands for nothing
 abbrev pub Finds : ℕ → Result Found JournalError → List ℕ → Type 0
 Finds size (Ok Blank) area = IsBlank area
-Finds size (Ok (Current journal)) area = StandsFor (plain journal.contents) area × (journal.area ≡ size)
+Finds size (Ok (Current journal)) area = StandsFor (plain journal.contents) area
 Finds size (Err NotStore) area = IsNoStore area
 Finds size (Err (Damaged offset)) area = IsDamaged offset area
 Finds size (Err (Room need size_)) area = ⊥
 Finds size (Err DiskFault) area = ⊤
 Finds size (Err Memory) area = ⊤
 
--- what was found holds of the disk and of each image of it
+-- what was found holds of the disk and of each image of it; a journal has the area that was looked at
 abbrev pub IsFoundIn : ℕ → Found → DiskView → Type 0
 IsFoundIn size Blank v = IsFresh size v
-IsFoundIn size (Current journal) v = IsWhole size (plain journal.contents) v
+IsFoundIn size (Current journal) v = IsWhole size (plain journal.contents) v × (journal.area ≡ size)
 
 -- the count of faults rose, by one, where the disk failed, and else it stayed
 abbrev pub FaultsAs : {T : Type 0} → Result T JournalError → ℕ → ℕ → Type 0

@@ -4,3 +4,4 @@ pub mod Finding
 pub mod Journals
 pub mod Moments
 pub mod Reading
+pub mod Rooms

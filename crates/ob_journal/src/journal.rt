@@ -47,6 +47,7 @@ impl Journal {
     ghost use Rattle.ob_journal.specs.Surveys.{payload_of};
     ghost use Rattle.ob_journal.specs.Moments.{IsFresh, OpensByOne};
     ghost use Rattle.ob_journal.specs.Finding.{Finds, IsFoundIn, FaultsAs};
+    ghost use Rattle.ob_journal.specs.Rooms.{StaysWithoutRoom, NeedsNoRoom};
     ghost use Rattle.ob_journal.specs.Journals.{journaled, area_size, Holds, HasSpare, IsBuilt, payload_built, bytes_built, Builds, Begins};
 
     /// What the area at the front of a disk stands for. It begins with a sync, so that what it reads is what a crash
@@ -56,6 +57,7 @@ impl Journal {
         requires small { area ≤ 2 ^ 31 }
         ensures found { (c : List ℕ) → Reads (D.view disk.old) c → Finds area result (area_of area c) }
         ensures whole { IfOk result (λ found. IsFoundIn area found (D.view disk.new)) }
+        ensures room { NeedsNoRoom result }
         ensures quiet { During (D.view disk.old) (D.view disk.new) (May (D.view disk.old)) }
         ensures cause { FaultsAs result (D.view disk.old).faults (D.view disk.new).faults }
     {
@@ -90,6 +92,7 @@ impl Journal {
         ensures opened { OnOk result (Throughout (D.view disk.new) OpensByOne) }
         ensures crash { IsFresh area (D.view disk.old) →
             During (D.view disk.old) (D.view disk.new) (λ c. IsBlankOrBegun image.now (area_of area c)) }
+        ensures room { StaysWithoutRoom (D.view disk.old) (D.view disk.new) result }
         ensures cause { FaultsAs result (D.view disk.old).faults (D.view disk.new).faults }
     {
         let count = image.len() as u64;

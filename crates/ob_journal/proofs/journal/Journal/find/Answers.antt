@@ -13,15 +13,15 @@ returns-in-Ok-Blank-clause-whole g c =
     found_blank (g.D.Disk.view c.args.disk.now) (g.D.Disk.view c.measure.new.disk) (g.D.Disk.view c.read_front.new.disk) c.in-Ok.ensures.settled c.in-Ok.ensures.same c.in-Ok-read_front.ensures.same c.read_front.ensures.quiet c.args.area (returns-in-Ok-Blank-clause-found g c)
 
 pub returns-in-Ok-Standing-clause-found : goal.returns-in-Ok-Standing-clause-found
-returns-in-Ok-Standing-clause-found g c = λ c' reads. (
-  of_area (StandsFor (plain c.in-Ok-Standing.contents)) c.as_slice.result.now c' c.in-Ok.count c.args.area (standing_survey _ c.in-Ok-Standing.contents _ c.in-Ok-Standing.field-0-is c.in-Ok-Standing.ensures).stands
-      (c.as_slice.ensures.value ∙ c.in-Ok-read_front.ensures.bytes c' (c.in-Ok.ensures.same ∙ reads) ∙ ap (λ (n : ℕ). take n c') c.min.ensures) (c.in-Ok.ensures.length c' reads),
-  refl,
-)
+returns-in-Ok-Standing-clause-found g c = λ c' reads.
+    of_area (StandsFor (plain c.in-Ok-Standing.contents)) c.as_slice.result.now c' c.in-Ok.count c.args.area (standing_survey _ c.in-Ok-Standing.contents _ c.in-Ok-Standing.field-0-is c.in-Ok-Standing.ensures).stands
+    (c.as_slice.ensures.value ∙ c.in-Ok-read_front.ensures.bytes c' (c.in-Ok.ensures.same ∙ reads) ∙ ap (λ (n : ℕ). take n c') c.min.ensures) (c.in-Ok.ensures.length c' reads)
 
 pub returns-in-Ok-Standing-clause-whole : goal.returns-in-Ok-Standing-clause-whole
-returns-in-Ok-Standing-clause-whole g c =
-    found_whole (g.D.Disk.view c.args.disk.now) (g.D.Disk.view c.measure.new.disk) (g.D.Disk.view c.read_front.new.disk) c.in-Ok.ensures.settled c.in-Ok.ensures.same c.in-Ok-read_front.ensures.same c.read_front.ensures.quiet c.args.area (plain c.in-Ok-Standing.contents) (λ c' reads. (returns-in-Ok-Standing-clause-found g c c' reads).0)
+returns-in-Ok-Standing-clause-whole g c = (
+  found_whole (g.D.Disk.view c.args.disk.now) (g.D.Disk.view c.measure.new.disk) (g.D.Disk.view c.read_front.new.disk) c.in-Ok.ensures.settled c.in-Ok.ensures.same c.in-Ok-read_front.ensures.same c.read_front.ensures.quiet c.args.area (plain c.in-Ok-Standing.contents) (returns-in-Ok-Standing-clause-found g c),
+  refl,
+)
 
 pub returns-in-Err-NotStore-clause-found : goal.returns-in-Err-NotStore-clause-found
 returns-in-Err-NotStore-clause-found g c = λ c' reads.

@@ -1,0 +1,6 @@
+pub mod Same
+pub mod Standing
+pub mod Recording
+pub mod Committing
+pub mod Opened
+pub mod Differing

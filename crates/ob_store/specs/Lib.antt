@@ -1,0 +1,4 @@
+pub mod Stores
+pub mod Opening
+pub mod Preparing
+pub mod Committing

@@ -1,0 +1,152 @@
+-- What opening a store answers (this project's own).
+use Rattle.std.specs.Prelude.{ℕ, pos, ◌≡◌, ◌<◌, ◌≤◌, ◌+◌, ◌⊎◌, ⊤, List, ◌∷◌, ◌++◌, length, Some, Result, Ok, Err}
+use Rattle.ob_base.specs.Limits.{most_objects, most_handles}
+use Rattle.ob_table.specs.Tables.{ClassTable}
+use Rattle.ob_disk_spec.specs.Disk.{DiskView}
+use Rattle.ob_disk_spec.specs.Durable.{May, During}
+use Rattle.ob_heap.specs.Contents.{Stored, content_of}
+use Rattle.ob_heap_spec.specs.Contents.{Content, IsContent, empty_content}
+use Rattle.ob_disk_spec.specs.Disk.{DiskView}
+use Rattle.ob_disk_spec.specs.Durable.{May, During}
+use Rattle.ob_io.specs.Causes.{Rose}
+use Rattle.ob_rest_spec.specs.AtRest.{IsStoreAtRest, first_failing_object}
+use Rattle.ob_journal_spec.specs.Areas.{IsBlank, begun, next_gate, size_of}
+use Rattle.ob_journal_spec.specs.Differing.{DifferAt}
+use Rattle.ob_journal.specs.Journals.{journaled, area_size}
+use Rattle.ob_journal.specs.declared.error.JournalError.{JournalError}
+use Rattle.ob_journal.specs.declared.error.JournalError.TheVariants as of_journal
+use Rattle.ob_journal.specs.declared.journal.Journal.{Journal}
+use Rattle.ob_store_payload.specs.declared.error.PayloadError.{PayloadError}
+use Rattle.ob_store_payload.specs.declared.error.PayloadError.TheVariants as of_payload
+use Rattle.ob_store_spec.specs.Payloads.{Changes}
+use Rattle.ob_store_spec.specs.Changes.{SaysChanges, with_changes, LeadFrom}
+use Rattle.ob_store_spec.specs.Stores.{StoreProgram, StoreState, IsStoreOf, IsRefused, not_store, damaged, other_program, not_at_rest}
+use Rattle.ob_store.specs.Stores.{state_of, IsKeptAs}
+use Rattle.ob_store.specs.declared.store.Store.{Store}
+use Rattle.ob_store.specs.declared.error.OpenError.{OpenError}
+use Rattle.ob_store.specs.declared.error.OpenError.TheVariants.{NotStore, Damaged, OtherProgram, NotAtRest, Room, DiskFault, Memory}
+
+-- The answer is the store for which an area stands, or why it stands for none. `Room` comes where a blank area is too small to be begun.
+abbrev pub Opens : StoreProgram → ℕ → Result Store OpenError → List ℕ → Type 0
+Opens program size (Ok store) area = IsStoreOf program area (state_of store)
+Opens program size (Err NotStore) area = IsRefused program area not_store
+Opens program size (Err (Damaged offset)) area = IsRefused program area (damaged offset)
+Opens program size (Err (OtherProgram offset)) area = IsRefused program area (other_program offset)
+Opens program size (Err (NotAtRest object)) area = IsRefused program area (not_at_rest object.0)
+Opens program size (Err (Room need limit)) area =
+    IsBlank area × (need ≡ 18 + length program.image) × (limit ≡ size) × (size < need)
+Opens program size (Err DiskFault) area = ⊤
+Opens program size (Err Memory) area = ⊤
+
+-- the count of faults rose, by one, where the disk failed, and else it stayed
+abbrev pub FaultsAs : {T : Type 0} → Result T OpenError → ℕ → ℕ → Type 0
+FaultsAs (Err DiskFault) before now = Rose before now × (now ≤ before + 1)
+FaultsAs answer before now = now ≡ before
+
+-- why no store is opened, where no journal is found or begun
+abbrev pub refused_by : JournalError → OpenError
+refused_by of_journal.NotStore = NotStore
+refused_by (of_journal.Damaged offset) = Damaged offset
+refused_by (of_journal.Room need size) = Room need size
+refused_by of_journal.DiskFault = DiskFault
+refused_by of_journal.Memory = Memory
+
+-- what is kept is of the class table, with no more objects and handles than there may be
+pub record IsKeptContent (table : ClassTable) (content : Content) : Type 0 where
+  pub is_content : IsContent table content
+  pub few_objects : length content.objects ≤ most_objects
+  pub few_handles : length content.handles ≤ most_handles
+
+-- a payload says changes of a content, which lead to another one
+pub record IsFollowed (table : ClassTable) (before : Content) (payload : List ℕ) (after : Content) : Type 0 where
+  pub changes : Changes
+  pub says : SaysChanges table before changes payload
+  pub leads : after ≡ with_changes table before changes
+  pub kept : IsKeptContent table after
+
+-- what following a payload answers, and the content after it: it is bad exactly where it says no changes
+abbrev pub Follows : ClassTable → Content → List ℕ → Result (Unit {0}) PayloadError → Content → Type 0
+Follows table before payload (Ok done) after = IsFollowed table before payload after
+Follows table before payload (Err of_payload.Bad) after = (changes : Changes) → ¬ (SaysChanges table before changes payload)
+Follows table before payload (Err of_payload.Memory) after = ⊤
+
+-- Of payloads, the first one's gate being at an offset, this is the gate of the first that says no changes of the content before it.
+pub record IsFirstBad (table : ClassTable) (gate : ℕ) (payloads : List (List ℕ)) (offset : ℕ) : Type 0 where
+  pub before : List (List ℕ)
+  pub bad : List ℕ
+  pub after : List (List ℕ)
+  pub is : payloads ≡ before ++ bad ∷ after
+  pub content : Content
+  pub content_is : LeadFrom table empty_content before content
+  pub says_none : (changes : Changes) → ¬ (SaysChanges table content changes bad)
+  pub at : offset ≡ gate + size_of before
+
+-- what replaying payloads answers, the first one's gate being at an offset: the content to which they lead, or the gate of the first
+-- that is bad
+abbrev pub Replays : ClassTable → ℕ → List (List ℕ) → Result Stored OpenError → Type 0
+Replays table gate payloads (Ok stored) = LeadFrom table empty_content payloads (content_of stored) × IsKeptContent table (content_of stored)
+Replays table gate payloads (Err (Damaged offset)) = IsFirstBad table gate payloads offset
+Replays table gate payloads (Err Memory) = ⊤
+Replays table gate payloads (Err other) = ⊥
+
+-- a store is kept in a journal, is one of this program, and is at rest
+pub record IsRebuilt (program : StoreProgram) (journal : Journal) (store : Store) : Type 0 where
+  pub journal_is : store.journal ≡ Some journal
+  pub kept : IsKeptAs program (content_of store.content) (journaled journal)
+  pub at_rest : IsStoreAtRest program.table (content_of store.content)
+
+-- a journal is one of this program, and the content to which it leads isn't at rest: this is the first object that fails
+pub record IsUnrested (program : StoreProgram) (journal : Journal) (object : ℕ) : Type 0 where
+  pub content : Content
+  pub kept : IsKeptAs program content (journaled journal)
+  pub fails : first_failing_object program.table content ≡ Some object
+
+-- What rebuilding a store from its journal answers; each refusal supposes that none before it holds.
+abbrev pub Rebuilds : StoreProgram → Journal → Result Store OpenError → Type 0
+Rebuilds program journal (Ok store) = IsRebuilt program journal store
+Rebuilds program journal (Err (OtherProgram offset)) = DifferAt offset (journaled journal).image program.image
+Rebuilds program journal (Err (Damaged offset)) =
+    ((journaled journal).image ≡ program.image)
+    × IsFirstBad program.table (17 + length (journaled journal).image) (journaled journal).payloads offset
+Rebuilds program journal (Err (NotAtRest object)) = IsUnrested program journal object.0
+Rebuilds program journal (Err Memory) = ⊤
+Rebuilds program journal (Err other) = ⊥
+
+-- a store is empty, and its journal of an area of this size has just been begun for this program
+pub record IsBegun (program : StoreProgram) (size : ℕ) (store : Store) : Type 0 where
+  pub journal : Journal
+  pub journal_is : store.journal ≡ Some journal
+  pub content : content_of store.content ≡ empty_content
+  pub says : journaled journal ≡ begun program.image
+  pub area : area_size journal ≡ size
+
+-- what beginning a store answers: `Room` exactly where the area is smaller than a header with its two gates
+abbrev pub BeginsStore : StoreProgram → ℕ → Result Store OpenError → Type 0
+BeginsStore program size (Ok store) = IsBegun program size store
+BeginsStore program size (Err (Room need limit)) = (need ≡ 18 + length program.image) × (limit ≡ size) × (size < need)
+BeginsStore program size (Err DiskFault) = ⊤
+BeginsStore program size (Err Memory) = ⊤
+BeginsStore program size (Err other) = ⊥
+
+-- `Room` comes where an area is too small to be begun: how many bytes are needed, and how many there are
+abbrev pub LacksArea : StoreProgram → ℕ → Result Store OpenError → Type 0
+LacksArea program size (Err (Room need limit)) = (need ≡ 18 + length program.image) × (limit ≡ size) × (size < need)
+LacksArea program size answer = ⊤
+
+-- a store is the one for which a blank area stands
+pub record IsBlankStart (program : StoreProgram) (s : StoreState) : Type 0 where
+  pub content : s.content ≡ empty_content
+  pub gate : s.gate ≡ next_gate (begun program.image)
+  pub serial : s.serial ≡ pos 1
+
+-- No byte changes but where a blank area is begun.
+abbrev pub StaysUnlessBlank : StoreProgram → DiskView → DiskView → Result Store OpenError → Type 0
+StaysUnlessBlank program old new (Ok store) = IsBlankStart program (state_of store) ⊎ During old new (May old)
+StaysUnlessBlank program old new (Err DiskFault) = ⊤
+StaysUnlessBlank program old new (Err Memory) = ⊤
+StaysUnlessBlank program old new (Err other) = During old new (May old)
+
+-- nothing is written where the area is too small to be begun
+abbrev pub StaysWithoutRoom : DiskView → DiskView → Result Store OpenError → Type 0
+StaysWithoutRoom old new (Err (Room need limit)) = During old new (May old)
+StaysWithoutRoom old new answer = ⊤
