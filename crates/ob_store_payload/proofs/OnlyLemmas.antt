@@ -4,25 +4,12 @@ use Rattle.std.proofs.lemmas.List.Elements.{All-head, All-tail}
 use Rattle.ob_format_spec.specs.Formats.{Parsed, done, stop, ◌>>=◌}
 use Rattle.ob_format_spec.specs.Combinators.{read_times}
 use Rattle.ob_format_spec.proofs.CombinatorLaws.{done_parts, mapped_done}
-use Rattle.ob_format.specs.Answering.{Halts}
-use Rattle.ob_format.specs.declared.halt.Halt.{Halt}
-use Rattle.ob_format.specs.declared.halt.Halt.TheVariants as halt
 use Rattle.ob_format.proofs.Loops.{prefixed}
 use Rattle.ob_store_payload.specs.Answering.{AnswersOnly}
-use Rattle.ob_store_payload.specs.Errors.{halt_error}
 use Rattle.ob_store_payload.specs.declared.error.PayloadError.{PayloadError}
 use Rattle.ob_store_payload.specs.declared.error.PayloadError.TheVariants.{Bad, Memory}
 
 module _ {A Q : Type 0} (plain : A → Q) (wanted : Q → Type 0) where
-  -- nothing goes on
-  stopped_only : (left : ℕ) (r : Parsed Q) → r ≡ stop left → AnswersOnly plain wanted (Err Bad) r
-  stopped_only left r h q rest is = let clash : stop left ≡ done q rest = sym h ∙ is in absurd cc
-
-  -- nothing is read of the front
-  pub halted_only : {P : Type 0} (e : Halt) (r : Parsed P) (f : P → List ℕ → Parsed Q) → Halts e r → AnswersOnly plain wanted (Err (halt_error e)) (r >>= f)
-  halted_only (halt.Stop left) r f h = stopped_only left (r >>= f) (ap (λ x. x >>= f) h)
-  halted_only halt.Memory r f h = tt
-
   -- what the front reads isn't wanted, or nothing is read
   pub front_only : {B P : Type 0} (front : B → P) (wanted_front : P → Type 0) (e : PayloadError) (r : Parsed P) (f : P → List ℕ → Parsed Q)
       → ((p : P) (mid : List ℕ) (q : Q) (rest : List ℕ) → f p mid ≡ done q rest → wanted q → wanted_front p)
@@ -58,7 +45,7 @@ module _ {P R : Type 0} (wanted : P × R → Type 0) (e : PayloadError) (r : Par
   second_only back wanted_back x mid so is h =
       subst (λ s. AnswersOnly (λ (p : P × R). p) wanted (Err e) (s >>= (λ x mid. next x mid >>= (λ y rest. done (x, y) rest)))) (sym is)
       (front_only (λ p. p) wanted back wanted_back e (next x mid) (λ y rest. done (x, y) rest)
-       (λ y last q rest end want. so y (subst wanted (sym (done_parts (x, y) q last rest end).0) want)) h)
+      (λ y last q rest end want. so y (subst wanted (sym (done_parts (x, y) q last rest end).0) want)) h)
 
 -- ---- so many, one after another
 

@@ -17,7 +17,9 @@ ghost use Rattle.ob_store_laws.specs.Recorded.{object_change, handle_change, cha
 ghost use Rattle.ob_store_payload.specs.Answering.{AnswersAs, AnswersField, AnswersOnly, IsNamed};
 ghost use Rattle.ob_store_payload.specs.Values.{HasItsValues};
 ghost use Rattle.ob_store_spec.specs.Between.{values_from};
-ghost use Rattle.ob_store_spec.specs.Payloads.{state_of_byte, state as state_format, marks as marks_format, truth as truth_format, available_count, value as value_format, object_head, object as object_format, hold as hold_format, held as held_format, handle as handle_format, payload as payload_format};
+ghost use Rattle.ob_store_spec.specs.Payloads.{state_of_byte, available_count, object_head};
+ghost use Rattle.ob_store_spec.specs.Payloads.{state as state_format, marks as marks_format, truth as truth_format, value as value_format};
+ghost use Rattle.ob_store_spec.specs.Payloads.{object as object_format, hold as hold_format, held as held_format, handle as handle_format, payload as payload_format};
 ghost use Rattle.ob_heap_spec.specs.Objects.{is_available, has_field};
 
 use crate::error::PayloadError;
@@ -91,7 +93,11 @@ fn value(alloc: Global, bytes: &[u8]) -> Result<(Value, &[u8]), Halt>
 fn state_of_byte(byte: u8) -> Option<StateId>
     ensures { result ≡ state_of_byte byte }
 {
-    if byte == 255 { None } else { Some(StateId(byte)) }
+    if byte == 255 {
+        None
+    } else {
+        Some(StateId(byte))
+    }
 }
 
 #[tactic(auto, unfolding(ob_store_spec::specs::Payloads::state))]

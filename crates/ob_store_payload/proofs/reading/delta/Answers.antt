@@ -18,8 +18,8 @@ unfolding payload
 returns-in_err-handles-clause-read c =
     let table = table_of_image c.args.code.now in
     let only : (e : PayloadError) → AnswersOnly (map handle_change) (All IsNamed) (Err e) ((counted handle).read c.in_ok-objects.rest.now)
-        → AnswersOnly (changes_of table) (λ x. All IsNamed x.handles) (Err e) ((payload table).read c.args.bytes.now) =
+    → AnswersOnly (changes_of table) (λ x. All IsNamed x.handles) (Err e) ((payload table).read c.args.bytes.now) =
     λ e h. mapped_only (changes_of table) (λ x. All IsNamed x.handles) of_parts e _
-        (second_only (λ p. All IsNamed p.1) e ((counted (object table)).read c.args.bytes.now) (λ objects. (counted handle).read) (map handle_change) (All IsNamed)
-         (map (object_change table) c.in_ok-objects.objects) c.in_ok-objects.rest.now (λ y named. named) c.in_ok-objects.ensures.read h) in
+    (second_only (λ p. All IsNamed p.1) e ((counted (object table)).read c.args.bytes.now) (λ objects. (counted handle).read) (map handle_change) (All IsNamed)
+    (map (object_change table) c.in_ok-objects.objects) c.in_ok-objects.rest.now (λ y named. named) c.in_ok-objects.ensures.read h) in
     search (rules, only)

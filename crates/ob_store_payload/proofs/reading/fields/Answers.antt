@@ -37,18 +37,14 @@ returns-in_err-rest c =
     field_halts fields c.args.state place (field_of_code x) there.0 there.1.0 there.1.1 whole (is_available_in c.args.state x) refl c.loop-place.kept c.field.new.fields c.loop-place.rest.now c.loop-place.invariant in
     search (rules, halt)
 
-pub returns-clause-read : goal.returns-clause-read
-returns-clause-read c =
+pub returns : goal.returns
+returns c =
     let fields = (contract_of_code c.args.contract.now).fields in
     let many = length-map c.args.contract.now.fields field_of_code in
     let items = ap length c.as_slice-declared-items.ensures in
     let all : length fields ≤ c.loop-place.place = omega (arith, many, items, c.loop-place-test.false) in
-    all_read fields c.args.state c.loop-place.place c.loop-place.kept c.loop-place.rest.now (read_times value.read (left fields c.args.state 0) c.args.bytes.now) all c.loop-place.invariant
-
-pub returns-clause-values : goal.returns-clause-values
-returns-clause-values c =
-    let fields = (contract_of_code c.args.contract.now).fields in
-    let many = length-map c.args.contract.now.fields field_of_code in
-    let items = ap length c.as_slice-declared-items.ensures in
-    let all : length fields ≤ c.loop-place.place = omega (arith, many, items, c.loop-place-test.false) in
-    all_have fields c.args.state c.loop-place.place c.loop-place.kept c.loop-place.rest.now (read_times value.read (left fields c.args.state 0) c.args.bytes.now) all c.loop-place.invariant
+    let whole = read_times value.read (left fields c.args.state 0) c.args.bytes.now in
+    record {
+      read = all_read fields c.args.state c.loop-place.place c.loop-place.kept c.loop-place.rest.now whole all c.loop-place.invariant;
+      values = all_have fields c.args.state c.loop-place.place c.loop-place.kept c.loop-place.rest.now whole all c.loop-place.invariant;
+    }

@@ -19,7 +19,7 @@ unfolding handle
 returns-in_err-who c =
     let only : (e : PayloadError) → AnswersOnly (λ (l : List ℕ). l) (λ t. IsTrue (is_label t)) (Err e) (text.read c.args.bytes.now) → AnswersOnly handle_change IsNamed (Err e) (handle.read c.args.bytes.now) =
     λ e h. mapped_only handle_change IsNamed of_parts e _
-        (first_only (λ p. IsNamed (of_parts p)) e (text.read c.args.bytes.now) (λ who. read_and_then text.read (λ name. held.read)) (λ l. l) (λ t. IsTrue (is_label t)) (λ x y named. named.0) h) in
+    (first_only (λ p. IsNamed (of_parts p)) e (text.read c.args.bytes.now) (λ who. read_and_then text.read (λ name. held.read)) (λ l. l) (λ t. IsTrue (is_label t)) (λ x y named. named.0) h) in
     search (rules, only)
 
 pub returns-in_err-name : goal.returns-in_err-name
@@ -29,7 +29,7 @@ returns-in_err-name c =
     let rest = c.in_ok-who.rest.now in
     let only : (e : PayloadError) → AnswersOnly (λ (l : List ℕ). l) (λ t. IsTrue (is_label t)) (Err e) (text.read rest) → AnswersOnly handle_change IsNamed (Err e) (handle.read c.args.bytes.now) =
     λ e h. mapped_only handle_change IsNamed of_parts e _
-        (second_only (λ p. IsNamed (of_parts p)) e (text.read c.args.bytes.now) (λ x. read_and_then text.read (λ name. held.read)) (λ p. p) (λ p. IsTrue (is_label p.0)) who rest
-         (λ y named. named.1) c.in_ok-who.ensures
-         (first_only (λ p. IsTrue (is_label p.0)) e (text.read rest) (λ name. held.read) (λ l. l) (λ t. IsTrue (is_label t)) (λ x y named. named) h)) in
+    (second_only (λ p. IsNamed (of_parts p)) e (text.read c.args.bytes.now) (λ x. read_and_then text.read (λ name. held.read)) (λ p. p) (λ p. IsTrue (is_label p.0)) who rest
+    (λ y named. named.1) c.in_ok-who.ensures
+    (first_only (λ p. IsTrue (is_label p.0)) e (text.read rest) (λ name. held.read) (λ l. l) (λ t. IsTrue (is_label t)) (λ x y named. named) h)) in
     search (rules, only)

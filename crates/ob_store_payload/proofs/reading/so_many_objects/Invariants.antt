@@ -8,6 +8,7 @@ use Rattle.ob_store_spec.specs.Payloads.{object}
 use Rattle.ob_store_payload.specs.Values.{HasItsValues}
 use Rattle.ob_store_payload.proofs.reading.so_many_objects.Given as goal
 
+-- the objects so far were read, and have their values
 abbrev pub invariant-objects : goal.invariant-objects
 invariant-objects l =
     (prefixed (map (object_change (table_of_image l.code)) l.objects) (read_times (object (table_of_image l.code)).read (l.count - l.counter) l.rest)
