@@ -2,3 +2,5 @@ pub mod Spellings
 pub mod RowLemmas
 pub mod ValueLemmas
 pub mod PayloadLemmas
+pub mod FieldsRead
+pub mod OnlyLemmas

@@ -1,2 +1,5 @@
+pub mod Answering
+pub mod Errors
 pub mod Rows
+pub mod Values
 pub mod Writing

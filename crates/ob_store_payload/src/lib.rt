@@ -1,8 +1,12 @@
-//! The payload of a store that says what differs after a delta.
+//! The payload of a store that says what differs after a delta: it is written, and read again.
 #![tactic(auto)]
 
+mod error;
+mod reading;
 mod rows;
 mod values;
 mod writing;
 
+pub use error::PayloadError;
+pub use reading::delta;
 pub use writing::put_payload;
