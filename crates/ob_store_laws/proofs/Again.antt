@@ -115,7 +115,8 @@ each_again k (f ∷ fs) state values have i =
         ap (λ g. g (k + suc i)) (passed k f fs state vs is)
         ∙ ap (fields_from (suc k) fs state vs) same ∙ rest i ∙ ap values (sym same)
 
-fields_again : (fs : List Field) (state : Option StateId) (values : Numbered Value) → HaveValues 0 fs state values
+-- fields that have just the values of the available ones are again the same
+pub fields_again : (fs : List Field) (state : Option StateId) (values : Numbered Value) → HaveValues 0 fs state values
     → fields_from 0 fs state (values_from 0 fs state values) ≡ values
 fields_again fs state values have = fun_ext (λ j.
     let same : 0 + j ≡ j = omega arith in

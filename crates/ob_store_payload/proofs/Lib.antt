@@ -4,3 +4,7 @@ pub mod ValueLemmas
 pub mod PayloadLemmas
 pub mod FieldsRead
 pub mod OnlyLemmas
+pub mod ConditionLemmas
+pub mod TallyLemmas
+pub mod ObjectLemmas
+pub mod ChangesLemmas

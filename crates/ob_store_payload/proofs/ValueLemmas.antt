@@ -97,7 +97,8 @@ turned Less = refl
 turned Equal = refl
 turned Greater = refl
 
-plain_at : (n : HandleName) (hs : List ((Label × Label) × Handle)) → find_key name_order n (map named_of hs) ≡ option_map handle_of (handle_at n hs)
+-- the handle of a name
+pub plain_at : (n : HandleName) (hs : List ((Label × Label) × Handle)) → find_key name_order n (map named_of hs) ≡ option_map handle_of (handle_at n hs)
 plain_at n [] = refl
 plain_at n (h ∷ hs) =
     ap (λ b. if b then Some (handle_of h.1) else find_key name_order n (map named_of hs))
