@@ -1,2 +1,4 @@
 pub mod Rows
 pub mod Writing
+pub mod Values
+pub mod Answering
