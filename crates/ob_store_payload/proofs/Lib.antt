@@ -2,3 +2,4 @@ pub mod Spellings
 pub mod RowLemmas
 pub mod ValueLemmas
 pub mod PayloadLemmas
+pub mod ReadingLemmas
