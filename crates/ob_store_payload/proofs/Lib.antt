@@ -8,3 +8,4 @@ pub mod ConditionLemmas
 pub mod TallyLemmas
 pub mod ObjectLemmas
 pub mod ChangesLemmas
+pub mod ReadingLemmas

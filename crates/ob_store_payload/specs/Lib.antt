@@ -1,7 +1,6 @@
 pub mod Answering
+pub mod Conditions
 pub mod Errors
 pub mod Rows
 pub mod Values
 pub mod Writing
-pub mod Values
-pub mod Conditions

@@ -4,11 +4,11 @@
 mod conditions;
 mod error;
 mod reading;
+mod reading_payload;
 mod rows;
 mod values;
 mod writing;
 
-pub use conditions::are_changes;
 pub use error::PayloadError;
-pub use reading::delta;
+pub use reading_payload::read_payload;
 pub use writing::put_payload;

@@ -1,4 +1,5 @@
 pub mod Single
 pub mod Sayings
+pub mod PayloadLaws
 pub mod Leading
 pub mod Refusing

@@ -25,7 +25,7 @@ state_single x y r s p q is =
     let same : byte_of_state x ≡ byte_of_state y = ap (λ (l : List ℕ). get_or l 0 0) is in
     (sym p.1 ∙ ap state_of_byte same ∙ q.1, ap (λ (l : List ℕ). drop 1 l) is)
 
-marks_lawful : Lawful marks
+pub marks_lawful : Lawful marks
 unfolding marks
 marks_lawful =
     kinds_lawful number_of_marks (constant (false, false) ∷ constant (true, false) ∷ constant (false, true) ∷ constant (true, true) ∷ []) (
@@ -60,7 +60,7 @@ reference_again : (x : Value) (p : ℕ) → referred x ≡ Some p → reference 
 reference_again (reference n) p e = cc
 reference_again other p e = absurd cc
 
-value_lawful : Lawful value
+pub value_lawful : Lawful value
 unfolding value
 value_lawful =
     kinds_lawful number_of_value (variant int_value int_of integer ∷ variant bool_value truth_of truth ∷ variant text_value text_of text ∷ variant reference referred number ∷ []) (
