@@ -10,8 +10,9 @@ pub trait Disk {
     /// What it is at a moment.
     ghost view: { Self → DiskView };
 
-    /// Takes the disk of this name.
+    /// Takes the disk of this name. Where it tells what a read gives, it does so before as well.
     fn attach(&mut self, name: &str) -> Result<(), Failed>
+        ensures same { OnOk result ((view self.new).content ≡ (view self.old).content) }
         ensures quiet { IsQuiet (view self.old) (view self.new) }
         ensures cause { HasCause (view self.old).faults (view self.new).faults result };
 

@@ -201,7 +201,8 @@ impl Disk for MemoryDisk {
     fn attach(&mut self, name: &str) -> Result<(), Failed>
         ensures quiet { IsQuiet (memory_disk_view self.old) (memory_disk_view self.new) }
         ensures cause { HasCause (memory_disk_view self.old).faults (memory_disk_view self.new).faults result }
-        ensures same { (memory_disk_view self.new).content ≡ (memory_disk_view self.old).content }
+        ensures same { OnOk result ((memory_disk_view self.new).content ≡ (memory_disk_view self.old).content) }
+        ensures always { (memory_disk_view self.new).content ≡ (memory_disk_view self.old).content }
         ensures planned { IsErr result ↔ IsTrue (is_to_fail (disk_plan self.old)) }
         ensures counts { CountsCall (disk_plan self.old) (disk_plan self.new) }
         ensures room { memory_disk_room self.new ≡ memory_disk_room self.old }

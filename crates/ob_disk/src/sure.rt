@@ -70,6 +70,7 @@ impl Disk for SureDisk {
     ghost own = { λ d bytes c reads left. left };
 
     fn attach(&mut self, name: &str) -> Result<(), Failed>
+        ensures same { OnOk result ((sure_disk_view self.new).content ≡ (sure_disk_view self.old).content) }
         ensures quiet { IsQuiet (sure_disk_view self.old) (sure_disk_view self.new) }
         ensures cause { HasCause (sure_disk_view self.old).faults (sure_disk_view self.new).faults result }
         ensures sure { IsOk result }
