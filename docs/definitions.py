@@ -812,11 +812,13 @@ that stands below it: fields, or the parts of a statement, each of which holds. 
 of a file says where its rule is published; where none is, it is this project's own. Not listed are Rattle's own library and
 facts, which are proved where they stand. The floor of a crate is the length of its longest chain of uses."""
 
-TOP_INTRODUCTION = """The program hands the words of the command line, the files and the two streams to this one call, and
-ends with the status that it answers. The clauses hold of every run. Below them stands every definition that a clause cites,
-and that those cite in turn: with Rattle's own library they are all that has to be read to know what is proved. It goes from
-the top down, floor by floor and file by file: a file stands before those whose definitions it uses, so a reader may stop
-wherever a name says enough. Types of the code of which definitions speak stand at the end of their crate."""
+TOP_INTRODUCTION = """The program hands the words of the command line, the files, the two streams and the disk to this one
+call, and ends with the status that it answers. The clauses hold of every run. Below them stands every definition that a clause
+cites, and that those cite in turn: with Rattle's own library they are all that has to be read to know what is proved. Who asks
+what a crash leaves begins at `Survives` (ob_run/Survival), goes on to `AfterFirst` (ob_serve/Crash) and `IsStoreOf`
+(ob_store_spec/Stores), and ends at `Torn` (ob_disk_spec/Disk), which is what the disk has to obey. The list goes from the top
+down, floor by floor and file by file: a file stands before those whose definitions it uses, so a reader may stop wherever a name
+says enough. Types of the code of which definitions speak stand at the end of their crate."""
 
 TRAITS = """What is handed in keeps the contracts of its trait, whatever it is; its `view` is what it tells of itself. The
 definitions that these cite are among those below."""

@@ -3,8 +3,8 @@ use crate::bytes::Bytes;
 use crate::case::Case;
 use crate::kinds::lines::Lines;
 use crate::kinds::{
-    asked, base, calls, client, code, disk, fronts, image, replies, requests, run, steps, table,
-    terms, tokens, tree,
+    asked, base, calls, client, code, disk, fronts, image, replies, requests, run, steps, store,
+    table, terms, tokens, tree,
 };
 use std::alloc::Global;
 
@@ -69,6 +69,8 @@ pub enum CaseKind {
     Sent,
     /// The lines of the trial of the length that it is.
     Trial,
+    /// What runs over one disk come to, where the text is a part, and what is asked tells the runs.
+    Store,
 }
 
 impl CaseKind {
@@ -104,6 +106,7 @@ impl CaseKind {
             "asked" => Some(CaseKind::Asked),
             "sent" => Some(CaseKind::Sent),
             "trial" => Some(CaseKind::Trial),
+            "store" => Some(CaseKind::Store),
             _ => None,
         }
     }
@@ -113,11 +116,15 @@ impl CaseKind {
         match name {
             "text" | "front" | "back" | "every" | "answer-front" | "answer-back" => true,
             "answer" => !matches!(self, CaseKind::Run),
-            "words" | "input" | "given" => matches!(self, CaseKind::Run | CaseKind::Outside),
-            "output" | "status" => matches!(self, CaseKind::Run),
-            "objects" | "runs" => {
-                matches!(self, CaseKind::Steps | CaseKind::Entries | CaseKind::Calls)
-            }
+            "words" | "given" => matches!(self, CaseKind::Run | CaseKind::Outside),
+            "input" => matches!(self, CaseKind::Run | CaseKind::Outside | CaseKind::Store),
+            "output" => matches!(self, CaseKind::Run | CaseKind::Store),
+            "status" => matches!(self, CaseKind::Run),
+            "objects" => matches!(self, CaseKind::Steps | CaseKind::Entries | CaseKind::Calls),
+            "runs" => matches!(
+                self,
+                CaseKind::Steps | CaseKind::Entries | CaseKind::Calls | CaseKind::Store
+            ),
             _ => false,
         }
     }
@@ -128,7 +135,7 @@ impl CaseKind {
             CaseKind::Run => ("input", "output"),
             CaseKind::Outside => ("given", "answer"),
             CaseKind::Tree => ("part", "answer"),
-            CaseKind::Entries | CaseKind::Calls => ("runs", "answer"),
+            CaseKind::Entries | CaseKind::Calls | CaseKind::Store => ("runs", "answer"),
             _ => ("text", "answer"),
         }
     }
@@ -180,6 +187,7 @@ impl CaseKind {
             CaseKind::Asked => asked::asked(alloc, asked, lines),
             CaseKind::Sent => client::sent(alloc, asked, lines),
             CaseKind::Trial => client::trial(alloc, asked, lines),
+            CaseKind::Store => store::store(alloc, case, asked, lines),
         }
     }
 }

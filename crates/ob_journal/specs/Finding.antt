@@ -31,5 +31,5 @@ FaultsAs (Ok x) before now = now ≡ before
 FaultsAs (Err NotStore) before now = now ≡ before
 FaultsAs (Err (Damaged offset)) before now = now ≡ before
 FaultsAs (Err (Room need size)) before now = now ≡ before
-FaultsAs (Err DiskFault) before now = Rose before now × (now ≤ before + 1)
+FaultsAs (Err DiskFault) before now = Rose before now × (before ≤ now) × (now ≤ before + 1)
 FaultsAs (Err Memory) before now = now ≡ before

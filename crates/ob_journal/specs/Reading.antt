@@ -7,5 +7,5 @@ use Rattle.ob_journal.specs.declared.error.ReadFault.TheVariants.{Disk, Memory}
 -- the count of faults rose, by one, where the disk failed, and else it stayed
 abbrev pub ReadsAs : {T : Type 0} → Result T ReadFault → ℕ → ℕ → Type 0
 ReadsAs (Ok x) before now = now ≡ before
-ReadsAs (Err Disk) before now = Rose before now × (now ≤ before + 1)
+ReadsAs (Err Disk) before now = Rose before now × (before ≤ now) × (now ≤ before + 1)
 ReadsAs (Err Memory) before now = now ≡ before

@@ -1,155 +1,64 @@
 -- From what is done with a text to what a run says.
-use Rattle.std.proofs.Common.{◌≡◌, ◌⊎◌, inl, inr, ℕ, ◌<◌, ◌≤◌, List, length, take, Option, None, Some, refl, ap, subst, arith, length-append, length-take}
-use Rattle.std.proofs.lemmas.Bool.{cases_lt}
-use Rattle.std.proofs.lemmas.List.{take_all}
-use Rattle.ob_base.specs.Limits.{longest_program, most_taken}
+use Rattle.std.proofs.Common.{◌≡◌, ◌⊎◌, inl, inr, ⊎_elim, ℕ, ◌<◌, ◌≤◌, List, [], ◌++◌, length, take, drop, Option, None, Some, refl, sym, ◌∙◌, ap, subst, arith, length-append, take-append-drop}
+use Rattle.std.proofs.lemmas.List.{append-nil}
+use Rattle.ob_base.specs.Limits.{most_taken}
+use Rattle.ob_disk_spec.specs.Disk.{DiskView, Reads}
+use Rattle.ob_disk_spec.specs.Durable.{May, During}
+use Rattle.ob_disk_spec.proofs.Moments.{throughout_to}
 use Rattle.ob_io.specs.Files.{IsAsked}
 use Rattle.ob_io.specs.Told.{Takes}
-use Rattle.std.proofs.Math.Path.{fun_ext}
-use Rattle.ob_base.specs.declared.fault.ProgramFault.{ProgramFault}
-use Rattle.ob_lexer.specs.Flaws.{HasFault, too_long, no_utf8, flawed}
-use Rattle.ob_front.specs.Stages.{at_token, at_row, HasTableFault, at_tree, at_bracket, at_site}
+use Rattle.ob_io.specs.Views.{SourceView}
 use Rattle.ob_table.specs.Tables.{ClassTable}
 use Rattle.ob_silica.specs.Terms.{SilicaBody}
-use Rattle.ob_code.specs.declared.image.Image.{Image}
-use Rattle.ob_sound_code.specs.SoundCode.{IsSoundCode}
-use Rattle.ob_front.specs.Programs.{HasTermsFault, at_table, at_slot, IsProgram, IsAccepted, HasTextFault, at_terms, at_premise, at_weight}
+use Rattle.ob_front.specs.Programs.{IsProgram, IsAccepted}
 use Rattle.ob_front.proofs.ProgramsLaws.{never_accepted_and_faulty_lem}
-use Rattle.ob_serve.specs.Items.{by_machine, items_of}
-use Rattle.ob_serve.specs.Served.{Streams, Items, IsAll, Finishes, FailsToRead, FailsToWrite, GivesUp, ReachesLimit, EndsAs}
+use Rattle.ob_journal_spec.specs.Areas.{area_of}
+use Rattle.ob_store_spec.specs.Stores.{StoreState, IsStoreOf}
+use Rattle.ob_store_spec.proofs.Refusing.{never_both}
+use Rattle.ob_serve.specs.Served.{Devices, IsAll}
 use Rattle.ob_serve.specs.declared.serving.Served.{Served}
 use Rattle.ob_serve.specs.declared.serving.Served.TheVariants as ended
-use Rattle.ob_serve.proofs.Keeping.{goes_as_source, keeps_sessions}
-use Rattle.ob_run.specs.Asked.{most_read, program_ask}
-use Rattle.ob_run.specs.Commands.{Command, serve, check, file_of, command_of}
-use Rattle.ob_run.specs.Outside.{Outside, streams}
-use Rattle.ob_run.specs.Sessions.{fuel_of_request, source_items}
-use Rattle.ob_run.specs.Statuses.{ServesProgram, IsRefusal, IsFinding, IsOfText, Treats, TreatsFile, IsDone, IsRefused, IsUsage, IsFileFault, IsReadFault, IsWriteFault, IsMemory, IsLong, MeetsStatus, IsSmooth, IsSmoothCheck}
-use Rattle.ob_run.specs.TextRead.{IsReadOf, exit_of}
+use Rattle.ob_serve.proofs.Progress.{stored_holds}
+use Rattle.ob_run.specs.Asked.{program_ask}
+use Rattle.ob_run.specs.Commands.{Command, serve, serve_stored, check, file_of, command_of}
+use Rattle.ob_run.specs.Openings.{RefusesStore, OpensNot}
+use Rattle.ob_run.specs.Outside.{Outside, devices}
+use Rattle.ob_run.specs.Sessions.{area_bytes, program_with, StandsOnDisk, source_item, ServesProgram}
+use Rattle.ob_run.specs.Statuses.{IsRefusal, IsFinding, Tells, FailsToOpen, EndsSession, Treats, TreatsFile, IsDone, IsRefused, IsUsage, IsFileFault, IsReadFault, IsWriteFault, IsDiskFault, IsStoreRefused, IsMemory, IsLong, MeetsStatus, ServesLines, IsSmooth, HasStoreFor, IsSmoothCheck}
+use Rattle.ob_run.specs.Survival.{SurvivesSession, SurvivesUnopened, Survives}
+use Rattle.ob_run.specs.TextRead.{IsReadOf}
+use Rattle.ob_run.specs.Writes.{WritesWhole, WritesFront}
 use Rattle.ob_run.specs.declared.exit.Exit.{Exit}
-use Rattle.ob_run.specs.declared.exit.Exit.TheVariants.{Done, Refused, Usage, ReadFault, WriteFault, FileFault, Memory, Long}
-
--- ---- what is done with a text that was cut is done with all of it
-
-long_and_short : (text : List ℕ) → longest_program < length text → length text ≤ longest_program → ⊥
-long_and_short text long short = omega arith
-
--- a text that is longer than a program may have has the same fault as what was read of it
-module _ (content : List ℕ) (long : longest_program < length (take most_read content)) where
-  too_long_tokens : (fault : ProgramFault) → HasFault (take most_read content) fault → HasFault content fault
-  too_long_tokens fault (too_long f) = too_long (record { long = omega (arith, length-take most_read content); is = f.is })
-  too_long_tokens fault (no_utf8 f) = absurd (long_and_short (take most_read content) long f.short)
-  too_long_tokens fault (flawed f) = absurd (long_and_short (take most_read content) long f.short)
-
-  too_long_table : (fault : ProgramFault) → HasTableFault (take most_read content) fault → HasTableFault content fault
-  too_long_table fault (at_tree (at_token has)) = at_tree (at_token (too_long_tokens fault has))
-  too_long_table fault (at_tree (at_row lexed spelled has)) = absurd (long_and_short (take most_read content) long spelled.short)
-  too_long_table fault (at_bracket has number) = absurd (long_and_short (take most_read content) long has.of.spelled.short)
-  too_long_table fault (at_site tree is has) = absurd (long_and_short (take most_read content) long is.of.spelled.short)
-
-  too_long_terms : (fault : ProgramFault) → HasTermsFault (take most_read content) fault → HasTermsFault content fault
-  too_long_terms fault (at_table has) = at_table (too_long_table fault has)
-  too_long_terms fault (at_slot table has lacks) = absurd (long_and_short (take most_read content) long has.resolved.is.of.spelled.short)
-
-  too_long_text : (fault : ProgramFault) → HasTextFault (take most_read content) fault → HasTextFault content fault
-  too_long_text fault (at_terms has) = at_terms (too_long_terms fault has)
-  too_long_text fault (at_premise table bodies terms fails) = absurd (long_and_short (take most_read content) long terms.has.resolved.is.of.spelled.short)
-  too_long_text fault (at_weight table bodies checked heavy) = absurd (long_and_short (take most_read content) long checked.terms.has.resolved.is.of.spelled.short)
-
-  too_long_refusal : (bytes : List ℕ) → IsRefusal (take most_read content) bytes → IsRefusal content bytes
-  too_long_refusal bytes h = record { fault = h.fault; told = too_long_text h.fault h.told; line = h.line }
-
-  not_found : (command : Command) (bytes : List ℕ) → IsFinding command (take most_read content) bytes → ⊥
-  not_found (serve name) bytes h = h
-  not_found (check name) bytes h = long_and_short (take most_read content) long h.0.is.checked.terms.has.resolved.is.of.spelled.short
-
-  not_served : (command : Command) (says : Items → Type 0) → ServesProgram command (take most_read content) says → ⊥
-  not_served command says h = long_and_short (take most_read content) long h.program.checked.terms.has.resolved.is.of.spelled.short
-
-  too_long_of_text : (command : Command) (bytes : List ℕ) → IsOfText command (take most_read content) bytes → IsOfText command content bytes
-  too_long_of_text command bytes (inl h) = inl (too_long_refusal bytes h)
-  too_long_of_text command bytes (inr h) = absurd (not_found command bytes h)
-
-  too_long_treated : (command : Command) (old new : Streams) (exit : Exit) → Treats command (take most_read content) old new exit → Treats command content old new exit
-  too_long_treated command old new Done (inl h) = absurd (not_served command (λ items. Finishes items old new) h)
-  too_long_treated command old new Done (inr h) = absurd (not_found command h.bytes h.said)
-  too_long_treated command old new Refused h = record { bytes = h.bytes; said = too_long_refusal h.bytes h.said; written = h.written; input = h.input }
-  too_long_treated command old new Usage h = h
-  too_long_treated command old new ReadFault h = absurd (not_served command (λ items. FailsToRead items old new) h)
-  too_long_treated command old new WriteFault (inl h) = absurd (not_served command (λ items. FailsToWrite items old new) h)
-  too_long_treated command old new WriteFault (inr h) = inr (record { bytes = h.bytes; said = too_long_of_text command h.bytes h.said; cause = h.cause; front = h.front; input = h.input })
-  too_long_treated command old new FileFault h = h
-  too_long_treated command old new Memory (inl same) = inl same
-  too_long_treated command old new Memory (inr h) = absurd (not_served command (λ items. GivesUp items old new) h)
-  too_long_treated command old new Long h = absurd (not_served command (λ items. ReachesLimit items old new) h)
-
--- a text that isn't too long was read whole
-whole : (content : List ℕ) → length (take most_read content) ≤ longest_program → take most_read content ≡ content
-whole content short = take_all most_read content (omega (arith, length-take most_read content))
-
-treated_whole : (command : Command) (content : List ℕ) (old new : Streams) (exit : Exit) → Treats command (take most_read content) old new exit → Treats command content old new exit
-treated_whole command content old new exit h = elim (cases_lt longest_program (length (take most_read content))) [
-  | inl long ↦ too_long_treated content long command old new exit h
-  | inr short ↦ subst (λ (l : List ℕ). Treats command l old new exit) (whole content short) h
-]
-
--- what a command does with what it read is what it does with all that is told
-pub record TreatsAll (command : Command) (content : Option (List ℕ)) (old new : Streams) (exit : Exit) : Type 0 where
-  pub text : List ℕ
-  pub told : IsAll content text
-  pub treats : Treats command text old new exit
-
-treated_all : (command : Command) (content : Option (List ℕ)) (text : List ℕ) (old new : Streams) (exit : Exit) → IsReadOf content text → Treats command text old new exit → TreatsAll command content old new exit
-treated_all command None text old new exit read h = record { text = text; told = tt; treats = h }
-treated_all command (Some content) text old new exit read h = record {
-  text = content;
-  told = refl;
-  treats = treated_whole command content old new exit (subst (λ (l : List ℕ). Treats command l old new exit) read h);
-}
-
--- ---- a session by the code is one by the source meaning
-
-module _ (text : List ℕ) (table : ClassTable) (bodies : List SilicaBody) (code : Image) (program : IsProgram text table bodies) (sound : IsSoundCode (record { table = table; bodies = bodies }) code) where
-  same_items : items_of (by_machine code fuel_of_request) ≡ source_items table
-  same_items = fun_ext (goes_as_source (record { table = table; bodies = bodies }) code fuel_of_request sound)
-
-  -- so its program is served
-  serves : (name : List ℕ) (says : Items → Type 0) → says (items_of (by_machine code fuel_of_request)) → ServesProgram (serve name) text says
-  serves name says said = record {
-    name = name;
-    is = refl;
-    table = table;
-    bodies = bodies;
-    program = program;
-    said = subst says same_items said;
-    kept = keeps_sessions (record { table = table; bodies = bodies }) code fuel_of_request sound;
-  }
-
-  -- and the run ends as the session does
-  pub served_treats : (name : List ℕ) (old new : Streams) (s : Served) → EndsAs (items_of (by_machine code fuel_of_request)) old new s
-      → Treats (serve name) text old new (exit_of s)
-  served_treats name old new ended.Done ends = inl (serves name (λ items. Finishes items old new) ends)
-  served_treats name old new ended.ReadFault ends = serves name (λ items. FailsToRead items old new) ends
-  served_treats name old new ended.WriteFault ends = inl (serves name (λ items. FailsToWrite items old new) ends)
-  served_treats name old new ended.Memory ends = inr (serves name (λ items. GivesUp items old new) ends)
-  served_treats name old new ended.Long ends = serves name (λ items. ReachesLimit items old new) ends
+use Rattle.ob_run.specs.declared.exit.Exit.TheVariants.{Done, Refused, Usage, ReadFault, WriteFault, DiskFault, StoreRefused, FileFault, Memory, Long}
+use Rattle.ob_run.proofs.TextLemmas.{TreatsAll, treated_all}
 
 -- ---- what a command did with a text that was read is what its status says
 
 module _ (words : List (List ℕ)) (old new : Outside) where
+  -- before a text is read
+  never : (command : Command) (text : List ℕ) → Treats command text (devices old) (devices new) Usage ⊎ Treats command text (devices old) (devices new) FileFault → ⊥
+  never command text (inl (inl h)) = h.output
+  never command text (inl (inr (inl h))) = h
+  never command text (inl (inr (inr h))) = h
+  never command text (inr (inl h)) = h.output
+  never command text (inr (inr (inl h))) = h
+  never command text (inr (inr (inr h))) = h
+
   met : (exit : Exit) → TreatsFile words old new exit → MeetsStatus words old new exit
   met Done h = h
   met Refused h = h
-  met Usage h = absurd h.treats
+  met Usage h = absurd (never h.command h.text (inl h.treats))
   met ReadFault h = h
   met WriteFault h = h
-  met FileFault h = absurd h.treats
+  met DiskFault h = h
+  met StoreRefused h = h
+  met FileFault h = absurd (never h.command h.text (inr h.treats))
   met Memory h = inr h
   met Long h = h
 
-  pub treated : (command : Command) (text : List ℕ) (exit : Exit) → command_of words ≡ Some command → IsAsked old.files.asks new.files.asks (program_ask command) → IsReadOf (old.files.content (file_of command)) text → Treats command text (streams old) (streams new) exit → MeetsStatus words old new exit
+  pub treated : (command : Command) (text : List ℕ) (exit : Exit) → command_of words ≡ Some command → IsAsked old.files.asks new.files.asks (program_ask command) → IsReadOf (old.files.content (file_of command)) text → Treats command text (devices old) (devices new) exit → MeetsStatus words old new exit
   treated command text exit is asked read h =
-      let all = treated_all command (old.files.content (file_of command)) text (streams old) (streams new) exit read h in
+      let all = treated_all command (old.files.content (file_of command)) text (devices old) (devices new) exit read h in
       met exit (record { command = command; is = is; asked = asked; text = all.text; told = all.told; treats = all.treats })
 
 -- ---- each clause of the top call
@@ -170,6 +79,12 @@ module _ (words : List (List ℕ)) (old new : Outside) where
   pub when_write_fault : (e : Exit) → MeetsStatus words old new e → e ≡ WriteFault → IsWriteFault words old new
   when_write_fault e h is = subst (MeetsStatus words old new) is h
 
+  pub when_disk_fault : (e : Exit) → MeetsStatus words old new e → e ≡ DiskFault → IsDiskFault words old new
+  when_disk_fault e h is = subst (MeetsStatus words old new) is h
+
+  pub when_store_refused : (e : Exit) → MeetsStatus words old new e → e ≡ StoreRefused → IsStoreRefused words old new
+  when_store_refused e h is = subst (MeetsStatus words old new) is h
+
   pub when_file_fault : (e : Exit) → MeetsStatus words old new e → e ≡ FileFault → IsFileFault words old new
   when_file_fault e h is = subst (MeetsStatus words old new) is h
 
@@ -186,11 +101,11 @@ same_text : (content : Option (List ℕ)) (text whole : List ℕ) → content �
 same_text content text whole told all = subst (λ (o : Option (List ℕ)). IsAll o text) told all
 
 -- what a run says of the command that the words are, and of the text that is told
-treated_told : (words : List (List ℕ)) (old new : Outside) (command : Command) (whole : List ℕ) (exit : Exit) → command_of words ≡ Some command → old.files.content (file_of command) ≡ Some whole → TreatsFile words old new exit → Treats command whole (streams old) (streams new) exit
+treated_told : (words : List (List ℕ)) (old new : Outside) (command : Command) (whole : List ℕ) (exit : Exit) → command_of words ≡ Some command → old.files.content (file_of command) ≡ Some whole → TreatsFile words old new exit → Treats command whole (devices old) (devices new) exit
 treated_told words old new command whole exit is told h =
     let same : h.command ≡ command = cc (h.is, is) in
-    let all = subst (λ (c : Command). TreatsAll c (old.files.content (file_of c)) (streams old) (streams new) exit) same (record { text = h.text; told = h.told; treats = h.treats }) in
-    subst (λ (l : List ℕ). Treats command l (streams old) (streams new) exit) (same_text (old.files.content (file_of command)) all.text whole told all.told) all.treats
+    let all = subst (λ (c : Command). TreatsAll c (old.files.content (file_of c)) (devices old) (devices new) exit) same (record { text = h.text; told = h.told; treats = h.treats }) in
+    subst (λ (l : List ℕ). Treats command l (devices old) (devices new) exit) (same_text (old.files.content (file_of command)) all.text whole told all.told) all.treats
 
 -- so many bytes weren't taken of an input that has fewer
 too_many : (left now : Option (List ℕ)) (input taken : List ℕ) → left ≡ Some input → length input < most_taken → Takes left now taken → length taken ≡ most_taken → ⊥
@@ -201,80 +116,157 @@ too_many (Some xs) (Some ys) input taken told few took exactly =
     omega (arith, ap length took, ap length same, length-append taken ys)
 
 module _ (words : List (List ℕ)) (old new : Outside) (smooth : IsSmooth words old new) where
-  told : (exit : Exit) → TreatsFile words old new exit → Treats (serve smooth.name) smooth.text (streams old) (streams new) exit
-  told exit h = treated_told words old new (serve smooth.name) smooth.text exit smooth.command smooth.told h
+  told : (exit : Exit) → TreatsFile words old new exit → Treats smooth.command smooth.text (devices old) (devices new) exit
+  told exit h = treated_told words old new smooth.command smooth.text exit smooth.is smooth.told h
 
-  -- no write failed, and there was a command
-  no_write_fault : Treats (serve smooth.name) smooth.text (streams old) (streams new) WriteFault → ⊥
-  no_write_fault (inl h) = smooth.writes h.said.cause
-  no_write_fault (inr h) = smooth.writes h.cause
+  no_finding : (command : Command) (bytes : List ℕ) → ServesLines command → IsFinding command smooth.text bytes → ⊥
+  no_finding (serve name) bytes serves h = h
+  no_finding (serve_stored name store) bytes serves h = h
+  no_finding (check name) bytes serves h = serves
 
-  not_long : Treats (serve smooth.name) smooth.text (streams old) (streams new) Long → ⊥
-  not_long h = too_many old.input.left new.input.left smooth.input h.said.so_far.taken smooth.input_told smooth.few h.said.so_far.took.told h.said.exactly
+  -- no call failed
+  no_read_fault : Treats smooth.command smooth.text (devices old) (devices new) ReadFault → ⊥
+  no_read_fault (inl h) = h.output
+  no_read_fault (inr (inl h)) = h
+  no_read_fault (inr (inr h)) = smooth.reads h.ends.cause
+
+  no_write_fault : Treats smooth.command smooth.text (devices old) (devices new) WriteFault → ⊥
+  no_write_fault (inl h) = smooth.writes h.output.cause
+  no_write_fault (inr (inl h)) = smooth.writes h.line.cause
+  no_write_fault (inr (inr h)) = smooth.writes h.ends.cause
+
+  no_disk_fault : Treats smooth.command smooth.text (devices old) (devices new) DiskFault → ⊥
+  no_disk_fault (inl h) = h.output
+  no_disk_fault (inr (inl h)) = smooth.disk h.1
+  no_disk_fault (inr (inr h)) = smooth.disk h.ends.cause
+
+  not_long : Treats smooth.command smooth.text (devices old) (devices new) Long → ⊥
+  not_long (inl h) = h.output
+  not_long (inr (inl h)) = h
+  not_long (inr (inr h)) = too_many old.input.left new.input.left smooth.input h.ends.of_input.taken smooth.input_told smooth.few h.ends.of_input.took.told h.ends.of_input.many
+
+  -- a disk that stands for a store isn't refused
+  has_store : (command : Command) → HasStoreFor command smooth.text old → RefusesStore command smooth.text WritesWhole (devices old) (devices new) → ⊥
+  has_store (serve name) has h = cc h.is
+  has_store (serve_stored name store) has h =
+      let stands = has.2 h.table h.bodies h.program in
+      never_both (program_with h.table h.bodies) (area_of area_bytes has.0) h.line.said.cause stands.0 (h.line.said.told has.0 has.1) stands.1
+  has_store (check name) has h = cc h.is
+
+  not_refused : HasStoreFor smooth.command smooth.text old → Treats smooth.command smooth.text (devices old) (devices new) StoreRefused → ⊥
+  not_refused has (inl h) = h.output
+  not_refused has (inr (inl h)) = has_store smooth.command has h
+  not_refused has (inr (inr h)) = h
+
+  no_fault : IsAccepted smooth.text → Treats smooth.command smooth.text (devices old) (devices new) Refused → ⊥
+  no_fault accepted (inl h) = never_accepted_and_faulty_lem smooth.text h.output.said.fault h.output.said.told accepted
+  no_fault accepted (inr (inl h)) = h
+  no_fault accepted (inr (inr h)) = h
 
   -- a text that is accepted is served
-  pub served : (e : Exit) → MeetsStatus words old new e → IsAccepted smooth.text → (e ≡ Done) ⊎ (e ≡ Memory)
-  served Done h accepted = inl refl
-  served Memory h accepted = inr refl
-  served Refused h accepted = let refusal = (told Refused h).said in absurd (never_accepted_and_faulty_lem smooth.text refusal.fault refusal.told accepted)
-  served Usage h accepted = absurd (cc (h.command, smooth.command))
-  served ReadFault h accepted = absurd (smooth.reads (told ReadFault h).said.cause)
-  served WriteFault h accepted = absurd (no_write_fault (told WriteFault h))
-  served FileFault h accepted = absurd (smooth.files h.cause)
-  served Long h accepted = absurd (not_long (told Long h))
+  pub served : (e : Exit) → MeetsStatus words old new e → IsAccepted smooth.text → HasStoreFor smooth.command smooth.text old → (e ≡ Done) ⊎ (e ≡ Memory)
+  served Done h accepted has = inl refl
+  served Memory h accepted has = inr refl
+  served Refused h accepted has = absurd (no_fault accepted (told Refused h))
+  served Usage h accepted has = absurd (cc (h.command, smooth.is))
+  served ReadFault h accepted has = absurd (no_read_fault (told ReadFault h))
+  served WriteFault h accepted has = absurd (no_write_fault (told WriteFault h))
+  served DiskFault h accepted has = absurd (no_disk_fault (told DiskFault h))
+  served StoreRefused h accepted has = absurd (not_refused has (told StoreRefused h))
+  served FileFault h accepted has = absurd (smooth.files h.cause)
+  served Long h accepted has = absurd (not_long (told Long h))
 
-  not_done : ¬ (IsAccepted smooth.text) → Treats (serve smooth.name) smooth.text (streams old) (streams new) Done → ⊥
-  not_done fault (inl h) = fault (record { table = h.table; bodies = h.bodies; is = h.program })
-  not_done fault (inr h) = h.said
+  not_done : ¬ (IsAccepted smooth.text) → Treats smooth.command smooth.text (devices old) (devices new) Done → ⊥
+  not_done fault (inl h) = no_finding smooth.command h.output.bytes smooth.serves h.output.said
+  not_done fault (inr (inl h)) = h
+  not_done fault (inr (inr h)) = fault (record { table = h.table; bodies = h.bodies; is = h.program })
+
+  no_store : ¬ (IsAccepted smooth.text) → Treats smooth.command smooth.text (devices old) (devices new) StoreRefused → ⊥
+  no_store fault (inl h) = h.output
+  no_store fault (inr (inl h)) = fault (record { table = h.table; bodies = h.bodies; is = h.program })
+  no_store fault (inr (inr h)) = h
 
   -- a text that isn't is refused
   pub refused : (e : Exit) → MeetsStatus words old new e → ¬ (IsAccepted smooth.text) → (e ≡ Refused) ⊎ (e ≡ Memory)
   refused Done h fault = absurd (not_done fault (told Done h))
   refused Memory h fault = inr refl
   refused Refused h fault = inl refl
-  refused Usage h fault = absurd (cc (h.command, smooth.command))
-  refused ReadFault h fault = absurd (smooth.reads (told ReadFault h).said.cause)
+  refused Usage h fault = absurd (cc (h.command, smooth.is))
+  refused ReadFault h fault = absurd (no_read_fault (told ReadFault h))
   refused WriteFault h fault = absurd (no_write_fault (told WriteFault h))
+  refused DiskFault h fault = absurd (no_disk_fault (told DiskFault h))
+  refused StoreRefused h fault = absurd (no_store fault (told StoreRefused h))
   refused FileFault h fault = absurd (smooth.files h.cause)
   refused Long h fault = absurd (not_long (told Long h))
 
 module _ (words : List (List ℕ)) (old new : Outside) (smooth : IsSmoothCheck words old new) where
-  told_check : (exit : Exit) → TreatsFile words old new exit → Treats (check smooth.name) smooth.text (streams old) (streams new) exit
+  told_check : (exit : Exit) → TreatsFile words old new exit → Treats (check smooth.name) smooth.text (devices old) (devices new) exit
   told_check exit h = treated_told words old new (check smooth.name) smooth.text exit smooth.command smooth.told h
 
-  -- `check` serves nothing
-  serves_nothing : (says : Items → Type 0) → ServesProgram (check smooth.name) smooth.text says → ⊥
-  serves_nothing says h = cc h.is
+  -- `check` opens no store, and serves nothing
+  not_served : (served : Served) → ServesProgram (check smooth.name) smooth.text (devices old) (devices new) served → ⊥
+  not_served served h = h.begins
 
-  no_write_fault_check : Treats (check smooth.name) smooth.text (streams old) (streams new) WriteFault → ⊥
-  no_write_fault_check (inl h) = smooth.writes h.said.cause
-  no_write_fault_check (inr h) = smooth.writes h.cause
+  no_write_fault_check : Treats (check smooth.name) smooth.text (devices old) (devices new) WriteFault → ⊥
+  no_write_fault_check (inl h) = smooth.writes h.output.cause
+  no_write_fault_check (inr (inl h)) = cc h.is
+  no_write_fault_check (inr (inr h)) = not_served ended.WriteFault h
 
-  -- a text that has a tree is accepted
+  no_read_fault_check : Treats (check smooth.name) smooth.text (devices old) (devices new) ReadFault → ⊥
+  no_read_fault_check (inl h) = h.output
+  no_read_fault_check (inr (inl h)) = h
+  no_read_fault_check (inr (inr h)) = not_served ended.ReadFault h
+
+  no_disk_fault_check : Treats (check smooth.name) smooth.text (devices old) (devices new) DiskFault → ⊥
+  no_disk_fault_check (inl h) = h.output
+  no_disk_fault_check (inr (inl h)) = cc h.0.is
+  no_disk_fault_check (inr (inr h)) = not_served ended.DiskFault h
+
+  no_store_check : Treats (check smooth.name) smooth.text (devices old) (devices new) StoreRefused → ⊥
+  no_store_check (inl h) = h.output
+  no_store_check (inr (inl h)) = cc h.is
+  no_store_check (inr (inr h)) = h
+
+  not_long_check : Treats (check smooth.name) smooth.text (devices old) (devices new) Long → ⊥
+  not_long_check (inl h) = h.output
+  not_long_check (inr (inl h)) = h
+  not_long_check (inr (inr h)) = not_served ended.Long h
+
+  no_fault_check : IsAccepted smooth.text → Treats (check smooth.name) smooth.text (devices old) (devices new) Refused → ⊥
+  no_fault_check accepted (inl h) = never_accepted_and_faulty_lem smooth.text h.output.said.fault h.output.said.told accepted
+  no_fault_check accepted (inr (inl h)) = h
+  no_fault_check accepted (inr (inr h)) = h
+
+  -- a text without a fault is accepted
   pub checked : (e : Exit) → MeetsStatus words old new e → IsAccepted smooth.text → (e ≡ Done) ⊎ (e ≡ Memory)
   checked Done h accepted = inl refl
   checked Memory h accepted = inr refl
-  checked Refused h accepted = let refusal = (told_check Refused h).said in absurd (never_accepted_and_faulty_lem smooth.text refusal.fault refusal.told accepted)
+  checked Refused h accepted = absurd (no_fault_check accepted (told_check Refused h))
   checked Usage h accepted = absurd (cc (h.command, smooth.command))
-  checked ReadFault h accepted = absurd (serves_nothing (λ items. FailsToRead items (streams old) (streams new)) (told_check ReadFault h))
+  checked ReadFault h accepted = absurd (no_read_fault_check (told_check ReadFault h))
   checked WriteFault h accepted = absurd (no_write_fault_check (told_check WriteFault h))
+  checked DiskFault h accepted = absurd (no_disk_fault_check (told_check DiskFault h))
+  checked StoreRefused h accepted = absurd (no_store_check (told_check StoreRefused h))
   checked FileFault h accepted = absurd (smooth.files h.cause)
-  checked Long h accepted = absurd (serves_nothing (λ items. ReachesLimit items (streams old) (streams new)) (told_check Long h))
+  checked Long h accepted = absurd (not_long_check (told_check Long h))
 
-  not_accepted : ¬ (IsAccepted smooth.text) → Treats (check smooth.name) smooth.text (streams old) (streams new) Done → ⊥
-  not_accepted fault (inl h) = serves_nothing (λ items. Finishes items (streams old) (streams new)) h
-  not_accepted fault (inr h) = fault h.said.0
+  not_accepted : ¬ (IsAccepted smooth.text) → Treats (check smooth.name) smooth.text (devices old) (devices new) Done → ⊥
+  not_accepted fault (inl h) = fault h.output.said.0
+  not_accepted fault (inr (inl h)) = h
+  not_accepted fault (inr (inr h)) = not_served ended.Done h
 
-  -- a text that has none is refused
+  -- a text that has one is refused
   pub unaccepted : (e : Exit) → MeetsStatus words old new e → ¬ (IsAccepted smooth.text) → (e ≡ Refused) ⊎ (e ≡ Memory)
   unaccepted Done h fault = absurd (not_accepted fault (told_check Done h))
   unaccepted Memory h fault = inr refl
   unaccepted Refused h fault = inl refl
   unaccepted Usage h fault = absurd (cc (h.command, smooth.command))
-  unaccepted ReadFault h fault = absurd (serves_nothing (λ items. FailsToRead items (streams old) (streams new)) (told_check ReadFault h))
+  unaccepted ReadFault h fault = absurd (no_read_fault_check (told_check ReadFault h))
   unaccepted WriteFault h fault = absurd (no_write_fault_check (told_check WriteFault h))
+  unaccepted DiskFault h fault = absurd (no_disk_fault_check (told_check DiskFault h))
+  unaccepted StoreRefused h fault = absurd (no_store_check (told_check StoreRefused h))
   unaccepted FileFault h fault = absurd (smooth.files h.cause)
-  unaccepted Long h fault = absurd (serves_nothing (λ items. ReachesLimit items (streams old) (streams new)) (told_check Long h))
+  unaccepted Long h fault = absurd (not_long_check (told_check Long h))
 
 -- words that are no command are Usage
 pub unknown : (words : List (List ℕ)) (old new : Outside) (e : Exit) → MeetsStatus words old new e → command_of words ≡ None → e ≡ Usage
@@ -283,7 +275,80 @@ unknown words old new Done h none = absurd (cc (h.is, none))
 unknown words old new Refused h none = absurd (cc (h.is, none))
 unknown words old new ReadFault h none = absurd (cc (h.is, none))
 unknown words old new WriteFault h none = absurd (cc (h.is, none))
+unknown words old new DiskFault h none = absurd (cc (h.is, none))
+unknown words old new StoreRefused h none = absurd (cc (h.is, none))
 unknown words old new FileFault h none = absurd (cc (h.is, none))
 unknown words old new Memory (inl h) none = absurd (cc (h.is, none))
 unknown words old new Memory (inr h) none = absurd (cc (h.is, none))
 unknown words old new Long h none = absurd (cc (h.is, none))
+
+-- ---- what a crash leaves
+
+module _ (command : Command) (old new : Outside) (text : List ℕ) (told : IsAll (old.files.content (file_of command)) text) where
+  -- a session was served
+  session_survives : (served : Served) → ServesProgram command text (devices old) (devices new) served → SurvivesSession command old new
+  session_survives served h = record {
+    text = text;
+    told = told;
+    table = h.table;
+    bodies = h.bodies;
+    program = h.program;
+    start = h.start;
+    begins = h.begins;
+    served = served;
+    lines = h.ends.lines;
+    of_input = h.ends.of_input;
+    given = h.ends.given;
+    written = h.ends.written;
+    now = throughout_to new.disk _ _ h.ends.stored (stored_holds (source_item command h.table) (StandsOnDisk command h.table h.bodies) h.start (devices old) (devices new) served h.ends);
+    since = h.ends.since;
+  }
+
+  opening_survives : (exit : Exit) → FailsToOpen command text (devices old) (devices new) exit → SurvivesUnopened command old new
+  opening_survives StoreRefused h = record { input = h.input; disk = inl h.disk }
+  opening_survives WriteFault h = record { input = h.input; disk = inl h.disk }
+  opening_survives DiskFault h = record { input = h.0.input; disk = inr (text, told, h.0) }
+  opening_survives Memory h = record { input = h.input; disk = inr (text, told, h) }
+  opening_survives Done h = absurd h
+  opening_survives Refused h = absurd h
+  opening_survives Usage h = absurd h
+  opening_survives ReadFault h = absurd h
+  opening_survives FileFault h = absurd h
+  opening_survives Long h = absurd h
+
+  ending_survives : (exit : Exit) → EndsSession command text (devices old) (devices new) exit → SurvivesSession command old new
+  ending_survives Done h = session_survives ended.Done h
+  ending_survives ReadFault h = session_survives ended.ReadFault h
+  ending_survives WriteFault h = session_survives ended.WriteFault h
+  ending_survives DiskFault h = session_survives ended.DiskFault h
+  ending_survives Memory h = session_survives ended.Memory h
+  ending_survives Long h = session_survives ended.Long h
+  ending_survives Refused h = absurd h
+  ending_survives Usage h = absurd h
+  ending_survives StoreRefused h = absurd h
+  ending_survives FileFault h = absurd h
+
+  text_survives : (exit : Exit) → Treats command text (devices old) (devices new) exit → SurvivesUnopened command old new ⊎ SurvivesSession command old new
+  text_survives exit (inl h) = inl (record { input = h.input; disk = inl h.disk })
+  text_survives exit (inr (inl h)) = inl (opening_survives exit h)
+  text_survives exit (inr (inr h)) = inr (ending_survives exit h)
+
+module _ (words : List (List ℕ)) (old new : Outside) where
+  file_survives : (command : Command) → command_of words ≡ Some command → (exit : Exit) → TreatsFile words old new exit → SurvivesUnopened command old new ⊎ SurvivesSession command old new
+  file_survives command is exit h =
+      let same : h.command ≡ command = cc (h.is, is) in
+      subst (λ (c : Command). SurvivesUnopened c old new ⊎ SurvivesSession c old new) same (text_survives h.command old new h.text h.told exit h.treats)
+
+  -- whatever the status
+  pub survives : (exit : Exit) → MeetsStatus words old new exit → Survives words old new
+  survives Done h name store is = file_survives (serve_stored name store) is Done h
+  survives Refused h name store is = file_survives (serve_stored name store) is Refused h
+  survives Usage h name store is = absurd (cc (h.command, is))
+  survives ReadFault h name store is = file_survives (serve_stored name store) is ReadFault h
+  survives WriteFault h name store is = file_survives (serve_stored name store) is WriteFault h
+  survives DiskFault h name store is = file_survives (serve_stored name store) is DiskFault h
+  survives StoreRefused h name store is = file_survives (serve_stored name store) is StoreRefused h
+  survives FileFault h name store is = inl (record { input = h.kept.input; disk = inl h.kept.disk })
+  survives Memory (inl h) name store is = inl (record { input = h.kept.input; disk = inl h.kept.disk })
+  survives Memory (inr h) name store is = file_survives (serve_stored name store) is Memory h
+  survives Long h name store is = file_survives (serve_stored name store) is Long h

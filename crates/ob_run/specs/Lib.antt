@@ -2,9 +2,12 @@ pub mod Commands
 pub mod CommandView
 pub mod Asked
 pub mod FaultLine
+pub mod StoreLine
 pub mod Outside
 pub mod Writes
 pub mod Sessions
+pub mod Openings
 pub mod Statuses
+pub mod Survival
 pub mod ExitStatus
 pub mod TextRead

@@ -1,34 +1,29 @@
--- What each status of a run says of the words, the files and the two streams, before and after.
-use Rattle.std.specs.Prelude.{ℕ, ◌≡◌, ◌<◌, ◌⊎◌, ◌++◌, List, [], ◌∷◌, length, codes, None, Some}
+-- What each status of a run says of the words, the files, the two streams and the disk, before and after.
+use Rattle.std.specs.Prelude.{ℕ, ◌≡◌, ◌<◌, ◌⊎◌, ⊤, ◌++◌, List, [], ◌∷◌, length, codes, None, Some}
 use Rattle.ob_base.specs.Limits.{most_taken}
 use Rattle.ob_base.specs.declared.fault.ProgramFault.{ProgramFault}
-use Rattle.ob_io.specs.Causes.{Rose}
-use Rattle.ob_io.specs.Files.{IsAsked}
 use Rattle.ob_table.specs.Tables.{ClassTable}
 use Rattle.ob_silica.specs.Terms.{SilicaBody}
+use Rattle.ob_disk_spec.specs.Disk.{Reads}
+use Rattle.ob_io.specs.Causes.{Rose}
+use Rattle.ob_io.specs.Files.{IsAsked}
+use Rattle.ob_io.specs.Views.{SinkView}
 use Rattle.ob_front.specs.Programs.{IsProgram, IsAccepted, HasTextFault}
-use Rattle.ob_serve.specs.Served.{Streams, Items, IsAll, Finishes, FailsToRead, FailsToWrite, GivesUp, ReachesLimit}
+use Rattle.ob_journal_spec.specs.Areas.{area_of}
+use Rattle.ob_store_spec.specs.Stores.{StoreState, IsStoreOf}
+use Rattle.ob_serve.specs.Served.{Devices, IsAll}
+use Rattle.ob_serve.specs.declared.serving.Served.TheVariants as ended
 use Rattle.ob_run.specs.Asked.{program_ask}
-use Rattle.ob_run.specs.Commands.{Command, serve, check, file_of, command_of}
+use Rattle.ob_run.specs.Commands.{Command, serve, serve_stored, check, file_of, command_of}
 use Rattle.ob_run.specs.FaultLine.{fault_line}
-use Rattle.ob_run.specs.Outside.{Outside, streams, KeepsStreams}
-use Rattle.ob_run.specs.Sessions.{source_items, IsKeptAlways}
-use Rattle.ob_run.specs.Writes.{WritesWhole, WritesFront}
+use Rattle.ob_run.specs.Openings.{RefusesStore, OpensNot}
+use Rattle.ob_run.specs.Outside.{Outside, devices, KeepsDevices}
+use Rattle.ob_run.specs.Sessions.{area_bytes, program_with, ServesProgram}
+use Rattle.ob_run.specs.Writes.{WritesWhole, WritesFront, OnOutput}
 use Rattle.ob_run.specs.declared.exit.Exit.{Exit}
-use Rattle.ob_run.specs.declared.exit.Exit.TheVariants.{Done, Refused, Usage, ReadFault, WriteFault, FileFault, Memory, Long}
+use Rattle.ob_run.specs.declared.exit.Exit.TheVariants.{Done, Refused, Usage, ReadFault, WriteFault, DiskFault, StoreRefused, FileFault, Memory, Long}
 
 -- ---- what a command does with a text
-
--- The command is `serve`, the text is a program, this is said of the items of its lines by the source meaning, and these are kept,
--- whatever the lines are.
-pub record ServesProgram (command : Command) (text : List ℕ) (says : Items → Type 0) : Type 0 where
-  pub name : List ℕ
-  pub is : command ≡ serve name
-  pub table : ClassTable
-  pub bodies : List SilicaBody
-  pub program : IsProgram text table bodies
-  pub said : says (source_items table)
-  pub kept : IsKeptAlways table
 
 -- The bytes are the refusal of a text: the line of its first fault.
 pub record IsRefusal (text bytes : List ℕ) : Type 0 where
@@ -43,25 +38,45 @@ accepted_line = codes "accepted" ++ 10 ∷ []
 -- The bytes are what a command that takes no input finds of a text without a fault.
 abbrev pub IsFinding : Command → List ℕ → List ℕ → Type 0
 IsFinding (serve name) text bytes = ⊥
+IsFinding (serve_stored name store) text bytes = ⊥
 IsFinding (check name) text bytes = IsAccepted text × (bytes ≡ accepted_line)
 
 -- The bytes are what a command writes of a text: its refusal, or what it finds.
 abbrev pub IsOfText : Command → List ℕ → List ℕ → Type 0
 IsOfText command text bytes = IsRefusal text bytes ⊎ IsFinding command text bytes
 
--- What each status says of a command, the text that it read and the two streams. Usage and FileFault come before a text
--- is read.
-abbrev pub Treats : Command → List ℕ → Streams → Streams → Exit → Type 0
-Treats command text old new Done =
-    ServesProgram command text (λ items. Finishes items old new) ⊎ WritesWhole (IsFinding command text) old new
-Treats command text old new Refused = WritesWhole (IsRefusal text) old new
-Treats command text old new Usage = ⊥
-Treats command text old new ReadFault = ServesProgram command text (λ items. FailsToRead items old new)
-Treats command text old new WriteFault =
-    ServesProgram command text (λ items. FailsToWrite items old new) ⊎ WritesFront (IsOfText command text) old new
-Treats command text old new FileFault = ⊥
-Treats command text old new Memory = (new ≡ old) ⊎ ServesProgram command text (λ items. GivesUp items old new)
-Treats command text old new Long = ServesProgram command text (λ items. ReachesLimit items old new)
+-- What is written of a text alone, without a store and without input; nothing where memory runs out.
+abbrev pub Tells : Command → List ℕ → SinkView → SinkView → Exit → Type 0
+Tells command text old new Done = WritesWhole (IsFinding command text) old new
+Tells command text old new Refused = WritesWhole (IsRefusal text) old new
+Tells command text old new WriteFault = WritesFront (IsOfText command text) old new
+Tells command text old new Memory = new ≡ old
+Tells command text old new exit = ⊥
+
+-- Why a store wasn't opened: it is refused, and its line was written, or a front of it; or the disk failed, or memory ran out.
+abbrev pub FailsToOpen : Command → List ℕ → Devices → Devices → Exit → Type 0
+FailsToOpen command text old new StoreRefused = RefusesStore command text WritesWhole old new
+FailsToOpen command text old new WriteFault = RefusesStore command text WritesFront old new
+FailsToOpen command text old new DiskFault = OpensNot command text old new × Rose old.disk.faults new.disk.faults
+FailsToOpen command text old new Memory = OpensNot command text old new
+FailsToOpen command text old new exit = ⊥
+
+-- a session of the program ended, as the exit says
+abbrev pub EndsSession : Command → List ℕ → Devices → Devices → Exit → Type 0
+EndsSession command text old new Done = ServesProgram command text old new ended.Done
+EndsSession command text old new ReadFault = ServesProgram command text old new ended.ReadFault
+EndsSession command text old new WriteFault = ServesProgram command text old new ended.WriteFault
+EndsSession command text old new DiskFault = ServesProgram command text old new ended.DiskFault
+EndsSession command text old new Memory = ServesProgram command text old new ended.Memory
+EndsSession command text old new Long = ServesProgram command text old new ended.Long
+EndsSession command text old new exit = ⊥
+
+-- What each status says of a command, the text that it read, the streams and the disk: something was told of the text alone, or no store
+-- was opened, or a session ended. Usage and FileFault come before a text is read.
+abbrev pub Treats : Command → List ℕ → Devices → Devices → Exit → Type 0
+Treats command text old new exit =
+    OnOutput (λ before after. Tells command text before after exit) old new
+    ⊎ (FailsToOpen command text old new exit ⊎ EndsSession command text old new exit)
 
 -- ---- what a run says
 
@@ -72,7 +87,7 @@ pub record TreatsFile (words : List (List ℕ)) (old new : Outside) (exit : Exit
   pub asked : IsAsked old.files.asks new.files.asks (program_ask command)
   pub text : List ℕ
   pub told : IsAll (old.files.content (file_of command)) text
-  pub treats : Treats command text (streams old) (streams new) exit
+  pub treats : Treats command text (devices old) (devices new) exit
 
 -- Done: the replies to all lines of the input were written, or what the command finds of the text of P.
 abbrev pub IsDone : List (List ℕ) → Outside → Outside → Type 0
@@ -85,31 +100,40 @@ IsRefused words old new = TreatsFile words old new Refused
 -- Usage: the words are no command, and nothing was touched.
 pub record IsUsage (words : List (List ℕ)) (old new : Outside) : Type 0 where
   pub command : command_of words ≡ None
-  pub same : new ≡ old
+  pub files : new.files ≡ old.files
+  pub kept : KeepsDevices (devices old) (devices new)
 
 -- ReadFault: a read of the input failed.
 abbrev pub IsReadFault : List (List ℕ) → Outside → Outside → Type 0
 IsReadFault words old new = TreatsFile words old new ReadFault
 
--- WriteFault: a write failed, within a reply or within what the command writes of the text of P.
+-- WriteFault: a write failed, within a reply or within what the command writes of the text of P or of the store.
 abbrev pub IsWriteFault : List (List ℕ) → Outside → Outside → Type 0
 IsWriteFault words old new = TreatsFile words old new WriteFault
 
--- FileFault: P was asked, once, and reading it failed. Neither stream was touched.
+-- DiskFault: a call of the disk failed, while the store was opened or while a line was committed.
+abbrev pub IsDiskFault : List (List ℕ) → Outside → Outside → Type 0
+IsDiskFault words old new = TreatsFile words old new DiskFault
+
+-- StoreRefused: what the disk reads is refused for the program, the line of the first cause was written, and no input was taken.
+abbrev pub IsStoreRefused : List (List ℕ) → Outside → Outside → Type 0
+IsStoreRefused words old new = TreatsFile words old new StoreRefused
+
+-- FileFault: P was asked, once, and reading it failed. Neither stream was touched, nor the disk.
 pub record IsFileFault (words : List (List ℕ)) (old new : Outside) : Type 0 where
   pub command : Command
   pub is : command_of words ≡ Some command
   pub asked : IsAsked old.files.asks new.files.asks (program_ask command)
   pub cause : Rose old.files.faults new.files.faults
-  pub streams : KeepsStreams old new
+  pub kept : KeepsDevices (devices old) (devices new)
 
--- Memory ran out before P was read: neither stream was touched.
+-- Memory ran out before P was read: nothing else was touched.
 pub record RunsOutEarly (words : List (List ℕ)) (old new : Outside) : Type 0 where
   pub command : Command
   pub is : command_of words ≡ Some command
-  pub streams : KeepsStreams old new
+  pub kept : KeepsDevices (devices old) (devices new)
 
--- Memory: it ran out before either stream was touched, or before a reply.
+-- Memory: it ran out before anything was touched, or while the store was opened, or before a reply.
 abbrev pub IsMemory : List (List ℕ) → Outside → Outside → Type 0
 IsMemory words old new = RunsOutEarly words old new ⊎ TreatsFile words old new Memory
 
@@ -124,23 +148,43 @@ MeetsStatus words old new Refused = IsRefused words old new
 MeetsStatus words old new Usage = IsUsage words old new
 MeetsStatus words old new ReadFault = IsReadFault words old new
 MeetsStatus words old new WriteFault = IsWriteFault words old new
+MeetsStatus words old new DiskFault = IsDiskFault words old new
+MeetsStatus words old new StoreRefused = IsStoreRefused words old new
 MeetsStatus words old new FileFault = IsFileFault words old new
 MeetsStatus words old new Memory = IsMemory words old new
 MeetsStatus words old new Long = IsLong words old new
 
--- The words are `serve P`, the text of P is told, the input is told and has fewer than `most_taken` bytes, and no count of
--- faults rises.
+-- ---- where nothing stands in the way
+
+-- a command serves lines
+abbrev pub ServesLines : Command → Type 0
+ServesLines (serve name) = ⊤
+ServesLines (serve_stored name store) = ⊤
+ServesLines (check name) = ⊥
+
+-- The words are `serve P` or `serve P STORE`, the text of P is told, the input is told and has fewer than `most_taken` bytes, and no
+-- count of faults rises.
 pub record IsSmooth (words : List (List ℕ)) (old new : Outside) : Type 0 where
-  pub name : List ℕ
-  pub command : command_of words ≡ Some (serve name)
+  pub command : Command
+  pub is : command_of words ≡ Some command
+  pub serves : ServesLines command
   pub text : List ℕ
-  pub told : old.files.content name ≡ Some text
+  pub told : old.files.content (file_of command) ≡ Some text
   pub input : List ℕ
   pub input_told : old.input.left ≡ Some input
   pub few : length input < most_taken
   pub reads : ¬ (Rose old.input.faults new.input.faults)
   pub writes : ¬ (Rose old.output.faults new.output.faults)
   pub files : ¬ (Rose old.files.faults new.files.faults)
+  pub disk : ¬ (Rose old.disk.faults new.disk.faults)
+
+-- where a store is kept on a disk, what that reads is told, and stands for a store of each program of a text
+abbrev pub HasStoreFor : Command → List ℕ → Outside → Type 0
+HasStoreFor (serve name) text old = ⊤
+HasStoreFor (serve_stored name store) text old =
+    (c : List ℕ) × Reads old.disk c × ((table : ClassTable) (bodies : List SilicaBody) → IsProgram text table bodies
+    → (s : StoreState) × IsStoreOf (program_with table bodies) (area_of area_bytes c) s)
+HasStoreFor (check name) text old = ⊤
 
 -- The words are `check P`, the text of P is told, and neither the count of faults of the output nor that of the files rises.
 pub record IsSmoothCheck (words : List (List ℕ)) (old new : Outside) : Type 0 where

@@ -1,13 +1,12 @@
 -- What was read of a file, and what is done with it; for private clauses.
 use Rattle.std.specs.Prelude.{ℕ, ◌≡◌, ◌≤◌, List, length, take, Option, None, Some}
-use Rattle.ob_base.specs.declared.fault.ProgramFault.{ProgramFault}
-use Rattle.ob_front.specs.Programs.{IsAccepted, HasTextFault}
-use Rattle.ob_io.specs.Views.{SourceView, SinkView}
+use Rattle.ob_io.specs.Views.{SinkView}
+use Rattle.ob_store_spec.specs.Stores.{StoreRefusal}
 use Rattle.ob_run.specs.Asked.{most_read}
-use Rattle.ob_run.specs.Commands.{Command, check}
-use Rattle.ob_run.specs.Statuses.{Treats}
+use Rattle.ob_run.specs.StoreLine.{store_line}
+use Rattle.ob_run.specs.Writes.{WritesWhole, WritesFront}
 use Rattle.ob_run.specs.declared.exit.Exit.{Exit}
-use Rattle.ob_run.specs.declared.exit.Exit.TheVariants.{Done, ReadFault, WriteFault, Memory, Long}
+use Rattle.ob_run.specs.declared.exit.Exit.TheVariants.{Done, ReadFault, WriteFault, DiskFault, StoreRefused, Memory, Long}
 use Rattle.ob_serve.specs.declared.serving.Served.{Served}
 use Rattle.ob_serve.specs.declared.serving.Served.TheVariants as ended
 
@@ -16,23 +15,18 @@ abbrev pub IsReadOf : Option (List ℕ) → List ℕ → Type 0
 IsReadOf None text = length text ≤ most_read
 IsReadOf (Some content) text = text ≡ take most_read content
 
--- a command treats a text so, whatever the input is
-abbrev pub TreatsAlone : Command → List ℕ → SinkView → SinkView → Exit → Type 0
-TreatsAlone command text old new exit =
-    (input : SourceView) → Treats command text (record { input = input; output = old }) (record { input = input; output = new }) exit
-
--- so each command refuses each text that has this fault
-abbrev pub Refuses : ProgramFault → SinkView → SinkView → Exit → Type 0
-Refuses fault old new exit = (command : Command) (text : List ℕ) → HasTextFault text fault → TreatsAlone command text old new exit
-
--- so `check` accepts each text without a fault
-abbrev pub Accepts : SinkView → SinkView → Exit → Type 0
-Accepts old new exit = (name text : List ℕ) → IsAccepted text → TreatsAlone (check name) text old new exit
+-- the line of a store that is refused was written, whole or in part, or memory ran out before it
+abbrev pub TellsRefusal : StoreRefusal → SinkView → SinkView → Exit → Type 0
+TellsRefusal refusal old new StoreRefused = WritesWhole (λ bytes. bytes ≡ store_line refusal) old new
+TellsRefusal refusal old new WriteFault = WritesFront (λ bytes. bytes ≡ store_line refusal) old new
+TellsRefusal refusal old new Memory = new ≡ old
+TellsRefusal refusal old new exit = ⊥
 
 -- how a run ends whose session ended so
 abbrev pub exit_of : Served → Exit
 exit_of ended.Done = Done
 exit_of ended.ReadFault = ReadFault
 exit_of ended.WriteFault = WriteFault
+exit_of ended.DiskFault = DiskFault
 exit_of ended.Memory = Memory
 exit_of ended.Long = Long

@@ -1,11 +1,13 @@
 //! What the words of a command line ask for.
 ghost use Rattle.std.specs.Prelude.{◌≡◌, map, option_map, string_bytes};
 
-// What is done, and with which file.
+// What is done, and with which files.
 #[derive(Clone, Copy)]
 pub(crate) enum Command<'a> {
-    // Its program is served.
+    // Its program is served, over a store in memory.
     Serve(&'a str),
+    // Its program is served, over the store in the second file.
+    ServeStored(&'a str, &'a str),
     // The first fault of its text is told, or that there is none.
     Check(&'a str),
 }
@@ -21,16 +23,19 @@ impl<'a> Command<'a> {
         match words {
             [word, name] if word.as_str() == "serve" => Some(Command::Serve(name.as_str())),
             [word, name] if word.as_str() == "check" => Some(Command::Check(name.as_str())),
+            [word, name, store] if word.as_str() == "serve" => {
+                Some(Command::ServeStored(name.as_str(), store.as_str()))
+            }
             _ => None,
         }
     }
 
-    // The name of its file.
+    // The name of its program's file.
     pub(crate) fn file(self) -> &'a str
         ensures { result.now ≡ file_of (command_view self.entry) }
     {
         match self {
-            Command::Serve(name) | Command::Check(name) => name,
+            Command::Serve(name) | Command::ServeStored(name, _) | Command::Check(name) => name,
         }
     }
 }

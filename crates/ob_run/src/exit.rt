@@ -16,6 +16,10 @@ pub enum Exit {
     ReadFault,
     /// Writing the output failed.
     WriteFault,
+    /// A call of the disk failed. What was answered is kept: the store is to be opened again.
+    DiskFault,
+    /// What the disk reads is no store of this program, or isn't at rest; its line was written.
+    StoreRefused,
     /// Reading the program's file failed.
     FileFault,
     /// Memory ran out.
@@ -49,21 +53,25 @@ impl Exit {
             Exit::Usage => 2,
             Exit::ReadFault => 3,
             Exit::WriteFault => 4,
+            Exit::DiskFault => 5,
+            Exit::StoreRefused => 6,
             Exit::Memory => 7,
             Exit::FileFault => 8,
             Exit::Long => 9,
         }
     }
 
-    /// The word that is said of it on standard error. `Done` has none, nor has `Refused`, of which the output has the line.
+    /// The word that is said of it on standard error. `Done` has none, nor have `Refused` and `StoreRefused`, of which the output
+    /// has the line.
     pub fn message(self) -> Option<&'static str>
         ensures { option_map (λ word. word.now) result ≡ message_of self }
     {
         match self {
-            Exit::Done | Exit::Refused => None,
+            Exit::Done | Exit::Refused | Exit::StoreRefused => None,
             Exit::Usage => Some("Usage"),
             Exit::ReadFault => Some("ReadFault"),
             Exit::WriteFault => Some("WriteFault"),
+            Exit::DiskFault => Some("DiskFault"),
             Exit::Memory => Some("Memory"),
             Exit::FileFault => Some("FileFault"),
             Exit::Long => Some("Long"),

@@ -1,11 +1,15 @@
-//! The top call: what the words of a command line ask for, done over files, a source and a sink.
+//! The top call: what the words of a command line ask for, done over files, a source, a sink and a disk.
 #![tactic(auto)]
 
 mod command;
 mod exit;
 mod fault;
+mod refusal;
+mod serving;
+mod telling;
 mod top;
 
 pub use exit::Exit;
 pub use fault::fault_line;
+pub use refusal::{StoreRefusal, store_line};
 pub use top::run;

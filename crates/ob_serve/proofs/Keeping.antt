@@ -1,6 +1,6 @@
 -- Each item of a session over sound code is kept, and is the same by the code and by the source meaning.
-use Rattle.std.proofs.Common.{◌≡◌, ℕ, ℤ, List, [], ◌∷◌, Some, refl, sym, ◌∙◌, ap, subst, arith}
-use Rattle.std.specs.Prelude.{Result, Ok, Err, IfOk}
+use Rattle.std.proofs.Common.{◌≡◌, ◌+◌, length, ℕ, ℤ, Bool, true, false, List, [], ◌∷◌, Option, Some, None, refl, sym, ◌∙◌, ap, subst, arith}
+use Rattle.std.specs.Prelude.{Result, Ok, Err, IfOk, nat_lt, if◌then◌else◌}
 use Rattle.ob_table.specs.Tables.{ClassTable}
 use Rattle.ob_code.specs.declared.image.Image.{Image}
 use Rattle.ob_heap_spec.specs.Contents.{Content, empty_content}
@@ -13,19 +13,29 @@ use Rattle.ob_invocation_spec.specs.Replies.{Invocation, invoked, goes_wrong, is
 use Rattle.ob_invocation_spec.specs.SourceInvocation.{source_invocation, source_meaning}
 use Rattle.ob_invocation_laws.specs.Laws.{LeavesUnlessDone, KeepsStoreAtRest}
 use Rattle.ob_invocation_laws.proofs.Leaving.{leaves}
+use Rattle.ob_machine_steps.specs.ImageTables.{table_of_image}
 use Rattle.ob_machine_steps.specs.Meanings.{machine_invocation}
 use Rattle.ob_silica_steps.specs.Configurations.{SilicaProgram}
 use Rattle.ob_sound_code.specs.SoundCode.{SameInvocation, IsSoundCode}
 use Rattle.ob_exec_handles.specs.Coming.{IsInLimits}
+use Rattle.ob_store_spec.specs.Payloads.{payload}
+use Rattle.ob_store_spec.specs.Between.{changes_between}
+use Rattle.ob_store_spec.specs.Settling.{say_nothing, needed, recorded, settled}
+use Rattle.ob_store_spec.specs.Stores.{StoreState}
 use Rattle.ob_wire.specs.Meanings.{request_of, answer_of}
 use Rattle.ob_wire.specs.declared.refusal.Refusal.{Refusal}
 use Rattle.ob_wire.specs.declared.request.Request.{Request}
-use Rattle.ob_serve.specs.Session.{SessionItem, session, requests_in}
+use Rattle.ob_wire.specs.declared.reply.Answer.{Answer}
+use Rattle.ob_serve.specs.Session.{SessionItem, session, state_after, requests_in}
 use Rattle.ob_serve.specs.Asked.{asked_by}
-use Rattle.ob_serve.specs.Items.{by_source, by_machine, refused_item, invoked_item, item_of_asked, item_of}
-use Rattle.ob_serve.specs.Stops.{IsAtRestBy}
-use Rattle.ob_serve.specs.Kept.{says_done, IsKept, AreKept, KeepsSessions, GoesAsSource}
+use Rattle.ob_serve.specs.Items.{by_source, by_machine, refused_item, settled_item, invoked_item, item_of_asked, item_of}
+use Rattle.ob_serve.specs.Kept.{says_done, IsKept, AreKept, KeepsSessions, IsSoundFor, IsSound, GoesAsSource}
+use Rattle.ob_heap.specs.Contents.{content_of}
+use Rattle.ob_store.specs.Stores.{area_of_store, kept_of, state_of}
+use Rattle.ob_store.specs.declared.store.Store.{Store}
 use Rattle.ob_serve.proofs.Asking.{asked_labels}
+use Rattle.ob_serve.proofs.Tables.{rests_by_image, rests_by_source, settles_alike}
+use Rattle.ob_serve.proofs.Unchanged.{nothing_differs}
 
 -- the store at the start is at rest
 pub empty_rests : (table : ClassTable) → IsStoreAtRest table empty_content
@@ -40,16 +50,43 @@ empty_rests table = record {
   few_handles = omega arith;
 }
 
--- the item of a request that came to this
-abbrev item_with : ℤ → told.Reply → Content → SessionItem Content
-item_with id reply after = record { reply = Some (record { id = Some id; answer = answer_of reply }); after = after }
+-- ---- what becomes of a store
+
+-- the store after changes has the content that they lead to
+pub settled_content : (table : ClassTable) (area : Option ℕ) (s : StoreState) (after : Content) → IfOk (settled table area s after) (λ t. t.content ≡ after)
+settled_content table None s after = refl
+settled_content table (Some size) s after = one (say_nothing (changes_between table s.content after))
+  where
+    bytes : List ℕ
+    bytes = (payload table).bytes (changes_between table s.content after)
+
+    two : (lacks : Bool) → IfOk {T = StoreState} {E = ℕ × ℕ} (if lacks then Err (needed s bytes, size) else Ok (record { content = after; gate = s.gate + 5 + length bytes; serial = s.serial })) (λ t. t.content ≡ after)
+    two true = tt
+    two false = refl
+
+    one : (none : Bool) → IfOk {T = StoreState} {E = ℕ × ℕ} (if none then Ok (record s { content = after }) else recorded size s after bytes) (λ t. t.content ≡ after)
+    one true = refl
+    one false = two (nat_lt size (needed s bytes))
+
+-- where nothing changes, the store stays
+pub settled_same : (table : ClassTable) (area : Option ℕ) (s : StoreState) (after : Content) → after ≡ s.content → settled table area s after ≡ Ok s
+settled_same table None s after same = ap (λ (c : Content). Ok (record s { content = c })) same
+settled_same table (Some size) s after same =
+    let none : say_nothing (changes_between table s.content after) ≡ true = ap (λ (c : Content). say_nothing (changes_between table s.content c)) same ∙ nothing_differs table s.content in
+    rw none (ap (λ (c : Content). Ok (record s { content = c })) same)
+
+-- ---- what an item keeps
 
 -- what comes to the same gives the same item
-same_item : (content : Content) (id : ℤ) (a b : Invocation) → SameInvocation a b → invoked_item content id b ≡ invoked_item content id a
-same_item content id (invoked a) (invoked b) same = ap (λ reply. item_with id reply b.content) same.reply ∙ ap (item_with id a.reply) same.content
-same_item content id (invoked a) goes_wrong same = absurd same
-same_item content id goes_wrong (invoked b) same = absurd same
-same_item content id goes_wrong goes_wrong same = refl
+same_item : (program : SilicaProgram) (image : Image) (fuel : ℕ) (area : Option ℕ) (s : StoreState) (id : ℤ) (a b : Invocation) → IsSoundFor program image → SameInvocation a b
+    → invoked_item (by_machine image fuel area) s id b ≡ invoked_item (by_source program.table fuel area) s id a
+same_item program image fuel area s id (invoked a) (invoked b) sound same =
+    ap (λ (reply : told.Reply). settled_item id (answer_of reply) s (settled (table_of_image image) area s b.content)) same.reply
+    ∙ ap (λ (c : Content). settled_item id (answer_of a.reply) s (settled (table_of_image image) area s c)) same.content
+    ∙ ap (settled_item id (answer_of a.reply) s) (settles_alike program image sound area s a.content)
+same_item program image fuel area s id (invoked a) goes_wrong sound same = absurd same
+same_item program image fuel area s id goes_wrong (invoked b) sound same = absurd same
+same_item program image fuel area s id goes_wrong goes_wrong sound same = refl
 
 -- and leaves a store at rest alike
 rests_alike : (table : ClassTable) (a b : Invocation) → SameInvocation a b → KeepsStoreAtRest table b → KeepsStoreAtRest table a
@@ -63,6 +100,11 @@ pub within_limits : (table : ClassTable) (i : Invocation) → KeepsStoreAtRest t
 within_limits table (invoked i) rests = rests.few_objects
 within_limits table goes_wrong rests = absurd rests
 
+-- what is at rest by the class table is so by the image's
+invoked_rests : (program : SilicaProgram) (image : Image) (i : Invocation) → IsSoundFor program image → KeepsStoreAtRest program.table i → KeepsStoreAtRest (table_of_image image) i
+invoked_rests program image (invoked i) sound rests = rests_by_image program image sound i.content rests
+invoked_rests program image goes_wrong sound rests = absurd rests
+
 -- a reply tells whether its request was done
 told_done : (reply : told.Reply) → says_done (answer_of reply) ≡ is_ok reply
 told_done told.ok_nothing = refl
@@ -73,92 +115,116 @@ told_done (told.ok_place place) = refl
 told_done (told.refused refusal) = refl
 told_done (told.aborted cause state) = refl
 
--- what a request comes to is kept, if it leaves the store at rest
-invoked_kept : (table : ClassTable) (content : Content) (id : ℤ) (i : Invocation) → KeepsStoreAtRest table i → LeavesUnlessDone content i
-    → IsKept table content (invoked_item content id i)
-invoked_kept table content id (invoked i) rests stays = record {
-  answered = refl;
-  at_rest = rests;
-  one_owner = one_owner table i.content rests.at_rest;
-  unchanged = λ undone. stays (sym (told_done i.reply) ∙ undone);
-}
-invoked_kept table content id goes_wrong rests stays = absurd rests
+one_store : (t s : StoreState) → ◌≡◌ {A = Result StoreState (ℕ × ℕ)} (Ok t) (Ok s) → t ≡ s
+one_store t s same = cc
 
-refused_kept : (table : ClassTable) (content : Content) (refusal : Refusal) → IsStoreAtRest table content → IsKept table content (refused_item content refusal)
-refused_kept table content refusal rests = record {
+-- an item is kept, whether or not the store has room
+settled_kept : (table : ClassTable) (s : StoreState) (id : ℤ) (answer : Answer) (after : Content) (r : Result StoreState (ℕ × ℕ)) → IsStoreAtRest table s.content → IsStoreAtRest table after
+    → IfOk r (λ t. t.content ≡ after) → (says_done answer ≡ false → r ≡ Ok s) → IsKept table s (settled_item id answer s r)
+settled_kept table s id answer after (Ok t) before rests is stays =
+    let quiet : IsStoreAtRest table t.content = subst (IsStoreAtRest table) (sym is) rests in
+    record { answered = refl; at_rest = quiet; one_owner = one_owner table t.content quiet.at_rest; unchanged = λ undone. one_store t s (stays undone) }
+settled_kept table s id answer after (Err lack) before rests is stays = record {
   answered = refl;
-  at_rest = rests;
-  one_owner = one_owner table content rests.at_rest;
+  at_rest = before;
+  one_owner = one_owner table s.content before.at_rest;
   unchanged = λ undone. refl;
 }
 
-module _ (program : SilicaProgram) (image : Image) (fuel : ℕ) (sound : IsSoundCode program image) where
-  -- a request on a store at rest stays within the limits
-  pub request_within : (content : Content) (request : asked.Request) → IsStoreAtRest program.table content → HasLabels request
-      → IsInLimits (machine_invocation image content request fuel)
-  request_within content request rests labels =
-      within_limits program.table (machine_invocation image content request fuel) (sound.rests content request fuel rests labels)
+-- what a request comes to is kept, if it leaves the store at rest
+invoked_kept : (table : ClassTable) (fuel : ℕ) (area : Option ℕ) (s : StoreState) (id : ℤ) (i : Invocation) → IsStoreAtRest table s.content → KeepsStoreAtRest table i → LeavesUnlessDone s.content i
+    → IsKept table s (invoked_item (by_source table fuel area) s id i)
+invoked_kept table fuel area s id (invoked i) before rests stays =
+    settled_kept table s id (answer_of i.reply) i.content (settled table area s i.content) before rests (settled_content table area s i.content)
+    (λ undone. settled_same table area s i.content (stays (sym (told_done i.reply) ∙ undone)))
+invoked_kept table fuel area s id goes_wrong before rests stays = absurd rests
 
-  asked_same : (content : Content) (asked : Result Request Refusal) → IsStoreAtRest program.table content → IfOk asked (λ request. HasLabels (request_of request))
-      → item_of_asked (by_machine image fuel) content asked ≡ item_of_asked (by_source program.table fuel) content asked
-  asked_same content (Err refusal) rests labels = refl
-  asked_same content (Ok request) rests labels =
-      same_item content request.id (source_invocation program.table content (request_of request) fuel) (machine_invocation image content (request_of request) fuel)
-      (sound.requests content (request_of request) fuel rests labels)
+refused_kept : (table : ClassTable) (s : StoreState) (refusal : Refusal) → IsStoreAtRest table s.content → IsKept table s (refused_item s refusal)
+refused_kept table s refusal rests = record {
+  answered = refl;
+  at_rest = rests;
+  one_owner = one_owner table s.content rests.at_rest;
+  unchanged = λ undone. refl;
+}
 
-  asked_kept : (content : Content) (asked : Result Request Refusal) → IsStoreAtRest program.table content → IfOk asked (λ request. HasLabels (request_of request))
-      → IsKept program.table content (item_of_asked (by_source program.table fuel) content asked)
-  asked_kept content (Err refusal) rests labels = refused_kept program.table content refusal rests
-  asked_kept content (Ok request) rests labels =
-      invoked_kept program.table content request.id (source_invocation program.table content (request_of request) fuel)
-      (rests_alike program.table (source_invocation program.table content (request_of request) fuel) (machine_invocation image content (request_of request) fuel)
-      (sound.requests content (request_of request) fuel rests labels) (sound.rests content (request_of request) fuel rests labels))
-      (leaves (source_meaning program.table fuel) program.table content (request_of request) fuel)
+module _ (program : SilicaProgram) (image : Image) (fuel : ℕ) (area : Option ℕ) (for : IsSoundFor program image) where
+  sound : IsSoundCode program image
+  sound = for.sound
 
-  line_same : (content : Content) (line : List ℕ) → IsStoreAtRest program.table content
-      → item_of (by_machine image fuel) content line ≡ item_of (by_source program.table fuel) content line
-  line_same content line rests = asked_same content (asked_by line) rests (asked_labels line)
+  abbrev machine : StoreState → List ℕ → SessionItem StoreState
+  machine = item_of (by_machine image fuel area)
 
-  line_kept : (content : Content) (line : List ℕ) → IsStoreAtRest program.table content
-      → IsKept program.table content (item_of (by_source program.table fuel) content line)
-  line_kept content line rests = asked_kept content (asked_by line) rests (asked_labels line)
+  abbrev source : StoreState → List ℕ → SessionItem StoreState
+  source = item_of (by_source program.table fuel area)
+
+  -- a request on a store at rest leaves it at rest
+  pub request_rests : (content : Content) (request : asked.Request) → IsStoreAtRest (table_of_image image) content → HasLabels request
+      → KeepsStoreAtRest (table_of_image image) (machine_invocation image content request fuel)
+  request_rests content request rests labels =
+      invoked_rests program image (machine_invocation image content request fuel) for (sound.rests content request fuel (rests_by_source program image for content rests) labels)
+
+  asked_same : (s : StoreState) (asked : Result Request Refusal) → IsStoreAtRest program.table s.content → IfOk asked (λ request. HasLabels (request_of request))
+      → item_of_asked (by_machine image fuel area) s asked ≡ item_of_asked (by_source program.table fuel area) s asked
+  asked_same s (Err refusal) rests labels = refl
+  asked_same s (Ok request) rests labels =
+      same_item program image fuel area s request.id (source_invocation program.table s.content (request_of request) fuel) (machine_invocation image s.content (request_of request) fuel)
+      for (sound.requests s.content (request_of request) fuel rests labels)
+
+  asked_kept : (s : StoreState) (asked : Result Request Refusal) → IsStoreAtRest program.table s.content → IfOk asked (λ request. HasLabels (request_of request))
+      → IsKept program.table s (item_of_asked (by_source program.table fuel area) s asked)
+  asked_kept s (Err refusal) rests labels = refused_kept program.table s refusal rests
+  asked_kept s (Ok request) rests labels =
+      invoked_kept program.table fuel area s request.id (source_invocation program.table s.content (request_of request) fuel) rests
+      (rests_alike program.table (source_invocation program.table s.content (request_of request) fuel) (machine_invocation image s.content (request_of request) fuel)
+      (sound.requests s.content (request_of request) fuel rests labels) (sound.rests s.content (request_of request) fuel rests labels))
+      (leaves (source_meaning program.table fuel) program.table s.content (request_of request) fuel)
+
+  line_same : (s : StoreState) (line : List ℕ) → IsStoreAtRest program.table s.content → item_of (by_machine image fuel area) s line ≡ item_of (by_source program.table fuel area) s line
+  line_same s line rests = asked_same s (asked_by line) rests (asked_labels line)
+
+  line_kept : (s : StoreState) (line : List ℕ) → IsStoreAtRest program.table s.content → IsKept program.table s (item_of (by_source program.table fuel area) s line)
+  line_kept s line rests = asked_kept s (asked_by line) rests (asked_labels line)
 
   -- a store is at rest after each line
-  pub line_rests : (content : Content) (line : List ℕ) → IsStoreAtRest program.table content
-      → IsStoreAtRest program.table (item_of (by_machine image fuel) content line).after
-  line_rests content line rests =
-      subst (λ (i : SessionItem Content). IsStoreAtRest program.table i.after) (sym (line_same content line rests)) (line_kept content line rests).at_rest
-
-  same_items : (content : Content) (lines : List (List ℕ)) → IsStoreAtRest program.table content
-      → session (item_of (by_machine image fuel)) content lines ≡ session (item_of (by_source program.table fuel)) content lines
-  same_items content [] rests = refl
-  same_items content (line ∷ lines) rests =
-      let machine = item_of (by_machine image fuel) in
-      let source = item_of (by_source program.table fuel) in
-      ap (λ (i : SessionItem Content). i ∷ session machine i.after lines) (line_same content line rests)
-      ∙ ap (λ (is : List (SessionItem Content)). source content line ∷ is) (same_items (source content line).after lines (line_kept content line rests).at_rest)
-
-  kept_items : (content : Content) (lines : List (List ℕ)) → IsStoreAtRest program.table content
-      → AreKept program.table content (session (item_of (by_source program.table fuel)) content lines)
-  kept_items content [] rests = tt
-  kept_items content (line ∷ lines) rests =
-      let kept = line_kept content line rests in
-      (kept, kept_items (item_of (by_source program.table fuel) content line).after lines kept.at_rest)
+  pub line_rests : (s : StoreState) (line : List ℕ) → IsStoreAtRest (table_of_image image) s.content
+      → IsStoreAtRest (table_of_image image) (item_of (by_machine image fuel area) s line).after.content
+  line_rests s line rests =
+      let by_table = rests_by_source program image for s.content rests in
+      rests_by_image program image for (item_of (by_machine image fuel area) s line).after.content
+      (subst (λ (i : SessionItem StoreState). IsStoreAtRest program.table i.after.content) (sym (line_same s line by_table)) (line_kept s line by_table).at_rest)
 
   -- a session goes by the code as by the source meaning
-  pub goes_as_source : GoesAsSource program.table image fuel
-  goes_as_source lines = same_items empty_content (requests_in lines) (empty_rests program.table)
+  pub same_items : (s : StoreState) (lines : List (List ℕ)) → IsStoreAtRest program.table s.content
+      → session (item_of (by_machine image fuel area)) s lines ≡ session (item_of (by_source program.table fuel area)) s lines
+  same_items s [] rests = refl
+  same_items s (line ∷ lines) rests =
+      ap (λ (i : SessionItem StoreState). i ∷ session machine i.after lines) (line_same s line rests)
+      ∙ ap (λ (is : List (SessionItem StoreState)). source s line ∷ is) (same_items (source s line).after lines (line_kept s line rests).at_rest)
 
-  -- and keeps what each item is to keep
-  pub keeps_sessions : KeepsSessions program.table fuel
-  keeps_sessions lines = kept_items empty_content (requests_in lines) (empty_rests program.table)
+  pub same_state : (s : StoreState) (lines : List (List ℕ)) → IsStoreAtRest program.table s.content
+      → state_after (item_of (by_machine image fuel area)) s lines ≡ state_after (item_of (by_source program.table fuel area)) s lines
+  same_state s [] rests = refl
+  same_state s (line ∷ lines) rests =
+      ap (λ (i : SessionItem StoreState). state_after machine i.after lines) (line_same s line rests) ∙ same_state (source s line).after lines (line_kept s line rests).at_rest
 
--- a store that is at rest for each program is so while it stays
-pub rests_same : (image : Image) (content after : Content) → after ≡ content → IsAtRestBy image content → IsAtRestBy image after
-rests_same image content after same rests program sound = subst (IsStoreAtRest program.table) (sym same) (rests program sound)
+  pub kept_items : (s : StoreState) (lines : List (List ℕ)) → IsStoreAtRest program.table s.content
+      → AreKept program.table s (session (item_of (by_source program.table fuel area)) s lines)
+  kept_items s [] rests = tt
+  kept_items s (line ∷ lines) rests =
+      let kept = line_kept s line rests in
+      (kept, kept_items (item_of (by_source program.table fuel area) s line).after lines kept.at_rest)
 
--- and after a line
-pub rests_on : (image : Image) (fuel : ℕ) (content after : Content) (line : List ℕ) → after ≡ (item_of (by_machine image fuel) content line).after
-    → IsAtRestBy image content → IsAtRestBy image after
-rests_on image fuel content after line is rests program sound =
-    subst (IsStoreAtRest program.table) (sym is) (line_rests program image fuel sound content line (rests program sound))
+-- a session goes by the code as by the source meaning
+pub goes_as_source : (program : SilicaProgram) (image : Image) (fuel : ℕ) → IsSoundFor program image → GoesAsSource program image fuel
+goes_as_source program image fuel sound area start lines rests = same_items program image fuel area sound start (requests_in lines) rests
+
+-- and keeps what each item is to keep
+pub keeps_sessions : (program : SilicaProgram) (image : Image) (fuel : ℕ) → IsSoundFor program image → KeepsSessions program.table fuel
+keeps_sessions program image fuel sound area start lines rests = kept_items program image fuel area sound start (requests_in lines) rests
+
+-- the store that is kept after a line is at rest
+pub kept_rests : (image : Image) (fuel : ℕ) (store new : Store) (line : List ℕ) → IsSound image
+    → state_of new ≡ (item_of (by_machine image fuel (area_of_store store)) (state_of store) line).after
+    → IsStoreAtRest (table_of_image image) (content_of (kept_of store)) → IsStoreAtRest (table_of_image image) (content_of (kept_of new))
+kept_rests image fuel store new line sound is rests =
+    subst (λ (s : StoreState). IsStoreAtRest (table_of_image image) s.content) (sym is) (line_rests sound.0 image fuel (area_of_store store) sound.1 (state_of store) line rests)

@@ -1,4 +1,9 @@
-pub mod Progress
 pub mod Asking
+pub mod Tables
+pub mod Unchanged
 pub mod Keeping
-pub mod Invoked
+pub mod Readied
+pub mod Committed
+pub mod Sessions
+pub mod Progress
+pub mod BySource

@@ -1,139 +1,73 @@
--- How a session goes on.
-use Rattle.std.proofs.Common.{◌≡◌, Vec, ℕ, ◌+◌, ◌≤◌, Bool, true, false, not, cond, List, [], ◌∷◌, ◌++◌, length, take, Option, None, Some, refl, sym, ◌∙◌, ap, subst, arith, append_assoc, length-append}
-use Rattle.std.specs.declared.alloc.Global.{Global}
-use Rattle.std.proofs.lemmas.List.{append-nil, take_at}
+-- How a session goes on, and how it ends.
+use Rattle.std.proofs.Common.{◌≡◌, ◌⊎◌, inl, inr, ⊎_elim, ℕ, ◌+◌, ◌<◌, ◌≤◌, Bool, true, false, List, [], ◌∷◌, ◌++◌, length, take, drop, Option, None, Some, refl, sym, ◌∙◌, ap, subst, arith, append_assoc, length-append, take-append-drop}
+use Rattle.std.proofs.lemmas.List.{append-nil, take_all, take-take}
 use Rattle.ob_base.specs.Limits.{most_taken}
 use Rattle.ob_io.specs.Causes.{Rose}
 use Rattle.ob_io.specs.Told.{Takes, TakesFrom, TakesAtMost, Gives, GivesFront, IsEnd}
-use Rattle.ob_io.specs.LinesOfText.{lines_of, IsSplit}
-use Rattle.ob_io.specs.Lines.{has_newline, IsLine}
-use Rattle.ob_io.specs.Views.{SourceView, SinkView}
+use Rattle.ob_io.specs.LinesOfText.{lines_of, whole_lines, IsSplit}
 use Rattle.ob_io.proofs.TextLemmas.{split_none, split_more, split_end, split_part}
+use Rattle.ob_io.specs.Views.{SourceView}
 use Rattle.ob_io.proofs.ToldLemmas.{gives_none, gives_then, takes_none, takes_then, takes_from_none, takes_from_then}
-use Rattle.ob_heap_spec.specs.Contents.{Content, empty_content}
-use Rattle.ob_serve.specs.Session.{SessionItem, session, state_after, requests_in, items_from, bytes_of, replies, is_blank_line}
-use Rattle.ob_serve.specs.Served.{Streams, IsAll, Finishes, BreaksOff, StopsIn, FailsToWrite, GivesUp, EndsAs}
-use Rattle.ob_serve.specs.Stops.{LineReader, ReadsLine, ReadsPart, ReadsEnd, IsStop, Replied}
+use Rattle.ob_disk_spec.specs.Disk.{DiskView, LeavesOnly}
+use Rattle.ob_disk_spec.specs.Durable.{May, Throughout, During}
+use Rattle.ob_disk_spec.proofs.Moments.{weaker, then, throughout_to, throughout_may}
+use Rattle.ob_serve.specs.Session.{SessionItem, session, bytes_of, state_after, requests_in, replies, is_blank_line}
+use Rattle.ob_serve.specs.Crash.{AfterAll, AfterFirst, AfterSome}
+use Rattle.ob_serve.specs.Served.{Devices, IsAll, ReadsSome, SpeaksOf, IsAnswered, IsGiven, IsStored, IsCause, Ends}
+use Rattle.ob_serve.specs.Stops.{LineReader, ReadsLine, ReadsPart, IsStop}
 use Rattle.ob_serve.specs.declared.serving.Served.{Served}
-use Rattle.ob_serve.specs.declared.serving.Served.TheVariants.{Done, ReadFault, WriteFault, Memory, Long}
+use Rattle.ob_serve.specs.declared.serving.Served.TheVariants.{Done, ReadFault, WriteFault, DiskFault, Memory, Long}
+use Rattle.ob_serve.proofs.Sessions.{replies-append, requests_in-append, one_request, no_request, front_replies, one_reply, next_replies, state_after-append, after_front, after_one, some_more, before_or_after}
 
-module _ {S : Type 0} (item : S → List ℕ → SessionItem S) where
-  pub session-append : (s : S) (xs ys : List (List ℕ)) → session item s (xs ++ ys) ≡ session item s xs ++ session item (state_after item s xs) ys
-  session-append s [] ys = refl
-  session-append s (x ∷ xs) ys = ap (λ (is : List (SessionItem S)). item s x ∷ is) (session-append (item s x).after xs ys)
+-- ---- the input so far
 
-  pub state_after-append : (s : S) (xs ys : List (List ℕ)) → state_after item s (xs ++ ys) ≡ state_after item (state_after item s xs) ys
-  state_after-append s [] ys = refl
-  state_after-append s (x ∷ xs) ys = state_after-append (item s x).after xs ys
-
-  pub length-session : (s : S) (xs : List (List ℕ)) → length (session item s xs) ≡ length xs
-  length-session s [] = refl
-  length-session s (x ∷ xs) = omega (arith, length-session (item s x).after xs)
-
-pub replies-append : {S : Type 0} (xs ys : List (SessionItem S)) → replies (xs ++ ys) ≡ replies xs ++ replies ys
-replies-append [] ys = refl
-replies-append (x ∷ xs) ys = ap (λ (l : List ℕ). bytes_of x.reply ++ l) (replies-append xs ys) ∙ sym (append_assoc (bytes_of x.reply) (replies xs) (replies ys))
-
-cond-append : (b : Bool) (x : List ℕ) (xs ys : List (List ℕ)) → cond b (x ∷ (xs ++ ys)) (xs ++ ys) ≡ cond b (x ∷ xs) xs ++ ys
-cond-append true x xs ys = refl
-cond-append false x xs ys = refl
-
-pub requests_in-append : (xs ys : List (List ℕ)) → requests_in (xs ++ ys) ≡ requests_in xs ++ requests_in ys
-requests_in-append [] ys = refl
-requests_in-append (x ∷ xs) ys =
-    ap (λ (l : List (List ℕ)). cond (not (is_blank_line x)) (x ∷ l) l) (requests_in-append xs ys) ∙ cond-append (not (is_blank_line x)) x (requests_in xs) (requests_in ys)
-
--- a session so far: what of the input was handed on, which lines it is, what was written, and the store
-pub record Progress {S : Type 0} (item : S → List ℕ → SessionItem S) (start : S) (first pending written gave : Option (List ℕ)) (ended : Bool) (handed : ℕ) (store : S) : Type 0 where
+-- what was handed on, and which lines it is
+pub record Reading (first pending : Option (List ℕ)) (ended : Bool) (handed : ℕ) : Type 0 where
   pub taken : List ℕ
   pub lines : List (List ℕ)
   pub took : Takes first pending taken
   pub counted : handed ≡ length taken
   pub split : IsSplit ended taken lines
-  pub ends : ended ≡ true → IsEnd pending
-  pub given : Gives written gave (replies (session item start (requests_in lines)))
-  pub stands : store ≡ state_after item start (requests_in lines)
 
-module _ {S : Type 0} (item : S → List ℕ → SessionItem S) (start : S) (first written : Option (List ℕ)) where
-  -- no line has come
-  pub begun : (pending : Option (List ℕ)) (ended : Bool) (handed : ℕ) → pending ≡ first → ended ≡ false → handed ≡ 0 → Progress item start first pending written written ended handed start
-  begun pending ended handed same goes_on none = record {
-    taken = [];
-    lines = [];
-    took = rw same (takes_none first);
-    counted = none;
-    split = rw goes_on split_none;
-    ends = λ is. absurd (cc (is, goes_on));
-    given = gives_none written;
-    stands = refl;
-  }
+abbrev pub reads_none : (first pending : Option (List ℕ)) (ended : Bool) (handed : ℕ) → pending ≡ first → ended ≡ false → handed ≡ 0 → Reading first pending ended handed
+reads_none first pending ended handed same goes_on none = record {
+  taken = [];
+  lines = [];
+  took = rw same (takes_none first);
+  counted = none;
+  split = rw goes_on split_none;
+}
 
-  items_more : (lines : List (List ℕ)) (line : List ℕ) → session item start (requests_in (lines ++ line ∷ [])) ≡ session item start (requests_in lines) ++ session item (state_after item start (requests_in lines)) (requests_in (line ∷ []))
-  items_more lines line = ap (session item start) (requests_in-append lines (line ∷ [])) ∙ session-append item start (requests_in lines) (requests_in (line ∷ []))
+abbrev pub reads_more : (first : Option (List ℕ)) (from now : LineReader) (is_long : Bool) (line : List ℕ) → Reading first from.pending from.ended from.handed → ReadsLine from now is_long line → Reading first now.pending now.ended now.handed
+reads_more first from now is_long line was read = record {
+  taken = was.taken ++ read.bytes;
+  lines = was.lines ++ read.full ∷ [];
+  took = takes_then first from.pending now.pending was.taken read.bytes was.took read.took;
+  counted = omega (arith, read.counted, was.counted, length-append was.taken read.bytes);
+  split = split_more now.ended was.taken read.full read.bytes was.lines (rw read.goes_on at was.split) read.one_line read.is;
+}
 
-  -- one line more
-  pub one_more : {pending pending' gave gave' : Option (List ℕ)} {ended ended' : Bool} {handed handed' : ℕ} {store store' : S} (line bytes reply : List ℕ)
-      → Progress item start first pending written gave ended handed store → ended ≡ false → Takes pending pending' bytes → handed' ≡ handed + length bytes → (ended' ≡ true → IsEnd pending')
-      → has_newline line ≡ false → IsLine ended' line bytes
-      → reply ≡ replies (session item store (requests_in (line ∷ []))) → store' ≡ state_after item store (requests_in (line ∷ [])) → Gives gave gave' reply
-      → Progress item start first pending' written gave' ended' handed' store'
-  one_more {ended'} {store} line bytes reply was goes_on took counted ends none is reply_is store_is gives = record {
-    taken = was.taken ++ bytes;
-    lines = was.lines ++ line ∷ [];
-    took = takes_then _ _ _ was.taken bytes was.took took;
-    counted = omega (arith, counted, was.counted, length-append was.taken bytes);
-    split = split_more ended' was.taken line bytes was.lines (rw goes_on at was.split) none is;
-    ends = ends;
-    given = rw (items_more was.lines line, replies-append (session item start (requests_in was.lines)) (session item (state_after item start (requests_in was.lines)) (requests_in (line ∷ [])))) (gives_then _ _ _ _ _ was.given (rw (reply_is, was.stands) at gives));
-    stands = store_is ∙ ap (λ (s : S). state_after item s (requests_in (line ∷ []))) was.stands ∙ sym (state_after-append item start (requests_in was.lines) (requests_in (line ∷ []))) ∙ ap (state_after item start) (sym (requests_in-append was.lines (line ∷ [])));
-  }
-
--- the whole input, and its lines from those that were answered on
+-- the whole input, and its lines from those that were read on
 pub record Reaches (first : Option (List ℕ)) (lines : List (List ℕ)) : Type 0 where
   pub input : List ℕ
   pub is : IsAll first input
   pub rest : List (List ℕ)
   pub all : lines_of input ≡ lines ++ rest
 
-pub reached : (first pending : Option (List ℕ)) (taken : List ℕ) (ended : Bool) (lines : List (List ℕ)) → Takes first pending taken → IsSplit ended taken lines → (ended ≡ true → IsEnd pending) → Reaches first lines
-reached None None taken ended lines took split ends = record { input = taken; is = tt; rest = []; all = split_end ended taken lines split ∙ sym (append-nil lines) }
-reached None (Some ys) taken ended lines took split ends = absurd took
-reached (Some xs) None taken ended lines took split ends = absurd took
-reached (Some xs) (Some ys) taken true lines took split ends = record {
+reached_by : (first pending : Option (List ℕ)) (taken : List ℕ) (ended : Bool) (lines : List (List ℕ)) → Takes first pending taken → IsSplit ended taken lines → (ended ≡ true → IsEnd pending) → Reaches first lines
+reached_by None None taken ended lines took split ends = record { input = taken; is = tt; rest = []; all = split_end ended taken lines split ∙ sym (append-nil lines) }
+reached_by None (Some ys) taken ended lines took split ends = absurd took
+reached_by (Some xs) None taken ended lines took split ends = absurd took
+reached_by (Some xs) (Some ys) taken true lines took split ends = record {
   input = xs;
   is = refl;
   rest = [];
   all = ap lines_of (took ∙ ap (λ (l : List ℕ). taken ++ l) (ends refl) ∙ append-nil taken) ∙ split ∙ sym (append-nil lines);
 }
-reached (Some xs) (Some ys) taken false lines took split ends = record { input = xs; is = refl; rest = lines_of ys; all = ap lines_of took ∙ (split ys).0 }
+reached_by (Some xs) (Some ys) taken false lines took split ends = record { input = xs; is = refl; rest = lines_of ys; all = ap lines_of took ∙ (split ys).0 }
 
-module _ {S : Type 0} (item : S → List ℕ → SessionItem S) (start : S) where
-  -- the items of the first lines
-  pub front_items : (lines rest : List (List ℕ)) → take (length (requests_in lines)) (session item start (requests_in (lines ++ rest))) ≡ session item start (requests_in lines)
-  front_items lines rest =
-      ap (λ (ls : List (List ℕ)). take (length (requests_in lines)) (session item start ls)) (requests_in-append lines rest)
-      ∙ ap (λ (is : List (SessionItem S)). take (length (requests_in lines)) is) (session-append item start (requests_in lines) (requests_in rest))
-      ∙ take_at (session item start (requests_in lines)) _ (length (requests_in lines)) (length-session item start (requests_in lines))
-
--- ---- the session over a store
-
--- what a line gives on what a store holds
-abbrev pub ItemOf : Type 0
-ItemOf = Content → List ℕ → SessionItem Content
-
--- what a session that has come so far keeps
-abbrev pub SoFar : ItemOf → Option (List ℕ) → Option (List ℕ) → Option (List ℕ) → Option (List ℕ) → Bool → ℕ → Content → Type 0
-SoFar item first pending written gave ended handed store = Progress item empty_content first pending written gave ended handed store
-
--- memory runs out before a reply
-pub gives_up : (item : ItemOf) (old new : Streams) (pending : Option (List ℕ)) (ended : Bool) (handed : ℕ) (store : Content)
-    → SoFar item old.input.left pending old.output.written new.output.written ended handed store → TakesAtMost old.input new.input most_taken → GivesUp (items_from item empty_content) old new
-gives_up item old new pending ended handed store was few =
-    let at = reached old.input.left pending was.taken ended was.lines was.took was.split was.ends in
-    let k = length (requests_in was.lines) in
-    let same : replies (session item empty_content (requests_in was.lines)) ≡ replies (take k (items_from item empty_content (lines_of at.input))) =
-    sym (ap (λ (ls : List (List ℕ)). replies (take k (items_from item empty_content ls))) at.all ∙ ap replies (front_items item empty_content was.lines at.rest)) in
-    record { few = few; input = at.input; is = at.is; k = k; written = subst (λ (given : List ℕ). Gives old.output.written new.output.written given) same was.given }
+pub reached : (first pending : Option (List ℕ)) (ended : Bool) (handed : ℕ) (was : Reading first pending ended handed) → (ended ≡ true → IsEnd pending) → Reaches first was.lines
+reached first pending ended handed was ends = reached_by first pending was.taken ended was.lines was.took was.split ends
 
 -- so many bytes were taken of the input
 abbrev pub HasTaken : SourceView → SourceView → ℕ → Type 0
@@ -152,123 +86,209 @@ few_taken old now count has few = (has.0, has.1, omega (arith, has.2, few))
 all_taken : (old now : SourceView) (bytes : List ℕ) (count : ℕ) → Takes old.left now.left bytes → HasTaken old now count → count ≡ length bytes → TakesFrom old now bytes
 all_taken old now bytes count told has same = record { told = told; counted = omega (arith, has.1.counted, has.2, same) }
 
--- the input ends
-finished : (item : ItemOf) (old new : Streams) (from now : LineReader) (store : Content)
-    → SoFar item old.input.left from.pending old.output.written new.output.written from.ended from.handed store → (stop : ReadsEnd from now) → now.left ≡ new.input.left → HasTaken old.input new.input now.taken
-    → Finishes (items_from item empty_content) old new
-finished item old new from now store was stop left has =
-    let told = takes_then old.input.left from.pending new.input.left was.taken [] was.took (rw left at stop.took) in
-    let count : now.handed ≡ length was.taken = omega (arith, was.counted, stop.counted) in
-    record {
-      input = was.taken;
-      took = all_taken old.input new.input was.taken now.taken (subst (Takes old.input.left new.input.left) (append-nil was.taken) told) has (omega (arith, stop.all, count));
-      end = rw left at stop.end;
-      within = omega (arith, stop.within, count);
-      written = subst (λ (lines : List (List ℕ)). Gives old.output.written new.output.written (replies (items_from item empty_content lines))) (sym (split_end from.ended was.taken was.lines was.split)) was.given;
-    }
+-- ---- the replies and the disk so far
 
--- the input stops within a line
-cut_off : (item : ItemOf) (old new : Streams) (from now : LineReader) (store : Content)
-    → SoFar item old.input.left from.pending old.output.written new.output.written from.ended from.handed store → (part : ReadsPart from now) → now.left ≡ new.input.left → HasTaken old.input new.input now.taken
-    → (so_far : BreaksOff (items_from item empty_content) old new) × (length so_far.taken ≡ now.handed)
-cut_off item old new from now store was part left has =
-    let taken = was.taken ++ part.bytes in
-    let told = takes_then old.input.left from.pending new.input.left was.taken part.bytes was.took (rw left at part.took) in
-    let count : length taken ≡ now.handed = omega (arith, was.counted, part.counted, length-append was.taken part.bytes) in (
-      record {
-        taken = taken;
-        took = all_taken old.input new.input taken now.taken told has (omega (arith, part.all, count));
-        written = subst (λ (lines : List (List ℕ)). Gives old.output.written new.output.written (replies (items_from item empty_content lines))) (sym (split_part was.taken part.bytes was.lines (rw part.goes_on at was.split) part.one_line)) was.given;
-      },
-      count,
-    )
+module _ {S : Type 0} (item : S → List ℕ → SessionItem S) (stands : S → List ℕ → Type 0) (start : S) where
+  -- these requests were answered, and a crash leaves the store after some of them
+  pub record Answered (requests : List (List ℕ)) (written gave : Option (List ℕ)) (old now : DiskView) : Type 0 where
+    pub given : Gives written gave (replies (session item start requests))
+    pub since : LeavesOnly old now (AfterSome item stands start requests)
 
-pub rose_later : (a b c : ℕ) → a ≤ b → Rose b c → Rose a c
-rose_later a b c le rose = omega arith
+  pub answered_none : (written : Option (List ℕ)) (old : DiskView) → Answered [] written written old old
+  answered_none written old = record { given = gives_none written; since = record { later = omega arith; each = λ t c le left. inl left } }
 
--- what a session that ends before a reply says
-pub stopped : (item : ItemOf) (served : Served) (old new : Streams) (from now : LineReader) (store : Content)
-    → SoFar item old.input.left from.pending old.output.written new.output.written from.ended from.handed store → IsStop from now served → old.input.faults ≤ from.faults → now.left ≡ new.input.left → now.faults ≡ new.input.faults
-    → HasTaken old.input new.input now.taken → now.taken ≤ most_taken → EndsAs (items_from item empty_content) old new served
-stopped item Done old new from now store was stop later left faults has bound = finished item old new from now store was stop left has
-stopped item ReadFault old new from now store was stop later left faults has bound =
-    let cut = cut_off item old new from now store was stop.1 left has in
-    record {
-      cause = rose_later old.input.faults from.faults new.input.faults later (rw faults at stop.0);
-      so_far = cut.0;
-      within = omega (arith, cut.1, stop.2);
-    }
-stopped item Long old new from now store was stop later left faults has bound =
-    let cut = cut_off item old new from now store was stop.0 left has in
-    record { so_far = cut.0; exactly = omega (arith, cut.1, stop.1) }
-stopped item Memory old new from now store was stop later left faults has bound =
-    gives_up item old new from.pending from.ended from.handed store was (few_taken old.input new.input now.taken has bound)
-stopped item WriteFault old new from now store was stop later left faults has bound = absurd stop
+  -- the store at this moment, or after this line
+  abbrev pub Between : List (List ℕ) → List ℕ → List ℕ → Type 0
+  Between requests line c = stands (state_after item start requests) c ⊎ stands (item (state_after item start requests) line).after c
 
-one_reply : (item : ItemOf) (store : Content) (line : List ℕ) → is_blank_line line ≡ false → replies (session item store (requests_in (line ∷ []))) ≡ bytes_of (item store line).reply
-one_reply item store line shows = rw shows (append-nil (bytes_of (item store line).reply))
+  pub since_more : (requests : List (List ℕ)) (line : List ℕ) (old mid now : DiskView) → LeavesOnly old mid (AfterSome item stands start requests) → During mid now (Between requests line) → LeavesOnly old now (AfterSome item stands start (requests ++ line ∷ []))
+  since_more requests line old mid now was change =
+      then old mid now _ (weaker old mid _ _ was (some_more item stands start requests (line ∷ []))) (weaker mid now _ _ change.since (before_or_after item stands start requests line))
 
-one_after : (item : ItemOf) (store : Content) (line : List ℕ) → is_blank_line line ≡ false → state_after item store (requests_in (line ∷ [])) ≡ (item store line).after
-one_after item store line shows = rw shows refl
+  -- a blank line goes by
+  pub answered_blank : {written gave : Option (List ℕ)} {old now : DiskView} (lines : List (List ℕ)) (line : List ℕ) → is_blank_line line ≡ true → Answered (requests_in lines) written gave old now → Answered (requests_in (lines ++ line ∷ [])) written gave old now
+  answered_blank {written} {gave} {old} {now} lines line is was = subst (λ (requests : List (List ℕ)). Answered requests written gave old now) (sym (no_request lines line is)) was
 
-no_reply : (item : ItemOf) (store : Content) (line : List ℕ) → is_blank_line line ≡ true → replies (session item store (requests_in (line ∷ []))) ≡ []
-no_reply item store line is = rw is refl
+  pub kept_blank : (P : S → Type 0) (lines : List (List ℕ)) (line : List ℕ) → is_blank_line line ≡ true → P (state_after item start (requests_in lines)) → P (state_after item start (requests_in (lines ++ line ∷ [])))
+  kept_blank P lines line is was = subst (λ (requests : List (List ℕ)). P (state_after item start requests)) (sym (no_request lines line is)) was
 
-same_after : (item : ItemOf) (store : Content) (line : List ℕ) → is_blank_line line ≡ true → state_after item store (requests_in (line ∷ [])) ≡ store
-same_after item store line is = rw is refl
+  -- a line is stored and answered
+  pub answered_line : {written gave gave' : Option (List ℕ)} {old mid now : DiskView} (lines : List (List ℕ)) (line reply : List ℕ) → is_blank_line line ≡ false → Answered (requests_in lines) written gave old mid
+      → During mid now (Between (requests_in lines) line) → reply ≡ bytes_of (item (state_after item start (requests_in lines)) line).reply → Gives gave gave' reply → Answered (requests_in (lines ++ line ∷ [])) written gave' old now
+  answered_line {written} {gave} {gave'} {old} {mid} {now} lines line reply shows was change is gives =
+      let requests = requests_in lines in
+      let whole = subst (Gives gave gave') is gives in
+      let more : Answered (requests ++ line ∷ []) written gave' old now = record {
+        given = subst (Gives written gave') (sym (one_reply item start requests line)) (gives_then written gave gave' _ _ was.given whole);
+        since = since_more requests line old mid now was.since change;
+      } in
+      subst (λ (rs : List (List ℕ)). Answered rs written gave' old now) (sym (one_request lines line shows)) more
 
--- a blank line goes by
-pub passes : (item : ItemOf) (from now : LineReader) (first written gave : Option (List ℕ)) (store store' : Content) (is_long : Bool) (line : List ℕ)
-    → SoFar item first from.pending written gave from.ended from.handed store → (read : ReadsLine from now is_long line) → Replied item store store' read.full None → SoFar item first now.pending written gave now.ended now.handed store'
-passes item from now first written gave store store' is_long line was read replied =
-    one_more item empty_content first written read.full read.bytes [] was read.goes_on read.took read.counted read.ends read.one_line read.is
-    (sym (no_reply item store read.full replied.0)) (replied.1 ∙ sym (same_after item store read.full replied.0)) (gives_none gave)
+  pub kept_line : (P : S → Type 0) (lines : List (List ℕ)) (line : List ℕ) → is_blank_line line ≡ false → P (item (state_after item start (requests_in lines)) line).after → P (state_after item start (requests_in (lines ++ line ∷ [])))
+  kept_line P lines line shows was =
+      subst (λ (rs : List (List ℕ)). P (state_after item start rs)) (sym (one_request lines line shows)) (subst P (sym (state_after-append item start (requests_in lines) (line ∷ []))) was)
 
--- a line is answered
-pub goes_on : (item : ItemOf) (from now : LineReader) (first written gave gave' : Option (List ℕ)) (store store' : Content) (is_long : Bool) (line : List ℕ) (reply : Vec ℕ Global)
-    → SoFar item first from.pending written gave from.ended from.handed store → (read : ReadsLine from now is_long line) → Replied item store store' read.full (Some reply) → Gives gave gave' reply.items
-    → SoFar item first now.pending written gave' now.ended now.handed store'
-goes_on item from now first written gave gave' store store' is_long line reply was read replied gives =
-    one_more item empty_content first written read.full read.bytes reply.items was read.goes_on read.took read.counted read.ends read.one_line read.is
-    (replied.1.0 ∙ sym (one_reply item store read.full replied.0)) (replied.1.1 ∙ sym (one_after item store read.full replied.0)) gives
+  -- no byte of the disk changed
+  pub answered_quiet : {written gave : Option (List ℕ)} {old mid now : DiskView} (requests : List (List ℕ)) → Answered requests written gave old mid → During mid now (May mid)
+      → Throughout mid (stands (state_after item start requests)) → Answered requests written gave old now
+  answered_quiet {written} {gave} {old} {mid} {now} requests was quiet here = record {
+    given = was.given;
+    since = then old mid now _ was.since (weaker mid now _ _ quiet.since (λ c may. (length requests, subst (λ (rs : List (List ℕ)). AfterAll item stands start rs c) (sym (take_all (length requests) requests (omega arith))) (throughout_may mid _ here c may))));
+  }
 
--- the reply to the line after these is written in part
-stops_in : (item : ItemOf) (lines rest all : List (List ℕ)) (full reply front back : List ℕ) → all ≡ (lines ++ full ∷ []) ++ rest → is_blank_line full ≡ false
-    → reply ≡ replies (session item (state_after item empty_content (requests_in lines)) (requests_in (full ∷ []))) → reply ≡ front ++ back
-    → StopsIn (items_from item empty_content all) (replies (session item empty_content (requests_in lines)) ++ front)
-stops_in item lines rest all full reply front back is shows replied split =
-    let k = length (requests_in lines) in
-    let so_far = session item empty_content (requests_in lines) in
-    let more = session item (state_after item empty_content (requests_in lines)) (requests_in (full ∷ [])) in
-    let one : requests_in (full ∷ []) ≡ full ∷ [] = rw shows refl in
-    let many : length (requests_in (lines ++ full ∷ [])) ≡ k + 1 = omega (arith, ap length (requests_in-append lines (full ∷ []) ∙ ap (λ (ls : List (List ℕ)). requests_in lines ++ ls) one), length-append (requests_in lines) (full ∷ [])) in
-    let before : take k (items_from item empty_content all) ≡ so_far = ap (λ (ls : List (List ℕ)). take k (items_from item empty_content ls)) (is ∙ append_assoc lines (full ∷ []) rest) ∙ front_items item empty_content lines ((full ∷ []) ++ rest) in
-    let after : take (k + 1) (items_from item empty_content all) ≡ so_far ++ more = ap (λ (n : ℕ). take n (items_from item empty_content all)) (sym many) ∙ ap (λ (ls : List (List ℕ)). take (length (requests_in (lines ++ full ∷ []))) (items_from item empty_content ls)) is ∙ front_items item empty_content (lines ++ full ∷ []) rest ∙ items_more item empty_content None None lines full in
-    record {
+  module _ (old new : Devices) where
+    -- an end, by the requests that it knows and those that follow
+    built : (served : Served) (lines requests more : List (List ℕ)) (k : ℕ) (given : List ℕ) → requests_in lines ≡ requests ++ more → SpeaksOf served old.input new.input lines → IsAnswered served (length (requests ++ more)) k
+        → Gives old.output.written new.output.written given → IsGiven served (session item start (requests ++ more)) k given
+        → Throughout new.disk (AfterFirst item stands start (requests ++ more) (IsStored served k))
+        → LeavesOnly old.disk new.disk (AfterSome item stands start requests) → IsCause served old new → Ends item stands start old new served
+    built served lines requests more k given all of_input answered written is stored since cause = record {
+      lines = lines;
+      of_input = of_input;
       k = k;
-      front = front;
-      rest = back;
-      some = omega (arith, many, length-session item empty_content (requests_in all), ap (λ (ls : List (List ℕ)). length (requests_in ls)) is, ap length (requests_in-append (lines ++ full ∷ []) rest), length-append (requests_in (lines ++ full ∷ [])) (requests_in rest));
-      given_is = ap (λ (is : List (SessionItem Content)). replies is ++ front) (sym before);
-      next = ap replies after ∙ replies-append so_far more ∙ ap (λ (l : List ℕ). replies so_far ++ l) (sym replied ∙ split) ∙ ap (λ (is : List (SessionItem Content)). replies is ++ (front ++ back)) (sym before);
+      answered = rw all answered;
+      given = given;
+      written = written;
+      given_is = rw all is;
+      stored = rw all stored;
+      since = rw all (weaker old.disk new.disk _ _ since (λ c some. inr (some_more item stands start requests more c some)));
+      cause = cause;
     }
 
--- a reply was written in part
-pub write_stops : (item : ItemOf) (old new : Streams) (from now : LineReader) (gave : SinkView) (store store' : Content) (is_long : Bool) (line : List ℕ) (reply : Vec ℕ Global)
-    → SoFar item old.input.left from.pending old.output.written gave.written from.ended from.handed store → (read : ReadsLine from now is_long line) → Replied item store store' read.full (Some reply) → GivesFront gave.written new.output.written reply.items
-    → old.output.faults ≤ gave.faults → Rose gave.faults new.output.faults → TakesAtMost old.input new.input most_taken
-    → FailsToWrite (items_from item empty_content) old new
-write_stops item old new from now gave store store' is_long line reply was read replied front later rose few =
-    let lines = was.lines ++ read.full ∷ [] in
-    let at = reached old.input.left now.pending (was.taken ++ read.bytes) now.ended lines (takes_then old.input.left from.pending now.pending was.taken read.bytes was.took read.took) (split_more now.ended was.taken read.full read.bytes was.lines (rw read.goes_on at was.split) read.one_line read.is) read.ends in
-    let so_far = replies (session item empty_content (requests_in was.lines)) in
-    let whole : reply.items ≡ replies (session item store (requests_in (read.full ∷ []))) = replied.1.0 ∙ sym (one_reply item store read.full replied.0) in
-    record {
-      cause = rose_later old.output.faults gave.faults new.output.faults later rose;
-      few = few;
-      input = at.input;
-      is = at.is;
-      given = so_far ++ front.0;
-      written = gives_then old.output.written gave.written new.output.written so_far front.0 was.given front.3;
-      stops = stops_in item was.lines at.rest (lines_of at.input) read.full reply.items front.0 front.1 at.all replied.0 (rw was.stands at whole) front.2;
-    }
+    -- Before a line: the store is that after the lines so far.
+    before : (served : Served) (lines so_far rest : List (List ℕ)) → lines ≡ so_far ++ rest → SpeaksOf served old.input new.input lines → IsAnswered served (length (requests_in so_far ++ requests_in rest)) (length (requests_in so_far))
+        → IsGiven served (session item start (requests_in so_far ++ requests_in rest)) (length (requests_in so_far)) (replies (session item start (requests_in so_far)))
+        → IsStored served (length (requests_in so_far)) (length (requests_in so_far))
+        → Throughout new.disk (stands (state_after item start (requests_in so_far)))
+        → Answered (requests_in so_far) old.output.written new.output.written old.disk new.disk → IsCause served old new → Ends item stands start old new served
+    before served lines so_far rest all of_input answered is stored images was cause =
+        built served lines (requests_in so_far) (requests_in rest) (length (requests_in so_far)) (replies (session item start (requests_in so_far))) (ap requests_in all ∙ requests_in-append so_far rest) of_input answered was.given is
+        (throughout_to new.disk _ _ images (λ c is. (length (requests_in so_far), stored, after_front item stands start (requests_in so_far) (requests_in rest) c is))) was.since cause
+
+    -- memory runs out before a reply
+    pub gives_up : (pending : Option (List ℕ)) (ended : Bool) (handed : ℕ) (read : Reading old.input.left pending ended handed) → (ended ≡ true → IsEnd pending)
+        → Answered (requests_in read.lines) old.output.written new.output.written old.disk new.disk → Throughout new.disk (stands (state_after item start (requests_in read.lines)))
+        → Ends item stands start old new Memory
+    gives_up pending ended handed read ends was images =
+        let at = reached old.input.left pending ended handed read ends in
+        before Memory (lines_of at.input) read.lines at.rest at.all (record { input = at.input; all = at.is; is = refl })
+        (omega (arith, length-append (requests_in read.lines) (requests_in at.rest)))
+        (sym (front_replies item start (requests_in read.lines) (requests_in at.rest))) refl images was tt
+
+    -- the lines so far are all that the end speaks of
+    all_so_far : (served : Served) (lines so_far : List (List ℕ)) → lines ≡ so_far → SpeaksOf served old.input new.input lines
+        → (length (requests_in so_far ++ requests_in []) ≡ length (requests_in so_far) → IsAnswered served (length (requests_in so_far ++ requests_in [])) (length (requests_in so_far)))
+        → (replies (session item start (requests_in so_far)) ≡ replies (take (length (requests_in so_far)) (session item start (requests_in so_far ++ requests_in [])))
+        → IsGiven served (session item start (requests_in so_far ++ requests_in [])) (length (requests_in so_far)) (replies (session item start (requests_in so_far))))
+        → IsStored served (length (requests_in so_far)) (length (requests_in so_far))
+        → Throughout new.disk (stands (state_after item start (requests_in so_far)))
+        → Answered (requests_in so_far) old.output.written new.output.written old.disk new.disk → IsCause served old new → Ends item stands start old new served
+    all_so_far served lines so_far is of_input answered given stored images was cause =
+        before served lines so_far [] (is ∙ sym (append-nil so_far)) of_input (answered (ap length (append-nil (requests_in so_far)))) (given (sym (front_replies item start (requests_in so_far) []))) stored images was cause
+
+    -- the input stops within a line
+    cut_off : (from now : LineReader) (read : Reading old.input.left from.pending from.ended from.handed) (part : ReadsPart from now) → now.left ≡ new.input.left → HasTaken old.input new.input now.taken
+        → (P : ℕ → Type 0) → (length (read.taken ++ part.bytes) ≡ now.handed → P (length (read.taken ++ part.bytes))) → ReadsSome P old.input new.input (whole_lines (read.taken ++ part.bytes))
+    cut_off from now read part left has P many =
+        let taken = read.taken ++ part.bytes in
+        let told = takes_then old.input.left from.pending new.input.left read.taken part.bytes read.took (rw left at part.took) in
+        let count : length taken ≡ now.handed = omega (arith, read.counted, part.counted, length-append read.taken part.bytes) in
+        record { taken = taken; took = all_taken old.input new.input taken now.taken told has (omega (arith, part.all, count)); many = many count; is = refl }
+
+    -- what an end before a line says
+    pub stopped : (served : Served) (from now : LineReader) (read : Reading old.input.left from.pending from.ended from.handed) → (from.ended ≡ true → IsEnd from.pending) → IsStop from now served → old.input.faults ≤ from.faults
+        → now.left ≡ new.input.left → now.faults ≡ new.input.faults → HasTaken old.input new.input now.taken
+        → Answered (requests_in read.lines) old.output.written new.output.written old.disk new.disk → Throughout new.disk (stands (state_after item start (requests_in read.lines)))
+        → Ends item stands start old new served
+    stopped Done from now read ends stop later left faults has was images =
+        let told = takes_then old.input.left from.pending new.input.left read.taken [] read.took (rw left at stop.took) in
+        let count : now.handed ≡ length read.taken = omega (arith, read.counted, stop.counted) in
+        all_so_far Done (lines_of read.taken) read.lines (split_end from.ended read.taken read.lines read.split)
+        (record {
+          input = read.taken;
+          took = all_taken old.input new.input read.taken now.taken (subst (Takes old.input.left new.input.left) (append-nil read.taken) told) has (omega (arith, stop.all, count));
+          end = rw left at stop.end;
+          within = omega (arith, stop.within, count);
+          is = refl;
+        }) (λ same. sym same) (λ is. is) refl images was tt
+    stopped ReadFault from now read ends stop later left faults has was images =
+        let part = stop.1 in
+        all_so_far ReadFault _ read.lines (split_part read.taken part.bytes read.lines (rw part.goes_on at read.split) part.one_line)
+        (cut_off from now read part left has (λ n. n < most_taken) (λ count. omega (arith, count, stop.2))) (λ same. sym same) (λ is. is) refl images was
+        (let rose : Rose from.faults new.input.faults = rw faults at stop.0 in omega (arith, later, rose))
+    stopped Long from now read ends stop later left faults has was images =
+        let part = stop.0 in
+        all_so_far Long _ read.lines (split_part read.taken part.bytes read.lines (rw part.goes_on at read.split) part.one_line)
+        (cut_off from now read part left has (λ n. n ≡ most_taken) (λ count. omega (arith, count, stop.1))) (λ same. sym same) (λ is. is) refl images was tt
+    stopped Memory from now read ends stop later left faults has was images = gives_up from.pending from.ended from.handed read ends was images
+    stopped WriteFault from now read ends stop later left faults has was images = absurd stop
+    stopped DiskFault from now read ends stop later left faults has was images = absurd stop
+
+    -- what the requests of the input are, where a line more was read
+    one_more : (lines rest : List (List ℕ)) (line : List ℕ) (input : List ℕ) → is_blank_line line ≡ false → lines_of input ≡ (lines ++ line ∷ []) ++ rest → requests_in (lines_of input) ≡ (requests_in lines ++ line ∷ []) ++ requests_in rest
+    one_more lines rest line input shows all = ap requests_in all ∙ requests_in-append (lines ++ line ∷ []) rest ∙ ap (λ (ls : List (List ℕ)). ls ++ requests_in rest) (one_request lines line shows)
+
+    some_left : (requests more : List (List ℕ)) (line : List ℕ) → length requests < length ((requests ++ line ∷ []) ++ more)
+    some_left requests more line = omega (arith, length-append (requests ++ line ∷ []) more, length-append requests (line ∷ []))
+
+    -- the disk fails while a line is stored
+    pub disk_fails : (lines : List (List ℕ)) (line : List ℕ) (mid : DiskView) → is_blank_line line ≡ false → Reaches old.input.left (lines ++ line ∷ [])
+        → Answered (requests_in lines) old.output.written new.output.written old.disk mid → During mid new.disk (Between (requests_in lines) line) → Rose old.disk.faults new.disk.faults
+        → Ends item stands start old new DiskFault
+    disk_fails lines line mid shows at was change rose =
+        let requests = requests_in lines in
+        let more = requests_in at.rest in
+        let k = length requests in
+        let split : (requests ++ line ∷ []) ++ more ≡ requests ++ (line ∷ [] ++ more) = append_assoc requests (line ∷ []) more in
+        let given : replies (session item start requests) ≡ replies (take k (session item start ((requests ++ line ∷ []) ++ more))) =
+        sym (ap (λ (ls : List (List ℕ)). replies (take k (session item start ls))) split ∙ front_replies item start requests (line ∷ [] ++ more)) in
+        built DiskFault (lines_of at.input) (requests ++ line ∷ []) more k (replies (session item start requests)) (one_more lines at.rest line at.input shows at.all) (record { input = at.input; all = at.is; is = refl }) (some_left requests more line) was.given given
+        (throughout_to new.disk _ _ change.now (λ c between. ⊎_elim
+        (λ is. (k, inl refl, subst (λ (ls : List (List ℕ)). AfterAll item stands start (take k ls) c) (sym split) (after_front item stands start requests (line ∷ [] ++ more) c is)))
+        (λ is. (k + 1, inr refl, after_one item stands start requests more line c is))
+        between))
+        (since_more requests line old.disk mid new.disk was.since change) rose
+
+    -- the output fails while the reply of a stored line is written
+    pub write_fails : (lines : List (List ℕ)) (line reply : List ℕ) (gave : Option (List ℕ)) (mid : DiskView) → is_blank_line line ≡ false → Reaches old.input.left (lines ++ line ∷ [])
+        → Answered (requests_in lines) old.output.written gave old.disk mid → During mid new.disk (Between (requests_in lines) line)
+        → Throughout new.disk (stands (item (state_after item start (requests_in lines)) line).after)
+        → reply ≡ bytes_of (item (state_after item start (requests_in lines)) line).reply → GivesFront gave new.output.written reply → Rose old.output.faults new.output.faults
+        → Ends item stands start old new WriteFault
+    write_fails lines line reply gave mid shows at was change images is front rose =
+        let requests = requests_in lines in
+        let more = requests_in at.rest in
+        let k = length requests in
+        let so_far = replies (session item start requests) in
+        let split : (requests ++ line ∷ []) ++ more ≡ requests ++ (line ∷ [] ++ more) = append_assoc requests (line ∷ []) more in
+        let given : so_far ++ front.0 ≡ replies (take k (session item start ((requests ++ line ∷ []) ++ more))) ++ front.0 =
+        ap (λ (l : List ℕ). l ++ front.0) (sym (ap (λ (ls : List (List ℕ)). replies (take k (session item start ls))) split ∙ front_replies item start requests (line ∷ [] ++ more))) in
+        let next = next_replies item start requests more line ∙ ap (λ (l : List ℕ). so_far ++ l) (sym is ∙ front.2) ∙ sym (append_assoc so_far front.0 front.1) in
+        built WriteFault (lines_of at.input) (requests ++ line ∷ []) more k (so_far ++ front.0) (one_more lines at.rest line at.input shows at.all) (record { input = at.input; all = at.is; is = refl }) (some_left requests more line)
+        (gives_then old.output.written gave new.output.written so_far front.0 was.given front.3) (front.0, front.1, given, next)
+        (throughout_to new.disk _ _ images (λ c is. (k + 1, refl, after_one item stands start requests more line c is)))
+        (since_more requests line old.disk mid new.disk was.since change) rose
+
+    -- ---- whatever the status
+
+    -- the replies of the items that are stored hold what was written
+    pub stored_holds : (served : Served) (ended : Ends item stands start old new served) (c : List ℕ) → AfterFirst item stands start (requests_in ended.lines) (IsStored served ended.k) c
+        → AfterFirst item stands start (requests_in ended.lines) (λ j. (rest : List ℕ) × (replies (take j (session item start (requests_in ended.lines))) ≡ ended.given ++ rest)) c
+    stored_holds served ended c is = (is.0, within served ended.k is.0 is.1 (session item start (requests_in ended.lines)) ended.given ended.given_is, is.2)
+      where
+        -- the replies of the items that are stored hold what was written
+        whole : (k j : ℕ) (items : List (SessionItem S)) (given : List ℕ) → j ≡ k → given ≡ replies (take k items) → (rest : List ℕ) × (replies (take j items) ≡ given ++ rest)
+        whole k j items given same is = ([], ap (λ (n : ℕ). replies (take n items)) same ∙ sym is ∙ sym (append-nil given))
+
+        more : (k : ℕ) (items : List (SessionItem S)) → (rest : List ℕ) × (replies (take (k + 1) items) ≡ replies (take k items) ++ rest)
+        more k items =
+            let split : take k items ++ drop k (take (k + 1) items) ≡ take (k + 1) items = ap (λ (is : List (SessionItem S)). is ++ drop k (take (k + 1) items)) (sym (take-take k (k + 1) items (omega arith))) ∙ take-append-drop k (take (k + 1) items) in
+            (replies (drop k (take (k + 1) items)), ap replies (sym split) ∙ replies-append (take k items) (drop k (take (k + 1) items)))
+
+        within : (served : Served) (k j : ℕ) → IsStored served k j → (items : List (SessionItem S)) (given : List ℕ) → IsGiven served items k given → (rest : List ℕ) × (replies (take j items) ≡ given ++ rest)
+        within Done k j same items given is = whole k j items given same is
+        within ReadFault k j same items given is = whole k j items given same is
+        within Long k j same items given is = whole k j items given same is
+        within Memory k j same items given is = whole k j items given same is
+        within WriteFault k j same items given is = (is.1, ap (λ (n : ℕ). replies (take n items)) same ∙ is.3)
+        within DiskFault k j same items given is = ⊎_elim (λ s. whole k j items given s is) (λ s. let m = more k items in (m.0, ap (λ (n : ℕ). replies (take n items)) s ∙ m.1 ∙ ap (λ (l : List ℕ). l ++ m.0) (sym is))) same

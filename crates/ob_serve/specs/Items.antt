@@ -1,16 +1,21 @@
--- The session of a program over a store in memory, for any meaning of requests (this project's own).
-use Rattle.std.specs.Prelude.{ℕ, ℤ, List, Some, None, Result, Ok, Err}
+-- The session of a program over a store, for any meaning of requests (this project's own).
+use Rattle.std.specs.Prelude.{ℕ, ℤ, List, Option, Some, None, Result, Ok, Err}
 use Rattle.ob_table.specs.Tables.{ClassTable}
 use Rattle.ob_code.specs.declared.image.Image.{Image}
-use Rattle.ob_heap_spec.specs.Contents.{Content, empty_content}
+use Rattle.ob_heap_spec.specs.Contents.{Content}
 use Rattle.ob_invocation_spec.specs.Replies.{Invocation, invoked, goes_wrong}
 use Rattle.ob_invocation_spec.specs.Requests as asked
 use Rattle.ob_invocation_spec.specs.SourceInvocation.{source_invocation}
+use Rattle.ob_machine_steps.specs.ImageTables.{table_of_image}
 use Rattle.ob_machine_steps.specs.Meanings.{machine_invocation}
+use Rattle.ob_store_spec.specs.Settling.{settled}
+use Rattle.ob_store_spec.specs.Stores.{StoreState}
 use Rattle.ob_wire.specs.Meanings.{request_of, answer_of}
 use Rattle.ob_wire.specs.declared.refusal.Refusal.{Refusal}
 use Rattle.ob_wire.specs.declared.request.Request.{Request}
-use Rattle.ob_wire.specs.declared.reply.Answer.TheVariants.{Refused}
+use Rattle.ob_wire.specs.declared.reply.Answer.{Answer}
+use Rattle.ob_wire.specs.declared.reply.Answer.TheVariants.{Abort, Refused}
+use Rattle.ob_wire.specs.declared.reply.Cause.TheVariants.{Room}
 use Rattle.ob_serve.specs.Asked.{asked_by}
 use Rattle.ob_serve.specs.Session.{SessionItem, items_from}
 
@@ -18,32 +23,52 @@ use Rattle.ob_serve.specs.Session.{SessionItem, items_from}
 abbrev pub RequestMeaning : Type 0
 RequestMeaning = Content → asked.Request → Invocation
 
--- that by the source meaning of a class table, with so many units of fuel
-abbrev pub by_source : ClassTable → ℕ → RequestMeaning
-by_source table fuel = λ content request. source_invocation table content request fuel
+-- How lines are served: what requests mean, the class table by which payloads are said, and the size of the area in which the store is
+-- kept, if it isn't kept in memory.
+pub record Service : Type 0 where
+  pub meaning : RequestMeaning
+  pub table : ClassTable
+  pub area : Option ℕ
 
--- that by code
-abbrev pub by_machine : Image → ℕ → RequestMeaning
-by_machine image fuel = λ content request. machine_invocation image content request fuel
+-- by the source meaning of a class table, with so many units of fuel for each request
+abbrev pub by_source : ClassTable → ℕ → Option ℕ → Service
+by_source table fuel area = record {
+  meaning = λ content request. source_invocation table content request fuel;
+  table = table;
+  area = area;
+}
 
--- a line is refused, and leaves what the store holds
-abbrev pub refused_item : Content → Refusal → SessionItem Content
-refused_item content refusal = record { reply = Some (record { id = None; answer = Refused refusal }); after = content }
+-- by code
+abbrev pub by_machine : Image → ℕ → Option ℕ → Service
+by_machine image fuel area = record {
+  meaning = λ content request. machine_invocation image content request fuel;
+  table = table_of_image image;
+  area = area;
+}
 
--- what a request of this id comes to: its reply, and what the store holds after it; or it goes wrong
-abbrev pub invoked_item : Content → ℤ → Invocation → SessionItem Content
-invoked_item content id (invoked i) = record { reply = Some (record { id = Some id; answer = answer_of i.reply }); after = i.content }
-invoked_item content id goes_wrong = record { reply = None; after = content }
+-- a line is refused, and leaves the store
+abbrev pub refused_item : StoreState → Refusal → SessionItem StoreState
+refused_item s refusal = record { reply = Some (record { id = None; answer = Refused refusal }); after = s }
+
+-- A request of this id is answered so, where the store has room for what it changed. Else it is aborted.
+abbrev pub settled_item : ℤ → Answer → StoreState → Result StoreState (ℕ × ℕ) → SessionItem StoreState
+settled_item id answer s (Ok after) = record { reply = Some (record { id = Some id; answer = answer }); after = after }
+settled_item id answer s (Err lack) = record { reply = Some (record { id = Some id; answer = Abort (Room lack.0 lack.1) }); after = s }
+
+-- what a request of this id comes to: its reply, and the store after it; or it goes wrong
+abbrev pub invoked_item : Service → StoreState → ℤ → Invocation → SessionItem StoreState
+invoked_item service s id (invoked i) = settled_item id (answer_of i.reply) s (settled service.table service.area s i.content)
+invoked_item service s id goes_wrong = record { reply = None; after = s }
 
 -- the item of what a line asks
-abbrev pub item_of_asked : RequestMeaning → Content → Result Request Refusal → SessionItem Content
-item_of_asked meaning content (Err refusal) = refused_item content refusal
-item_of_asked meaning content (Ok request) = invoked_item content request.id (meaning content (request_of request))
+abbrev pub item_of_asked : Service → StoreState → Result Request Refusal → SessionItem StoreState
+item_of_asked service s (Err refusal) = refused_item s refusal
+item_of_asked service s (Ok request) = invoked_item service s request.id (service.meaning s.content (request_of request))
 
 -- the item of a line
-abbrev pub item_of : RequestMeaning → Content → List ℕ → SessionItem Content
-item_of meaning content line = item_of_asked meaning content (asked_by line)
+abbrev pub item_of : Service → StoreState → List ℕ → SessionItem StoreState
+item_of service s line = item_of_asked service s (asked_by line)
 
--- the items of the lines of an input, on a store that is empty at first
-abbrev pub items_of : RequestMeaning → List (List ℕ) → List (SessionItem Content)
-items_of meaning lines = items_from (item_of meaning) empty_content lines
+-- the items of the lines of an input, on a store that is this one at first
+abbrev pub items_of : Service → StoreState → List (List ℕ) → List (SessionItem StoreState)
+items_of service start lines = items_from (item_of service) start lines

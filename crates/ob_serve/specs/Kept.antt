@@ -1,16 +1,18 @@
 -- What each item of a session keeps (Coblenz et al., TOPLAS 42(3), 2020, for assets and their owners; the rest is this project's own).
 use Rattle.std.specs.Prelude.{◌≡◌, ℕ, Bool, true, false, ⊤, List, [], ◌∷◌, Option, Some, None, IsSome}
 use Rattle.ob_table.specs.Tables.{ClassTable}
+use Rattle.ob_table_spec.specs.Conditions.{IsClassTable}
 use Rattle.ob_code.specs.declared.image.Image.{Image}
-use Rattle.ob_heap_spec.specs.Contents.{Content, empty_content}
+use Rattle.ob_emit_spec.specs.EmittedImages.{image_of}
 use Rattle.ob_rest_spec.specs.AtRest.{IsStoreAtRest, EachAssetHasOneOwner}
 use Rattle.ob_silica_steps.specs.Configurations.{SilicaProgram}
 use Rattle.ob_sound_code.specs.SoundCode.{IsSoundCode}
+use Rattle.ob_store_spec.specs.Stores.{StoreState}
 use Rattle.ob_wire.specs.declared.reply.Answer.{Answer}
 use Rattle.ob_wire.specs.declared.reply.Answer.TheVariants.{Ok, Abort, Refused}
 use Rattle.ob_wire.specs.declared.reply.Reply.{Reply}
-use Rattle.ob_serve.specs.Session.{SessionItem}
-use Rattle.ob_serve.specs.Items.{by_source, by_machine, items_of}
+use Rattle.ob_serve.specs.Session.{SessionItem, state_after}
+use Rattle.ob_serve.specs.Items.{by_source, by_machine, item_of, items_of}
 
 -- whether an answer says that a request was done: it was neither refused nor aborted
 abbrev pub says_done : Answer → Bool
@@ -25,25 +27,35 @@ was_done (Some reply) = says_done reply.answer
 
 -- What an item keeps: it doesn't go wrong, the store after it is at rest, each stored asset that is marked neither as shared nor as
 -- disowned has exactly one owner, and a line that is refused or aborted changes nothing.
-pub record IsKept (table : ClassTable) (before : Content) (item : SessionItem Content) : Type 0 where
+pub record IsKept (table : ClassTable) (before : StoreState) (item : SessionItem StoreState) : Type 0 where
   pub answered : IsSome item.reply
-  pub at_rest : IsStoreAtRest table item.after
-  pub one_owner : EachAssetHasOneOwner table item.after
+  pub at_rest : IsStoreAtRest table item.after.content
+  pub one_owner : EachAssetHasOneOwner table item.after.content
   pub unchanged : was_done item.reply ≡ false → item.after ≡ before
 
--- each item keeps this, from what a store holds at first on
-abbrev pub AreKept : ClassTable → Content → List (SessionItem Content) → Type 0
+-- each item keeps this, from the store at first on
+abbrev pub AreKept : ClassTable → StoreState → List (SessionItem StoreState) → Type 0
 AreKept table before [] = ⊤
 AreKept table before (item ∷ items) = IsKept table before item × AreKept table item.after items
 
--- each session of a program keeps this, on whatever lines
+-- each session of a program keeps this, on whatever store at rest it begins, on whatever lines, and wherever the store is kept
 abbrev pub KeepsSessions : ClassTable → ℕ → Type 0
-KeepsSessions table fuel = (lines : List (List ℕ)) → AreKept table empty_content (items_of (by_source table fuel) lines)
+KeepsSessions table fuel =
+    (area : Option ℕ) (start : StoreState) (lines : List (List ℕ)) → IsStoreAtRest table start.content
+    → AreKept table start (items_of (by_source table fuel area) start lines)
 
--- each session goes by the code as by the source meaning: the replies are the same, and so is what the store holds after each
-abbrev pub GoesAsSource : ClassTable → Image → ℕ → Type 0
-GoesAsSource table image fuel = (lines : List (List ℕ)) → items_of (by_machine image fuel) lines ≡ items_of (by_source table fuel) lines
+-- code is sound for a program: it is that program's code
+pub record IsSoundFor (program : SilicaProgram) (image : Image) : Type 0 where
+  pub sound : IsSoundCode program image
+  pub emitted : image ≡ image_of program.table program.bodies
+  pub table : IsClassTable program.table
 
--- code is sound: it is so of some program
+-- code is sound: it is so for some program
 abbrev pub IsSound : Image → Type 0
-IsSound image = (program : SilicaProgram) × IsSoundCode program image
+IsSound image = (program : SilicaProgram) × IsSoundFor program image
+
+-- each session goes by the code as by the source meaning: the replies are the same, and so is the store after each
+abbrev pub GoesAsSource : SilicaProgram → Image → ℕ → Type 0
+GoesAsSource program image fuel =
+    (area : Option ℕ) (start : StoreState) (lines : List (List ℕ)) → IsStoreAtRest program.table start.content
+    → items_of (by_machine image fuel area) start lines ≡ items_of (by_source program.table fuel area) start lines

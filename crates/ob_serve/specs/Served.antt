@@ -1,85 +1,105 @@
--- What each end of a session says of the two streams.
-use Rattle.std.specs.Prelude.{ℕ, ◌≡◌, ◌+◌, ◌<◌, ⊤, List, ◌++◌, length, take, Option, None, Some}
+-- What each end of a session says of the input, the output and the disk: each row of the table of statuses is read downwards through
+-- the four definitions by cases (this project's own).
+use Rattle.std.specs.Prelude.{ℕ, ◌≡◌, ◌+◌, ◌<◌, ◌≤◌, ◌⊎◌, ⊤, List, ◌++◌, length, take, Option, None, Some}
 use Rattle.ob_base.specs.Limits.{most_taken}
-use Rattle.ob_heap_spec.specs.Contents.{Content}
+use Rattle.ob_disk_spec.specs.Disk.{DiskView, LeavesOnly}
+use Rattle.ob_disk_spec.specs.Durable.{May, Throughout}
 use Rattle.ob_io.specs.Causes.{Rose}
-use Rattle.ob_io.specs.Told.{TakesFrom, TakesAtMost, Gives, IsEnd}
+use Rattle.ob_io.specs.Told.{TakesFrom, Gives, IsEnd}
 use Rattle.ob_io.specs.LinesOfText.{lines_of, whole_lines}
 use Rattle.ob_io.specs.Views.{SourceView, SinkView}
-use Rattle.ob_serve.specs.Session.{SessionItem, replies}
+use Rattle.ob_serve.specs.Crash.{AfterFirst, AfterSome}
+use Rattle.ob_serve.specs.Session.{SessionItem, session, requests_in, replies}
 use Rattle.ob_serve.specs.declared.serving.Served.{Served}
-use Rattle.ob_serve.specs.declared.serving.Served.TheVariants.{Done, ReadFault, WriteFault, Memory, Long}
+use Rattle.ob_serve.specs.declared.serving.Served.TheVariants.{Done, ReadFault, WriteFault, DiskFault, Memory, Long}
 
--- the two streams at a moment
-pub record Streams : Type 0 where
+-- the two streams and the disk at a moment
+pub record Devices : Type 1 where
   pub input : SourceView
   pub output : SinkView
-
--- the items of any lines
-abbrev pub Items : Type 0
-Items = List (List ℕ) → List (SessionItem Content)
+  pub disk : DiskView
 
 -- the bytes are all that is told, where it is told
 abbrev pub IsAll : Option (List ℕ) → List ℕ → Type 0
 IsAll None bytes = ⊤
 IsAll (Some all) bytes = bytes ≡ all
 
--- The input was read to its end, of fewer than `most_taken` bytes, and the replies to its lines were written.
-pub record Finishes (items : Items) (old new : Streams) : Type 0 where
+-- The input was read to its end, of fewer than `most_taken` bytes, and these are its lines.
+pub record ReadsAll (old new : SourceView) (lines : List (List ℕ)) : Type 0 where
   pub input : List ℕ
-  pub took : TakesFrom old.input new.input input
-  pub end : IsEnd new.input.left
+  pub took : TakesFrom old new input
+  pub end : IsEnd new.left
   pub within : length input < most_taken
-  pub written : Gives old.output.written new.output.written (replies (items (lines_of input)))
+  pub is : lines ≡ lines_of input
 
--- Some bytes were taken, and the replies to the lines that they hold whole were written.
-pub record BreaksOff (items : Items) (old new : Streams) : Type 0 where
+-- Some bytes were taken, whose number has P, and these are the lines that they hold whole.
+pub record ReadsSome (P : ℕ → Type 0) (old new : SourceView) (lines : List (List ℕ)) : Type 0 where
   pub taken : List ℕ
-  pub took : TakesFrom old.input new.input taken
-  pub written : Gives old.output.written new.output.written (replies (items (whole_lines taken)))
+  pub took : TakesFrom old new taken
+  pub many : P (length taken)
+  pub is : lines ≡ whole_lines taken
 
--- A read failed, after fewer than `most_taken` bytes.
-pub record FailsToRead (items : Items) (old new : Streams) : Type 0 where
-  pub cause : Rose old.input.faults new.input.faults
-  pub so_far : BreaksOff items old new
-  pub within : length so_far.taken < most_taken
-
--- Exactly `most_taken` bytes were taken, and no line is left of them.
-pub record ReachesLimit (items : Items) (old new : Streams) : Type 0 where
-  pub so_far : BreaksOff items old new
-  pub exactly : length so_far.taken ≡ most_taken
-
--- the replies of k items, and a front of the next
-pub record StopsIn (items : List (SessionItem Content)) (given : List ℕ) : Type 0 where
-  pub k : ℕ
-  pub front : List ℕ
-  pub rest : List ℕ
-  pub some : k < length items
-  pub given_is : given ≡ replies (take k items) ++ front
-  pub next : replies (take (k + 1) items) ≡ replies (take k items) ++ (front ++ rest)
-
--- A write failed, within a reply, and at most `most_taken` bytes were taken.
-pub record FailsToWrite (items : Items) (old new : Streams) : Type 0 where
-  pub cause : Rose old.output.faults new.output.faults
-  pub few : TakesAtMost old.input new.input most_taken
+-- These are all lines of the input, whether or not they were read.
+pub record HasLines (old : SourceView) (lines : List (List ℕ)) : Type 0 where
   pub input : List ℕ
-  pub is : IsAll old.input.left input
+  pub all : IsAll old.left input
+  pub is : lines ≡ lines_of input
+
+-- which lines an end speaks of
+abbrev pub SpeaksOf : Served → SourceView → SourceView → List (List ℕ) → Type 0
+SpeaksOf Done old new lines = ReadsAll old new lines
+SpeaksOf ReadFault old new lines = ReadsSome (λ n. n < most_taken) old new lines
+SpeaksOf Long old new lines = ReadsSome (λ n. n ≡ most_taken) old new lines
+SpeaksOf WriteFault old new lines = HasLines old lines
+SpeaksOf DiskFault old new lines = HasLines old lines
+SpeaksOf Memory old new lines = HasLines old lines
+
+-- how many of the items have their whole reply written
+abbrev pub IsAnswered : Served → ℕ → ℕ → Type 0
+IsAnswered Done items k = k ≡ items
+IsAnswered ReadFault items k = k ≡ items
+IsAnswered Long items k = k ≡ items
+IsAnswered WriteFault items k = k < items
+IsAnswered DiskFault items k = k < items
+IsAnswered Memory items k = k ≤ items
+
+-- what was written, where the whole replies of k items were: at WriteFault a front of the next follows
+abbrev pub IsGiven : {S : Type 0} → Served → List (SessionItem S) → ℕ → List ℕ → Type 0
+IsGiven WriteFault items k given =
+    (front rest : List ℕ) × (given ≡ replies (take k items) ++ front) × (replies (take (k + 1) items) ≡ given ++ rest)
+IsGiven Done items k given = given ≡ replies (take k items)
+IsGiven ReadFault items k given = given ≡ replies (take k items)
+IsGiven Long items k given = given ≡ replies (take k items)
+IsGiven DiskFault items k given = given ≡ replies (take k items)
+IsGiven Memory items k given = given ≡ replies (take k items)
+
+-- how many items the store has, where the whole replies of k were written
+abbrev pub IsStored : Served → ℕ → ℕ → Type 0
+IsStored WriteFault k j = j ≡ k + 1
+IsStored DiskFault k j = (j ≡ k) ⊎ (j ≡ k + 1)
+IsStored Done k j = j ≡ k
+IsStored ReadFault k j = j ≡ k
+IsStored Long k j = j ≡ k
+IsStored Memory k j = j ≡ k
+
+-- the fault that an end tells
+abbrev pub IsCause : Served → Devices → Devices → Type 0
+IsCause ReadFault old new = Rose old.input.faults new.input.faults
+IsCause WriteFault old new = Rose old.output.faults new.output.faults
+IsCause DiskFault old new = Rose old.disk.faults new.disk.faults
+IsCause Done old new = ⊤
+IsCause Long old new = ⊤
+IsCause Memory old new = ⊤
+
+-- A session ended: the row of its status. `stands` says when bytes stand for a store.
+pub record Ends {S : Type 0} (item : S → List ℕ → SessionItem S) (stands : S → List ℕ → Type 0) (start : S) (old new : Devices) (served : Served) : Type 0 where
+  pub lines : List (List ℕ)
+  pub of_input : SpeaksOf served old.input new.input lines
+  pub k : ℕ
+  pub answered : IsAnswered served (length (requests_in lines)) k
   pub given : List ℕ
   pub written : Gives old.output.written new.output.written given
-  pub stops : StopsIn (items (lines_of input)) given
-
--- Memory ran out before a reply: those of k items were written, and at most `most_taken` bytes were taken.
-pub record GivesUp (items : Items) (old new : Streams) : Type 0 where
-  pub few : TakesAtMost old.input new.input most_taken
-  pub input : List ℕ
-  pub is : IsAll old.input.left input
-  pub k : ℕ
-  pub written : Gives old.output.written new.output.written (replies (take k (items (lines_of input))))
-
--- each end says its own
-abbrev pub EndsAs : Items → Streams → Streams → Served → Type 0
-EndsAs items old new Done = Finishes items old new
-EndsAs items old new ReadFault = FailsToRead items old new
-EndsAs items old new WriteFault = FailsToWrite items old new
-EndsAs items old new Memory = GivesUp items old new
-EndsAs items old new Long = ReachesLimit items old new
+  pub given_is : IsGiven served (session item start (requests_in lines)) k given
+  pub stored : Throughout new.disk (AfterFirst item stands start (requests_in lines) (IsStored served k))
+  pub since : LeavesOnly old.disk new.disk (λ c. May old.disk c ⊎ AfterSome item stands start (requests_in lines) c)
+  pub cause : IsCause served old new

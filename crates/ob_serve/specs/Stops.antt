@@ -1,23 +1,28 @@
 -- What a session learns of the next line; for private clauses.
-use Rattle.std.specs.Prelude.{ℕ, ◌≡◌, ◌+◌, ◌<◌, ◌≤◌, ⊤, Bool, true, false, List, [], length, Option, Some, None, Vec}
-use Rattle.std.specs.declared.alloc.Global.{Global}
+use Rattle.std.specs.Prelude.{ℕ, ℤ, ◌≡◌, ◌+◌, ◌<◌, ◌≤◌, ⊤, Bool, true, false, List, [], length, Option, Some, None, Result, Ok, Err}
 use Rattle.ob_base.specs.Limits.{longest_line, most_taken}
 use Rattle.ob_io.specs.Causes.{Rose}
 use Rattle.ob_io.specs.Told.{Takes, IsEnd}
 use Rattle.ob_io.specs.Lines.{has_newline, has_ended, IsLine, taken, handed, pending}
 use Rattle.ob_io.specs.Views.{SourceView}
 use Rattle.ob_io.specs.declared.lines.Lines.{Lines}
-use Rattle.ob_code.specs.declared.image.Image.{Image}
-use Rattle.ob_heap_spec.specs.Contents.{Content}
-use Rattle.ob_rest_spec.specs.AtRest.{IsStoreAtRest}
-use Rattle.ob_silica_steps.specs.Configurations.{SilicaProgram}
-use Rattle.ob_sound_code.specs.SoundCode.{IsSoundCode}
+use Rattle.ob_store_spec.specs.Settling.{settled}
+use Rattle.ob_store_spec.specs.Stores.{StoreProgram, StoreState}
+use Rattle.ob_store_laws.specs.Recorded.{content_with}
+use Rattle.ob_store.specs.Stores.{area_of_store, kept_of, state_of}
+use Rattle.ob_store.specs.Preparing.{delta_prepared}
+use Rattle.ob_store.specs.Committing.{IsReady}
+use Rattle.ob_store.specs.declared.store.Store.{Store}
+use Rattle.ob_store.specs.declared.store.Prepared.{Prepared}
 use Rattle.ob_wire.specs.Replies.{reply_line}
 use Rattle.ob_wire.specs.declared.refusal.Refusal.{Refusal}
-use Rattle.ob_wire.specs.declared.reply.Answer.TheVariants.{Refused}
+use Rattle.ob_wire.specs.declared.reply.Answer.TheVariants.{Abort, Refused}
+use Rattle.ob_wire.specs.declared.reply.Cause.TheVariants.{Room}
+use Rattle.ob_serve.specs.Items.{Service, item_of}
 use Rattle.ob_serve.specs.Session.{SessionItem, bytes_of, is_blank_line}
+use Rattle.ob_serve.specs.declared.answering.Ready.{Ready}
 use Rattle.ob_serve.specs.declared.serving.Served.{Served}
-use Rattle.ob_serve.specs.declared.serving.Served.TheVariants.{Done, ReadFault, WriteFault, Memory, Long}
+use Rattle.ob_serve.specs.declared.serving.Served.TheVariants.{Done, ReadFault, WriteFault, DiskFault, Memory, Long}
 
 -- a reader of lines and what its source has left, at a moment
 pub record LineReader : Type 0 where
@@ -82,20 +87,32 @@ IsStop old new ReadFault = Rose old.faults new.faults × ReadsPart old new × (n
 IsStop old new Long = ReadsPart old new × (new.handed ≡ most_taken)
 IsStop old new Memory = ⊤
 IsStop old new WriteFault = ⊥
+IsStop old new DiskFault = ⊥
 
 -- the bytes of the reply to a line that is refused
 abbrev pub refusal_line : Refusal → List ℕ
 refusal_line refusal = reply_line (record { id = None; answer = Refused refusal })
 
--- these bytes and this content are what an item gives
-abbrev pub IsGiven : SessionItem Content → List ℕ → Content → Type 0
-IsGiven item bytes after = (bytes ≡ bytes_of item.reply) × (after ≡ item.after)
+-- the bytes of the reply to a request that a store has no room for
+abbrev pub room_line : ℤ → ℕ → ℕ → List ℕ
+room_line id need size = reply_line (record { id = Some id; answer = Abort (Room need size) })
 
--- the reply to a line, if it gets one, and what the store holds after it
-abbrev pub Replied : (Content → List ℕ → SessionItem Content) → Content → Content → List ℕ → Option (Vec ℕ Global) → Type 0
-Replied item old new line None = (is_blank_line line ≡ true) × (new ≡ old)
-Replied item old new line (Some reply) = (is_blank_line line ≡ false) × IsGiven (item old line) reply.items new
+-- What was made ready for a store leads to another.
+pub record CommitsTo (program : StoreProgram) (store : Store) (prepared : Prepared) (after : StoreState) : Type 0 where
+  pub ready : IsReady program store prepared
+  pub settles : settled program.table (area_of_store store) (state_of store) (content_with (kept_of store) (delta_prepared prepared)) ≡ Ok after
 
--- a store is at rest for each program of which the code is sound
-abbrev pub IsAtRestBy : Image → Content → Type 0
-IsAtRestBy image content = (program : SilicaProgram) → IsSoundCode program image → IsStoreAtRest program.table content
+-- what was made ready leads to this store, where there is anything to commit; else the store is that already
+abbrev pub LeadsOn : StoreProgram → Store → StoreState → Option Prepared → Type 0
+LeadsOn program store after None = after ≡ state_of store
+LeadsOn program store after (Some prepared) = CommitsTo program store prepared after
+
+-- what was made ready is what an item gives: its reply, and the store after it
+pub record GivesItem (program : StoreProgram) (store : Store) (item : SessionItem StoreState) (ready : Ready) : Type 0 where
+  pub reply : ready.reply.items ≡ bytes_of item.reply
+  pub next : LeadsOn program store item.after ready.prepared
+
+-- what is made ready for a line, if it gets a reply
+abbrev pub Readies : StoreProgram → Service → Store → List ℕ → Option Ready → Type 0
+Readies program service store line None = is_blank_line line ≡ true
+Readies program service store line (Some ready) = (is_blank_line line ≡ false) × GivesItem program store (item_of service (state_of store) line) ready

@@ -1,29 +1,42 @@
-//! The reply to a line, and the store after it.
-ghost use Rattle.std.specs.Prelude.{◌≡◌, ◌≤◌, ◌<◌, None, Some, List, ℕ, length, IfOk, OnOk, OnErr};
+//! What is made ready for a line: its reply, and what it changes.
+ghost use Rattle.std.specs.Prelude.{◌≡◌, ◌≤◌, None, Some, List, ℕ, length, IfOk};
 ghost use Rattle.std.specs.List.{list_all};
 ghost use Rattle.ob_base.specs.Limits.{longest_line};
 ghost use Rattle.ob_heap.specs.Contents.{content_of};
-ghost use Rattle.ob_heap.specs.Deltas.{with_handles, IsDelta};
-ghost use Rattle.ob_heap.specs.Differences.{with_objects};
+ghost use Rattle.ob_invocation_laws.specs.Laws.{KeepsStoreAtRest};
+ghost use Rattle.ob_machine_steps.specs.ImageTables.{table_of_image};
 ghost use Rattle.ob_machine_steps.specs.Meanings.{machine_invocation};
+ghost use Rattle.ob_rest_spec.specs.AtRest.{IsStoreAtRest};
+ghost use Rattle.ob_store_laws.specs.Recorded.{IsStorable};
+ghost use Rattle.ob_store.specs.Stores.{area_of_store, kept_of, program_of, state_of};
 ghost use Rattle.ob_wire.specs.Meanings.{request_of};
 ghost use Rattle.ob_wire.specs.Reading.{value_of};
 ghost use Rattle.ob_exec_handles.specs.Coming.{ComesTo, IsInLimits};
 ghost use Rattle.ob_exec_entries.specs.Naming.{IsNamesOf};
 ghost use Rattle.ob_serve.specs.Session.{is_space, is_blank_line};
 ghost use Rattle.ob_serve.specs.Asked.{asked_by_value};
-ghost use Rattle.ob_serve.specs.Items.{by_machine, invoked_item, item_of_asked, item_of};
+ghost use Rattle.ob_serve.specs.Items.{by_machine, invoked_item, item_of_asked};
 ghost use Rattle.ob_serve.specs.Kept.{IsSound};
-ghost use Rattle.ob_serve.specs.Stops.{IsFull, IsGiven, IsAtRestBy, Replied, refusal_line};
+ghost use Rattle.ob_serve.specs.Stops.{IsFull, GivesItem, Readies, refusal_line, room_line};
 
 use ob_base::Memory;
 use ob_exec::answer;
 use ob_exec_entries::Names;
-use ob_heap::{Content, Delta, apply, reserve};
+use ob_heap::Delta;
 use ob_owners::Scan;
+use ob_store::{PrepareError, Prepared, Store};
 use ob_verify::Verified;
-use ob_wire::{Answer, Refusal, Reply, Request, WireError, read_request, reply_bytes};
+use ob_wire::{Answer, Cause, Refusal, Reply, Request, WireError, read_request, reply_bytes};
 use std::alloc::Global;
+
+/// What is made ready for a line.
+#[derive(Drop)]
+pub struct Ready {
+    /// The bytes of its reply.
+    pub reply: Vec<u8>,
+    /// What is to be committed before the reply is written.
+    pub prepared: Option<Prepared>,
+}
 
 fn is_space(byte: u8) -> bool
     ensures { result ≡ is_space byte }
@@ -45,29 +58,52 @@ fn is_blank(line: &[u8]) -> bool
 }
 
 // The reply to a line that is refused.
-fn refuse(alloc: Global, refusal: Refusal) -> Result<Vec<u8>, Memory>
-    ensures { IfOk result (λ reply. reply.items ≡ refusal_line refusal) }
+fn refuse(alloc: Global, refusal: Refusal) -> Result<Ready, Memory>
+    ensures { IfOk result (λ ready. (ready.reply.items ≡ refusal_line refusal) × (ready.prepared ≡ None)) }
 {
     let answer = Answer::Refused(refusal);
-    reply_bytes(alloc, &Reply { id: None, answer })
+    let reply = reply_bytes(alloc, &Reply { id: None, answer })?;
+    Ok(Ready {
+        reply,
+        prepared: None,
+    })
 }
 
-// What a request comes to on a store in memory, where the owner of an object is looked for among all places.
+// The reply to a request that the store has no room for.
+fn lack_room(alloc: Global, request: &Request, need: u64, size: u64) -> Result<Ready, Memory>
+    ensures { IfOk result (λ ready. (ready.reply.items ≡ room_line request.now.id need size) × (ready.prepared ≡ None)) }
+{
+    let answer = Answer::Abort(Cause::Room(need, size));
+    let reply = reply_bytes(
+        alloc,
+        &Reply {
+            id: Some(request.id),
+            answer,
+        },
+    )?;
+    Ok(Ready {
+        reply,
+        prepared: None,
+    })
+}
+
+// What a request comes to on a store, where the owner of an object is looked for among all places.
 fn find_answer(
     alloc: Global,
     code: &Verified,
     names: &Names,
     fuel: u32,
-    content: &Content,
+    store: &Store,
     request: &Request,
 ) -> Result<(Reply, Delta), Memory>
     requires names { IsNamesOf names.now code.now }
-    requires right { IsInLimits (machine_invocation code.now (content_of content.now) (request_of request.now) fuel) }
+    requires right { IsInLimits (machine_invocation code.now (content_of (kept_of store.now)) (request_of request.now) fuel) }
     ensures id { IfOk result (λ found. found.0.id ≡ Some request.now.id) }
     ensures answer { IfOk result (λ found. ComesTo
-        (machine_invocation code.now (content_of content.now) (request_of request.now) fuel)
-        content.now found.0.answer found.1) }
+        (machine_invocation code.now (content_of (kept_of store.now)) (request_of request.now) fuel)
+        (kept_of store.now) found.0.answer found.1) }
 {
+    let content = store.content();
     let owners = Scan {
         code: code.image(),
         content,
@@ -75,91 +111,86 @@ fn find_answer(
     answer(alloc, code, names, content, &owners, request, fuel)
 }
 
-// The store becomes the one with the delta. Where memory runs out, it stays as it was.
-fn change(content: &mut Content, delta: Delta) -> Result<(), Memory>
-    requires { IsDelta content.old delta }
-    ensures objects { OnOk result (content.new.objects ≡ with_objects content.old.objects delta.objects) }
-    ensures handles { OnOk result (content.new.handles ≡ with_handles content.old.handles delta.handles) }
-    ensures kept { OnErr result (content_of content.new ≡ content_of content.old) }
-{
-    reserve(content, &delta)?;
-    apply(content, delta);
-    Ok(())
-}
-
-// The reply to a request. The store becomes the one after it once the reply stands in memory.
-fn answer_request(
+// What is made ready for a request.
+fn ready_request(
     alloc: Global,
     code: &Verified,
     names: &Names,
     fuel: u32,
-    content: &mut Content,
+    store: &Store,
     request: &Request,
-) -> Result<Vec<u8>, Memory>
+) -> Result<Ready, Memory>
     requires names { IsNamesOf names.now code.now }
-    requires right { IsInLimits (machine_invocation code.now (content_of content.old) (request_of request.now) fuel) }
-    ensures given { IfOk result (λ reply. IsGiven
-        (invoked_item (content_of content.old) request.now.id
-        (machine_invocation code.now (content_of content.old) (request_of request.now) fuel))
-        reply.items (content_of content.new)) }
-    ensures kept { OnErr result (content_of content.new ≡ content_of content.old) }
+    requires storable { IsStorable (table_of_image code.now) }
+    requires at_rest { IsStoreAtRest (table_of_image code.now) (content_of (kept_of store.now)) }
+    requires rests { KeepsStoreAtRest (table_of_image code.now)
+        (machine_invocation code.now (content_of (kept_of store.now)) (request_of request.now) fuel) }
+    ensures { IfOk result (λ ready. GivesItem (program_of code.now) store.now
+        (invoked_item (by_machine code.now fuel (area_of_store store.now)) (state_of store.now) request.now.id
+        (machine_invocation code.now (content_of (kept_of store.now)) (request_of request.now) fuel)) ready) }
 {
-    let (reply, delta) = find_answer(alloc, code, names, fuel, content, request)?;
-    let bytes = reply_bytes(alloc, &reply)?;
-    change(content, delta)?;
-    Ok(bytes)
+    let (reply, delta) = find_answer(alloc, code, names, fuel, store, request)?;
+    match store.prepare(alloc, code.image(), delta) {
+        Ok(prepared) => {
+            let reply = reply_bytes(alloc, &reply)?;
+            Ok(Ready {
+                reply,
+                prepared: Some(prepared),
+            })
+        }
+        Err(PrepareError::Room(need, size)) => lack_room(alloc, request, need, size),
+        Err(PrepareError::Memory) => Err(Memory),
+    }
 }
 
-// The reply to a line that isn't too long.
-fn answer_line(
+// What is made ready for a line that isn't too long.
+fn ready_line(
     alloc: Global,
     code: &Verified,
     names: &Names,
     fuel: u32,
-    content: &mut Content,
+    store: &Store,
     line: &[u8],
-) -> Result<Vec<u8>, Memory>
+) -> Result<Ready, Memory>
     requires names { IsNamesOf names.now code.now }
     requires sound { IsSound code.now }
-    requires at_rest { IsAtRestBy code.now (content_of content.old) }
-    ensures given { IfOk result (λ reply. IsGiven
-        (item_of_asked (by_machine code.now fuel) (content_of content.old) (asked_by_value (value_of line.now)))
-        reply.items (content_of content.new)) }
-    ensures kept { OnErr result (content_of content.new ≡ content_of content.old) }
+    requires at_rest { IsStoreAtRest (table_of_image code.now) (content_of (kept_of store.now)) }
+    ensures { IfOk result (λ ready. GivesItem (program_of code.now) store.now
+        (item_of_asked (by_machine code.now fuel (area_of_store store.now)) (state_of store.now) (asked_by_value (value_of line.now)))
+        ready) }
 {
     match read_request(alloc, line) {
-        Ok(request) => answer_request(alloc, code, names, fuel, content, &request),
+        Ok(request) => ready_request(alloc, code, names, fuel, store, &request),
         Err(WireError::Json) => refuse(alloc, Refusal::Json),
         Err(WireError::Shape) => refuse(alloc, Refusal::Shape),
         Err(WireError::Memory) => Err(Memory),
     }
 }
 
-/// The reply to a line, unless it is blank. Where memory runs out, the store stays as it was.
-pub fn reply_to(
+/// What is made ready for a line, unless it is blank. Nothing has changed yet.
+pub fn make_ready(
     alloc: Global,
     code: &Verified,
     names: &Names,
     fuel: u32,
-    content: &mut Content,
+    store: &Store,
     is_long: bool,
     line: &[u8],
-) -> Result<Option<Vec<u8>>, Memory>
+) -> Result<Option<Ready>, Memory>
     requires short { length line.now ≤ longest_line }
     requires names { IsNamesOf names.now code.now }
     requires sound { IsSound code.now }
-    requires at_rest { IsAtRestBy code.now (content_of content.old) }
-    ensures replied { IfOk result (λ reply. (full : List ℕ) → IsFull is_long line.now full →
-        Replied (item_of (by_machine code.now fuel)) (content_of content.old) (content_of content.new) full reply) }
-    ensures kept { OnErr result (content_of content.new ≡ content_of content.old) }
+    requires at_rest { IsStoreAtRest (table_of_image code.now) (content_of (kept_of store.now)) }
+    ensures { IfOk result (λ ready. (full : List ℕ) → IsFull is_long line.now full →
+        Readies (program_of code.now) (by_machine code.now fuel (area_of_store store.now)) store.now full ready) }
 {
     if is_long {
-        let refusal = refuse(alloc, Refusal::LongLine)?;
-        return Ok(Some(refusal));
+        let ready = refuse(alloc, Refusal::LongLine)?;
+        return Ok(Some(ready));
     }
     if is_blank(line) {
         return Ok(None);
     }
-    let reply = answer_line(alloc, code, names, fuel, content, line)?;
-    Ok(Some(reply))
+    let ready = ready_line(alloc, code, names, fuel, store, line)?;
+    Ok(Some(ready))
 }

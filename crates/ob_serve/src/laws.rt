@@ -2,9 +2,8 @@
 ghost use Rattle.std.specs.Prelude.{ℕ, List};
 ghost use Rattle.ob_code.specs.declared.image.Image.{Image};
 ghost use Rattle.ob_silica_steps.specs.Configurations.{SilicaProgram};
-ghost use Rattle.ob_sound_code.specs.SoundCode.{IsSoundCode};
 ghost use Rattle.ob_serve.specs.Asked.{asked_by, IsAskedBy};
-ghost use Rattle.ob_serve.specs.Kept.{KeepsSessions, GoesAsSource};
+ghost use Rattle.ob_serve.specs.Kept.{IsSoundFor, KeepsSessions, GoesAsSource};
 
 /// What a line asks is worked out: its request, or why it asks nothing.
 pub fn lines_are_asked()
@@ -15,8 +14,6 @@ pub fn lines_are_asked()
 /// each is at rest, each stored asset that was never shared nor disowned has exactly one owner there, and a line that is refused or
 /// aborted changes nothing.
 pub fn sessions_are_kept()
-    ensures same { (program : SilicaProgram) (image : Image) (fuel : ℕ) → IsSoundCode program image
-        → GoesAsSource program.table image fuel }
-    ensures kept { (program : SilicaProgram) (image : Image) (fuel : ℕ) → IsSoundCode program image
-        → KeepsSessions program.table fuel }
+    ensures same { (program : SilicaProgram) (image : Image) (fuel : ℕ) → IsSoundFor program image → GoesAsSource program image fuel }
+    ensures kept { (program : SilicaProgram) (image : Image) (fuel : ℕ) → IsSoundFor program image → KeepsSessions program.table fuel }
 {}

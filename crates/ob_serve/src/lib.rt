@@ -1,7 +1,8 @@
-//! The session: lines in, replies out.
+//! The session: lines in, replies out, on a store.
 #![tactic(auto)]
 
 mod answering;
+mod committing;
 mod laws;
 mod serving;
 

@@ -1,18 +1,27 @@
 //! The session.
-ghost use Rattle.std.specs.Prelude.{◌≡◌, ◌≢◌, ◌+◌, ◌≤◌, IfOk, IfErr};
+ghost use Rattle.std.specs.Prelude.{◌≡◌, ◌≢◌, ◌+◌, ◌≤◌, None, IfOk, IfErr};
 ghost use Rattle.ob_base.specs.Limits.{most_taken};
+ghost use Rattle.ob_heap.specs.Contents.{content_of};
+ghost use Rattle.ob_disk_spec.specs.Durable.{May, During};
 ghost use Rattle.ob_io.specs.Lines.{EndIsTold, CountsTaken, taken};
 ghost use Rattle.ob_io.specs.Told.{TakesAtMost};
-ghost use Rattle.ob_serve.specs.Items.{by_machine, items_of};
-ghost use Rattle.ob_serve.specs.Kept.{IsSound};
-ghost use Rattle.ob_serve.specs.Served.{EndsAs};
+ghost use Rattle.ob_machine_steps.specs.ImageTables.{table_of_image};
+ghost use Rattle.ob_rest_spec.specs.AtRest.{IsStoreAtRest};
+ghost use Rattle.ob_silica_steps.specs.Configurations.{SilicaProgram};
+ghost use Rattle.ob_store.specs.Stores.{area_of_store, kept_of, program_of, state_of, StandsOn};
+ghost use Rattle.ob_serve.specs.Items.{by_machine, by_source, item_of};
+ghost use Rattle.ob_serve.specs.Kept.{IsSound, IsSoundFor};
+ghost use Rattle.ob_serve.specs.Served.{Ends};
+ghost use Rattle.ob_serve.specs.Standing.{StandsForStore, source_program};
 ghost use Rattle.ob_serve.specs.Stops.{reader, ReadsLine, IsStop};
 
-use crate::answering::reply_to;
+use crate::answering::{Ready, make_ready};
+use crate::committing::{KeepError, keep};
 use ob_base::{Failed, Memory};
+use ob_disk::Disk;
 use ob_exec_entries::Names;
-use ob_heap::Content;
 use ob_io::{Lines, Next, Sink, Source, write_all};
+use ob_store::Store;
 use ob_verify::Verified;
 use std::alloc::Global;
 
@@ -25,6 +34,8 @@ pub enum Served {
     ReadFault,
     /// The sink failed.
     WriteFault,
+    /// The disk failed.
+    DiskFault,
     /// Memory ran out.
     Memory,
     /// 2^40 bytes of input were taken, and no more are.
@@ -58,34 +69,35 @@ fn next_line<S: Source>(
     }
 }
 
-/// Answers the lines of the input, one after another, by the code of a program and with so many units of fuel for each, on a store in
-/// memory that is empty at first. A reply is written once the store is the one after its line.
-pub fn serve<S: Source, K: Sink>(
+// Answers the lines of the input, by the code.
+fn serve_lines<S: Source, K: Sink, D: Disk>(
     alloc: Global,
     code: &Verified,
+    store: &mut Store,
     fuel: u32,
     input: &mut S,
     output: &mut K,
+    disk: &mut D,
 ) -> Served
-    requires { IsSound code.now }
-    ensures ends { EndsAs (items_of (by_machine code.now fuel))
-        (record { input = S.view input.old; output = K.view output.old })
-        (record { input = S.view input.new; output = K.view output.new })
+    requires sound { IsSound code.now }
+    requires at_rest { IsStoreAtRest (table_of_image code.now) (content_of (kept_of store.old)) }
+    ensures ends { StandsOn (program_of code.now) store.old (D.view disk.old) →
+        Ends (item_of (by_machine code.now fuel (area_of_store store.old)))
+        (StandsForStore (program_of code.now) (area_of_store store.old)) (state_of store.old)
+        (record { input = S.view input.old; output = K.view output.old; disk = D.view disk.old })
+        (record { input = S.view input.new; output = K.view output.new; disk = D.view disk.new })
         result }
-
-    // However it ends, at most 2^40 bytes of input were taken.
+    ensures untouched { area_of_store store.old ≡ None → During (D.view disk.old) (D.view disk.new) (May (D.view disk.old)) }
     ensures few { TakesAtMost (S.view input.old) (S.view input.new) most_taken }
-
-    // No count of faults falls.
     ensures later_read { (S.view input.old).faults ≤ (S.view input.new).faults }
     ensures later_write { (K.view output.old).faults ≤ (K.view output.new).faults }
-
-    // It ends at the first fault: no call of a stream follows.
-    ensures calm { result ≢ Served.ReadFault → result ≢ Served.WriteFault →
+    ensures later_disk { (D.view disk.old).faults ≤ (D.view disk.new).faults }
+    ensures calm { result ≢ Served.ReadFault → result ≢ Served.WriteFault → result ≢ Served.DiskFault →
         ((S.view input.new).faults ≡ (S.view input.old).faults)
-        × ((K.view output.new).faults ≡ (K.view output.old).faults) }
-    ensures once { (S.view input.new).faults + (K.view output.new).faults
-        ≤ (S.view input.old).faults + (K.view output.old).faults + 1 }
+        × ((K.view output.new).faults ≡ (K.view output.old).faults)
+        × ((D.view disk.new).faults ≡ (D.view disk.old).faults) }
+    ensures once { (S.view input.new).faults + (K.view output.new).faults + (D.view disk.new).faults
+        ≤ (S.view input.old).faults + (K.view output.old).faults + (D.view disk.old).faults + 1 }
 {
     let Ok(names) = Names::of(alloc, code.image()) else {
         return Served::Memory;
@@ -94,20 +106,70 @@ pub fn serve<S: Source, K: Sink>(
         return Served::Memory;
     };
     let mut line = Vec::new(alloc);
-    let mut content = Content::new(alloc);
     'lines: loop {
         let is_long = match next_line(&mut lines, input, &mut line) {
             Ok(is_long) => is_long,
             Err(served) => return served,
         };
-        let reply = match reply_to(alloc, code, &names, fuel, &mut content, is_long, &line) {
-            Ok(Some(reply)) => reply,
+        let ready = match make_ready(alloc, code, &names, fuel, store, is_long, &line) {
+            Ok(Some(ready)) => ready,
             Ok(None) => continue 'lines,
             Err(Memory) => return Served::Memory,
         };
+        let Ready { reply, prepared } = ready;
+        match keep(store, disk, prepared) {
+            Ok(()) => {}
+            Err(KeepError::Memory) => return Served::Memory,
+            Err(KeepError::DiskFault) => return Served::DiskFault,
+        }
         match write_all(output, &reply) {
             Ok(()) => {}
             Err(Failed) => return Served::WriteFault,
         }
     }
+}
+
+/// Answers the lines of the input, one after another, by the code of a program and with so many units of fuel for each, on a store at
+/// rest. For each line the reply is built and all memory is taken, then what it changes is committed, then the reply is written.
+pub fn serve<S: Source, K: Sink, D: Disk>(
+    alloc: Global,
+    code: &Verified,
+    store: &mut Store,
+    fuel: u32,
+    input: &mut S,
+    output: &mut K,
+    disk: &mut D,
+) -> Served
+    requires sound { IsSound code.now }
+    requires at_rest { IsStoreAtRest (table_of_image code.now) (content_of (kept_of store.old)) }
+    requires stands { StandsOn (program_of code.now) store.old (D.view disk.old) }
+
+    // The row of each status, by the source meaning of each program of which this is the code.
+    ensures ends { (program : SilicaProgram) → IsSoundFor program code.now →
+        Ends (item_of (by_source program.table fuel (area_of_store store.old)))
+        (StandsForStore (source_program program.table code.now) (area_of_store store.old)) (state_of store.old)
+        (record { input = S.view input.old; output = K.view output.old; disk = D.view disk.old })
+        (record { input = S.view input.new; output = K.view output.new; disk = D.view disk.new })
+        result }
+
+    // Over a store in memory no byte of the disk changes.
+    ensures untouched { area_of_store store.old ≡ None → During (D.view disk.old) (D.view disk.new) (May (D.view disk.old)) }
+
+    // However it ends, at most 2^40 bytes of input were taken.
+    ensures few { TakesAtMost (S.view input.old) (S.view input.new) most_taken }
+
+    // No count of faults falls.
+    ensures later_read { (S.view input.old).faults ≤ (S.view input.new).faults }
+    ensures later_write { (K.view output.old).faults ≤ (K.view output.new).faults }
+    ensures later_disk { (D.view disk.old).faults ≤ (D.view disk.new).faults }
+
+    // It ends at the first fault: no call of a stream or of the disk follows.
+    ensures calm { result ≢ Served.ReadFault → result ≢ Served.WriteFault → result ≢ Served.DiskFault →
+        ((S.view input.new).faults ≡ (S.view input.old).faults)
+        × ((K.view output.new).faults ≡ (K.view output.old).faults)
+        × ((D.view disk.new).faults ≡ (D.view disk.old).faults) }
+    ensures once { (S.view input.new).faults + (K.view output.new).faults + (D.view disk.new).faults
+        ≤ (S.view input.old).faults + (K.view output.old).faults + (D.view disk.old).faults + 1 }
+{
+    serve_lines(alloc, code, store, fuel, input, output, disk)
 }

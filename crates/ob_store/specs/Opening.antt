@@ -40,7 +40,7 @@ Opens program size (Err Memory) area = ⊤
 
 -- the count of faults rose, by one, where the disk failed, and else it stayed
 abbrev pub FaultsAs : {T : Type 0} → Result T OpenError → ℕ → ℕ → Type 0
-FaultsAs (Err DiskFault) before now = Rose before now × (now ≤ before + 1)
+FaultsAs (Err DiskFault) before now = Rose before now × (before ≤ now) × (now ≤ before + 1)
 FaultsAs answer before now = now ≡ before
 
 -- why no store is opened, where no journal is found or begun

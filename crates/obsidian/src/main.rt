@@ -1,7 +1,7 @@
 //! Serves a program of the Obsidian language, request lines in and replies out; or checks its text.
 #![tactic(auto)]
 
-use ob_io_std::{StdFiles, StdSink, StdSource};
+use ob_io_std::{FileDisk, StdFiles, StdSink, StdSource};
 use ob_run::{Exit, run};
 use std::io::writer;
 use std::process::ExitCode;
@@ -24,7 +24,15 @@ fn run_host(rt: &HostRuntime) -> Exit {
     let mut files = StdFiles::new(rt.alloc(), rt);
     let mut input = StdSource::new(rt.reader());
     let mut output = StdSink::new(writer(rt));
-    run(rt.alloc(), &words, &mut files, &mut input, &mut output)
+    let mut disk = FileDisk::new(rt);
+    run(
+        rt.alloc(),
+        &words,
+        &mut files,
+        &mut input,
+        &mut output,
+        &mut disk,
+    )
 }
 
 fn main(rt: HostRuntime) -> ExitCode {

@@ -14,6 +14,7 @@ pub mod replies;
 pub mod requests;
 pub mod run;
 pub mod steps;
+pub mod store;
 pub mod table;
 pub mod terms;
 pub mod tokens;

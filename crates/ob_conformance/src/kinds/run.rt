@@ -4,13 +4,17 @@ use crate::kinds::lines::Lines;
 use crate::kinds::outside::{AMPLE, Outside};
 use crate::kinds::tokens::text_of;
 use crate::trouble::Trouble;
+use ob_disk::{MemoryDisk, SureDisk};
 use ob_io::{MemoryFiles, MemorySink, MemorySource, Source, SureFiles, SureSink, SureSource};
 use ob_run::{Exit, run};
 use std::alloc::Global;
 
+/// How many bytes a disk holds.
+const ROOM: u64 = 1 << 32;
+
 /// What a run is handed: its words, the file `p`, and the input.
 #[derive(Drop)]
-struct Handed {
+pub struct Handed {
     words: Vec<String>,
     files: Vec<(String, Vec<u8>)>,
     input: Vec<u8>,
@@ -18,10 +22,10 @@ struct Handed {
 
 /// How a run ended, and what it left.
 #[derive(Drop)]
-struct Ended {
+pub struct Ended {
     exit: Exit,
     /// What was written, where it is told.
-    output: Option<Vec<u8>>,
+    pub output: Option<Vec<u8>>,
     /// How many calls failed.
     faults: u64,
     /// How many bytes of the input weren't taken, where a read tells it, and how many it had.
@@ -41,7 +45,8 @@ fn words_of(alloc: Global, text: &str) -> Result<Vec<String>, Trouble> {
     Ok(words)
 }
 
-fn given_of(alloc: Global, words: &str, text: &[u8], input: &[u8]) -> Result<Handed, Trouble> {
+/// What a run of these words is handed, over a text and an input.
+pub fn given_of(alloc: Global, words: &str, text: &[u8], input: &[u8]) -> Result<Handed, Trouble> {
     let mut files = Vec::new(alloc);
     files.push((String::from_str(alloc, "p")?, text.to_vec(alloc)?))?;
     Ok(Handed {
@@ -65,7 +70,18 @@ fn left_in<S: Source>(
     Ok(source.read(&mut left).ok())
 }
 
-fn run_failing(alloc: Global, given: Handed, outside: Outside) -> Result<Ended, Trouble> {
+/// A disk without a byte, of whose calls these fail.
+pub fn empty_disk(alloc: Global, fails: Vec<u64>) -> MemoryDisk {
+    MemoryDisk::new(alloc, ROOM, fails)
+}
+
+/// A run over the forms that fail as they are told to, and a disk.
+pub fn run_over(
+    alloc: Global,
+    given: Handed,
+    outside: Outside,
+    disk: &mut MemoryDisk,
+) -> Result<Ended, Trouble> {
     let Handed {
         words,
         files,
@@ -75,11 +91,13 @@ fn run_failing(alloc: Global, given: Handed, outside: Outside) -> Result<Ended, 
     let mut files = MemoryFiles::new(alloc, files, outside.files);
     let mut input = MemorySource::new(input, outside.input);
     let mut output = MemorySink::new(alloc, outside.room, outside.output);
-    let exit = run(alloc, &words, &mut files, &mut input, &mut output);
+    let before = disk.faults();
+    let exit = run(alloc, &words, &mut files, &mut input, &mut output, disk);
     let faults = files
         .faults()
         .saturating_add(input.faults())
-        .saturating_add(output.faults());
+        .saturating_add(output.faults())
+        .saturating_add(disk.faults().saturating_sub(before));
     let serves = asks_to_serve(&words);
     match (
         output.bytes().to_vec(alloc),
@@ -95,6 +113,12 @@ fn run_failing(alloc: Global, given: Handed, outside: Outside) -> Result<Ended, 
         }),
         _ => Err(Trouble::Memory),
     }
+}
+
+// The same, where the disk has no byte and doesn't fail.
+fn run_failing(alloc: Global, given: Handed, outside: Outside) -> Result<Ended, Trouble> {
+    let mut disk = empty_disk(alloc, Vec::new(alloc));
+    run_over(alloc, given, outside, &mut disk)
 }
 
 // What was written, where it is told.
@@ -115,7 +139,15 @@ fn run_sure(alloc: Global, given: Handed, room: usize) -> Result<Ended, Trouble>
     let mut files = SureFiles::new(alloc, files);
     let mut input = SureSource::new(input);
     let mut output = SureSink::new(alloc, room);
-    let exit = run(alloc, &words, &mut files, &mut input, &mut output);
+    let mut disk = SureDisk::new(alloc, ROOM);
+    let exit = run(
+        alloc,
+        &words,
+        &mut files,
+        &mut input,
+        &mut output,
+        &mut disk,
+    );
     let serves = asks_to_serve(&words);
     match (
         told(alloc, output.bytes()),
@@ -137,9 +169,9 @@ fn run_sure(alloc: Global, given: Handed, room: usize) -> Result<Ended, Trouble>
 fn is_well(ended: &Ended) -> bool {
     let (faults, unread) = match ended.exit {
         Exit::Done if ended.serves => (0, Some(0)),
-        Exit::Done | Exit::Refused | Exit::Usage => (0, Some(ended.length)),
+        Exit::Done | Exit::Refused | Exit::StoreRefused | Exit::Usage => (0, Some(ended.length)),
         Exit::FileFault => (1, Some(ended.length)),
-        Exit::ReadFault | Exit::WriteFault => (1, None),
+        Exit::ReadFault | Exit::WriteFault | Exit::DiskFault => (1, None),
         Exit::Memory | Exit::Long => (0, None),
     };
     let is_left = match (unread, ended.unread) {
@@ -149,8 +181,8 @@ fn is_well(ended: &Ended) -> bool {
     ended.faults == faults && is_left
 }
 
-// The status, and the counts where they aren't well.
-fn put_end(lines: &mut Lines, ended: &Ended) {
+/// The status, and the counts where they aren't well.
+pub fn put_end(lines: &mut Lines, ended: &Ended) {
     lines.put_exit(ended.exit);
     if !is_well(ended) {
         lines.put(", calls that failed: ");
@@ -195,8 +227,8 @@ pub fn whole_run(alloc: Global, case: &Case, input: &[u8], lines: &mut Lines) {
     }
 }
 
-// How many lines there are, where they are the first ones of a text.
-fn lines_in(front: &[u8], whole: &[u8]) -> Option<usize> {
+/// How many lines there are, where they are the first ones of a text.
+pub fn lines_in(front: &[u8], whole: &[u8]) -> Option<usize> {
     let is_cut = !front.is_empty() && !front.ends_with(b"\n");
     if is_cut || !whole.starts_with(front) {
         return None;

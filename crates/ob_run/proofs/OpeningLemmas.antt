@@ -1,0 +1,185 @@
+-- From what opening a store answers to what its command says.
+use Rattle.std.proofs.Common.{◌≡◌, ◌⊎◌, inl, inr, ⊎_elim, ℕ, ◌<◌, ◌≤◌, ◌+◌, List, length, Some, refl, sym, ◌∙◌, subst, arith, Result, Ok, Err}
+use Rattle.ob_code.specs.Images.{image}
+use Rattle.ob_code.specs.declared.image.Image.{Image}
+use Rattle.ob_disk_spec.specs.Disk.{DiskView, Reads, LeavesOnly, IsQuiet}
+use Rattle.ob_disk_spec.specs.Durable.{May, Throughout, During}
+use Rattle.ob_disk_spec.proofs.Moments.{weaker, then, call, during_to, throughout_to}
+use Rattle.ob_emit_spec.specs.EmittedImages.{image_of}
+use Rattle.ob_emit_spec.specs.Weights.{most_weight}
+use Rattle.ob_front.specs.Compiled.{IsCompiledProgram}
+use Rattle.ob_front.specs.Programs.{IsProgram}
+use Rattle.ob_heap.specs.Contents.{content_of}
+use Rattle.ob_io.specs.Causes.{Rose}
+use Rattle.ob_io.specs.Views.{SinkView}
+use Rattle.ob_journal_spec.specs.Areas.{IsBlank, IsBlankOrBegun, area_of, begun}
+use Rattle.ob_machine_steps.specs.ImageTables.{table_of_image}
+use Rattle.ob_rest_spec.specs.AtRest.{IsStoreAtRest}
+use Rattle.ob_silica.specs.Terms.{SilicaBody}
+use Rattle.ob_sound_code.specs.SoundCode.{IsSoundCode}
+use Rattle.ob_table.specs.Tables.{ClassTable}
+use Rattle.ob_serve.specs.Served.{Devices}
+use Rattle.ob_serve.proofs.Tables.{refused_by_source}
+use Rattle.ob_store.specs.Opening.{IsBlankStart}
+use Rattle.ob_store.specs.Stores.{program_of, area_of_store, kept_of, state_of, StandsOn}
+use Rattle.ob_store.specs.declared.store.Store.{Store}
+use Rattle.ob_store_spec.specs.Stores.{StoreProgram, StoreRefusal, IsStoreOf, IsRefused}
+use Rattle.ob_run.specs.Commands.{Command, serve_stored}
+use Rattle.ob_run.specs.Openings.{RefusesStore, OpensNot, IsOpenedAs, StaysUnopened, OpensAs}
+use Rattle.ob_run.specs.Sessions.{area_bytes, program_with}
+use Rattle.ob_run.specs.Statuses.{Treats}
+use Rattle.ob_run.specs.TextRead.{TellsRefusal}
+use Rattle.ob_run.specs.declared.serving.Unopened.{Unopened}
+use Rattle.ob_run.specs.declared.serving.Unopened.TheVariants as unopened
+use Rattle.ob_run.specs.declared.exit.Exit.{Exit}
+use Rattle.ob_run.specs.declared.exit.Exit.TheVariants.{Done, Refused, Usage, ReadFault, WriteFault, DiskFault, StoreRefused, FileFault, Memory, Long}
+use Rattle.ob_run.proofs.SessionLemmas.{is_sound_for, same_program}
+
+-- an image is far smaller than the area of a store
+pub room_for : (code : Image) (need : ℕ) → length (image.bytes code) ≤ most_weight → need ≡ 18 + length (image.bytes code) → area_bytes < need → ⊥
+room_for code need light is lacks = omega (arith, light, is, lacks)
+
+-- a store that was opened on a disk
+pub opened_at : (old new : DiskView) (code : Image) (store : Store) → area_of_store store ≡ Some area_bytes → IsStoreAtRest (table_of_image code) (content_of (kept_of store))
+    → ((c : List ℕ) → Reads old c → IsStoreOf (program_of code) (area_of area_bytes c) (state_of store)) → StandsOn (program_of code) store new
+    → IsBlankStart (program_of code) (state_of store) ⊎ During old new (May old)
+    → During old new (λ c. May old c ⊎ IsBlankOrBegun (image.bytes code) (area_of area_bytes c)) → IsOpenedAs (program_of code) old new store
+opened_at old new code store area rest was stands still crash = record { area = area; at_rest = rest; was = was; stands = stands; since = since still }
+  where
+    Is : List ℕ → Type 0
+    Is c = IsStoreOf (program_of code) (area_of area_bytes c) (state_of store)
+
+    begun_as : IsBlankStart (program_of code) (state_of store) → (c : List ℕ) → IsBlankOrBegun (image.bytes code) (area_of area_bytes c) → Is c
+    begun_as start c (inl blank) = inl (record { blank = blank; content = start.content; gate = start.gate; serial = start.serial })
+    begun_as start c (inr stood) = inr (record {
+      says = begun (image.bytes code);
+      opened = record { stands = stood; image = refl; content_is = sym start.content };
+      at_rest = rest.at_rest;
+      gate = start.gate;
+      serial = start.serial;
+    })
+
+    since : IsBlankStart (program_of code) (state_of store) ⊎ During old new (May old) → LeavesOnly old new (λ c. May old c ⊎ Is c)
+    since (inl start) = weaker old new _ _ crash.since (λ c either. ⊎_elim (λ may. inl may) (λ stood. inr (begun_as start c stood)) either)
+    since (inr kept) = weaker old new _ _ kept.since (λ c may. inl may)
+
+-- a disk that was taken reads as before, and no byte of it changed
+module _ (old mid new : DiskView) (same : mid.content ≡ old.content) (quiet : IsQuiet old mid) where
+  -- what it may read or leave then, it might before
+  may_before : (c : List ℕ) → May mid c → May old c
+  may_before c may = ⊎_elim (λ reads. inl (quiet.content c reads)) (λ left. inr (quiet.images c left)) may
+
+  taken : LeavesOnly old mid (May old)
+  taken = call old mid (May old) quiet.time (λ c left. inr (quiet.images c left))
+
+  or_before : (P : List ℕ → Type 0) (c : List ℕ) → May mid c ⊎ P c → May old c ⊎ P c
+  or_before P c is = ⊎_elim (λ may. inl (may_before c may)) (λ p. inr p) is
+
+  leaves_since : (P : List ℕ → Type 0) → LeavesOnly mid new (λ c. May mid c ⊎ P c) → LeavesOnly old new (λ c. May old c ⊎ P c)
+  leaves_since P left =
+      then old mid new (λ c. May old c ⊎ P c) (weaker old mid (May old) (λ c. May old c ⊎ P c) taken (λ c may. inl may))
+      (weaker mid new (λ c. May mid c ⊎ P c) (λ c. May old c ⊎ P c) left (or_before P))
+
+  kept_since : During mid new (May mid) → During old new (May old)
+  kept_since kept =
+      let to = during_to mid new (May mid) (May old) kept may_before in record { since = then old mid new (May old) taken to.since; now = to.now }
+
+  stays_since : (program : StoreProgram) → StaysUnopened program mid new → StaysUnopened program old new
+  stays_since program stays = record {
+    quiet = λ c reads some. kept_since (stays.quiet c (same ∙ reads) some);
+    disk = record {
+      since = leaves_since (λ c. IsBlankOrBegun program.image (area_of area_bytes c)) stays.disk.since;
+      now = throughout_to new (λ c. May mid c ⊎ IsBlankOrBegun program.image (area_of area_bytes c)) (λ c. May old c ⊎ IsBlankOrBegun program.image (area_of area_bytes c)) stays.disk.now
+          (or_before (λ c. IsBlankOrBegun program.image (area_of area_bytes c)));
+    };
+  }
+
+  -- so what its store was opened as, it is opened as since before
+  pub opens_since : (program : StoreProgram) → mid.faults ≡ old.faults → (answer : Result Store Unopened) → OpensAs program mid new answer → OpensAs program old new answer
+  opens_since program calm (Ok store) opened = record {
+    area = opened.area;
+    at_rest = opened.at_rest;
+    was = λ c reads. opened.was c (same ∙ reads);
+    stands = opened.stands;
+    since = leaves_since (λ c. IsStoreOf program (area_of area_bytes c) (state_of store)) opened.since;
+  }
+  opens_since program calm (Err (unopened.Refused refusal)) told = (λ c reads. told.0 c (same ∙ reads), kept_since told.1)
+  opens_since program calm (Err unopened.DiskFault) failed = (stays_since program failed.0, subst (λ (n : ℕ). Rose n new.faults) calm failed.1)
+  opens_since program calm (Err unopened.Memory) stays = stays_since program stays
+
+-- a disk that couldn't be taken
+pub untaken : (code : Image) (old new : DiskView) → IsQuiet old new → StaysUnopened (program_of code) old new
+untaken code old new quiet = record {
+  quiet = λ c reads some. kept;
+  disk = during_to old new (May old) _ kept (λ c may. inl may);
+}
+  where
+    kept : During old new (May old)
+    kept = record {
+      since = call old new (May old) quiet.time (λ c left. inr (quiet.images c left));
+      now = record { content = λ c reads. inl (quiet.content c reads); images = λ c left. inr (quiet.images c left) };
+    }
+
+module _ (table : ClassTable) (bodies : List SilicaBody) (code : Image) (compiled : IsCompiledProgram table bodies) (emitted : code ≡ image_of table bodies)
+    (sound : IsSoundCode (record { table = table; bodies = bodies }) code) (text : List ℕ) (is : IsProgram text table bodies) (name file : List ℕ) (old new : Devices) where
+  image_is : image.bytes code ≡ image.bytes (image_of table bodies)
+  image_is = cc emitted
+
+  -- its store wasn't opened
+  pub opens_not : StaysUnopened (program_of code) old.disk new.disk → new.input ≡ old.input → new.output ≡ old.output → OpensNot (serve_stored name file) text old new
+  opens_not stays input output = record {
+    name = name;
+    store = file;
+    is = refl;
+    table = table;
+    bodies = bodies;
+    program = is;
+    quiet = stays.quiet;
+    disk = subst (λ (bytes : List ℕ). During old.disk new.disk (λ c. May old.disk c ⊎ IsBlankOrBegun bytes (area_of area_bytes c))) image_is stays.disk;
+    input = input;
+    output = output;
+  }
+
+  -- what is told of a store that is refused
+  pub refused_by_store : (cause : StoreRefusal) (exit : Exit) → TellsRefusal cause old.output new.output exit
+      → ((c : List ℕ) → Reads old.disk c → IsRefused (program_of code) (area_of area_bytes c) cause) → During old.disk new.disk (May old.disk) → new.input ≡ old.input
+      → Treats (serve_stored name file) text old new exit
+  refused_by_store cause exit tells told kept input = by exit tells
+    where
+      refused : (c : List ℕ) → Reads old.disk c → IsRefused (program_with table bodies) (area_of area_bytes c) cause
+      refused c reads =
+          subst (λ (p : StoreProgram). IsRefused p (area_of area_bytes c) cause) (same_program table bodies code compiled emitted sound)
+          (refused_by_source (record { table = table; bodies = bodies }) code (is_sound_for table bodies code compiled emitted sound) (image.bytes code) (area_of area_bytes c) cause (told c reads))
+
+      by : (exit : Exit) → TellsRefusal cause old.output new.output exit → Treats (serve_stored name file) text old new exit
+      by StoreRefused tells = inr (inl (record {
+        name = name;
+        store = file;
+        is = refl;
+        table = table;
+        bodies = bodies;
+        program = is;
+        line = record { bytes = tells.bytes; said = record { cause = cause; told = refused; line = tells.said }; written = tells.written };
+        input = input;
+        disk = kept;
+      }))
+      by WriteFault tells = inr (inl (record {
+        name = name;
+        store = file;
+        is = refl;
+        table = table;
+        bodies = bodies;
+        program = is;
+        line = record { bytes = tells.bytes; said = record { cause = cause; told = refused; line = tells.said }; cause = tells.cause; front = tells.front };
+        input = input;
+        disk = kept;
+      }))
+      by Memory tells =
+          inr (inl (opens_not (record { quiet = λ c reads some. kept; disk = during_to old.disk new.disk (May old.disk) _ kept (λ c may. inl may) }) input tells))
+      by Done tells = absurd tells
+      by Refused tells = absurd tells
+      by Usage tells = absurd tells
+      by ReadFault tells = absurd tells
+      by DiskFault tells = absurd tells
+      by FileFault tells = absurd tells
+      by Long tells = absurd tells

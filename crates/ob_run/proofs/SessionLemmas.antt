@@ -1,0 +1,179 @@
+-- From a session of a program to what its command says.
+use Rattle.std.specs.Prelude.{pos, option_map}
+use Rattle.std.proofs.Common.{◌≡◌, ◌⊎◌, inl, inr, ⊎_elim, ℕ, ◌≤◌, List, [], length, map, Option, None, Some, refl, sym, ◌∙◌, ap, subst, arith}
+use Rattle.ob_code.specs.Images.{image}
+use Rattle.ob_code.specs.declared.image.Image.{Image}
+use Rattle.ob_disk_spec.specs.Disk.{DiskView, Reads, LeavesOnly}
+use Rattle.ob_disk_spec.specs.Durable.{May, Throughout, During}
+use Rattle.ob_disk_spec.proofs.Moments.{weaker, then, during_none, throughout_to, throughout_may}
+use Rattle.ob_io.specs.Causes.{Rose}
+use Rattle.ob_base.specs.Limits.{most_taken}
+use Rattle.ob_io.specs.Told.{TakesAtMost, Gives}
+use Rattle.ob_io.specs.Views.{SourceView, SinkView}
+use Rattle.ob_store.proofs.Standing.{stores_stand}
+use Rattle.ob_serve.specs.Session.{SessionItem}
+use Rattle.ob_emit_spec.specs.EmittedImages.{image_of}
+use Rattle.ob_emit_spec.specs.Weights.{most_weight}
+use Rattle.ob_front.specs.Compiled.{IsCompiledProgram}
+use Rattle.ob_front.specs.Programs.{IsProgram}
+use Rattle.ob_heap.specs.Contents.{content_of}
+use Rattle.ob_heap_spec.specs.Contents.{Content, empty_content}
+use Rattle.ob_journal_spec.specs.Areas.{area_of}
+use Rattle.ob_machine_steps.specs.ImageTables.{table_of_image}
+use Rattle.ob_rest_spec.specs.AtRest.{IsStoreAtRest}
+use Rattle.ob_silica.specs.Terms.{SilicaBody}
+use Rattle.ob_silica_steps.specs.Configurations.{SilicaProgram}
+use Rattle.ob_sound_code.specs.SoundCode.{IsSoundCode}
+use Rattle.ob_table.specs.Tables.{ClassTable}
+use Rattle.ob_weight_laws.proofs.Weighing.{within_weight}
+use Rattle.ob_journal.specs.Journals.{area_size}
+use Rattle.ob_journal.specs.declared.journal.Journal.{Journal}
+use Rattle.ob_front.proofs.CompiledLaws.{terms_in_order}
+use Rattle.ob_store.specs.Stores.{program_of, area_of_store, gate_of, serial_of, kept_of, state_of, IsKeptIn, StandsOn}
+use Rattle.ob_store.specs.declared.store.Store.{Store}
+use Rattle.ob_store_spec.specs.Stores.{StoreProgram, StoreState, IsStoreOf}
+use Rattle.ob_serve.specs.Items.{by_source, item_of}
+use Rattle.ob_serve.specs.Kept.{IsSoundFor, IsSound}
+use Rattle.ob_serve.specs.Served.{Devices, SpeaksOf, Ends, IsCause}
+use Rattle.ob_serve.specs.Standing.{StandsForStore, source_program}
+use Rattle.ob_serve.specs.declared.serving.Served.{Served}
+use Rattle.ob_serve.specs.declared.serving.Served.TheVariants as ended
+use Rattle.ob_serve.proofs.Keeping.{empty_rests, keeps_sessions}
+use Rattle.ob_serve.proofs.Tables.{rests_by_source, rests_by_image, stands_by_source}
+use Rattle.ob_run.specs.Commands.{Command, serve, serve_stored}
+use Rattle.ob_run.specs.Openings.{IsOpenedAs}
+use Rattle.ob_run.specs.Sessions.{fuel_of_request, area_bytes, program_with, store_in_memory, ServesProgram}
+use Rattle.ob_run.specs.Statuses.{Tells, EndsSession, Treats}
+use Rattle.ob_run.specs.TextRead.{exit_of}
+use Rattle.ob_run.specs.declared.exit.Exit.{Exit}
+
+-- nothing is done with a disk
+pub spared : (v : DiskView) → During v v (May v)
+spared v = during_none v (May v) (record { content = λ c reads. inl reads; images = λ c left. inr left })
+
+-- a session that ended is told by the exit
+pub ends_session : (command : Command) (text : List ℕ) (old new : Devices) (served : Served) → ServesProgram command text old new served → EndsSession command text old new (exit_of served)
+ends_session command text old new ended.Done h = h
+ends_session command text old new ended.ReadFault h = h
+ends_session command text old new ended.WriteFault h = h
+ends_session command text old new ended.DiskFault h = h
+ends_session command text old new ended.Memory h = h
+ends_session command text old new ended.Long h = h
+
+-- a store in memory has no journal
+no_journal : (journal : Option Journal) → option_map area_size journal ≡ None → journal ≡ None
+no_journal None none = refl
+no_journal (Some j) none = cc
+
+pub stands_in_memory : (program : StoreProgram) (store : Store) (v : DiskView) → area_of_store store ≡ None → StandsOn program store v
+stands_in_memory program store v none =
+    subst (λ (j : Option Journal). IsKeptIn program (content_of store.content) j v) (sym (no_journal store.journal none)) tt
+
+pub begins_in_memory : (store : Store) → content_of (kept_of store) ≡ empty_content → area_of_store store ≡ None → state_of store ≡ store_in_memory
+begins_in_memory store empty none =
+    ap (λ (j : Option Journal). record { content = content_of store.content; gate = gate_of j; serial = serial_of j }) (no_journal store.journal none)
+    ∙ ap (λ (c : Content). record { content = c; gate = 0; serial = pos 0 }) empty
+
+-- it is at rest
+pub rests_in_memory : (code : Image) (store : Store) → content_of (kept_of store) ≡ empty_content → IsStoreAtRest (table_of_image code) (content_of (kept_of store))
+rests_in_memory code store empty = subst (IsStoreAtRest (table_of_image code)) (sym empty) (empty_rests (table_of_image code))
+
+-- an image takes no more bytes than its program weighs
+pub light_image : (text : List ℕ) (table : ClassTable) (bodies : List SilicaBody) (code : Image) → IsProgram text table bodies → IsCompiledProgram table bodies → code ≡ image_of table bodies
+    → length (image.bytes code) ≤ most_weight
+light_image text table bodies code is compiled emitted =
+    omega (arith, ap (λ (i : Image). length (image.bytes i)) emitted, within_weight table bodies (terms_in_order table bodies compiled), is.light)
+
+module _ (table : ClassTable) (bodies : List SilicaBody) (code : Image) (compiled : IsCompiledProgram table bodies) (emitted : code ≡ image_of table bodies)
+    (sound : IsSoundCode (record { table = table; bodies = bodies }) code) where
+  abbrev pub program : SilicaProgram
+  program = record { table = table; bodies = bodies }
+
+  -- its code is sound for it
+  pub is_sound_for : IsSoundFor program code
+  is_sound_for = record { sound = sound; emitted = emitted; table = compiled.lowered.table }
+
+  pub is_sound : IsSound code
+  is_sound = (program, is_sound_for)
+
+  -- a store knows it by its class table and its image
+  pub same_program : source_program table code ≡ program_with table bodies
+  same_program = ap (λ (i : Image). source_program table i) emitted
+
+  module _ (text : List ℕ) (is : IsProgram text table bodies) where
+    -- a session over a store in memory
+    pub serves_in_memory : (name : List ℕ) (old new : Devices) (served : Served) (store : Store) → content_of (kept_of store) ≡ empty_content → area_of_store store ≡ None → state_of store ≡ store_in_memory
+        → Ends (item_of (by_source table fuel_of_request (area_of_store store))) (StandsForStore (source_program table code) (area_of_store store)) (state_of store) old new served
+        → During old.disk new.disk (May old.disk) → TakesAtMost old.input new.input most_taken → ServesProgram (serve name) text old new served
+    serves_in_memory name old new served store empty memory begins ends quiet few = record {
+      table = table;
+      bodies = bodies;
+      program = is;
+      start = store_in_memory;
+      begins = refl;
+      ends = subst (λ (p : StoreProgram). Ends (item_of (by_source table fuel_of_request None)) (StandsForStore p None) store_in_memory old new served) same_program
+          (subst (λ (s : StoreState). Ends (item_of (by_source table fuel_of_request None)) (StandsForStore (source_program table code) None) s old new served) begins
+          (subst (λ (area : Option ℕ). Ends (item_of (by_source table fuel_of_request area)) (StandsForStore (source_program table code) area) (state_of store) old new served) memory ends));
+      kept = keeps_sessions program code fuel_of_request is_sound_for;
+      spared = quiet;
+      few = few;
+    }
+
+    -- an area that stands for a store of the code stands for one of the program
+    pub by_program : (c : List ℕ) (s : StoreState) → IsStoreOf (program_of code) (area_of area_bytes c) s → IsStoreOf (program_with table bodies) (area_of area_bytes c) s
+    by_program c s is =
+        subst (λ (p : StoreProgram). IsStoreOf p (area_of area_bytes c) s) same_program (stands_by_source program code is_sound_for (image.bytes code) (area_of area_bytes c) s is)
+
+    -- a session over the store of a disk, which was opened before
+    pub serves_stored : (name file : List ℕ) (old mid new : Devices) (served : Served) (store : Store) → mid.input ≡ old.input → mid.output ≡ old.output → old.disk.faults ≤ mid.disk.faults
+        → IsOpenedAs (program_of code) old.disk mid.disk store
+        → Ends (item_of (by_source table fuel_of_request (area_of_store store))) (StandsForStore (source_program table code) (area_of_store store)) (state_of store) mid new served
+        → TakesAtMost mid.input new.input most_taken → ServesProgram (serve_stored name file) text old new served
+    serves_stored name file old mid new served store input output later opened ends few = record {
+      table = table;
+      bodies = bodies;
+      program = is;
+      start = state_of store;
+      begins = (rests_by_source program code is_sound_for (content_of (kept_of store)) opened.at_rest, λ c reads. by_program c (state_of store) (opened.was c reads));
+      ends = from_old;
+      kept = keeps_sessions program code fuel_of_request is_sound_for;
+      spared = tt;
+      few = subst (λ (v : SourceView). TakesAtMost v new.input most_taken) input few;
+    }
+      where
+        item : StoreState → List ℕ → SessionItem StoreState
+        item = item_of (by_source table fuel_of_request (Some area_bytes))
+
+        stands : StoreState → List ℕ → Type 0
+        stands = StandsForStore (program_with table bodies) (Some area_bytes)
+
+        from_mid : Ends (item_of (by_source table fuel_of_request (Some area_bytes))) (StandsForStore (program_with table bodies) (Some area_bytes)) (state_of store) mid new served
+        from_mid = subst (λ (p : StoreProgram). Ends (item_of (by_source table fuel_of_request (Some area_bytes))) (StandsForStore p (Some area_bytes)) (state_of store) mid new served) same_program
+            (subst (λ (area : Option ℕ). Ends (item_of (by_source table fuel_of_request area)) (StandsForStore (source_program table code) area) (state_of store) mid new served) opened.area ends)
+
+        here : Throughout mid.disk (λ c. IsStoreOf (program_with table bodies) (area_of area_bytes c) (state_of store))
+        here = throughout_to mid.disk _ _ (stores_stand (program_of code) store area_bytes mid.disk opened.area opened.stands opened.at_rest) (λ c stood. by_program c (state_of store) stood)
+
+        cause_from : (s : Served) → IsCause s mid new → IsCause s old new
+        cause_from ended.Done cause = tt
+        cause_from ended.Long cause = tt
+        cause_from ended.Memory cause = tt
+        cause_from ended.ReadFault cause = subst (λ (v : SourceView). Rose v.faults new.input.faults) input cause
+        cause_from ended.WriteFault cause = subst (λ (v : SinkView). Rose v.faults new.output.faults) output cause
+        cause_from ended.DiskFault cause = omega (arith, later, cause)
+
+        from_old : Ends (item_of (by_source table fuel_of_request (Some area_bytes))) (StandsForStore (program_with table bodies) (Some area_bytes)) (state_of store) old new served
+        from_old = record {
+          lines = from_mid.lines;
+          of_input = subst (λ (v : SourceView). SpeaksOf served v new.input from_mid.lines) input from_mid.of_input;
+          k = from_mid.k;
+          answered = from_mid.answered;
+          given = from_mid.given;
+          written = subst (λ (v : SinkView). Gives v.written new.output.written from_mid.given) output from_mid.written;
+          given_is = from_mid.given_is;
+          stored = from_mid.stored;
+          since = then old.disk mid.disk new.disk _
+              (weaker old.disk mid.disk _ _ opened.since (λ c was. ⊎_elim (λ may. inl may) (λ stood. inr (0, by_program c (state_of store) stood)) was))
+              (weaker mid.disk new.disk _ _ from_mid.since (λ c next. ⊎_elim (λ may. inr (0, throughout_may mid.disk _ here c may)) (λ some. inr some) next));
+          cause = cause_from served from_mid.cause;
+        }

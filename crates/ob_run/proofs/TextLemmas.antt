@@ -1,0 +1,124 @@
+-- What is done with a text that was cut is done with all of it.
+use Rattle.std.proofs.Common.{◌≡◌, ◌⊎◌, inl, inr, ℕ, ◌<◌, ◌≤◌, List, length, take, Option, None, Some, refl, subst, arith, length-take}
+use Rattle.std.proofs.lemmas.Bool.{cases_lt}
+use Rattle.std.proofs.lemmas.List.{take_all}
+use Rattle.ob_base.specs.Limits.{longest_program}
+use Rattle.ob_base.specs.declared.fault.ProgramFault.{ProgramFault}
+use Rattle.ob_io.specs.Views.{SinkView}
+use Rattle.ob_table.specs.Tables.{ClassTable}
+use Rattle.ob_silica.specs.Terms.{SilicaBody}
+use Rattle.ob_lexer.specs.Flaws.{HasFault, too_long, no_utf8, flawed}
+use Rattle.ob_front.specs.Stages.{at_token, at_row, HasTableFault, at_tree, at_bracket, at_site}
+use Rattle.ob_front.specs.Programs.{HasTermsFault, at_table, at_slot, IsProgram, HasTextFault, at_terms, at_premise, at_weight}
+use Rattle.ob_serve.specs.Served.{Devices, IsAll}
+use Rattle.ob_run.specs.Asked.{most_read}
+use Rattle.ob_run.specs.Commands.{Command, serve, serve_stored, check}
+use Rattle.ob_run.specs.Statuses.{IsRefusal, IsFinding, IsOfText, Tells, FailsToOpen, EndsSession, Treats}
+use Rattle.ob_run.specs.TextRead.{IsReadOf}
+use Rattle.ob_run.specs.declared.exit.Exit.{Exit}
+use Rattle.ob_run.specs.declared.exit.Exit.TheVariants.{Done, Refused, Usage, ReadFault, WriteFault, DiskFault, StoreRefused, FileFault, Memory, Long}
+
+long_and_short : (text : List ℕ) → longest_program < length text → length text ≤ longest_program → ⊥
+long_and_short text long short = omega arith
+
+-- a text that is longer than a program may have has the same fault as what was read of it
+module _ (content : List ℕ) (long : longest_program < length (take most_read content)) where
+  too_long_tokens : (fault : ProgramFault) → HasFault (take most_read content) fault → HasFault content fault
+  too_long_tokens fault (too_long f) = too_long (record { long = omega (arith, length-take most_read content); is = f.is })
+  too_long_tokens fault (no_utf8 f) = absurd (long_and_short (take most_read content) long f.short)
+  too_long_tokens fault (flawed f) = absurd (long_and_short (take most_read content) long f.short)
+
+  too_long_table : (fault : ProgramFault) → HasTableFault (take most_read content) fault → HasTableFault content fault
+  too_long_table fault (at_tree (at_token has)) = at_tree (at_token (too_long_tokens fault has))
+  too_long_table fault (at_tree (at_row lexed spelled has)) = absurd (long_and_short (take most_read content) long spelled.short)
+  too_long_table fault (at_bracket has number) = absurd (long_and_short (take most_read content) long has.of.spelled.short)
+  too_long_table fault (at_site tree is has) = absurd (long_and_short (take most_read content) long is.of.spelled.short)
+
+  too_long_terms : (fault : ProgramFault) → HasTermsFault (take most_read content) fault → HasTermsFault content fault
+  too_long_terms fault (at_table has) = at_table (too_long_table fault has)
+  too_long_terms fault (at_slot table has lacks) = absurd (long_and_short (take most_read content) long has.resolved.is.of.spelled.short)
+
+  too_long_text : (fault : ProgramFault) → HasTextFault (take most_read content) fault → HasTextFault content fault
+  too_long_text fault (at_terms has) = at_terms (too_long_terms fault has)
+  too_long_text fault (at_premise table bodies terms fails) = absurd (long_and_short (take most_read content) long terms.has.resolved.is.of.spelled.short)
+  too_long_text fault (at_weight table bodies checked heavy) = absurd (long_and_short (take most_read content) long checked.terms.has.resolved.is.of.spelled.short)
+
+  too_long_refusal : (bytes : List ℕ) → IsRefusal (take most_read content) bytes → IsRefusal content bytes
+  too_long_refusal bytes h = record { fault = h.fault; told = too_long_text h.fault h.told; line = h.line }
+
+  not_found : (command : Command) (bytes : List ℕ) → IsFinding command (take most_read content) bytes → ⊥
+  not_found (serve name) bytes h = h
+  not_found (serve_stored name store) bytes h = h
+  not_found (check name) bytes h = long_and_short (take most_read content) long h.0.is.checked.terms.has.resolved.is.of.spelled.short
+
+  no_program : (table : ClassTable) (bodies : List SilicaBody) → IsProgram (take most_read content) table bodies → ⊥
+  no_program table bodies h = long_and_short (take most_read content) long h.checked.terms.has.resolved.is.of.spelled.short
+
+  too_long_of_text : (command : Command) (bytes : List ℕ) → IsOfText command (take most_read content) bytes → IsOfText command content bytes
+  too_long_of_text command bytes (inl h) = inl (too_long_refusal bytes h)
+  too_long_of_text command bytes (inr h) = absurd (not_found command bytes h)
+
+  too_long_tells : (command : Command) (old new : SinkView) (exit : Exit) → Tells command (take most_read content) old new exit → Tells command content old new exit
+  too_long_tells command old new Done h = absurd (not_found command h.bytes h.said)
+  too_long_tells command old new Refused h = record { bytes = h.bytes; said = too_long_refusal h.bytes h.said; written = h.written }
+  too_long_tells command old new WriteFault h = record { bytes = h.bytes; said = too_long_of_text command h.bytes h.said; cause = h.cause; front = h.front }
+  too_long_tells command old new Memory h = h
+  too_long_tells command old new Usage h = h
+  too_long_tells command old new ReadFault h = h
+  too_long_tells command old new DiskFault h = h
+  too_long_tells command old new StoreRefused h = h
+  too_long_tells command old new FileFault h = h
+  too_long_tells command old new Long h = h
+
+  opens_none : (command : Command) (old new : Devices) (exit : Exit) → FailsToOpen command (take most_read content) old new exit → ⊥
+  opens_none command old new StoreRefused h = no_program h.table h.bodies h.program
+  opens_none command old new WriteFault h = no_program h.table h.bodies h.program
+  opens_none command old new DiskFault h = no_program h.0.table h.0.bodies h.0.program
+  opens_none command old new Memory h = no_program h.table h.bodies h.program
+  opens_none command old new Done h = h
+  opens_none command old new Refused h = h
+  opens_none command old new Usage h = h
+  opens_none command old new ReadFault h = h
+  opens_none command old new FileFault h = h
+  opens_none command old new Long h = h
+
+  serves_none : (command : Command) (old new : Devices) (exit : Exit) → EndsSession command (take most_read content) old new exit → ⊥
+  serves_none command old new Done h = no_program h.table h.bodies h.program
+  serves_none command old new ReadFault h = no_program h.table h.bodies h.program
+  serves_none command old new WriteFault h = no_program h.table h.bodies h.program
+  serves_none command old new DiskFault h = no_program h.table h.bodies h.program
+  serves_none command old new Memory h = no_program h.table h.bodies h.program
+  serves_none command old new Long h = no_program h.table h.bodies h.program
+  serves_none command old new Refused h = h
+  serves_none command old new Usage h = h
+  serves_none command old new StoreRefused h = h
+  serves_none command old new FileFault h = h
+
+  too_long_treated : (command : Command) (old new : Devices) (exit : Exit) → Treats command (take most_read content) old new exit → Treats command content old new exit
+  too_long_treated command old new exit (inl h) = inl (record { output = too_long_tells command old.output new.output exit h.output; input = h.input; disk = h.disk })
+  too_long_treated command old new exit (inr (inl h)) = absurd (opens_none command old new exit h)
+  too_long_treated command old new exit (inr (inr h)) = absurd (serves_none command old new exit h)
+
+-- a text that isn't too long was read whole
+whole : (content : List ℕ) → length (take most_read content) ≤ longest_program → take most_read content ≡ content
+whole content short = take_all most_read content (omega (arith, length-take most_read content))
+
+treated_whole : (command : Command) (content : List ℕ) (old new : Devices) (exit : Exit) → Treats command (take most_read content) old new exit → Treats command content old new exit
+treated_whole command content old new exit h = elim (cases_lt longest_program (length (take most_read content))) [
+  | inl long ↦ too_long_treated content long command old new exit h
+  | inr short ↦ subst (λ (l : List ℕ). Treats command l old new exit) (whole content short) h
+]
+
+-- what a command does with what it read is what it does with all that is told
+pub record TreatsAll (command : Command) (content : Option (List ℕ)) (old new : Devices) (exit : Exit) : Type 0 where
+  pub text : List ℕ
+  pub told : IsAll content text
+  pub treats : Treats command text old new exit
+
+pub treated_all : (command : Command) (content : Option (List ℕ)) (text : List ℕ) (old new : Devices) (exit : Exit) → IsReadOf content text → Treats command text old new exit → TreatsAll command content old new exit
+treated_all command None text old new exit read h = record { text = text; told = tt; treats = h }
+treated_all command (Some content) text old new exit read h = record {
+  text = content;
+  told = refl;
+  treats = treated_whole command content old new exit (subst (λ (l : List ℕ). Treats command l old new exit) read h);
+}

@@ -1,0 +1,12 @@
+use Rattle.std.proofs.Common.{inl, refl}
+use Rattle.ob_run.specs.FaultLine.{fault_line}
+use Rattle.ob_run.proofs.telling.refuse.Goals as goal
+
+-- the front that was written is one of the refusal
+pub returns-clause-tells : goal.returns-clause-tells
+returns-clause-tells g c = λ command text told. record {
+  bytes = fault_line c.args.fault;
+  said = inl (record { fault = c.args.fault; told = told; line = refl });
+  cause = c.in-Err.ensures.cause.failed;
+  front = rw (c.as_bytes.ensures.value, c.in-Ok.ensures) at c.in-Err.ensures.err;
+}

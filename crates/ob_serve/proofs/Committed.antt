@@ -1,0 +1,130 @@
+-- What committing leaves of a store and of its disk.
+use Rattle.std.proofs.Common.{◌≡◌, ◌⊎◌, inl, inr, ⊎_elim, ℕ, List, Option, Some, None, refl, sym, ◌∙◌, ap, subst}
+use Rattle.std.specs.Prelude.{Result, Ok, Err, IsErrOf}
+use Rattle.ob_io.specs.Causes.{Rose}
+use Rattle.ob_serve.specs.declared.committing.KeepError.{KeepError}
+use Rattle.ob_serve.specs.declared.committing.KeepError.TheVariants.{Memory as KeepMemory, DiskFault as KeepFault}
+use Rattle.ob_disk_spec.specs.Disk.{DiskView}
+use Rattle.ob_disk_spec.specs.Durable.{May, Throughout, During}
+use Rattle.ob_disk_spec.proofs.Moments.{throughout_to, throughout_may, during_to, during_then, during_none}
+use Rattle.ob_code.specs.declared.image.Image.{Image}
+use Rattle.ob_heap.specs.Contents.{content_of}
+use Rattle.ob_rest_spec.specs.AtRest.{IsStoreAtRest}
+use Rattle.ob_store_laws.specs.Recorded.{content_with}
+use Rattle.ob_store_spec.specs.Settling.{settled}
+use Rattle.ob_store_spec.specs.Stores.{StoreProgram, StoreState}
+use Rattle.ob_store.specs.Stores.{program_of, area_of_store, kept_of, state_of, StandsOn}
+use Rattle.ob_store.specs.Preparing.{IsPrepared, delta_prepared}
+use Rattle.ob_store.specs.Committing.{IsReady, StandsBeforeOrAfter}
+use Rattle.ob_store.specs.declared.store.Store.{Store}
+use Rattle.ob_store.specs.declared.store.Prepared.{Prepared}
+use Rattle.ob_store.proofs.Standing.{stores_stand}
+use Rattle.ob_serve.specs.Items.{by_machine, item_of}
+use Rattle.ob_serve.specs.Session.{SessionItem, bytes_of}
+use Rattle.ob_serve.specs.Standing.{StandsForStore}
+use Rattle.ob_serve.specs.Stops.{CommitsTo, LeadsOn}
+
+-- nothing is done with a disk
+pub spared : (v : DiskView) → During v v (May v)
+spared v = during_none v (May v) (record { content = λ c reads. inl reads; images = λ c left. inr left })
+
+-- a store stands on its disk and on each image of it
+pub stands_through : (program : StoreProgram) (store : Store) (v : DiskView) → StandsOn program store v → IsStoreAtRest program.table (content_of (kept_of store))
+    → Throughout v (StandsForStore program (area_of_store store) (state_of store))
+stands_through program store v stands rests = by_area (area_of_store store) refl
+  where
+    by_area : (area : Option ℕ) → area_of_store store ≡ area → Throughout v (StandsForStore program area (state_of store))
+    by_area None is = record { content = λ c reads. tt; images = λ c left. tt }
+    by_area (Some size) is = stores_stand program store size v is stands rests
+
+one_store : (t s : StoreState) → ◌≡◌ {A = Result StoreState (ℕ × ℕ)} (Ok t) (Ok s) → t ≡ s
+one_store t s same = cc
+
+-- where there is nothing to commit
+pub none_leads : (program : StoreProgram) (after : StoreState) (store : Store) (prepared : Option Prepared) → prepared ≡ None → LeadsOn program store after prepared → after ≡ state_of store
+none_leads program after store prepared none leads = subst (LeadsOn program store after) none leads
+
+pub some_leads : (program : StoreProgram) (after : StoreState) (store : Store) (prepared : Option Prepared) (p : Prepared) → prepared ≡ Some p → LeadsOn program store after prepared → CommitsTo program store p after
+some_leads program after store prepared p some leads = subst (LeadsOn program store after) some leads
+
+-- a disk on which nothing was done
+pub quiet_crash : (program : StoreProgram) (after : StoreState) (store : Store) (v : DiskView) → StandsOn program store v → IsStoreAtRest program.table (content_of (kept_of store))
+    → During v v (λ c. StandsForStore program (area_of_store store) (state_of store) c ⊎ StandsForStore program (area_of_store store) after c)
+quiet_crash program after store v stands rests = during_none v _ (throughout_to v _ _ (stands_through program store v stands rests) (λ c stood. inl stood))
+
+-- a store for which room was made is the same one
+module _ (program : StoreProgram) (after : StoreState) (store same : Store) (p : Prepared) (leads : CommitsTo program store p after) (state : state_of same ≡ state_of store)
+    (area : area_of_store same ≡ area_of_store store) (content : content_with (kept_of same) (delta_prepared p) ≡ content_with (kept_of store) (delta_prepared p))
+    (prepared : IsPrepared program.table same p) where
+  pub ready_again : IsReady program same p
+  ready_again = record {
+    storable = leads.ready.storable;
+    before = subst (λ (s : StoreState). IsStoreAtRest program.table s.content) (sym state) leads.ready.before;
+    after = subst (IsStoreAtRest program.table) (sym content) leads.ready.after;
+    is_prepared = prepared;
+  }
+
+  settles_again : settled program.table (area_of_store same) (state_of same) (content_with (kept_of same) (delta_prepared p)) ≡ Ok after
+  settles_again =
+      ap (λ (a : Option ℕ). settled program.table a (state_of same) (content_with (kept_of same) (delta_prepared p))) area
+      ∙ ap (λ (s : StoreState). settled program.table (area_of_store store) s (content_with (kept_of same) (delta_prepared p))) state
+      ∙ ap (settled program.table (area_of_store store) (state_of store)) content ∙ leads.settles
+
+  pub kept_after : (new : Store) → settled program.table (area_of_store same) (state_of same) (content_with (kept_of same) (delta_prepared p)) ≡ Ok (state_of new) → state_of new ≡ after
+  kept_after new settles = one_store (state_of new) after (sym settles ∙ settles_again)
+
+  -- a crash leaves the store before or after
+  pub crash_leaves : (old new : DiskView) → (area_of_store same ≡ None → During old new (May old))
+      → ((size : ℕ) → area_of_store same ≡ Some size → During old new (StandsBeforeOrAfter program size (state_of same) (content_with (kept_of same) (delta_prepared p))))
+      → During old new (λ c. StandsForStore program (area_of_store store) (state_of store) c ⊎ StandsForStore program (area_of_store store) after c)
+  crash_leaves old new none some = by_area (area_of_store store) refl
+    where
+      to_after : (size : ℕ) (c : List ℕ) → area_of_store store ≡ Some size → StandsBeforeOrAfter program size (state_of same) (content_with (kept_of same) (delta_prepared p)) c
+          → StandsForStore program (Some size) (state_of store) c ⊎ StandsForStore program (Some size) after c
+      to_after size c is (inl before) = inl (subst (λ (s : StoreState). StandsForStore program (Some size) s c) state before)
+      to_after size c is (inr later) =
+          inr (subst (λ (s : StoreState). StandsForStore program (Some size) s c) (one_store later.0 after (sym later.1 ∙ ap (λ (a : Option ℕ). settled program.table a (state_of same) (content_with (kept_of same) (delta_prepared p))) (sym (area ∙ is)) ∙ settles_again)) later.2)
+
+      by_area : (a : Option ℕ) → area_of_store store ≡ a → During old new (λ c. StandsForStore program a (state_of store) c ⊎ StandsForStore program a after c)
+      by_area None is = during_to old new _ _ (none (area ∙ is)) (λ c may. inl tt)
+      by_area (Some size) is = during_to old new _ _ (some size (area ∙ is)) (λ c stood. to_after size c is stood)
+
+-- a store stands, said of its place and of what it is
+pub stands_now : (program : StoreProgram) (store : Store) (v : DiskView) (area : Option ℕ) (s : StoreState) → area_of_store store ≡ area → state_of store ≡ s → StandsOn program store v
+    → IsStoreAtRest program.table (content_of (kept_of store)) → Throughout v (StandsForStore program area s)
+stands_now program store v area s in_area is stands rests =
+    subst (λ (t : StoreState). Throughout v (StandsForStore program area t)) is
+    (subst (λ (a : Option ℕ). Throughout v (StandsForStore program a (state_of store))) in_area (stands_through program store v stands rests))
+
+-- the item of a line, on the store that is at hand
+module _ (code : Image) (fuel : ℕ) (store : Store) (area : Option ℕ) (s : StoreState) (full : List ℕ) (in_area : area_of_store store ≡ area) (is : state_of store ≡ s) where
+  pub same_there : item_of (by_machine code fuel (area_of_store store)) (state_of store) full ≡ item_of (by_machine code fuel area) s full
+  same_there = ap (λ (a : Option ℕ). item_of (by_machine code fuel a) (state_of store) full) in_area ∙ ap (λ (t : StoreState). item_of (by_machine code fuel area) t full) is
+
+  pub crash_between : (old new : DiskView)
+      → During old new (λ c. StandsForStore (program_of code) (area_of_store store) (state_of store) c ⊎ StandsForStore (program_of code) (area_of_store store) (item_of (by_machine code fuel (area_of_store store)) (state_of store) full).after c)
+      → During old new (λ c. StandsForStore (program_of code) area s c ⊎ StandsForStore (program_of code) area (item_of (by_machine code fuel area) s full).after c)
+  crash_between old new left =
+      subst (λ (i : SessionItem StoreState). During old new (λ c. StandsForStore (program_of code) area s c ⊎ StandsForStore (program_of code) area i.after c)) same_there
+      (subst (λ (t : StoreState). During old new (λ c. StandsForStore (program_of code) area t c ⊎ StandsForStore (program_of code) area (item_of (by_machine code fuel (area_of_store store)) (state_of store) full).after c)) is
+      (subst (λ (a : Option ℕ). During old new (λ c. StandsForStore (program_of code) a (state_of store) c ⊎ StandsForStore (program_of code) a (item_of (by_machine code fuel (area_of_store store)) (state_of store) full).after c)) in_area left))
+
+  pub reply_there : (bytes : List ℕ) → bytes ≡ bytes_of (item_of (by_machine code fuel (area_of_store store)) (state_of store) full).reply → bytes ≡ bytes_of (item_of (by_machine code fuel area) s full).reply
+  reply_there bytes told = told ∙ ap (λ (i : SessionItem StoreState). bytes_of i.reply) same_there
+
+  pub after_there : (t : StoreState) → t ≡ (item_of (by_machine code fuel (area_of_store store)) (state_of store) full).after → t ≡ (item_of (by_machine code fuel area) s full).after
+  after_there t told = told ∙ ap (λ (i : SessionItem StoreState). i.after) same_there
+
+-- a disk of which no byte changed
+pub quiet_then : (old mid new : DiskView) → During old mid (May old) → During mid new (May mid) → During old new (May old)
+quiet_then old mid new was next = during_then old mid new (May old) was (during_to mid new _ _ next (throughout_may mid _ was.now))
+
+pub quiet_stands : (mid new : DiskView) (P : List ℕ → Type 0) → During mid new (May mid) → Throughout mid P → Throughout new P
+quiet_stands mid new P next here = throughout_to new _ _ next.now (throughout_may mid P here)
+
+-- what keeping answered
+pub keeps_quiet : (r : Result (Unit {0}) KeepError) (mid new : DiskView) → r ≡ Err KeepMemory → (IsErrOf r KeepMemory → During mid new (May mid)) → During mid new (May mid)
+keeps_quiet r mid new is memory = memory (subst (λ (x : Result (Unit {0}) KeepError). IsErrOf x KeepMemory) (sym is) refl)
+
+pub disk_rose : (r : Result (Unit {0}) KeepError) (before now : ℕ) → r ≡ Err KeepFault → (IsErrOf r KeepFault → Rose before now) → Rose before now
+disk_rose r before now is cause = cause (subst (λ (x : Result (Unit {0}) KeepError). IsErrOf x KeepFault) (sym is) refl)

@@ -1,0 +1,225 @@
+-- From what a request comes to, to what is made ready for its line.
+use Rattle.std.proofs.Common.{◌≡◌, ℕ, ℤ, ◌+◌, ◌<◌, ◌≤◌, Bool, true, false, List, map, length, Option, Some, None, refl, sym, ◌∙◌, ap, subst, arith}
+use Rattle.std.specs.Prelude.{Result, Ok, Err, IfOk, nat_le, nat_lt, option_map, if◌then◌else◌}
+use Rattle.std.proofs.lemmas.Bool.Decides.{nat_tests}
+use Rattle.ob_base.specs.Limits.{longest_line}
+use Rattle.ob_base.specs.declared.cause.Memory.{Memory}
+use Rattle.ob_table.specs.Tables.{ClassTable}
+use Rattle.ob_code.specs.declared.image.Image.{Image}
+use Rattle.ob_heap_spec.specs.Objects.{Object}
+use Rattle.ob_heap_spec.specs.Contents.{HandleName, Handle, Content}
+use Rattle.ob_heap.specs.Plain.{object_of}
+use Rattle.ob_heap.specs.Contents.{Stored, content_of, named_of}
+use Rattle.ob_heap.specs.Deltas.{with_handles, IsDelta}
+use Rattle.ob_heap.specs.Differences.{with_objects}
+use Rattle.ob_heap.specs.declared.delta.Delta.{Delta}
+use Rattle.ob_rest_spec.specs.AtRest.{IsStoreAtRest}
+use Rattle.ob_invocation_spec.specs.Replies.{Invoked, Invocation, invoked, goes_wrong}
+use Rattle.ob_invocation_laws.specs.Laws.{KeepsStoreAtRest}
+use Rattle.ob_machine_steps.specs.ImageTables.{table_of_image}
+use Rattle.ob_exec_handles.specs.Coming.{ComesTo}
+use Rattle.ob_journal.specs.Journals.{area_size}
+use Rattle.ob_journal.specs.declared.journal.Journal.{Journal}
+use Rattle.ob_journal.specs.declared.journal.Built.{Built}
+use Rattle.ob_store_spec.specs.Payloads.{payload}
+use Rattle.ob_store_spec.specs.Between.{changes_between}
+use Rattle.ob_store_spec.specs.Settling.{say_nothing, needed, with_record, recorded, settled}
+use Rattle.ob_store_spec.specs.Stores.{StoreState}
+use Rattle.ob_store_laws.specs.Recorded.{content_with, IsStorable}
+use Rattle.ob_store.specs.Stores.{program_of, area_of_store, gate_of, serial_of, kept_of, state_of}
+use Rattle.ob_store.specs.Preparing.{delta_prepared, IsBuiltFor, SaysWhatDiffers, IsPrepared, Prepares}
+use Rattle.ob_store.specs.declared.error.PrepareError.{PrepareError}
+use Rattle.ob_store.specs.declared.error.PrepareError.TheVariants.{Room}
+use Rattle.ob_store.specs.declared.store.Store.{Store}
+use Rattle.ob_store.specs.declared.store.Prepared.{Prepared}
+use Rattle.ob_wire.specs.Meanings.{answer_of}
+use Rattle.ob_wire.specs.Replies.{reply_line}
+use Rattle.ob_wire.specs.declared.reply.Answer.{Answer}
+use Rattle.ob_wire.specs.declared.reply.Reply.{Reply}
+use Rattle.ob_wire.specs.Reading.{value_of}
+use Rattle.ob_wire.specs.declared.refusal.Refusal.{Refusal}
+use Rattle.ob_wire.specs.declared.refusal.Refusal.TheVariants.{LongLine}
+use Rattle.ob_wire.specs.declared.request.Request.{Request}
+use Rattle.ob_serve.specs.Session.{SessionItem, is_blank_line}
+use Rattle.ob_serve.specs.Asked.{asked_by_value}
+use Rattle.ob_serve.specs.Items.{Service, by_machine, settled_item, invoked_item, item_of_asked}
+use Rattle.ob_serve.specs.Stops.{IsFull, LeadsOn, GivesItem, Readies, refusal_line, room_line}
+use Rattle.ob_serve.specs.declared.answering.Ready.{Ready}
+use Rattle.ob_serve.proofs.Asking.{asks_too_long, asks_by_value}
+
+abbrev holding : List Object → List (HandleName × Handle) → Content
+holding objects handles = record { objects = objects; handles = handles }
+
+-- a delta that leads to a content leads to this one
+leads_with : (base : Stored) (delta : Delta) (content : Content) → map object_of (with_objects base.objects delta.objects) ≡ content.objects
+    → map named_of (with_handles base.handles delta.handles) ≡ content.handles → content_with base delta ≡ content
+leads_with base delta content objects handles =
+    ap (λ (os : List Object). holding os (map named_of (with_handles base.handles delta.handles))) objects ∙ ap (holding content.objects) handles
+
+abbrev replying : Option ℤ → Answer → Reply
+replying id answer = record { id = id; answer = answer }
+
+-- a reply is its id and its answer
+reply_is : (reply : Reply) (id : ℤ) (answer : Answer) → reply.id ≡ Some id → reply.answer ≡ answer → reply ≡ replying (Some id) answer
+reply_is reply id answer same told = ap (λ (i : Option ℤ). replying i reply.answer) same ∙ ap (replying (Some id)) told
+
+-- a delta is one of the content on which a request was answered
+pub comes_by_delta : (i : Invocation) (base : Stored) (answer : Answer) (delta : Delta) → ComesTo i base answer delta → IsDelta base delta
+comes_by_delta (invoked i) base answer delta comes = comes.1.is
+comes_by_delta goes_wrong base answer delta comes = absurd comes
+
+-- and it leads to the content after it
+pub comes_to_content : (i : Invoked) (base : Stored) (answer : Answer) (delta : Delta) → ComesTo (invoked i) base answer delta → content_with base delta ≡ i.content
+comes_to_content i base answer delta comes = leads_with base delta i.content comes.1.objects comes.1.handles
+
+-- so that content is at rest
+pub comes_to_rest : (table : ClassTable) (i : Invocation) (base : Stored) (answer : Answer) (delta : Delta) → ComesTo i base answer delta → KeepsStoreAtRest table i
+    → IsStoreAtRest table (content_with base delta)
+comes_to_rest table (invoked i) base answer delta comes rests = subst (IsStoreAtRest table) (sym (comes_to_content i base answer delta comes)) rests
+comes_to_rest table goes_wrong base answer delta comes rests = absurd rests
+
+-- ---- what was made ready
+
+-- a record that fits leads on
+builds_on : (table : ClassTable) (s : StoreState) (size : ℕ) (after : Content) → needed s ((payload table).bytes (changes_between table s.content after)) ≤ size
+    → (t : StoreState) × (settled table (Some size) s after ≡ Ok t)
+builds_on table s size after fits = by_news (say_nothing (changes_between table s.content after))
+  where
+    bytes : List ℕ
+    bytes = (payload table).bytes (changes_between table s.content after)
+
+    has_room : nat_lt size (needed s bytes) ≡ false
+    has_room = grind (arith, nat_tests)
+
+    by_news : (none : Bool) → (t : StoreState) × ((if none then Ok (record s { content = after }) else recorded size s after bytes) ≡ Ok t)
+    by_news true = (record s { content = after }, refl)
+    by_news false = (with_record s bytes after, rw has_room refl)
+
+nothing_on : (table : ClassTable) (s : StoreState) (size : ℕ) (after : Content) → say_nothing (changes_between table s.content after) ≡ true
+    → (t : StoreState) × (settled table (Some size) s after ≡ Ok t)
+nothing_on table s size after none = (record s { content = after }, rw none refl)
+
+-- what was made ready leads on
+pub prepared_leads : (table : ClassTable) (store : Store) (prepared : Prepared) → IsPrepared table store prepared
+    → (t : StoreState) × (settled table (area_of_store store) (state_of store) (content_with (kept_of store) (delta_prepared prepared)) ≡ Ok t)
+prepared_leads table store prepared is = by_journal store.journal prepared.built is.built is.says
+  where
+    after : Content
+    after = content_with store.content prepared.delta
+
+    state : Option Journal → StoreState
+    state journal = record { content = content_of store.content; gate = gate_of journal; serial = serial_of journal }
+
+    by_journal : (journal : Option Journal) (built : Option Built) → IsBuiltFor journal built → SaysWhatDiffers table journal (content_of store.content) after built
+        → (t : StoreState) × (settled table (option_map area_size journal) (state journal) after ≡ Ok t)
+    by_journal None built fits says = (record (state None) { content = after }, refl)
+    by_journal (Some j) None fits says = nothing_on table (state (Some j)) (area_size j) after says
+    by_journal (Some j) (Some b) fits says = builds_on table (state (Some j)) (area_size j) after (omega (arith, fits.within, ap length says.1))
+
+long_shows : (line : List ℕ) → longest_line < length line → is_blank_line line ≡ false
+long_shows line long = let over : nat_le (length line) longest_line ≡ false = grind (arith, nat_tests) in rw over refl
+
+-- what preparing a delta answered
+pub prepared_by : (code image : Image) (store : Store) (delta : Delta) (r : Result Prepared PrepareError) (prepared : Prepared) → image ≡ code → r ≡ Ok prepared
+    → Prepares (table_of_image image) store delta r → (delta_prepared prepared ≡ delta) × IsPrepared (table_of_image code) store prepared
+prepared_by code image store delta r prepared same is prepares =
+    let at : Prepares (table_of_image code) store delta (Ok prepared) =
+    subst (λ (i : Image). Prepares (table_of_image i) store delta (Ok prepared)) same (subst (Prepares (table_of_image image) store delta) is prepares) in (at.0, at.1)
+
+pub room_by : (code image : Image) (store : Store) (delta : Delta) (r : Result Prepared PrepareError) (need size : ℕ) (e : PrepareError) → image ≡ code → r ≡ Err e → e ≡ Room need size
+    → Prepares (table_of_image image) store delta r
+    → settled (table_of_image code) (area_of_store store) (state_of store) (content_with (kept_of store) delta) ≡ Err (need, size)
+room_by code image store delta r need size e same is lacks prepares =
+    subst (λ (i : Image). settled (table_of_image i) (area_of_store store) (state_of store) (content_with (kept_of store) delta) ≡ Err (need, size)) same
+    (subst (λ (x : PrepareError). Prepares (table_of_image image) store delta (Err x)) lacks (subst (Prepares (table_of_image image) store delta) is prepares))
+
+-- ---- the item of a request
+
+module _ (code : Image) (fuel : ℕ) (store : Store) where
+  -- the items of this store
+  abbrev pub at_hand : Service
+  at_hand = by_machine code fuel (area_of_store store)
+
+  -- it is done, and what it changed was made ready
+  pub ready_item : (id : ℤ) (i : Invocation) (reply : Reply) (delta : Delta) (ready : Ready) (prepared : Prepared)
+      → IsStorable (table_of_image code) → IsStoreAtRest (table_of_image code) (content_of (kept_of store)) → KeepsStoreAtRest (table_of_image code) i
+      → reply.id ≡ Some id → ComesTo i (kept_of store) reply.answer delta → delta_prepared prepared ≡ delta → IsPrepared (table_of_image code) store prepared
+      → ready.reply.items ≡ reply_line reply → ready.prepared ≡ Some prepared → GivesItem (program_of code) store (invoked_item at_hand (state_of store) id i) ready
+  ready_item id (invoked i) reply delta ready prepared storable before rests same comes is prepares bytes some =
+      let leads = prepared_leads (table_of_image code) store prepared prepares in
+      let content : content_with (kept_of store) (delta_prepared prepared) ≡ i.content = ap (content_with (kept_of store)) is ∙ comes_to_content i (kept_of store) reply.answer delta comes in
+      let settles : settled (table_of_image code) (area_of_store store) (state_of store) i.content ≡ Ok leads.0 =
+      ap (settled (table_of_image code) (area_of_store store) (state_of store)) (sym content) ∙ leads.1 in
+      subst (λ (item : SessionItem StoreState). GivesItem (program_of code) store item ready) (sym (ap (settled_item id (answer_of i.reply) (state_of store)) settles)) (record {
+        reply = bytes ∙ ap reply_line (reply_is reply id (answer_of i.reply) same comes.0);
+        next = subst (LeadsOn (program_of code) store leads.0) (sym some) (record {
+          ready = record {
+            storable = storable;
+            before = before;
+            after = subst (IsStoreAtRest (table_of_image code)) (sym content) rests;
+            is_prepared = prepares;
+          };
+          settles = leads.1;
+        });
+      })
+  ready_item id goes_wrong reply delta ready prepared storable before rests same comes is prepares bytes some = absurd comes
+
+  -- the store has no room for it
+  pub lacking_item : (id : ℤ) (i : Invocation) (answer : Answer) (delta : Delta) (ready : Ready) (need size : ℕ) → ComesTo i (kept_of store) answer delta
+      → settled (table_of_image code) (area_of_store store) (state_of store) (content_with (kept_of store) delta) ≡ Err (need, size)
+      → ready.reply.items ≡ room_line id need size → ready.prepared ≡ None → GivesItem (program_of code) store (invoked_item at_hand (state_of store) id i) ready
+  lacking_item id (invoked i) answer delta ready need size comes lacks bytes none =
+      let settles : settled (table_of_image code) (area_of_store store) (state_of store) i.content ≡ Err (need, size) =
+      ap (settled (table_of_image code) (area_of_store store) (state_of store)) (sym (comes_to_content i (kept_of store) answer delta comes)) ∙ lacks in
+      subst (λ (item : SessionItem StoreState). GivesItem (program_of code) store item ready) (sym (ap (settled_item id (answer_of i.reply) (state_of store)) settles))
+      (record { reply = bytes; next = subst (LeadsOn (program_of code) store (state_of store)) (sym none) refl })
+  lacking_item id goes_wrong answer delta ready need size comes lacks bytes none = absurd comes
+
+  -- ---- from what a line asks to its item
+
+  -- what was made ready is that of what a line is known to ask
+  pub given_by : (asked known : Result Request Refusal) (r : Result Ready Memory) → asked ≡ known
+      → IfOk r (λ ready. GivesItem (program_of code) store (item_of_asked at_hand (state_of store) known) ready)
+      → IfOk r (λ ready. GivesItem (program_of code) store (item_of_asked at_hand (state_of store) asked) ready)
+  given_by asked known r same given =
+      subst (λ (a : Result Request Refusal). IfOk r (λ ready. GivesItem (program_of code) store (item_of_asked at_hand (state_of store) a) ready)) (sym same) given
+
+  refused_item_of : (refusal : Refusal) (ready : Ready) → (ready.reply.items ≡ refusal_line refusal) × (ready.prepared ≡ None)
+      → GivesItem (program_of code) store (item_of_asked at_hand (state_of store) (Err refusal)) ready
+  refused_item_of refusal ready is = record { reply = is.0; next = subst (LeadsOn (program_of code) store (state_of store)) (sym is.1) refl }
+
+  refused_as : (refusal : Refusal) (r : Result Ready Memory) → IfOk r (λ ready. (ready.reply.items ≡ refusal_line refusal) × (ready.prepared ≡ None))
+      → IfOk r (λ ready. GivesItem (program_of code) store (item_of_asked at_hand (state_of store) (Err refusal)) ready)
+  refused_as refusal (Ok ready) is = refused_item_of refusal ready is
+  refused_as refusal (Err e) is = tt
+
+  -- that of a line that is refused
+  pub refused_by : (asked : Result Request Refusal) (refusal : Refusal) (r : Result Ready Memory) → asked ≡ Err refusal
+      → IfOk r (λ ready. (ready.reply.items ≡ refusal_line refusal) × (ready.prepared ≡ None))
+      → IfOk r (λ ready. GivesItem (program_of code) store (item_of_asked at_hand (state_of store) asked) ready)
+  refused_by asked refusal r same is = given_by asked (Err refusal) r same (refused_as refusal r is)
+
+  -- a line that is too long is made ready for
+  pub long_readies : (ready : Ready) (is_long : Bool) (line full : List ℕ) → is_long ≡ true → (ready.reply.items ≡ refusal_line LongLine) × (ready.prepared ≡ None)
+      → IsFull is_long line full → Readies (program_of code) at_hand store full (Some ready)
+  long_readies ready false line full is given long = absurd cc
+  long_readies ready true line full is given long = (
+    long_shows full long,
+    subst (λ (a : Result Request Refusal). GivesItem (program_of code) store (item_of_asked at_hand (state_of store) a) ready) (sym (asks_too_long full long)) (refused_item_of LongLine ready given),
+  )
+
+  -- and so is one that isn't
+  pub line_readies : (ready : Ready) (is_long : Bool) (line full : List ℕ) → is_long ≡ false → is_blank_line line ≡ false
+      → GivesItem (program_of code) store (item_of_asked at_hand (state_of store) (asked_by_value (value_of line))) ready → IsFull is_long line full
+      → Readies (program_of code) at_hand store full (Some ready)
+  line_readies ready true line full is shows given whole = absurd cc
+  line_readies ready false line full is shows given whole =
+      subst (λ (l : List ℕ). Readies (program_of code) at_hand store l (Some ready)) (sym whole.0) (
+        shows,
+        subst (λ (a : Result Request Refusal). GivesItem (program_of code) store (item_of_asked at_hand (state_of store) a) ready) (sym (asks_by_value line whole.1)) given,
+      )
+
+  -- a blank one isn't
+  pub blank_passes : (is_long : Bool) (line full : List ℕ) → is_long ≡ false → is_blank_line line ≡ true → IsFull is_long line full → Readies (program_of code) at_hand store full None
+  blank_passes true line full is blank whole = absurd cc
+  blank_passes false line full is blank whole = ap is_blank_line whole.0 ∙ blank

@@ -1,0 +1,22 @@
+use Rattle.std.proofs.Common.{inl}
+use Rattle.ob_store.proofs.Same.{same_stands}
+use Rattle.ob_serve.proofs.Committed.{some_leads, crash_leaves, ready_again}
+use Rattle.ob_serve.proofs.committing.keep.Goals as goal
+
+pub returns-then-is_err-2-clause-crash : goal.returns-then-is_err-2-clause-crash
+returns-then-is_err-2-clause-crash g c = λ program after leads rests stands.
+    let some = some_leads program after c.args.store.now c.args.prepared c.in-Some.prepared c.in-Some.is leads in
+    let prepared = c.reserve.ensures.prepared program.table some.ready.is_prepared in
+    let ready = ready_again program after c.args.store.now c.reserve.new.self c.in-Some.prepared some c.reserve.ensures.state c.reserve.ensures.area c.reserve.ensures.content prepared in
+    crash_leaves program after c.args.store.now c.reserve.new.self c.in-Some.prepared some c.reserve.ensures.state c.reserve.ensures.area c.reserve.ensures.content prepared
+    (g.D.Disk.view c.args.disk.now) (g.D.Disk.view c.commit.new.disk) (λ none. c.commit.ensures.nothing (inl none))
+    (λ size area. c.commit.ensures.crash program size ready area (same_stands program c.args.store.now c.reserve.new.self (g.D.Disk.view c.args.disk.now) c.reserve.ensures.same stands))
+
+pub returns-clause-crash : goal.returns-clause-crash
+returns-clause-crash g c = λ program after leads rests stands.
+    let some = some_leads program after c.args.store.now c.args.prepared c.in-Some.prepared c.in-Some.is leads in
+    let prepared = c.reserve.ensures.prepared program.table some.ready.is_prepared in
+    let ready = ready_again program after c.args.store.now c.reserve.new.self c.in-Some.prepared some c.reserve.ensures.state c.reserve.ensures.area c.reserve.ensures.content prepared in
+    crash_leaves program after c.args.store.now c.reserve.new.self c.in-Some.prepared some c.reserve.ensures.state c.reserve.ensures.area c.reserve.ensures.content prepared
+    (g.D.Disk.view c.args.disk.now) (g.D.Disk.view c.commit.new.disk) (λ none. c.commit.ensures.nothing (inl none))
+    (λ size area. c.commit.ensures.crash program size ready area (same_stands program c.args.store.now c.reserve.new.self (g.D.Disk.view c.args.disk.now) c.reserve.ensures.same stands))
