@@ -19,19 +19,22 @@ use Rattle.ob_heap.specs.Plain.{object_of, value_of}
 use Rattle.ob_rest_spec.specs.Modes.{is_shared}
 use Rattle.ob_invocation_spec.specs.Entries.{Entry}
 use Rattle.ob_invocation_spec.specs.Entering.{put_after_use, put_given, puts_after}
-use Rattle.ob_invocation_spec.specs.Handles.{NamedHandle, handle_name, mark_put, mark_puts}
+use Rattle.ob_invocation_spec.specs.Handles.{NamedHandle, handle_name, put_handles, mark_put, mark_puts}
 use Rattle.ob_invocation_spec.specs.Invocation.{done_with, ended}
-use Rattle.ob_invocation_spec.specs.Replies.{invoked, aborted}
+use Rattle.ob_invocation_spec.specs.Replies.{Reply, invoked, aborted}
 use Rattle.ob_invocation_spec.specs.Showing.{told_state, reply_of_result}
 use Rattle.ob_table.specs.Tables.{ClassTable}
 use Rattle.ob_machine.specs.Shown.{cause_of}
 use Rattle.ob_machine.specs.declared.progress.Cause.{Cause}
 use Rattle.ob_machine.specs.declared.progress.Progress.TheVariants.{Finished, Aborted, Going}
 use Rattle.ob_wire.specs.declared.reply.Answer.{Answer}
-use Rattle.ob_exec_handles.specs.Coming.{ComesTo, IsInLimits}
+use Rattle.ob_exec_handles.specs.Coming.{ComesTo, LeadsTo, IsInLimits}
+use Rattle.ob_exec_handles.specs.Marking.{with_put_marks}
+use Rattle.ob_exec_handles.proofs.MarkingLemmas.{puts_objects}
 use Rattle.ob_exec_entries.specs.Entering.{use_of}
 use Rattle.ob_exec_entries.specs.declared.entered.Entered.{Entered}
 use Rattle.ob_exec.specs.Ending.{IsRight, EndsSo}
+use Rattle.ob_exec.specs.Putting.{LeaveTheSame}
 use Rattle.ob_exec.specs.Standing.{StandsFor}
 
 -- Handles that are put leave as many objects.
@@ -81,17 +84,35 @@ within_limits table content e reads (gives result w) given base changes h end =
 within_limits table content e reads (aborts cause s) given base changes h end = absurd end
 within_limits table content e reads wrong given base changes h end = absurd end
 
-pub comes_done : (table : ClassTable) (content : Content) (e : Entry) (reads : List ReadItem) (o : RunOutcome (Option values.Value))
-    (given : Option Value) (base : Stored) (changes : Changes) (puts : List NamedHandle) (answer : Answer) (delta : Delta)
-    → EndsSo o (Finished given) base.objects changes → puts_after content e (option_map value_of given) ≡ puts
+-- what a store holds, of the same parts
+same_content : (a b : List plain.Object) (x y : List NamedHandle) → a ≡ b → x ≡ y
+    → ◌≡◌ {A = Content} (record { objects = a; handles = x }) (record { objects = b; handles = y })
+same_content a b x y p q = λ i. record { objects = p i; handles = q i }
+
+comes_same : (reply : Reply) (base : Stored) (changes : Changes) (others puts : List NamedHandle) (w : World) (reads : List ReadItem) (answer : Answer) (delta : Delta)
+    → LeaveTheSame base changes others puts → w.objects ≡ objects_over base.objects changes
+    → ComesTo (done_with reply (content_of base) puts w reads) base answer delta → ComesTo (done_with reply (content_of base) others w reads) base answer delta
+comes_same reply base changes others puts w reads answer delta same is h =
+    let objects : (mark_puts w puts).objects ≡ (mark_puts w others).objects =
+    puts_objects puts w ∙ ap (λ os. with_put_marks os puts) is ∙ sym same.objects ∙ ap (λ os. with_put_marks os others) (sym is) ∙ sym (puts_objects others w) in (
+      h.0,
+      subst (LeadsTo base delta)
+          (same_content (mark_puts w puts).objects (mark_puts w others).objects (put_handles (content_of base).handles puts) (put_handles (content_of base).handles others)
+          objects (sym same.handles)) h.1,
+    )
+
+pub comes_done : (table : ClassTable) (base : Stored) (e : Entry) (reads : List ReadItem) (o : RunOutcome (Option values.Value))
+    (given : Option Value) (changes : Changes) (puts : List NamedHandle) (answer : Answer) (delta : Delta)
+    → EndsSo o (Finished given) base.objects changes → LeaveTheSame base changes (puts_after (content_of base) e (option_map value_of given)) puts
     → ((w : World) (read : List ReadItem) → w.objects ≡ objects_over base.objects changes
-    → ComesTo (done_with (reply_of_result (option_map value_of given)) content puts w read) base answer delta)
-    → ComesTo (ended table content e reads o) base answer delta
-comes_done table content e reads (gives result w) given base changes puts answer delta end same h =
-    subst (λ r. ComesTo (ended table content e reads (gives r w)) base answer delta) (sym end.0)
-    (subst (λ p. ComesTo (done_with (reply_of_result (option_map value_of given)) content p w reads) base answer delta) (sym same) (h w reads end.1))
-comes_done table content e reads (aborts cause s) given base changes puts answer delta end same h = absurd end
-comes_done table content e reads wrong given base changes puts answer delta end same h = absurd end
+    → ComesTo (done_with (reply_of_result (option_map value_of given)) (content_of base) puts w read) base answer delta)
+    → ComesTo (ended table (content_of base) e reads o) base answer delta
+comes_done table base e reads (gives result w) given changes puts answer delta end same h =
+    subst (λ r. ComesTo (ended table (content_of base) e reads (gives r w)) base answer delta) (sym end.0)
+    (comes_same (reply_of_result (option_map value_of given)) base changes (puts_after (content_of base) e (option_map value_of given)) puts w reads answer delta
+    same end.1 (h w reads end.1))
+comes_done table base e reads (aborts cause s) given changes puts answer delta end same h = absurd end
+comes_done table base e reads wrong given changes puts answer delta end same h = absurd end
 
 -- what comes of an abort by this cause
 abbrev pub AbortsSo : ClassTable → Stored → Cause → Answer → Delta → Type 0

@@ -1,3 +1,5 @@
+pub mod PutLemmas
+pub mod StandingLemmas
 pub mod EndLemmas
 pub mod StartLemmas
 pub mod ComingLemmas

@@ -1,8 +1,10 @@
 //! What comes of what a request enters.
-ghost use Rattle.std.specs.Prelude.{◌≡◌, IfOk};
+ghost use Rattle.std.specs.Prelude.{◌≡◌, map, IfOk};
 ghost use Rattle.ob_heap.specs.Contents.{content_of};
 ghost use Rattle.ob_invocation_spec.specs.Replies.{Invocation};
+ghost use Rattle.ob_exec_entries.specs.Entering.{use_of};
 ghost use Rattle.ob_exec_handles.specs.Coming.{ComesTo, IsInLimits};
+ghost use Rattle.ob_exec.specs.Putting.{AllStand};
 ghost use Rattle.ob_exec.specs.Standing.{entering, running, ComesBy};
 
 use crate::ending::{abort, finish};
@@ -27,7 +29,8 @@ fn run(
     entered: Entered,
     fuel: u32,
 ) -> Result<Answered, Memory>
-    requires { (i : Invocation) × ComesBy (running code.now (content_of content.now) fuel) (content_of content.now) who.now into.now entered i × IsInLimits i }
+    requires right { (i : Invocation) × ComesBy (running code.now (content_of content.now) fuel) (content_of content.now) who.now into.now entered i × IsInLimits i }
+    requires stand { AllStand (content_of content.now) (map (use_of who.now) entered.uses) }
     ensures { (i : Invocation) → ComesBy (running code.now (content_of content.now) fuel) (content_of content.now) who.now into.now entered i
         → IfOk result (λ a. ComesTo i content.now a.answer a.delta) }
 {
@@ -50,7 +53,7 @@ fn run(
     let mut overlay = Overlay::new(alloc);
     match run_to_end(alloc, code, content, &mut overlay, entry, fuel)? {
         Progress::Finished(value) => {
-            let puts = puts_after(alloc, who, &uses, into, given, &value)?;
+            let puts = puts_after(alloc, content, &overlay, who, &uses, into, given, &value)?;
             finish(alloc, content, &mut overlay, &puts, value)
         }
         Progress::Aborted(cause) => abort(alloc, code.image(), content, cause),
@@ -68,7 +71,8 @@ pub fn enter(
     entered: Entered,
     fuel: u32,
 ) -> Result<Answered, Memory>
-    requires { (i : Invocation) × ComesBy (entering code.now (content_of content.now) fuel) (content_of content.now) who.now into.now entered i × IsInLimits i }
+    requires right { (i : Invocation) × ComesBy (entering code.now (content_of content.now) fuel) (content_of content.now) who.now into.now entered i × IsInLimits i }
+    requires stand { AllStand (content_of content.now) (map (use_of who.now) entered.uses) }
     ensures { (i : Invocation) → ComesBy (entering code.now (content_of content.now) fuel) (content_of content.now) who.now into.now entered i
         → IfOk result (λ a. ComesTo i content.now a.answer a.delta) }
 {

@@ -21,7 +21,10 @@ run-requires c =
     (subst (λ image. option_map cause_of c.find_outside.result
     ≡ option_map (outside_cause content.objects) (find (is_outside_use (table_of_image image) content.objects) (map (use_of who) c.args.entered.uses))) c.image.ensures.image
     (c.find_outside.ensures who)) in
-    (c.requires.0, passes_test c.args.code.now content c.args.fuel who c.args.into.now c.args.entered c.requires.0 c.requires.1 none, c.requires.2)
+    record {
+      right = (c.requires.right.0, passes_test c.args.code.now content c.args.fuel who c.args.into.now c.args.entered c.requires.right.0 c.requires.right.1 none, c.requires.right.2);
+      stand = c.requires.stand;
+    }
 
 pub returns-in-Some : goal.returns-in-Some
 returns-in-Some c = λ i k.

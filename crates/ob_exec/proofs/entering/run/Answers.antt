@@ -10,6 +10,7 @@ use Rattle.ob_exec_entries.specs.Entering.{machine_entry}
 use Rattle.ob_exec_handles.specs.Coming.{ComesTo, IsInLimits}
 use Rattle.ob_exec.specs.Bodies.{body_number}
 use Rattle.ob_exec.specs.Ending.{EndsSo}
+use Rattle.ob_exec.specs.Putting.{LeaveTheSame}
 use Rattle.ob_exec.proofs.ComingLemmas.{AbortsSo, within_limits, comes_done, comes_aborted, never_going, puts_same}
 use Rattle.ob_exec.proofs.RunLemmas.{runs_some, starts_right, comes_of_end}
 use Rattle.ob_exec.proofs.StartLemmas.{with_number}
@@ -18,7 +19,7 @@ use Rattle.ob_exec.proofs.entering.run.Goals as goal
 pub body_number-requires : goal.body_number-requires
 body_number-requires c =
     subst (λ image. IsSome (body_number image (machine_entry c.args.entered).receiver c.args.entered.contract c.args.entered.tx)) (sym c.image.ensures.image)
-    (runs_some c.args.code.now (content_of c.args.content.now) c.args.fuel c.args.who.now c.args.into.now c.args.entered c.requires.0 c.requires.1 c.requires.2)
+    (runs_some c.args.code.now (content_of c.args.content.now) c.args.fuel c.args.who.now c.args.into.now c.args.entered c.requires.right.0 c.requires.right.1 c.requires.right.2)
 
 pub run_to_end-requires : goal.run_to_end-requires
 run_to_end-requires c =
@@ -28,7 +29,7 @@ run_to_end-requires c =
     record {
       fresh = c.new-overlay.ensures;
       right = starts_right c.args.code.now (content_of c.args.content.now) c.args.fuel c.args.who.now c.args.into.now c.args.entered
-          c.requires.0 c.in_ok-body_number.field-0 c.requires.1 c.requires.2 number;
+          c.requires.right.0 c.in_ok-body_number.field-0 c.requires.right.1 c.requires.right.2 number;
     }
 
 pub finish-requires : goal.finish-requires
@@ -40,8 +41,8 @@ finish-requires c =
     subst (λ code. body_number code (machine_entry c.args.entered).receiver c.args.entered.contract c.args.entered.tx ≡ Some c.in_ok-body_number.field-0)
     c.image.ensures.image c.in_ok-body_number.ensures in
     let end = outcome image (started image (with_number c.in_ok-body_number.field-0 (machine_entry c.args.entered)) content.objects c.args.fuel) in
-    within_limits (table_of_image image) content c.requires.1.entry c.requires.1.reads end c.in-Finished.value base.objects c.run_to_end.new.overlay
-    (subst IsInLimits (comes_of_end image content c.args.fuel c.args.who.now c.args.into.now c.args.entered c.requires.0 c.in_ok-body_number.field-0 c.requires.1 number) c.requires.2)
+    within_limits (table_of_image image) content c.requires.right.1.entry c.requires.right.1.reads end c.in-Finished.value base.objects c.run_to_end.new.overlay
+    (subst IsInLimits (comes_of_end image content c.args.fuel c.args.who.now c.args.into.now c.args.entered c.requires.right.0 c.in_ok-body_number.field-0 c.requires.right.1 number) c.requires.right.2)
     (subst (λ p. EndsSo end p base.objects c.run_to_end.new.overlay) c.in-Finished.is c.in_ok-value.ensures)
 
 pub unreachable-requires : goal.unreachable-requires
@@ -66,9 +67,10 @@ returns-in-Finished c = λ i k.
     IfOk-weaker c.finish.result _ _
     (λ a h. subst (λ j. ComesTo j base a.answer a.delta)
     (sym (comes_of_end image content c.args.fuel c.args.who.now c.args.into.now entered i c.in_ok-body_number.field-0 k number))
-    (comes_done (table_of_image image) content k.entry k.reads end c.in-Finished.value base c.run_to_end.new.overlay puts a.answer a.delta
+    (comes_done (table_of_image image) base k.entry k.reads end c.in-Finished.value c.run_to_end.new.overlay puts a.answer a.delta
     (subst (λ p. EndsSo end p base.objects c.run_to_end.new.overlay) c.in-Finished.is c.in_ok-value.ensures)
-    (puts_same content c.args.who.now c.args.into.now entered k.entry (option_map value_of c.in-Finished.value) k.stands ∙ sym c.in_ok-puts-in-Finished.ensures) h))
+    (subst (λ ps. LeaveTheSame base c.run_to_end.new.overlay ps puts)
+    (sym (puts_same content c.args.who.now c.args.into.now entered k.entry (option_map value_of c.in-Finished.value) k.stands)) c.in_ok-puts-in-Finished.ensures) h))
     c.finish.ensures
 
 pub returns-in-Aborted : goal.returns-in-Aborted
