@@ -3,3 +3,8 @@ mod ExactLemmas
 mod RequestLaws
 mod RequestValues
 mod TrialLemmas
+mod OrderLemmas
+mod ReplyExact
+mod ReplyLaws
+mod ReplyLines
+mod Reordering

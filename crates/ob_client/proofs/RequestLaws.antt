@@ -97,13 +97,13 @@ op_again id who (Owner on) i w h = rw (i, w, h) refl
 
 -- ---- its JSON value is exact
 
-plain : (text : List ℕ) → are_ascii text ≡ true → is_utf8 text ≡ true
+pub plain : (text : List ℕ) → are_ascii text ≡ true → is_utf8 text ≡ true
 plain text h = is_utf8-from_IsUtf8 text (IsUtf8-are_ascii text h)
 
 text_exact : (text : List ℕ) → is_text text ≡ true → is_utf8 text ≡ true
 text_exact text h = (both_true _ (is_utf8 text) h).1
 
-label_exact : (label : List ℕ) → is_label label ≡ true → is_utf8 label ≡ true
+pub label_exact : (label : List ℕ) → is_label label ≡ true → is_utf8 label ≡ true
 label_exact label h = (both_true _ (is_utf8 label) h).1
 
 argument_exact : (a : Arg) → is_argument a ≡ true → IsExact (argument_json a)
@@ -129,10 +129,10 @@ arguments_shallow (arg.Handle name ∷ args) = omega (arith, arguments_shallow a
 arguments_shallow (arg.Other ∷ args) = omega (arith, arguments_shallow args)
 
 -- members that are exact, and not deep
-abbrev AreGood : Members → Type 0
+abbrev pub AreGood : Members → Type 0
 AreGood members = HasExact members × (members_depth members ≤ 2)
 
-abbrev IsGood : Data → Type 0
+abbrev pub IsGood : Data → Type 0
 IsGood value = IsExact value × (depth value ≤ 2)
 
 by_order : (o : Ordering) (a b c : Members) → AreGood a → AreGood b → AreGood c → AreGood (match_ordering o a b c)
@@ -143,7 +143,7 @@ by_order Greater a b c x y z = z
 one_more : (key : List ℕ) (value : Data) (ms : Members) → is_utf8 key ≡ true → IsGood value → AreGood ms → AreGood (member key value ms)
 one_more key value ms k v m = ((k, v.0, m.0), omega (arith, v.1, m.1))
 
-put_good : (key : List ℕ) (value : Data) (ms : Members) → is_utf8 key ≡ true → IsGood value → AreGood ms → AreGood (put key value ms)
+pub put_good : (key : List ℕ) (value : Data) (ms : Members) → is_utf8 key ≡ true → IsGood value → AreGood ms → AreGood (put key value ms)
 put_good key value no_members k v m = one_more key value no_members k v m
 put_good key value (member l other ms) k v m =
     let rest : AreGood ms = (m.0.2, omega (arith, m.1)) in

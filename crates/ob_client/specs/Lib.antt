@@ -3,3 +3,6 @@ pub mod Sendable
 pub mod Exact
 pub mod Trials
 pub mod TrialView
+pub mod Told
+pub mod Reordered
+pub mod ReplyReading
