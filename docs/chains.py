@@ -2,7 +2,7 @@
 """Says how the crates stand on one another, as crates.txt has it.
 
 It prints the longest chain of crates. It fails, with a line for each cause, where
-- that chain is longer than 13 crates,
+- that chain is longer than 14 crates,
 - a crate of the source meaning, of Silica, of lowering or of the flow check stands, however far below, on the lexer or the tree,
 - or the table of floors in docs/ARCHITECTURE.md isn't the one that follows from crates.txt; with `--write` it is written there.
 A crate's floor is the number of crates in the longest chain below it. Libraries of the toolchain don't count.
@@ -12,7 +12,7 @@ import sys
 
 TOP = pathlib.Path(__file__).resolve().parent.parent
 DOCUMENT = TOP / "docs" / "ARCHITECTURE.md"
-LONGEST = 13
+LONGEST = 14
 # What means the same whatever the text looked like, and what it therefore never stands on.
 MEANINGS = ("ob_source_", "ob_heap_spec", "ob_table_spec", "ob_silica", "ob_lower", "ob_flow")
 TEXTS = ("ob_lexer", "ob_tree")

@@ -3,8 +3,8 @@ use crate::bytes::Bytes;
 use crate::case::Case;
 use crate::kinds::lines::Lines;
 use crate::kinds::{
-    asked, base, calls, client, code, disk, fronts, image, replies, requests, run, steps, store,
-    table, terms, tokens, tree,
+    area, asked, base, calls, client, code, disk, fronts, image, replies, requests, run, steps,
+    store, table, terms, tokens, tree,
 };
 use std::alloc::Global;
 
@@ -67,8 +67,12 @@ pub enum CaseKind {
     Asked,
     /// The line by which a client sends the request that it asks.
     Sent,
+    /// The line of the reply that it tells.
+    Answered,
     /// The lines of the trial of the length that it is.
     Trial,
+    /// What lines are answered over a store in an area of some size, where the text is a part, and what is asked tells size and lines.
+    Area,
     /// What runs over one disk come to, where the text is a part, and what is asked tells the runs.
     Store,
 }
@@ -105,7 +109,9 @@ impl CaseKind {
             "disk" => Some(CaseKind::Disk),
             "asked" => Some(CaseKind::Asked),
             "sent" => Some(CaseKind::Sent),
+            "answered" => Some(CaseKind::Answered),
             "trial" => Some(CaseKind::Trial),
+            "area" => Some(CaseKind::Area),
             "store" => Some(CaseKind::Store),
             _ => None,
         }
@@ -123,7 +129,11 @@ impl CaseKind {
             "objects" => matches!(self, CaseKind::Steps | CaseKind::Entries | CaseKind::Calls),
             "runs" => matches!(
                 self,
-                CaseKind::Steps | CaseKind::Entries | CaseKind::Calls | CaseKind::Store
+                CaseKind::Steps
+                    | CaseKind::Entries
+                    | CaseKind::Calls
+                    | CaseKind::Area
+                    | CaseKind::Store
             ),
             _ => false,
         }
@@ -135,7 +145,9 @@ impl CaseKind {
             CaseKind::Run => ("input", "output"),
             CaseKind::Outside => ("given", "answer"),
             CaseKind::Tree => ("part", "answer"),
-            CaseKind::Entries | CaseKind::Calls | CaseKind::Store => ("runs", "answer"),
+            CaseKind::Entries | CaseKind::Calls | CaseKind::Area | CaseKind::Store => {
+                ("runs", "answer")
+            }
             _ => ("text", "answer"),
         }
     }
@@ -186,7 +198,9 @@ impl CaseKind {
             CaseKind::Disk => disk::disk(alloc, asked, lines),
             CaseKind::Asked => asked::asked(alloc, asked, lines),
             CaseKind::Sent => client::sent(alloc, asked, lines),
+            CaseKind::Answered => client::answered(alloc, asked, lines),
             CaseKind::Trial => client::trial(alloc, asked, lines),
+            CaseKind::Area => area::area(alloc, case.part("text"), asked, lines),
             CaseKind::Store => store::store(alloc, case, asked, lines),
         }
     }

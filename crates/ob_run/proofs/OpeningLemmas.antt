@@ -24,11 +24,11 @@ use Rattle.ob_store.specs.Opening.{IsBlankStart}
 use Rattle.ob_store.specs.Stores.{program_of, area_of_store, kept_of, state_of, StandsOn}
 use Rattle.ob_store.specs.declared.store.Store.{Store}
 use Rattle.ob_store_spec.specs.Stores.{StoreProgram, StoreRefusal, IsStoreOf, IsRefused}
-use Rattle.ob_run.specs.Commands.{Command, serve_stored}
+use Rattle.ob_words.specs.Asked.{Command, serve_stored}
 use Rattle.ob_run.specs.Openings.{RefusesStore, OpensNot, IsOpenedAs, StaysUnopened, OpensAs}
 use Rattle.ob_run.specs.Sessions.{area_bytes, program_with}
 use Rattle.ob_run.specs.Statuses.{Treats}
-use Rattle.ob_run.specs.TextRead.{TellsRefusal}
+use Rattle.ob_run.specs.TextRead.{asked_with, TellsRefusal}
 use Rattle.ob_run.specs.declared.serving.Unopened.{Unopened}
 use Rattle.ob_run.specs.declared.serving.Unopened.TheVariants as unopened
 use Rattle.ob_run.specs.declared.exit.Exit.{Exit}
@@ -143,15 +143,15 @@ module _ (table : ClassTable) (bodies : List SilicaBody) (code : Image) (compile
   -- what is told of a store that is refused
   pub refused_by_store : (cause : StoreRefusal) (exit : Exit) → TellsRefusal cause old.output new.output exit
       → ((c : List ℕ) → Reads old.disk c → IsRefused (program_of code) (area_of area_bytes c) cause) → During old.disk new.disk (May old.disk) → new.input ≡ old.input
-      → Treats (serve_stored name file) text old new exit
-  refused_by_store cause exit tells told kept input = by exit tells
+      → (fuel lanes slice : ℕ) → Treats (asked_with (serve_stored name file) fuel lanes slice) text old new exit
+  refused_by_store cause exit tells told kept input fuel lanes slice = by exit tells
     where
       refused : (c : List ℕ) → Reads old.disk c → IsRefused (program_with table bodies) (area_of area_bytes c) cause
       refused c reads =
           subst (λ (p : StoreProgram). IsRefused p (area_of area_bytes c) cause) (same_program table bodies code compiled emitted sound)
           (refused_by_source (record { table = table; bodies = bodies }) code (is_sound_for table bodies code compiled emitted sound) (image.bytes code) (area_of area_bytes c) cause (told c reads))
 
-      by : (exit : Exit) → TellsRefusal cause old.output new.output exit → Treats (serve_stored name file) text old new exit
+      by : (exit : Exit) → TellsRefusal cause old.output new.output exit → Treats (asked_with (serve_stored name file) fuel lanes slice) text old new exit
       by StoreRefused tells = inr (inl (record {
         name = name;
         store = file;

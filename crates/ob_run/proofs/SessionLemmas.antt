@@ -1,6 +1,6 @@
 -- From a session of a program to what its command says.
 use Rattle.std.specs.Prelude.{pos, option_map}
-use Rattle.std.proofs.Common.{◌≡◌, ◌⊎◌, inl, inr, ⊎_elim, ℕ, ◌≤◌, List, [], length, map, Option, None, Some, refl, sym, ◌∙◌, ap, subst, arith}
+use Rattle.std.proofs.Common.{◌≡◌, ◌⊎◌, inl, inr, ⊎_elim, ℕ, ◌≤◌, ◌+◌, List, [], length, map, Option, None, Some, refl, sym, ◌∙◌, ap, subst, arith}
 use Rattle.ob_code.specs.Images.{image}
 use Rattle.ob_code.specs.declared.image.Image.{Image}
 use Rattle.ob_disk_spec.specs.Disk.{DiskView, Reads, LeavesOnly}
@@ -40,11 +40,11 @@ use Rattle.ob_serve.specs.declared.serving.Served.{Served}
 use Rattle.ob_serve.specs.declared.serving.Served.TheVariants as ended
 use Rattle.ob_serve.proofs.Keeping.{empty_rests, keeps_sessions}
 use Rattle.ob_serve.proofs.Tables.{rests_by_source, rests_by_image, stands_by_source}
-use Rattle.ob_run.specs.Commands.{Command, serve, serve_stored}
+use Rattle.ob_words.specs.Asked.{serve, serve_stored, Asked}
 use Rattle.ob_run.specs.Openings.{IsOpenedAs}
-use Rattle.ob_run.specs.Sessions.{fuel_of_request, area_bytes, program_with, store_in_memory, ServesProgram}
+use Rattle.ob_run.specs.Sessions.{area_bytes, program_with, store_in_memory, ServesProgram}
 use Rattle.ob_run.specs.Statuses.{Tells, EndsSession, Treats}
-use Rattle.ob_run.specs.TextRead.{exit_of}
+use Rattle.ob_run.specs.TextRead.{asked_with, exit_of}
 use Rattle.ob_run.specs.declared.exit.Exit.{Exit}
 
 -- nothing is done with a disk
@@ -52,13 +52,13 @@ pub spared : (v : DiskView) → During v v (May v)
 spared v = during_none v (May v) (record { content = λ c reads. inl reads; images = λ c left. inr left })
 
 -- a session that ended is told by the exit
-pub ends_session : (command : Command) (text : List ℕ) (old new : Devices) (served : Served) → ServesProgram command text old new served → EndsSession command text old new (exit_of served)
-ends_session command text old new ended.Done h = h
-ends_session command text old new ended.ReadFault h = h
-ends_session command text old new ended.WriteFault h = h
-ends_session command text old new ended.DiskFault h = h
-ends_session command text old new ended.Memory h = h
-ends_session command text old new ended.Long h = h
+pub ends_session : (asked : Asked) (text : List ℕ) (old new : Devices) (served : Served) → ServesProgram asked text old new served → EndsSession asked text old new (exit_of served)
+ends_session asked text old new ended.Done h = h
+ends_session asked text old new ended.ReadFault h = h
+ends_session asked text old new ended.WriteFault h = h
+ends_session asked text old new ended.DiskFault h = h
+ends_session asked text old new ended.Memory h = h
+ends_session asked text old new ended.Long h = h
 
 -- a store in memory has no journal
 no_journal : (journal : Option Journal) → option_map area_size journal ≡ None → journal ≡ None
@@ -84,6 +84,11 @@ pub light_image : (text : List ℕ) (table : ClassTable) (bodies : List SilicaBo
 light_image text table bodies code is compiled emitted =
     omega (arith, ap (λ (i : Image). length (image.bytes i)) emitted, within_weight table bodies (terms_in_order table bodies compiled), is.light)
 
+-- so an area has room for it behind its header
+pub image_fits : (text : List ℕ) (table : ClassTable) (bodies : List SilicaBody) (code : Image) → IsProgram text table bodies → IsCompiledProgram table bodies → code ≡ image_of table bodies
+    → 18 + length (image.bytes code) ≤ area_bytes
+image_fits text table bodies code is compiled emitted = omega (arith, light_image text table bodies code is compiled emitted)
+
 module _ (table : ClassTable) (bodies : List SilicaBody) (code : Image) (compiled : IsCompiledProgram table bodies) (emitted : code ≡ image_of table bodies)
     (sound : IsSoundCode (record { table = table; bodies = bodies }) code) where
   abbrev pub program : SilicaProgram
@@ -100,21 +105,21 @@ module _ (table : ClassTable) (bodies : List SilicaBody) (code : Image) (compile
   pub same_program : source_program table code ≡ program_with table bodies
   same_program = ap (λ (i : Image). source_program table i) emitted
 
-  module _ (text : List ℕ) (is : IsProgram text table bodies) where
+  module _ (text : List ℕ) (is : IsProgram text table bodies) (fuel lanes slice : ℕ) where
     -- a session over a store in memory
     pub serves_in_memory : (name : List ℕ) (old new : Devices) (served : Served) (store : Store) → content_of (kept_of store) ≡ empty_content → area_of_store store ≡ None → state_of store ≡ store_in_memory
-        → Ends (item_of (by_source table fuel_of_request (area_of_store store))) (StandsForStore (source_program table code) (area_of_store store)) (state_of store) old new served
-        → During old.disk new.disk (May old.disk) → TakesAtMost old.input new.input most_taken → ServesProgram (serve name) text old new served
+        → Ends (item_of (by_source table fuel (area_of_store store))) (StandsForStore (source_program table code) (area_of_store store)) (state_of store) old new served
+        → During old.disk new.disk (May old.disk) → TakesAtMost old.input new.input most_taken → ServesProgram (asked_with (serve name) fuel lanes slice) text old new served
     serves_in_memory name old new served store empty memory begins ends quiet few = record {
       table = table;
       bodies = bodies;
       program = is;
       start = store_in_memory;
       begins = refl;
-      ends = subst (λ (p : StoreProgram). Ends (item_of (by_source table fuel_of_request None)) (StandsForStore p None) store_in_memory old new served) same_program
-          (subst (λ (s : StoreState). Ends (item_of (by_source table fuel_of_request None)) (StandsForStore (source_program table code) None) s old new served) begins
-          (subst (λ (area : Option ℕ). Ends (item_of (by_source table fuel_of_request area)) (StandsForStore (source_program table code) area) (state_of store) old new served) memory ends));
-      kept = keeps_sessions program code fuel_of_request is_sound_for;
+      ends = subst (λ (p : StoreProgram). Ends (item_of (by_source table fuel None)) (StandsForStore p None) store_in_memory old new served) same_program
+          (subst (λ (s : StoreState). Ends (item_of (by_source table fuel None)) (StandsForStore (source_program table code) None) s old new served) begins
+          (subst (λ (area : Option ℕ). Ends (item_of (by_source table fuel area)) (StandsForStore (source_program table code) area) (state_of store) old new served) memory ends));
+      kept = keeps_sessions program code fuel is_sound_for;
       spared = quiet;
       few = few;
     }
@@ -127,8 +132,8 @@ module _ (table : ClassTable) (bodies : List SilicaBody) (code : Image) (compile
     -- a session over the store of a disk, which was opened before
     pub serves_stored : (name file : List ℕ) (old mid new : Devices) (served : Served) (store : Store) → mid.input ≡ old.input → mid.output ≡ old.output → old.disk.faults ≤ mid.disk.faults
         → IsOpenedAs (program_of code) old.disk mid.disk store
-        → Ends (item_of (by_source table fuel_of_request (area_of_store store))) (StandsForStore (source_program table code) (area_of_store store)) (state_of store) mid new served
-        → TakesAtMost mid.input new.input most_taken → ServesProgram (serve_stored name file) text old new served
+        → Ends (item_of (by_source table fuel (area_of_store store))) (StandsForStore (source_program table code) (area_of_store store)) (state_of store) mid new served
+        → TakesAtMost mid.input new.input most_taken → ServesProgram (asked_with (serve_stored name file) fuel lanes slice) text old new served
     serves_stored name file old mid new served store input output later opened ends few = record {
       table = table;
       bodies = bodies;
@@ -136,20 +141,20 @@ module _ (table : ClassTable) (bodies : List SilicaBody) (code : Image) (compile
       start = state_of store;
       begins = (rests_by_source program code is_sound_for (content_of (kept_of store)) opened.at_rest, λ c reads. by_program c (state_of store) (opened.was c reads));
       ends = from_old;
-      kept = keeps_sessions program code fuel_of_request is_sound_for;
+      kept = keeps_sessions program code fuel is_sound_for;
       spared = tt;
       few = subst (λ (v : SourceView). TakesAtMost v new.input most_taken) input few;
     }
       where
         item : StoreState → List ℕ → SessionItem StoreState
-        item = item_of (by_source table fuel_of_request (Some area_bytes))
+        item = item_of (by_source table fuel (Some area_bytes))
 
         stands : StoreState → List ℕ → Type 0
         stands = StandsForStore (program_with table bodies) (Some area_bytes)
 
-        from_mid : Ends (item_of (by_source table fuel_of_request (Some area_bytes))) (StandsForStore (program_with table bodies) (Some area_bytes)) (state_of store) mid new served
-        from_mid = subst (λ (p : StoreProgram). Ends (item_of (by_source table fuel_of_request (Some area_bytes))) (StandsForStore p (Some area_bytes)) (state_of store) mid new served) same_program
-            (subst (λ (area : Option ℕ). Ends (item_of (by_source table fuel_of_request area)) (StandsForStore (source_program table code) area) (state_of store) mid new served) opened.area ends)
+        from_mid : Ends (item_of (by_source table fuel (Some area_bytes))) (StandsForStore (program_with table bodies) (Some area_bytes)) (state_of store) mid new served
+        from_mid = subst (λ (p : StoreProgram). Ends (item_of (by_source table fuel (Some area_bytes))) (StandsForStore p (Some area_bytes)) (state_of store) mid new served) same_program
+            (subst (λ (area : Option ℕ). Ends (item_of (by_source table fuel area)) (StandsForStore (source_program table code) area) (state_of store) mid new served) opened.area ends)
 
         here : Throughout mid.disk (λ c. IsStoreOf (program_with table bodies) (area_of area_bytes c) (state_of store))
         here = throughout_to mid.disk _ _ (stores_stand (program_of code) store area_bytes mid.disk opened.area opened.stands opened.at_rest) (λ c stood. by_program c (state_of store) stood)
@@ -162,7 +167,7 @@ module _ (table : ClassTable) (bodies : List SilicaBody) (code : Image) (compile
         cause_from ended.WriteFault cause = subst (λ (v : SinkView). Rose v.faults new.output.faults) output cause
         cause_from ended.DiskFault cause = omega (arith, later, cause)
 
-        from_old : Ends (item_of (by_source table fuel_of_request (Some area_bytes))) (StandsForStore (program_with table bodies) (Some area_bytes)) (state_of store) old new served
+        from_old : Ends (item_of (by_source table fuel (Some area_bytes))) (StandsForStore (program_with table bodies) (Some area_bytes)) (state_of store) old new served
         from_old = record {
           lines = from_mid.lines;
           of_input = subst (λ (v : SourceView). SpeaksOf served v new.input from_mid.lines) input from_mid.of_input;

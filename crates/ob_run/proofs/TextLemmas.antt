@@ -11,8 +11,8 @@ use Rattle.ob_lexer.specs.Flaws.{HasFault, too_long, no_utf8, flawed}
 use Rattle.ob_front.specs.Stages.{at_token, at_row, HasTableFault, at_tree, at_bracket, at_site}
 use Rattle.ob_front.specs.Programs.{HasTermsFault, at_table, at_slot, IsProgram, HasTextFault, at_terms, at_premise, at_weight}
 use Rattle.ob_serve.specs.Served.{Devices, IsAll}
-use Rattle.ob_run.specs.Asked.{most_read}
-use Rattle.ob_run.specs.Commands.{Command, serve, serve_stored, check}
+use Rattle.ob_words.specs.Asked.{Command, check, serve, serve_stored, trial, Asked}
+use Rattle.ob_run.specs.FileAsks.{most_read}
 use Rattle.ob_run.specs.Statuses.{IsRefusal, IsFinding, IsOfText, Tells, FailsToOpen, EndsSession, Treats}
 use Rattle.ob_run.specs.TextRead.{IsReadOf}
 use Rattle.ob_run.specs.declared.exit.Exit.{Exit}
@@ -46,13 +46,14 @@ module _ (content : List ℕ) (long : longest_program < length (take most_read c
   too_long_refusal : (bytes : List ℕ) → IsRefusal (take most_read content) bytes → IsRefusal content bytes
   too_long_refusal bytes h = record { fault = h.fault; told = too_long_text h.fault h.told; line = h.line }
 
-  not_found : (command : Command) (bytes : List ℕ) → IsFinding command (take most_read content) bytes → ⊥
-  not_found (serve name) bytes h = h
-  not_found (serve_stored name store) bytes h = h
-  not_found (check name) bytes h = long_and_short (take most_read content) long h.0.is.checked.terms.has.resolved.is.of.spelled.short
-
   no_program : (table : ClassTable) (bodies : List SilicaBody) → IsProgram (take most_read content) table bodies → ⊥
   no_program table bodies h = long_and_short (take most_read content) long h.checked.terms.has.resolved.is.of.spelled.short
+
+  not_found : (command : Command) (bytes : List ℕ) → IsFinding command (take most_read content) bytes → ⊥
+  not_found (check name) bytes h = no_program h.0.table h.0.bodies h.0.is
+  not_found (serve name) bytes h = h
+  not_found (serve_stored name store) bytes h = h
+  not_found (trial length) bytes h = no_program h.table h.bodies h.program
 
   too_long_of_text : (command : Command) (bytes : List ℕ) → IsOfText command (take most_read content) bytes → IsOfText command content bytes
   too_long_of_text command bytes (inl h) = inl (too_long_refusal bytes h)
@@ -82,43 +83,43 @@ module _ (content : List ℕ) (long : longest_program < length (take most_read c
   opens_none command old new FileFault h = h
   opens_none command old new Long h = h
 
-  serves_none : (command : Command) (old new : Devices) (exit : Exit) → EndsSession command (take most_read content) old new exit → ⊥
-  serves_none command old new Done h = no_program h.table h.bodies h.program
-  serves_none command old new ReadFault h = no_program h.table h.bodies h.program
-  serves_none command old new WriteFault h = no_program h.table h.bodies h.program
-  serves_none command old new DiskFault h = no_program h.table h.bodies h.program
-  serves_none command old new Memory h = no_program h.table h.bodies h.program
-  serves_none command old new Long h = no_program h.table h.bodies h.program
-  serves_none command old new Refused h = h
-  serves_none command old new Usage h = h
-  serves_none command old new StoreRefused h = h
-  serves_none command old new FileFault h = h
+  serves_none : (asked : Asked) (old new : Devices) (exit : Exit) → EndsSession asked (take most_read content) old new exit → ⊥
+  serves_none asked old new Done h = no_program h.table h.bodies h.program
+  serves_none asked old new ReadFault h = no_program h.table h.bodies h.program
+  serves_none asked old new WriteFault h = no_program h.table h.bodies h.program
+  serves_none asked old new DiskFault h = no_program h.table h.bodies h.program
+  serves_none asked old new Memory h = no_program h.table h.bodies h.program
+  serves_none asked old new Long h = no_program h.table h.bodies h.program
+  serves_none asked old new Refused h = h
+  serves_none asked old new Usage h = h
+  serves_none asked old new StoreRefused h = h
+  serves_none asked old new FileFault h = h
 
-  too_long_treated : (command : Command) (old new : Devices) (exit : Exit) → Treats command (take most_read content) old new exit → Treats command content old new exit
-  too_long_treated command old new exit (inl h) = inl (record { output = too_long_tells command old.output new.output exit h.output; input = h.input; disk = h.disk })
-  too_long_treated command old new exit (inr (inl h)) = absurd (opens_none command old new exit h)
-  too_long_treated command old new exit (inr (inr h)) = absurd (serves_none command old new exit h)
+  too_long_treated : (asked : Asked) (old new : Devices) (exit : Exit) → Treats asked (take most_read content) old new exit → Treats asked content old new exit
+  too_long_treated asked old new exit (inl h) = inl (record { output = too_long_tells asked.command old.output new.output exit h.output; input = h.input; disk = h.disk })
+  too_long_treated asked old new exit (inr (inl h)) = absurd (opens_none asked.command old new exit h)
+  too_long_treated asked old new exit (inr (inr h)) = absurd (serves_none asked old new exit h)
 
 -- a text that isn't too long was read whole
 whole : (content : List ℕ) → length (take most_read content) ≤ longest_program → take most_read content ≡ content
 whole content short = take_all most_read content (omega (arith, length-take most_read content))
 
-treated_whole : (command : Command) (content : List ℕ) (old new : Devices) (exit : Exit) → Treats command (take most_read content) old new exit → Treats command content old new exit
-treated_whole command content old new exit h = elim (cases_lt longest_program (length (take most_read content))) [
-  | inl long ↦ too_long_treated content long command old new exit h
-  | inr short ↦ subst (λ (l : List ℕ). Treats command l old new exit) (whole content short) h
+treated_whole : (asked : Asked) (content : List ℕ) (old new : Devices) (exit : Exit) → Treats asked (take most_read content) old new exit → Treats asked content old new exit
+treated_whole asked content old new exit h = elim (cases_lt longest_program (length (take most_read content))) [
+  | inl long ↦ too_long_treated content long asked old new exit h
+  | inr short ↦ subst (λ (l : List ℕ). Treats asked l old new exit) (whole content short) h
 ]
 
 -- what a command does with what it read is what it does with all that is told
-pub record TreatsAll (command : Command) (content : Option (List ℕ)) (old new : Devices) (exit : Exit) : Type 0 where
+pub record TreatsAll (asked : Asked) (content : Option (List ℕ)) (old new : Devices) (exit : Exit) : Type 0 where
   pub text : List ℕ
   pub told : IsAll content text
-  pub treats : Treats command text old new exit
+  pub treats : Treats asked text old new exit
 
-pub treated_all : (command : Command) (content : Option (List ℕ)) (text : List ℕ) (old new : Devices) (exit : Exit) → IsReadOf content text → Treats command text old new exit → TreatsAll command content old new exit
-treated_all command None text old new exit read h = record { text = text; told = tt; treats = h }
-treated_all command (Some content) text old new exit read h = record {
+pub treated_all : (asked : Asked) (content : Option (List ℕ)) (text : List ℕ) (old new : Devices) (exit : Exit) → IsReadOf content text → Treats asked text old new exit → TreatsAll asked content old new exit
+treated_all asked None text old new exit read h = record { text = text; told = tt; treats = h }
+treated_all asked (Some content) text old new exit read h = record {
   text = content;
   told = refl;
-  treats = treated_whole command content old new exit (subst (λ (l : List ℕ). Treats command l old new exit) read h);
+  treats = treated_whole asked content old new exit (subst (λ (l : List ℕ). Treats asked l old new exit) read h);
 }

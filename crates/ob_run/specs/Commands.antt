@@ -1,25 +1,31 @@
--- What the words of the command line ask for.
-use Rattle.std.specs.Prelude.{ℕ, List, [], ◌∷◌, Option, None, Some, codes, if◌then◌else◌}
-use Rattle.std.specs.Str.{bytes_eq}
+-- What a command reads, and how it goes on (this project's own).
+use Rattle.std.specs.Prelude.{ℕ, ⊤, List, Option, Some, None}
+use Rattle.ob_io.specs.Views.{FilesView}
+use Rattle.ob_words.specs.Asked.{Command, check, serve, serve_stored, trial}
+use Rattle.ob_run.specs.VendingMachine.{vending_machine}
 
--- The commands: `serve P` serves lines over a store in memory, for the program in the file P; `serve P STORE` serves them over the store
--- that is kept in the file STORE; `check P` says whether the text in the file P has a fault.
-pub data Command : Type 0 where
-  serve : List ℕ → Command
-  serve_stored : List ℕ → List ℕ → Command
-  check : List ℕ → Command
+-- the file P of a command; a trial has none
+abbrev pub file_of : Command → Option (List ℕ)
+file_of (check name) = Some name
+file_of (serve name) = Some name
+file_of (serve_stored name store) = Some name
+file_of (trial length) = None
 
--- the file P
-abbrev pub file_of : Command → List ℕ
-file_of (serve name) = name
-file_of (serve_stored name store) = name
-file_of (check name) = name
+-- what is told of the text of a command: of P what the files tell; a trial is one of the vending machine
+abbrev pub text_in : FilesView → Option (List ℕ) → Option (List ℕ)
+text_in files None = Some vending_machine
+text_in files (Some name) = files.content name
 
--- the command that the words are, without the program's own name
-abbrev pub command_of : List (List ℕ) → Option Command
-command_of [] = None
-command_of (word ∷ []) = None
-command_of (word ∷ name ∷ []) =
-    if bytes_eq word (codes "serve") then Some (serve name) else (if bytes_eq word (codes "check") then Some (check name) else None)
-command_of (word ∷ name ∷ store ∷ []) = if bytes_eq word (codes "serve") then Some (serve_stored name store) else None
-command_of (word ∷ name ∷ store ∷ more ∷ words) = None
+-- a command serves the lines of the input
+abbrev pub ServesLines : Command → Type 0
+ServesLines (check name) = ⊥
+ServesLines (serve name) = ⊤
+ServesLines (serve_stored name store) = ⊤
+ServesLines (trial length) = ⊥
+
+-- a command writes what it finds of its text, and takes no input
+abbrev pub FindsOfText : Command → Type 0
+FindsOfText (check name) = ⊤
+FindsOfText (serve name) = ⊥
+FindsOfText (serve_stored name store) = ⊥
+FindsOfText (trial length) = ⊤

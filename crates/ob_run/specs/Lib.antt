@@ -1,12 +1,13 @@
+pub mod VendingMachine
 pub mod Commands
-pub mod CommandView
-pub mod Asked
+pub mod FileAsks
 pub mod FaultLine
 pub mod StoreLine
 pub mod Outside
 pub mod Writes
 pub mod Sessions
 pub mod Openings
+pub mod TrialLines
 pub mod Statuses
 pub mod Survival
 pub mod ExitStatus

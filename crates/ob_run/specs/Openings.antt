@@ -14,7 +14,7 @@ use Rattle.ob_store.specs.declared.store.Store.{Store}
 use Rattle.ob_journal_spec.specs.Areas.{IsBlank, IsBlankOrBegun, area_of}
 use Rattle.ob_store_spec.specs.Stores.{StoreProgram, StoreRefusal, IsStoreOf, IsRefused}
 use Rattle.ob_serve.specs.Served.{Devices}
-use Rattle.ob_run.specs.Commands.{Command, serve_stored}
+use Rattle.ob_words.specs.Asked.{Command, serve_stored}
 use Rattle.ob_run.specs.Sessions.{area_bytes, program_with}
 use Rattle.ob_run.specs.StoreLine.{store_line, refusal_view}
 use Rattle.ob_run.specs.declared.serving.Unopened.{Unopened}

@@ -19,11 +19,7 @@ use Rattle.ob_serve.specs.Session.{SessionItem}
 use Rattle.ob_serve.specs.Served.{Devices, Ends}
 use Rattle.ob_serve.specs.Standing.{StandsForStore}
 use Rattle.ob_serve.specs.declared.serving.Served.{Served}
-use Rattle.ob_run.specs.Commands.{Command, serve, serve_stored, check}
-
--- the units of fuel that each request has
-abbrev pub fuel_of_request : ℕ
-fuel_of_request = 100000
+use Rattle.ob_words.specs.Asked.{Command, check, serve, serve_stored, trial, Asked}
 
 -- how many bytes a store may take on a disk: 64 MiB
 abbrev pub area_bytes : ℕ
@@ -31,9 +27,10 @@ area_bytes = 67108864
 
 -- the area in which a command's store is kept: one in memory has none
 abbrev pub area_for : Command → Option ℕ
+area_for (check name) = None
 area_for (serve name) = None
 area_for (serve_stored name store) = Some area_bytes
-area_for (check name) = None
+area_for (trial length) = None
 
 -- a program, as a store knows it: by its class table, and the bytes of its image
 abbrev pub program_with : ClassTable → List SilicaBody → StoreProgram
@@ -45,20 +42,23 @@ store_in_memory = record { content = empty_content; gate = 0; serial = pos 0 }
 
 -- the store on which a command's session begins: an empty one in memory, or the one, at rest, for which the disk stands
 abbrev pub BeginsAt : Command → StoreProgram → DiskView → StoreState → Type 0
+BeginsAt (check name) program disk start = ⊥
 BeginsAt (serve name) program disk start = start ≡ store_in_memory
 BeginsAt (serve_stored name store) program disk start =
     IsStoreAtRest program.table start.content × ((c : List ℕ) → Reads disk c → IsStoreOf program (area_of area_bytes c) start)
-BeginsAt (check name) program disk start = ⊥
+BeginsAt (trial length) program disk start = ⊥
 
 -- a command whose store is kept in memory changes no byte of the disk
 abbrev pub SparesDisk : Command → Devices → Devices → Type 0
+SparesDisk (check name) old new = During old.disk new.disk (May old.disk)
 SparesDisk (serve name) old new = During old.disk new.disk (May old.disk)
 SparesDisk (serve_stored name store) old new = ⊤
-SparesDisk (check name) old new = During old.disk new.disk (May old.disk)
+SparesDisk (trial length) old new = During old.disk new.disk (May old.disk)
 
--- The item of a line: it is answered by the source meaning of a class table, on the store that the line before left.
-abbrev pub source_item : Command → ClassTable → StoreState → List ℕ → SessionItem StoreState
-source_item command table = item_of (by_source table fuel_of_request (area_for command))
+-- The item of a line: it is answered by the source meaning of a class table, with the fuel that is asked for, on the store that the line
+-- before left.
+abbrev pub source_item : Asked → ClassTable → StoreState → List ℕ → SessionItem StoreState
+source_item asked table = item_of (by_source table asked.limits.fuel (area_for asked.command))
 
 -- bytes of a disk stand for the store of a command's session
 abbrev pub StandsOnDisk : Command → ClassTable → List SilicaBody → StoreState → List ℕ → Type 0
@@ -66,18 +66,18 @@ StandsOnDisk command table bodies = StandsForStore (program_with table bodies) (
 
 -- No item of any lines goes wrong; after each the store is at rest, and each stored asset that was never shared nor disowned has exactly
 -- one owner; and a line that is refused or aborted changes nothing.
-abbrev pub IsKeptAlways : ClassTable → Type 0
-IsKeptAlways table = KeepsSessions table fuel_of_request
+abbrev pub IsKeptAlways : ClassTable → ℕ → Type 0
+IsKeptAlways table fuel = KeepsSessions table fuel
 
 -- The text is a program, and a session of it ended so, on the store at which the command begins; what its items keep is kept, whatever
 -- the lines are; and at most `most_taken` bytes of input were taken.
-pub record ServesProgram (command : Command) (text : List ℕ) (old new : Devices) (served : Served) : Type 0 where
+pub record ServesProgram (asked : Asked) (text : List ℕ) (old new : Devices) (served : Served) : Type 0 where
   pub table : ClassTable
   pub bodies : List SilicaBody
   pub program : IsProgram text table bodies
   pub start : StoreState
-  pub begins : BeginsAt command (program_with table bodies) old.disk start
-  pub ends : Ends (source_item command table) (StandsOnDisk command table bodies) start old new served
-  pub kept : IsKeptAlways table
-  pub spared : SparesDisk command old new
+  pub begins : BeginsAt asked.command (program_with table bodies) old.disk start
+  pub ends : Ends (source_item asked table) (StandsOnDisk asked.command table bodies) start old new served
+  pub kept : IsKeptAlways table asked.limits.fuel
+  pub spared : SparesDisk asked.command old new
   pub few : TakesAtMost old.input new.input most_taken

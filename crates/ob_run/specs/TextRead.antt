@@ -2,7 +2,8 @@
 use Rattle.std.specs.Prelude.{ℕ, ◌≡◌, ◌≤◌, List, length, take, Option, None, Some}
 use Rattle.ob_io.specs.Views.{SinkView}
 use Rattle.ob_store_spec.specs.Stores.{StoreRefusal}
-use Rattle.ob_run.specs.Asked.{most_read}
+use Rattle.ob_words.specs.Asked.{Command, Asked}
+use Rattle.ob_run.specs.FileAsks.{most_read}
 use Rattle.ob_run.specs.StoreLine.{store_line}
 use Rattle.ob_run.specs.Writes.{WritesWhole, WritesFront}
 use Rattle.ob_run.specs.declared.exit.Exit.{Exit}
@@ -21,6 +22,10 @@ TellsRefusal refusal old new StoreRefused = WritesWhole (λ bytes. bytes ≡ sto
 TellsRefusal refusal old new WriteFault = WritesFront (λ bytes. bytes ≡ store_line refusal) old new
 TellsRefusal refusal old new Memory = new ≡ old
 TellsRefusal refusal old new exit = ⊥
+
+-- a command with these settings
+abbrev pub asked_with : Command → ℕ → ℕ → ℕ → Asked
+asked_with command fuel lanes slice = record { command = command; limits = record { fuel = fuel; lanes = lanes; slice = slice } }
 
 -- how a run ends whose session ended so
 abbrev pub exit_of : Served → Exit

@@ -1,13 +1,14 @@
 //! The top call: what the words of a command line ask for, done over files, a source, a sink and a disk.
 #![tactic(auto)]
 
-mod command;
 mod exit;
 mod fault;
+mod machine;
 mod refusal;
 mod serving;
 mod telling;
 mod top;
+mod trying;
 
 pub use exit::Exit;
 pub use fault::fault_line;

@@ -3,10 +3,10 @@ ghost use Rattle.std.specs.Prelude.{◌≡◌, ◌≢◌, ◌+◌, ◌≤◌, �
 ghost use Rattle.ob_code.specs.Images.{image};
 ghost use Rattle.ob_emit_spec.specs.Weights.{most_weight};
 ghost use Rattle.ob_store.specs.Stores.{program_of};
-ghost use Rattle.ob_run.specs.Commands.{serve, serve_stored};
+ghost use Rattle.ob_words.specs.Asked.{serve, serve_stored};
 ghost use Rattle.ob_run.specs.Openings.{OpensAs};
 ghost use Rattle.ob_run.specs.Statuses.{Treats};
-ghost use Rattle.ob_run.specs.TextRead.{exit_of};
+ghost use Rattle.ob_run.specs.TextRead.{asked_with, exit_of};
 
 use crate::exit::Exit;
 use crate::refusal::StoreRefusal;
@@ -19,11 +19,8 @@ use ob_store::{OpenError, Store};
 use ob_verify::Verified;
 use std::alloc::Global;
 
-/// The units of fuel that each request has.
-const FUEL: u32 = 100_000;
-
 /// How many bytes a store may take on a disk.
-const AREA: u64 = 67_108_864;
+pub(crate) const AREA: u64 = 67_108_864;
 
 // How the run ends whose session ended so.
 fn exit_of(served: Served) -> Exit
@@ -100,11 +97,12 @@ fn open_named<D: Disk>(
 pub fn serve_text<S: Source, K: Sink, D: Disk>(
     alloc: Global,
     text: &[u8],
+    fuel: u32,
     input: &mut S,
     output: &mut K,
     disk: &mut D,
 ) -> Exit
-    ensures treats { (name : List ℕ) → Treats (serve name) text.now
+    ensures treats { (name : List ℕ) (lanes slice : ℕ) → Treats (asked_with (serve name) fuel lanes slice) text.now
         (record { input = S.view input.old; output = K.view output.old; disk = D.view disk.old })
         (record { input = S.view input.new; output = K.view output.new; disk = D.view disk.new })
         result }
@@ -124,7 +122,7 @@ pub fn serve_text<S: Source, K: Sink, D: Disk>(
         Err(CompileError::Memory) => return Exit::Memory,
     };
     let mut store = Store::blank(alloc);
-    let served = serve(alloc, &program.code, &mut store, FUEL, input, output, disk);
+    let served = serve(alloc, &program.code, &mut store, fuel, input, output, disk);
     exit_of(served)
 }
 
@@ -133,11 +131,12 @@ pub fn serve_text_stored<S: Source, K: Sink, D: Disk>(
     alloc: Global,
     text: &[u8],
     name: &str,
+    fuel: u32,
     input: &mut S,
     output: &mut K,
     disk: &mut D,
 ) -> Exit
-    ensures treats { (file : List ℕ) → Treats (serve_stored file name.now) text.now
+    ensures treats { (file : List ℕ) (lanes slice : ℕ) → Treats (asked_with (serve_stored file name.now) fuel lanes slice) text.now
         (record { input = S.view input.old; output = K.view output.old; disk = D.view disk.old })
         (record { input = S.view input.new; output = K.view output.new; disk = D.view disk.new })
         result }
@@ -162,6 +161,6 @@ pub fn serve_text_stored<S: Source, K: Sink, D: Disk>(
         Err(Unopened::DiskFault) => return Exit::DiskFault,
         Err(Unopened::Memory) => return Exit::Memory,
     };
-    let served = serve(alloc, &program.code, &mut store, FUEL, input, output, disk);
+    let served = serve(alloc, &program.code, &mut store, fuel, input, output, disk);
     exit_of(served)
 }

@@ -1,7 +1,7 @@
 //! What is written where no line is served.
 ghost use Rattle.std.specs.Prelude.{◌≡◌, ◌≢◌, ◌+◌, ◌≤◌, ℕ, List};
 ghost use Rattle.ob_front.specs.Programs.{IsAccepted, HasTextFault};
-ghost use Rattle.ob_run.specs.Commands.{Command, check};
+ghost use Rattle.ob_words.specs.Asked.{Command, check};
 ghost use Rattle.ob_run.specs.Statuses.{Tells};
 ghost use Rattle.ob_run.specs.StoreLine.{refusal_view};
 ghost use Rattle.ob_run.specs.TextRead.{TellsRefusal};

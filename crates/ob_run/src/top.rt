@@ -1,56 +1,65 @@
 //! The top call.
-ghost use Rattle.std.specs.Prelude.{◌≡◌, ◌≢◌, ◌+◌, ◌≤◌, ◌⊎◌, None, Some, List, ℕ, map, string_bytes, IfOk, IsErrOf};
+ghost use Rattle.std.specs.Prelude.{◌≡◌, ◌≢◌, ◌+◌, ◌≤◌, ◌⊎◌, None, Some, List, ℕ, map, option_map, string_bytes, IfOk, IsErrOf};
 ghost use Rattle.ob_front.specs.Programs.{IsAccepted};
 ghost use Rattle.ob_io.specs.Causes.{Rose};
 ghost use Rattle.ob_io.specs.Files.{NotesAsk};
-ghost use Rattle.ob_run.specs.Asked.{AsksFor, program_ask};
-ghost use Rattle.ob_run.specs.CommandView.{command_view};
-ghost use Rattle.ob_run.specs.Commands.{command_of, file_of};
+ghost use Rattle.ob_words.specs.Asked.{asked_of};
+ghost use Rattle.ob_words.specs.AskedView.{asked_view, command_view};
+ghost use Rattle.ob_run.specs.Commands.{file_of};
+ghost use Rattle.ob_run.specs.FileAsks.{AsksFor, program_ask};
 ghost use Rattle.ob_run.specs.Outside.{outside, faults_of, IsCalm};
-ghost use Rattle.ob_run.specs.Statuses.{Treats, MeetsStatus, IsDone, IsRefused, IsUsage, IsReadFault, IsWriteFault, IsDiskFault, IsStoreRefused, IsFileFault, IsMemory, IsLong, IsSmooth, HasStoreFor, IsSmoothCheck};
+ghost use Rattle.ob_run.specs.Statuses.{Treats, MeetsStatus, IsDone, IsRefused, IsUsage, IsReadFault, IsWriteFault, IsDiskFault, IsStoreRefused, IsFileFault, IsMemory, IsLong, IsSmooth, HasStoreFor, IsSmoothFinding};
 ghost use Rattle.ob_run.specs.Survival.{Survives};
 ghost use Rattle.ob_run.specs.TextRead.{IsReadOf};
 
-use crate::command::Command;
 use crate::exit::Exit;
+use crate::machine::vending_machine;
 use crate::serving::{serve_text, serve_text_stored};
 use crate::telling::check_text;
+use crate::trying::try_text;
 use ob_base::LONGEST_PROGRAM;
 use ob_disk::Disk;
 use ob_io::{FileError, Files, Sink, Source};
+use ob_words::{Asked, Command, WordsError, parse_words};
 use std::alloc::Global;
 
 /// The most bytes of a program's file that are read: one more than a program may have.
 const MOST_READ: usize = LONGEST_PROGRAM + 1;
 
+// The file P of a command.
+fn file_of(command: Command<'_>) -> Option<&str>
+    ensures { option_map (λ name. name.now) result ≡ file_of (command_view command.entry) }
+{
+    match command {
+        Command::Check(name) | Command::Serve(name) | Command::ServeStored(name, _) => Some(name),
+        Command::Trial(_) => None,
+    }
+}
+
 // The text of a command's file, as far as it is read.
-fn read_text<F: Files>(
-    alloc: Global,
-    files: &mut F,
-    command: Command<'_>,
-) -> Result<Vec<u8>, FileError>
-    ensures text { IfOk result (λ text. IsReadOf ((F.view files.old).content (file_of (command_view command.entry))) text.items) }
-    ensures asks { NotesAsk (F.view files.old).asks (F.view files.new).asks (program_ask (command_view command.entry)) result }
+fn read_text<F: Files>(alloc: Global, files: &mut F, name: &str) -> Result<Vec<u8>, FileError>
+    ensures text { IfOk result (λ text. IsReadOf ((F.view files.old).content name.now) text.items) }
+    ensures asks { NotesAsk (F.view files.old).asks (F.view files.new).asks (program_ask name.now) result }
     ensures cause { IsErrOf result FileError.Failed → Rose (F.view files.old).faults (F.view files.new).faults }
     ensures later { (F.view files.old).faults ≤ (F.view files.new).faults }
     ensures calm { result ≢ Err FileError.Failed → (F.view files.new).faults ≡ (F.view files.old).faults }
     ensures once { (F.view files.new).faults ≤ (F.view files.old).faults + 1 }
 {
     let mut text = Vec::new(alloc);
-    files.read(command.file(), MOST_READ, &mut text)?;
+    files.read(name, MOST_READ, &mut text)?;
     Ok(text)
 }
 
-// Does with a text what the command says.
+// Does with a text what is asked.
 fn treat<S: Source, K: Sink, D: Disk>(
     alloc: Global,
-    command: Command<'_>,
+    asked: Asked<'_>,
     text: &[u8],
     input: &mut S,
     output: &mut K,
     disk: &mut D,
 ) -> Exit
-    ensures treats { Treats (command_view command.entry) text.now
+    ensures treats { Treats (asked_view asked.entry) text.now
         (record { input = S.view input.old; output = K.view output.old; disk = D.view disk.old })
         (record { input = S.view input.new; output = K.view output.new; disk = D.view disk.new })
         result }
@@ -64,12 +73,14 @@ fn treat<S: Source, K: Sink, D: Disk>(
     ensures once { (S.view input.new).faults + (K.view output.new).faults + (D.view disk.new).faults
         ≤ (S.view input.old).faults + (K.view output.old).faults + (D.view disk.old).faults + 1 }
 {
-    match command {
-        Command::Serve(_) => serve_text(alloc, text, input, output, disk),
-        Command::ServeStored(_, name) => {
-            serve_text_stored(alloc, text, name, input, output, disk)
-        }
+    let fuel = asked.limits.fuel;
+    match asked.command {
         Command::Check(_) => check_text(alloc, text, output),
+        Command::Serve(_) => serve_text(alloc, text, fuel, input, output, disk),
+        Command::ServeStored(_, name) => {
+            serve_text_stored(alloc, text, name, fuel, input, output, disk)
+        }
+        Command::Trial(length) => try_text(alloc, text, length, output),
     }
 }
 
@@ -81,11 +92,11 @@ fn run_words<F: Files, S: Source, K: Sink, D: Disk>(
     output: &mut K,
     disk: &mut D,
 ) -> Exit
-    ensures meets { MeetsStatus (map string_bytes words.now)
+    ensures meets { MeetsStatus (asked_of (map string_bytes words.now))
         (outside (F.view files.old) (S.view input.old) (K.view output.old) (D.view disk.old))
         (outside (F.view files.new) (S.view input.new) (K.view output.new) (D.view disk.new))
         result }
-    ensures asked { AsksFor (command_of (map string_bytes words.now)) (F.view files.old).asks (F.view files.new).asks }
+    ensures asked { AsksFor (asked_of (map string_bytes words.now)) (F.view files.old).asks (F.view files.new).asks }
     ensures later_files { (F.view files.old).faults ≤ (F.view files.new).faults }
     ensures later_read { (S.view input.old).faults ≤ (S.view input.new).faults }
     ensures later_write { (K.view output.old).faults ≤ (K.view output.new).faults }
@@ -96,11 +107,23 @@ fn run_words<F: Files, S: Source, K: Sink, D: Disk>(
     ensures once { faults_of (outside (F.view files.new) (S.view input.new) (K.view output.new) (D.view disk.new))
         ≤ faults_of (outside (F.view files.old) (S.view input.old) (K.view output.old) (D.view disk.old)) + 1 }
 {
-    let Some(command) = Command::of(words) else {
-        return Exit::Usage;
+    let asked = match parse_words(alloc, words) {
+        Ok(asked) => asked,
+        Err(WordsError::Usage) => return Exit::Usage,
+        Err(WordsError::Memory) => return Exit::Memory,
     };
-    match read_text(alloc, files, command) {
-        Ok(text) => treat(alloc, command, &text, input, output, disk),
+    let Some(name) = file_of(asked.command) else {
+        return treat(
+            alloc,
+            asked,
+            vending_machine().as_bytes(),
+            input,
+            output,
+            disk,
+        );
+    };
+    match read_text(alloc, files, name) {
+        Ok(text) => treat(alloc, asked, &text, input, output, disk),
         Err(FileError::Failed) => Exit::FileFault,
         Err(FileError::Memory) => Exit::Memory,
     }
@@ -117,65 +140,65 @@ pub fn run<F: Files, S: Source, K: Sink, D: Disk>(
     disk: &mut D,
 ) -> Exit
     // What each status says.
-    ensures done { result ≡ Exit.Done → IsDone (map string_bytes words.now)
+    ensures done { result ≡ Exit.Done → IsDone (asked_of (map string_bytes words.now))
         (outside (F.view files.old) (S.view input.old) (K.view output.old) (D.view disk.old))
         (outside (F.view files.new) (S.view input.new) (K.view output.new) (D.view disk.new)) }
-    ensures refused { result ≡ Exit.Refused → IsRefused (map string_bytes words.now)
+    ensures refused { result ≡ Exit.Refused → IsRefused (asked_of (map string_bytes words.now))
         (outside (F.view files.old) (S.view input.old) (K.view output.old) (D.view disk.old))
         (outside (F.view files.new) (S.view input.new) (K.view output.new) (D.view disk.new)) }
-    ensures usage { result ≡ Exit.Usage → IsUsage (map string_bytes words.now)
+    ensures usage { result ≡ Exit.Usage → IsUsage (asked_of (map string_bytes words.now))
         (outside (F.view files.old) (S.view input.old) (K.view output.old) (D.view disk.old))
         (outside (F.view files.new) (S.view input.new) (K.view output.new) (D.view disk.new)) }
-    ensures read_fault { result ≡ Exit.ReadFault → IsReadFault (map string_bytes words.now)
+    ensures read_fault { result ≡ Exit.ReadFault → IsReadFault (asked_of (map string_bytes words.now))
         (outside (F.view files.old) (S.view input.old) (K.view output.old) (D.view disk.old))
         (outside (F.view files.new) (S.view input.new) (K.view output.new) (D.view disk.new)) }
-    ensures write_fault { result ≡ Exit.WriteFault → IsWriteFault (map string_bytes words.now)
+    ensures write_fault { result ≡ Exit.WriteFault → IsWriteFault (asked_of (map string_bytes words.now))
         (outside (F.view files.old) (S.view input.old) (K.view output.old) (D.view disk.old))
         (outside (F.view files.new) (S.view input.new) (K.view output.new) (D.view disk.new)) }
-    ensures disk_fault { result ≡ Exit.DiskFault → IsDiskFault (map string_bytes words.now)
+    ensures disk_fault { result ≡ Exit.DiskFault → IsDiskFault (asked_of (map string_bytes words.now))
         (outside (F.view files.old) (S.view input.old) (K.view output.old) (D.view disk.old))
         (outside (F.view files.new) (S.view input.new) (K.view output.new) (D.view disk.new)) }
-    ensures store_refused { result ≡ Exit.StoreRefused → IsStoreRefused (map string_bytes words.now)
+    ensures store_refused { result ≡ Exit.StoreRefused → IsStoreRefused (asked_of (map string_bytes words.now))
         (outside (F.view files.old) (S.view input.old) (K.view output.old) (D.view disk.old))
         (outside (F.view files.new) (S.view input.new) (K.view output.new) (D.view disk.new)) }
-    ensures file_fault { result ≡ Exit.FileFault → IsFileFault (map string_bytes words.now)
+    ensures file_fault { result ≡ Exit.FileFault → IsFileFault (asked_of (map string_bytes words.now))
         (outside (F.view files.old) (S.view input.old) (K.view output.old) (D.view disk.old))
         (outside (F.view files.new) (S.view input.new) (K.view output.new) (D.view disk.new)) }
-    ensures memory { result ≡ Exit.Memory → IsMemory (map string_bytes words.now)
+    ensures memory { result ≡ Exit.Memory → IsMemory (asked_of (map string_bytes words.now))
         (outside (F.view files.old) (S.view input.old) (K.view output.old) (D.view disk.old))
         (outside (F.view files.new) (S.view input.new) (K.view output.new) (D.view disk.new)) }
-    ensures long { result ≡ Exit.Long → IsLong (map string_bytes words.now)
+    ensures long { result ≡ Exit.Long → IsLong (asked_of (map string_bytes words.now))
         (outside (F.view files.old) (S.view input.old) (K.view output.old) (D.view disk.old))
         (outside (F.view files.new) (S.view input.new) (K.view output.new) (D.view disk.new)) }
 
     // Whatever the status of `serve P STORE`, a crash at any moment loses no line of whose reply a byte was written.
-    ensures crash { Survives (map string_bytes words.now)
+    ensures crash { Survives (asked_of (map string_bytes words.now))
         (outside (F.view files.old) (S.view input.old) (K.view output.old) (D.view disk.old))
         (outside (F.view files.new) (S.view input.new) (K.view output.new) (D.view disk.new)) }
 
     // Nothing is refused without reason.
-    ensures unknown { command_of (map string_bytes words.now) ≡ None → result ≡ Exit.Usage }
-    ensures served { (smooth : IsSmooth (map string_bytes words.now)
+    ensures unknown { asked_of (map string_bytes words.now) ≡ None → (result ≡ Exit.Usage) ⊎ (result ≡ Exit.Memory) }
+    ensures served { (smooth : IsSmooth (asked_of (map string_bytes words.now))
         (outside (F.view files.old) (S.view input.old) (K.view output.old) (D.view disk.old))
         (outside (F.view files.new) (S.view input.new) (K.view output.new) (D.view disk.new)))
-        → IsAccepted smooth.text → HasStoreFor smooth.command smooth.text
+        → IsAccepted smooth.text → HasStoreFor smooth.asked.command smooth.text
         (outside (F.view files.old) (S.view input.old) (K.view output.old) (D.view disk.old))
         → (result ≡ Exit.Done) ⊎ (result ≡ Exit.Memory) }
-    ensures faulty { (smooth : IsSmooth (map string_bytes words.now)
+    ensures faulty { (smooth : IsSmooth (asked_of (map string_bytes words.now))
         (outside (F.view files.old) (S.view input.old) (K.view output.old) (D.view disk.old))
         (outside (F.view files.new) (S.view input.new) (K.view output.new) (D.view disk.new)))
         → ¬ (IsAccepted smooth.text) → (result ≡ Exit.Refused) ⊎ (result ≡ Exit.Memory) }
-    ensures checked { (smooth : IsSmoothCheck (map string_bytes words.now)
+    ensures checked { (smooth : IsSmoothFinding (asked_of (map string_bytes words.now))
         (outside (F.view files.old) (S.view input.old) (K.view output.old) (D.view disk.old))
         (outside (F.view files.new) (S.view input.new) (K.view output.new) (D.view disk.new)))
         → IsAccepted smooth.text → (result ≡ Exit.Done) ⊎ (result ≡ Exit.Memory) }
-    ensures unaccepted { (smooth : IsSmoothCheck (map string_bytes words.now)
+    ensures unaccepted { (smooth : IsSmoothFinding (asked_of (map string_bytes words.now))
         (outside (F.view files.old) (S.view input.old) (K.view output.old) (D.view disk.old))
         (outside (F.view files.new) (S.view input.new) (K.view output.new) (D.view disk.new)))
         → ¬ (IsAccepted smooth.text) → (result ≡ Exit.Refused) ⊎ (result ≡ Exit.Memory) }
 
     // The program's file is asked once at most, for `most_read` bytes, and no other file is.
-    ensures asked { AsksFor (command_of (map string_bytes words.now)) (F.view files.old).asks (F.view files.new).asks }
+    ensures asked { AsksFor (asked_of (map string_bytes words.now)) (F.view files.old).asks (F.view files.new).asks }
 
     // No count of faults falls.
     ensures later_files { (F.view files.old).faults ≤ (F.view files.new).faults }

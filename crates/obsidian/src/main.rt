@@ -1,8 +1,9 @@
-//! Serves a program of the Obsidian language, request lines in and replies out; or checks its text.
+//! Serves a program of the Obsidian language, request lines in and replies out; or checks its text; or holds a trial.
 #![tactic(auto)]
 
 use ob_io_std::{FileDisk, StdFiles, StdSink, StdSource};
 use ob_run::{Exit, run};
+use ob_words::help_text;
 use std::io::writer;
 use std::process::ExitCode;
 use std::{env, io};
@@ -35,10 +36,20 @@ fn run_host(rt: &HostRuntime) -> Exit {
     )
 }
 
-fn main(rt: HostRuntime) -> ExitCode {
-    let exit = run_host(&rt);
+// Says on standard error what is said of how the run ended; of words that are no command also what the commands and options are.
+fn tell(rt: &HostRuntime, exit: Exit) {
     if let Some(message) = exit.message() {
         let _ = eprintln!(rt; "{message}");
     }
+    if exit == Exit::Usage {
+        if let Ok(help) = help_text(rt.alloc()) {
+            let _ = eprintln!(rt; "{help}");
+        }
+    }
+}
+
+fn main(rt: HostRuntime) -> ExitCode {
+    let exit = run_host(&rt);
+    tell(&rt, exit);
     ExitCode::from(exit.status())
 }

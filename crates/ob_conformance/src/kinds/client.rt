@@ -1,9 +1,9 @@
-//! What a client sends.
+//! What a client sends and is answered.
 use crate::kinds::lines::Lines;
 use crate::kinds::tokens::text_of;
 use crate::trouble::Trouble;
-use ob_client::{request_line, trial_lines};
-use ob_wire::{Request, WireError, read_request};
+use ob_client::{read_reply, request_line, trial_lines};
+use ob_wire::{Request, WireError, read_request, reply_bytes};
 use std::alloc::Global;
 
 // Puts why a line has nothing to say.
@@ -40,6 +40,18 @@ pub fn sent(alloc: Global, line: &[u8], lines: &mut Lines) {
     match read_request(alloc, line) {
         Ok(request) => put_sent(alloc, lines, &request),
         Err(error) => put_error(lines, error, "no request\n"),
+    }
+}
+
+/// The line of the reply that a line tells.
+pub fn answered(alloc: Global, line: &[u8], lines: &mut Lines) {
+    match read_reply(alloc, line) {
+        Ok(reply) => {
+            if let Some(bytes) = lines.made(reply_bytes(alloc, &reply)) {
+                lines.put_text(&bytes);
+            }
+        }
+        Err(error) => put_error(lines, error, "no reply\n"),
     }
 }
 

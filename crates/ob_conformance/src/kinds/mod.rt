@@ -1,4 +1,5 @@
 //! What each kind of case answers.
+pub mod area;
 pub mod asked;
 pub mod base;
 pub mod bodies;

@@ -57,7 +57,7 @@ pub fn given_of(alloc: Global, words: &str, text: &[u8], input: &[u8]) -> Result
 }
 
 fn asks_to_serve(words: &[String]) -> bool {
-    words.first().is_some_and(|word| word.as_str() == "serve")
+    words.iter().any(|word| word.as_str() == "serve")
 }
 
 // How many bytes a source has left, of so many, unless its next read fails.

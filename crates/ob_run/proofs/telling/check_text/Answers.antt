@@ -1,4 +1,4 @@
-use Rattle.ob_run.specs.Commands.{check}
+use Rattle.ob_words.specs.Asked.{check}
 use Rattle.ob_run.proofs.telling.check_text.Goals as goal
 
 pub returns-in-Ok-clause-tells : goal.returns-in-Ok-clause-tells

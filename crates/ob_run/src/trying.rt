@@ -1,0 +1,73 @@
+//! A trial is held, and told.
+ghost use Rattle.std.specs.Prelude.{◌≡◌, ◌≢◌, ◌+◌, ◌≤◌, ◌++◌, ℕ, List, IfOk, OnOk, string_bytes};
+ghost use Rattle.ob_words.specs.Asked.{trial};
+ghost use Rattle.ob_run.specs.Statuses.{IsFinding, Tells};
+ghost use Rattle.ob_run.specs.TrialLines.{count_line, trial_text};
+
+use crate::exit::Exit;
+use crate::serving::AREA;
+use crate::telling::refuse;
+use ob_base::Memory;
+use ob_front::{CompileError, compile};
+use ob_io::{Sink, write_all};
+use ob_trial::{Counts, hold_trial};
+use ob_words::DEFAULT_FUEL;
+use std::alloc::Global;
+
+// Puts a number behind its word, on a line.
+fn put_count(text: &mut String, alloc: Global, word: &str, count: u64) -> Result<(), Memory>
+    ensures { OnOk result (string_bytes text.new ≡ string_bytes text.old ++ count_line word.now count) }
+{
+    let line = format!(in alloc; "{word} {count}\n")?;
+    text.push_str(&line)?;
+    Ok(())
+}
+
+// The six numbers, each on a line.
+fn trial_text(alloc: Global, counts: Counts) -> Result<String, Memory>
+    ensures { IfOk result (λ text. string_bytes text ≡ trial_text counts) }
+{
+    let mut text = String::new(alloc);
+    put_count(&mut text, alloc, "lines", counts.lines)?;
+    put_count(&mut text, alloc, "ok", counts.ok)?;
+    put_count(&mut text, alloc, "aborted", counts.aborted)?;
+    put_count(&mut text, alloc, "refused", counts.refused)?;
+    put_count(&mut text, alloc, "objects", counts.objects)?;
+    put_count(&mut text, alloc, "handles", counts.handles)?;
+    Ok(text)
+}
+
+// Writes the numbers of a trial.
+fn tell_trial<K: Sink>(alloc: Global, counts: Counts, output: &mut K) -> Exit
+    ensures tells { (length : ℕ) (text : List ℕ) → IsFinding (trial length) text (trial_text counts) →
+        Tells (trial length) text (K.view output.old) (K.view output.new) result }
+    ensures later { (K.view output.old).faults ≤ (K.view output.new).faults }
+    ensures calm { result ≢ Exit.WriteFault → (K.view output.new).faults ≡ (K.view output.old).faults }
+    ensures once { (K.view output.new).faults ≤ (K.view output.old).faults + 1 }
+{
+    let Ok(text) = trial_text(alloc, counts) else {
+        return Exit::Memory;
+    };
+    match write_all(output, text.as_bytes()) {
+        Ok(()) => Exit::Done,
+        Err(_) => Exit::WriteFault,
+    }
+}
+
+/// Holds the trial of a length with the program of a text, and tells its numbers, or refuses the text.
+pub fn try_text<K: Sink>(alloc: Global, text: &[u8], length: u32, output: &mut K) -> Exit
+    ensures tells { Tells (trial length) text.now (K.view output.old) (K.view output.new) result }
+    ensures later { (K.view output.old).faults ≤ (K.view output.new).faults }
+    ensures calm { result ≢ Exit.WriteFault → (K.view output.new).faults ≡ (K.view output.old).faults }
+    ensures once { (K.view output.new).faults ≤ (K.view output.old).faults + 1 }
+{
+    let program = match compile(alloc, text) {
+        Ok(program) => program,
+        Err(CompileError::Fault(fault)) => return refuse(alloc, fault, output),
+        Err(CompileError::Memory) => return Exit::Memory,
+    };
+    match hold_trial(alloc, &program.code, DEFAULT_FUEL, AREA, length) {
+        Ok(counts) => tell_trial(alloc, counts, output),
+        Err(Memory) => Exit::Memory,
+    }
+}

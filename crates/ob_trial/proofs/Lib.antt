@@ -1,0 +1,5 @@
+mod CompactText
+mod KindLemmas
+mod LengthLemmas
+mod CountLemmas
+mod HoldingLemmas

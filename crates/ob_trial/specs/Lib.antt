@@ -1,0 +1,4 @@
+pub mod Counting
+pub mod Trials
+pub mod Kinds
+pub mod Holding
