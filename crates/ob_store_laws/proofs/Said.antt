@@ -63,11 +63,11 @@ few_put hs (p ∷ ps) o =
     either false n = omega arith
 
 -- a handle's name is two labels
-record IsNamed (n : HandleName) : Type 0 where
+record IsLabelled (n : HandleName) : Type 0 where
   who : IsTrue (is_label n.who)
   name : IsTrue (is_label n.name)
 
-named : (objects : List Object) (h : NamedHandle) → IsHandle objects h → IsNamed h.0
+named : (objects : List Object) (h : NamedHandle) → IsHandle objects h → IsLabelled h.0
 named objects h is = record { who = is.who; name = is.name }
 
 module _ (table : ClassTable) (before after : Content) (storable : IsStorable table) (was : IsStoreAtRest table before) (will : IsStoreAtRest table after)
@@ -133,14 +133,14 @@ module _ (table : ClassTable) (before after : Content) (storable : IsStorable ta
       (λ n o at. subst (IsObject table after.objects) (sym (object_again table after.objects n o (object_after n o at))) (object_after n o at))
       0 after.objects (whole_tail after.objects)))
 
-  all_handles : (P : Change → Type 0) → ((n : HandleName) → IsNamed n → P (n, at n after.handles)) → All P changes.handles
+  all_handles : (P : Change → Type 0) → ((n : HandleName) → IsLabelled n → P (n, at n after.handles)) → All P changes.handles
   all_handles P each =
       All-filter (is_new before) P (of_both before.handles after.handles)
       (All-map P (λ h. (h.0, at h.0 after.handles)) (put_handles before.handles after.handles)
-      (All-weaker (λ (h : NamedHandle). IsNamed h.0) (λ h. P (h.0, at h.0 after.handles)) (λ h. each h.0) (put_handles before.handles after.handles)
-      (all_put_among (λ h. IsNamed h.0) before.handles after.handles
-      (All-weaker (IsHandle before.objects) (λ h. IsNamed h.0) (named before.objects) before.handles was.is_content.handles)
-      (All-weaker (IsHandle after.objects) (λ h. IsNamed h.0) (named after.objects) after.handles will.is_content.handles))))
+      (All-weaker (λ (h : NamedHandle). IsLabelled h.0) (λ h. P (h.0, at h.0 after.handles)) (λ h. each h.0) (put_handles before.handles after.handles)
+      (all_put_among (λ h. IsLabelled h.0) before.handles after.handles
+      (All-weaker (IsHandle before.objects) (λ h. IsLabelled h.0) (named before.objects) before.handles was.is_content.handles)
+      (All-weaker (IsHandle after.objects) (λ h. IsLabelled h.0) (named after.objects) after.handles will.is_content.handles))))
 
   are_changes : AreChangesOf table before changes
   are_changes = record {

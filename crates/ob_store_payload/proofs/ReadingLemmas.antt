@@ -13,7 +13,7 @@ use Rattle.ob_store_spec.specs.Changes.{with_changes, IsHandleChange, AreChanges
 use Rattle.ob_store_spec.proofs.PayloadLaws.{payload_lawful}
 use Rattle.ob_store_payload.specs.declared.error.PayloadError.{PayloadError}
 use Rattle.ob_store_payload.specs.declared.error.PayloadError.TheVariants.{Bad, Memory}
-use Rattle.ob_store_payload.specs.Answering.{AnswersOnly, IsNamed}
+use Rattle.ob_store_payload.specs.Answering.{AnswersOnly, IsLabelled}
 
 module _ (table : ClassTable) (base : Content) (bytes : List ℕ) where
   -- the bytes say nothing of the content
@@ -36,11 +36,11 @@ module _ (table : ClassTable) (base : Content) (bytes : List ℕ) where
   pub none_unsaid : (found : Changes) (rest : List ℕ) → (payload table).read bytes ≡ done found rest → ¬ (AreChangesOf table base found) → SayNothing
   none_unsaid found rest read unsaid changes said = unsaid (subst (AreChangesOf table base) (is_read found rest read changes said).0 said.are_changes)
 
-  are_named : (changes : Changes) → AreChangesOf table base changes → All IsNamed changes.handles
+  are_named : (changes : Changes) → AreChangesOf table base changes → All IsLabelled changes.handles
   are_named changes are =
-      All-weaker (IsHandleChange (length (with_changes table base changes).objects)) IsNamed (λ h is. (is.who, is.name)) changes.handles are.handles
+      All-weaker (IsHandleChange (length (with_changes table base changes).objects)) IsLabelled (λ h is. (is.who, is.name)) changes.handles are.handles
 
-  pub none_read : {A : Type 0} (plain : A → Changes) (e : PayloadError) → AnswersOnly plain (λ c. All IsNamed c.handles) (Err e) ((payload table).read bytes) → e ≡ Bad → SayNothing
+  pub none_read : {A : Type 0} (plain : A → Changes) (e : PayloadError) → AnswersOnly plain (λ c. All IsLabelled c.handles) (Err e) ((payload table).read bytes) → e ≡ Bad → SayNothing
   none_read plain Bad answer is =
       λ changes said. answer changes [] (reads (payload table) (payload_lawful table) changes bytes said.spelled) (are_named changes said.are_changes)
   none_read plain Memory answer is = absurd cc

@@ -26,8 +26,8 @@ AnswersOnly {A} {P} plain wanted (Err Bad) read = (p : P) (rest : List ℕ) → 
 AnswersOnly plain wanted (Err Memory) read = Unit {0}
 
 -- a handle's name, or that of one removed, is two labels
-abbrev pub IsNamed : HandleName × Option Handle → Type 0
-IsNamed h = IsTrue (is_label h.0.who) × IsTrue (is_label h.0.name)
+abbrev pub IsLabelled : HandleName × Option Handle → Type 0
+IsLabelled h = IsTrue (is_label h.0.who) × IsTrue (is_label h.0.name)
 
 -- what reading the value of a field at a place has made of an object's fields, where the field is available or isn't
 abbrev pub AnswersField : Bool → ℕ → List (FieldId × Value) → List (FieldId × Value) → List ℕ → Result (Bor (List ℕ)) Halt → Type 0

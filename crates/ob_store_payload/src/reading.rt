@@ -14,7 +14,7 @@ ghost use Rattle.ob_machine_steps.specs.ImageTables.{contract_of_code, field_of_
 ghost use Rattle.ob_machine_steps.specs.Images.{is_available_in};
 ghost use Rattle.ob_code.specs.Images.{mode as mode_format};
 ghost use Rattle.ob_store_laws.specs.Recorded.{object_change, handle_change, changes_of};
-ghost use Rattle.ob_store_payload.specs.Answering.{AnswersAs, AnswersField, AnswersOnly, IsNamed};
+ghost use Rattle.ob_store_payload.specs.Answering.{AnswersAs, AnswersField, AnswersOnly, IsLabelled};
 ghost use Rattle.ob_store_payload.specs.Values.{HasItsValues};
 ghost use Rattle.ob_store_spec.specs.Between.{values_from};
 ghost use Rattle.ob_store_spec.specs.Payloads.{state_of_byte, available_count, object_head};
@@ -307,7 +307,7 @@ fn handle(
     alloc: Global,
     bytes: &[u8],
 ) -> Result<(((Label, Label), Option<Handle>), &[u8]), PayloadError>
-    ensures { AnswersOnly handle_change IsNamed result (handle_format.read bytes.now) }
+    ensures { AnswersOnly handle_change IsLabelled result (handle_format.read bytes.now) }
 {
     let (who, rest) = label(alloc, bytes)?;
     let (name, rest) = label(alloc, rest)?;
@@ -321,7 +321,7 @@ fn so_many_handles(
     count: u32,
     bytes: &[u8],
 ) -> Result<(Sequence<((Label, Label), Option<Handle>)>, &[u8]), PayloadError>
-    ensures { AnswersOnly (map handle_change) (All IsNamed) result ((times handle_format count).read bytes.now) }
+    ensures { AnswersOnly (map handle_change) (All IsLabelled) result ((times handle_format count).read bytes.now) }
 {
     let mut handles = Sequence::new(alloc);
     let mut rest = bytes;
@@ -338,7 +338,7 @@ fn handles(
     alloc: Global,
     bytes: &[u8],
 ) -> Result<(Sequence<((Label, Label), Option<Handle>)>, &[u8]), PayloadError>
-    ensures { AnswersOnly (map handle_change) (All IsNamed) result ((counted handle_format).read bytes.now) }
+    ensures { AnswersOnly (map handle_change) (All IsLabelled) result ((counted handle_format).read bytes.now) }
 {
     let (count, rest) = number(bytes)?;
     so_many_handles(alloc, count, rest)
@@ -352,7 +352,7 @@ pub fn delta<'a>(
     code: &Image,
     bytes: &'a [u8],
 ) -> Result<(Delta, &'a [u8]), PayloadError>
-    ensures read { AnswersOnly (changes_of (table_of_image code.now)) (λ c. All IsNamed c.handles) result ((payload_format (table_of_image code.now)).read bytes.now) }
+    ensures read { AnswersOnly (changes_of (table_of_image code.now)) (λ c. All IsLabelled c.handles) result ((payload_format (table_of_image code.now)).read bytes.now) }
     ensures values { IfOk result (λ x. All (λ e. HasItsValues (table_of_image code.now) (object_of e.1)) x.0.objects) }
 {
     let (objects, rest) = objects(alloc, code, bytes)?;
