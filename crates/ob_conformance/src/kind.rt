@@ -3,8 +3,8 @@ use crate::bytes::Bytes;
 use crate::case::Case;
 use crate::kinds::lines::Lines;
 use crate::kinds::{
-    area, asked, base, calls, client, code, disk, fronts, image, replies, requests, run, steps,
-    store, table, terms, tokens, tree,
+    area, asked, base, calls, client, code, disk, explain, fronts, image, replies, requests, run,
+    steps, store, table, terms, tokens, tree,
 };
 use std::alloc::Global;
 
@@ -23,6 +23,8 @@ pub enum CaseKind {
     Compiled,
     /// What runs of that code come to, where the text is a part, and what is asked tells the runs.
     Calls,
+    /// What a person is told of it beside what `check` writes.
+    Explain,
     /// Whether `check` writes one line of each front of its bytes.
     Cuts,
     /// The fault that `serve` tells of it.
@@ -87,6 +89,7 @@ impl CaseKind {
             "code" => Some(CaseKind::Code),
             "compiled" => Some(CaseKind::Compiled),
             "calls" => Some(CaseKind::Calls),
+            "explain" => Some(CaseKind::Explain),
             "cuts" => Some(CaseKind::Cuts),
             "serve" => Some(CaseKind::Serve),
             "run" => Some(CaseKind::Run),
@@ -172,6 +175,7 @@ impl CaseKind {
             CaseKind::Calls => {
                 calls::calls(alloc, case.part("text"), case.part("objects"), asked, lines)
             }
+            CaseKind::Explain => explain::told(alloc, asked, lines),
             CaseKind::Cuts => run::cuts(alloc, asked, lines),
             CaseKind::Serve => run::serve(alloc, asked, lines),
             CaseKind::Run => run::whole_run(alloc, case, asked, lines),

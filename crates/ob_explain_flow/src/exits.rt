@@ -2,7 +2,8 @@
 //! and at a change of state.
 
 use crate::holding::{
-    first_state, held_at, held_in_words, name_of_body, name_of_field, name_of_kind, place_in_words,
+    first_state, has_no_state, held_at, held_in_words, name_of_body, name_of_field, name_of_kind,
+    place_in_words, type_in_words,
 };
 use crate::walking::Found;
 use ob_base::{FieldId, MOST_STATES, Memory, Mode, Perm, StateId};
@@ -113,6 +114,16 @@ fn owner(case: &Case<'_>) -> Option<Place> {
     }
 }
 
+// The body that is looked at.
+fn body_in_words(case: &Case<'_>) -> Result<String, Memory> {
+    let name = name_of_body(case.frame);
+    if case.frame.constructs() {
+        Ok(format!(in case.alloc; "the constructor of `{name}`")?)
+    } else {
+        Ok(format!(in case.alloc; "`{name}`")?)
+    }
+}
+
 // What is declared of a parameter or of `this`, or nothing of another place.
 fn declared(case: &Case<'_>, place: Place) -> Result<String, Memory> {
     let alloc = case.alloc;
@@ -134,11 +145,11 @@ fn declared(case: &Case<'_>, place: Place) -> Result<String, Memory> {
         },
         Place::Field(_) => return Ok(String::new(alloc)),
     };
-    let body = name_of_body(case.frame);
+    let body = body_in_words(case)?;
     let first = held_in_words(alloc, table, kind, entry)?;
     let last = held_in_words(alloc, table, kind, exit)?;
     Ok(format!(in alloc;
-        "`{body}` takes `{name}` as `{first}` and promises `{last}` of it at the end."
+        "{body} takes `{name}` as `{first}` and promises `{last}` of it at the end."
     )?)
 }
 
@@ -158,7 +169,7 @@ pub fn explain_lost(case: &Case<'_>) -> Result<Explanation, Memory> {
     };
     let name = case.name(place)?;
     let of = case.contract_of(place);
-    let body = name_of_body(case.frame);
+    let body = body_in_words(case)?;
     let what = match &case.found.term.form {
         Form::Drop { .. } => format!(in alloc;
             "{name} still owns a `{of}` here, where it ends, and then nobody has that asset"
@@ -170,7 +181,7 @@ pub fn explain_lost(case: &Case<'_>) -> Result<Explanation, Memory> {
             )?
         }
         _ => format!(in alloc;
-            "{name} still owns a `{of}` where `{body}` ends here, and then nobody has that asset"
+            "{name} still owns a `{of}` where {body} ends here, and then nobody has that asset"
         )?,
     };
     let note = declared(case, place)?;
@@ -293,7 +304,7 @@ pub fn explain_this(case: &Case<'_>) -> Result<Explanation, Memory> {
     let first = held_at(alloc, table, case.context(), Place::This)?;
     let second = held_at(alloc, table, other, Place::This)?;
     let what = format!(in alloc;
-        "`this` is held as `{first}` after one branch and as `{second}` after the other"
+        "`this` is held as `{first}` at the end of this `if` if the condition holds, and as `{second}` if it doesn't"
     )?;
     Explanation::of(
         alloc,
@@ -339,9 +350,9 @@ fn differing_field<'a>(case: &Case<'a>) -> Option<(FieldId, &'a Context)> {
 // Where the field has to be so, in words.
 fn where_field(case: &Case<'_>) -> Result<String, Memory> {
     let alloc = case.alloc;
-    let body = name_of_body(case.frame);
+    let body = body_in_words(case)?;
     match &case.found.term.form {
-        Form::Return { .. } => Ok(format!(in alloc; "where `{body}` ends")?),
+        Form::Return { .. } => Ok(format!(in alloc; "where {body} ends")?),
         Form::CallThis { tx, .. } => {
             let name = name_of_called(case.frame.own().signature(*tx));
             Ok(format!(in alloc; "where `{name}` is called on `this`")?)
@@ -383,11 +394,13 @@ pub fn explain_field(case: &Case<'_>) -> Result<Explanation, Memory> {
     } else {
         format!(in alloc; "the field `{name}` has no value {at}, and has to be `{wanted}`")?
     };
-    Explanation::of(
+    let declared = type_in_words(alloc, table, case.frame.type_of_field(field))?;
+    let note = format!(in alloc; "the field `{name}` is declared as `{declared}`.")?;
+    let help = said(
         alloc,
-        what,
         "fill it again before this, change to a state that hasn't the field, or list it in a `private (..)` transaction.",
-    )
+    )?;
+    Ok(Explanation { what, note, help })
 }
 
 // The place that isn't left as was promised: a parameter, or `this`.
@@ -407,6 +420,62 @@ fn differing_exit<'a>(case: &Case<'a>) -> (Place, Perm, &'a str) {
     (Place::This, case.frame.signature().exit, "this")
 }
 
+// What stands after the `@` of what is held.
+fn permission_of(held: &str) -> &str {
+    match held.find('@') {
+        Some(at) => held.get(at..).unwrap_or("").trim_start_matches('@'),
+        None => held,
+    }
+}
+
+// The state that `this` is in at the end of a constructor isn't one that it gives.
+fn explain_given(case: &Case<'_>, held: &str, wanted: &str) -> Result<Explanation, Memory> {
+    let alloc = case.alloc;
+    let body = body_in_words(case)?;
+    let state = first_state(case.frame.own(), case.frame.signature().exit.states);
+    let what = if has_no_state(case.context().permission(Place::This)) {
+        format!(in alloc; "{body} gives `{wanted}`, and its object has no state yet here")?
+    } else {
+        format!(in alloc; "{body} gives `{wanted}`, and its object is `{held}` here")?
+    };
+    let note = String::new(alloc);
+    let help = format!(in alloc;
+        "change to a state that it gives, as by `->{state};`, on each way to the end."
+    )?;
+    Ok(Explanation { what, note, help })
+}
+
+// How to mend an exit.
+fn help_with_exit(case: &Case<'_>, place: Place, exit: Perm, held: &str) -> Result<String, Memory> {
+    let alloc = case.alloc;
+    let param = match place {
+        Place::Slot(slot) => param_of(case.frame.signature(), slot),
+        _ => None,
+    };
+    match param {
+        Some(param) => {
+            let name = word_of(param.name.as_bytes());
+            let first = type_in_words(alloc, case.frame.table(), param.of)?;
+            let last = permission_of(held);
+            Ok(format!(in alloc;
+                "declare it as `{first} >> {last} {name}`, if that is what is meant to be left of it."
+            )?)
+        }
+        None if case.context().permission(Place::This).mode != Mode::Owned => {
+            let last = permission_of(held);
+            Ok(format!(in alloc;
+                "write `>> {last}` at `this`, if that is what is meant to be left of it."
+            )?)
+        }
+        None => {
+            let state = first_state(case.frame.own(), exit.states);
+            Ok(format!(in alloc;
+                "change to that state before the end, as by `->{state};`, or write another permission after `>>` at `this`."
+            )?)
+        }
+    }
+}
+
 /// What is held at the end and isn't what was promised.
 pub fn explain_exit(case: &Case<'_>) -> Result<Explanation, Memory> {
     let alloc = case.alloc;
@@ -414,33 +483,15 @@ pub fn explain_exit(case: &Case<'_>) -> Result<Explanation, Memory> {
     let (place, exit, name) = differing_exit(case);
     let held = held_at(alloc, table, case.context(), place)?;
     let wanted = held_in_words(alloc, table, case.context().kind(place), exit)?;
-    let body = name_of_body(case.frame);
-    if case.frame.constructs() {
-        let what = format!(in alloc;
-            "the constructor of `{body}` gives `{wanted}`, and its object is `{held}` here"
-        )?;
-        let note = String::new(alloc);
-        let state = first_state(case.frame.own(), exit.states);
-        let help = format!(in alloc;
-            "change to a state that it gives, as by `->{state};`, on each way to the end."
-        )?;
-        return Ok(Explanation { what, note, help });
+    if case.frame.constructs() && matches!(place, Place::This) {
+        return explain_given(case, held.as_str(), wanted.as_str());
     }
+    let body = body_in_words(case)?;
     let what = format!(in alloc;
-        "`{name}` is held as `{held}` where `{body}` ends, and `{body}` promises `{wanted}` of it"
+        "`{name}` is held as `{held}` where {body} ends, and {body} promises `{wanted}` of it"
     )?;
     let note = declared(case, place)?;
-    let help = match place {
-        Place::This => {
-            let state = first_state(case.frame.own(), exit.states);
-            format!(in alloc;
-                "change to that state before the end, as by `->{state};`, or write another permission after `>>` at `this`."
-            )?
-        }
-        _ => format!(in alloc;
-            "write at `{name}` after `>>` what is left of it, as `>> Unowned` where it is given away."
-        )?,
-    };
+    let help = help_with_exit(case, place, exit, held.as_str())?;
     Ok(Explanation { what, note, help })
 }
 

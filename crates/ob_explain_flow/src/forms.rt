@@ -257,6 +257,12 @@ pub fn explain_accessible(case: &Case<'_>) -> Result<Explanation, Memory> {
         )?,
     };
     let state = first_state(own, case.frame.available(field));
+    if case.frame.constructs() {
+        let help = format!(in alloc;
+            "change to that state first: its fields get their values with it, as by `->{state}({name} = ..);`."
+        )?;
+        return Ok(Explanation { what, note, help });
+    }
     let contract = word_of(own.name.as_bytes());
     let help = format!(in alloc;
         "test it first, as in `if (this in {state}) {{ .. }}`, or ask for the state by `{contract}@{state} this`."
@@ -318,10 +324,6 @@ fn explain_under_test(case: &Case<'_>) -> Result<Explanation, Memory> {
     let alloc = case.alloc;
     let name = shown(case);
     let what = match &case.found.term.form {
-        Form::Return { .. } => said(
-            alloc,
-            "what is under test isn't owned any more where this returns",
-        )?,
         Form::Test { .. } => format!(in alloc;
             "`{name}` is under test in this branch, and isn't owned any more at its end"
         )?,
@@ -338,7 +340,7 @@ fn explain_under_test(case: &Case<'_>) -> Result<Explanation, Memory> {
     };
     let help = said(
         alloc,
-        "call its transactions in the branch, and hand it on after it.",
+        "in the branch, call only those of its transactions that ask for a state, as `A@S this`; hand it on after the branch.",
     )?;
     Ok(Explanation { what, note, help })
 }
@@ -423,7 +425,11 @@ fn explain_assertion(case: &Case<'_>) -> Result<Explanation, Memory> {
     let held = held_at(alloc, table, &case.found.context, place.place)?;
     let wanted = held_in_words(alloc, table, case.found.context.kind(place.place), *perm)?;
     let what = format!(in alloc; "`{name}` is held as `{held}` here, and `{wanted}` is asserted")?;
-    Explanation::of(alloc, what, "")
+    Explanation::of(
+        alloc,
+        what,
+        "an assertion only says what is known here: test the state before it, or leave it out.",
+    )
 }
 
 // A constructor that uses `this`.

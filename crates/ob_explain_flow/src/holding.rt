@@ -35,6 +35,11 @@ fn push_state(list: &mut String, name: &str) -> Result<(), Memory> {
     Ok(())
 }
 
+/// Whether an object has no state yet, as while it is made.
+pub fn has_no_state(perm: Perm) -> bool {
+    has_bit(perm.states, NO_STATE_BIT)
+}
+
 /// States of a contract as a permission names them.
 pub fn states_in_words(alloc: Global, contract: &Contract, states: u64) -> Result<String, Memory> {
     let mut list = String::new(alloc);

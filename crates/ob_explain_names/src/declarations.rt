@@ -99,7 +99,7 @@ pub fn explain_duplicate(
     Explanation::of(
         alloc,
         what,
-        "give one of the two another name; a variable or parameter doesn't have a field's name either.",
+        "give one of the two another name: none hides another.",
     )
 }
 

@@ -9,5 +9,5 @@ mod words;
 
 pub use excerpt::{put_excerpt, shown_at};
 pub use explanation::{Explanation, put_place, said};
-pub use page::{MOST_BYTES, MOST_COLUMNS, MOST_LINES, Page};
+pub use page::{MOST_COLUMNS, MOST_LINES, Page};
 pub use words::{Nearest, word_of};

@@ -1,5 +1,6 @@
 //! A page of text that has a bound.
-ghost use Rattle.std.specs.Prelude.{◌≡◌, ◌≤◌, length, string_bytes};
+ghost use Rattle.std.specs.Prelude.{◌≡◌, ◌<◌, string_bytes, IfOk, OnOk};
+ghost use Rattle.ob_explain_page.specs.Pages.{IsBegun, IsPage};
 
 use ob_base::Memory;
 use std::alloc::Global;
@@ -9,9 +10,6 @@ pub const MOST_LINES: u32 = 20;
 
 /// The most columns of a line, in characters.
 pub const MOST_COLUMNS: u32 = 200;
-
-/// The most bytes of a page.
-pub const MOST_BYTES: usize = 16_384;
 
 /// Up to which column a line of words goes, in characters.
 const WORDS_END: u32 = 110;
@@ -23,7 +21,8 @@ pub struct Page {
     text: String,
     lines: u32,
     column: u32,
-    ghost bound: { length (string_bytes text) ≤ 16384 },
+    ghost bound: { IsBegun (string_bytes text) lines column },
+    ghost room: { 0 < column → lines < 20 },
 }
 
 impl Page {
@@ -37,12 +36,11 @@ impl Page {
         }
     }
 
-    // A character, which is no newline.
+    // A character of a line.
     fn put_char(&mut self, sign: char) -> Result<(), Memory> {
-        let has_room = self.lines < MOST_LINES && self.column < MOST_COLUMNS;
-        if has_room && self.text.len() <= MOST_BYTES - 4 {
+        if self.lines < MOST_LINES && self.column < MOST_COLUMNS && sign != '\n' {
             self.text.push(sign)?;
-            self.column = self.column.saturating_add(1);
+            self.column += 1;
         }
         Ok(())
     }
@@ -91,8 +89,10 @@ impl Page {
     }
 
     /// Ends the line.
-    pub fn end_line(&mut self) -> Result<(), Memory> {
-        if self.lines < MOST_LINES && self.text.len() <= MOST_BYTES - 4 {
+    pub fn end_line(&mut self) -> Result<(), Memory>
+        ensures { self.old.lines < 20 → OnOk result (self.new.column ≡ 0) }
+    {
+        if self.lines < MOST_LINES {
             self.text.push('\n')?;
             self.lines += 1;
             self.column = 0;
@@ -123,12 +123,15 @@ impl Page {
         self.end_line()
     }
 
-    /// The text of the page.
-    pub fn into_text(self) -> String
-        ensures { length (string_bytes result) ≤ 16384 }
+    /// The text of the page, each of whose lines is ended.
+    pub fn into_text(mut self) -> Result<String, Memory>
+        ensures { IfOk result (λ text. IsPage (string_bytes text)) }
     {
+        if self.column > 0 {
+            self.end_line()?;
+        }
         let Page { text, .. } = self;
-        text
+        Ok(text)
     }
 }
 

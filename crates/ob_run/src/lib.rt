@@ -1,6 +1,7 @@
 //! The top call: what the words of a command line ask for, done over files, a source, a sink and a disk.
 #![tactic(auto)]
 
+mod examined;
 mod exit;
 mod fault;
 mod machine;
@@ -10,6 +11,7 @@ mod telling;
 mod top;
 mod trying;
 
+pub use examined::Examined;
 pub use exit::Exit;
 pub use fault::fault_line;
 pub use refusal::{StoreRefusal, store_line};

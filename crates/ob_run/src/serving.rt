@@ -11,6 +11,7 @@ ghost use Rattle.ob_run.specs.TextRead.{asked_with, exit_of};
 use crate::exit::Exit;
 use crate::refusal::StoreRefusal;
 use crate::telling::{refuse, refuse_store};
+use ob_base::ProgramFault;
 use ob_disk::Disk;
 use ob_front::{CompileError, compile};
 use ob_io::{Sink, Source};
@@ -101,6 +102,7 @@ pub fn serve_text<S: Source, K: Sink, D: Disk>(
     input: &mut S,
     output: &mut K,
     disk: &mut D,
+    refused: &mut Option<ProgramFault>,
 ) -> Exit
     ensures treats { (name : List ℕ) (lanes slice : ℕ) → Treats (asked_with (serve name) fuel lanes slice) text.now
         (record { input = S.view input.old; output = K.view output.old; disk = D.view disk.old })
@@ -118,7 +120,7 @@ pub fn serve_text<S: Source, K: Sink, D: Disk>(
 {
     let program = match compile(alloc, text) {
         Ok(program) => program,
-        Err(CompileError::Fault(fault)) => return refuse(alloc, fault, output),
+        Err(CompileError::Fault(fault)) => return refuse(alloc, fault, output, refused),
         Err(CompileError::Memory) => return Exit::Memory,
     };
     let mut store = Store::blank(alloc);
@@ -135,6 +137,7 @@ pub fn serve_text_stored<S: Source, K: Sink, D: Disk>(
     input: &mut S,
     output: &mut K,
     disk: &mut D,
+    refused: &mut Option<ProgramFault>,
 ) -> Exit
     ensures treats { (file : List ℕ) (lanes slice : ℕ) → Treats (asked_with (serve_stored file name.now) fuel lanes slice) text.now
         (record { input = S.view input.old; output = K.view output.old; disk = D.view disk.old })
@@ -152,7 +155,7 @@ pub fn serve_text_stored<S: Source, K: Sink, D: Disk>(
 {
     let program = match compile(alloc, text) {
         Ok(program) => program,
-        Err(CompileError::Fault(fault)) => return refuse(alloc, fault, output),
+        Err(CompileError::Fault(fault)) => return refuse(alloc, fault, output, refused),
         Err(CompileError::Memory) => return Exit::Memory,
     };
     let mut store = match open_named(alloc, disk, name, &program.code) {

@@ -14,14 +14,20 @@ use ob_front::{CompileError, check_program};
 use ob_io::{Sink, write_all};
 use std::alloc::Global;
 
-/// Writes the line of a fault that a command tells of a text.
-pub fn refuse<K: Sink>(alloc: Global, fault: ProgramFault, output: &mut K) -> Exit
+/// Writes the line of a fault that a command tells of a text, which is the fault that was refused.
+pub fn refuse<K: Sink>(
+    alloc: Global,
+    fault: ProgramFault,
+    output: &mut K,
+    refused: &mut Option<ProgramFault>,
+) -> Exit
     ensures tells { (command : Command) (text : List ℕ) → HasTextFault text fault →
         Tells command text (K.view output.old) (K.view output.new) result }
     ensures later { (K.view output.old).faults ≤ (K.view output.new).faults }
     ensures calm { result ≢ Exit.WriteFault → (K.view output.new).faults ≡ (K.view output.old).faults }
     ensures once { (K.view output.new).faults ≤ (K.view output.old).faults + 1 }
 {
+    *refused = Some(fault);
     let Ok(line) = fault_line(alloc, fault) else {
         return Exit::Memory;
     };
@@ -46,7 +52,12 @@ fn accept<K: Sink>(output: &mut K) -> Exit
 }
 
 /// Accepts a text, or refuses it.
-pub fn check_text<K: Sink>(alloc: Global, text: &[u8], output: &mut K) -> Exit
+pub fn check_text<K: Sink>(
+    alloc: Global,
+    text: &[u8],
+    output: &mut K,
+    refused: &mut Option<ProgramFault>,
+) -> Exit
     ensures tells { (name : List ℕ) → Tells (check name) text.now (K.view output.old) (K.view output.new) result }
     ensures later { (K.view output.old).faults ≤ (K.view output.new).faults }
     ensures calm { result ≢ Exit.WriteFault → (K.view output.new).faults ≡ (K.view output.old).faults }
@@ -54,7 +65,7 @@ pub fn check_text<K: Sink>(alloc: Global, text: &[u8], output: &mut K) -> Exit
 {
     match check_program(alloc, text) {
         Ok(()) => accept(output),
-        Err(CompileError::Fault(fault)) => refuse(alloc, fault, output),
+        Err(CompileError::Fault(fault)) => refuse(alloc, fault, output, refused),
         Err(CompileError::Memory) => Exit::Memory,
     }
 }

@@ -12,12 +12,13 @@ ghost use Rattle.ob_run.specs.Statuses.{Treats, MeetsStatus, IsDone, IsRefused, 
 ghost use Rattle.ob_run.specs.Survival.{Survives};
 ghost use Rattle.ob_run.specs.TextRead.{IsReadOf};
 
+use crate::examined::Examined;
 use crate::exit::Exit;
 use crate::machine::vending_machine;
 use crate::serving::{serve_text, serve_text_stored};
 use crate::telling::check_text;
 use crate::trying::try_text;
-use ob_base::LONGEST_PROGRAM;
+use ob_base::{LONGEST_PROGRAM, ProgramFault};
 use ob_disk::Disk;
 use ob_io::{FileError, Files, Sink, Source};
 use ob_words::{Asked, Command, WordsError, parse_words};
@@ -58,6 +59,7 @@ fn treat<S: Source, K: Sink, D: Disk>(
     input: &mut S,
     output: &mut K,
     disk: &mut D,
+    refused: &mut Option<ProgramFault>,
 ) -> Exit
     ensures treats { Treats (asked_view asked.entry) text.now
         (record { input = S.view input.old; output = K.view output.old; disk = D.view disk.old })
@@ -75,12 +77,12 @@ fn treat<S: Source, K: Sink, D: Disk>(
 {
     let fuel = asked.limits.fuel;
     match asked.command {
-        Command::Check(_) => check_text(alloc, text, output),
-        Command::Serve(_) => serve_text(alloc, text, fuel, input, output, disk),
+        Command::Check(_) => check_text(alloc, text, output, refused),
+        Command::Serve(_) => serve_text(alloc, text, fuel, input, output, disk, refused),
         Command::ServeStored(_, name) => {
-            serve_text_stored(alloc, text, name, fuel, input, output, disk)
+            serve_text_stored(alloc, text, name, fuel, input, output, disk, refused)
         }
-        Command::Trial(length) => try_text(alloc, text, length, output),
+        Command::Trial(length) => try_text(alloc, text, length, output, refused),
     }
 }
 
@@ -91,6 +93,7 @@ fn run_words<F: Files, S: Source, K: Sink, D: Disk>(
     input: &mut S,
     output: &mut K,
     disk: &mut D,
+    examined: &mut Examined,
 ) -> Exit
     ensures meets { MeetsStatus (asked_of (map string_bytes words.now))
         (outside (F.view files.old) (S.view input.old) (K.view output.old) (D.view disk.old))
@@ -120,17 +123,24 @@ fn run_words<F: Files, S: Source, K: Sink, D: Disk>(
             input,
             output,
             disk,
+            &mut examined.fault,
         );
     };
     match read_text(alloc, files, name) {
-        Ok(text) => treat(alloc, asked, &text, input, output, disk),
+        Ok(text) => {
+            let fault = &mut examined.fault;
+            let exit = treat(alloc, asked, &text, input, output, disk, fault);
+            examined.text = Some(text);
+            exit
+        }
         Err(FileError::Failed) => Exit::FileFault,
         Err(FileError::Memory) => Exit::Memory,
     }
 }
 
 /// Does what the words say, and answers how it ended. The words leave out the program's own name. Each status says
-/// what was read, written and stored, where the objects handed in tell their bytes.
+/// what was read, written and stored, where the objects handed in tell their bytes. Of `examined`, which serves to explain
+/// a text to a person, nothing is said.
 pub fn run<F: Files, S: Source, K: Sink, D: Disk>(
     alloc: Global,
     words: &[String],
@@ -138,6 +148,7 @@ pub fn run<F: Files, S: Source, K: Sink, D: Disk>(
     input: &mut S,
     output: &mut K,
     disk: &mut D,
+    examined: &mut Examined,
 ) -> Exit
     // What each status says.
     ensures done { result ≡ Exit.Done → IsDone (asked_of (map string_bytes words.now))
@@ -213,5 +224,5 @@ pub fn run<F: Files, S: Source, K: Sink, D: Disk>(
     ensures once { faults_of (outside (F.view files.new) (S.view input.new) (K.view output.new) (D.view disk.new))
         ≤ faults_of (outside (F.view files.old) (S.view input.old) (K.view output.old) (D.view disk.old)) + 1 }
 {
-    run_words(alloc, words, files, input, output, disk)
+    run_words(alloc, words, files, input, output, disk, examined)
 }

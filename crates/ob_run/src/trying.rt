@@ -7,7 +7,7 @@ ghost use Rattle.ob_run.specs.TrialLines.{count_line, trial_text};
 use crate::exit::Exit;
 use crate::serving::AREA;
 use crate::telling::refuse;
-use ob_base::Memory;
+use ob_base::{Memory, ProgramFault};
 use ob_front::{CompileError, compile};
 use ob_io::{Sink, write_all};
 use ob_trial::{Counts, hold_trial};
@@ -55,7 +55,13 @@ fn tell_trial<K: Sink>(alloc: Global, counts: Counts, output: &mut K) -> Exit
 }
 
 /// Holds the trial of a length with the program of a text, and tells its numbers, or refuses the text.
-pub fn try_text<K: Sink>(alloc: Global, text: &[u8], length: u32, output: &mut K) -> Exit
+pub fn try_text<K: Sink>(
+    alloc: Global,
+    text: &[u8],
+    length: u32,
+    output: &mut K,
+    refused: &mut Option<ProgramFault>,
+) -> Exit
     ensures tells { Tells (trial length) text.now (K.view output.old) (K.view output.new) result }
     ensures later { (K.view output.old).faults ≤ (K.view output.new).faults }
     ensures calm { result ≢ Exit.WriteFault → (K.view output.new).faults ≡ (K.view output.old).faults }
@@ -63,7 +69,7 @@ pub fn try_text<K: Sink>(alloc: Global, text: &[u8], length: u32, output: &mut K
 {
     let program = match compile(alloc, text) {
         Ok(program) => program,
-        Err(CompileError::Fault(fault)) => return refuse(alloc, fault, output),
+        Err(CompileError::Fault(fault)) => return refuse(alloc, fault, output, refused),
         Err(CompileError::Memory) => return Exit::Memory,
     };
     match hold_trial(alloc, &program.code, DEFAULT_FUEL, AREA, length) {

@@ -1,8 +1,12 @@
-//! Serves a program of the Obsidian language, request lines in and replies out; or checks its text; or holds a trial.
+//! Serves a program of the Obsidian language, request lines in and replies out; or checks its text, and tells a person on standard
+//! error what is wrong with it; or holds a trial.
 #![tactic(auto)]
 
+mod explaining;
+
+use crate::explaining::explanation;
 use ob_io_std::{FileDisk, StdFiles, StdSink, StdSource};
-use ob_run::{Exit, run};
+use ob_run::{Examined, Exit, run};
 use ob_words::help_text;
 use std::io::writer;
 use std::process::ExitCode;
@@ -17,23 +21,30 @@ fn words(rt: &HostRuntime) -> io::Result<Vec<String>> {
     Ok(words)
 }
 
-fn run_host(rt: &HostRuntime) -> Exit {
-    let words = match words(rt) {
-        Ok(words) => words,
-        Err(error) => return Exit::without_words(error.kind()),
-    };
+fn run_host(rt: &HostRuntime, words: &[String], examined: &mut Examined) -> Exit {
     let mut files = StdFiles::new(rt.alloc(), rt);
     let mut input = StdSource::new(rt.reader());
     let mut output = StdSink::new(writer(rt));
     let mut disk = FileDisk::new(rt);
     run(
         rt.alloc(),
-        &words,
+        words,
         &mut files,
         &mut input,
         &mut output,
         &mut disk,
+        examined,
     )
+}
+
+// Runs what the words ask for, and says on standard error what a person is told of the text; where memory lacks, nothing.
+fn run_told(rt: &HostRuntime, words: &[String]) -> Exit {
+    let mut examined = Examined::nothing();
+    let exit = run_host(rt, words, &mut examined);
+    if let Ok(page) = explanation(rt.alloc(), words, &examined, exit) {
+        let _ = eprint!(rt; "{page}");
+    }
+    exit
 }
 
 // Says on standard error what is said of how the run ended; of words that are no command also what the commands and options are.
@@ -49,7 +60,10 @@ fn tell(rt: &HostRuntime, exit: Exit) {
 }
 
 fn main(rt: HostRuntime) -> ExitCode {
-    let exit = run_host(&rt);
+    let exit = match words(&rt) {
+        Ok(words) => run_told(&rt, &words),
+        Err(error) => Exit::without_words(error.kind()),
+    };
     tell(&rt, exit);
     ExitCode::from(exit.status())
 }

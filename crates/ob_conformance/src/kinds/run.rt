@@ -6,7 +6,7 @@ use crate::kinds::tokens::text_of;
 use crate::trouble::Trouble;
 use ob_disk::{MemoryDisk, SureDisk};
 use ob_io::{MemoryFiles, MemorySink, MemorySource, Source, SureFiles, SureSink, SureSource};
-use ob_run::{Exit, run};
+use ob_run::{Examined, Exit, run};
 use std::alloc::Global;
 
 /// How many bytes a disk holds.
@@ -92,7 +92,15 @@ pub fn run_over(
     let mut input = MemorySource::new(input, outside.input);
     let mut output = MemorySink::new(alloc, outside.room, outside.output);
     let before = disk.faults();
-    let exit = run(alloc, &words, &mut files, &mut input, &mut output, disk);
+    let exit = run(
+        alloc,
+        &words,
+        &mut files,
+        &mut input,
+        &mut output,
+        disk,
+        &mut Examined::nothing(),
+    );
     let faults = files
         .faults()
         .saturating_add(input.faults())
@@ -147,6 +155,7 @@ fn run_sure(alloc: Global, given: Handed, room: usize) -> Result<Ended, Trouble>
         &mut input,
         &mut output,
         &mut disk,
+        &mut Examined::nothing(),
     );
     let serves = asks_to_serve(&words);
     match (

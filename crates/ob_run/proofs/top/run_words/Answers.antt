@@ -18,9 +18,9 @@ returns-in_default-clause-meets g c =
 pub returns-in-Ok-read_text-clause-meets : goal.returns-in-Ok-read_text-clause-meets
 returns-in-Ok-read_text-clause-meets g c =
     treated _ (outside (g.F.Files.view c.args.files.now) (g.S.Source.view c.args.input.now) (g.K.Sink.view c.args.output.now) (g.D.Disk.view c.args.disk.now))
-    (outside (g.F.Files.view c.read_text.new.files) (g.S.Source.view c.treat-in-Ok-read_text.new.input) (g.K.Sink.view c.treat-in-Ok-read_text.new.output) (g.D.Disk.view c.treat-in-Ok-read_text.new.disk))
-    (asked_view c.in-Ok.asked) c.in-Some.name.now c.in-Ok-read_text.text.items c.treat-in-Ok-read_text.result c.in-Ok.ensures.ok (sym c.in-Some.ensures) c.in-Ok-read_text.ensures.asks c.in-Ok-read_text.ensures.text
-    (rw c.deref.ensures.value at c.treat-in-Ok-read_text.ensures.treats)
+    (outside (g.F.Files.view c.read_text.new.files) (g.S.Source.view c.treat-exit.new.input) (g.K.Sink.view c.treat-exit.new.output) (g.D.Disk.view c.treat-exit.new.disk))
+    (asked_view c.in-Ok.asked) c.in-Some.name.now c.in-Ok-read_text.text.items c.treat-exit.result c.in-Ok.ensures.ok (sym c.in-Some.ensures) c.in-Ok-read_text.ensures.asks c.in-Ok-read_text.ensures.text
+    (rw c.deref.ensures.value at c.treat-exit.ensures.treats)
 
 -- nothing was asked
 pub returns-in-Err-Memory-clause-asked : goal.returns-in-Err-Memory-clause-asked
