@@ -32,6 +32,14 @@ impl Bytes {
         }
     }
 
+    /// The bytes so far, unless something couldn't be put.
+    pub fn written(&self) -> Result<&[u8], Trouble> {
+        match self.trouble {
+            None => Ok(&self.bytes),
+            Some(trouble) => Err(trouble),
+        }
+    }
+
     /// The bytes, unless something couldn't be put.
     pub fn finish(self) -> Result<Vec<u8>, Trouble> {
         match self.trouble {

@@ -1,18 +1,16 @@
-//! The kinds of cases. A new one is a variant, its word in `of`, the names of its parts, and what it answers.
+//! The kinds of cases. A new one is a variant, a row of `KINDS`, and what it answers.
 use crate::bytes::Bytes;
 use crate::case::Case;
 use crate::kinds::lines::Lines;
 use crate::kinds::{
-    area, asked, base, calls, client, code, disk, explain, fronts, image, replies, requests, run,
-    steps, store, table, terms, tokens, tree,
+    area, asked, base, calls, client, code, disk, fronts, image, replies, requests, run, steps,
+    store, table, terms, tokens, tree,
 };
 use std::alloc::Global;
 
 /// What is asked of a text.
 #[derive(Clone, Copy)]
-pub enum CaseKind {
-    /// What `check` writes of it.
-    Check,
+pub enum Question {
     /// Its class table, with the bodies of its transactions.
     Table,
     /// The terms that the bodies of its transactions are lowered to.
@@ -23,12 +21,6 @@ pub enum CaseKind {
     Compiled,
     /// What runs of that code come to, where the text is a part, and what is asked tells the runs.
     Calls,
-    /// What a person is told of it beside what `check` writes.
-    Explain,
-    /// Whether `check` writes one line of each front of its bytes.
-    Cuts,
-    /// The fault that `serve` tells of it.
-    Serve,
     /// A whole run: what is written, line by line, and the status.
     Run,
     /// How a run ends, and how far it comes, where the outside fails.
@@ -79,85 +71,102 @@ pub enum CaseKind {
     Store,
 }
 
+/// The kinds: the word with which a case begins, what is asked, the part that is what is asked, and the names of its other parts.
+const KINDS: [(&str, Question, &str, &str); 29] = [
+    ("table", Question::Table, "text", ""),
+    ("terms", Question::Terms, "text", ""),
+    ("code", Question::Code, "text", ""),
+    ("compiled", Question::Compiled, "text", ""),
+    ("calls", Question::Calls, "runs", "text objects"),
+    (
+        "run",
+        Question::Run,
+        "input",
+        "text words given status output",
+    ),
+    ("outside", Question::Outside, "given", "text words input"),
+    ("layout", Question::Layout, "text", ""),
+    ("again", Question::Again, "text", ""),
+    ("tokens", Question::Tokens, "text", ""),
+    ("tree", Question::Tree, "part", "text"),
+    ("whole", Question::Whole, "text", ""),
+    ("fronts", Question::Fronts, "text", ""),
+    ("request", Question::Request, "text", ""),
+    ("reply", Question::Reply, "text", ""),
+    ("form", Question::Form, "text", ""),
+    ("bytes", Question::Bytes, "text", ""),
+    ("message", Question::Message, "text", ""),
+    ("image", Question::Image, "text", ""),
+    ("encoded", Question::Encoded, "text", ""),
+    ("steps", Question::Steps, "text", "objects runs"),
+    ("entries", Question::Entries, "runs", "text objects"),
+    ("disk", Question::Disk, "text", ""),
+    ("asked", Question::Asked, "text", ""),
+    ("sent", Question::Sent, "text", ""),
+    ("answered", Question::Answered, "text", ""),
+    ("trial", Question::Trial, "text", ""),
+    ("area", Question::Area, "runs", "text"),
+    ("store", Question::Store, "runs", "text input output"),
+];
+
+/// The parts of which a table is made, of any kind.
+const OF_TABLES: &str = "front back every answer-front answer-back";
+
+/// A kind of cases.
+#[derive(Clone, Copy)]
+pub struct CaseKind {
+    question: Question,
+    /// The part that is what is asked: one side of a row.
+    pub asked: &'static str,
+    /// The names of its other parts, but that of what is expected.
+    others: &'static str,
+}
+
+// Whether a name is one of these, between which blanks stand; they may be none.
+fn is_among(name: &str, names: &str) -> bool {
+    for one in names.split(' ') {
+        if !one.is_empty() && one == name {
+            return true;
+        }
+    }
+    false
+}
+
 impl CaseKind {
     /// The kind of this word.
     pub fn of(word: &str) -> Option<CaseKind> {
-        match word {
-            "check" => Some(CaseKind::Check),
-            "table" => Some(CaseKind::Table),
-            "terms" => Some(CaseKind::Terms),
-            "code" => Some(CaseKind::Code),
-            "compiled" => Some(CaseKind::Compiled),
-            "calls" => Some(CaseKind::Calls),
-            "explain" => Some(CaseKind::Explain),
-            "cuts" => Some(CaseKind::Cuts),
-            "serve" => Some(CaseKind::Serve),
-            "run" => Some(CaseKind::Run),
-            "outside" => Some(CaseKind::Outside),
-            "layout" => Some(CaseKind::Layout),
-            "again" => Some(CaseKind::Again),
-            "tokens" => Some(CaseKind::Tokens),
-            "tree" => Some(CaseKind::Tree),
-            "whole" => Some(CaseKind::Whole),
-            "fronts" => Some(CaseKind::Fronts),
-            "request" => Some(CaseKind::Request),
-            "reply" => Some(CaseKind::Reply),
-            "form" => Some(CaseKind::Form),
-            "bytes" => Some(CaseKind::Bytes),
-            "message" => Some(CaseKind::Message),
-            "image" => Some(CaseKind::Image),
-            "encoded" => Some(CaseKind::Encoded),
-            "steps" => Some(CaseKind::Steps),
-            "entries" => Some(CaseKind::Entries),
-            "disk" => Some(CaseKind::Disk),
-            "asked" => Some(CaseKind::Asked),
-            "sent" => Some(CaseKind::Sent),
-            "answered" => Some(CaseKind::Answered),
-            "trial" => Some(CaseKind::Trial),
-            "area" => Some(CaseKind::Area),
-            "store" => Some(CaseKind::Store),
-            _ => None,
+        for (known, question, asked, others) in &KINDS {
+            if *known == word {
+                return Some(CaseKind {
+                    question: *question,
+                    asked: *asked,
+                    others: *others,
+                });
+            }
         }
+        None
+    }
+
+    fn is_run(self) -> bool {
+        matches!(self.question, Question::Run)
+    }
+
+    /// The part that is what is expected: the other side of a row.
+    pub fn wanted(self) -> &'static str {
+        if self.is_run() { "output" } else { "answer" }
     }
 
     /// Whether its cases have a part of this name.
     pub fn has_part(self, name: &str) -> bool {
-        match name {
-            "text" | "front" | "back" | "every" | "answer-front" | "answer-back" => true,
-            "answer" => !matches!(self, CaseKind::Run),
-            "words" | "given" => matches!(self, CaseKind::Run | CaseKind::Outside),
-            "input" => matches!(self, CaseKind::Run | CaseKind::Outside | CaseKind::Store),
-            "output" => matches!(self, CaseKind::Run | CaseKind::Store),
-            "status" => matches!(self, CaseKind::Run),
-            "objects" => matches!(self, CaseKind::Steps | CaseKind::Entries | CaseKind::Calls),
-            "runs" => matches!(
-                self,
-                CaseKind::Steps
-                    | CaseKind::Entries
-                    | CaseKind::Calls
-                    | CaseKind::Area
-                    | CaseKind::Store
-            ),
-            _ => false,
-        }
-    }
-
-    /// The names of what is asked, and of what is expected: the two sides of a row.
-    pub fn sides(self) -> (&'static str, &'static str) {
-        match self {
-            CaseKind::Run => ("input", "output"),
-            CaseKind::Outside => ("given", "answer"),
-            CaseKind::Tree => ("part", "answer"),
-            CaseKind::Entries | CaseKind::Calls | CaseKind::Area | CaseKind::Store => {
-                ("runs", "answer")
-            }
-            _ => ("text", "answer"),
-        }
+        name == self.asked
+            || name == self.wanted()
+            || is_among(name, self.others)
+            || is_among(name, OF_TABLES)
     }
 
     /// What is expected of a case, of which this is written.
-    pub fn wanted(self, case: &Case, written: &[u8], bytes: &mut Bytes) {
-        if matches!(self, CaseKind::Run) {
+    pub fn put_wanted(self, case: &Case, written: &[u8], bytes: &mut Bytes) {
+        if self.is_run() {
             bytes.put(case.parts.find("status").unwrap_or(b"0 Done"));
             bytes.put(b"\n");
         }
@@ -166,46 +175,38 @@ impl CaseKind {
 
     /// Shows what comes of a case, of which this is asked.
     pub fn answer(self, alloc: Global, case: &Case, asked: &[u8], lines: &mut Lines) {
-        match self {
-            CaseKind::Check => run::check(alloc, asked, lines),
-            CaseKind::Table => table::table(alloc, asked, lines),
-            CaseKind::Terms => terms::terms(alloc, asked, lines),
-            CaseKind::Code => code::code(alloc, asked, lines),
-            CaseKind::Compiled => code::compiled(alloc, asked, lines),
-            CaseKind::Calls => {
-                calls::calls(alloc, case.part("text"), case.part("objects"), asked, lines)
-            }
-            CaseKind::Explain => explain::told(alloc, asked, lines),
-            CaseKind::Cuts => run::cuts(alloc, asked, lines),
-            CaseKind::Serve => run::serve(alloc, asked, lines),
-            CaseKind::Run => run::whole_run(alloc, case, asked, lines),
-            CaseKind::Outside => run::cut_run(alloc, case, asked, lines),
-            CaseKind::Layout => tree::layout(alloc, asked, lines),
-            CaseKind::Again => tree::again(alloc, asked, lines),
-            CaseKind::Tokens => tokens::tokens(alloc, asked, lines),
-            CaseKind::Tree => tree::tree(alloc, case.part("text"), asked, lines),
-            CaseKind::Whole => fronts::whole(alloc, asked, lines),
-            CaseKind::Fronts => fronts::fronts(alloc, asked, lines),
-            CaseKind::Request => requests::request(alloc, asked, lines),
-            CaseKind::Reply => replies::reply(alloc, asked, lines),
-            CaseKind::Form => base::form(alloc, asked, lines),
-            CaseKind::Bytes => base::bytes(alloc, asked, lines),
-            CaseKind::Message => base::message(asked, lines),
-            CaseKind::Image => image::image(alloc, asked, lines),
-            CaseKind::Encoded => image::encoded(alloc, asked, lines),
-            CaseKind::Steps => {
-                steps::steps(alloc, asked, case.part("objects"), case.part("runs"), lines)
-            }
-            CaseKind::Entries => {
-                steps::steps(alloc, case.part("text"), case.part("objects"), asked, lines)
-            }
-            CaseKind::Disk => disk::disk(alloc, asked, lines),
-            CaseKind::Asked => asked::asked(alloc, asked, lines),
-            CaseKind::Sent => client::sent(alloc, asked, lines),
-            CaseKind::Answered => client::answered(alloc, asked, lines),
-            CaseKind::Trial => client::trial(alloc, asked, lines),
-            CaseKind::Area => area::area(alloc, case.part("text"), asked, lines),
-            CaseKind::Store => store::store(alloc, case, asked, lines),
+        let text = case.part("text");
+        let objects = case.part("objects");
+        match self.question {
+            Question::Table => table::table(alloc, asked, lines),
+            Question::Terms => terms::terms(alloc, asked, lines),
+            Question::Code => code::code(alloc, asked, lines),
+            Question::Compiled => code::compiled(alloc, asked, lines),
+            Question::Calls => calls::calls(alloc, text, objects, asked, lines),
+            Question::Run => run::whole_run(alloc, case, asked, lines),
+            Question::Outside => run::cut_run(alloc, case, asked, lines),
+            Question::Layout => tree::layout(alloc, asked, lines),
+            Question::Again => tree::again(alloc, asked, lines),
+            Question::Tokens => tokens::tokens(alloc, asked, lines),
+            Question::Tree => tree::tree(alloc, text, asked, lines),
+            Question::Whole => fronts::whole(alloc, asked, lines),
+            Question::Fronts => fronts::fronts(alloc, asked, lines),
+            Question::Request => requests::request(alloc, asked, lines),
+            Question::Reply => replies::reply(alloc, asked, lines),
+            Question::Form => base::form(alloc, asked, lines),
+            Question::Bytes => base::bytes(alloc, asked, lines),
+            Question::Message => base::message(asked, lines),
+            Question::Image => image::image(alloc, asked, lines),
+            Question::Encoded => image::encoded(alloc, asked, lines),
+            Question::Steps => steps::steps(alloc, asked, objects, case.part("runs"), lines),
+            Question::Entries => steps::steps(alloc, text, objects, asked, lines),
+            Question::Disk => disk::disk(alloc, asked, lines),
+            Question::Asked => asked::asked(alloc, asked, lines),
+            Question::Sent => client::sent(alloc, asked, lines),
+            Question::Answered => client::answered(alloc, asked, lines),
+            Question::Trial => client::trial(alloc, asked, lines),
+            Question::Area => area::area(alloc, text, asked, lines),
+            Question::Store => store::store(alloc, case, asked, lines),
         }
     }
 }

@@ -1,8 +1,9 @@
 //! The case program. Cases are data: each says what is asked, of a program's text or of a whole run, and what is expected, and
 //! costs nothing to prove. The file data/README.md says how they are written.
 //!
-//! Without a word it runs the files of cases that data/index.txt names, and says of each how many cases agree; it shows those
+//! Without a word it runs the files of cases that data/index.txt gives it, and says of each how many cases agree; it shows those
 //! that don't, and then ends with status 1. With the word `answer` it reads cases from its input, and prints what comes of each.
+//! They ask for what the shipped program doesn't show by itself; docs/cases.py runs those of which it shows the answer.
 #![tactic(auto)]
 
 mod bytes;
@@ -19,48 +20,39 @@ mod words;
 use named::Named;
 use report::Report;
 use sheet::Sheet;
-use std::alloc::Global;
 use std::io::{Write, read_to_string, writer};
 use std::process::ExitCode;
 use std::{env, fs, io};
 use trouble::Trouble;
 
-/// The file that names the others: programs, which end in `.obs`, words of images, which end in `.image`, and files of cases,
-/// which end in `.txt`.
+/// The file that names the others: programs, which end in `.obs`, words of images, which end in `.image`, and behind the name of who
+/// runs them files of cases, which end in `.txt`.
 const INDEX: &str = "index.txt";
 
-/// A line that the run of a file stopped at, from 1, and why.
-type Stop = (usize, Trouble);
+/// What stands there before the files of cases that this program runs.
+const RUNNER: &str = "ob_conformance ";
 
-// The report on the cases of a text.
-fn report_on(alloc: Global, programs: &Named, text: &str, answers: bool) -> Result<Report, Stop> {
-    let mut sheet = Sheet::new(alloc, programs, Report::new(alloc, answers));
-    let mut number = 0usize;
-    for line in text.lines() {
-        number = number.saturating_add(1);
-        if let Err(trouble) = sheet.take(line) {
-            return Err((number, trouble));
-        }
-    }
-    match sheet.end() {
-        Ok(report) => Ok(report),
-        Err(trouble) => Err((number, trouble)),
-    }
+fn out_of_memory() -> io::Error {
+    io::Error::from(io::ErrorKind::OutOfMemory)
 }
 
 // Prints a report to its end, and answers whether all its cases agree.
-fn print_all(rt: &HostRuntime, topic: &str, mut report: Report) -> io::Result<bool> {
-    let agree = report.cases == report.agreeing;
+fn print_all(rt: &HostRuntime, topic: &str, report: &mut Report) -> io::Result<bool> {
     if !report.answers {
         report.sum_up(rt.alloc(), topic);
     }
-    match report.text.finish() {
-        Ok(text) => {
-            writer(rt).write_all(&text)?;
-            Ok(agree)
-        }
-        Err(_) => Err(io::Error::from(io::ErrorKind::OutOfMemory)),
+    match report.text.written() {
+        Ok(text) => writer(rt).write_all(text)?,
+        Err(_) => return Err(out_of_memory()),
     }
+    Ok(report.cases == report.agreeing)
+}
+
+// Prints why the cases of a text weren't run to their end.
+fn print_trouble(rt: &HostRuntime, topic: &str, line: usize, trouble: Trouble) -> io::Result<bool> {
+    let message = trouble.message();
+    println!(rt; "{topic}: line {line}: {message}")?;
+    Ok(false)
 }
 
 // Prints the report on a text, and answers whether all its cases agree.
@@ -71,48 +63,51 @@ fn print_report(
     text: &str,
     answers: bool,
 ) -> io::Result<bool> {
-    match report_on(rt.alloc(), programs, text, answers) {
-        Ok(report) => print_all(rt, topic, report),
-        Err((line, trouble)) => {
-            let message = trouble.message();
-            println!(rt; "{topic}: line {line}: {message}")?;
-            Ok(false)
-        }
+    let mut sheet = Sheet::new(rt.alloc(), programs, Report::new(rt.alloc(), answers));
+    match sheet.take_all(text) {
+        Ok(()) => print_all(rt, topic, &mut sheet.report),
+        Err(trouble) => print_trouble(rt, topic, sheet.line, trouble),
     }
 }
 
-fn programs_of(rt: &HostRuntime, index: &str) -> io::Result<Named> {
-    let alloc = rt.alloc();
-    let mut programs = Named::new(alloc);
+// Adds the program, or the words of an image, of this file.
+fn add_program(rt: &HostRuntime, name: &str, programs: &mut Named) -> io::Result<()> {
+    let text = fs::read(rt, name)?;
+    match programs.add(rt.alloc(), name, &text) {
+        Ok(()) => Ok(()),
+        Err(_) => Err(out_of_memory()),
+    }
+}
+
+fn add_programs(rt: &HostRuntime, index: &str, programs: &mut Named) -> io::Result<()> {
     for name in index.lines() {
         if name.ends_with(".obs") || name.ends_with(".image") {
-            let text = fs::read(rt, name)?;
-            if programs.add(alloc, name, &text).is_err() {
-                return Err(io::Error::from(io::ErrorKind::OutOfMemory));
-            }
+            add_program(rt, name, programs)?;
         }
     }
-    Ok(programs)
+    Ok(())
 }
 
-fn compare(rt: &HostRuntime) -> io::Result<bool> {
-    let index = fs::read_to_string(rt, INDEX)?;
-    let programs = programs_of(rt, index.as_str())?;
+fn compare_sheet(rt: &HostRuntime, programs: &Named, name: &str) -> io::Result<bool> {
+    let text = fs::read_to_string(rt, name)?;
+    let topic = name.strip_suffix(".txt").unwrap_or(name);
+    print_report(rt, programs, topic, text.as_str(), false)
+}
+
+fn compare(rt: &HostRuntime, programs: &Named, index: &str) -> io::Result<bool> {
     let mut all_agree = true;
-    for name in index.lines() {
-        if let Some(topic) = name.strip_suffix(".txt") {
-            let text = fs::read_to_string(rt, name)?;
-            let agrees = print_report(rt, &programs, topic, text.as_str(), false)?;
+    for line in index.lines() {
+        if let Some(name) = line.strip_prefix(RUNNER) {
+            let agrees = compare_sheet(rt, programs, name)?;
             all_agree = all_agree && agrees;
         }
     }
     Ok(all_agree)
 }
 
-fn answer(rt: &HostRuntime) -> io::Result<bool> {
+fn answer(rt: &HostRuntime, programs: &Named) -> io::Result<bool> {
     let text = read_to_string(rt.alloc(), rt.reader())?;
-    let programs = Named::new(rt.alloc());
-    print_report(rt, &programs, "input", text.as_str(), true)
+    print_report(rt, programs, "input", text.as_str(), true)
 }
 
 fn asks_for_answers(rt: &HostRuntime) -> io::Result<bool> {
@@ -122,13 +117,34 @@ fn asks_for_answers(rt: &HostRuntime) -> io::Result<bool> {
     }
 }
 
-fn main(rt: HostRuntime) -> io::Result<ExitCode> {
-    let is_well = if asks_for_answers(&rt)? {
-        answer(&rt)?
+// The index of the folder. It may be missing where answers are asked for.
+fn index_of(rt: &HostRuntime, answers: bool) -> io::Result<String> {
+    match fs::read_to_string(rt, INDEX) {
+        Ok(index) => Ok(index),
+        Err(error) => {
+            if answers && error.kind() == io::ErrorKind::NotFound {
+                Ok(String::new(rt.alloc()))
+            } else {
+                Err(error)
+            }
+        }
+    }
+}
+
+fn run_cases(rt: &HostRuntime, index: &str, answers: bool) -> io::Result<bool> {
+    let mut programs = Named::new(rt.alloc());
+    add_programs(rt, index, &mut programs)?;
+    if answers {
+        answer(rt, &programs)
     } else {
-        compare(&rt)?
-    };
-    Ok(if is_well {
+        compare(rt, &programs, index)
+    }
+}
+
+fn main(rt: HostRuntime) -> io::Result<ExitCode> {
+    let answers = asks_for_answers(&rt)?;
+    let index = index_of(&rt, answers)?;
+    Ok(if run_cases(&rt, index.as_str(), answers)? {
         ExitCode::SUCCESS
     } else {
         ExitCode::FAILURE

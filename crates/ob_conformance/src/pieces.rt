@@ -25,20 +25,42 @@ pub fn put_text(alloc: Global, programs: &Named, text: &str, into: &mut Bytes) {
     }
 }
 
+/// The pieces that stand for these bytes.
+const PIECES: [(&str, &str); 6] = [
+    ("nothing", ""),
+    ("", "`"),
+    ("newline", "\n"),
+    ("return", "\r"),
+    ("tab", "\t"),
+    ("space", " "),
+];
+
+// What a piece of one word stands for, if there is one of this word.
+fn known_piece(piece: &str) -> Option<&'static str> {
+    for (known, text) in &PIECES {
+        if *known == piece {
+            return Some(*text);
+        }
+    }
+    None
+}
+
+// A piece of a word and what belongs to it.
+fn put_told(alloc: Global, programs: &Named, word: &str, rest: &str, into: &mut Bytes) {
+    match word {
+        "hex" => put_hex(rest, into),
+        "file" => put_program(programs, rest, into),
+        _ => put_times(alloc, word, rest, into),
+    }
+}
+
 fn put_piece(alloc: Global, programs: &Named, piece: &str, into: &mut Bytes) {
-    match piece {
-        "nothing" => {}
-        "" => into.put(b"`"),
-        "newline" => into.put(b"\n"),
-        "return" => into.put(b"\r"),
-        "tab" => into.put(b"\t"),
-        "space" => into.put(b" "),
-        _ => match piece.split_once(' ') {
-            Some(("hex", digits)) => put_hex(digits, into),
-            Some(("file", name)) => put_program(programs, name, into),
-            Some((count, part)) => put_times(alloc, count, part, into),
-            None => into.fail(Trouble::Line("an unknown piece")),
-        },
+    if let Some(text) = known_piece(piece) {
+        return into.put(text.as_bytes());
+    }
+    match piece.split_once(' ') {
+        Some((word, rest)) => put_told(alloc, programs, word, rest, into),
+        None => into.fail(Trouble::Line("an unknown piece")),
     }
 }
 

@@ -52,7 +52,7 @@ fn answer_to(alloc: Global, case: &Case, asked: &[u8]) -> Result<Vec<u8>, Troubl
 // What is expected of a case, of which this is written.
 fn wanted_of(alloc: Global, case: &Case, written: &[u8]) -> Result<Vec<u8>, Trouble> {
     let mut bytes = Bytes::new(alloc);
-    case.kind.wanted(case, written, &mut bytes);
+    case.kind.put_wanted(case, written, &mut bytes);
     bytes.finish()
 }
 

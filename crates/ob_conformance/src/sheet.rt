@@ -18,7 +18,10 @@ pub struct Sheet<'a> {
     part: String,
     /// Whether the case is a table, whose rows were judged.
     is_table: bool,
-    report: Report,
+    /// How many lines were read.
+    pub line: usize,
+    /// What is printed of the cases so far.
+    pub report: Report,
 }
 
 /// What is said of a line that stands before all cases.
@@ -90,12 +93,22 @@ impl<'a> Sheet<'a> {
             case: None,
             part: String::new(alloc),
             is_table: false,
+            line: 0,
             report,
         }
     }
 
-    /// Reads the next line.
-    pub fn take(&mut self, line: &str) -> Result<(), Trouble> {
+    /// Reads all lines.
+    pub fn take_all(&mut self, text: &str) -> Result<(), Trouble> {
+        for line in text.lines() {
+            self.line = self.line.saturating_add(1);
+            self.take(line)?;
+        }
+        self.end_case()
+    }
+
+    // Reads the next line.
+    fn take(&mut self, line: &str) -> Result<(), Trouble> {
         if line.is_empty() || line.starts_with('#') {
             return Ok(());
         }
@@ -176,18 +189,11 @@ impl<'a> Sheet<'a> {
     fn end_case(&mut self) -> Result<(), Trouble> {
         if let Some(case) = self.case.take() {
             if !self.is_table {
-                let (asked, wanted) = case.kind.sides();
-                let (asked, wanted) = (case.part(asked), case.part(wanted));
+                let (asked, wanted) = (case.part(case.kind.asked), case.part(case.kind.wanted()));
                 self.report.judge(self.alloc, &case, "", asked, wanted)?;
             }
         }
         self.is_table = false;
         Ok(())
-    }
-
-    /// The report at the end of the file.
-    pub fn end(mut self) -> Result<Report, Trouble> {
-        self.end_case()?;
-        Ok(self.report)
     }
 }

@@ -3,7 +3,7 @@ use ob_base::Memory;
 use std::alloc::{AllocError, AllocFailed};
 
 /// Why a file of cases isn't run to its end.
-#[derive(Clone, Copy, Debug)]
+#[derive(Clone, Copy)]
 pub enum Trouble {
     /// A line says what no line of a case says.
     Line(&'static str),

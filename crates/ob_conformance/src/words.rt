@@ -228,9 +228,17 @@ impl Words {
         }
     }
 
-    // The bytes of all words.
-    fn finish(mut self) -> Result<Vec<u8>, Trouble> {
-        self.end_word()?;
+    // Reads all words.
+    fn take_all(&mut self, text: &[u8]) -> Result<(), Trouble> {
+        self.open(true)?;
+        for byte in text {
+            self.take(*byte)?;
+        }
+        self.end_word()
+    }
+
+    // The bytes of all words, once they were read.
+    fn finish(&mut self) -> Result<Vec<u8>, Trouble> {
         let list = self.lists.pop().ok_or(NO_LIST)?;
         if self.lists.is_empty() {
             Ok(list.bytes)
@@ -248,9 +256,6 @@ pub fn bytes_of_words(alloc: Global, text: &[u8]) -> Result<Vec<u8>, Trouble> {
         word: Vec::new(alloc),
         is_comment: false,
     };
-    words.open(true)?;
-    for byte in text {
-        words.take(*byte)?;
-    }
+    words.take_all(text)?;
     words.finish()
 }

@@ -1,78 +1,70 @@
-//! The faults of the permission rules of a program's bodies, each with the terms of its body.
-ghost use Rattle.ob_table_spec.specs.Conditions.{IsClassTable};
+//! The faults of the permission rules of a program's bodies, and where an accepted one lets go of assets.
 
-use ob_base::{Memory, ProgramFault, Span, TextError};
-use ob_explain_flow::{explain_body, note_body};
-use ob_explain_page::{Explanation, Page, put_excerpt, put_place};
-use ob_lower::lower;
-use ob_table::{Body, Table};
+use ob_base::{Memory, ProgramFault, Span};
+use ob_explain_flow::{explain_body, say_letting};
+use ob_explain_page::{Explanation, Page, Words, put_excerpt, put_place};
+use ob_flow::Trace;
+use ob_front::{AskedProgram, Seen, next_fault};
 use std::alloc::Global;
 
 /// The most bodies whose faults are told beside the first.
-const MOST_OTHERS: usize = 10;
+const MOST_OTHERS: u32 = 10;
 
-// The first fault of a body, if it has one.
-fn fault_of(
+// What is said of the fault of the body of this number.
+fn explain_number(
     alloc: Global,
     text: &[u8],
-    table: &Table,
-    body: &Body,
-) -> Result<Option<(ProgramFault, Explanation)>, Memory>
-    requires { IsClassTable table.now }
-{
-    match lower(alloc, table, body) {
-        Ok(terms) => explain_body(alloc, text, table, &terms),
-        Err(TextError::Fault(_)) => Ok(None),
-        Err(TextError::Memory) => Err(Memory),
-    }
+    asked: &AskedProgram,
+    number: usize,
+    fault: ProgramFault,
+    trace: &Trace,
+) -> Option<Explanation> {
+    let body = asked.bodies().get(number)?;
+    explain_body(alloc, text, asked.table(), body, fault, trace)
 }
 
-// Tells the first faults of these bodies on a line each.
+// Tells the first faults of the bodies behind this one on a line each.
 fn tell_others(
     alloc: Global,
     page: &mut Page,
     file: &str,
     text: &[u8],
-    table: &Table,
-    bodies: &[Body],
-) -> Result<(), Memory>
-    requires { IsClassTable table.now }
-{
-    let mut left = MOST_OTHERS;
-    for body in bodies {
-        if left == 0 {
+    asked: &AskedProgram,
+    number: usize,
+) -> Result<(), Memory> {
+    let mut trace = Trace::new(alloc, false);
+    let mut last = number;
+    for _ in 0..MOST_OTHERS {
+        let from = last.saturating_add(1);
+        let next = next_fault(alloc, asked.table(), asked.bodies(), from, &mut trace)?;
+        let Some((number, fault)) = next else {
             return Ok(());
+        };
+        if let Some(told) = explain_number(alloc, text, asked, number, fault, &trace) {
+            told.tell_shortly(page, file, fault)?;
         }
-        if let Some((fault, explanation)) = fault_of(alloc, text, table, body)? {
-            explanation.tell_shortly(page, file, fault)?;
-            left -= 1;
-        }
+        last = number;
     }
     Ok(())
 }
 
-/// Tells the fault of the first of these bodies that has one, and then the first faults of others. Bodies that end before the place
-/// of the fault are passed over.
+/// Tells the fault of the body of which a premise failed, and then the first faults of those behind it.
 pub fn tell_bodies(
     alloc: Global,
     page: &mut Page,
     file: &str,
     text: &[u8],
-    table: &Table,
-    place: u32,
-) -> Result<(), Memory>
-    requires { IsClassTable table.now }
-{
-    let bodies = table.bodies();
-    for number in 0..bodies.len() {
-        if bodies[number].end.start >= place {
-            if let Some((fault, explanation)) = fault_of(alloc, text, table, &bodies[number])? {
-                explanation.tell(page, file, text, fault, fault.span)?;
-                return tell_others(alloc, page, file, text, table, &bodies[number + 1..]);
-            }
-        }
+    fault: ProgramFault,
+    seen: &Seen,
+) -> Result<(), Memory> {
+    let Some(asked) = &seen.asked else {
+        return Ok(());
+    };
+    let number = seen.trace.bodies.saturating_sub(1);
+    if let Some(told) = explain_number(alloc, text, asked, number, fault, &seen.trace) {
+        told.tell(page, file, text, fault, fault.span)?;
     }
-    Ok(())
+    tell_others(alloc, page, file, text, asked, number)
 }
 
 /// The most notes that are told.
@@ -93,29 +85,25 @@ fn tell_note(
     put_excerpt(page, text, span)
 }
 
-/// Tells where these bodies let go of assets without saying so.
-pub fn note_bodies(
+/// Tells where an accepted text lets go of assets without saying so.
+pub fn tell_notes(
     alloc: Global,
     page: &mut Page,
     file: &str,
     text: &[u8],
-    table: &Table,
-) -> Result<(), Memory>
-    requires { IsClassTable table.now }
-{
-    let mut left = MOST_NOTES;
-    for body in table.bodies() {
-        let terms = match lower(alloc, table, body) {
-            Ok(terms) => terms,
-            Err(_) => return Ok(()),
-        };
-        for note in &note_body(alloc, text, table, &terms)? {
-            if left == 0 {
-                return Ok(());
-            }
-            tell_note(page, file, text, note.0, note.1.as_str())?;
-            left -= 1;
-        }
+    seen: &Seen,
+) -> Result<(), Memory> {
+    let Some(table) = &seen.table else {
+        return Ok(());
+    };
+    if seen.trace.lacks {
+        return Err(Memory);
+    }
+    for at in seen.trace.lettings.iter().take(MOST_NOTES) {
+        let mut words = Words::new(alloc);
+        say_letting(&mut words, text, table, *at);
+        let said = words.finish()?;
+        tell_note(page, file, text, at.span, said.as_str())?;
     }
     Ok(())
 }

@@ -1,15 +1,17 @@
 //! What is held of places, in the language's own words.
 
-use crate::walking::Found;
-use ob_base::{
-    FieldId, Memory, Mode, NO_STATE_BIT, OTHER_STATE_BIT, Perm, Span, is_letter_or_digit,
-};
-use ob_explain_page::{said, shown_at, word_of};
-use ob_flow_context::{BodyFrame, Context};
+use ob_base::{FieldId, Mode, NO_STATE_BIT, OTHER_STATE_BIT, Perm, Span, is_letter_or_digit};
+use ob_explain_page::{Words, shown_at, word_of};
+use ob_flow_context::{BodyFrame, kind_of, permission_of_type};
 use ob_perm::subset;
-use ob_silica::Place;
 use ob_table::{Contract, Kind, ResolvedType, Table};
-use std::alloc::Global;
+
+/// Puts parts one after another.
+pub fn say(words: &mut Words, parts: &[&str]) {
+    for part in parts {
+        words.put(part);
+    }
+}
 
 fn has_bit(states: u64, bit: u8) -> bool {
     bit < 64 && (states >> u32::from(bit)) & 1 == 1
@@ -26,60 +28,96 @@ fn all_of(contract: &Contract) -> u64 {
     all
 }
 
-// Adds a state to others, with `|` between.
-fn push_state(list: &mut String, name: &str) -> Result<(), Memory> {
-    if !list.is_empty() {
-        list.push_str("|")?;
-    }
-    list.push_str(name)?;
-    Ok(())
-}
-
 /// Whether an object has no state yet, as while it is made.
 pub fn has_no_state(perm: Perm) -> bool {
     has_bit(perm.states, NO_STATE_BIT)
 }
 
-/// States of a contract as a permission names them.
-pub fn states_in_words(alloc: Global, contract: &Contract, states: u64) -> Result<String, Memory> {
-    let mut list = String::new(alloc);
+// Whether a state of this number is among some.
+fn is_among(states: u64, number: usize) -> bool {
+    number < 32 && has_bit(states, number as u8)
+}
+
+// The number of the first state of a contract among some.
+fn first_of(contract: &Contract, states: u64) -> Option<usize> {
     for number in 0..contract.states.len() {
-        if number < 32 && has_bit(states, number as u8) {
+        if is_among(states, number) {
+            return Some(number);
+        }
+    }
+    None
+}
+
+// Whether no state yet is one of those that are put.
+fn has_none_yet(contract: &Contract, states: u64) -> bool {
+    has_bit(states, NO_STATE_BIT) && !contract.states.is_empty()
+}
+
+// Whether there is something to put of states.
+fn has_states(contract: &Contract, states: u64) -> bool {
+    first_of(contract, states).is_some()
+        || has_bit(states, OTHER_STATE_BIT)
+        || has_none_yet(contract, states)
+}
+
+// A state after others, with `|` between.
+fn put_state(words: &mut Words, is_first: bool, name: &str) {
+    if !is_first {
+        words.put("|");
+    }
+    words.put(name);
+}
+
+/// Puts states of a contract as a permission names them.
+pub fn put_states(words: &mut Words, contract: &Contract, states: u64) {
+    let mut is_first = true;
+    for number in 0..contract.states.len() {
+        if is_among(states, number) {
             if let Some(name) = contract.states.get(number) {
-                push_state(&mut list, word_of(name.as_bytes()))?;
+                put_state(words, is_first, word_of(name.as_bytes()));
+                is_first = false;
             }
         }
     }
     if has_bit(states, OTHER_STATE_BIT) {
-        push_state(&mut list, "(a state that it doesn't name)")?;
+        put_state(words, is_first, "(a state that it doesn't name)");
+        is_first = false;
     }
-    if has_bit(states, NO_STATE_BIT) && !contract.states.is_empty() {
-        push_state(&mut list, "(no state yet)")?;
+    if has_none_yet(contract, states) {
+        put_state(words, is_first, "(no state yet)");
     }
-    Ok(list)
+}
+
+// Whether an owner knows no more of the state than that it is one.
+fn knows_all(contract: &Contract, perm: Perm) -> bool {
+    let known = !contract.interface || has_bit(perm.states, OTHER_STATE_BIT);
+    known && !has_no_state(perm) && subset(all_of(contract), perm.states)
 }
 
 // A permission on a contract's object.
-fn perm_in_words(alloc: Global, contract: &Contract, perm: Perm) -> Result<String, Memory> {
+fn put_perm(words: &mut Words, contract: &Contract, perm: Perm) {
     match perm.mode {
-        Mode::Shared => said(alloc, "Shared"),
-        Mode::Unowned => said(alloc, "Unowned"),
+        Mode::Shared => words.put("Shared"),
+        Mode::Unowned => words.put("Unowned"),
         Mode::Owned => {
-            let list = states_in_words(alloc, contract, perm.states)?;
-            let known = !contract.interface || has_bit(perm.states, OTHER_STATE_BIT);
-            let knows_all = known
-                && !has_bit(perm.states, NO_STATE_BIT)
-                && subset(all_of(contract), perm.states);
-            if list.is_empty() || knows_all {
-                said(alloc, "Owned")
+            if knows_all(contract, perm) || !has_states(contract, perm.states) {
+                words.put("Owned");
             } else {
-                Ok(list)
+                put_states(words, contract, perm.states);
             }
         }
     }
 }
 
-/// The name of a contract.
+// The contract of a kind.
+fn contract_of<'a>(table: &'a Table, kind: Kind) -> Option<&'a Contract> {
+    match kind {
+        Kind::Reference(id) => table.contract(id),
+        _ => None,
+    }
+}
+
+/// The name of a contract, or of a kind of values.
 pub fn name_of_kind<'a>(table: &'a Table, kind: Kind) -> &'a str {
     match kind {
         Kind::Reference(id) => match table.contract(id) {
@@ -92,41 +130,26 @@ pub fn name_of_kind<'a>(table: &'a Table, kind: Kind) -> &'a str {
     }
 }
 
-/// A kind with a permission, as `C@Owned`.
-pub fn held_in_words(
-    alloc: Global,
-    table: &Table,
-    kind: Kind,
-    perm: Perm,
-) -> Result<String, Memory> {
-    let name = name_of_kind(table, kind);
-    let Kind::Reference(id) = kind else {
-        return said(alloc, name);
-    };
-    match table.contract(id) {
-        Some(contract) => {
-            let words = perm_in_words(alloc, contract, perm)?;
-            Ok(format!(in alloc; "{name}@{words}")?)
-        }
-        None => said(alloc, name),
+/// Puts a kind with a permission, as `C@Owned`.
+pub fn put_held(words: &mut Words, table: &Table, kind: Kind, perm: Perm) {
+    words.put(name_of_kind(table, kind));
+    if let Some(contract) = contract_of(table, kind) {
+        words.put("@");
+        put_perm(words, contract, perm);
     }
 }
 
-/// A type.
-pub fn type_in_words(alloc: Global, table: &Table, of: ResolvedType) -> Result<String, Memory> {
-    let kind = ob_flow_context::kind_of(of);
-    let perm = ob_flow_context::permission_of_type(of);
-    held_in_words(alloc, table, kind, perm)
+/// Puts what stands behind the `@` of a kind with a permission; of a value its kind.
+pub fn put_permission(words: &mut Words, table: &Table, kind: Kind, perm: Perm) {
+    match contract_of(table, kind) {
+        Some(contract) => put_perm(words, contract, perm),
+        None => words.put(name_of_kind(table, kind)),
+    }
 }
 
-/// What a place is held as at a point.
-pub fn held_at(
-    alloc: Global,
-    table: &Table,
-    context: &Context,
-    place: Place,
-) -> Result<String, Memory> {
-    held_in_words(alloc, table, context.kind(place), context.counted(place))
+/// Puts a type.
+pub fn put_type(words: &mut Words, table: &Table, of: ResolvedType) {
+    put_held(words, table, kind_of(of), permission_of_type(of));
 }
 
 // The letters that a text begins with.
@@ -147,8 +170,8 @@ fn after_word<'a>(text: &'a str, word: &str) -> &'a str {
     }
 }
 
-// The name that the statement at a place declares: its type and the name stand before an `=`.
-fn declared_at(text: &[u8], at: Span) -> Option<&str> {
+/// The name that the statement at a place declares: its type and the name stand before an `=`.
+pub fn declared_at(text: &[u8], at: Span) -> Option<&str> {
     let line = shown_at(
         text,
         Span {
@@ -176,55 +199,16 @@ pub fn name_of_field<'a>(frame: &BodyFrame<'a>, field: FieldId) -> &'a str {
     }
 }
 
-// The name of a slot: a parameter's, or that of the variable for which it was set last.
-fn name_of_slot<'a>(
-    text: &'a [u8],
-    frame: &BodyFrame<'a>,
-    found: &Found<'_>,
-    slot: u8,
-) -> Option<&'a str> {
-    if let Some(number) = usize::from(slot).checked_sub(1) {
-        if let Some(param) = frame.signature().params.get(number) {
-            return Some(word_of(param.name.as_bytes()));
-        }
-    }
-    match found.set.get(usize::from(slot)) {
-        Some(Some(at)) => declared_at(text, *at),
-        _ => None,
-    }
-}
-
-/// A place as it is called in the text; what has no name is what a statement makes or gets.
-pub fn place_in_words(
-    alloc: Global,
-    text: &[u8],
-    frame: &BodyFrame<'_>,
-    found: &Found<'_>,
-    place: Place,
-) -> Result<String, Memory> {
-    match place {
-        Place::This => said(alloc, "`this`"),
-        Place::Field(field) => {
-            let name = name_of_field(frame, field);
-            Ok(format!(in alloc; "the field `{name}`")?)
-        }
-        Place::Slot(slot) => match name_of_slot(text, frame, found, slot) {
-            Some(name) => Ok(format!(in alloc; "`{name}`")?),
-            None => said(alloc, "what this statement makes or gets"),
-        },
-    }
-}
-
 /// The first state of a set of states of a contract, or `S`.
 pub fn first_state<'a>(contract: &'a Contract, states: u64) -> &'a str {
-    for number in 0..contract.states.len() {
-        if number < 32 && has_bit(states, number as u8) {
-            if let Some(name) = contract.states.get(number) {
-                return word_of(name.as_bytes());
-            }
-        }
+    let name = match first_of(contract, states) {
+        Some(number) => contract.states.get(number),
+        None => None,
+    };
+    match name {
+        Some(name) => word_of(name.as_bytes()),
+        None => "S",
     }
-    "S"
 }
 
 /// The name of the transaction, or of the constructor's contract.

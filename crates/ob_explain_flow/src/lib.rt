@@ -1,15 +1,16 @@
 //! Faults of the permission rules in words: what a place is held as where a premise fails, what is wanted there, and by which part
-//! of which declaration.
+//! of which declaration; and where an accepted text lets go of assets.
 #![tactic(auto)]
 
-mod branches;
+mod case;
 mod exits;
+mod fields;
 mod forms;
 mod holding;
 mod letting;
-mod straight;
+mod permissions;
 mod telling;
 mod uses;
-mod walking;
 
-pub use telling::{explain_body, note_body};
+pub use letting::say_letting;
+pub use telling::explain_body;

@@ -1,12 +1,11 @@
 //! The operands of a form, with what each use wants and by which declaration.
 
-use crate::holding::{name_of_field, name_of_kind};
-use ob_base::{Memory, Span, TxId};
-use ob_explain_page::{said, word_of};
+use crate::holding::{name_of_body, name_of_field, name_of_kind, say};
+use ob_base::{ContractId, Mode, Span, TxId};
+use ob_explain_page::{Words, word_of};
 use ob_flow_context::BodyFrame;
-use ob_silica::{Form, Given, Operand};
-use ob_table::{Kind, Param, ResolvedType, Signature};
-use std::alloc::Global;
+use ob_silica::{Form, Given, Operand, Place};
+use ob_table::{Kind, Param, ResolvedType, Signature, Table};
 
 /// What a use of an operand is for.
 #[derive(Clone, Copy)]
@@ -32,39 +31,48 @@ pub struct Use<'a> {
     pub wanted: Option<ResolvedType>,
 }
 
-// The uses of arguments.
-fn push_args<'a>(
-    uses: &mut Vec<Use<'a>>,
-    signature: &'a Signature,
-    of: Kind,
-    args: &[Operand],
-) -> Result<(), Memory> {
-    for number in 0..args.len() {
-        if let Some(param) = signature.params.get(number) {
-            uses.push(Use {
-                operand: args[number],
-                role: Role::Argument(param, signature, of),
-                wanted: Some(param.of),
-            })?;
+impl<'a> Use<'a> {
+    // Whether it takes a reference from its owner.
+    fn takes(&self) -> bool {
+        match self.wanted {
+            Some(ResolvedType::Reference(_, perm)) => perm.mode == Mode::Owned,
+            _ => false,
         }
     }
-    Ok(())
 }
 
-// The use of a given field's place.
-fn push_given<'a>(
-    uses: &mut Vec<Use<'a>>,
-    frame: &BodyFrame<'a>,
-    given: &[Given],
-) -> Result<(), Memory> {
-    for one in given {
-        uses.push(Use {
-            operand: one.from,
-            role: Role::Field(name_of_field(frame, one.field)),
-            wanted: Some(frame.type_of_field(one.field)),
-        })?;
+// The constructor or transaction of a number.
+fn called<'a>(frame: &BodyFrame<'a>, contract: ContractId, tx: TxId) -> Option<&'a Signature> {
+    match frame.table().contract(contract) {
+        Some(contract) => contract.signature(tx),
+        None => None,
     }
-    Ok(())
+}
+
+// The use of the argument of this number.
+fn argument<'a>(
+    signature: Option<&'a Signature>,
+    of: Kind,
+    args: &[Operand],
+    number: usize,
+) -> Option<Use<'a>> {
+    let signature = signature?;
+    let param = signature.params.get(number)?;
+    let operand = args.get(number)?;
+    Some(Use {
+        operand: *operand,
+        role: Role::Argument(param, signature, of),
+        wanted: Some(param.of),
+    })
+}
+
+// The use of a value that fills a field.
+fn filling<'a>(frame: &BodyFrame<'a>, given: Given) -> Use<'a> {
+    Use {
+        operand: given.from,
+        role: Role::Field(name_of_field(frame, given.field)),
+        wanted: Some(frame.type_of_field(given.field)),
+    }
 }
 
 fn other<'a>(operand: Operand) -> Use<'a> {
@@ -75,10 +83,10 @@ fn other<'a>(operand: Operand) -> Use<'a> {
     }
 }
 
-// The uses of a move.
-fn of_move<'a>(frame: &BodyFrame<'a>, to: ob_silica::Place, from: Operand) -> Use<'a> {
+// The use of a move.
+fn of_move<'a>(frame: &BodyFrame<'a>, to: Place, from: Operand) -> Use<'a> {
     match to {
-        ob_silica::Place::Field(field) => Use {
+        Place::Field(field) => Use {
             operand: from,
             role: Role::Field(name_of_field(frame, field)),
             wanted: Some(frame.type_of_field(field)),
@@ -87,25 +95,17 @@ fn of_move<'a>(frame: &BodyFrame<'a>, to: ob_silica::Place, from: Operand) -> Us
     }
 }
 
-/// The uses of a form's operands, in the order in which the rules look at them.
-pub fn uses_of<'a>(
-    alloc: Global,
-    frame: &BodyFrame<'a>,
-    form: &Form,
-) -> Result<Vec<Use<'a>>, Memory> {
-    let mut uses = Vec::new(alloc);
+// The use of this number of a call: of a transaction of another object the receiver stands first.
+fn use_of_call<'a>(frame: &BodyFrame<'a>, form: &Form, number: usize) -> Option<Use<'a>> {
     match form {
         Form::New { contract, args, .. } => {
-            if let Some(found) = frame.table().contract(*contract) {
-                if let Some(signature) = found.signature(TxId(0)) {
-                    push_args(
-                        &mut uses,
-                        signature,
-                        Kind::Reference(*contract),
-                        args.as_slice(),
-                    )?;
-                }
-            }
+            let signature = called(frame, *contract, TxId(0));
+            argument(
+                signature,
+                Kind::Reference(*contract),
+                args.as_slice(),
+                number,
+            )
         }
         Form::Call {
             receiver,
@@ -114,62 +114,103 @@ pub fn uses_of<'a>(
             args,
             ..
         } => {
-            if let Some(found) = frame.table().contract(*contract) {
-                if let Some(signature) = found.signature(*tx) {
-                    let of = Kind::Reference(*contract);
-                    uses.push(Use {
-                        operand: *receiver,
-                        role: Role::Receiver(signature, of),
-                        wanted: Some(ResolvedType::Reference(*contract, signature.entry)),
-                    })?;
-                    push_args(&mut uses, signature, of, args.as_slice())?;
-                }
+            let signature = called(frame, *contract, *tx)?;
+            let of = Kind::Reference(*contract);
+            match number.checked_sub(1) {
+                Some(number) => argument(Some(signature), of, args.as_slice(), number),
+                None => Some(Use {
+                    operand: *receiver,
+                    role: Role::Receiver(signature, of),
+                    wanted: Some(ResolvedType::Reference(*contract, signature.entry)),
+                }),
             }
         }
         Form::CallThis { tx, args, .. } => {
-            if let Some(signature) = frame.own().signature(*tx) {
-                push_args(
-                    &mut uses,
-                    signature,
-                    Kind::Reference(frame.here()),
-                    args.as_slice(),
-                )?;
-            }
+            let signature = frame.own().signature(*tx);
+            argument(
+                signature,
+                Kind::Reference(frame.here()),
+                args.as_slice(),
+                number,
+            )
         }
-        Form::Change { given, .. } => push_given(&mut uses, frame, given.as_slice())?,
-        Form::Move { to, from, .. } => uses.push(of_move(frame, *to, *from))?,
-        Form::Copy { from, .. } => uses.push(other(*from))?,
-        Form::Op { a, b, .. } => {
-            uses.push(other(*a))?;
-            uses.push(other(*b))?;
-        }
-        Form::Test { place, .. } => uses.push(other(*place))?,
-        Form::If { a, .. } => uses.push(other(*a))?,
-        Form::Assert { place, .. } => uses.push(other(*place))?,
-        Form::Disown { place } => uses.push(other(*place))?,
-        Form::Return { place: Some(place) } => uses.push(Use {
+        _ => None,
+    }
+}
+
+// The one use of a form without a list of operands.
+fn only_use<'a>(frame: &BodyFrame<'a>, form: &Form) -> Option<Use<'a>> {
+    match form {
+        Form::Move { to, from, .. } => Some(of_move(frame, *to, *from)),
+        Form::Copy { from, .. } => Some(other(*from)),
+        Form::Op { a, .. } => Some(other(*a)),
+        Form::Test { place, .. } => Some(other(*place)),
+        Form::If { a, .. } => Some(other(*a)),
+        Form::Assert { place, .. } => Some(other(*place)),
+        Form::Disown { place } => Some(other(*place)),
+        Form::Return { place: Some(place) } => Some(Use {
             operand: *place,
             role: Role::Result,
             wanted: frame.signature().result,
-        })?,
-        Form::Revert { text } => uses.push(other(*text))?,
-        _ => {}
+        }),
+        Form::Revert { text } => Some(other(*text)),
+        _ => None,
     }
-    Ok(uses)
 }
 
-/// The first use that stands at a place.
-pub fn use_at<'a>(uses: &[Use<'a>], at: Span) -> Option<Use<'a>> {
-    for one in uses {
-        if one.operand.span == at {
-            return Some(*one);
+// The use of this number, in the order in which the rules look at them, if the declaration asks something of it.
+fn use_of<'a>(frame: &BodyFrame<'a>, form: &Form, number: usize) -> Option<Use<'a>> {
+    match form {
+        Form::New { .. } | Form::Call { .. } | Form::CallThis { .. } => {
+            use_of_call(frame, form, number)
+        }
+        Form::Change { given, .. } => match given.as_slice().get(number) {
+            Some(given) => Some(filling(frame, *given)),
+            None => None,
+        },
+        Form::Op { b, .. } if number == 1 => Some(other(*b)),
+        _ if number == 0 => only_use(frame, form),
+        _ => None,
+    }
+}
+
+// No use of a form has this number or a greater one.
+fn end_of_uses(form: &Form) -> usize {
+    match form {
+        Form::New { args, .. } => args.len(),
+        Form::Call { args, .. } => args.len().saturating_add(1),
+        Form::CallThis { args, .. } => args.len(),
+        Form::Change { given, .. } => given.len(),
+        _ => 2,
+    }
+}
+
+/// The first use that stands at a place of the text.
+pub fn use_at<'a>(frame: &BodyFrame<'a>, form: &Form, at: Span) -> Option<Use<'a>> {
+    for number in 0..end_of_uses(form) {
+        if let Some(one) = use_of(frame, form, number) {
+            if one.operand.span == at {
+                return Some(one);
+            }
+        }
+    }
+    None
+}
+
+/// The first use that takes what a place holds.
+pub fn taking<'a>(frame: &BodyFrame<'a>, form: &Form, place: Place) -> Option<Use<'a>> {
+    for number in 0..end_of_uses(form) {
+        if let Some(one) = use_of(frame, form, number) {
+            if one.takes() && one.operand.place == place {
+                return Some(one);
+            }
         }
     }
     None
 }
 
 // What a transaction or constructor is called.
-fn name_of<'a>(table: &'a ob_table::Table, signature: &'a Signature, of: Kind) -> &'a str {
+fn name_of<'a>(table: &'a Table, signature: &'a Signature, of: Kind) -> &'a str {
     let name = word_of(signature.name.as_bytes());
     if name.is_empty() {
         name_of_kind(table, of)
@@ -178,37 +219,38 @@ fn name_of<'a>(table: &'a ob_table::Table, signature: &'a Signature, of: Kind) -
     }
 }
 
-/// What wants something of an operand, in words.
-pub fn role_in_words<'a>(
-    alloc: Global,
-    frame: &BodyFrame<'a>,
-    role: Role<'a>,
-) -> Result<String, Memory> {
+// What a parameter is of: a constructor is called as its contract.
+fn put_called(words: &mut Words, table: &Table, signature: &Signature, of: Kind) {
+    let name = name_of(table, signature, of);
+    let contract = name_of_kind(table, of);
+    if name == contract {
+        say(words, &["the constructor of `", contract, "`"]);
+    } else {
+        say(words, &["the transaction `", name, "` of `", contract, "`"]);
+    }
+}
+
+/// Puts what wants something of an operand.
+pub fn put_role(words: &mut Words, frame: &BodyFrame<'_>, role: Role<'_>) {
     let table = frame.table();
     match role {
         Role::Receiver(signature, of) => {
             let name = name_of(table, signature, of);
             let contract = name_of_kind(table, of);
-            Ok(format!(in alloc; "`this` of the transaction `{name}` of `{contract}`")?)
+            say(
+                words,
+                &["`this` of the transaction `", name, "` of `", contract, "`"],
+            );
         }
         Role::Argument(param, signature, of) => {
-            let param = word_of(param.name.as_bytes());
-            let name = name_of(table, signature, of);
-            let contract = name_of_kind(table, of);
-            if name == contract {
-                return Ok(format!(in alloc;
-                    "the parameter `{param}` of the constructor of `{contract}`"
-                )?);
-            }
-            Ok(format!(in alloc;
-                "the parameter `{param}` of the transaction `{name}` of `{contract}`"
-            )?)
+            say(
+                words,
+                &["the parameter `", word_of(param.name.as_bytes()), "` of "],
+            );
+            put_called(words, table, signature, of);
         }
-        Role::Field(name) => Ok(format!(in alloc; "the field `{name}`")?),
-        Role::Result => {
-            let name = crate::holding::name_of_body(frame);
-            Ok(format!(in alloc; "the result of `{name}`")?)
-        }
-        Role::Other => said(alloc, "this statement"),
+        Role::Field(name) => say(words, &["the field `", name, "`"]),
+        Role::Result => say(words, &["the result of `", name_of_body(frame), "`"]),
+        Role::Other => words.put("this statement"),
     }
 }

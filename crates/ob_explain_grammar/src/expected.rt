@@ -1,12 +1,12 @@
 //! Which tokens could stand at a place: those with which the tokens before it still begin a program.
 
 use crate::fronts::Front;
-use crate::helping::help_of;
-use crate::parts::{PARTS, Part};
+use crate::helping::put_help_at;
+use crate::parts::{ARGUMENT, PARTS, Part};
 use crate::spots::Spot;
 use ob_base::{Duplicate, EXPECTED, Items, Memory, ProgramFault, Span, TextError};
-use ob_explain_page::{Explanation, said};
-use ob_lexer::{Lexed, Token, lex};
+use ob_explain_page::{Explanation, Words};
+use ob_lexer::{LexError, Lexed, Token, TokenKind, lex};
 use ob_parser::parse;
 use std::alloc::Global;
 
@@ -78,10 +78,13 @@ const SPELLINGS: [&str; 61] = [
 /// How many tokens may be open before a place of which it is asked what could follow.
 const MOST_OPEN_TOKENS: usize = 600;
 
-/// The spellings of what could stand at a place.
+/// What could stand at a place.
 #[derive(Drop)]
 pub struct Expected {
+    /// The spellings of the tokens.
     words: Vec<&'static str>,
+    /// The parts of the grammar that stand for tokens which were taken out of them, in words.
+    parts: Vec<&'static str>,
 }
 
 impl Expected {
@@ -90,20 +93,56 @@ impl Expected {
         self.words.iter().any(|other| *other == word)
     }
 
-    /// Whether it is the one that could.
-    pub fn is_only(&self, word: &str) -> bool {
-        self.words.len() == 1 && self.has(word)
-    }
-
-    // The same without what a part begins with.
-    fn without(&self, alloc: Global, part: Part) -> Result<Expected, Memory> {
-        let mut left = Vec::new(alloc);
-        for word in &self.words {
-            if !part.begins_with(word) {
-                left.push(*word)?;
+    /// Whether each of these could.
+    pub fn has_all(&self, words: &[&str]) -> bool {
+        for word in words {
+            if !self.has(word) {
+                return false;
             }
         }
-        Ok(Expected { words: left })
+        true
+    }
+
+    /// Whether one of these could.
+    pub fn has_any(&self, words: &[&str]) -> bool {
+        for word in words {
+            if self.has(word) {
+                return true;
+            }
+        }
+        false
+    }
+
+    /// Whether one token alone could.
+    pub fn is_one(&self) -> bool {
+        self.words.len() == 1
+    }
+
+    fn is_empty(&self) -> bool {
+        self.words.is_empty() && self.parts.is_empty()
+    }
+
+    // Takes these tokens out.
+    fn take_out(&mut self, words: &[&str]) {
+        self.words.retain(|word| !words.contains(word));
+    }
+
+    // Has a part stand for its tokens, if it could stand there.
+    fn take_part(&mut self, part: &Part) -> Result<(), Memory> {
+        if self.has_all(part.marks) {
+            self.parts.push(part.said)?;
+            self.take_out(part.begins);
+        }
+        Ok(())
+    }
+
+    // Has the parts that could stand there stand for their tokens.
+    fn take_parts(&mut self) -> Result<(), Memory> {
+        self.take_out(&ARGUMENT);
+        for part in &PARTS {
+            self.take_part(part)?;
+        }
+        Ok(())
     }
 }
 
@@ -131,20 +170,6 @@ fn begin_program(alloc: Global, tokens: &[Token]) -> Result<bool, Memory> {
     }
 }
 
-// The token of a spelling.
-fn token_of(alloc: Global, spelling: &str) -> Result<Option<Token>, Memory> {
-    match lex(alloc, spelling.as_bytes()) {
-        Ok(mut lexed) => match lexed.tokens.pop() {
-            Some(token) => Ok(Some(Token {
-                kind: token.kind,
-                span: TRIED,
-            })),
-            None => Ok(None),
-        },
-        Err(_) => Ok(None),
-    }
-}
-
 // Copies of the tokens of these numbers.
 fn tokens_at(alloc: Global, tokens: &[Token], numbers: &[usize]) -> Result<Items<Token>, Memory> {
     let mut copies = Items::new(alloc);
@@ -156,109 +181,168 @@ fn tokens_at(alloc: Global, tokens: &[Token], numbers: &[usize]) -> Result<Items
     Ok(copies)
 }
 
-// Tries one spelling after these tokens.
-fn may_follow(alloc: Global, front: &mut Items<Token>, spelling: &str) -> Result<bool, Memory> {
-    let Some(token) = token_of(alloc, spelling)? else {
-        return Ok(false);
-    };
-    front.push(token)?;
+// Whether a token may follow these.
+fn token_may_follow(
+    alloc: Global,
+    front: &mut Items<Token>,
+    kind: TokenKind,
+) -> Result<bool, Memory> {
+    front.push(Token { kind, span: TRIED })?;
     let follows = begin_program(alloc, front.as_slice());
     front.pop();
     follows
 }
 
-/// What could stand after these tokens, of which those of these numbers are open. Nothing is said of very many.
-fn expected_after(alloc: Global, tokens: &[Token], open: &[usize]) -> Result<Expected, Memory> {
+// Whether the first token of what was read may.
+fn first_may_follow(
+    alloc: Global,
+    front: &mut Items<Token>,
+    mut lexed: Lexed,
+) -> Result<bool, Memory> {
+    match lexed.tokens.pop() {
+        Some(token) => token_may_follow(alloc, front, token.kind),
+        None => Ok(false),
+    }
+}
+
+// Tries one spelling after these tokens.
+fn may_follow(alloc: Global, front: &mut Items<Token>, spelling: &str) -> Result<bool, Memory> {
+    match lex(alloc, spelling.as_bytes()) {
+        Ok(lexed) => first_may_follow(alloc, front, lexed),
+        Err(LexError::Fault(_)) => Ok(false),
+        Err(LexError::Memory) => Err(Memory),
+    }
+}
+
+// The spellings of what may follow these tokens.
+fn words_after(alloc: Global, front: &mut Items<Token>) -> Result<Vec<&'static str>, Memory> {
     let mut words = Vec::new(alloc);
-    if open.len() > MOST_OPEN_TOKENS {
-        return Ok(Expected { words });
-    }
-    let mut front = tokens_at(alloc, tokens, open)?;
-    for spelling in SPELLINGS {
-        if may_follow(alloc, &mut front, spelling)? {
-            words.push(spelling)?;
+    for spelling in &SPELLINGS {
+        if may_follow(alloc, front, spelling)? {
+            words.push(*spelling)?;
         }
     }
-    Ok(Expected { words })
+    Ok(words)
 }
 
-// Adds to a list in words: the last of them after `or`.
-fn put_item(list: &mut String, item: &str, left: usize) -> Result<(), Memory> {
-    if !list.is_empty() {
-        list.push_str(if left == 0 { " or " } else { ", " })?;
-    }
-    list.push_str(item)?;
-    Ok(())
+// What could stand after these tokens, of which those of these numbers are open. Nothing is said of very many.
+fn expected_after(alloc: Global, tokens: &[Token], open: &[usize]) -> Result<Expected, Memory> {
+    let words = if open.len() > MOST_OPEN_TOKENS {
+        Vec::new(alloc)
+    } else {
+        words_after(alloc, &mut tokens_at(alloc, tokens, open)?)?
+    };
+    Ok(Expected {
+        words,
+        parts: Vec::new(alloc),
+    })
 }
 
-// The parts that could stand there, in the grammar's words, and the tokens that are left over.
-fn parts_of(alloc: Global, expected: &Expected) -> Result<(Vec<&'static str>, Expected), Memory> {
-    let mut parts = Vec::new(alloc);
-    let mut left = expected.without(alloc, Part::Argument)?;
-    for part in PARTS {
-        if part.is_among(&left) {
-            parts.push(part.said())?;
-            left = left.without(alloc, part)?;
-        }
+// What stands in a list before the item of this number, of so many: `or` before the last.
+fn before_item(number: usize, count: usize) -> &'static str {
+    if number == 0 {
+        ""
+    } else if number.saturating_add(1) == count {
+        " or "
+    } else {
+        ", "
     }
-    Ok((parts, left))
 }
 
-// What could stand there, as a list in words: signs first.
-fn list_of(alloc: Global, expected: &Expected) -> Result<String, Memory> {
-    let (parts, left) = parts_of(alloc, expected)?;
-    let mut list = String::new(alloc);
-    let mut count = parts.len().saturating_add(left.words.len());
-    for word in &left.words {
-        count = count.saturating_sub(1);
-        let item = format!(in alloc; "`{word}`")?;
-        put_item(&mut list, item.as_str(), count)?;
+// What could stand there, as a list: signs first.
+fn put_list(words: &mut Words, expected: &Expected) {
+    let count = expected.words.len().saturating_add(expected.parts.len());
+    let mut number: usize = 0;
+    for word in &expected.words {
+        words.put(before_item(number, count));
+        words.put_with("`{}`", &[word]);
+        number = number.saturating_add(1);
     }
-    for part in &parts {
-        count = count.saturating_sub(1);
-        put_item(&mut list, part, count)?;
+    for part in &expected.parts {
+        words.put(before_item(number, count));
+        words.put(part);
+        number = number.saturating_add(1);
     }
-    Ok(list)
+}
+
+// What is wrong where something could stand.
+fn put_expected(words: &mut Words, spot: &Spot<'_>, expected: &Expected) {
+    words.put("expected ");
+    put_list(words, expected);
+    if spot.found.is_empty() {
+        words.put(", and the text ends here");
+    } else {
+        words.put_with(", found `{}`", &[spot.found]);
+    }
 }
 
 // What is wrong.
-fn wrong_at(alloc: Global, spot: &Spot<'_>, expected: &Expected) -> Result<String, Memory> {
-    let found = spot.found;
-    let list = list_of(alloc, expected)?;
-    if list.is_empty() {
-        return Ok(format!(in alloc; "`{found}` can't stand here")?);
+fn put_wrong(words: &mut Words, spot: &Spot<'_>, expected: &Expected) {
+    if expected.is_empty() {
+        words.put_with("`{}` can't stand here", &[spot.found]);
+    } else {
+        put_expected(words, spot, expected);
     }
-    if found.is_empty() {
-        return Ok(format!(in alloc; "expected {list}, and the text ends here")?);
-    }
-    Ok(format!(in alloc; "expected {list}, found `{found}`")?)
+}
+
+// An unexpected token, where the tokens of these numbers are open before it.
+fn explain_spot(
+    alloc: Global,
+    told: &mut Explanation,
+    spot: &Spot<'_>,
+    read: &[Token],
+    open: &[usize],
+) -> Result<bool, Memory> {
+    let mut expected = expected_after(alloc, read, open)?;
+    let lacks_semicolon = spot.lacks_semicolon(&expected);
+    put_help_at(&mut told.help, spot, &expected);
+    expected.take_parts()?;
+    put_wrong(&mut told.what, spot, &expected);
+    Ok(lacks_semicolon)
 }
 
 // An unexpected token, with the place that the mark is put under.
 fn explain_expected(
     alloc: Global,
+    told: &mut Explanation,
     text: &[u8],
-    lexed: &Lexed,
+    tokens: &[Token],
     fault: ProgramFault,
-) -> Result<(Explanation, Span), Memory> {
-    let tokens = lexed.tokens.as_slice();
+) -> Result<Span, Memory> {
     let before = tokens
         .iter()
         .take_while(|token| token.span.start < fault.span.start)
         .count();
     let (read, rest) = tokens.split_at(before.min(tokens.len()));
     let front = Front::of(alloc, read)?;
-    let expected = expected_after(alloc, read, &front.kept)?;
     let spot = Spot::of(text, read, rest, &front);
-    let what = wrong_at(alloc, &spot, &expected)?;
-    let help = help_of(alloc, &spot, &expected)?;
-    let mark = if spot.lacks_semicolon(&expected) {
-        spot.end_before
+    if explain_spot(alloc, told, &spot, read, &front.kept)? {
+        Ok(spot.end_before)
     } else {
-        fault.span
-    };
-    let note = String::new(alloc);
-    Ok((Explanation { what, note, help }, mark))
+        Ok(fault.span)
+    }
+}
+
+// More that is open at once than may be.
+fn explain_depth(told: &mut Explanation) {
+    told.what.put(
+        "with this, more than 64 blocks, parentheses, lists of arguments and operators are open at once",
+    );
+    told.help.put("put a part of it into a local variable, or into a transaction of its own.");
+}
+
+fn explain(
+    alloc: Global,
+    told: &mut Explanation,
+    text: &[u8],
+    tokens: &[Token],
+    fault: ProgramFault,
+) -> Result<Span, Memory> {
+    if fault.number == EXPECTED {
+        return explain_expected(alloc, told, text, tokens, fault);
+    }
+    explain_depth(told);
+    Ok(fault.span)
 }
 
 /// Explains a fault of the grammar: with the span under which the mark is put.
@@ -268,13 +352,7 @@ pub fn explain_grammar(
     lexed: &Lexed,
     fault: ProgramFault,
 ) -> Result<(Explanation, Span), Memory> {
-    if fault.number == EXPECTED {
-        return explain_expected(alloc, text, lexed, fault);
-    }
-    let what = said(
-        alloc,
-        "with this, more than 64 blocks, parentheses, lists of arguments and operators are open at once",
-    )?;
-    let help = "put a part of it into a local variable, or into a transaction of its own.";
-    Ok((Explanation::of(alloc, what, help)?, fault.span))
+    let mut told = Explanation::new(alloc);
+    let mark = explain(alloc, &mut told, text, lexed.tokens.as_slice(), fault)?;
+    Ok((told, mark))
 }

@@ -5,6 +5,7 @@ mod expected;
 mod fronts;
 mod helping;
 mod parts;
+mod rules;
 mod spelling;
 mod spots;
 

@@ -4,26 +4,82 @@ use ob_base::{
     BAD_CHARACTER, BAD_ESCAPE, BIG_NUMBER, LONG_NAME, LONG_PROGRAM, LONG_STRING, Memory, NOT_UTF8,
     OPEN_COMMENT, OPEN_STRING, ProgramFault, is_letter_or_digit,
 };
-use ob_explain_page::{Explanation, said, shown_at};
+use ob_explain_page::{Explanation, Hint, hint_for, shown_at};
 use std::alloc::Global;
 
-// How to mend a character that begins no token.
-fn help_with(sign: &str) -> &'static str {
-    match sign {
-        "'" | "`" | "\u{2018}" | "\u{2019}" | "\u{201c}" | "\u{201d}" => {
-            "a string stands between two plain `\"`."
-        }
-        "#" => "a comment begins with `//`, or stands between `/*` and `*/`.",
-        "&" => "`&&` is the sign for 'and'.",
-        ":" =>
-            "a permission stands after `@`, as in `C@Owned c`; `S::f = v;` sets a field before a change of state.",
-        "?" => "a choice is an `if` with an `else`.",
-        "$" | "~" | "^" | "\\" =>
-            "the signs are { } ( ) [ ] ; , . @ | :: -> >> = == != < <= > >= + - * / % ! && ||.",
-        _ =>
-            "names have ASCII letters, digits and `_`; other letters stand in strings and comments only.",
-    }
+/// Of characters that begin no token.
+const CHARACTERS: [Hint; 6] = [
+    Hint {
+        of: &["'", "`", "\u{2018}", "\u{2019}", "\u{201c}", "\u{201d}"],
+        help: "a string stands between two plain `\"`.",
+    },
+    Hint {
+        of: &["#"],
+        help: "a comment begins with `//`, or stands between `/*` and `*/`.",
+    },
+    Hint {
+        of: &["&"],
+        help: "`&&` is the sign for 'and'.",
+    },
+    Hint {
+        of: &[":"],
+        help: "a permission stands after `@`, as in `C@Owned c`; `S::f = v;` sets a field before a change of state.",
+    },
+    Hint {
+        of: &["?"],
+        help: "a choice is an `if` with an `else`.",
+    },
+    Hint {
+        of: &["$", "~", "^", "\\"],
+        help: "the signs are { } ( ) [ ] ; , . @ | :: -> >> = == != < <= > >= + - * / % ! && ||.",
+    },
+];
+
+/// Of all others.
+const LETTERS: &str =
+    "names have ASCII letters, digits and `_`; other letters stand in strings and comments only.";
+
+/// A fault of words and signs of which the same is said in each text.
+#[derive(Clone, Copy)]
+struct Spelling {
+    number: u16,
+    wrong: &'static str,
+    help: &'static str,
 }
+
+/// Those faults. Of a program that is too long no length is told: no more of it may have been read than shows that it is.
+const SPELLINGS: [Spelling; 6] = [
+    Spelling {
+        number: OPEN_COMMENT,
+        wrong: "this comment isn't closed",
+        help: "write `*/` where it ends; comments don't nest.",
+    },
+    Spelling {
+        number: OPEN_STRING,
+        wrong: "this string isn't closed on its line",
+        help: "write `\"` where it ends; a newline in a string is written `\\n`.",
+    },
+    Spelling {
+        number: BIG_NUMBER,
+        wrong: "this number is above 9223372036854775807, the greatest `int`",
+        help: "an `int` is between -9223372036854775808 and 9223372036854775807.",
+    },
+    Spelling {
+        number: LONG_STRING,
+        wrong: "this string has more than 1024 bytes",
+        help: "make it shorter: a `string` holds 1024 bytes at most.",
+    },
+    Spelling {
+        number: BAD_ESCAPE,
+        wrong: "this backslash begins no escape",
+        help: "after a backslash stands `\"`, another backslash, `n` (a newline) or `t` (a tab).",
+    },
+    Spelling {
+        number: LONG_PROGRAM,
+        wrong: "the text has more than 1048576 bytes, the most that a program has",
+        help: "",
+    },
+];
 
 // The first byte at a place.
 fn byte_at(text: &[u8], place: u32) -> u8 {
@@ -44,51 +100,51 @@ fn name_length(text: &[u8], place: u32) -> usize {
     }
 }
 
-// What is wrong, of the faults that end the reading of a text.
-fn wrong_at(alloc: Global, text: &[u8], fault: ProgramFault) -> Result<String, Memory> {
-    let shown = shown_at(text, fault.span);
-    match fault.number {
-        NOT_UTF8 => {
-            let byte = byte_at(text, fault.span.start);
-            Ok(format!(in alloc;
-                "the text isn't UTF-8: no character begins with the byte {byte} (in decimal) that stands here"
-            )?)
+// A byte that begins no character.
+fn explain_byte(told: &mut Explanation, byte: u8) {
+    told.what
+        .put("the text isn't UTF-8: no character begins with the byte ");
+    told.what.put_number(u64::from(byte));
+    told.what.put(" (in decimal) that stands here");
+    told.help.put("save the file as UTF-8.");
+}
+
+// How to mend a character that begins no token.
+fn help_with(sign: &str) -> &'static str {
+    let help = hint_for(&CHARACTERS, sign);
+    if help.is_empty() { LETTERS } else { help }
+}
+
+// A character that begins no token.
+fn explain_character(told: &mut Explanation, sign: &str) {
+    told.what.put_with("no word, number, string or sign begins with `{}`", &[sign]);
+    told.help.put(help_with(sign));
+}
+
+// A name with too many bytes.
+fn explain_long_name(told: &mut Explanation, length: usize) {
+    told.what.put("this name has ");
+    told.what.put_number(length as u64);
+    told.what.put(" bytes, and a name has 64 at most");
+}
+
+// A fault of which the same is said in each text.
+fn explain_spelling(told: &mut Explanation, number: u16) {
+    for spelling in &SPELLINGS {
+        if spelling.number == number {
+            told.what.put(spelling.wrong);
+            told.help.put(spelling.help);
         }
-        BAD_CHARACTER => Ok(format!(in alloc;
-            "no word, number, string or sign begins with `{shown}`"
-        )?),
-        OPEN_COMMENT => said(alloc, "this comment isn't closed"),
-        OPEN_STRING => said(alloc, "this string isn't closed on its line"),
-        BIG_NUMBER => said(
-            alloc,
-            "this number is above 9223372036854775807, the greatest `int`",
-        ),
-        LONG_NAME => {
-            let length = name_length(text, fault.span.start);
-            Ok(format!(in alloc; "this name has {length} bytes, and a name has 64 at most")?)
-        }
-        LONG_STRING => said(alloc, "this string has more than 1024 bytes"),
-        BAD_ESCAPE => said(alloc, "this backslash begins no escape"),
-        LONG_PROGRAM => {
-            let length = text.len();
-            Ok(format!(in alloc; "the text has {length} bytes, and a program has 1048576 at most")?)
-        }
-        _ => said(alloc, "this can't be read"),
     }
 }
 
-// How to mend it.
-fn help_at(text: &[u8], fault: ProgramFault) -> &'static str {
+fn explain(told: &mut Explanation, text: &[u8], fault: ProgramFault) {
+    let place = fault.span.start;
     match fault.number {
-        NOT_UTF8 => "save the file as UTF-8.",
-        BAD_CHARACTER => help_with(shown_at(text, fault.span)),
-        OPEN_COMMENT => "write `*/` where it ends; comments don't nest.",
-        OPEN_STRING => "write `\"` where it ends; a newline in a string is written `\\n`.",
-        BIG_NUMBER => "an `int` is between -9223372036854775808 and 9223372036854775807.",
-        LONG_STRING => "make it shorter: a `string` holds 1024 bytes at most.",
-        BAD_ESCAPE =>
-            "after a backslash stands `\"`, another backslash, `n` (a newline) or `t` (a tab).",
-        _ => "",
+        NOT_UTF8 => explain_byte(told, byte_at(text, place)),
+        BAD_CHARACTER => explain_character(told, shown_at(text, fault.span)),
+        LONG_NAME => explain_long_name(told, name_length(text, place)),
+        number => explain_spelling(told, number),
     }
 }
 
@@ -98,6 +154,7 @@ pub fn explain_token(
     text: &[u8],
     fault: ProgramFault,
 ) -> Result<Explanation, Memory> {
-    let what = wrong_at(alloc, text, fault)?;
-    Explanation::of(alloc, what, help_at(text, fault))
+    let mut told = Explanation::new(alloc);
+    explain(&mut told, text, fault);
+    Ok(told)
 }

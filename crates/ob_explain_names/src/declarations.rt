@@ -1,14 +1,14 @@
 //! Declarations: second ones of a name, states and fields that there aren't, exits, limits.
 
-use crate::naming::{meant, see_names};
+use crate::kinds::name_of_contract;
+use crate::naming::{put_meant, see_names};
 use crate::near::Near;
 use crate::sites::Site;
-use ob_base::{Memory, Span};
-use ob_explain_page::{Explanation, Nearest, said, word_of};
-use ob_resolve_scope::kind_of_variable;
+use ob_base::Span;
+use ob_explain_page::{Explanation, Nearest, Words, word_of};
+use ob_resolve_scope::{Names, kind_of_variable};
 use ob_resolve_spec::InferredKind;
 use ob_tree::{ContractNode, FieldNode, Member, NamePart};
-use std::alloc::Global;
 
 /// The first thing of a name that stands before a place.
 #[derive(Drop)]
@@ -50,6 +50,24 @@ impl Earlier<'_> {
             ),
         }
     }
+
+    fn see_members(&mut self, members: &[Member]) {
+        for member in members {
+            self.see_member(member);
+        }
+    }
+
+    fn see_variables(&mut self, variables: &[&NamePart]) {
+        for part in variables {
+            self.see_part("a parameter or variable", part);
+        }
+    }
+
+    fn see_contracts(&mut self, nodes: &[ContractNode]) {
+        for node in nodes {
+            self.see("a contract or interface", node.name.as_bytes(), node.span);
+        }
+    }
 }
 
 // The first of two things of one name.
@@ -59,48 +77,52 @@ fn first_of_name(site: &Site<'_>, name: &str, place: u32) -> Option<(&'static st
         place,
         found: None,
     };
-    for part in &site.variables {
-        first.see_part("a parameter or variable", part);
-    }
-    for member in site.around.node().members.as_slice() {
-        first.see_member(member);
-    }
-    if first.found.is_none() {
-        for node in site.types().nodes() {
-            first.see("a contract or interface", node.name.as_bytes(), node.span);
-        }
-    }
+    first.see_variables(site.variables.as_slice());
+    first.see_members(site.around.node().members.as_slice());
+    first.see_contracts(site.types().nodes());
     first.found
 }
 
-/// A second thing of one name.
-pub fn explain_duplicate(
-    alloc: Global,
-    site: &Site<'_>,
-    place: u32,
-) -> Result<Explanation, Memory> {
-    let name = site.near.word();
-    if site.statement.is_some()
-        && site.near.ahead(1) == "="
-        && matches!(site.near.back(1), "(" | "," | "::")
-    {
-        let what = format!(in alloc;
-            "the field `{name}` is set a second time in one change of state"
-        )?;
-        return Explanation::of(alloc, what, "leave one of the two out.");
+// A field that is set twice in one change of state.
+fn explain_set_twice(told: &mut Explanation, name: &str) {
+    told.what.put_with(
+        "the field `{}` is set a second time in one change of state",
+        &[name],
+    );
+    told.help.put("leave one of the two out.");
+}
+
+// A name that is a thing's already, which stands at a place.
+fn put_already(words: &mut Words, name: &str, thing: &str, span: Span) {
+    words.put_with("`{}` is {} already, on line ", &[name, thing]);
+    words.put_number(u64::from(span.line));
+}
+
+// A name that is given twice.
+fn explain_given_twice(told: &mut Explanation, site: &Site<'_>, name: &str, place: u32) {
+    match first_of_name(site, name, place) {
+        Some((thing, span)) => put_already(&mut told.what, name, thing, span),
+        None => told.what.put_with("`{}` is given a second time", &[name]),
     }
-    let what = match first_of_name(site, name, place) {
-        Some((thing, span)) => {
-            let line = span.line;
-            format!(in alloc; "`{name}` is {thing} already, on line {line}")?
-        }
-        None => format!(in alloc; "`{name}` is given a second time")?,
-    };
-    Explanation::of(
-        alloc,
-        what,
-        "give one of the two another name: none hides another.",
-    )
+    told.help
+        .put("give one of the two another name: none hides another.");
+}
+
+// Whether the name at a place is that of a field in a change of state.
+fn is_set(site: &Site<'_>) -> bool {
+    site.statement.is_some()
+        && site.near.ahead(1) == "="
+        && ["(", ",", "::"].contains(&site.near.back(1))
+}
+
+/// A second thing of one name.
+pub fn explain_duplicate(told: &mut Explanation, site: &Site<'_>, place: u32) {
+    let name = site.near.word();
+    if is_set(site) {
+        explain_set_twice(told, name);
+    } else {
+        explain_given_twice(told, site, name, place);
+    }
 }
 
 // The contract whose state is named at a place.
@@ -121,149 +143,174 @@ fn contract_of_state(site: &Site<'_>) -> usize {
     }
 }
 
-// A list of names in words.
-fn list_names(alloc: Global, names: &ob_resolve_scope::Names) -> Result<String, Memory> {
-    let mut list = String::new(alloc);
+// Puts names as a list.
+fn put_names(words: &mut Words, names: &Names) {
     for place in 0..names.len() {
         if let Some(name) = names.name(place) {
-            if !list.is_empty() {
-                list.push_str(", ")?;
-            }
-            list.push_str("`")?;
-            list.push_str(word_of(name))?;
-            list.push_str("`")?;
+            words.put(if place == 0 { "" } else { ", " });
+            words.put_with("`{}`", &[word_of(name)]);
         }
     }
-    Ok(list)
+}
+
+// Puts the names after a text of which they are, or another text where there are none.
+fn put_listed(words: &mut Words, lead: &str, none: &str, of: &str, names: &Names) {
+    if names.len() == 0 {
+        words.put_with(none, &[of]);
+        return;
+    }
+    words.put_with(lead, &[of]);
+    put_names(words, names);
+    words.put(".");
+}
+
+// Puts a question whether the nearest of some names was meant.
+fn put_nearest(words: &mut Words, name: &str, names: &Names) {
+    let mut nearest = Nearest::to(name.as_bytes());
+    see_names(&mut nearest, names);
+    put_meant(words, nearest.found());
+}
+
+// The states that there are.
+fn explain_states(told: &mut Explanation, name: &str, of: &str, states: &Names) {
+    put_listed(
+        &mut told.note,
+        "the states of `{}`: ",
+        "`{}` has no states; `Owned`, `Shared` and `Unowned` are written so.",
+        of,
+        states,
+    );
+    put_nearest(&mut told.help, name, states);
 }
 
 /// A state that a contract doesn't have.
-pub fn explain_state(alloc: Global, site: &Site<'_>) -> Result<Explanation, Memory> {
+pub fn explain_state(told: &mut Explanation, site: &Site<'_>) {
     let name = site.near.word();
     let number = contract_of_state(site);
-    let of = crate::kinds::name_of_contract(site.types(), number);
-    let what = format!(in alloc; "`{of}` has no state `{name}`")?;
-    let Some(states) = site.types().states(number) else {
-        return Explanation::of(alloc, what, "");
-    };
-    let list = list_names(alloc, states)?;
-    let note = if list.is_empty() {
-        format!(in alloc; "`{of}` has no states; `Owned`, `Shared` and `Unowned` are written so.")?
-    } else {
-        format!(in alloc; "the states of `{of}`: {list}.")?
-    };
-    let mut nearest = Nearest::to(name.as_bytes());
-    see_names(&mut nearest, states);
-    let help = meant(alloc, nearest.found())?;
-    Ok(Explanation { what, note, help })
+    let of = name_of_contract(site.types(), number);
+    told.what.put_with("`{}` has no state `{}`", &[of, name]);
+    if let Some(states) = site.types().states(number) {
+        explain_states(told, name, of, states);
+    }
+}
+
+// The fields that there are.
+fn explain_fields(told: &mut Explanation, name: &str, own: &str, fields: &Names) {
+    put_listed(
+        &mut told.note,
+        "the fields of `{}`: ",
+        "`{}` has no fields.",
+        own,
+        fields,
+    );
+    put_nearest(&mut told.help, name, fields);
 }
 
 /// A field that the contract doesn't have.
-pub fn explain_field(alloc: Global, site: &Site<'_>) -> Result<Explanation, Memory> {
+pub fn explain_field(told: &mut Explanation, site: &Site<'_>) {
     let name = site.near.word();
     let own = word_of(site.around.node().name.as_bytes());
-    let what = format!(in alloc; "`{own}` has no field `{name}`")?;
-    let Some(members) = site.around.declared().members(site.around.number()) else {
-        return Explanation::of(alloc, what, "");
-    };
-    let list = list_names(alloc, &members.fields)?;
-    let note = if list.is_empty() {
-        format!(in alloc; "`{own}` has no fields.")?
-    } else {
-        format!(in alloc; "the fields of `{own}`: {list}.")?
-    };
-    let mut nearest = Nearest::to(name.as_bytes());
-    see_names(&mut nearest, &members.fields);
-    let help = meant(alloc, nearest.found())?;
-    Ok(Explanation { what, note, help })
+    told.what.put_with("`{}` has no field `{}`", &[own, name]);
+    if let Some(members) = site.around.members() {
+        explain_fields(told, name, own, &members.fields);
+    }
+}
+
+// An exit that can't follow its entry.
+fn explain_other_exit(told: &mut Explanation, entry: &str, exit: &str) {
+    told.what.put_with(
+        "what comes in as `{}` can't be `{}` at the end",
+        &[entry, exit],
+    );
+    told.note.put(
+        "after `Unowned` an exit is `Unowned`, and after `Shared` it is `Shared`: only an owner can hand over more or less.",
+    );
+    told.help.put_with(
+        "write `{}` alone, or come in as `Owned` or with states.",
+        &[entry],
+    );
+}
+
+// A constructor that gives Unowned.
+fn explain_given(told: &mut Explanation) {
+    told.what.put("a constructor gives an object to own or to share, and not `Unowned`");
+    told.help.put("write `Owned`, `Shared`, or states.");
 }
 
 /// An exit that can't follow its entry, or a constructor that gives Unowned.
-pub fn explain_exit(alloc: Global, near: &Near<'_>) -> Result<Explanation, Memory> {
-    let exit = near.word();
+pub fn explain_exit(told: &mut Explanation, near: &Near<'_>) {
     if near.back(1) == ">>" {
-        let entry = near.back(2);
-        let what = format!(in alloc; "what comes in as `{entry}` can't be `{exit}` at the end")?;
-        let note = said(
-            alloc,
-            "after `Unowned` an exit is `Unowned`, and after `Shared` it is `Shared`: only an owner can hand over more or less.",
-        )?;
-        let help = format!(in alloc;
-            "write `{entry}` alone, or come in as `Owned` or with states."
-        )?;
-        return Ok(Explanation { what, note, help });
+        explain_other_exit(told, near.back(2), near.word());
+    } else {
+        explain_given(told);
     }
-    let what = said(
-        alloc,
-        "a constructor gives an object to own or to share, and not `Unowned`",
-    )?;
-    Explanation::of(alloc, what, "write `Owned`, `Shared`, or states.")
 }
 
 /// A contract that is no asset and owns one.
-pub fn explain_owner(alloc: Global, site: &Site<'_>) -> Result<Explanation, Memory> {
+pub fn explain_owner(told: &mut Explanation, site: &Site<'_>) {
     let name = site.near.word();
     let own = word_of(site.around.node().name.as_bytes());
     let of = site.near.held_name();
-    let what = format!(in alloc;
-        "the field `{name}` owns a `{of}`, which is an asset, and `{own}` is none: with it the asset could be lost"
-    )?;
-    let note = String::new(alloc);
-    let help = format!(in alloc;
-        "write `asset contract {own}`, or hold the field as `{of}@Shared` or `{of}@Unowned`."
-    )?;
-    Ok(Explanation { what, note, help })
+    told.what.put_with(
+        "the field `{}` owns a `{}`, which is an asset, and `{}` is none: with it the asset could be lost",
+        &[name, of, own],
+    );
+    told.help.put_with(
+        "write `asset contract {}`, or hold the field as `{}@Shared` or `{}@Unowned`.",
+        &[own, of, of],
+    );
 }
 
-// What a limit counts, by the tokens before the name.
-fn counted(site: &Site<'_>) -> (&'static str, usize) {
-    match site.near.back(1) {
-        "state" => return ("states of a contract", 32),
-        "transaction" => return ("transactions of a contract", 256),
-        "contract" | "interface" => return ("contracts and interfaces", 1024),
-        _ => {}
-    }
+// What a limit counts that is no contract and no member, and how many there may be, by where the name stands.
+fn counted_inside(site: &Site<'_>) -> &'static str {
     if site.statement.is_some() {
-        return (
-            "variables and parts of expressions of a body at once, with `this`",
-            128,
-        );
+        "128 variables and parts of expressions of a body at once, with `this`"
+    } else if site.member.is_some() {
+        "16 parameters beside `this`"
+    } else {
+        "64 fields of a contract"
     }
-    if site.member.is_some() {
-        return ("parameters beside `this`", 16);
+}
+
+// What a limit counts, and how many there may be, by the token before the name.
+fn counted(site: &Site<'_>) -> &'static str {
+    match site.near.back(1) {
+        "state" => "32 states of a contract",
+        "transaction" => "256 transactions of a contract",
+        "contract" | "interface" => "1024 contracts and interfaces",
+        _ => counted_inside(site),
     }
-    ("fields of a contract", 64)
+}
+
+// A name with which there are more than so many things.
+fn put_more(words: &mut Words, name: &str, things: &str) {
+    words.put_with("with `{}` there are more than {}", &[name, things]);
 }
 
 /// A number that passes its limit.
-pub fn explain_limit(alloc: Global, site: &Site<'_>, place: u32) -> Result<Explanation, Memory> {
+pub fn explain_limit(told: &mut Explanation, site: &Site<'_>, place: u32) {
     if place == 0 {
-        let what = said(
-            alloc,
-            "the program is too large: its code would have more than 16777216 bytes",
-        )?;
-        return Explanation::of(alloc, what, "");
+        told.what.put("the program is too large: its code would have more than 16777216 bytes");
+    } else {
+        put_more(&mut told.what, site.near.word(), counted(site));
     }
-    let name = site.near.word();
-    let (things, most) = counted(site);
-    let what = format!(in alloc; "with `{name}` there are more than {most} {things}")?;
-    Explanation::of(alloc, what, "")
+}
+
+// The name of the first main contract.
+fn first_main(nodes: &[ContractNode]) -> &str {
+    for node in nodes {
+        if node.main {
+            return word_of(node.name.as_bytes());
+        }
+    }
+    "?"
 }
 
 /// A second main contract.
-pub fn explain_main(
-    alloc: Global,
-    nodes: &[ContractNode],
-    name: &str,
-) -> Result<Explanation, Memory> {
-    let mut first = "?";
-    for node in nodes {
-        if node.main && first == "?" {
-            first = word_of(node.name.as_bytes());
-        }
-    }
-    let what = format!(in alloc;
-        "`{name}` is a second main contract, and `{first}` is one already"
-    )?;
-    Explanation::of(alloc, what, "a program has one: leave one `main` out.")
+pub fn explain_main(told: &mut Explanation, site: &Site<'_>) {
+    told.what.put_with(
+        "`{}` is a second main contract, and `{}` is one already",
+        &[site.near.word(), first_main(site.types().nodes())],
+    );
+    told.help.put("a program has one: leave one `main` out.");
 }

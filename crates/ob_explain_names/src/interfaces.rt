@@ -2,10 +2,8 @@
 
 use crate::near::Near;
 use crate::sites::{Site, params_of};
-use ob_base::{Memory, Span};
-use ob_explain_page::{Explanation, said, word_of};
+use ob_explain_page::{Explanation, Words, word_of};
 use ob_tree::{ContractNode, FormalNode, Member, NamePart, NamedNode, PermNode, Subject, TypeNode};
-use std::alloc::Global;
 
 fn state_of(member: &Member) -> Option<&NamePart> {
     match member {
@@ -130,102 +128,102 @@ fn differing_param<'a>(asked: &'a [FormalNode], has: &[FormalNode]) -> Option<&'
     None
 }
 
-// The part in which two transactions differ.
-fn different_part(alloc: Global, asked: &Member, has: &Member) -> Result<String, Memory> {
-    if let Member::Transaction { private: true, .. } = has {
-        return said(alloc, "it is private");
-    }
-    let one = params_of(Some(asked));
-    let other = params_of(Some(has));
-    if one.len() != other.len() {
-        return said(alloc, "the number of parameters differs, `this` counted");
-    }
-    if let Some(name) = differing_param(one, other) {
-        return Ok(format!(in alloc;
-            "the parameter `{name}` differs in its type or in a permission"
-        )?);
-    }
-    said(alloc, different_result(asked, has))
+/// In what a transaction differs from the one that is asked.
+#[derive(Clone, Copy)]
+enum Difference<'a> {
+    Private,
+    Count,
+    /// A parameter, by its name in the interface.
+    Param(&'a str),
+    Result,
+    /// One alone has a result.
+    Giving,
 }
 
-// How the results of two transactions differ.
-fn different_result(asked: &Member, has: &Member) -> &'static str {
+fn is_private(member: &Member) -> bool {
+    matches!(member, Member::Transaction { private: true, .. })
+}
+
+fn result_of(member: &Member) -> Option<&TypeNode> {
+    match member {
+        Member::Transaction { result, .. } => result.as_ref(),
+        _ => None,
+    }
+}
+
+// How the results differ.
+fn different_result(
+    asked: Option<&TypeNode>,
+    has: Option<&TypeNode>,
+) -> Option<Difference<'static>> {
     match (asked, has) {
-        (
-            Member::Transaction {
-                result: Some(one),
-                ..
-            },
-            Member::Transaction {
-                result: Some(other),
-                ..
-            },
-        ) => {
+        (Some(one), Some(other)) => {
             if same_type(one, other, false) {
-                ""
+                None
             } else {
-                "the result differs"
+                Some(Difference::Result)
             }
         }
-        (Member::Transaction { result: None, .. }, Member::Transaction { result: None, .. }) => "",
-        _ => "one has a result and the other has none",
+        (None, None) => None,
+        _ => Some(Difference::Giving),
+    }
+}
+
+// How the parameters differ.
+fn different_params<'a>(asked: &'a [FormalNode], has: &[FormalNode]) -> Option<Difference<'a>> {
+    if asked.len() != has.len() {
+        return Some(Difference::Count);
+    }
+    match differing_param(asked, has) {
+        Some(name) => Some(Difference::Param(name)),
+        None => None,
+    }
+}
+
+// The first part in which two transactions differ.
+fn first_difference<'a>(asked: &'a Member, has: &Member) -> Option<Difference<'a>> {
+    if is_private(has) {
+        return Some(Difference::Private);
+    }
+    match different_params(params_of(Some(asked)), params_of(Some(has))) {
+        Some(found) => Some(found),
+        None => different_result(result_of(asked), result_of(has)),
+    }
+}
+
+// In words.
+fn put_difference(words: &mut Words, difference: Difference<'_>) {
+    match difference {
+        Difference::Private => words.put("it is private"),
+        Difference::Count => words.put("the number of parameters differs, `this` counted"),
+        Difference::Param(name) => words.put_with(
+            "the parameter `{}` differs in its type or in a permission",
+            &[name],
+        ),
+        Difference::Result => words.put("the result differs"),
+        Difference::Giving => words.put("one has a result and the other has none"),
+    }
+}
+
+// What of a text stands before its first brace.
+fn before_brace(text: &str) -> &str {
+    match text.split_once('{') {
+        Some((head, _)) => head.trim(),
+        None => text,
     }
 }
 
 // The head of a transaction as it is written.
 fn head_of<'a>(near: &Near<'a>, member: &Member) -> &'a str {
-    let (span, body) = match member {
-        Member::Transaction { span, body, .. } => (*span, body),
-        _ => return "",
-    };
-    let text = near.between(span, span.end);
-    match body {
-        Some(_) => match text.find('{') {
-            Some(brace) => text.get(..brace).unwrap_or(text).trim(),
-            None => text,
-        },
-        None => text.trim_end_matches(';'),
+    match member {
+        Member::Transaction {
+            span,
+            body: Some(_),
+            ..
+        } => before_brace(near.between(*span, span.end)),
+        Member::Transaction { span, .. } => near.between(*span, span.end).trim_end_matches(';'),
+        _ => "",
     }
-}
-
-// A transaction that the interface asks and the contract doesn't have.
-fn explain_absent(
-    alloc: Global,
-    name: &str,
-    asking: &str,
-    wanted: &str,
-    head: &str,
-) -> Result<Explanation, Memory> {
-    let what = format!(in alloc;
-        "`{name}` implements `{asking}` and has no transaction `{wanted}`"
-    )?;
-    let note = format!(in alloc; "`{asking}` asks `{head}`.")?;
-    let help = format!(in alloc; "declare it in `{name}` with these parameters and this result.")?;
-    Ok(Explanation { what, note, help })
-}
-
-// A transaction that isn't as the interface asks.
-fn explain_unlike(
-    alloc: Global,
-    near: &Near<'_>,
-    name: &str,
-    asking: &str,
-    asked: &Member,
-    has: &Member,
-) -> Result<Option<Explanation>, Memory> {
-    let differs = different_part(alloc, asked, has)?;
-    if differs.is_empty() {
-        return Ok(None);
-    }
-    let wanted = name_in_words(asked);
-    let what = format!(in alloc;
-        "the transaction `{wanted}` of `{name}` isn't as `{asking}` asks: {differs}"
-    )?;
-    let head = head_of(near, asked);
-    let written = head_of(near, has);
-    let note = format!(in alloc; "`{asking}` asks `{head}`, and here is `{written}`.")?;
-    let help = String::new(alloc);
-    Ok(Some(Explanation { what, note, help }))
 }
 
 fn name_in_words(member: &Member) -> &str {
@@ -235,95 +233,164 @@ fn name_in_words(member: &Member) -> &str {
     }
 }
 
-// What is wrong with a transaction that the interface asks.
-fn explain_asked(
-    alloc: Global,
-    near: &Near<'_>,
-    interface: &ContractNode,
-    own: &ContractNode,
-    asked: &Member,
-) -> Result<Option<Explanation>, Memory> {
-    let name = word_of(own.name.as_bytes());
-    let asking = word_of(interface.name.as_bytes());
-    let Some(part) = name_of(asked) else {
-        return Ok(None);
-    };
-    match transaction_of(own, part.name.as_bytes()) {
-        Some(has) => explain_unlike(alloc, near, name, asking, asked, has),
-        None => {
-            let wanted = name_in_words(asked);
-            Ok(Some(explain_absent(alloc, name, asking, wanted, head_of(near, asked))?))
+/// A contract, its interface and the tokens around a place.
+#[derive(Clone, Copy)]
+struct Answering<'a> {
+    near: Near<'a>,
+    own: &'a ContractNode,
+    interface: &'a ContractNode,
+}
+
+impl<'a> Answering<'a> {
+    // The contract's name.
+    fn name(&self) -> &'a str {
+        word_of(self.own.name.as_bytes())
+    }
+
+    // The interface's.
+    fn asking(&self) -> &'a str {
+        word_of(self.interface.name.as_bytes())
+    }
+
+    // A transaction that the interface asks and the contract doesn't have.
+    fn explain_absent(&self, told: &mut Explanation, asked: &Member) {
+        told.what.put_with(
+            "`{}` implements `{}` and has no transaction `{}`",
+            &[self.name(), self.asking(), name_in_words(asked)],
+        );
+        told.note.put_with(
+            "`{}` asks `{}`.",
+            &[self.asking(), head_of(&self.near, asked)],
+        );
+        told.help.put_with(
+            "declare it in `{}` with these parameters and this result.",
+            &[self.name()],
+        );
+    }
+
+    // A transaction that isn't as the interface asks.
+    fn explain_unlike(
+        &self,
+        told: &mut Explanation,
+        asked: &Member,
+        has: &Member,
+        difference: Difference<'_>,
+    ) {
+        told.what.put_with(
+            "the transaction `{}` of `{}` isn't as `{}` asks: ",
+            &[name_in_words(asked), self.name(), self.asking()],
+        );
+        put_difference(&mut told.what, difference);
+        told.note.put_with(
+            "`{}` asks `{}`, and here is `{}`.",
+            &[
+                self.asking(),
+                head_of(&self.near, asked),
+                head_of(&self.near, has),
+            ],
+        );
+    }
+
+    // What is wrong with a transaction that the interface asks and the contract has, if something is.
+    fn explain_had(&self, told: &mut Explanation, asked: &Member, has: &Member) {
+        if let Some(difference) = first_difference(asked, has) {
+            self.explain_unlike(told, asked, has, difference);
+        }
+    }
+
+    // What is wrong with a transaction that the interface asks, if something is.
+    fn explain_asked(&self, told: &mut Explanation, asked: &Member, name: &NamePart) {
+        match transaction_of(self.own, name.name.as_bytes()) {
+            Some(has) => self.explain_had(told, asked, has),
+            None => self.explain_absent(told, asked),
+        }
+    }
+
+    // What is wrong with the first transaction that isn't as the interface asks.
+    fn explain_transactions(&self, told: &mut Explanation) {
+        for asked in self.interface.members.as_slice() {
+            if let Some(name) = name_of(asked) {
+                self.explain_asked(told, asked, name);
+            }
+            if !told.what.is_empty() {
+                return;
+            }
+        }
+    }
+
+    // What is asked of each transaction.
+    fn explain_rule(&self, told: &mut Explanation) {
+        told.what.put_with(
+            "a transaction of `{}` isn't as `{}` asks it",
+            &[self.name(), self.asking()],
+        );
+        told.help.put(
+            "each has the same parameters, permissions, exits and result, but for the parameters' names.",
+        );
+    }
+
+    // An asset whose interface is none.
+    fn explain_asset(&self, told: &mut Explanation) {
+        told.what.put_with(
+            "`{}` is an asset, and `{}`, which it implements, is none: through it an asset could be lost",
+            &[self.name(), self.asking()],
+        );
+        told.help
+            .put_with("write `asset interface {}`.", &[self.asking()]);
+    }
+
+    // A state that the interface names and the contract doesn't have.
+    fn explain_stateless(&self, told: &mut Explanation, state: &str) {
+        told.what.put_with(
+            "`{}` implements `{}` and has no state `{}`, which `{}` names",
+            &[self.name(), self.asking(), state, self.asking()],
+        );
+        told.help
+            .put_with("write `state {};` in `{}`.", &[state, self.name()]);
+    }
+
+    // What is wrong where no asset is.
+    fn explain_members(&self, told: &mut Explanation) {
+        if let Some(state) = missing_state(self.interface, self.own) {
+            self.explain_stateless(told, state);
+            return;
+        }
+        self.explain_transactions(told);
+        if told.what.is_empty() {
+            self.explain_rule(told);
+        }
+    }
+
+    fn explain(&self, told: &mut Explanation) {
+        if self.own.asset && !self.interface.asset {
+            self.explain_asset(told);
+        } else {
+            self.explain_members(told);
         }
     }
 }
 
-// What is wrong with the first transaction that isn't as the interface asks.
-fn explain_transactions(
-    alloc: Global,
-    near: &Near<'_>,
-    interface: &ContractNode,
-    own: &ContractNode,
-) -> Result<Option<Explanation>, Memory> {
-    for asked in interface.members.as_slice() {
-        if let Some(found) = explain_asked(alloc, near, interface, own, asked)? {
-            return Ok(Some(found));
-        }
+// The interface of the contract around.
+fn interface_of<'a>(site: &Site<'a>) -> Option<&'a ContractNode> {
+    match site.types().interface_of(site.around.number()) {
+        Some(number) => site.types().node(number),
+        None => None,
     }
-    Ok(None)
-}
-
-// An asset whose interface is none.
-fn explain_asset(alloc: Global, name: &str, asking: &str) -> Result<Explanation, Memory> {
-    let what = format!(in alloc;
-        "`{name}` is an asset, and `{asking}`, which it implements, is none: through it an asset could be lost"
-    )?;
-    let note = String::new(alloc);
-    let help = format!(in alloc; "write `asset interface {asking}`.")?;
-    Ok(Explanation { what, note, help })
-}
-
-// A state that the interface names and the contract doesn't have.
-fn explain_stateless(
-    alloc: Global,
-    name: &str,
-    asking: &str,
-    state: &str,
-) -> Result<Explanation, Memory> {
-    let what = format!(in alloc;
-        "`{name}` implements `{asking}` and has no state `{state}`, which `{asking}` names"
-    )?;
-    let note = String::new(alloc);
-    let help = format!(in alloc; "write `state {state};` in `{name}`.")?;
-    Ok(Explanation { what, note, help })
 }
 
 /// A contract that doesn't have what its interface asks.
-pub fn explain_interface(alloc: Global, site: &Site<'_>) -> Result<Explanation, Memory> {
+pub fn explain_interface(told: &mut Explanation, site: &Site<'_>) {
     let own = site.around.node();
-    let name = word_of(own.name.as_bytes());
-    let number = site.types().interface_of(site.around.number());
-    let interface = match number {
-        Some(number) => site.types().node(number),
-        None => None,
-    };
-    let Some(interface) = interface else {
-        let what = format!(in alloc; "`{name}` doesn't have what its interface asks")?;
-        return Explanation::of(alloc, what, "");
-    };
-    let asking = word_of(interface.name.as_bytes());
-    if own.asset && !interface.asset {
-        return explain_asset(alloc, name, asking);
+    match interface_of(site) {
+        Some(interface) => Answering {
+            near: site.near,
+            own,
+            interface,
+        }
+        .explain(told),
+        None => told.what.put_with(
+            "`{}` doesn't have what its interface asks",
+            &[word_of(own.name.as_bytes())],
+        ),
     }
-    if let Some(state) = missing_state(interface, own) {
-        return explain_stateless(alloc, name, asking, state);
-    }
-    if let Some(found) = explain_transactions(alloc, &site.near, interface, own)? {
-        return Ok(found);
-    }
-    let what = format!(in alloc; "a transaction of `{name}` isn't as `{asking}` asks it")?;
-    Explanation::of(
-        alloc,
-        what,
-        "each has the same parameters, permissions, exits and result, but for the parameters' names.",
-    )
 }

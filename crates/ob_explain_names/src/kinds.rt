@@ -1,10 +1,8 @@
 //! Kinds of values in words.
 
-use ob_base::Memory;
-use ob_explain_page::{said, word_of};
+use ob_explain_page::{Words, word_of};
 use ob_resolve_scope::Types;
 use ob_resolve_spec::InferredKind;
-use std::alloc::Global;
 
 /// The name of a contract or interface.
 pub fn name_of_contract<'a>(types: &Types<'a>, number: usize) -> &'a str {
@@ -14,21 +12,22 @@ pub fn name_of_contract<'a>(types: &Types<'a>, number: usize) -> &'a str {
     }
 }
 
-/// A value of a kind, in words.
-pub fn kind_in_words(
-    alloc: Global,
-    types: &Types<'_>,
-    kind: InferredKind,
-) -> Result<String, Memory> {
+// A value of a kind, in words.
+fn word_of_kind(kind: InferredKind) -> &'static str {
     match kind {
-        InferredKind::Int => said(alloc, "an `int`"),
-        InferredKind::Bool => said(alloc, "a `bool`"),
-        InferredKind::Text => said(alloc, "a `string`"),
-        InferredKind::Nothing => said(alloc, "no value"),
-        InferredKind::Unknown => said(alloc, "a value"),
-        InferredKind::Reference(number) => {
-            let name = name_of_contract(types, number);
-            Ok(format!(in alloc; "a reference to `{name}`")?)
-        }
+        InferredKind::Int => "an `int`",
+        InferredKind::Bool => "a `bool`",
+        InferredKind::Text => "a `string`",
+        InferredKind::Nothing => "no value",
+        InferredKind::Unknown => "a value",
+        InferredKind::Reference(_) => "a reference",
+    }
+}
+
+/// Puts a value of a kind, in words.
+pub fn put_kind(words: &mut Words, types: &Types<'_>, kind: InferredKind) {
+    words.put(word_of_kind(kind));
+    if let InferredKind::Reference(number) = kind {
+        words.put_with(" to `{}`", &[name_of_contract(types, number)]);
     }
 }

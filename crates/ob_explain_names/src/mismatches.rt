@@ -1,15 +1,16 @@
 //! Values of another type than is needed.
 
-use crate::kinds::kind_in_words;
+use crate::kinds::put_kind;
 use crate::sites::Site;
-use ob_base::{Items, Memory, Operator};
-use ob_explain_page::{Explanation, said};
+use ob_base::{Items, Operator};
+use ob_explain_page::{Explanation, Words, word_of};
 use ob_resolve_scope::{
     called_transaction, constructed, kind_of, kind_of_subject, kind_of_variable,
 };
 use ob_resolve_spec::InferredKind;
-use ob_tree::{CallNode, Expr, Member, NamePart, Stmt, Subject, span_of_expr};
-use std::alloc::Global;
+use ob_tree::{
+    CallNode, Expr, GivenNode, Member, NamePart, NamedNode, Stmt, Subject, span_of_expr,
+};
 
 /// What a place needs.
 #[derive(Clone, Copy)]
@@ -30,42 +31,18 @@ struct Mismatch {
     has: InferredKind,
 }
 
-// The expressions of changes of state.
-fn push_given<'a>(
-    exprs: &mut Vec<&'a Expr>,
-    given: &'a [ob_tree::GivenNode],
-) -> Result<(), Memory> {
-    for one in given {
-        exprs.push(&one.value)?;
-    }
-    Ok(())
-}
-
-/// The expressions that stand directly in a statement.
-pub fn exprs_of<'a>(alloc: Global, stmt: Option<&'a Stmt>) -> Result<Vec<&'a Expr>, Memory> {
-    let mut exprs = Vec::new(alloc);
+/// The expression that stands directly in a statement, if it has one of its own. What a change of state gives stands in its fields.
+pub fn expr_of(stmt: &Stmt) -> Option<&Expr> {
     match stmt {
-        Some(Stmt::Declare { value, .. }) => exprs.push(value)?,
-        Some(Stmt::Assign { value, .. }) => exprs.push(value)?,
-        Some(Stmt::Stage { value, .. }) => exprs.push(value)?,
-        Some(Stmt::Call { value, .. }) => exprs.push(value)?,
-        Some(Stmt::If { condition, .. }) => exprs.push(condition)?,
-        Some(
-            Stmt::Return {
-                value: Some(value),
-                ..
-            },
-        ) => exprs.push(value)?,
-        Some(
-            Stmt::Revert {
-                text: Some(text),
-                ..
-            },
-        ) => exprs.push(text)?,
-        Some(Stmt::Change { given, .. }) => push_given(&mut exprs, given.as_slice())?,
-        _ => {}
+        Stmt::Declare { value, .. } => Some(value),
+        Stmt::Assign { value, .. } => Some(value),
+        Stmt::Stage { value, .. } => Some(value),
+        Stmt::Call { value, .. } => Some(value),
+        Stmt::If { condition, .. } => Some(condition),
+        Stmt::Return { value, .. } => value.as_ref(),
+        Stmt::Revert { text, .. } => text.as_ref(),
+        _ => None,
     }
-    Ok(exprs)
 }
 
 // The kind of an operator's operands.
@@ -86,9 +63,9 @@ fn is_no_value(kind: InferredKind) -> bool {
 }
 
 // A name that has to be a reference's.
-fn of_reference(site: &Site<'_>, subject: &Subject, is_there: bool) -> Option<Mismatch> {
+fn of_reference(site: &Site<'_>, subject: &Subject) -> Option<Mismatch> {
     let has = kind_of_subject(&site.around, &site.scope, subject);
-    if is_there && is_no_reference(has) {
+    if is_no_reference(has) {
         Some(Mismatch {
             wanted: Wanted::Reference,
             has,
@@ -98,10 +75,26 @@ fn of_reference(site: &Site<'_>, subject: &Subject, is_there: bool) -> Option<Mi
     }
 }
 
-fn is_at(subject: &Subject, place: u32) -> bool {
-    match subject {
-        Subject::This(span) => span.start == place,
-        Subject::Name(NamePart { span, .. }) => span.start == place,
+// The same, if it stands at a place.
+fn of_reference_at(site: &Site<'_>, subject: &Subject, place: u32) -> Option<Mismatch> {
+    let at = match subject {
+        Subject::This(span) => span.start,
+        Subject::Name(NamePart { span, .. }) => span.start,
+    };
+    if at == place {
+        of_reference(site, subject)
+    } else {
+        None
+    }
+}
+
+// Whether a value of a kind isn't what is wanted.
+fn differs(site: &Site<'_>, wanted: Wanted, has: InferredKind) -> bool {
+    match wanted {
+        Wanted::Kind(kind) => site.types().differs(kind, has),
+        Wanted::Result(kind) => site.types().differs(kind, has),
+        Wanted::Reference => is_no_reference(has),
+        Wanted::Value => is_no_value(has),
     }
 }
 
@@ -111,12 +104,7 @@ fn of_whole(site: &Site<'_>, expr: &Expr, wanted: Wanted, place: u32) -> Option<
         return None;
     }
     let has = kind_of(&site.around, &site.scope, expr);
-    let differs = match wanted {
-        Wanted::Kind(kind) | Wanted::Result(kind) => site.types().differs(kind, has),
-        Wanted::Reference => is_no_reference(has),
-        Wanted::Value => is_no_value(has),
-    };
-    if differs {
+    if differs(site, wanted, has) {
         Some(Mismatch { wanted, has })
     } else {
         None
@@ -125,10 +113,7 @@ fn of_whole(site: &Site<'_>, expr: &Expr, wanted: Wanted, place: u32) -> Option<
 
 // The first of two.
 fn or_else(first: Option<Mismatch>, second: Option<Mismatch>) -> Option<Mismatch> {
-    match first {
-        Some(found) => Some(found),
-        None => second,
-    }
+    if first.is_some() { first } else { second }
 }
 
 // The kinds of a call's parameters.
@@ -137,6 +122,23 @@ fn params_of_call<'a>(site: &Site<'a>, call: &CallNode) -> Option<&'a Items<Infe
     match called_transaction(&site.around, &site.scope, &call.receiver, name) {
         Some(heading) => Some(&heading.params),
         None => None,
+    }
+}
+
+// Those of a constructor.
+fn params_of_new<'a>(site: &Site<'a>, of: &NamedNode) -> Option<&'a Items<InferredKind>> {
+    match constructed(site.around.declared(), of) {
+        Some(members) => Some(&members.constructor),
+        None => None,
+    }
+}
+
+/// The kinds of the parameters of what an expression calls.
+pub fn params_of_expr<'a>(site: &Site<'a>, expr: &Expr) -> Option<&'a Items<InferredKind>> {
+    match expr {
+        Expr::Call { call, .. } => params_of_call(site, call),
+        Expr::New { of, .. } => params_of_new(site, of),
+        _ => None,
     }
 }
 
@@ -157,6 +159,31 @@ fn mismatch_in(expr: &Expr, wanted: Wanted, place: u32, site: &Site<'_>) -> Opti
     or_else(inside, of_whole(site, expr, wanted, place))
 }
 
+// What the left operand of an operator has to be, or the only one; and the right one.
+fn wanted_left(operator: Operator) -> Wanted {
+    match operator {
+        Operator::Equal | Operator::NotEqual => Wanted::Value,
+        _ => Wanted::Kind(operand_kind(operator)),
+    }
+}
+
+fn wanted_right(operator: Operator, left: &Expr, site: &Site<'_>) -> Wanted {
+    match operator {
+        Operator::Equal | Operator::NotEqual => {
+            Wanted::Kind(kind_of(&site.around, &site.scope, left))
+        }
+        _ => Wanted::Kind(operand_kind(operator)),
+    }
+}
+
+// What is called on another thing than a reference.
+fn of_receiver(site: &Site<'_>, call: &CallNode, place: u32) -> Option<Mismatch> {
+    match &call.receiver {
+        Some(receiver) => of_reference_at(site, receiver, place),
+        None => None,
+    }
+}
+
 // The same of its parts.
 #[cycle(mismatch_in)]
 fn mismatch_inside(expr: &Expr, place: u32, site: &Site<'_>) -> Option<Mismatch> {
@@ -165,40 +192,19 @@ fn mismatch_inside(expr: &Expr, place: u32, site: &Site<'_>) -> Option<Mismatch>
             operator,
             operand,
             ..
-        } => mismatch_in(
-            operand.get(),
-            Wanted::Kind(operand_kind(*operator)),
-            place,
-            site,
-        ),
-        Expr::Binary {
-            operator: Operator::Equal | Operator::NotEqual,
-            left,
-            right,
-            ..
-        } => {
-            let kind = kind_of(&site.around, &site.scope, left.get());
-            let first = mismatch_in(left.get(), Wanted::Value, place, site);
-            or_else(
-                first,
-                mismatch_in(right.get(), Wanted::Kind(kind), place, site),
-            )
-        }
+        } => mismatch_in(operand.get(), wanted_left(*operator), place, site),
         Expr::Binary {
             operator,
             left,
             right,
             ..
         } => {
-            let wanted = Wanted::Kind(operand_kind(*operator));
-            let first = mismatch_in(left.get(), wanted, place, site);
+            let wanted = wanted_right(*operator, left.get(), site);
+            let first = mismatch_in(left.get(), wanted_left(*operator), place, site);
             or_else(first, mismatch_in(right.get(), wanted, place, site))
         }
         Expr::Call { call, .. } => {
-            let first = match &call.receiver {
-                Some(receiver) => of_reference(site, receiver, is_at(receiver, place)),
-                None => None,
-            };
+            let first = of_receiver(site, call, place);
             let params = params_of_call(site, call);
             or_else(
                 first,
@@ -206,11 +212,7 @@ fn mismatch_inside(expr: &Expr, place: u32, site: &Site<'_>) -> Option<Mismatch>
             )
         }
         Expr::New { of, args, .. } => {
-            let params = match constructed(site.around.declared(), of) {
-                Some(members) => Some(&members.constructor),
-                None => None,
-            };
-            mismatch_among(args.as_slice(), params, place, site)
+            mismatch_among(args.as_slice(), params_of_new(site, of), place, site)
         }
         _ => None,
     }
@@ -236,170 +238,242 @@ fn mismatch_among(
     None
 }
 
-// What is wrong at a `return`.
-fn of_return(site: &Site<'_>, value: &Option<Expr>, place: u32, at: u32) -> Option<Mismatch> {
-    let wanted = Wanted::Result(site.around.result());
-    let inside = match value {
-        Some(value) => mismatch_in(value, Wanted::Kind(InferredKind::Unknown), place, site),
-        None => None,
-    };
-    if place != at {
-        return inside;
+// What is wrong in a value that is given.
+fn in_given(site: &Site<'_>, given: &GivenNode, place: u32) -> Option<Mismatch> {
+    let kind = site.around.kind_of_field(given.field.name.as_bytes());
+    mismatch_in(&given.value, Wanted::Kind(kind), place, site)
+}
+
+fn among_given(site: &Site<'_>, given: &[GivenNode], place: u32) -> Option<Mismatch> {
+    for one in given {
+        let found = in_given(site, one, place);
+        if found.is_some() {
+            return found;
+        }
     }
+    None
+}
+
+// What a `return` gives.
+fn returned(site: &Site<'_>, value: &Option<Expr>) -> Mismatch {
     let has = match value {
         Some(value) => kind_of(&site.around, &site.scope, value),
         None => InferredKind::Nothing,
     };
-    Some(Mismatch { wanted, has })
+    Mismatch {
+        wanted: Wanted::Result(site.around.result()),
+        has,
+    }
+}
+
+// What is wrong inside a `return`.
+fn in_returned(site: &Site<'_>, value: &Option<Expr>, place: u32) -> Option<Mismatch> {
+    match value {
+        Some(value) => mismatch_in(value, Wanted::Kind(InferredKind::Unknown), place, site),
+        None => None,
+    }
+}
+
+// A name that is let go.
+fn of_disowned(site: &Site<'_>, name: &NamePart) -> Mismatch {
+    Mismatch {
+        wanted: Wanted::Reference,
+        has: kind_of_variable(&site.around, &site.scope, name.name.as_bytes()),
+    }
+}
+
+// The kind that the expression of a statement has to have.
+fn kind_wanted(site: &Site<'_>, stmt: &Stmt) -> InferredKind {
+    match stmt {
+        Stmt::Declare { of, .. } => site.types().kind_of_local(of),
+        Stmt::Assign { name, .. } => {
+            kind_of_variable(&site.around, &site.scope, name.name.as_bytes())
+        }
+        Stmt::Stage { field, .. } => site.around.kind_of_field(field.name.as_bytes()),
+        Stmt::If { .. } => InferredKind::Bool,
+        Stmt::Revert { .. } => InferredKind::Text,
+        _ => InferredKind::Unknown,
+    }
+}
+
+// What is wrong in the expression of a statement.
+fn in_expr(site: &Site<'_>, stmt: &Stmt, place: u32) -> Option<Mismatch> {
+    match expr_of(stmt) {
+        Some(expr) => mismatch_in(expr, Wanted::Kind(kind_wanted(site, stmt)), place, site),
+        None => None,
+    }
 }
 
 // What is wrong at a place in a statement.
 fn in_statement(site: &Site<'_>, stmt: &Stmt, place: u32) -> Option<Mismatch> {
     match stmt {
-        Stmt::Declare { of, value, .. } => {
-            mismatch_in(
-                value,
-                Wanted::Kind(site.types().kind_of_local(of)),
-                place,
-                site,
-            )
-        }
-        Stmt::Assign { name, value, .. } => {
-            let kind = kind_of_variable(&site.around, &site.scope, name.name.as_bytes());
-            mismatch_in(value, Wanted::Kind(kind), place, site)
-        }
-        Stmt::Stage { field, value, .. } => {
-            let kind = site.around.kind_of_field(field.name.as_bytes());
-            mismatch_in(value, Wanted::Kind(kind), place, site)
-        }
-        Stmt::Change { given, .. } => {
-            let mut found = None;
-            for one in given.as_slice() {
-                let kind = site.around.kind_of_field(one.field.name.as_bytes());
-                found = or_else(
-                    found,
-                    mismatch_in(&one.value, Wanted::Kind(kind), place, site),
-                );
+        Stmt::Change { given, .. } => among_given(site, given.as_slice(), place),
+        Stmt::Return { value, span } => {
+            if span.start == place {
+                Some(returned(site, value))
+            } else {
+                in_returned(site, value, place)
             }
-            found
         }
-        Stmt::Call { value, .. } => {
-            mismatch_in(value, Wanted::Kind(InferredKind::Unknown), place, site)
+        Stmt::Test { subject, span, .. } => {
+            if span.start == place {
+                of_reference(site, subject)
+            } else {
+                None
+            }
         }
-        Stmt::If { condition, .. } => {
-            mismatch_in(condition, Wanted::Kind(InferredKind::Bool), place, site)
-        }
-        Stmt::Test { subject, span, .. } => of_reference(site, subject, span.start == place),
-        Stmt::Return { value, span } => of_return(site, value, place, span.start),
-        Stmt::Revert { text, .. } => match text {
-            Some(text) => mismatch_in(text, Wanted::Kind(InferredKind::Text), place, site),
-            None => None,
-        },
-        Stmt::Disown { name, .. } => {
-            let has = kind_of_variable(&site.around, &site.scope, name.name.as_bytes());
-            Some(Mismatch {
-                wanted: Wanted::Reference,
-                has,
-            })
-        }
-        Stmt::Assert { subject, .. } => of_reference(site, subject, is_at(subject, place)),
+        Stmt::Disown { name, .. } => Some(of_disowned(site, name)),
+        Stmt::Assert { subject, .. } => of_reference_at(site, subject, place),
+        _ => in_expr(site, stmt, place),
     }
 }
 
-// What is wanted, in words.
-fn wanted_in_words(alloc: Global, site: &Site<'_>, wanted: Wanted) -> Result<String, Memory> {
+// Puts what is wanted, in words.
+fn put_wanted(words: &mut Words, site: &Site<'_>, wanted: Wanted) {
     match wanted {
-        Wanted::Kind(kind) | Wanted::Result(kind) => kind_in_words(alloc, site.types(), kind),
-        Wanted::Reference => said(alloc, "a reference"),
-        Wanted::Value => said(alloc, "an `int`, a `bool` or a `string`"),
+        Wanted::Kind(kind) => put_kind(words, site.types(), kind),
+        Wanted::Result(kind) => put_kind(words, site.types(), kind),
+        Wanted::Reference => words.put("a reference"),
+        Wanted::Value => words.put("an `int`, a `bool` or a `string`"),
     }
 }
 
-// How to mend it.
-fn help_with(mismatch: Mismatch) -> &'static str {
-    match (mismatch.wanted, mismatch.has) {
-        (Wanted::Kind(InferredKind::Int), InferredKind::Text) => {
+// How to mend it where a value of this kind is wanted.
+fn help_with_kind(wanted: InferredKind, has: InferredKind) -> &'static str {
+    match (wanted, has) {
+        (InferredKind::Int, InferredKind::Text) => {
             "operators as `+` and `<` work on `int`s; strings can't be joined, and have `==` and `!=` alone."
         }
-        (Wanted::Result(InferredKind::Text), InferredKind::Int) =>
-            "operators as `+` give an `int`; strings can't be joined.",
-        (Wanted::Kind(InferredKind::Text), InferredKind::Int) => {
+        (InferredKind::Text, InferredKind::Int) => {
             "a number isn't made a text: write the text between `\"`."
         }
-        (Wanted::Kind(InferredKind::Bool), InferredKind::Int) => { "compare it, as in `n > 0`." }
-        (Wanted::Value, InferredKind::Reference(_)) => {
-            "`==` and `!=` compare values; two references aren't compared."
-        }
-        (_, InferredKind::Nothing) =>
-            "what is called returns nothing: it stands as a statement of its own.",
+        (InferredKind::Bool, InferredKind::Int) => "compare it, as in `n > 0`.",
         _ => "",
     }
 }
 
-// What is wrong with a `return`.
-fn of_result(
-    alloc: Global,
-    name: &str,
-    wanted: &str,
-    has: &str,
-    mismatch: Mismatch,
-) -> Result<Explanation, Memory> {
-    match (mismatch.wanted, mismatch.has) {
-        (Wanted::Result(InferredKind::Nothing), _) => {
-            let what = format!(in alloc; "`{name}` has no result, and {has} is returned here")?;
-            Explanation::of(
-                alloc,
-                what,
-                "write the result's type after the parameters, as in `returns int`, or `return;` here.",
-            )
+// How to mend it where the body returns a value of this kind.
+fn help_with_result(wanted: InferredKind, has: InferredKind) -> &'static str {
+    match (wanted, has) {
+        (InferredKind::Text, InferredKind::Int) => {
+            "operators as `+` give an `int`; strings can't be joined."
         }
-        (_, InferredKind::Nothing) => {
-            let what = format!(in alloc;
-                "`{name}` returns {wanted}, and this `return` has no value"
-            )?;
-            Explanation::of(alloc, what, "write the value after `return`.")
+        _ => "",
+    }
+}
+
+// How to mend it where a value that can be compared is wanted.
+fn help_with_value(has: InferredKind) -> &'static str {
+    match has {
+        InferredKind::Reference(_) => {
+            "`==` and `!=` compare values; two references aren't compared."
         }
-        _ => {
-            let what = format!(in alloc; "`{name}` returns {wanted}, and {has} is returned here")?;
-            Explanation::of(alloc, what, help_with(mismatch))
-        }
+        _ => "",
+    }
+}
+
+fn is_nothing(kind: InferredKind) -> bool {
+    matches!(kind, InferredKind::Nothing)
+}
+
+// How to mend it.
+fn help_with(wanted: Wanted, has: InferredKind) -> &'static str {
+    if is_nothing(has) {
+        return "what is called returns nothing: it stands as a statement of its own.";
+    }
+    match wanted {
+        Wanted::Kind(kind) => help_with_kind(kind, has),
+        Wanted::Result(kind) => help_with_result(kind, has),
+        Wanted::Value => help_with_value(has),
+        Wanted::Reference => "",
     }
 }
 
 /// The name of the transaction around, or of the contract where it is a constructor.
 pub fn name_around<'a>(site: &Site<'a>) -> &'a str {
     match site.member {
-        Some(Member::Transaction { name, .. }) => ob_explain_page::word_of(name.name.as_bytes()),
-        _ => ob_explain_page::word_of(site.around.node().name.as_bytes()),
+        Some(Member::Transaction { name, .. }) => word_of(name.name.as_bytes()),
+        _ => word_of(site.around.node().name.as_bytes()),
     }
 }
 
+/// Puts which value a body has to return.
+pub fn put_returns(words: &mut Words, site: &Site<'_>) {
+    words.put_with("`{}` returns ", &[name_around(site)]);
+    put_kind(words, site.types(), site.around.result());
+}
+
+// A value that is returned where there is no result.
+fn explain_resultless(told: &mut Explanation, site: &Site<'_>, has: InferredKind) {
+    told.what
+        .put_with("`{}` has no result, and ", &[name_around(site)]);
+    put_kind(&mut told.what, site.types(), has);
+    told.what.put(" is returned here");
+    told.help.put(
+        "write the result's type after the parameters, as in `returns int`, or `return;` here.",
+    );
+}
+
+// A `return` without a value.
+fn explain_valueless(told: &mut Explanation, site: &Site<'_>) {
+    put_returns(&mut told.what, site);
+    told.what.put(", and this `return` has no value");
+    told.help.put("write the value after `return`.");
+}
+
+// Another value than the result.
+fn explain_other_result(told: &mut Explanation, site: &Site<'_>, has: InferredKind) {
+    put_returns(&mut told.what, site);
+    told.what.put(", and ");
+    put_kind(&mut told.what, site.types(), has);
+    told.what.put(" is returned here");
+    told.help
+        .put(help_with(Wanted::Result(site.around.result()), has));
+}
+
+// What is wrong with a `return`.
+fn explain_result(told: &mut Explanation, site: &Site<'_>, has: InferredKind) {
+    if is_nothing(site.around.result()) {
+        explain_resultless(told, site, has);
+    } else if is_nothing(has) {
+        explain_valueless(told, site);
+    } else {
+        explain_other_result(told, site, has);
+    }
+}
+
+// What is wrong with a value.
+fn explain_wanted(told: &mut Explanation, site: &Site<'_>, mismatch: Mismatch) {
+    put_wanted(&mut told.what, site, mismatch.wanted);
+    told.what.put(" is needed here, and this is ");
+    put_kind(&mut told.what, site.types(), mismatch.has);
+    told.help.put(help_with(mismatch.wanted, mismatch.has));
+}
+
+fn explain_found(told: &mut Explanation, site: &Site<'_>, mismatch: Mismatch) {
+    match mismatch.wanted {
+        Wanted::Result(_) => explain_result(told, site, mismatch.has),
+        _ => explain_wanted(told, site, mismatch),
+    }
+}
+
+// A field that is listed with another type than its own.
+fn explain_listed(told: &mut Explanation, name: &str) {
+    told.what.put_with(
+        "`{}` has another type than the field that is listed",
+        &[name],
+    );
+    told.help.put("write the field's own type, with what is held of it here.");
+}
+
 /// A value of another type than is needed.
-pub fn explain_mismatch(alloc: Global, site: &Site<'_>, place: u32) -> Result<Explanation, Memory> {
+pub fn explain_mismatch(told: &mut Explanation, site: &Site<'_>, place: u32) {
     let found = match site.statement {
         Some(stmt) => in_statement(site, stmt, place),
         None => None,
     };
-    let Some(mismatch) = found else {
-        let name = site.near.word();
-        let what = format!(in alloc; "`{name}` has another type than the field that is listed")?;
-        return Explanation::of(
-            alloc,
-            what,
-            "write the field's own type, with what is held of it here.",
-        );
-    };
-    let wanted = wanted_in_words(alloc, site, mismatch.wanted)?;
-    let has = kind_in_words(alloc, site.types(), mismatch.has)?;
-    if let Wanted::Result(_) = mismatch.wanted {
-        return of_result(
-            alloc,
-            name_around(site),
-            wanted.as_str(),
-            has.as_str(),
-            mismatch,
-        );
+    match found {
+        Some(mismatch) => explain_found(told, site, mismatch),
+        None => explain_listed(told, site.near.word()),
     }
-    let what = format!(in alloc; "{wanted} is needed here, and this is {has}")?;
-    Explanation::of(alloc, what, help_with(mismatch))
 }

@@ -2,15 +2,14 @@
 
 use crate::kinds::name_of_contract;
 use crate::sites::Site;
-use ob_base::Memory;
-use ob_explain_page::{Explanation, Nearest, said, word_of};
+use ob_base::is_letter;
+use ob_explain_page::{Explanation, Hint, Nearest, Words, hint_for, word_of};
 use ob_resolve_scope::{Names, kind_of_variable};
 use ob_resolve_spec::InferredKind;
-use std::alloc::Global;
 
 /// What a name has to stand for.
-#[derive(Clone, Copy, PartialEq, Eq)]
-pub enum Need {
+#[derive(Clone, Copy)]
+enum Need {
     Contract,
     Interface,
     /// A contract of which there are objects.
@@ -24,41 +23,53 @@ pub enum Need {
 
 // Whether a token is written like a name.
 fn is_name(word: &str) -> bool {
-    match word.as_bytes() {
-        [first, ..] => ob_base::is_letter(*first),
-        [] => false,
+    match word.as_bytes().first() {
+        Some(letter) => is_letter(*letter),
+        None => false,
     }
 }
 
-/// What the name at a place has to stand for, by the tokens beside it.
-pub fn need_at(site: &Site<'_>) -> Need {
-    let near = &site.near;
-    match near.back(1) {
-        "new" => return Need::Object,
-        "implements" => return Need::Interface,
-        "." => {
-            let receiver = near.back(2);
-            return match kind_of_variable(&site.around, &site.scope, receiver.as_bytes()) {
-                InferredKind::Reference(number) => Need::TransactionOf(number),
-                _ => Need::Transaction,
-            };
-        }
-        _ => {}
+// What the name after a dot has to stand for.
+fn need_after_dot(site: &Site<'_>) -> Need {
+    let receiver = site.near.back(2);
+    match kind_of_variable(&site.around, &site.scope, receiver.as_bytes()) {
+        InferredKind::Reference(number) => Need::TransactionOf(number),
+        _ => Need::Transaction,
     }
-    let next = near.ahead(1);
-    let is_asserted = near.back(1) == "[";
-    if next == "@" && !is_asserted || is_name(next) && near.ahead(2) == "=" {
-        return Need::Contract;
+}
+
+// Whether the name at a place is a type's, by the tokens after it.
+fn is_type(site: &Site<'_>) -> bool {
+    let next = site.near.ahead(1);
+    if next == "@" {
+        return site.near.back(1) != "[";
     }
-    if next == "(" {
+    is_name(next) && site.near.ahead(2) == "="
+}
+
+// What the name at a place has to stand for, by the tokens after it.
+fn need_before(site: &Site<'_>) -> Need {
+    if is_type(site) {
+        Need::Contract
+    } else if site.near.ahead(1) == "(" {
         Need::Transaction
     } else {
         Need::Variable
     }
 }
 
-/// In words.
-pub fn need_in_words(need: Need) -> &'static str {
+// What the name at a place has to stand for, by the tokens beside it.
+fn need_at(site: &Site<'_>) -> Need {
+    match site.near.back(1) {
+        "new" => Need::Object,
+        "implements" => Need::Interface,
+        "." => need_after_dot(site),
+        _ => need_before(site),
+    }
+}
+
+// In words.
+fn need_in_words(need: Need) -> &'static str {
     match need {
         Need::Contract => "a contract or an interface",
         Need::Interface => "an interface",
@@ -121,206 +132,253 @@ fn nearest_to<'a>(site: &'a Site<'_>, name: &'a str, need: Need) -> Option<&'a s
     nearest.found()
 }
 
-/// A question whether another name was meant, or nothing.
-pub fn meant(alloc: Global, found: Option<&str>) -> Result<String, Memory> {
-    match found {
-        Some(other) => Ok(format!(in alloc; "did you mean `{other}`?")?),
-        None => Ok(String::new(alloc)),
+/// Puts a question whether another name was meant, if one was found.
+pub fn put_meant(words: &mut Words, found: Option<&str>) {
+    if let Some(other) = found {
+        words.put_with("did you mean `{}`?", &[other]);
     }
 }
 
-// What a name of another language's types is written as.
-fn help_with_word(name: &str) -> &'static str {
-    match name {
-        "Int" | "integer" | "Integer" | "uint" | "uint256" | "number" =>
-            "a whole number's type is `int`.",
-        "String" | "str" | "text" => "a text's type is `string`.",
-        "Bool" | "boolean" | "Boolean" => "the type of `true` and `false` is `bool`.",
-        "self" | "me" => "the contract's own object is `this`.",
-        "null" | "nil" | "None" =>
-            "there is no empty reference: a state tells whether a field is there.",
-        "var" | "let" | "const" | "auto" =>
-            "a local variable begins with its type, as in `int x = 0;`.",
-        "require" | "assert" => "`revert \"why\";` ends the request and undoes it.",
-        _ => "",
-    }
+/// Of words of other languages.
+const FOREIGN: [Hint; 7] = [
+    Hint {
+        of: &["Int", "integer", "Integer", "uint", "uint256", "number"],
+        help: "a whole number's type is `int`.",
+    },
+    Hint {
+        of: &["String", "str", "text"],
+        help: "a text's type is `string`.",
+    },
+    Hint {
+        of: &["Bool", "boolean", "Boolean"],
+        help: "the type of `true` and `false` is `bool`.",
+    },
+    Hint {
+        of: &["self", "me"],
+        help: "the contract's own object is `this`.",
+    },
+    Hint {
+        of: &["null", "nil", "None"],
+        help: "there is no empty reference: a state tells whether a field is there.",
+    },
+    Hint {
+        of: &["var", "let", "const", "auto"],
+        help: "a local variable begins with its type, as in `int x = 0;`.",
+    },
+    Hint {
+        of: &["require", "assert"],
+        help: "`revert \"why\";` ends the request and undoes it.",
+    },
+];
+
+// Puts that a contract has nothing of a name.
+fn put_unknown_in(words: &mut Words, of: &str, name: &str) {
+    words.put_with(
+        "`{}` has nothing of the name `{}`, and a transaction of it is needed here",
+        &[of, name],
+    );
 }
 
-// What is said of a name that is nothing visible.
-fn unknown_in_words(
-    alloc: Global,
-    site: &Site<'_>,
-    name: &str,
-    need: Need,
-) -> Result<String, Memory> {
+// Puts that nothing of a name is visible where this is wanted.
+fn put_unknown_where(words: &mut Words, name: &str, wanted: &str) {
+    words.put_with(
+        "nothing of the name `{}` is visible here, where {} is needed",
+        &[name, wanted],
+    );
+}
+
+// Puts what is said of a name that is nothing visible.
+fn put_unknown(words: &mut Words, site: &Site<'_>, name: &str, need: Need) {
     match need {
         Need::TransactionOf(contract) => {
-            let of = name_of_contract(site.types(), contract);
-            Ok(format!(in alloc;
-                "`{of}` has nothing of the name `{name}`, and a transaction of it is needed here"
-            )?)
+            put_unknown_in(words, name_of_contract(site.types(), contract), name);
         }
-        _ => {
-            let wanted = need_in_words(need);
-            Ok(format!(in alloc;
-                "nothing of the name `{name}` is visible here, where {wanted} is needed"
-            )?)
-        }
+        _ => put_unknown_where(words, name, need_in_words(need)),
     }
 }
 
-// How to mend it.
-fn help_with_unknown(
-    alloc: Global,
-    site: &Site<'_>,
-    name: &str,
-    need: Need,
-) -> Result<String, Memory> {
-    let foreign = help_with_word(name);
-    if foreign.is_empty() {
-        meant(alloc, nearest_to(site, name, need))
-    } else {
-        said(alloc, foreign)
-    }
+// Puts a question whether the visible name that is nearest was meant.
+fn put_nearest(words: &mut Words, site: &Site<'_>, name: &str, need: Need) {
+    put_meant(words, nearest_to(site, name, need));
 }
 
 /// A name that is nothing visible.
-pub fn explain_unknown(alloc: Global, site: &Site<'_>) -> Result<Explanation, Memory> {
+pub fn explain_unknown(told: &mut Explanation, site: &Site<'_>) {
     let name = site.near.word();
     let need = need_at(site);
-    let what = unknown_in_words(alloc, site, name, need)?;
-    let note = String::new(alloc);
-    let help = help_with_unknown(alloc, site, name, need)?;
-    Ok(Explanation { what, note, help })
+    put_unknown(&mut told.what, site, name, need);
+    let foreign = hint_for(&FOREIGN, name);
+    if foreign.is_empty() {
+        put_nearest(&mut told.help, site, name, need);
+    } else {
+        told.help.put(foreign);
+    }
+}
+
+/// What a name stands for.
+#[derive(Clone, Copy)]
+enum Thing {
+    Variable,
+    Contract,
+    Interface,
+    Field,
+    State,
+    Transaction,
+    PrivateTransaction,
+    Other,
+}
+
+// In words.
+fn thing_in_words(thing: Thing) -> &'static str {
+    match thing {
+        Thing::Variable => "a variable",
+        Thing::Contract => "a contract",
+        Thing::Interface => "an interface",
+        Thing::Field => "a field",
+        Thing::State => "a state",
+        Thing::Transaction => "a transaction",
+        Thing::PrivateTransaction => "a private transaction",
+        Thing::Other => "another thing",
+    }
+}
+
+// The transaction that a name stands for in the contract of this number.
+fn transaction_in(site: &Site<'_>, contract: usize, name: &str) -> Thing {
+    match site.around.declared().heading(contract, name.as_bytes()) {
+        Some(heading) => {
+            if heading.private {
+                Thing::PrivateTransaction
+            } else {
+                Thing::Transaction
+            }
+        }
+        None => Thing::Other,
+    }
 }
 
 // What a name stands for in the contract of this number.
-fn thing_in(site: &Site<'_>, contract: usize, name: &str) -> &'static str {
-    let declared = site.around.declared();
-    let bytes = name.as_bytes();
-    if declared.field(contract, bytes).is_some() {
-        return "a field";
+fn thing_in(site: &Site<'_>, contract: usize, name: &str) -> Thing {
+    if site
+        .around
+        .declared()
+        .field(contract, name.as_bytes())
+        .is_some()
+    {
+        Thing::Field
+    } else if site.types().state(contract, name.as_bytes()).is_some() {
+        Thing::State
+    } else {
+        transaction_in(site, contract, name)
     }
-    if declared.types().state(contract, bytes).is_some() {
-        return "a state";
-    }
-    match declared.heading(contract, bytes) {
-        Some(heading) => {
-            if heading.private {
-                "a private transaction"
-            } else {
-                "a transaction"
-            }
-        }
-        None => "another thing",
+}
+
+// The contract or interface of a number.
+fn thing_at(site: &Site<'_>, contract: usize) -> Thing {
+    if site.types().is_interface(contract) {
+        Thing::Interface
+    } else {
+        Thing::Contract
     }
 }
 
 // What a visible name stands for.
-fn thing_of(site: &Site<'_>, name: &str) -> &'static str {
+fn thing_of(site: &Site<'_>, name: &str) -> Thing {
     if site.scope.variable(name.as_bytes()).is_some() {
-        return "a variable";
+        return Thing::Variable;
     }
     match site.types().find(name.as_bytes()) {
-        Some(number) => {
-            if site.types().is_interface(number) {
-                "an interface"
-            } else {
-                "a contract"
-            }
-        }
+        Some(number) => thing_at(site, number),
         None => thing_in(site, site.around.number(), name),
     }
 }
 
-// How to mend a name that stands for another thing.
-fn help_with_other(
-    alloc: Global,
-    site: &Site<'_>,
-    name: &str,
-    thing: &str,
-    need: Need,
-) -> Result<String, Memory> {
-    match (thing, need) {
-        ("a private transaction", _) => said(
-            alloc,
-            "a private transaction is called on `this` alone: leave the receiver out, or `private` where it is declared.",
-        ),
-        ("a field", Need::TransactionOf(_)) => said(
-            alloc,
-            "another object's fields aren't visible: write a transaction there that returns the value.",
-        ),
-        ("an interface", Need::Object) => said(
-            alloc,
-            "an interface has no objects: name a contract that implements it.",
-        ),
-        ("a state", _) => Ok(format!(in alloc;
-            "a state is tested by `if (x in {name})`, and changed to by `->{name};`."
-        )?),
-        _ => meant(alloc, nearest_to(site, name, need)),
+// What a name stands for where this is needed.
+fn thing_where(site: &Site<'_>, name: &str, need: Need) -> Thing {
+    match need {
+        Need::TransactionOf(contract) => thing_in(site, contract, name),
+        _ => thing_of(site, name),
     }
 }
 
+// How to mend a name that stands for another thing, where the same is said of all names.
+fn help_with_thing(thing: Thing, need: Need) -> &'static str {
+    match (thing, need) {
+        (Thing::PrivateTransaction, _) => {
+            "a private transaction is called on `this` alone: leave the receiver out, or `private` where it is declared."
+        }
+        (Thing::Field, Need::TransactionOf(_)) => {
+            "another object's fields aren't visible: write a transaction there that returns the value."
+        }
+        (Thing::Interface, Need::Object) => {
+            "an interface has no objects: name a contract that implements it."
+        }
+        (Thing::State, _) => "a state is tested by `if (x in {})`, and changed to by `->{};`.",
+        _ => "",
+    }
+}
+
+// How to mend a name that stands for another thing.
+fn put_help(words: &mut Words, site: &Site<'_>, name: &str, thing: Thing, need: Need) {
+    let help = help_with_thing(thing, need);
+    if help.is_empty() {
+        put_nearest(words, site, name, need);
+    } else {
+        words.put_with(help, &[name, name]);
+    }
+}
+
+// Puts that a name is a thing where this is wanted.
+fn put_other(words: &mut Words, name: &str, thing: &str, wanted: &str) {
+    words.put_with("`{}` is {}, and {} is needed here", &[name, thing, wanted]);
+}
+
 // A name that stands for another thing.
-fn explain_other(alloc: Global, site: &Site<'_>) -> Result<Explanation, Memory> {
-    let name = site.near.word();
+fn explain_other(told: &mut Explanation, site: &Site<'_>, name: &str) {
     let need = need_at(site);
-    let wanted = need_in_words(need);
-    let thing = match need {
-        Need::TransactionOf(contract) => thing_in(site, contract, name),
-        _ => thing_of(site, name),
-    };
-    let what = format!(in alloc; "`{name}` is {thing}, and {wanted} is needed here")?;
-    let note = String::new(alloc);
-    let help = help_with_other(alloc, site, name, thing, need)?;
-    Ok(Explanation { what, note, help })
+    let thing = thing_where(site, name, need);
+    put_other(
+        &mut told.what,
+        name,
+        thing_in_words(thing),
+        need_in_words(need),
+    );
+    put_help(&mut told.help, site, name, thing, need);
 }
 
 // Where `this` is a parameter.
-fn explain_this(alloc: Global, site: &Site<'_>) -> Result<Explanation, Memory> {
-    let own = word_of(site.around.node().name.as_bytes());
-    let what = said(
-        alloc,
+fn explain_this(told: &mut Explanation, own: &str) {
+    told.what.put(
         "`this` can't be a parameter here: it is the first one of a transaction alone, and a reference",
-    )?;
-    let note = String::new(alloc);
-    let help = format!(in alloc;
-        "write it first, with the contract's own type, as `{own}@Owned this`; a constructor has none."
-    )?;
-    Ok(Explanation { what, note, help })
+    );
+    told.help.put_with(
+        "write it first, with the contract's own type, as `{}@Owned this`; a constructor has none.",
+        &[own],
+    );
 }
 
 // A field of a state that says `available in`.
-fn explain_available(alloc: Global, name: &str) -> Result<Explanation, Memory> {
-    let what = format!(in alloc;
-        "the field `{name}` stands inside a state, so it is available there and can't say `available in`"
-    )?;
-    Explanation::of(
-        alloc,
-        what,
-        "move the field out of the state, or leave `available in` out.",
-    )
+fn explain_available(told: &mut Explanation, name: &str) {
+    told.what.put_with(
+        "the field `{}` stands inside a state, so it is available there and can't say `available in`",
+        &[name],
+    );
+    told.help.put("move the field out of the state, or leave `available in` out.");
 }
 
 // A value with a permission.
-fn explain_value(alloc: Global, name: &str) -> Result<Explanation, Memory> {
-    let what = format!(in alloc; "`{name}` is a value, which has no permission after `>>`")?;
-    Explanation::of(alloc, what, "leave `>>` and what follows it out.")
+fn explain_value(told: &mut Explanation, name: &str) {
+    told.what.put_with(
+        "`{}` is a value, which has no permission after `>>`",
+        &[name],
+    );
+    told.help.put("leave `>>` and what follows it out.");
 }
 
 // Another contract, or an interface, where the contract around is needed.
-fn explain_foreign(
-    alloc: Global,
-    name: &str,
-    thing: &str,
-    own: &str,
-) -> Result<Explanation, Memory> {
-    let what = format!(in alloc; "`{name}` is {thing}, and `{own}` is needed here")?;
-    Explanation::of(
-        alloc,
-        what,
-        "`this` and a constructor have the type of the contract that they stand in.",
-    )
+fn explain_foreign(told: &mut Explanation, name: &str, thing: &str, own: &str) {
+    told.what
+        .put_with("`{}` is {}, and `{}` is needed here", &[name, thing, own]);
+    told.help.put("`this` and a constructor have the type of the contract that they stand in.");
 }
 
 // Whether the name is a value's, after which a permission stands.
@@ -328,39 +386,54 @@ fn is_held_value(site: &Site<'_>) -> bool {
     if site.near.back(2) == ">>" {
         return true;
     }
-    let after_mode = matches!(site.near.back(1), "Owned" | "Shared" | "Unowned");
-    after_mode && need_at(site) == Need::Variable
+    ["Owned", "Shared", "Unowned"].contains(&site.near.back(1))
+        && matches!(need_at(site), Need::Variable)
 }
 
-// What the name stands for, in a head where the contract around is needed and another stands; empty elsewhere.
-fn foreign_thing(site: &Site<'_>, name: &str, own: &str) -> &'static str {
-    let in_head = site.member.is_some() && site.statement.is_none();
-    if !in_head || site.near.ahead(1) != "@" || name == own {
-        return "";
-    }
+// Whether another name than that of the contract around stands in a head where a type does.
+fn is_in_head(site: &Site<'_>, name: &str, own: &str) -> bool {
+    site.member.is_some() && site.statement.is_none() && site.near.ahead(1) == "@" && name != own
+}
+
+// What a contract's name stands for where the contract around is needed; empty of other names.
+fn foreign_thing(site: &Site<'_>, name: &str) -> &'static str {
     match thing_of(site, name) {
-        "a contract" => "another contract",
-        "an interface" => "an interface",
+        Thing::Contract => "another contract",
+        Thing::Interface => "an interface",
         _ => "",
     }
 }
 
+// The same, in a head.
+fn foreign_in_head(site: &Site<'_>, name: &str, own: &str) -> &'static str {
+    if is_in_head(site, name, own) {
+        foreign_thing(site, name)
+    } else {
+        ""
+    }
+}
+
+// A name that is something else than is needed.
+fn explain_thing(told: &mut Explanation, site: &Site<'_>, name: &str, own: &str) {
+    let foreign = foreign_in_head(site, name, own);
+    if foreign.is_empty() {
+        explain_other(told, site, name);
+    } else {
+        explain_foreign(told, name, foreign, own);
+    }
+}
+
 /// A name that is something else than is needed, or a part that can't stand with it.
-pub fn explain_kind(alloc: Global, site: &Site<'_>) -> Result<Explanation, Memory> {
+pub fn explain_kind(told: &mut Explanation, site: &Site<'_>) {
     let name = site.near.word();
-    if name == "this" {
-        return explain_this(alloc, site);
-    }
-    if site.near.ahead(1) == "available" {
-        return explain_available(alloc, name);
-    }
-    if is_held_value(site) {
-        return explain_value(alloc, name);
-    }
     let own = word_of(site.around.node().name.as_bytes());
-    let thing = foreign_thing(site, name, own);
-    if !thing.is_empty() {
-        return explain_foreign(alloc, name, thing, own);
+    if name == "this" {
+        explain_this(told, own);
+    } else if site.near.ahead(1) == "available" {
+        explain_available(told, name);
+    } else if is_held_value(site) {
+        explain_value(told, name);
+    } else {
+        explain_thing(told, site, name, own);
     }
-    explain_other(alloc, site)
 }

@@ -28,8 +28,8 @@ fn holds(span: Span, place: u32) -> bool {
     span.start <= place && place < span.end
 }
 
-/// The place of a statement.
-pub fn span_of_stmt(stmt: &Stmt) -> Span {
+// The place of a statement.
+fn span_of_stmt(stmt: &Stmt) -> Span {
     match stmt {
         Stmt::Declare { span, .. } => *span,
         Stmt::Assign { span, .. } => *span,
@@ -94,27 +94,6 @@ fn number_at(nodes: &[ContractNode], place: u32) -> usize {
     before.saturating_sub(1)
 }
 
-// The statement of a block that stands around a place, after those before it were looked at.
-fn statement_in<'a>(
-    alloc: Global,
-    block: &'a Block,
-    place: u32,
-    types: &Types<'_>,
-    scope: &mut Scope,
-    variables: &mut Vec<&'a NamePart>,
-) -> Result<Option<&'a Stmt>, Memory> {
-    for stmt in block.statements.as_slice() {
-        if holds(span_of_stmt(stmt), place) {
-            return Ok(Some(stmt));
-        }
-        if let Stmt::Declare { of, name, .. } = stmt {
-            scope.add_local(alloc, &name.name, types.kind_of_local(of))?;
-            variables.push(name)?;
-        }
-    }
-    Ok(None)
-}
-
 // Whether a statement of a block stands around a place.
 fn is_inside(block: &Block, place: u32) -> bool {
     for stmt in block.statements.as_slice() {
@@ -125,102 +104,143 @@ fn is_inside(block: &Block, place: u32) -> bool {
     false
 }
 
-// The block of a statement in which a place is.
-fn block_at(stmt: &Stmt, place: u32) -> Option<&Block> {
-    let (then, otherwise) = match stmt {
+// The branches of a statement.
+fn branches_of(stmt: &Stmt) -> Option<(&Block, &Option<Block>)> {
+    match stmt {
         Stmt::Test {
             then,
             otherwise,
             ..
-        } => (then, otherwise),
+        } => Some((then, otherwise)),
         Stmt::If {
             then,
             otherwise,
             ..
-        } => (then, otherwise),
-        _ => return None,
-    };
-    if is_inside(then, place) {
-        return Some(then);
+        } => Some((then, otherwise)),
+        _ => None,
     }
-    match otherwise {
-        Some(otherwise) => {
-            if is_inside(otherwise, place) {
-                Some(otherwise)
-            } else {
-                None
-            }
-        }
+}
+
+// A block, if a place is in it.
+fn if_inside(block: &Block, place: u32) -> Option<&Block> {
+    if is_inside(block, place) {
+        Some(block)
+    } else {
+        None
+    }
+}
+
+// The block of a statement in which a place is.
+fn block_at(stmt: &Stmt, place: u32) -> Option<&Block> {
+    match branches_of(stmt) {
+        Some((then, Some(otherwise))) => if_inside(then, place).or(if_inside(otherwise, place)),
+        Some((then, None)) => if_inside(then, place),
         None => None,
     }
 }
 
-// The innermost statement around a place. No more blocks than may be open are gone into.
-fn innermost<'a>(
-    alloc: Global,
-    body: &'a Block,
-    place: u32,
-    types: &Types<'_>,
-    scope: &mut Scope,
-    variables: &mut Vec<&'a NamePart>,
-) -> Result<Option<&'a Stmt>, Memory> {
-    let mut block = body;
-    let mut found = None;
-    for _ in 0..128 {
-        let Some(stmt) = statement_in(alloc, block, place, types, scope, variables)? else {
-            return Ok(found);
-        };
-        found = Some(stmt);
-        match block_at(stmt, place) {
-            Some(inner) => block = inner,
-            None => return Ok(found),
-        }
-    }
-    Ok(found)
-}
-
-// The names of parameters.
-fn names_of<'a>(alloc: Global, params: &'a [FormalNode]) -> Result<Vec<&'a NamePart>, Memory> {
-    let mut names = Vec::new(alloc);
-    for param in params {
-        if let Subject::Name(name) = &param.name {
-            names.push(name)?;
-        }
-    }
-    Ok(names)
+/// The contract around a place, with the kind of the result there.
+pub fn around_at<'a>(declared: &'a Declared<'a>, place: u32) -> Option<AroundBody<'a>> {
+    let types = declared.types();
+    let own = number_at(types.nodes(), place);
+    let Some(node) = types.node(own) else {
+        return None;
+    };
+    let member = member_at(node.members.as_slice(), place);
+    AroundBody::new(declared, own, result_of(types, member))
 }
 
 impl<'a> Site<'a> {
-    /// What stands around a place of a program.
-    pub fn at(
+    // In a member of the contract around, whose parameters are visible.
+    fn begin(
         alloc: Global,
         near: Near<'a>,
-        declared: &'a Declared<'a>,
-        place: u32,
-    ) -> Result<Option<Site<'a>>, Memory> {
-        let types = declared.types();
-        let own = number_at(types.nodes(), place);
-        let Some(node) = types.node(own) else {
-            return Ok(None);
-        };
-        let member = member_at(node.members.as_slice(), place);
-        let Some(around) = AroundBody::new(declared, own, result_of(types, member)) else {
-            return Ok(None);
-        };
-        let mut scope = scope_of_params(alloc, types, params_of(member))?;
-        let mut variables = names_of(alloc, params_of(member))?;
-        let statement = match body_of(member) {
-            Some(body) => innermost(alloc, body, place, types, &mut scope, &mut variables)?,
-            None => None,
-        };
-        Ok(Some(Site {
+        around: AroundBody<'a>,
+        member: Option<&'a Member>,
+    ) -> Result<Site<'a>, Memory> {
+        let scope = scope_of_params(alloc, around.declared().types(), params_of(member))?;
+        Ok(Site {
             near,
             around,
             member,
-            statement,
+            statement: None,
             scope,
-            variables,
-        }))
+            variables: Vec::new(alloc),
+        })
+    }
+
+    // Notes where the parameters are declared.
+    fn note_params(&mut self) -> Result<(), Memory> {
+        for param in params_of(self.member) {
+            if let Subject::Name(name) = &param.name {
+                self.variables.push(name)?;
+            }
+        }
+        Ok(())
+    }
+
+    // Has the variable that a statement declares be visible.
+    fn note_declared(&mut self, alloc: Global, stmt: &'a Stmt) -> Result<(), Memory> {
+        if let Stmt::Declare { of, name, .. } = stmt {
+            let kind = self.types().kind_of_local(of);
+            self.scope.add_local(alloc, &name.name, kind)?;
+            self.variables.push(name)?;
+        }
+        Ok(())
+    }
+
+    // The statement of a block that stands around a place, after those before it were looked at.
+    fn statement_in(
+        &mut self,
+        alloc: Global,
+        block: &'a Block,
+        place: u32,
+    ) -> Result<Option<&'a Stmt>, Memory> {
+        for stmt in block.statements.as_slice() {
+            if holds(span_of_stmt(stmt), place) {
+                return Ok(Some(stmt));
+            }
+            self.note_declared(alloc, stmt)?;
+        }
+        Ok(None)
+    }
+
+    // Goes to the innermost statement around a place. No more blocks than may be open are gone into.
+    fn go_into(&mut self, alloc: Global, body: &'a Block, place: u32) -> Result<(), Memory> {
+        let mut block = body;
+        for _ in 0..128 {
+            let Some(stmt) = self.statement_in(alloc, block, place)? else {
+                return Ok(());
+            };
+            self.statement = Some(stmt);
+            match block_at(stmt, place) {
+                Some(inner) => block = inner,
+                None => return Ok(()),
+            }
+        }
+        Ok(())
+    }
+
+    // Goes from the beginning of the member to a place in it.
+    fn go_to(&mut self, alloc: Global, place: u32) -> Result<(), Memory> {
+        self.note_params()?;
+        match body_of(self.member) {
+            Some(body) => self.go_into(alloc, body, place),
+            None => Ok(()),
+        }
+    }
+
+    /// What stands around a place of this contract.
+    pub fn at(
+        alloc: Global,
+        near: Near<'a>,
+        around: AroundBody<'a>,
+        place: u32,
+    ) -> Result<Site<'a>, Memory> {
+        let member = member_at(around.node().members.as_slice(), place);
+        let mut site = Site::begin(alloc, near, around, member)?;
+        site.go_to(alloc, place)?;
+        Ok(site)
     }
 
     /// The contracts of the program.

@@ -5,30 +5,99 @@ use crate::page::Page;
 use ob_base::{Memory, ProgramFault, Span, fault_name};
 use std::alloc::Global;
 
+/// Words that are put one after another. What memory lacks for is left out and noted, so that whoever says something needn't ask
+/// after each word.
+#[derive(Drop)]
+pub struct Words {
+    alloc: Global,
+    text: String,
+    lacks: bool,
+}
+
+impl Words {
+    /// No words yet.
+    pub fn new(alloc: Global) -> Words {
+        Words {
+            alloc,
+            text: String::new(alloc),
+            lacks: false,
+        }
+    }
+
+    /// Puts these behind the others.
+    pub fn put(&mut self, words: &str) {
+        if self.text.push_str(words).is_err() {
+            self.lacks = true;
+        }
+    }
+
+    /// Puts a text in which these stand for its `{}`, in this order.
+    pub fn put_with(&mut self, text: &str, values: &[&str]) {
+        let mut rest = text;
+        for value in values {
+            if let Some((before, after)) = rest.split_once("{}") {
+                self.put(before);
+                self.put(value);
+                rest = after;
+            }
+        }
+        self.put(rest);
+    }
+
+    /// Puts a number in digits.
+    pub fn put_number(&mut self, number: u64) {
+        match format!(in self.alloc; "{number}") {
+            Ok(digits) => self.put(digits.as_str()),
+            Err(_) => self.lacks = true,
+        }
+    }
+
+    /// Notes that memory lacked elsewhere for something that was to be put.
+    pub fn lack(&mut self) {
+        self.lacks = true;
+    }
+
+    /// The words.
+    pub fn as_str(&self) -> &str {
+        self.text.as_str()
+    }
+
+    /// Whether there are none.
+    pub fn is_empty(&self) -> bool {
+        self.text.is_empty()
+    }
+
+    /// The words, if none was left out.
+    pub fn finish(self) -> Result<String, Memory> {
+        let Words { text, lacks, .. } = self;
+        if lacks { Err(Memory) } else { Ok(text) }
+    }
+}
+
 /// What is said of a fault: what is wrong, what is behind it, and how to mend it. A part without words isn't told.
 #[derive(Drop)]
 pub struct Explanation {
     /// What is wrong.
-    pub what: String,
+    pub what: Words,
     /// What it rests on, as a declaration.
-    pub note: String,
+    pub note: Words,
     /// How to mend it.
-    pub help: String,
-}
-
-/// Words that are always the same.
-pub fn said(alloc: Global, words: &str) -> Result<String, Memory> {
-    Ok(String::from_str(alloc, words)?)
+    pub help: Words,
 }
 
 impl Explanation {
-    /// One whose help, if any, is always the same, and which has no note.
-    pub fn of(alloc: Global, what: String, help: &str) -> Result<Explanation, Memory> {
-        Ok(Explanation {
-            what,
-            note: String::new(alloc),
-            help: String::from_str(alloc, help)?,
-        })
+    /// One that says nothing yet.
+    pub fn new(alloc: Global) -> Explanation {
+        Explanation {
+            what: Words::new(alloc),
+            note: Words::new(alloc),
+            help: Words::new(alloc),
+        }
+    }
+
+    // Whether memory lacked for something that is said.
+    fn lacks(&self) -> bool {
+        self.what.lacks || self.note.lacks || self.help.lacks
     }
 
     /// Tells it on a page: the file and the place, the number and name of the fault and what is wrong; the line of the text with
@@ -41,6 +110,9 @@ impl Explanation {
         fault: ProgramFault,
         mark: Span,
     ) -> Result<(), Memory> {
+        if self.lacks() {
+            return Err(Memory);
+        }
         let name = fault_name(fault.number);
         put_place(page, file, fault.span)?;
         page.put_number(u64::from(fault.number))?;
@@ -60,6 +132,9 @@ impl Explanation {
         file: &str,
         fault: ProgramFault,
     ) -> Result<(), Memory> {
+        if self.lacks() {
+            return Err(Memory);
+        }
         put_place(page, file, fault.span)?;
         page.put_number(u64::from(fault.number))?;
         page.put(" ")?;

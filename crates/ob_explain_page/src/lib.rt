@@ -8,6 +8,6 @@ mod page;
 mod words;
 
 pub use excerpt::{put_excerpt, shown_at};
-pub use explanation::{Explanation, put_place, said};
+pub use explanation::{Explanation, Words, put_place};
 pub use page::{MOST_COLUMNS, MOST_LINES, Page};
-pub use words::{Nearest, word_of};
+pub use words::{Hint, Nearest, hint_for, word_of};

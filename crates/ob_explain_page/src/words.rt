@@ -5,6 +5,25 @@ pub fn word_of(bytes: &[u8]) -> &str {
     str::from_utf8(bytes).unwrap_or("?")
 }
 
+/// What is said of some words.
+#[derive(Clone, Copy)]
+pub struct Hint {
+    /// The words.
+    pub of: &'static [&'static str],
+    /// What is said of each.
+    pub help: &'static str,
+}
+
+/// What is said of a word; empty where nothing is.
+pub fn hint_for(hints: &[Hint], word: &str) -> &'static str {
+    for hint in hints {
+        if hint.of.contains(&word) {
+            return hint.help;
+        }
+    }
+    ""
+}
+
 /// Whether two letters are the same but for their case.
 fn is_alike(a: u8, b: u8) -> bool {
     a.eq_ignore_ascii_case(&b)

@@ -19,6 +19,7 @@ use crate::changing::change;
 use crate::returning::leave;
 use crate::straight::{copy, disown, drop_slot, move_reference, operate, put_constant};
 use crate::testing::{in_other_state, in_tested_state, test};
+use crate::trace::Trace;
 use ob_base::{BAD_TRANSITION, ContractId, Duplicate, Items, Perm, ProgramFault, Span, TxId};
 use ob_flow_context::{BodyFrame, Context, FlowError, beginning, uses_place};
 use ob_flow_premises::assert_held;
@@ -46,6 +47,7 @@ fn check_form(
     tested: &[Place],
     context: &mut Context,
     alloc: Global,
+    trace: &mut Trace,
 ) -> Result<Flow, FlowError>
     requires { NamesStates (form_of form.now) }
     ensures { DerivesTo result (context_of context.new)
@@ -127,12 +129,16 @@ fn check_form(
             in_other_state(&mut other, permission, *state, place.place);
             in_tested_state(context, permission, *state, place.place);
             let then = then.as_slice();
-            let left = check_branch(then, permission, *place, frame, tested, context, alloc)?;
+            let left = check_branch(
+                then, permission, *place, frame, tested, context, alloc, trace,
+            )?;
             let under = this_left(left, context);
             let first = end_branch(permission, *place, left, context)?;
             let otherwise = otherwise.as_slice();
-            let second = check_terms(otherwise, frame, tested, &mut other, alloc)?;
-            join_branches(alloc, frame, under, first, context, second, other, *join)
+            let second = check_terms(otherwise, frame, tested, &mut other, alloc, trace)?;
+            join_branches(
+                alloc, frame, under, first, context, second, other, *join, trace,
+            )
         }
         Form::If {
             a,
@@ -142,11 +148,13 @@ fn check_form(
         } => {
             uses_place(frame, context, *a)?;
             let mut other = context.copy(alloc)?;
-            let first = check_terms(then.as_slice(), frame, tested, context, alloc)?;
+            let first = check_terms(then.as_slice(), frame, tested, context, alloc, trace)?;
             let otherwise = otherwise.as_slice();
-            let second = check_terms(otherwise, frame, tested, &mut other, alloc)?;
+            let second = check_terms(otherwise, frame, tested, &mut other, alloc, trace)?;
             let under = this_left(first, context);
-            join_branches(alloc, frame, under, first, context, second, other, *join)
+            join_branches(
+                alloc, frame, under, first, context, second, other, *join, trace,
+            )
         }
         Form::Assert { place, perm } => {
             assert_held(frame, context, *place, *perm)?;
@@ -185,6 +193,7 @@ fn check_branch(
     tested: &[Place],
     context: &mut Context,
     alloc: Global,
+    trace: &mut Trace,
 ) -> Result<Flow, FlowError>
     requires { AllNameStates (terms_of terms.now) }
     ensures { DerivesTo result (context_of context.new) (derive_all frame.now
@@ -192,7 +201,7 @@ fn check_branch(
         (context_of context.old)) }
 {
     let tested = tested_with(alloc, permission, place.place, tested)?;
-    check_terms(terms, frame, tested.as_slice(), context, alloc)
+    check_terms(terms, frame, tested.as_slice(), context, alloc, trace)
 }
 
 // Forms one after another; after one that ends nothing is looked at.
@@ -204,28 +213,40 @@ fn check_terms(
     tested: &[Place],
     context: &mut Context,
     alloc: Global,
+    trace: &mut Trace,
 ) -> Result<Flow, FlowError>
     requires { AllNameStates (terms_of terms.now) }
     ensures { DerivesTo result (context_of context.new)
         (derive_all frame.now (tested_of tested.now) (terms_of terms.now) (context_of context.old)) }
 {
     for term in terms {
-        match check_form(&term.form, term.span, frame, tested, context, alloc)? {
-            Flow::On => {}
-            Flow::Ended => return Ok(Flow::Ended),
+        trace.see(frame, context, term);
+        match check_form(&term.form, term.span, frame, tested, context, alloc, trace) {
+            Ok(Flow::On) => trace.pass(term),
+            Ok(Flow::Ended) => return Ok(Flow::Ended),
+            Err(error) => {
+                trace.stop_at(tested, context, term);
+                return Err(error);
+            }
         }
     }
     Ok(Flow::On)
 }
 
 /// Checks a body of a class table by the permission rules: whether it derives, or else the fault of the first premise that
-/// fails.
-pub fn check(alloc: Global, table: &Table, body: &TermBody) -> Result<(), FlowError>
+/// fails. The trace tells what was known on the way.
+pub fn check(
+    alloc: Global,
+    table: &Table,
+    body: &TermBody,
+    trace: &mut Trace,
+) -> Result<(), FlowError>
     requires table { IsClassTable table.now }
     requires states { AllNameStates (terms_of body.now.terms) }
     ensures derives { IfOk result (λ _. Derives table.now (silica_body_of body.now)) }
     ensures fault { IfErr result (λ e. OnFault e (IsFlowFault table.now (silica_body_of body.now))) }
 {
+    trace.begin();
     let Some(frame) = BodyFrame::new(table, body) else {
         return Ok(());
     };
@@ -237,6 +258,7 @@ pub fn check(alloc: Global, table: &Table, body: &TermBody) -> Result<(), FlowEr
         tested.as_slice(),
         &mut context,
         alloc,
+        trace,
     )?;
     Ok(())
 }

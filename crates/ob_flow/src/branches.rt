@@ -9,6 +9,7 @@ ghost use Rattle.ob_flow.specs.Outcomes.{reached, DerivesTo};
 
 use crate::joining::join;
 use crate::testing::end_test;
+use crate::trace::Trace;
 use ob_base::{Items, Memory, Mode, Perm, Span};
 use ob_flow_context::{BodyFrame, Context, FlowError};
 use ob_perm::unowned;
@@ -87,6 +88,7 @@ pub(crate) fn join_branches(
     second: Flow,
     other: Context,
     at: Span,
+    trace: &mut Trace,
 ) -> Result<Flow, FlowError>
     ensures { DerivesTo result (context_of context.new)
         (joined_branches frame.now (permission_of under) (reached first (context_of context.old))
@@ -98,9 +100,12 @@ pub(crate) fn join_branches(
             Ok(second)
         }
         (Flow::On, Flow::Ended) => Ok(Flow::On),
-        (Flow::On, Flow::On) => {
-            join(alloc, frame, under, context, &other, at)?;
-            Ok(Flow::On)
-        }
+        (Flow::On, Flow::On) => match join(alloc, frame, under, context, &other, at) {
+            Ok(()) => Ok(Flow::On),
+            Err(error) => {
+                trace.part(other);
+                Err(error)
+            }
+        },
     }
 }

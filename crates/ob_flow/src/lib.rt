@@ -10,6 +10,8 @@ mod joining;
 mod returning;
 mod straight;
 mod testing;
+mod trace;
 
 pub use bodies::check;
 pub use ob_flow_context::FlowError;
+pub use trace::{Letting, LettingAt, Stop, Trace};

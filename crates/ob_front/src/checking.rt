@@ -6,20 +6,51 @@ ghost use Rattle.ob_flow_spec.specs.Deriving.{Derives};
 ghost use Rattle.ob_base.specs.TextErrors.{OnFault};
 ghost use Rattle.ob_front.specs.Checked.{AllNumbered, FailsPremise};
 
-use ob_flow::{FlowError, check};
+use ob_base::{Memory, ProgramFault};
+use ob_flow::{FlowError, Trace, check};
 use ob_silica::TermBody;
 use ob_table::Table;
 use std::alloc::Global;
 
 /// Asks the permission rules of bodies, one after another; the fault is that of the first one that doesn't derive.
-pub fn check_bodies(alloc: Global, table: &Table, bodies: &[TermBody]) -> Result<(), FlowError>
+pub fn check_bodies(
+    alloc: Global,
+    table: &Table,
+    bodies: &[TermBody],
+    trace: &mut Trace,
+) -> Result<(), FlowError>
     requires table { IsClassTable table.now }
     requires states { AllNumbered (map silica_body_of bodies.now) }
     ensures derive { IfOk result (λ _. All (Derives table.now) (map silica_body_of bodies.now)) }
     ensures fault { IfErr result (λ e. OnFault e (FailsPremise table.now (map silica_body_of bodies.now))) }
 {
     for body in bodies {
-        check(alloc, table, body)?;
+        check(alloc, table, body, trace)?;
     }
     Ok(())
+}
+
+/// The number and the fault of the first of these bodies, from a number on, that doesn't derive.
+pub fn next_fault(
+    alloc: Global,
+    table: &Table,
+    bodies: &[TermBody],
+    from: usize,
+    trace: &mut Trace,
+) -> Result<Option<(usize, ProgramFault)>, Memory>
+    requires table { IsClassTable table.now }
+    requires states { AllNumbered (map silica_body_of bodies.now) }
+{
+    let mut number: usize = 0;
+    for body in bodies {
+        if number >= from {
+            match check(alloc, table, body, trace) {
+                Ok(()) => {}
+                Err(FlowError::Fault(fault)) => return Ok(Some((number, fault))),
+                Err(FlowError::Memory) => return Err(Memory),
+            }
+        }
+        number = number.saturating_add(1);
+    }
+    Ok(None)
 }

@@ -13,6 +13,7 @@ ghost use Rattle.ob_base.specs.TextErrors.{OnFault};
 
 use crate::checking::check_bodies;
 use crate::lowering::lower_bodies;
+use crate::seen::{AskedProgram, Seen};
 use crate::stages::{CompileError, class_table};
 use crate::verifying::verified;
 use ob_base::{Duplicate, Items, Memory, both, copy_items};
@@ -63,31 +64,41 @@ impl Duplicate for Compiled {
 
 /// The class table of a text and the terms of its bodies, or its first fault: one that `class_table` tells, or `LIMIT` where a
 /// body needs more slots than it may have. The permission rules aren't asked.
-pub fn lowered(alloc: Global, text: &[u8]) -> Result<LoweredProgram, CompileError>
+pub fn lowered(alloc: Global, text: &[u8], seen: &mut Seen) -> Result<LoweredProgram, CompileError>
     ensures terms { IfOk result (λ c. HasTerms text.now c.table (map silica_body_of c.bodies)) }
     ensures fault { IfErr result (λ e. OnFault e (HasTermsFault text.now)) }
 {
-    let table = class_table(alloc, text)?;
+    let table = class_table(alloc, text, seen)?;
     let bodies = lower_bodies(alloc, &table)?;
     Ok(LoweredProgram { table, bodies })
 }
 
-// The same, where each body derives by the permission rules.
-fn checked(alloc: Global, text: &[u8]) -> Result<LoweredProgram, CompileError>
+// The same, where each body derives by the permission rules. A program of which a premise fails stays in what was seen.
+fn checked(alloc: Global, text: &[u8], seen: &mut Seen) -> Result<LoweredProgram, CompileError>
     ensures checked { IfOk result (λ c. IsChecked text.now c.table (map silica_body_of c.bodies)) }
     ensures fault { IfErr result (λ e. OnFault e (HasTextFault text.now)) }
 {
-    let program = lowered(alloc, text)?;
-    check_bodies(alloc, &program.table, program.bodies.as_slice())?;
-    Ok(program)
+    let program = lowered(alloc, text, seen)?;
+    match check_bodies(
+        alloc,
+        &program.table,
+        program.bodies.as_slice(),
+        &mut seen.trace,
+    ) {
+        Ok(()) => Ok(program),
+        Err(error) => {
+            seen.asked = Some(AskedProgram::new(program));
+            Err(error)
+        }
+    }
 }
 
 /// The program of a text, or its first fault: one that `lowered` tells, or the first premise of the permission rules that
 /// fails, body by body, or `LIMIT` at the text's start where the program weighs more than it may. The program is sound: no request
 /// of it on a store at rest goes wrong, each leaves the store at rest, and each stored asset that was never shared nor disowned has
 /// exactly one owner. Its code is sound: the machine runs each request to the end that the source meaning says. The code has a
-/// spelling, so that it may be encoded.
-pub fn compile(alloc: Global, text: &[u8]) -> Result<Compiled, CompileError>
+/// spelling, so that it may be encoded. Of a fault what the stages made before it stays in what was seen.
+pub fn compile(alloc: Global, text: &[u8], seen: &mut Seen) -> Result<Compiled, CompileError>
     ensures program { IfOk result (λ c. IsProgram text.now c.table (map silica_body_of c.bodies)) }
     ensures compiled { IfOk result (λ c. IsCompiledProgram c.table (map silica_body_of c.bodies)) }
     ensures sound { IfOk result (λ c. IsSoundProgram c.table (map silica_body_of c.bodies)) }
@@ -96,9 +107,10 @@ pub fn compile(alloc: Global, text: &[u8]) -> Result<Compiled, CompileError>
     ensures sound_code { IfOk result (λ c. HasSoundCode c.table (map silica_body_of c.bodies) c.code) }
     ensures fault { IfErr result (λ e. OnFault e (HasTextFault text.now)) }
 {
-    let program = checked(alloc, text)?;
+    let program = checked(alloc, text, seen)?;
     let image = emit(alloc, &program.table, program.bodies.as_slice())?;
     let code = verified(alloc, image)?;
+    seen.accept();
     Ok(Compiled {
         table: program.table,
         bodies: program.bodies,
@@ -106,13 +118,16 @@ pub fn compile(alloc: Global, text: &[u8]) -> Result<Compiled, CompileError>
     })
 }
 
-/// Whether a text has a program, or its first fault: one that `compile` tells.
+/// Whether a text has a program, or its first fault: one that `compile` tells. Of a program the class table stays in what was seen,
+/// and where it lets go of assets.
 #[tactic(auto, using(crate::proofs::ProgramsLaws::accepted_program))]
-pub fn check_program(alloc: Global, text: &[u8]) -> Result<(), CompileError>
+pub fn check_program(alloc: Global, text: &[u8], seen: &mut Seen) -> Result<(), CompileError>
     ensures accepted { OnOk result (IsAccepted text.now) }
     ensures fault { IfErr result (λ e. OnFault e (HasTextFault text.now)) }
 {
-    compile(alloc, text)?;
+    seen.trace.wanted = true;
+    let program = compile(alloc, text, seen)?;
+    seen.table = Some(program.table);
     Ok(())
 }
 

@@ -1,5 +1,7 @@
 //! The text that a run was about.
 use ob_base::ProgramFault;
+use ob_front::Seen;
+use std::alloc::Global;
 
 /// What a run has seen of a program's text. A person is told of the text by it; what the run claims doesn't speak of it.
 #[derive(Drop)]
@@ -8,14 +10,17 @@ pub struct Examined {
     pub text: Option<Vec<u8>>,
     /// The fault for which the text is refused; None where it isn't.
     pub fault: Option<ProgramFault>,
+    /// What the stages made of the text.
+    pub seen: Seen,
 }
 
 impl Examined {
     /// No text was seen yet.
-    pub fn nothing() -> Self {
+    pub fn nothing(alloc: Global) -> Self {
         Examined {
             text: None,
             fault: None,
+            seen: Seen::new(alloc),
         }
     }
 }

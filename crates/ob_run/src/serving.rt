@@ -8,10 +8,10 @@ ghost use Rattle.ob_run.specs.Openings.{OpensAs};
 ghost use Rattle.ob_run.specs.Statuses.{Treats};
 ghost use Rattle.ob_run.specs.TextRead.{asked_with, exit_of};
 
+use crate::examined::Examined;
 use crate::exit::Exit;
 use crate::refusal::StoreRefusal;
 use crate::telling::{refuse, refuse_store};
-use ob_base::ProgramFault;
 use ob_disk::Disk;
 use ob_front::{CompileError, compile};
 use ob_io::{Sink, Source};
@@ -102,7 +102,7 @@ pub fn serve_text<S: Source, K: Sink, D: Disk>(
     input: &mut S,
     output: &mut K,
     disk: &mut D,
-    refused: &mut Option<ProgramFault>,
+    examined: &mut Examined,
 ) -> Exit
     ensures treats { (name : List ℕ) (lanes slice : ℕ) → Treats (asked_with (serve name) fuel lanes slice) text.now
         (record { input = S.view input.old; output = K.view output.old; disk = D.view disk.old })
@@ -118,9 +118,11 @@ pub fn serve_text<S: Source, K: Sink, D: Disk>(
     ensures once { (S.view input.new).faults + (K.view output.new).faults + (D.view disk.new).faults
         ≤ (S.view input.old).faults + (K.view output.old).faults + (D.view disk.old).faults + 1 }
 {
-    let program = match compile(alloc, text) {
+    let program = match compile(alloc, text, &mut examined.seen) {
         Ok(program) => program,
-        Err(CompileError::Fault(fault)) => return refuse(alloc, fault, output, refused),
+        Err(CompileError::Fault(fault)) => {
+            return refuse(alloc, fault, output, &mut examined.fault);
+        }
         Err(CompileError::Memory) => return Exit::Memory,
     };
     let mut store = Store::blank(alloc);
@@ -137,7 +139,7 @@ pub fn serve_text_stored<S: Source, K: Sink, D: Disk>(
     input: &mut S,
     output: &mut K,
     disk: &mut D,
-    refused: &mut Option<ProgramFault>,
+    examined: &mut Examined,
 ) -> Exit
     ensures treats { (file : List ℕ) (lanes slice : ℕ) → Treats (asked_with (serve_stored file name.now) fuel lanes slice) text.now
         (record { input = S.view input.old; output = K.view output.old; disk = D.view disk.old })
@@ -153,9 +155,11 @@ pub fn serve_text_stored<S: Source, K: Sink, D: Disk>(
     ensures once { (S.view input.new).faults + (K.view output.new).faults + (D.view disk.new).faults
         ≤ (S.view input.old).faults + (K.view output.old).faults + (D.view disk.old).faults + 1 }
 {
-    let program = match compile(alloc, text) {
+    let program = match compile(alloc, text, &mut examined.seen) {
         Ok(program) => program,
-        Err(CompileError::Fault(fault)) => return refuse(alloc, fault, output, refused),
+        Err(CompileError::Fault(fault)) => {
+            return refuse(alloc, fault, output, &mut examined.fault);
+        }
         Err(CompileError::Memory) => return Exit::Memory,
     };
     let mut store = match open_named(alloc, disk, name, &program.code) {

@@ -6,6 +6,7 @@ ghost use Rattle.ob_run.specs.Statuses.{Tells};
 ghost use Rattle.ob_run.specs.StoreLine.{refusal_view};
 ghost use Rattle.ob_run.specs.TextRead.{TellsRefusal};
 
+use crate::examined::Examined;
 use crate::exit::Exit;
 use crate::fault::fault_line;
 use crate::refusal::{StoreRefusal, store_line};
@@ -56,16 +57,16 @@ pub fn check_text<K: Sink>(
     alloc: Global,
     text: &[u8],
     output: &mut K,
-    refused: &mut Option<ProgramFault>,
+    examined: &mut Examined,
 ) -> Exit
     ensures tells { (name : List ℕ) → Tells (check name) text.now (K.view output.old) (K.view output.new) result }
     ensures later { (K.view output.old).faults ≤ (K.view output.new).faults }
     ensures calm { result ≢ Exit.WriteFault → (K.view output.new).faults ≡ (K.view output.old).faults }
     ensures once { (K.view output.new).faults ≤ (K.view output.old).faults + 1 }
 {
-    match check_program(alloc, text) {
+    match check_program(alloc, text, &mut examined.seen) {
         Ok(()) => accept(output),
-        Err(CompileError::Fault(fault)) => refuse(alloc, fault, output, refused),
+        Err(CompileError::Fault(fault)) => refuse(alloc, fault, output, &mut examined.fault),
         Err(CompileError::Memory) => Exit::Memory,
     }
 }

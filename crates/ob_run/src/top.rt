@@ -18,7 +18,7 @@ use crate::machine::vending_machine;
 use crate::serving::{serve_text, serve_text_stored};
 use crate::telling::check_text;
 use crate::trying::try_text;
-use ob_base::{LONGEST_PROGRAM, ProgramFault};
+use ob_base::LONGEST_PROGRAM;
 use ob_disk::Disk;
 use ob_io::{FileError, Files, Sink, Source};
 use ob_words::{Asked, Command, WordsError, parse_words};
@@ -59,7 +59,7 @@ fn treat<S: Source, K: Sink, D: Disk>(
     input: &mut S,
     output: &mut K,
     disk: &mut D,
-    refused: &mut Option<ProgramFault>,
+    examined: &mut Examined,
 ) -> Exit
     ensures treats { Treats (asked_view asked.entry) text.now
         (record { input = S.view input.old; output = K.view output.old; disk = D.view disk.old })
@@ -77,12 +77,12 @@ fn treat<S: Source, K: Sink, D: Disk>(
 {
     let fuel = asked.limits.fuel;
     match asked.command {
-        Command::Check(_) => check_text(alloc, text, output, refused),
-        Command::Serve(_) => serve_text(alloc, text, fuel, input, output, disk, refused),
+        Command::Check(_) => check_text(alloc, text, output, examined),
+        Command::Serve(_) => serve_text(alloc, text, fuel, input, output, disk, examined),
         Command::ServeStored(_, name) => {
-            serve_text_stored(alloc, text, name, fuel, input, output, disk, refused)
+            serve_text_stored(alloc, text, name, fuel, input, output, disk, examined)
         }
-        Command::Trial(length) => try_text(alloc, text, length, output, refused),
+        Command::Trial(length) => try_text(alloc, text, length, output, examined),
     }
 }
 
@@ -123,13 +123,12 @@ fn run_words<F: Files, S: Source, K: Sink, D: Disk>(
             input,
             output,
             disk,
-            &mut examined.fault,
+            examined,
         );
     };
     match read_text(alloc, files, name) {
         Ok(text) => {
-            let fault = &mut examined.fault;
-            let exit = treat(alloc, asked, &text, input, output, disk, fault);
+            let exit = treat(alloc, asked, &text, input, output, disk, examined);
             examined.text = Some(text);
             exit
         }

@@ -4,10 +4,11 @@ ghost use Rattle.ob_words.specs.Asked.{trial};
 ghost use Rattle.ob_run.specs.Statuses.{IsFinding, Tells};
 ghost use Rattle.ob_run.specs.TrialLines.{count_line, trial_text};
 
+use crate::examined::Examined;
 use crate::exit::Exit;
 use crate::serving::AREA;
 use crate::telling::refuse;
-use ob_base::{Memory, ProgramFault};
+use ob_base::Memory;
 use ob_front::{CompileError, compile};
 use ob_io::{Sink, write_all};
 use ob_trial::{Counts, hold_trial};
@@ -60,16 +61,18 @@ pub fn try_text<K: Sink>(
     text: &[u8],
     length: u32,
     output: &mut K,
-    refused: &mut Option<ProgramFault>,
+    examined: &mut Examined,
 ) -> Exit
     ensures tells { Tells (trial length) text.now (K.view output.old) (K.view output.new) result }
     ensures later { (K.view output.old).faults ≤ (K.view output.new).faults }
     ensures calm { result ≢ Exit.WriteFault → (K.view output.new).faults ≡ (K.view output.old).faults }
     ensures once { (K.view output.new).faults ≤ (K.view output.old).faults + 1 }
 {
-    let program = match compile(alloc, text) {
+    let program = match compile(alloc, text, &mut examined.seen) {
         Ok(program) => program,
-        Err(CompileError::Fault(fault)) => return refuse(alloc, fault, output, refused),
+        Err(CompileError::Fault(fault)) => {
+            return refuse(alloc, fault, output, &mut examined.fault);
+        }
         Err(CompileError::Memory) => return Exit::Memory,
     };
     match hold_trial(alloc, &program.code, DEFAULT_FUEL, AREA, length) {

@@ -15,11 +15,12 @@ pub fn explanation(
     let (Ok(asked), Some(text)) = (parse_words(alloc, words), &examined.text) else {
         return Ok(String::new(alloc));
     };
+    let seen = &examined.seen;
     match (asked.command, examined.fault) {
-        (Command::Check(file), None) if exit == Exit::Done => notes(alloc, file, text),
-        (Command::Check(file), Some(fault)) => explain(alloc, file, text, fault),
-        (Command::Serve(file), Some(fault)) => explain(alloc, file, text, fault),
-        (Command::ServeStored(file, _), Some(fault)) => explain(alloc, file, text, fault),
+        (Command::Check(file), None) if exit == Exit::Done => notes(alloc, file, text, seen),
+        (Command::Check(file), Some(fault)) => explain(alloc, file, text, fault, seen),
+        (Command::Serve(file), Some(fault)) => explain(alloc, file, text, fault, seen),
+        (Command::ServeStored(file, _), Some(fault)) => explain(alloc, file, text, fault, seen),
         _ => Ok(String::new(alloc)),
     }
 }

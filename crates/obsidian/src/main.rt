@@ -39,7 +39,7 @@ fn run_host(rt: &HostRuntime, words: &[String], examined: &mut Examined) -> Exit
 
 // Runs what the words ask for, and says on standard error what a person is told of the text; where memory lacks, nothing.
 fn run_told(rt: &HostRuntime, words: &[String]) -> Exit {
-    let mut examined = Examined::nothing();
+    let mut examined = Examined::nothing(rt.alloc());
     let exit = run_host(rt, words, &mut examined);
     if let Ok(page) = explanation(rt.alloc(), words, &examined, exit) {
         let _ = eprint!(rt; "{page}");

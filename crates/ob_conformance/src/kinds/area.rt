@@ -8,7 +8,7 @@ use crate::kinds::tokens::{put_error, text_of};
 use crate::pieces::number_of;
 use crate::trouble::Trouble;
 use ob_disk::SureDisk;
-use ob_front::compile;
+use ob_front::{Seen, compile};
 use ob_io::{SureSink, SureSource};
 use ob_serve::{Served, serve};
 use ob_store::{OpenError, Store};
@@ -80,7 +80,7 @@ pub fn area(alloc: Global, text: &[u8], asked: &[u8], lines: &mut Lines) {
     let Ok(input) = input.to_vec(alloc) else {
         return lines.fail(Trouble::Memory);
     };
-    match compile(alloc, text) {
+    match compile(alloc, text, &mut Seen::new(alloc)) {
         Ok(program) => put_replies(alloc, &program.code, size, input, lines),
         Err(error) => put_error(alloc, error, lines),
     }

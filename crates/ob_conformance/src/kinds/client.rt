@@ -1,37 +1,38 @@
 //! What a client sends and is answered.
 use crate::kinds::lines::Lines;
+use crate::kinds::replies::put_reply;
+use crate::kinds::requests::put_why;
 use crate::kinds::tokens::text_of;
 use crate::trouble::Trouble;
 use ob_client::{read_reply, request_line, trial_lines};
-use ob_wire::{Request, WireError, read_request, reply_bytes};
+use ob_wire::{Request, read_request};
 use std::alloc::Global;
 
-// Puts why a line has nothing to say.
-fn put_error(lines: &mut Lines, error: WireError, shape: &str) {
-    match error {
-        WireError::Json => lines.put("no JSON\n"),
-        WireError::Shape => lines.put(shape),
-        WireError::Memory => lines.fail(Trouble::Memory),
+// Puts whether a line is read as a request that is sent by the same line.
+fn put_again(alloc: Global, lines: &mut Lines, line: &[u8]) {
+    match read_request(alloc, line) {
+        Ok(again) => put_same(alloc, lines, line, &again),
+        Err(error) => put_why(lines, error, " is no request\n"),
+    }
+}
+
+// Puts whether a request is sent by this line.
+fn put_same(alloc: Global, lines: &mut Lines, line: &[u8], request: &Request) {
+    if let Some(other) = lines.made(request_line(alloc, request)) {
+        let other: &[u8] = &other;
+        lines.put(if line == other {
+            "\n"
+        } else {
+            " isn't read back\n"
+        });
     }
 }
 
 // Puts the line of a request, and that it is read as one with the same line.
 fn put_sent(alloc: Global, lines: &mut Lines, request: &Request) {
-    let Some(line) = lines.made(request_line(alloc, request)) else {
-        return;
-    };
-    lines.put_text(&line);
-    match read_request(alloc, &line) {
-        Ok(again) => {
-            if let Some(other) = lines.made(request_line(alloc, &again)) {
-                lines.put(if line == other {
-                    "\n"
-                } else {
-                    " isn't read back\n"
-                });
-            }
-        }
-        Err(error) => put_error(lines, error, " is no request\n"),
+    if let Some(line) = lines.made(request_line(alloc, request)) {
+        lines.put_text(&line);
+        put_again(alloc, lines, &line);
     }
 }
 
@@ -39,19 +40,15 @@ fn put_sent(alloc: Global, lines: &mut Lines, request: &Request) {
 pub fn sent(alloc: Global, line: &[u8], lines: &mut Lines) {
     match read_request(alloc, line) {
         Ok(request) => put_sent(alloc, lines, &request),
-        Err(error) => put_error(lines, error, "no request\n"),
+        Err(error) => put_why(lines, error, "no request\n"),
     }
 }
 
 /// The line of the reply that a line tells.
 pub fn answered(alloc: Global, line: &[u8], lines: &mut Lines) {
     match read_reply(alloc, line) {
-        Ok(reply) => {
-            if let Some(bytes) = lines.made(reply_bytes(alloc, &reply)) {
-                lines.put_text(&bytes);
-            }
-        }
-        Err(error) => put_error(lines, error, "no reply\n"),
+        Ok(reply) => put_reply(alloc, lines, &reply),
+        Err(error) => put_why(lines, error, "no reply\n"),
     }
 }
 

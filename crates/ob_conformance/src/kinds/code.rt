@@ -5,7 +5,7 @@ use crate::kinds::lines::Lines;
 use crate::kinds::tokens::put_error;
 use ob_base::{ContractId, FieldId, Operator, StateId, TxId};
 use ob_code::{BodyCode, ContractCode, Image, Instruction, encode};
-use ob_front::compile;
+use ob_front::{Seen, compile};
 use std::alloc::Global;
 
 // A slot, after a blank.
@@ -281,8 +281,8 @@ fn put_contract_code(lines: &mut Lines, number: usize, contract: &ContractCode) 
     }
 }
 
-/// Puts the bodies of an image that have instructions, a line for each.
-pub fn put_image(lines: &mut Lines, image: &Image) {
+// Puts the bodies of an image that have instructions, a line for each.
+fn put_image(lines: &mut Lines, image: &Image) {
     for (number, contract) in image.contracts.as_slice().iter().enumerate() {
         put_contract_code(lines, number, contract);
     }
@@ -290,14 +290,14 @@ pub fn put_image(lines: &mut Lines, image: &Image) {
 
 /// The instructions of the code of a text's program, body by body, or the text's fault.
 pub fn code(alloc: Global, text: &[u8], lines: &mut Lines) {
-    match compile(alloc, text) {
+    match compile(alloc, text, &mut Seen::new(alloc)) {
         Ok(program) => put_image(lines, program.code.image()),
         Err(error) => put_error(alloc, error, lines),
     }
 }
 
-// Puts the bytes of an image in hexadecimal digits.
-fn put_encoded(alloc: Global, code: &Image, lines: &mut Lines)
+/// Puts the bytes of an image in hexadecimal digits.
+pub fn put_encoded(alloc: Global, code: &Image, lines: &mut Lines)
     requires { image.fits code.now }
 {
     if let Some(bytes) = lines.made(encode(alloc, code)) {
@@ -310,7 +310,7 @@ fn put_encoded(alloc: Global, code: &Image, lines: &mut Lines)
 
 /// The bytes of the code that a text's program is compiled to, in hexadecimal digits, or the text's fault.
 pub fn compiled(alloc: Global, text: &[u8], lines: &mut Lines) {
-    match compile(alloc, text) {
+    match compile(alloc, text, &mut Seen::new(alloc)) {
         Ok(program) => put_encoded(alloc, program.code.image(), lines),
         Err(error) => put_error(alloc, error, lines),
     }

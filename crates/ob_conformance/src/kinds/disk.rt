@@ -61,6 +61,26 @@ fn put_error(error: JournalError, lines: &mut Lines) {
     }
 }
 
+// Appends a record to a journal, and puts what the journal says, or why there is none.
+fn append(
+    alloc: Global,
+    journal: &mut Journal,
+    disk: &mut MemoryDisk,
+    payload: &[u8],
+    lines: &mut Lines,
+) -> Result<(), Trouble> {
+    journal.reserve()?;
+    match journal.build(alloc, payload) {
+        Ok(built) => match journal.append(disk, built) {
+            Ok(()) => put_journal(journal, lines),
+            Err(error) => lines.name(&error),
+        },
+        Err(BuildError::Memory) => return Err(Trouble::Memory),
+        Err(error) => lines.name(&error),
+    }
+    Ok(())
+}
+
 /// A disk, and the journal that was found or begun on it.
 #[derive(Drop)]
 struct Desk {
@@ -132,22 +152,16 @@ impl Desk {
         Ok(())
     }
 
+    // Appends a record to the journal, if there is one.
     fn append(&mut self, words: &str, lines: &mut Lines) -> Result<(), Trouble> {
         let payload = bytes_of_words(self.alloc, words.as_bytes())?;
-        let Some(journal) = &mut self.journal else {
-            lines.put(" no journal");
-            return Ok(());
-        };
-        journal.reserve()?;
-        match journal.build(self.alloc, &payload) {
-            Ok(built) => match journal.append(&mut self.disk, built) {
-                Ok(()) => put_journal(journal, lines),
-                Err(error) => lines.name(&error),
-            },
-            Err(BuildError::Memory) => return Err(Trouble::Memory),
-            Err(error) => lines.name(&error),
+        match &mut self.journal {
+            Some(journal) => append(self.alloc, journal, &mut self.disk, &payload, lines),
+            None => {
+                lines.put(" no journal");
+                Ok(())
+            }
         }
-        Ok(())
     }
 
     // A step that answers something.

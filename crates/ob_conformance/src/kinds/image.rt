@@ -2,6 +2,7 @@
 ghost use Rattle.std.specs.Prelude.{IfSome};
 ghost use Rattle.ob_code.specs.Images.{image};
 
+use crate::kinds::code::put_encoded;
 use crate::kinds::lines::Lines;
 use crate::trouble::Trouble;
 use crate::words::bytes_of_words;
@@ -58,42 +59,42 @@ fn image_of(alloc: Global, bytes: &[u8], lines: &mut Lines) -> Option<Image>
 
 // The bytes that words put. Where they put none, it is noted why.
 fn bytes_of(alloc: Global, words: &[u8], lines: &mut Lines) -> Option<Vec<u8>> {
-    match bytes_of_words(alloc, words) {
-        Ok(bytes) => Some(bytes),
-        Err(trouble) => {
-            lines.fail(trouble);
-            None
+    lines.got(bytes_of_words(alloc, words))
+}
+
+// Whether an image is spelled by these bytes.
+fn is_spelled(alloc: Global, code: &Image, bytes: &[u8], lines: &mut Lines) -> bool
+    requires { image.fits code.now }
+{
+    match lines.made(encode(alloc, code)) {
+        Some(again) => {
+            let again: &[u8] = &again;
+            again == bytes
         }
+        None => false,
     }
 }
 
-/// An image that was read.
-#[derive(Drop)]
-struct ReadImage {
-    image: Image,
-    /// The bytes that it was read of.
-    bytes: Vec<u8>,
-    /// The bytes that it is spelled by.
-    again: Vec<u8>,
-}
-
-// The image that words put. Where there is none, it is said why.
-fn read_image(alloc: Global, words: &[u8], lines: &mut Lines) -> Option<ReadImage> {
-    let bytes = bytes_of(alloc, words, lines)?;
-    let image = image_of(alloc, &bytes, lines)?;
-    let again = lines.made(encode(alloc, &image))?;
-    Some(ReadImage {
-        image,
-        bytes,
-        again,
-    })
-}
-
-/// The verified code of the image that words put. Where there is none, it is said why.
-pub fn verified_of(alloc: Global, words: &[u8], lines: &mut Lines) -> Option<Verified> {
-    let bytes = bytes_of(alloc, words, lines)?;
-    let image = image_of(alloc, &bytes, lines)?;
+fn put_verdict(alloc: Global, image: Image, lines: &mut Lines) {
     match verify(alloc, image) {
+        Ok(_) => lines.put("verified"),
+        Err(error) => put_fault(error, lines),
+    }
+}
+
+// Puts what the verifier says of the image of these bytes.
+fn put_image(alloc: Global, bytes: &[u8], lines: &mut Lines) {
+    if let Some(image) = image_of(alloc, bytes, lines) {
+        let is_same = is_spelled(alloc, &image, bytes, lines);
+        put_verdict(alloc, image, lines);
+        lines.put(if is_same { "" } else { ", encoded as others" });
+        lines.end();
+    }
+}
+
+// The code of the image of these bytes. Where it isn't verified, it is said why.
+fn verified_in(alloc: Global, bytes: &[u8], lines: &mut Lines) -> Option<Verified> {
+    match verify(alloc, image_of(alloc, bytes, lines)?) {
         Ok(code) => Some(code),
         Err(error) => {
             put_fault(error, lines);
@@ -103,26 +104,29 @@ pub fn verified_of(alloc: Global, words: &[u8], lines: &mut Lines) -> Option<Ver
     }
 }
 
+/// The code of the image that words put. Where it isn't verified, it is said why.
+pub fn verified_of(alloc: Global, words: &[u8], lines: &mut Lines) -> Option<Verified> {
+    let bytes = bytes_of(alloc, words, lines)?;
+    verified_in(alloc, &bytes, lines)
+}
+
 /// What the verifier says of an image, which is told in words: `verified`, `NUMBER NAME BODY:INSTRUCTION`, or `BadImage OFFSET` where
 /// the bytes aren't an image's. That other bytes spell the image is said behind, where they do.
 pub fn image(alloc: Global, words: &[u8], lines: &mut Lines) {
-    if let Some(read) = read_image(alloc, words, lines) {
-        let is_same = read.again == read.bytes;
-        match verify(alloc, read.image) {
-            Ok(_) => lines.put("verified"),
-            Err(error) => put_fault(error, lines),
-        }
-        lines.put(if is_same { "" } else { ", encoded as others" });
-        lines.end();
+    if let Some(bytes) = bytes_of(alloc, words, lines) {
+        put_image(alloc, &bytes, lines);
+    }
+}
+
+fn put_again(alloc: Global, bytes: &[u8], lines: &mut Lines) {
+    if let Some(image) = image_of(alloc, bytes, lines) {
+        put_encoded(alloc, &image, lines);
     }
 }
 
 /// The bytes of an image in hexadecimal digits, from the image that was read of them.
 pub fn encoded(alloc: Global, words: &[u8], lines: &mut Lines) {
-    if let Some(read) = read_image(alloc, words, lines) {
-        for byte in &read.again {
-            lines.put_byte(*byte);
-        }
-        lines.end();
+    if let Some(bytes) = bytes_of(alloc, words, lines) {
+        put_again(alloc, &bytes, lines);
     }
 }

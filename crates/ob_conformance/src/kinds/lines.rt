@@ -88,6 +88,17 @@ impl Lines {
         }
     }
 
+    /// What was got, unless there was a trouble, which is noted.
+    pub fn got<T: Drop>(&mut self, got: Result<T, Trouble>) -> Option<T> {
+        match got {
+            Ok(got) => Some(got),
+            Err(trouble) => {
+                self.fail(trouble);
+                None
+            }
+        }
+    }
+
     /// Puts a value as it is displayed.
     pub fn show<T: Display>(&mut self, value: &T) {
         if write!(self.text, "{value}").is_err() {

@@ -7,7 +7,6 @@ pub mod calls;
 pub mod client;
 pub mod code;
 pub mod disk;
-pub mod explain;
 pub mod fronts;
 pub mod image;
 pub mod lines;

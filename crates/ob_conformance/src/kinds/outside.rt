@@ -53,12 +53,18 @@ impl Outside {
     /// What a case says of the outside, with `, ` between: `sure`, `room NUMBER`, `files CALLS`, `input CALLS`, `output CALLS`.
     pub fn of(alloc: Global, text: &str) -> Result<Outside, Trouble> {
         let mut outside = Outside::new(alloc);
-        if !text.is_empty() {
-            for part in text.split(", ") {
-                outside.take(part)?;
-            }
-        }
+        outside.take_all(text)?;
         Ok(outside)
+    }
+
+    fn take_all(&mut self, text: &str) -> Result<(), Trouble> {
+        if text.is_empty() {
+            return Ok(());
+        }
+        for part in text.split(", ") {
+            self.take(part)?;
+        }
+        Ok(())
     }
 
     fn take(&mut self, part: &str) -> Result<(), Trouble> {

@@ -40,25 +40,32 @@ fn label_of(alloc: Global, name: &str) -> Result<Label, Trouble> {
     }
 }
 
+/// The refusals by their names.
+const REFUSALS: [(&str, Refusal); 15] = [
+    ("LongLine", Refusal::LongLine),
+    ("Json", Refusal::Json),
+    ("Shape", Refusal::Shape),
+    ("NoHandle", Refusal::NoHandle),
+    ("NoContract", Refusal::NoContract),
+    ("NotMain", Refusal::NotMain),
+    ("NoTransaction", Refusal::NoTransaction),
+    ("ArgCount", Refusal::ArgCount),
+    ("ArgKind", Refusal::ArgKind),
+    ("Permission", Refusal::Permission),
+    ("Repeated", Refusal::Repeated),
+    ("IntoMissing", Refusal::IntoMissing),
+    ("IntoNeedless", Refusal::IntoNeedless),
+    ("IntoTaken", Refusal::IntoTaken),
+    ("HandlesFull", Refusal::HandlesFull),
+];
+
 fn refusal_of(name: &str) -> Result<Refusal, Trouble> {
-    match name {
-        "LongLine" => Ok(Refusal::LongLine),
-        "Json" => Ok(Refusal::Json),
-        "Shape" => Ok(Refusal::Shape),
-        "NoHandle" => Ok(Refusal::NoHandle),
-        "NoContract" => Ok(Refusal::NoContract),
-        "NotMain" => Ok(Refusal::NotMain),
-        "NoTransaction" => Ok(Refusal::NoTransaction),
-        "ArgCount" => Ok(Refusal::ArgCount),
-        "ArgKind" => Ok(Refusal::ArgKind),
-        "Permission" => Ok(Refusal::Permission),
-        "Repeated" => Ok(Refusal::Repeated),
-        "IntoMissing" => Ok(Refusal::IntoMissing),
-        "IntoNeedless" => Ok(Refusal::IntoNeedless),
-        "IntoTaken" => Ok(Refusal::IntoTaken),
-        "HandlesFull" => Ok(Refusal::HandlesFull),
-        _ => Err(NO_REPLY),
+    for (known, refusal) in &REFUSALS {
+        if *known == name {
+            return Ok(*refusal);
+        }
     }
+    Err(NO_REPLY)
 }
 
 // The value of a field, where a word tells it.
@@ -100,28 +107,37 @@ fn state_of(alloc: Global, word: &str) -> Result<Option<RcStr>, Trouble> {
     Ok(Some(RcStr::from_str(alloc, word)?))
 }
 
-// An object that is shown, told as `NUMBER CONTRACT STATE`, and then marks and fields.
-fn shown_of(alloc: Global, told: &str) -> Result<Shown, Trouble> {
-    let (number, rest) = parts_of(told);
-    let (contract, rest) = parts_of(rest);
-    let (state, rest) = parts_of(rest);
-    let object = object_of(number)?;
-    let state = state_of(alloc, state)?;
-    let contract = RcStr::from_str(alloc, contract)?;
-    let mut shown = Shown {
+// An object of this contract that is shown, without a state and fields.
+fn begun_shown(alloc: Global, object: ObjectId, contract: &str) -> Result<Shown, Trouble> {
+    Ok(Shown {
         object,
-        contract,
-        state,
+        contract: RcStr::from_str(alloc, contract)?,
+        state: None,
         shared: false,
         disowned: false,
         fields: Items::new(alloc),
-    };
+    })
+}
+
+// The state, the marks and the fields of an object that is shown.
+fn take_all_shown(alloc: Global, shown: &mut Shown, told: &str) -> Result<(), Trouble> {
+    let (state, rest) = parts_of(told);
+    shown.state = state_of(alloc, state)?;
     for word in rest.split(' ') {
         if !word.is_empty() {
-            take_shown(alloc, &mut shown, word)?;
+            take_shown(alloc, shown, word)?;
         }
     }
-    Ok(shown)
+    Ok(())
+}
+
+// An object that is shown, told as `NUMBER CONTRACT STATE`, and then marks and fields.
+fn shown_of(alloc: Global, told: &str) -> Result<Outcome, Trouble> {
+    let (number, rest) = parts_of(told);
+    let (contract, rest) = parts_of(rest);
+    let mut shown = begun_shown(alloc, object_of(number)?, contract)?;
+    take_all_shown(alloc, &mut shown, rest)?;
+    Ok(Outcome::See(shown))
 }
 
 // The handle that is told as `CLIENT NAME`.
@@ -140,44 +156,68 @@ fn field_of(alloc: Global, told: &str) -> Result<Outcome, Trouble> {
     Ok(Outcome::Field(object, name))
 }
 
+fn int_of(told: &str) -> Result<Outcome, Trouble> {
+    Ok(Outcome::Int(number_of(told)?))
+}
+
+fn told_text(alloc: Global, told: &str) -> Result<Outcome, Trouble> {
+    Ok(Outcome::Text(RcStr::from_str(alloc, told)?))
+}
+
+fn told_object(told: &str) -> Result<Outcome, Trouble> {
+    Ok(Outcome::Object(object_of(told)?))
+}
+
 fn outcome_of(alloc: Global, form: &str, told: &str) -> Result<Outcome, Trouble> {
     match form {
         "nothing" => Ok(Outcome::Nothing),
-        "int" => Ok(Outcome::Int(number_of(told)?)),
+        "int" => int_of(told),
         "bool" => Ok(Outcome::Bool(told == "true")),
-        "text" => Ok(Outcome::Text(RcStr::from_str(alloc, told)?)),
-        "object" => Ok(Outcome::Object(object_of(told)?)),
-        "see" => Ok(Outcome::See(shown_of(alloc, told)?)),
+        "text" => told_text(alloc, told),
+        "object" => told_object(told),
+        "see" => shown_of(alloc, told),
         "handle" => handle_of(alloc, told),
         "field" => field_of(alloc, told),
         _ => Err(NO_REPLY),
     }
 }
 
+fn revert_cause(alloc: Global, told: &str) -> Result<Option<Cause>, Trouble> {
+    Ok(Some(Cause::Revert(RcStr::from_str(alloc, told)?)))
+}
+
 // An abort by the state of an object, told as `NUMBER` or `NUMBER STATE`.
-fn state_cause(alloc: Global, told: &str) -> Result<Cause, Trouble> {
+fn state_cause(alloc: Global, told: &str) -> Result<Option<Cause>, Trouble> {
     let (number, state) = parts_of(told);
     let object = object_of(number)?;
     let state = state_of(alloc, if state.is_empty() { "none" } else { state })?;
-    Ok(Cause::State(object, state))
+    Ok(Some(Cause::State(object, state)))
+}
+
+fn reentry_cause(told: &str) -> Result<Option<Cause>, Trouble> {
+    Ok(Some(Cause::Reentry(object_of(told)?)))
+}
+
+fn overflow_cause(told: &str) -> Result<Option<Cause>, Trouble> {
+    Ok(Some(Cause::Overflow(index_of(told)?)))
 }
 
 // An abort since a store has no room, told as `NEED SIZE`.
-fn room_cause(told: &str) -> Result<Cause, Trouble> {
+fn room_cause(told: &str) -> Result<Option<Cause>, Trouble> {
     let (need, size) = parts_of(told);
-    Ok(Cause::Room(count_of(need)?, count_of(size)?))
+    Ok(Some(Cause::Room(count_of(need)?, count_of(size)?)))
 }
 
 // Why a request was undone, if this form tells that.
 fn cause_of(alloc: Global, form: &str, told: &str) -> Result<Option<Cause>, Trouble> {
     match form {
-        "revert" => Ok(Some(Cause::Revert(RcStr::from_str(alloc, told)?))),
-        "state" => Ok(Some(state_cause(alloc, told)?)),
-        "reentry" => Ok(Some(Cause::Reentry(object_of(told)?))),
-        "overflow" => Ok(Some(Cause::Overflow(index_of(told)?))),
+        "revert" => revert_cause(alloc, told),
+        "state" => state_cause(alloc, told),
+        "reentry" => reentry_cause(told),
+        "overflow" => overflow_cause(told),
         "fuel" => Ok(Some(Cause::Fuel)),
         "full" => Ok(Some(Cause::Full)),
-        "room" => Ok(Some(room_cause(told)?)),
+        "room" => room_cause(told),
         _ => Ok(None),
     }
 }
@@ -186,32 +226,46 @@ fn answer_of(alloc: Global, form: &str, told: &str) -> Result<Answer, Trouble> {
     if form == "refused" {
         return Ok(Answer::Refused(refusal_of(told)?));
     }
-    if let Some(cause) = cause_of(alloc, form, told)? {
-        return Ok(Answer::Abort(cause));
+    match cause_of(alloc, form, told)? {
+        Some(cause) => Ok(Answer::Abort(cause)),
+        None => Ok(Answer::Ok(outcome_of(alloc, form, told)?)),
     }
-    Ok(Answer::Ok(outcome_of(alloc, form, told)?))
 }
 
-// A copy of the reply that is told as `ID FORM` and what belongs to the form; the ID may be `none`.
+// The number of a request, or `none`.
+fn id_of(told: &str) -> Result<Option<i64>, Trouble> {
+    if told == "none" {
+        return Ok(None);
+    }
+    Ok(Some(number_of(told)?))
+}
+
+// The reply that is told as `ID FORM` and what belongs to the form.
 fn reply_of(alloc: Global, text: &[u8]) -> Result<Reply, Trouble> {
     let (id, answer) = parts_of(text_of(text)?);
-    let id = match id {
-        "none" => None,
-        _ => Some(number_of(id)?),
-    };
+    let id = id_of(id)?;
     let (form, told) = parts_of(answer);
     let answer = answer_of(alloc, form, told)?;
-    Ok(Reply { id, answer }.copy(alloc)?)
+    Ok(Reply { id, answer })
 }
 
-/// The line of a reply that is told.
+/// Puts the line of a reply.
+pub fn put_reply(alloc: Global, lines: &mut Lines, reply: &Reply) {
+    if let Some(bytes) = lines.made(reply_bytes(alloc, reply)) {
+        lines.put_text(&bytes);
+    }
+}
+
+fn put_copy(alloc: Global, lines: &mut Lines, reply: &Reply) {
+    if let Some(copy) = lines.made(reply.copy(alloc)) {
+        put_reply(alloc, lines, &copy);
+    }
+}
+
+/// The line of a copy of a reply that is told.
 pub fn reply(alloc: Global, text: &[u8], lines: &mut Lines) {
     match reply_of(alloc, text) {
-        Ok(reply) => {
-            if let Some(bytes) = lines.made(reply_bytes(alloc, &reply)) {
-                lines.put_text(&bytes);
-            }
-        }
+        Ok(reply) => put_copy(alloc, lines, &reply),
         Err(trouble) => lines.fail(trouble),
     }
 }

@@ -62,23 +62,27 @@ fn put_give(lines: &mut Lines, on: &Label, to: &Label, into: &Label, mode: Mode)
     lines.put(word_of(mode));
 }
 
+fn put_new(lines: &mut Lines, contract: &Label, args: &[Arg], into: &Option<Label>) {
+    put_on(lines, "new ", contract);
+    put_args(lines, args);
+    put_into(lines, into);
+}
+
+fn put_call(lines: &mut Lines, on: &Label, tx: &Label, args: &[Arg], into: &Option<Label>) {
+    put_on(lines, "", on);
+    put_on(lines, ".", tx);
+    put_args(lines, args);
+    put_into(lines, into);
+}
+
 fn put_op(lines: &mut Lines, op: &Op) {
     match op {
         Op::New {
             contract,
             args,
             into,
-        } => {
-            put_on(lines, "new ", contract);
-            put_args(lines, args.as_slice());
-            put_into(lines, into);
-        }
-        Op::Call { on, tx, args, into } => {
-            put_on(lines, "", on);
-            put_on(lines, ".", tx);
-            put_args(lines, args.as_slice());
-            put_into(lines, into);
-        }
+        } => put_new(lines, contract, args.as_slice(), into),
+        Op::Call { on, tx, args, into } => put_call(lines, on, tx, args.as_slice(), into),
         Op::Disown { on } => put_on(lines, "disown ", on),
         Op::Give { on, to, into, mode } => put_give(lines, on, to, into, *mode),
         Op::See { on } => put_on(lines, "see ", on),
@@ -95,16 +99,25 @@ fn put_request(lines: &mut Lines, request: &Request) {
     lines.end();
 }
 
+/// Puts why a line has nothing to say, where this is said of one whose shape is another.
+pub fn put_why(lines: &mut Lines, error: WireError, shape: &str) {
+    match error {
+        WireError::Json => lines.put("no JSON\n"),
+        WireError::Shape => lines.put(shape),
+        WireError::Memory => lines.fail(Trouble::Memory),
+    }
+}
+
+fn put_copy(alloc: Global, request: &Request, lines: &mut Lines) {
+    if let Some(copy) = lines.made(request.copy(alloc)) {
+        put_request(lines, &copy);
+    }
+}
+
 /// The request that a line asks, from a copy of it, as `ID CLIENT: NAME.TRANSACTION(ARGUMENTS) into NAME`; or why it asks none.
 pub fn request(alloc: Global, line: &[u8], lines: &mut Lines) {
     match read_request(alloc, line) {
-        Ok(request) => {
-            if let Some(copy) = lines.made(request.copy(alloc)) {
-                put_request(lines, &copy);
-            }
-        }
-        Err(WireError::Json) => lines.put("no JSON\n"),
-        Err(WireError::Shape) => lines.put("no request\n"),
-        Err(WireError::Memory) => lines.fail(Trouble::Memory),
+        Ok(request) => put_copy(alloc, &request, lines),
+        Err(error) => put_why(lines, error, "no request\n"),
     }
 }

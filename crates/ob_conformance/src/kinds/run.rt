@@ -1,11 +1,13 @@
-//! Whole runs, over the forms in memory.
+//! Whole runs over the forms in memory, where the outside does what a case says.
 use crate::case::Case;
 use crate::kinds::lines::Lines;
 use crate::kinds::outside::{AMPLE, Outside};
 use crate::kinds::tokens::text_of;
 use crate::trouble::Trouble;
-use ob_disk::{MemoryDisk, SureDisk};
-use ob_io::{MemoryFiles, MemorySink, MemorySource, Source, SureFiles, SureSink, SureSource};
+use ob_disk::{Disk, MemoryDisk, SureDisk};
+use ob_io::{
+    Files, MemoryFiles, MemorySink, MemorySource, Sink, Source, SureFiles, SureSink, SureSource,
+};
 use ob_run::{Examined, Exit, run};
 use std::alloc::Global;
 
@@ -35,25 +37,45 @@ pub struct Ended {
     serves: bool,
 }
 
-fn words_of(alloc: Global, text: &str) -> Result<Vec<String>, Trouble> {
-    let mut words = Vec::new(alloc);
-    if !text.is_empty() {
-        for word in text.split(' ') {
-            words.push(String::from_str(alloc, word)?)?;
-        }
+fn put_words(alloc: Global, words: &mut Vec<String>, text: &str) -> Result<(), Trouble> {
+    if text.is_empty() {
+        return Ok(());
     }
-    Ok(words)
+    for word in text.split(' ') {
+        words.push(String::from_str(alloc, word)?)?;
+    }
+    Ok(())
+}
+
+// The file `p` with these bytes.
+fn file_of(alloc: Global, text: &[u8]) -> Result<(String, Vec<u8>), Trouble> {
+    Ok((String::from_str(alloc, "p")?, text.to_vec(alloc)?))
+}
+
+impl Handed {
+    fn fill(
+        &mut self,
+        alloc: Global,
+        words: &str,
+        text: &[u8],
+        input: &[u8],
+    ) -> Result<(), Trouble> {
+        put_words(alloc, &mut self.words, words)?;
+        self.files.push(file_of(alloc, text)?)?;
+        self.input.extend_from_slice(input)?;
+        Ok(())
+    }
 }
 
 /// What a run of these words is handed, over a text and an input.
 pub fn given_of(alloc: Global, words: &str, text: &[u8], input: &[u8]) -> Result<Handed, Trouble> {
-    let mut files = Vec::new(alloc);
-    files.push((String::from_str(alloc, "p")?, text.to_vec(alloc)?))?;
-    Ok(Handed {
-        words: words_of(alloc, words)?,
-        files,
-        input: input.to_vec(alloc)?,
-    })
+    let mut given = Handed {
+        words: Vec::new(alloc),
+        files: Vec::new(alloc),
+        input: Vec::new(alloc),
+    };
+    given.fill(alloc, words, text, input)?;
+    Ok(given)
 }
 
 fn asks_to_serve(words: &[String]) -> bool {
@@ -75,6 +97,81 @@ pub fn empty_disk(alloc: Global, fails: Vec<u64>) -> MemoryDisk {
     MemoryDisk::new(alloc, ROOM, fails)
 }
 
+// A run of which nothing is told to a person.
+fn run_words<F: Files, S: Source, K: Sink, D: Disk>(
+    alloc: Global,
+    words: &[String],
+    files: &mut F,
+    input: &mut S,
+    output: &mut K,
+    disk: &mut D,
+) -> Exit {
+    run(
+        alloc,
+        words,
+        files,
+        input,
+        output,
+        disk,
+        &mut Examined::nothing(alloc),
+    )
+}
+
+/// The words of a run, and the forms that fail as they are told to.
+#[derive(Drop)]
+struct Failing {
+    words: Vec<String>,
+    files: MemoryFiles,
+    input: MemorySource,
+    /// How many bytes the input has.
+    length: usize,
+    output: MemorySink,
+}
+
+impl Failing {
+    fn new(alloc: Global, given: Handed, outside: Outside) -> Failing {
+        Failing {
+            words: given.words,
+            files: MemoryFiles::new(alloc, given.files, outside.files),
+            length: given.input.len(),
+            input: MemorySource::new(given.input, outside.input),
+            output: MemorySink::new(alloc, outside.room, outside.output),
+        }
+    }
+
+    fn run(&mut self, alloc: Global, disk: &mut MemoryDisk) -> Exit {
+        run_words(
+            alloc,
+            &self.words,
+            &mut self.files,
+            &mut self.input,
+            &mut self.output,
+            disk,
+        )
+    }
+
+    // How many calls failed, but those of the disk.
+    fn faults(&self) -> u64 {
+        self.files
+            .faults()
+            .saturating_add(self.input.faults())
+            .saturating_add(self.output.faults())
+    }
+
+    // What the run left, after which so many calls had failed.
+    fn ended(&mut self, alloc: Global, exit: Exit, faults: u64) -> Result<Ended, Trouble> {
+        let unread = left_in(alloc, &mut self.input, self.length)?;
+        Ok(Ended {
+            exit,
+            faults,
+            unread,
+            length: self.length,
+            serves: asks_to_serve(&self.words),
+            output: Some(self.output.bytes().to_vec(alloc)?),
+        })
+    }
+}
+
 /// A run over the forms that fail as they are told to, and a disk.
 pub fn run_over(
     alloc: Global,
@@ -82,96 +179,83 @@ pub fn run_over(
     outside: Outside,
     disk: &mut MemoryDisk,
 ) -> Result<Ended, Trouble> {
-    let Handed {
-        words,
-        files,
-        input,
-    } = given;
-    let length = input.len();
-    let mut files = MemoryFiles::new(alloc, files, outside.files);
-    let mut input = MemorySource::new(input, outside.input);
-    let mut output = MemorySink::new(alloc, outside.room, outside.output);
+    let mut forms = Failing::new(alloc, given, outside);
     let before = disk.faults();
-    let exit = run(
-        alloc,
-        &words,
-        &mut files,
-        &mut input,
-        &mut output,
-        disk,
-        &mut Examined::nothing(),
-    );
-    let faults = files
-        .faults()
-        .saturating_add(input.faults())
-        .saturating_add(output.faults())
-        .saturating_add(disk.faults().saturating_sub(before));
-    let serves = asks_to_serve(&words);
-    match (
-        output.bytes().to_vec(alloc),
-        left_in(alloc, &mut input, length),
-    ) {
-        (Ok(output), Ok(unread)) => Ok(Ended {
-            exit,
-            output: Some(output),
-            faults,
-            unread,
-            length,
-            serves,
-        }),
-        _ => Err(Trouble::Memory),
+    let exit = forms.run(alloc, disk);
+    let of_disk = disk.faults().saturating_sub(before);
+    let faults = forms.faults().saturating_add(of_disk);
+    forms.ended(alloc, exit, faults)
+}
+
+/// The words of a run, and the forms that never fail.
+#[derive(Drop)]
+struct Sure {
+    words: Vec<String>,
+    files: SureFiles,
+    input: SureSource,
+    /// How many bytes the input has.
+    length: usize,
+    output: SureSink,
+    disk: SureDisk,
+}
+
+impl Sure {
+    fn new(alloc: Global, given: Handed, room: usize) -> Sure {
+        Sure {
+            words: given.words,
+            files: SureFiles::new(alloc, given.files),
+            length: given.input.len(),
+            input: SureSource::new(given.input),
+            output: SureSink::new(alloc, room),
+            disk: SureDisk::new(alloc, ROOM),
+        }
     }
-}
 
-// The same, where the disk has no byte and doesn't fail.
-fn run_failing(alloc: Global, given: Handed, outside: Outside) -> Result<Ended, Trouble> {
-    let mut disk = empty_disk(alloc, Vec::new(alloc));
-    run_over(alloc, given, outside, &mut disk)
-}
+    fn run(&mut self, alloc: Global) -> Exit {
+        run_words(
+            alloc,
+            &self.words,
+            &mut self.files,
+            &mut self.input,
+            &mut self.output,
+            &mut self.disk,
+        )
+    }
 
-// What was written, where it is told.
-fn told(alloc: Global, output: Option<&[u8]>) -> Result<Option<Vec<u8>>, Trouble> {
-    match output {
-        Some(bytes) => Ok(Some(bytes.to_vec(alloc)?)),
-        None => Ok(None),
+    // What was written, where it is told.
+    fn told(&self, alloc: Global) -> Result<Option<Vec<u8>>, Trouble> {
+        match self.output.bytes() {
+            Some(bytes) => Ok(Some(bytes.to_vec(alloc)?)),
+            None => Ok(None),
+        }
+    }
+
+    fn ended(&mut self, alloc: Global, exit: Exit) -> Result<Ended, Trouble> {
+        let unread = left_in(alloc, &mut self.input, self.length)?;
+        Ok(Ended {
+            exit,
+            faults: 0,
+            unread,
+            length: self.length,
+            serves: asks_to_serve(&self.words),
+            output: self.told(alloc)?,
+        })
     }
 }
 
 fn run_sure(alloc: Global, given: Handed, room: usize) -> Result<Ended, Trouble> {
-    let Handed {
-        words,
-        files,
-        input,
-    } = given;
-    let length = input.len();
-    let mut files = SureFiles::new(alloc, files);
-    let mut input = SureSource::new(input);
-    let mut output = SureSink::new(alloc, room);
-    let mut disk = SureDisk::new(alloc, ROOM);
-    let exit = run(
-        alloc,
-        &words,
-        &mut files,
-        &mut input,
-        &mut output,
-        &mut disk,
-        &mut Examined::nothing(),
-    );
-    let serves = asks_to_serve(&words);
-    match (
-        told(alloc, output.bytes()),
-        left_in(alloc, &mut input, length),
-    ) {
-        (Ok(output), Ok(unread)) => Ok(Ended {
-            exit,
-            output,
-            faults: 0,
-            unread,
-            length,
-            serves,
-        }),
-        _ => Err(Trouble::Memory),
+    let mut forms = Sure::new(alloc, given, room);
+    let exit = forms.run(alloc);
+    forms.ended(alloc, exit)
+}
+
+// A run where the outside does this, and the disk has no byte and doesn't fail.
+fn run_given(alloc: Global, given: Handed, outside: Outside) -> Result<Ended, Trouble> {
+    if outside.is_sure {
+        return run_sure(alloc, given, outside.room);
     }
+    let mut disk = empty_disk(alloc, Vec::new(alloc));
+    run_over(alloc, given, outside, &mut disk)
 }
 
 // Whether as many calls failed as the end says, and as many bytes of the input are left.
@@ -219,20 +303,14 @@ fn given_by(alloc: Global, case: &Case, input: &[u8]) -> Result<Handed, Trouble>
 
 // The run of a case over this input, where the outside does this.
 fn run_in(alloc: Global, case: &Case, input: &[u8], outside: &[u8]) -> Result<Ended, Trouble> {
-    let outside = Outside::of(alloc, text_of(outside)?)?;
     let given = given_by(alloc, case, input)?;
-    if outside.is_sure {
-        run_sure(alloc, given, outside.room)
-    } else {
-        run_failing(alloc, given, outside)
-    }
+    run_given(alloc, given, Outside::of(alloc, text_of(outside)?)?)
 }
 
 /// What a whole run over this input comes to: a line with its status, and then what it writes.
 pub fn whole_run(alloc: Global, case: &Case, input: &[u8], lines: &mut Lines) {
-    match run_in(alloc, case, input, case.part("given")) {
-        Ok(ended) => put_ended(lines, &ended),
-        Err(trouble) => lines.fail(trouble),
+    if let Some(ended) = lines.got(run_in(alloc, case, input, case.part("given"))) {
+        put_ended(lines, &ended);
     }
 }
 
@@ -263,82 +341,19 @@ fn put_cut(lines: &mut Lines, ended: &Ended, whole: &Ended) {
     lines.end();
 }
 
-// The run of a case over this input, where nothing fails.
-fn run_whole(alloc: Global, case: &Case, input: &[u8]) -> Result<Ended, Trouble> {
-    run_sure(alloc, given_by(alloc, case, input)?, AMPLE)
+// How a run of a case ended, and how far it came.
+fn put_compared(alloc: Global, case: &Case, ended: &Ended, lines: &mut Lines) {
+    let given = given_by(alloc, case, case.part("input"));
+    if let Some(given) = lines.got(given) {
+        if let Some(whole) = lines.got(run_sure(alloc, given, AMPLE)) {
+            put_cut(lines, ended, &whole);
+        }
+    }
 }
 
 /// How a run ends where the outside does this, and how many lines it writes of those that it writes where nothing fails.
 pub fn cut_run(alloc: Global, case: &Case, outside: &[u8], lines: &mut Lines) {
-    let input = case.part("input");
-    match (
-        run_in(alloc, case, input, outside),
-        run_whole(alloc, case, input),
-    ) {
-        (Ok(ended), Ok(whole)) => put_cut(lines, &ended, &whole),
-        (Err(trouble), _) | (_, Err(trouble)) => lines.fail(trouble),
+    if let Some(ended) = lines.got(run_in(alloc, case, case.part("input"), outside)) {
+        put_compared(alloc, case, &ended, lines);
     }
-}
-
-// What a run writes that is done, where it writes this, or else refuses; or all that it comes to.
-fn put_said(lines: &mut Lines, ended: &Ended, done: &[u8]) {
-    match &ended.output {
-        Some(bytes) if ended.exit == end_of(bytes, done) && is_well(ended) => lines.put_text(bytes),
-        _ => put_ended(lines, ended),
-    }
-}
-
-// How a run ends that writes these bytes, where it is done if it writes those.
-fn end_of(bytes: &[u8], done: &[u8]) -> Exit {
-    if bytes == done {
-        Exit::Done
-    } else {
-        Exit::Refused
-    }
-}
-
-// The run of a command over a text and an input, where nothing fails.
-fn run_command(alloc: Global, words: &str, text: &[u8], input: &[u8]) -> Result<Ended, Trouble> {
-    run_failing(
-        alloc,
-        given_of(alloc, words, text, input)?,
-        Outside::new(alloc),
-    )
-}
-
-/// What `check` writes of a text.
-pub fn check(alloc: Global, text: &[u8], lines: &mut Lines) {
-    match run_command(alloc, "check p", text, b"{\n") {
-        Ok(ended) => put_said(lines, &ended, b"accepted\n"),
-        Err(trouble) => lines.fail(trouble),
-    }
-}
-
-/// The line of the fault that `serve` tells of a text, or `served`.
-pub fn serve(alloc: Global, text: &[u8], lines: &mut Lines) {
-    match run_command(alloc, "serve p", text, b"") {
-        Ok(ended) => put_said(lines, &ended, b""),
-        Err(trouble) => lines.fail(trouble),
-    }
-    if lines.is_empty() {
-        lines.put("served\n");
-    }
-}
-
-// Whether a newline ends the bytes, and none stands before it.
-fn is_one_line(bytes: &[u8]) -> bool {
-    bytes.ends_with(b"\n") && bytes.iter().filter(|byte| **byte == b'\n').count() == 1
-}
-
-/// `one line each`, where `check` writes one line of each front of a text's bytes; or else what it writes of the first other.
-pub fn cuts(alloc: Global, text: &[u8], lines: &mut Lines) {
-    for end in 1..=text.len() {
-        let mut said = Lines::new(alloc);
-        check(alloc, &text[..end], &mut said);
-        lines.note(&said);
-        if !is_one_line(said.text().as_bytes()) {
-            return lines.put(said.text());
-        }
-    }
-    lines.put("one line each\n");
 }

@@ -9,6 +9,7 @@ use ob_heap::{Content, Delta, Object, Overlay, Sequence, Value, apply, reserve};
 use ob_machine::{Cause, Machine, Progress};
 use ob_verify::Verified;
 use std::alloc::Global;
+use std::mem;
 
 /// What is said of objects that can't have the numbers that they get.
 const NO_NUMBER: Trouble = Trouble::Line("no number of an object");
@@ -53,16 +54,15 @@ fn object_of(alloc: Global, words: &str) -> Result<Option<Object>, Trouble> {
     told.finish()
 }
 
-// The content whose objects words tell.
-fn content_of(alloc: Global, words: &str) -> Result<Content, Trouble> {
-    let mut content = Content::new(alloc);
+// Puts the objects that words tell behind the others.
+fn put_objects(alloc: Global, content: &mut Content, words: &str) -> Result<(), Trouble> {
     for item in words.split(';') {
         if let Some(object) = object_of(alloc, item)? {
-            let next = next_of(&content)?;
-            put_object(alloc, &mut content, next, object)?;
+            let next = next_of(content)?;
+            put_object(alloc, content, next, object)?;
         }
     }
-    Ok(content)
+    Ok(())
 }
 
 /// What a run came to.
@@ -84,22 +84,18 @@ fn goes_on(progress: &Option<Progress>, before: u32, units: u32) -> bool {
     }
 }
 
-// Runs code, slice after slice, until it is over or a slice has no unit for it.
-fn run(
-    alloc: Global,
+// Goes on with a run, slice after slice, until it is over or a slice has no unit for it.
+fn go_on(
     code: &Verified,
     base: &Content,
     overlay: &mut Overlay,
-    told: ToldRun,
+    machine: &mut Machine,
+    slice: u32,
 ) -> Result<Ran, Trouble> {
-    let ToldRun { entry, fuel, slice } = told;
-    let slice = slice.unwrap_or(fuel);
-    let mut machine = Machine::start(alloc, entry, fuel)?;
-    let mut units = 0;
     for slices in 1..u32::MAX {
+        let before = machine.used();
         let progress = machine.try_slice(code, base, overlay, slice)?;
-        let before = units;
-        units = machine.used();
+        let units = machine.used();
         if !goes_on(&progress, before, units) {
             return Ok(Ran {
                 progress,
@@ -109,6 +105,19 @@ fn run(
         }
     }
     Err(Trouble::Line("too many slices"))
+}
+
+// Runs code.
+fn run(
+    alloc: Global,
+    code: &Verified,
+    base: &Content,
+    overlay: &mut Overlay,
+    told: ToldRun,
+) -> Result<Ran, Trouble> {
+    let slice = told.slice.unwrap_or(told.fuel);
+    let mut machine = Machine::start(alloc, told.entry, told.fuel)?;
+    go_on(code, base, overlay, &mut machine, slice)
 }
 
 // Puts a text in quotes.
@@ -162,20 +171,24 @@ fn put_progress(progress: &Option<Progress>, lines: &mut Lines) {
     }
 }
 
-// Puts what a run read: objects in the order of their numbers, and whether the next number.
-fn put_reads(alloc: Global, overlay: &Overlay, lines: &mut Lines) -> Result<(), Trouble> {
+// The numbers of the objects that a run read, in their order.
+fn reads_of(alloc: Global, overlay: &Overlay) -> Result<Vec<u32>, Trouble> {
     let mut reads = overlay.reads(alloc)?;
     reads.sort()?;
-    if !reads.is_empty() || overlay.has_read_next() {
+    Ok(reads)
+}
+
+// Puts what a run read: objects in the order of their numbers, and whether the next number.
+fn put_reads(reads: &[u32], has_read_next: bool, lines: &mut Lines) {
+    if !reads.is_empty() || has_read_next {
         lines.put("; reads");
     }
     for id in reads {
-        lines.put_with(" o", id);
+        lines.put_with(" o", *id);
     }
-    if overlay.has_read_next() {
+    if has_read_next {
         lines.put(" next");
     }
-    Ok(())
 }
 
 // Puts an object behind its number.
@@ -217,69 +230,96 @@ fn keep(
     Ok(())
 }
 
-// Runs code on a content and puts what it comes to. Where the run ended, the content keeps what it did.
-fn put_run(
-    alloc: Global,
-    code: &Verified,
-    content: &mut Content,
-    told: ToldRun,
-    lines: &mut Lines,
-) -> Result<(), Trouble> {
-    let mut overlay = Overlay::new(alloc);
-    let ran = run(alloc, code, content, &mut overlay, told)?;
+// Puts how far a run came, and what it took.
+fn put_ran(ran: &Ran, lines: &mut Lines) {
     put_progress(&ran.progress, lines);
     lines.put_with("; units ", ran.units);
     if ran.slices > 1 {
         lines.put_with("; slices ", ran.slices);
     }
-    put_reads(alloc, &overlay, lines)?;
-    if matches!(ran.progress, Some(Progress::Finished(_))) {
-        let changes = changes_of(alloc, content, &overlay)?;
-        keep(alloc, changes, content, lines)?;
-    }
-    Ok(())
 }
 
-// Puts what runs come to, one after another, each on what the one before has left.
-fn put_runs(
+// Puts what a run came to. Where it ended, the content keeps what it did.
+fn put_left(
     alloc: Global,
-    code: &Verified,
-    objects: &str,
-    runs: &str,
+    content: &mut Content,
+    overlay: &Overlay,
+    ran: &Ran,
     lines: &mut Lines,
 ) -> Result<(), Trouble> {
-    let mut content = content_of(alloc, objects)?;
-    let mut told = ToldRun::new(alloc);
-    for line in runs.lines() {
-        for word in line.split(' ') {
-            if word == "then" {
-                put_run(alloc, code, &mut content, told, lines)?;
-                lines.put(" then ");
-                told = ToldRun::new(alloc);
-            } else {
-                told.take(alloc, word)?;
-            }
+    put_ran(ran, lines);
+    if let Some(reads) = lines.got(reads_of(alloc, overlay)) {
+        put_reads(&reads, overlay.has_read_next(), lines);
+    }
+    if !matches!(ran.progress, Some(Progress::Finished(_))) {
+        return Ok(());
+    }
+    let changes = changes_of(alloc, content, overlay)?;
+    keep(alloc, changes, content, lines)
+}
+
+/// Code that runs, and what was read so far of its runs.
+#[derive(Drop)]
+struct Course<'a> {
+    alloc: Global,
+    code: &'a Verified,
+    /// What the runs that ended have left.
+    content: Content,
+    /// The run that is told.
+    told: ToldRun,
+}
+
+impl<'a> Course<'a> {
+    fn new(alloc: Global, code: &'a Verified) -> Course<'a> {
+        Course {
+            alloc,
+            code,
+            content: Content::new(alloc),
+            told: ToldRun::new(alloc),
         }
     }
-    put_run(alloc, code, &mut content, told, lines)?;
-    lines.end();
-    Ok(())
-}
 
-// The same of words that are texts.
-fn put_told_runs(
-    alloc: Global,
-    code: &Verified,
-    objects: &[u8],
-    runs: &[u8],
-    lines: &mut Lines,
-) -> Result<(), Trouble> {
-    put_runs(alloc, code, text_of(objects)?, text_of(runs)?, lines)
+    // Runs what was told, and puts what it comes to.
+    fn put_run(&mut self, lines: &mut Lines) -> Result<(), Trouble> {
+        let told = mem::replace(&mut self.told, ToldRun::new(self.alloc));
+        let mut overlay = Overlay::new(self.alloc);
+        let ran = run(self.alloc, self.code, &self.content, &mut overlay, told)?;
+        put_left(self.alloc, &mut self.content, &overlay, &ran, lines)
+    }
+
+    // Reads the next word.
+    fn take(&mut self, word: &str, lines: &mut Lines) -> Result<(), Trouble> {
+        if word != "then" {
+            return self.told.take(self.alloc, word);
+        }
+        self.put_run(lines)?;
+        lines.put(" then ");
+        Ok(())
+    }
+
+    // Puts what runs come to, one after another, each on what the one before has left.
+    fn put_runs(&mut self, objects: &str, runs: &str, lines: &mut Lines) -> Result<(), Trouble> {
+        put_objects(self.alloc, &mut self.content, objects)?;
+        for line in runs.lines() {
+            for word in line.split(' ') {
+                self.take(word, lines)?;
+            }
+        }
+        self.put_run(lines)?;
+        lines.end();
+        Ok(())
+    }
+
+    // The same of words that are texts.
+    fn put_told(&mut self, objects: &[u8], runs: &[u8], lines: &mut Lines) -> Result<(), Trouble> {
+        self.put_runs(text_of(objects)?, text_of(runs)?, lines)
+    }
 }
 
 /// What runs of code come to, on these objects. Both are told in words. Where they can't be, it is noted why.
 pub fn tell_runs(alloc: Global, code: &Verified, objects: &[u8], runs: &[u8], lines: &mut Lines) {
-    if let Err(trouble) = put_told_runs(alloc, code, objects, runs, lines) {
+    let mut course = Course::new(alloc, code);
+    if let Err(trouble) = course.put_told(objects, runs, lines) {
         lines.fail(trouble);
     }
 }

@@ -64,26 +64,26 @@ fn range_of(text: &str) -> Result<(u64, u64), Trouble> {
 }
 
 // Puts each line of an output behind a blank.
-fn put_each_line(lines: &mut Lines, output: &[u8]) -> Result<(), Trouble> {
-    for line in text_of(output)?.lines() {
-        lines.put(" ");
-        lines.put(line);
+fn put_each_line(lines: &mut Lines, output: &[u8]) {
+    if let Some(text) = lines.got(text_of(output)) {
+        for line in text.lines() {
+            lines.put(" ");
+            lines.put(line);
+        }
     }
-    Ok(())
 }
 
 // How a run ended, and what it wrote: how many lines, where these are the first of those that were awaited.
-fn put_ended(lines: &mut Lines, ended: &Ended, awaited: &[u8]) -> Result<(), Trouble> {
+fn put_ended(lines: &mut Lines, ended: &Ended, awaited: &[u8]) {
     lines.put(" ");
     put_end(lines, ended);
     let Some(output) = &ended.output else {
-        return Err(NO_STEP);
+        return lines.fail(NO_STEP);
     };
     match lines_in(output, awaited) {
         Some(count) => lines.put_count(", lines: ", count),
-        None => put_each_line(lines, output)?,
+        None => put_each_line(lines, output),
     }
-    Ok(())
 }
 
 /// A case's program, its lines, and the disk of its runs.
@@ -129,15 +129,21 @@ impl<'a> Shelf<'a> {
         Ok(())
     }
 
+    // A run over the disk, of this input.
+    fn run(&mut self, input: &[u8]) -> Result<Ended, Trouble> {
+        let given = given_of(self.alloc, "serve p s", self.case.part("text"), input)?;
+        let outside = mem::replace(&mut self.outside, Outside::new(self.alloc));
+        run_over(self.alloc, given, outside, &mut self.disk)
+    }
+
     // A run over the disk, of these lines of the case's input.
     fn serve(&mut self, range: &str, lines: &mut Lines) -> Result<(), Trouble> {
         let (before, end) = range_of(range)?;
-        let input = lines_behind(first_lines(self.case.part("input"), end), before);
-        let awaited = lines_behind(self.case.part("output"), before);
-        let given = given_of(self.alloc, "serve p s", self.case.part("text"), input)?;
-        let outside = mem::replace(&mut self.outside, Outside::new(self.alloc));
-        let ended = run_over(self.alloc, given, outside, &mut self.disk)?;
-        put_ended(lines, &ended, awaited)
+        let case = self.case;
+        let input = lines_behind(first_lines(case.part("input"), end), before);
+        let ended = self.run(input)?;
+        put_ended(lines, &ended, lines_behind(case.part("output"), before));
+        Ok(())
     }
 
     // Shows the bytes of the disk from an offset on.

@@ -3,7 +3,7 @@ use crate::kinds::bodies::put_body;
 use crate::kinds::lines::Lines;
 use crate::kinds::tokens::put_error;
 use ob_base::{Duplicate, Name, Perm, TxId};
-use ob_front::class_table;
+use ob_front::{Seen, class_table};
 use ob_table::{Contract, Field, Listed, Param, ResolvedType, Signature, Table};
 use std::alloc::Global;
 
@@ -135,7 +135,7 @@ fn put_table(lines: &mut Lines, table: &Table) {
 
 /// The class table of a text, from a copy of it, or the text's fault.
 pub fn table(alloc: Global, text: &[u8], lines: &mut Lines) {
-    match class_table(alloc, text) {
+    match class_table(alloc, text, &mut Seen::new(alloc)) {
         Ok(table) => {
             if let Some(copy) = lines.made(table.copy(alloc)) {
                 put_table(lines, &copy);

@@ -2,7 +2,7 @@
 use crate::kinds::lines::Lines;
 use crate::kinds::tokens::put_error;
 use ob_base::{ContractId, Duplicate, FieldId, StateId, TxId};
-use ob_front::{LoweredProgram, lowered};
+use ob_front::{LoweredProgram, Seen, lowered};
 use ob_silica::{Constant, Form, Given, Operand, Place, SilicaOperator, Term, TermBody};
 use std::alloc::Global;
 
@@ -277,7 +277,7 @@ fn put_bodies(lines: &mut Lines, program: &LoweredProgram) {
 
 /// The terms of a text's bodies, from a copy of them, or the text's fault.
 pub fn terms(alloc: Global, text: &[u8], lines: &mut Lines) {
-    match lowered(alloc, text) {
+    match lowered(alloc, text, &mut Seen::new(alloc)) {
         Ok(program) => {
             if let Some(copy) = lines.made(program.copy(alloc)) {
                 put_bodies(lines, &copy);

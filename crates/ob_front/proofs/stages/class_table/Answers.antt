@@ -8,19 +8,19 @@ use Rattle.ob_front.proofs.stages.class_table.Goals as goal
 
 pub returns-clause-table : goal.returns-clause-table
 returns-clause-table c =
-    IfOk-weaker c.resolve.result (HasClassTable (tree_of c.in_ok-tree.tree)) (HasTable c.args.text.now)
+    IfOk-weaker c.resolve-resolved.result (HasClassTable (tree_of c.in_ok-tree.tree)) (HasTable c.args.text.now)
     (λ table has. table_is _ _ table c.in_ok-tree.ensures.tree has)
-    c.resolve.ensures.table
+    c.resolve-resolved.ensures.table
 
 pub returns-clause-well_formed : goal.returns-clause-well_formed
 returns-clause-well_formed c =
-    IfOk-weaker c.resolve.result (HasClassTable (tree_of c.in_ok-tree.tree)) IsWellFormedTable
+    IfOk-weaker c.resolve-resolved.result (HasClassTable (tree_of c.in_ok-tree.tree)) IsWellFormedTable
     (λ table has. well_formed c.args.text.now table (table_is _ _ table c.in_ok-tree.ensures.tree has))
-    c.resolve.ensures.table
+    c.resolve-resolved.ensures.table
 
 pub returns-clause-fault : goal.returns-clause-fault
 returns-clause-fault c =
-    IfErr-weaker c.resolve.result (λ e. OnFault e (IsFirstFault (tree_of c.in_ok-tree.tree)))
+    IfErr-weaker c.resolve-resolved.result (λ e. OnFault e (IsFirstFault (tree_of c.in_ok-tree.tree)))
     (λ e. OnFault e (HasTableFault c.args.text.now))
     (λ cause has. told_of_tree _ _ cause c.in_ok-tree.ensures.tree has)
-    c.resolve.ensures.fault
+    c.resolve-resolved.ensures.fault

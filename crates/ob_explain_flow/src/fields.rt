@@ -1,0 +1,300 @@
+//! Fields that aren't there, have no value, or aren't held as they are declared.
+
+use crate::case::Case;
+use crate::holding::{
+    first_state, name_of_body, name_of_field, put_held, put_states, put_type, say,
+};
+use crate::uses::use_at;
+use ob_base::{FieldId, Mode, Perm, StateId};
+use ob_explain_page::{Explanation, Words, word_of};
+use ob_flow_context::{Context, kind_of};
+use ob_silica::{Form, Given, Place};
+use ob_table::Signature;
+
+// What a field has to be held as, by the form of the term.
+fn wanted_of_field(case: &Case<'_>, field: FieldId) -> Perm {
+    match case.form() {
+        Form::Return { .. } => case.frame.exit_of_field(case.frame.signature(), field),
+        Form::CallThis { tx, .. } => match case.frame.own().signature(*tx) {
+            Some(signature) => case.frame.entry_of_field(signature, field),
+            None => case.frame.declared_permission(field),
+        },
+        _ => case.frame.declared_permission(field),
+    }
+}
+
+// Whether a field isn't held so in a context.
+fn differs_in(case: &Case<'_>, context: &Context, field: FieldId) -> bool {
+    let wanted = wanted_of_field(case, field);
+    case.frame.maybe_there(context, field) && !context.is_held_as(Place::Field(field), wanted)
+}
+
+// The first field that isn't held as it has to be, with the context in which it isn't.
+fn differing_field<'a>(case: &Case<'a>) -> Option<(FieldId, &'a Context)> {
+    for number in 0..case.frame.field_count() {
+        let field = FieldId(number);
+        if differs_in(case, case.context(), field) {
+            return Some((field, case.context()));
+        }
+        if let Some(other) = &case.trace.other {
+            if differs_in(case, other, field) {
+                return Some((field, other));
+            }
+        }
+    }
+    None
+}
+
+fn name_of_called(signature: Option<&Signature>) -> &str {
+    match signature {
+        Some(signature) => word_of(signature.name.as_bytes()),
+        None => "?",
+    }
+}
+
+// Says where the field has to be so.
+fn say_where(case: &Case<'_>, words: &mut Words) {
+    match case.form() {
+        Form::Return { .. } => {
+            words.put("where ");
+            case.put_body(words);
+            words.put(" ends");
+        }
+        Form::CallThis { tx, .. } => {
+            let name = name_of_called(case.frame.own().signature(*tx));
+            say(words, &["where `", name, "` is called on `this`"]);
+        }
+        Form::Change { .. } => words.put("after this change of a shared `this`"),
+        _ => words.put("where a branch ends after which the field may not be there"),
+    }
+}
+
+// Says what a field is held as in a context, and what it has to be.
+fn say_field(case: &Case<'_>, words: &mut Words, field: FieldId, context: &Context) {
+    let table = case.frame.table();
+    let place = Place::Field(field);
+    let kind = kind_of(case.frame.type_of_field(field));
+    say(
+        words,
+        &["the field `", name_of_field(case.frame, field), "` "],
+    );
+    if context.is_set(place) {
+        words.put("is held as `");
+        put_held(words, table, kind, context.permission(place));
+        words.put("` ");
+    } else {
+        words.put("has no value ");
+    }
+    say_where(case, words);
+    words.put(", and has to be `");
+    put_held(words, table, kind, wanted_of_field(case, field));
+    words.put("`");
+}
+
+/// A field that isn't as it is declared.
+pub fn explain_field(case: &Case<'_>, told: &mut Explanation) {
+    let Some((field, context)) = differing_field(case) else {
+        return told.what.put("a field isn't held as it is declared here");
+    };
+    say_field(case, &mut told.what, field, context);
+    let name = name_of_field(case.frame, field);
+    say(&mut told.note, &["the field `", name, "` is declared as `"]);
+    let of = case.frame.type_of_field(field);
+    put_type(&mut told.note, case.frame.table(), of);
+    told.note.put("`.");
+    told.help.put(
+        "fill it again before this, change to a state that hasn't the field, or list it in a `private (..)` transaction.",
+    );
+}
+
+// The given field at the fault's place.
+fn given_at(case: &Case<'_>, given: &[Given]) -> Option<FieldId> {
+    for one in given {
+        if one.span == case.fault.span {
+            return Some(one.field);
+        }
+    }
+    None
+}
+
+// The field to which a form copies or moves.
+fn filled(form: &Form) -> Option<FieldId> {
+    match form {
+        Form::Copy {
+            to: Place::Field(field),
+            ..
+        } => Some(*field),
+        Form::Move {
+            to: Place::Field(field),
+            ..
+        } => Some(*field),
+        _ => None,
+    }
+}
+
+// The field of which it is asked whether it is there.
+fn field_asked(case: &Case<'_>) -> Option<FieldId> {
+    if let Form::Change { given, .. } = case.form() {
+        if let Some(field) = given_at(case, given.as_slice()) {
+            return Some(field);
+        }
+    }
+    if let Some(one) = use_at(case.frame, case.form(), case.fault.span) {
+        if let Place::Field(field) = one.operand.place {
+            return Some(field);
+        }
+    }
+    filled(case.form())
+}
+
+// The name of the state to which a form changes.
+fn changed_to<'a>(case: &Case<'a>) -> Option<&'a str> {
+    match case.form() {
+        Form::Change { state, .. } => match case.frame.own().states.get(usize::from(state.0)) {
+            Some(name) => Some(word_of(name.as_bytes())),
+            None => None,
+        },
+        _ => None,
+    }
+}
+
+// Puts the states in which a field is there.
+fn put_there(case: &Case<'_>, words: &mut Words, field: FieldId) {
+    put_states(words, case.frame.own(), case.frame.available(field));
+}
+
+// A field that is given to a state that hasn't it.
+fn explain_foreign(case: &Case<'_>, field: FieldId, to: &str, told: &mut Explanation) {
+    let name = name_of_field(case.frame, field);
+    say(&mut told.what, &["the state `", to, "` hasn't the field `"]);
+    say(&mut told.what, &[name, "`, which is there in `"]);
+    put_there(case, &mut told.what, field);
+    told.what.put("`");
+    told.help
+        .put("leave it out, or declare the field in that state too.");
+}
+
+// How to come to a state in which a field is there.
+fn help_with_access(case: &Case<'_>, field: FieldId, words: &mut Words) {
+    let own = case.frame.own();
+    let state = first_state(own, case.frame.available(field));
+    if case.frame.constructs() {
+        words.put("change to that state first: its fields get their values with it, as by `->");
+        let name = name_of_field(case.frame, field);
+        return say(words, &[state, "(", name, " = ..);`."]);
+    }
+    let contract = word_of(own.name.as_bytes());
+    say(
+        words,
+        &["test it first, as in `if (this in ", state, ") { .. }`"],
+    );
+    say(
+        words,
+        &[
+            ", or ask for the state by `",
+            contract,
+            "@",
+            state,
+            " this`.",
+        ],
+    );
+}
+
+/// A field that may not be there.
+pub fn explain_accessible(case: &Case<'_>, told: &mut Explanation) {
+    let Some(field) = field_asked(case) else {
+        return told
+            .what
+            .put("this field may not be there in the state here");
+    };
+    if let Some(to) = changed_to(case) {
+        return explain_foreign(case, field, to, told);
+    }
+    let name = name_of_field(case.frame, field);
+    let this = case.context().permission(Place::This);
+    say(&mut told.what, &["the field `", name, "` is there in `"]);
+    put_there(case, &mut told.what, field);
+    told.what.put("` only, and `this` may be in `");
+    let may = case.frame.possible_under(this);
+    put_states(&mut told.what, case.frame.own(), may);
+    told.what.put("` here");
+    told.note.put(match this.mode {
+        Mode::Owned => "",
+        Mode::Shared => "`this` is Shared here, so it may be in any of its states.",
+        Mode::Unowned => "`this` is Unowned here, so it may be in any of its states.",
+    });
+    help_with_access(case, field, &mut told.help);
+}
+
+// The first field that has no value and needs one.
+fn unset_field(case: &Case<'_>) -> Option<FieldId> {
+    for number in 0..case.frame.field_count() {
+        let field = FieldId(number);
+        let is_set = case.context().is_set(Place::Field(field));
+        if !is_set && case.frame.accessible(case.context(), field) {
+            return Some(field);
+        }
+    }
+    None
+}
+
+// The first field of a state that isn't given and has no value.
+fn missing_field(case: &Case<'_>, state: StateId, given: &[Given]) -> Option<FieldId> {
+    for number in 0..case.frame.field_count() {
+        let field = FieldId(number);
+        let is_given = given.iter().any(|one| one.field == field);
+        let has = case.frame.accessible(case.context(), field)
+            && case.context().is_set(Place::Field(field));
+        if case.is_there(field, state) && !is_given && !has {
+            return Some(field);
+        }
+    }
+    None
+}
+
+fn name_of_some<'a>(case: &Case<'a>, field: Option<FieldId>) -> &'a str {
+    match field {
+        Some(field) => name_of_field(case.frame, field),
+        None => "?",
+    }
+}
+
+// What has no value where it needs one, if it isn't an operand.
+fn explain_unset(case: &Case<'_>, told: &mut Explanation) {
+    if let Form::Change { state, given } = case.form() {
+        let to = case.name_of_state(*state);
+        let name = name_of_some(case, missing_field(case, *state, given.as_slice()));
+        say(
+            &mut told.what,
+            &["the state `", to, "` has the field `", name],
+        );
+        told.what
+            .put("`, which has no value yet and isn't given here");
+        return say(&mut told.help, &["write `->", to, "(", name, " = ..);`."]);
+    }
+    let body = name_of_body(case.frame);
+    let name = name_of_some(case, unset_field(case));
+    say(&mut told.what, &["the constructor of `", body, "` ends"]);
+    say(
+        &mut told.what,
+        &[", and the field `", name, "` has no value yet"],
+    );
+    say(
+        &mut told.help,
+        &["write `", name, " = ..;` on each way to the end."],
+    );
+}
+
+/// What has no value where it is used.
+pub fn explain_no_value(case: &Case<'_>, told: &mut Explanation) {
+    match use_at(case.frame, case.form(), case.fault.span) {
+        Some(_) => {
+            say(
+                &mut told.what,
+                &["`", case.shown(), "` has no value yet here"],
+            );
+            told.help.put("a constructor gives each field a value before it reads it.");
+        }
+        None => explain_unset(case, told),
+    }
+}
