@@ -34,7 +34,8 @@ use Rattle.ob_emit_spec.proofs.Contracts as emitted
 use Rattle.ob_emit_spec.proofs.Contracts.{emitted_at, body_same, bodies_length, all_at, constructor_first, constructor_parts, constructor_there}
 pub use Rattle.ob_emit_spec.proofs.Contracts.{contract_meets}
 pub use Rattle.ob_emit_spec.proofs.Marks.{interface_marked, private_marked, constructor_marked, share_entry_marked}
-use Rattle.ob_emit_correct.specs.Law.{IsEmittable, code_of}
+use Rattle.ob_coherent_spec.specs.Remaining.{IsCheckedProgram}
+use Rattle.ob_emit_correct.specs.Law.{code_of}
 use Rattle.ob_emit_correct.proofs.Matching.{HasBody, code_in}
 
 -- Contracts.
@@ -311,7 +312,7 @@ same_id : (a b : ContractId) → (a.0 == b.0) ≡ true → a ≡ b
 same_id a b e = ap (λ n. let made : ContractId = record { 0 = n } in made) (eqb-true a.0 b.0 e)
 
 -- of the object's own contract, that transaction
-by_own_contract : (program : SilicaProgram) → IsEmittable program
+by_own_contract : (program : SilicaProgram) → IsCheckedProgram program
     → (tx : TxId) (asked : Signature) (o : Object) (own : Contract) (b : Bool) → own.interface ≡ b
     → contract_at program.table o.contract ≡ Some own → signature_at own tx ≡ Some asked
     → callee (code_of program) o.contract tx o ≡ Some (o.contract, tx)
@@ -333,7 +334,7 @@ implemented_is declared None e = absurd (false≢true e)
 implemented_is declared (Some id) e = ap Some (sym (same_id declared id e))
 
 -- of an interface that the object's contract implements, the transaction that answers
-by_implemented : (program : SilicaProgram) → IsEmittable program
+by_implemented : (program : SilicaProgram) → IsCheckedProgram program
     → (contract : ContractId) (tx : TxId) (asked : Signature) (o : Object) (d own : Contract) (t : TxId)
     → contract_at program.table contract ≡ Some d → signature_at d tx ≡ Some asked
     → contract_at program.table o.contract ≡ Some own
@@ -353,7 +354,7 @@ by_implemented program checked contract tx asked o d own t ed es eo implements n
     (interface_named program.table d (contract_meets program.table checked.table contract d ed) interface tx.0 asked es)) named
 
 -- what answers a call is what the machine runs for it
-pub callee_found : (program : SilicaProgram) → IsEmittable program
+pub callee_found : (program : SilicaProgram) → IsCheckedProgram program
     → (contract : ContractId) (tx : TxId) (asked : Signature) (o : Object) (own : Contract) (t : TxId)
     → signature_of program.table contract tx ≡ Some asked → contract_at program.table o.contract ≡ Some own
     → answering contract tx asked o.contract own ≡ Some t
@@ -385,7 +386,7 @@ callee_found program checked contract tx asked o own t easked eo answers = by_sa
 -- Constructors.
 
 -- the constructor of a contract that is no interface has the number 0
-pub constructor_found : (program : SilicaProgram) → IsEmittable program → (id : ContractId) (own : Contract)
+pub constructor_found : (program : SilicaProgram) → IsCheckedProgram program → (id : ContractId) (own : Contract)
     → contract_at program.table id ≡ Some own → own.interface ≡ false → constructor_of (code_of program) id ≡ Some constructor_id
 constructor_found program checked id own e plain =
     ap (λ (z : Option ContractCode). z >>= constructor_number) (contract_found program id own e)

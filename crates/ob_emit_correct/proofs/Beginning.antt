@@ -23,12 +23,11 @@ use Rattle.ob_silica_steps.specs.Binding.{bound_cell}
 use Rattle.ob_silica_steps.specs.Cells.{Cell, object_in}
 use Rattle.ob_silica_steps.specs.Configurations.{SilicaProgram, is_terms_of, SlotCells}
 use Rattle.ob_silica_steps.specs.Here.{self_of}
-use Rattle.ob_coherent_spec.specs.Remaining.{IsCheckedBody, IsWellFormedForm}
+use Rattle.ob_coherent_spec.specs.Remaining.{IsCheckedBody, IsWellFormedForm, IsCheckedProgram}
 use Rattle.ob_places_laws.proofs.Interfaces.{contract_number}
 use Rattle.ob_places_laws.proofs.Tables.{each_at, there_so}
 use Rattle.ob_code.specs.declared.instruction.Instruction.{Instruction}
 use Rattle.ob_machine_steps.specs.Slots.{Slots, value_at, first_slots}
-use Rattle.ob_emit_correct.specs.Law.{IsEmittable}
 use Rattle.ob_emit_correct.proofs.Placing.{HasAt, Around, outermost, Stands, KindsHold}
 use Rattle.ob_emit_correct.proofs.Matching.{HasBody, frame_in, code_in, slots_in, SameSlots}
 use Rattle.ob_lower_correct.proofs.Binding.{bound_slots}
@@ -86,7 +85,7 @@ has_all (i ∷ is) before = (
     there [] = refl
     there (x ∷ xs) = there xs
 
-module _ (program : SilicaProgram) (checked : IsEmittable program) (id : ContractId) (tx : TxId)
+module _ (program : SilicaProgram) (checked : IsCheckedProgram program) (id : ContractId) (tx : TxId)
     (b : HasBody program id tx) where
   -- the body of a constructor or transaction is well-formed
   pub body_formed : AreWellFormed (frame_of program.table id b.own b.signature) (held_at_start id b.signature.params) b.body

@@ -1,6 +1,6 @@
 -- The forms that call: a call of an object, a call on `this`, and a `new`.
 use Rattle.std.proofs.Common.{◌≡◌, ℕ, suc, ◌+◌, ◌≤◌, true, List, [], ◌∷◌, ◌++◌, Option, Some, None, refl, sym, ap, ◌∙◌, subst, arith, eq-eqb}
-use Rattle.std.specs.Prelude.{option_map, nat_eq, ⊤}
+use Rattle.std.specs.Prelude.{option_map, nat_eq}
 use Rattle.std.specs.Option.{option_and_then}
 use Rattle.std.proofs.lemmas.Bool.{or_left}
 use Rattle.ob_base.specs.Optional.{◌>>=◌}
@@ -24,8 +24,9 @@ use Rattle.ob_silica_steps.specs.Calling.{entered_with, waits, constructor_id}
 use Rattle.ob_silica_steps.specs.Cells.{value_in}
 use Rattle.ob_silica_steps.specs.Configurations.{SilicaProgram, Rest, Configuration, NextStep}
 use Rattle.ob_silica_steps.specs.Entering.{calls_object, calls_this, makes_object}
-use Rattle.ob_silica_steps.specs.Here.{here, with_unit, read, self_of}
+use Rattle.ob_silica_steps.specs.Here.{here, if_there, with_unit, read, self_of}
 use Rattle.ob_silica_steps.specs.Steps.{act}
+use Rattle.ob_coherent_spec.specs.Coherent.{IsCoherent}
 use Rattle.ob_places_laws.proofs.Tables as tables
 use Rattle.ob_places_laws.proofs.Tables.{there_from, if_there_so}
 use Rattle.ob_code.specs.declared.instruction.Instruction.{Instruction}
@@ -44,7 +45,7 @@ use Rattle.ob_emit_correct.specs.Law.{code_of}
 use Rattle.ob_emit_correct.proofs.Matching.{SameFrame, AllWaitFor, Does}
 use Rattle.ob_emit_correct.proofs.Agreeing.{constructor_found}
 use Rattle.ob_emit_correct.proofs.Stepping.{one_step, does_reached, does_there}
-use Rattle.ob_emit_correct.proofs.Placed.{FormStep, form_formed, instruction_here}
+use Rattle.ob_emit_correct.proofs.Placed.{FormStep, runs_class, form_formed, instruction_here}
 use Rattle.ob_emit_correct.proofs.Slots.{scratch, form_scratch, form_slots}
 use Rattle.ob_emit_correct.proofs.Reading.{this_there}
 use Rattle.ob_emit_correct.proofs.Worlds.{same_unit}
@@ -63,18 +64,19 @@ referred_is (bool_value b) n e = absurd (none_some e)
 referred_is (text_value bytes) n e = absurd (none_some e)
 referred_is (reference i) n e = ap reference (some_same i n e)
 
--- of any configuration
-abbrev Any : Configuration → Type 0
-Any d = ⊤
-
 module _ {program : SilicaProgram} {form : SilicaForm} {span : Span} {rest : SilicaTerms} {outer : List Rest} {c : Configuration}
     {m : machine.Configuration} (x : FormStep program form span rest outer c m) where
+  -- a configuration is coherent
+  abbrev IsSo : Configuration → Type 0
+  IsSo d = IsCoherent program.table x.entry x.beginning d
+
   -- the instruction to which the machine has come does what the form does
   does_alike : {os : List Operand} {us : List Value} {w : World} {i : Instruction} (h : Handed x os us w i) (next : NextStep)
-      → StepsAlike program Any next (machine_steps.act (code_of program) i (at_call x h)) → Does program m next
-  does_alike {i = i} h next a = does_reached h.reaches (record {
-    by = does_in_one program Any (running (at_call x h)) next (λ d e. tt)
-        (alike_as program Any next
+      → act program form rest outer c ≡ next
+      → StepsAlike program IsSo next (machine_steps.act (code_of program) i (at_call x h)) → Does program m next
+  does_alike {i = i} h next is a = does_reached h.reaches (record {
+    by = does_in_one program IsSo (running (at_call x h)) next (λ d e. x.next d (is ∙ e))
+        (alike_as program IsSo next
         (one_step (code_of program) (at_call x h) i _ (instruction_here x h.place h.slots h.world i h.next) refl) a);
   })
 
@@ -103,7 +105,9 @@ module _ {program : SilicaProgram} {k : Option ℕ} {receiver : Operand} {contra
   call_few = let e = form_slots x in omega (arith, e)
 
   module _ (s : Signature) (is : signature_of program.table contract tx ≡ Some s) (n : ℕ)
-      (refers : value_in (read program.table (here c) (located receiver)) ≡ Some (reference n)) where
+      (refers : value_in (read program.table (here c) (located receiver)) ≡ Some (reference n))
+      (binds : act program (call_form k receiver contract tx args) rest outer c
+      ≡ bind_all program.table (unbound (here c)) call_places 0 (all_parameters contract s) (object_bound s n)) where
     call_passed : Pass x s.params args
     call_passed = if_there_so (signature_of program.table contract tx) (λ s. Pass x s.params args) s is (form_formed x).kinds.1
 
@@ -150,16 +154,17 @@ module _ {program : SilicaProgram} {k : Option ℕ} {receiver : Operand} {contra
         let below = subst (λ g. AllWaitFor program g (waits c b.bound rest outer k) there.into there.frames)
         (ap (option_and_then (λ (s : Signature). option_map kind_of_resolved s.result)) is)
         (frame_waits x k _ b.bound b.handed refl refl (form_formed x).params call_few b.alike) in
-        let called = λ (j : ℕ). calls_object_alike program x.checked Any
+        let called = λ (j : ℕ). calls_object_alike program x.checked (IsSo x)
         (entered_with c b.bound rest outer k (with_unit_taken b.bound.from.world j)) there contract tx s n vs
         (with_unit_taken b.handed.world j)
         is (as_many x s.params args vs call_passed reads) b.slots below (same_unit j b.handed.same)
-        (λ d own t eo answers et how so. answers_plainly program x.checked Any contract tx s d.frame.contract own d.frame.tx t is
-        (form_formed x).bodies.1 eo answers et) in
+        (λ d own t eo answers et how so. answers_plainly program x.checked (IsSo x) contract tx s d.frame.contract own d.frame.tx t is
+        (form_formed x).bodies.1 eo answers et)
+        (λ d own eo so. runs_class program.table x.entry x.beginning d own eo so) in
         subst (Does program m) (sym (b.binds_so (object_bound s n)))
-        (does_alike x b.handed (object_bound s n b.bound)
-        (alike_as program Any (object_bound s n b.bound) (call_steps vs b.handed)
-        (alike_unit program Any b.handed.same _ _ called)))
+        (does_alike x b.handed (object_bound s n b.bound) (binds ∙ b.binds_so (object_bound s n))
+        (alike_as program (IsSo x) (object_bound s n b.bound) (call_steps vs b.handed)
+        (alike_unit program (IsSo x) b.handed.same _ _ called)))
 
     -- where an argument has no value there is no step
     object_by : (o : Option (List Value)) → read_values program.table (here c) (all_located args) ≡ o
@@ -178,7 +183,12 @@ module _ {program : SilicaProgram} {k : Option ℕ} {receiver : Operand} {contra
       does_there program m (read program.table (here c) (located receiver)) _ (λ y found.
       does_there program m (referred y.value) _ (λ n refers.
       object_by s is n (ap value_in found ∙ ap (λ v. Some v) (referred_is y.value n refers))
+      (ap (λ o. if_there o (λ s. if_there (read program.table (here c) (located receiver)) (λ x. if_there (referred x.value) (λ n. bound s n)))) is
+      ∙ ap (λ o. if_there o (λ x. if_there (referred x.value) (λ n. bound s n))) found ∙ ap (λ o. if_there o (λ n. bound s n)) refers)
       (read_values program.table (here c) (all_located args)) refl)))
+    where
+      bound : Signature → ℕ → NextStep
+      bound s n = bind_all program.table (unbound (here c)) call_places 0 (all_parameters contract s) (object_bound s n)
 
 -- Calls on `this`.
 
@@ -213,6 +223,11 @@ module _ {program : SilicaProgram} {k : Option ℕ} {tx : TxId} {args : List Ope
   this_few = let e = form_slots x in omega (arith, e)
 
   module _ (s : Signature) (is : signature_of program.table c.frame.contract tx ≡ Some s) where
+    this_binds : act program (call_this_form k tx args) rest outer c
+        ≡ bind_all program.table (unbound (here c)) this_places 0 (all_parameters c.frame.contract s) (this_bound s)
+    this_binds = ap (λ o. if_there o (λ s.
+        bind_all program.table (unbound (here c)) this_places 0 (all_parameters c.frame.contract s) (this_bound s))) is
+
     this_passed : Pass x s.params args
     this_passed = if_there_so (signature_of program.table c.frame.contract tx) (λ s. Pass x s.params args) s is
         (form_formed x).kinds
@@ -253,17 +268,17 @@ module _ {program : SilicaProgram} {k : Option ℕ} {tx : TxId} {args : List Ope
         (frame_waits x k _ lent b.handed refl refl (form_formed x).params this_few b.alike) in
         let own_is : signature_at x.goes_on.has.own tx ≡ Some s =
         sym (ap (option_and_then (λ c. signature_at c tx)) x.goes_on.has.is_own) ∙ is in
-        let called = λ (j : ℕ). calls_this_alike program x.checked Any
+        let called = λ (j : ℕ). calls_this_alike program x.checked (IsSo x)
         (entered_with c lent rest outer k (with_unit_taken b.bound.from.world j)) c.frame (at_call x b.handed) (result_slot k) tx
-        x.goes_on.has.own s itself vs (with_unit_taken b.handed.world j) x.goes_on.has.is_own own_is
+        x.goes_on.has.own s itself vs (with_unit_taken b.handed.world j) x.goes_on.has.is_own x.goes_on.has.class own_is
         (as_many x s.params args vs this_passed reads) (frame_there b.handed) refl b.slots below (same_unit j b.handed.same) in
         subst (Does program m) (sym (b.binds_so (this_bound s)))
-        (does_alike x b.handed (this_bound s b.bound)
-        (alike_as program Any (this_bound s b.bound)
+        (does_alike x b.handed (this_bound s b.bound) (this_binds ∙ b.binds_so (this_bound s))
+        (alike_as program (IsSo x) (this_bound s b.bound)
         (ap (λ (z : Option (List Value)). z >>= λ vs.
         parts.with_unit b.handed.world (machine_calls.calls_this (code_of program) (result_slot k) tx vs
         (at_call x b.handed))) b.handed.values)
-        (alike_unit program Any b.handed.same _ _ called)))
+        (alike_unit program (IsSo x) b.handed.same _ _ called)))
 
     -- where an argument has no value there is no step
     this_by : (o : Option (List Value)) → read_values program.table (here c) (all_located args) ≡ o
@@ -303,6 +318,11 @@ module _ {program : SilicaProgram} {k : ℕ} {contract : ContractId} {args : Lis
   new_few = let e = form_slots x in omega (arith, e)
 
   module _ (s : Signature) (is : constructor_at program.table contract ≡ Some s) where
+    new_binds : act program (new_form k contract args) rest outer c
+        ≡ bind_all program.table (unbound (here c)) (all_located args) 1 (parameters s) (new_bound s)
+    new_binds = ap (λ o. if_there o (λ s.
+        bind_all program.table (unbound (here c)) (all_located args) 1 (parameters s) (new_bound s))) is
+
     new_passed : Pass x s.params args
     new_passed = if_there_so (constructor_at program.table contract) (λ s. Pass x s.params args) s is (form_formed x).kinds
 
@@ -322,17 +342,17 @@ module _ {program : SilicaProgram} {k : ℕ} {contract : ContractId} {args : Lis
         let below = frame_waits x (Some k) (Some (Reference contract)) b.bound b.handed refl refl
         (form_formed x).params new_few b.alike in
         let constructor = constructor_of (code_of program) contract in
-        let made = λ (j : ℕ). makes_object_alike program x.checked Any
+        let made = λ (j : ℕ). makes_object_alike program x.checked (IsSo x)
         (entered_with c b.bound rest outer (Some k) (with_unit_taken b.bound.from.world j)) there contract own.0 s constructor vs
-        (with_unit_taken b.handed.world j) own.1 own.3 (constructor_found program x.checked contract own.0 own.1 own.2)
+        (with_unit_taken b.handed.world j) own.1 own.2 own.3 (constructor_found program x.checked contract own.0 own.1 own.2)
         (as_many x s.params args vs new_passed reads) b.slots below (same_unit j b.handed.same) in
         subst (Does program m) (sym (b.binds_so (new_bound s)))
-        (does_alike x b.handed (new_bound s b.bound)
-        (alike_as program Any (new_bound s b.bound)
+        (does_alike x b.handed (new_bound s b.bound) (new_binds ∙ b.binds_so (new_bound s))
+        (alike_as program (IsSo x) (new_bound s b.bound)
         (ap (λ (z : Option (List Value)). z >>= λ vs.
         parts.with_unit b.handed.world (machine_calls.makes_object
         (code_of program) there contract constructor vs)) b.handed.values)
-        (alike_unit program Any b.handed.same _ _ made)))
+        (alike_unit program (IsSo x) b.handed.same _ _ made)))
 
     -- where an argument has no value there is no step
     makes_by : (o : Option (List Value)) → read_values program.table (here c) (all_located args) ≡ o

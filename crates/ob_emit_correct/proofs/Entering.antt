@@ -1,6 +1,5 @@
 -- The step into a body, by terms and by code: what enters it is the same on both sides.
-use Rattle.std.proofs.lemmas.Bool.{cases_Bool}
-use Rattle.std.proofs.Common.{⊎_elim, ◌≡◌, ℕ, zero, suc, Bool, true, false, List, [], ◌∷◌, length, Option, Some, None, refl, sym, ap, ◌∙◌, subst, arith}
+use Rattle.std.proofs.Common.{◌≡◌, ℕ, zero, suc, Bool, true, false, List, [], ◌∷◌, length, Option, Some, None, refl, sym, ap, ◌∙◌, subst, arith}
 use Rattle.std.specs.Prelude.{nat_eq, nat_le, ◌==◌, not, ◌&&◌, find, option_map, if◌then◌else◌, ⊤}
 use Rattle.std.specs.Option.{option_and_then, option_map_or}
 use Rattle.std.proofs.lemmas.Bool.{or_left, or_right, ne_eqb}
@@ -45,7 +44,8 @@ use Rattle.ob_machine_steps.specs.Parts.{with_units}
 use Rattle.ob_machine_steps.specs.Parts as parts
 use Rattle.ob_machine_steps.specs.Runs.{after_step, after_steps}
 use Rattle.ob_emit_spec.specs.EmittedImages.{emitted_body}
-use Rattle.ob_emit_correct.specs.Law.{IsEmittable, code_of}
+use Rattle.ob_coherent_spec.specs.Remaining.{IsCheckedProgram}
+use Rattle.ob_emit_correct.specs.Law.{code_of}
 use Rattle.ob_emit_correct.proofs.Matching.{HasBody, slots_in, entered_as, SameFrame, kind_given, AllWaitFor, Matches, as_running, DoesTo}
 use Rattle.ob_emit_correct.proofs.Agreeing.{body_found, share_entry_marked, callee_found}
 use Rattle.ob_emit_correct.proofs.Beginning.{body_slots, body_stands, BeginsWith, begins_with, first_same, start_kinds}
@@ -140,7 +140,7 @@ entered_into e id tx how share terms = record {
   world = e.world;
 }
 
-module _ (program : SilicaProgram) (checked : IsEmittable program) (So : Configuration → Type 0) where
+module _ (program : SilicaProgram) (checked : IsCheckedProgram program) (So : Configuration → Type 0) where
   -- a body of a contract begins, with these values
   pub enters_alike : (e : Entered) (by : Caller) (id : ContractId) (tx : TxId) (how : How) (share : Bool) (own : Contract)
       (s : Signature)
@@ -148,11 +148,12 @@ module _ (program : SilicaProgram) (checked : IsEmittable program) (So : Configu
       → contract_at program.table id ≡ Some own → signature_at own tx ≡ Some s → BeginsWith e.slots id this (parameters s) vs
       → length vs ≡ length s.params → AllWaitFor program (kind_given program.table how id tx) e.stack by.into by.frames
       → SameWorld e.world v
+      → ((terms : SilicaTerms) → So (entered_into e id tx how share terms) → own.interface ≡ false)
       → ((terms : SilicaTerms) → So (entered_into e id tx how share terms) → (body : SilicaBody)
       → shares (emitted_body program.table id own tx s (Some body)) ≡ share)
       → StepsAlike program So (enters program e id tx how share)
       (body_code (code_of program) id tx >>= λ b. Some (machine.goes (begun by (id, tx) b this vs (entered_as how) (shares b) v)))
-  enters_alike e by id tx how share own s this vs v shares eo es begins many below same shared =
+  enters_alike e by id tx how share own s this vs v shares eo es begins many below same class shared =
       by_body (find (is_terms_of id tx) program.bodies) refl
     where
       by_body : (o : Option SilicaBody) → find (is_terms_of id tx) program.bodies ≡ o
@@ -162,44 +163,43 @@ module _ (program : SilicaProgram) (checked : IsEmittable program) (So : Configu
           (begun by (id, tx) b this vs (entered_as how) (shares b) v)))
       by_body None found = record { by = tt }
       by_body (Some body) found =
-          let b : HasBody program id tx = record {
+          let has : own.interface ≡ false → HasBody program id tx = λ plain. record {
             own = own;
             is_own = eo;
-            class = ⊎_elim
-                (λ interface. absurd (none_some (sym (checked.interfaces id tx own eo interface) ∙ found)))
-                (λ plain. plain) (cases_Bool own.interface);
+            class = plain;
             signature = s;
             is_signature = es;
             body = body;
             found = found;
           } in
           let code = emitted_body program.table id own tx s (Some body) in
-          let few = (body_slots program checked id tx b).0 in
           record {
-            by = λ so. (
-              begun by (id, tx) code this vs (entered_as how) share v,
-              ap (λ (z : Option BodyCode). z >>= λ b. Some (machine.goes
-                  (begun by (id, tx) b this vs (entered_as how) (shares b) v)))
-                  (body_found program id tx b)
-                  ∙ ap (λ x. Some (machine.goes (begun by (id, tx) code this vs (entered_as how) x v)))
-                  (shared body.terms so body),
-              as_running (record {
-                terms = body.terms;
-                outer = [];
-                control = refl;
-                goes_on = record {
-                  frame = record { this = sym begins.self; contract = refl; tx = refl; entered = refl; share_entered = refl };
-                  has = b;
-                  slots = first_same e.slots id this body.slots (slots_in program id tx b) (parameters s) vs begins
-                      (omega (arith, many, few)) (omega arith);
-                  holdings = held_at_start id s.params;
-                  stands = body_stands program checked id tx b;
-                };
-                kinds = start_kinds e.slots id this s.params vs begins;
-                below = below;
-                world = same;
-              }),
-            );
+            by = λ so.
+                let b = has (class body.terms so) in
+                let few = (body_slots program checked id tx b).0 in (
+                  begun by (id, tx) code this vs (entered_as how) share v,
+                  ap (λ (z : Option BodyCode). z >>= λ b. Some (machine.goes
+                      (begun by (id, tx) b this vs (entered_as how) (shares b) v)))
+                      (body_found program id tx b)
+                      ∙ ap (λ x. Some (machine.goes (begun by (id, tx) code this vs (entered_as how) x v)))
+                      (shared body.terms so body),
+                  as_running (record {
+                    terms = body.terms;
+                    outer = [];
+                    control = refl;
+                    goes_on = record {
+                      frame = record { this = sym begins.self; contract = refl; tx = refl; entered = refl; share_entered = refl };
+                      has = b;
+                      slots = first_same e.slots id this body.slots (slots_in program id tx b) (parameters s) vs begins
+                          (omega (arith, many, few)) (omega arith);
+                      holdings = held_at_start id s.params;
+                      stands = body_stands program checked id tx b;
+                    };
+                    kinds = start_kinds e.slots id this s.params vs begins;
+                    below = below;
+                    world = same;
+                  }),
+                );
           }
 
   -- A transaction that answers for one that is no constructor's is none.
@@ -250,9 +250,10 @@ module _ (program : SilicaProgram) (checked : IsEmittable program) (So : Configu
       → answering contract tx asked d.frame.contract own ≡ Some d.frame.tx → signature_at own d.frame.tx ≡ Some s → d.frame.how
       ≡ by_receiver → So d
       → is_constructor program.table d.frame.contract d.frame.tx.0 ≡ false)
+      → ((d : Configuration) (own : Contract) → contract_at program.table d.frame.contract ≡ Some own → So d → own.interface ≡ false)
       → StepsAlike program So (calls_object program e contract tx asked n)
       (machine_calls.calls_object (code_of program) by contract tx n vs v)
-  calls_object_alike e by contract tx asked n vs v easked many slots below same plain =
+  calls_object_alike e by contract tx asked n vs v easked many slots below same plain class =
       by_reads (λ z. StepsAlike program So (calls_object program e contract tx asked n) (read_call by contract tx n vs z))
       (same_read_object n same)
       (λ items r.
@@ -297,6 +298,8 @@ module _ (program : SilicaProgram) (checked : IsEmittable program) (So : Configu
           enters_alike (record (entered_on (record e { world = w }) n o s) { world = enter n w }) by o.contract t by_receiver
           (is_shared (permission_of s.entry)) own s n vs (enter n z) is_shared_at_entry eo es begins (many ∙ sym counted)
           (subst (λ g. AllWaitFor program g e.stack by.into by.frames) (sym given) below) entered
+          (λ terms so. class (entered_into (record (entered_on (record e { world = w }) n o s) { world = enter n w }) o.contract t by_receiver
+          (is_shared (permission_of s.entry)) terms) own eo so)
           (λ terms so body. share_entry_marked program.table o.contract own t s (Some body)
           (plain (entered_into (record (entered_on (record e { world = w }) n o s) { world = enter n w }) o.contract t by_receiver
           (is_shared (permission_of s.entry)) terms) own s eo answers es refl so))
@@ -325,13 +328,13 @@ module _ (program : SilicaProgram) (checked : IsEmittable program) (So : Configu
   -- a call on `this`, once its unit is taken
   pub calls_this_alike : (e : Entered) (f : SilicaFrame) (m : machine.Configuration) (k : ℕ) (tx : TxId) (own : Contract)
       (s : Signature) (x : Value)
-      (vs : List Value) (v : World) → contract_at program.table f.contract ≡ Some own → signature_at own tx ≡ Some s → length vs
-      ≡ length s.params
+      (vs : List Value) (v : World) → contract_at program.table f.contract ≡ Some own → own.interface ≡ false
+      → signature_at own tx ≡ Some s → length vs ≡ length s.params
       → SameFrame f m.top → x ≡ reference (self_of f.slots) → e.slots ≡ bound_slots nothing 0 (all_parameters f.contract s)
       (x ∷ vs)
       → AllWaitFor program (option_map kind_of_resolved s.result) e.stack k (parts.waiting m) → SameWorld e.world v
       → StepsAlike program So (calls_this program e f tx s) (machine_calls.calls_this (code_of program) k tx vs m v)
-  calls_this_alike e f m k tx own s x vs v eo es many frame value slots below same =
+  calls_this_alike e f m k tx own s x vs v eo class es many frame value slots below same =
       alike_so program So (are_within program.table e.world.objects e.slots 0 (all_parameters f.contract s))
       (enters program e f.contract tx by_this f.share_entered) (machine_calls.calls_this (code_of program) k tx vs m v)
       (alike_as program So (enters program e f.contract tx by_this f.share_entered)
@@ -340,7 +343,7 @@ module _ (program : SilicaProgram) (checked : IsEmittable program) (So : Configu
       frame.contract)
       (enters_alike e (caller m k) f.contract tx by_this f.share_entered own s m.top.this vs v (λ b. m.top.share_entered) eo es
       begins many (subst (λ g. AllWaitFor program g e.stack k (parts.waiting m)) (sym given) below) same
-      (λ terms so body. frame.share_entered)))
+      (λ terms so. class) (λ terms so body. frame.share_entered)))
     where
       first : e.slots 0 ≡ Some (bound_cell (typed.Reference f.contract s.entry) x)
       first =
@@ -370,13 +373,13 @@ module _ (program : SilicaProgram) (checked : IsEmittable program) (So : Configu
   -- a `new`, once its unit is taken
   pub makes_object_alike : (e : Entered) (by : Caller) (id : ContractId) (own : Contract) (s : Signature)
       (constructor : Option TxId) (vs : List Value)
-      (v : World) → contract_at program.table id ≡ Some own → signature_at own constructor_id ≡ Some s → constructor
-      ≡ Some constructor_id
+      (v : World) → contract_at program.table id ≡ Some own → own.interface ≡ false → signature_at own constructor_id ≡ Some s
+      → constructor ≡ Some constructor_id
       → length vs ≡ length s.params → e.slots ≡ bound_slots nothing 1 (parameters s) vs
       → AllWaitFor program (Some (Reference id)) e.stack by.into by.frames → SameWorld e.world v
       → StepsAlike program So (makes_object program e id constructor_id s)
       (machine_calls.makes_object (code_of program) by id constructor vs v)
-  makes_object_alike e by id own s constructor vs v eo es made many slots below same =
+  makes_object_alike e by id own s constructor vs v eo class es made many slots below same =
       by_reads (λ z. StepsAlike program So (makes_object program e id constructor_id s) (next_read by id constructor vs z))
       (same_read next_item same)
       (λ items r.
@@ -394,7 +397,7 @@ module _ (program : SilicaProgram) (checked : IsEmittable program) (So : Configu
       (enters_alike (entered_new (record e { world = with_read e.world next_item }) id) by id constructor_id by_new false own s
       (length e.world.objects) vs (make_object (reading items (with_read e.world next_item)) (unfinished id)) (λ b. false) eo es
       begins many below (same_make (unfinished id) (same_reading (with_read e.world next_item) items r))
-      (λ terms so body. refl)))))
+      (λ terms so. class) (λ terms so body. refl)))))
     where
       begins : BeginsWith (at e.slots 0 (Some (new_cell id (length e.world.objects)))) id (length e.world.objects)
           (parameters s) vs

@@ -2,21 +2,24 @@
 use Rattle.std.proofs.Common.{◌≡◌, ℕ, ◌+◌, false, Bool, List, [], ◌∷◌, ◌++◌, length, Option, Some, refl, sym, ap, ◌∙◌, subst, arith, length-append}
 use Rattle.std.specs.Prelude.{◌||◌, slice_get, ⊤}
 use Rattle.ob_base.specs.declared.fault.Span.{Span}
-use Rattle.ob_table.specs.Tables.{ClassTable}
+use Rattle.ob_table.specs.Tables.{ClassTable, contract_at}
+use Rattle.ob_table.specs.declared.contract.Contract.{Contract}
 use Rattle.ob_heap_spec.specs.Worlds.{World, SameWorld}
 use Rattle.ob_silica.specs.Terms.{SilicaForm, SilicaTerms, and_term}
 use Rattle.ob_silica_formed.specs.Holdings.{Holdings, form_ends, terms_end, after_form}
-use Rattle.ob_silica_steps.specs.Configurations.{SilicaProgram, Rest, Control, runs, leaves, Configuration}
+use Rattle.ob_silica_steps.specs.Configurations.{SilicaProgram, Rest, Control, runs, leaves, Configuration, goes}
+use Rattle.ob_silica_steps.specs.Steps as silica_steps
 use Rattle.ob_silica_steps.specs.Here.{Here, goes_to, self_of}
-use Rattle.ob_coherent_spec.specs.Coherent.{Beginning, IsRunning, IsCoherent, running, leaving, returning}
-use Rattle.ob_coherent_spec.specs.Remaining.{IsWellFormedForm}
+use Rattle.ob_coherent_spec.specs.Coherent.{Beginning, Holds, IsRunning, IsCoherent, running, leaving, returning}
+use Rattle.ob_coherent_spec.specs.Remaining.{IsWellFormedForm, IsCheckedProgram}
 use Rattle.ob_code.specs.declared.instruction.Instruction.{Instruction}
 use Rattle.ob_machine_steps.specs.Configurations as machine
 use Rattle.ob_machine_steps.specs.Images.{instruction_at}
 use Rattle.ob_machine_steps.specs.Slots.{Slots}
 use Rattle.ob_machine_steps.specs.Steps.{act, next_instruction}
 use Rattle.ob_emit_spec.specs.Emission.{EmissionFrame, form_code, terms_code}
-use Rattle.ob_emit_correct.specs.Law.{IsEmittable, code_of}
+use Rattle.ob_lower_correct.proofs.Standing.{some_same}
+use Rattle.ob_emit_correct.specs.Law.{code_of}
 use Rattle.ob_emit_correct.proofs.Placing.{HasAt, AreEmitted, Around, Stands, KindsHold}
 use Rattle.ob_emit_correct.proofs.Matching.{HasBody, frame_in, code_in, slots_in, SameSlots, GoesOnWith, kind_given_by, AllWaitFor, as_running, Does}
 use Rattle.ob_emit_correct.proofs.Agreeing.{instruction_found}
@@ -78,10 +81,11 @@ machine_at m place slots w = record { top = record m.top { at = place; slots = s
 -- A coherent configuration is about to run a form, and the machine stands for it.
 pub record FormStep (program : SilicaProgram) (form : SilicaForm) (span : Span) (rest : SilicaTerms) (outer : List Rest)
     (c : Configuration) (m : machine.Configuration) : Type 0 where
-  pub checked : IsEmittable program
+  pub checked : IsCheckedProgram program
   pub entry : Option ℕ
   pub beginning : Beginning
   pub coherent : IsRunning program.table entry beginning c
+  pub next : (d : Configuration) → silica_steps.act program form rest outer c ≡ goes d → IsCoherent program.table entry beginning d
   pub goes_on : GoesOnWith program c.frame (and_term form span rest) outer m.top
   pub kinds : KindsHold goes_on.holdings c.frame.slots
   pub below : AllWaitFor program (kind_given_by program c.frame) c.stack m.top.into m.below
@@ -99,6 +103,19 @@ pub running_of : {table : ClassTable} {entry : Option ℕ} {beginning : Beginnin
 running_of terms outer e (running r) = r
 running_of terms outer e (leaving l) = absurd (subst IsRuns (sym e ∙ l.control) tt)
 running_of terms outer e (returning l) = absurd (subst IsRuns (sym e ∙ l.control) tt)
+
+-- the contract whose body a frame runs is no interface
+pub runs_class : (table : ClassTable) (entry : Option ℕ) (beginning : Beginning) (d : Configuration) (own : Contract)
+    → contract_at table d.frame.contract ≡ Some own → IsCoherent table entry beginning d → own.interface ≡ false
+runs_class table entry beginning d own eo coherent = by coherent
+  where
+    of : Holds table entry beginning d → own.interface ≡ false
+    of whole = subst (λ (o : Contract). o.interface ≡ false) (some_same whole.parts.own own (sym whole.frame.own ∙ eo)) whole.frame.class
+
+    by : IsCoherent table entry beginning d → own.interface ≡ false
+    by (running r) = of r.whole
+    by (leaving l) = of l.whole
+    by (returning r) = of r.whole
 
 module _ {program : SilicaProgram} {form : SilicaForm} {span : Span} {rest : SilicaTerms} {outer : List Rest} {c : Configuration}
     {m : machine.Configuration} (x : FormStep program form span rest outer c m) where

@@ -1,5 +1,5 @@
 -- Runs: the machine does each step of the terms, and so it ends as they do.
-use Rattle.std.proofs.Common.{◌≡◌, ℕ, zero, suc, ◌+◌, List, Option, Some, refl, sym, subst}
+use Rattle.std.proofs.Common.{◌≡◌, ℕ, zero, suc, ◌+◌, List, Option, Some, refl, sym, ap, ◌∙◌, subst}
 use Rattle.ob_base.specs.declared.fault.Span.{Span}
 use Rattle.ob_heap_spec.specs.Worlds.{SameWorld}
 use Rattle.ob_silica.specs.Terms.{SilicaForm, unit_form, const_form, op_form, copy_form, move_form, new_form, call_form, call_this_form, change_form, test_form, if_form, assert_form, disown_form, drop_form, return_form, revert_form, bad_row_form, SilicaTerms, no_terms, and_term}
@@ -8,11 +8,12 @@ use Rattle.ob_silica_steps.specs.Configurations.{SilicaProgram, Rest, runs, Conf
 use Rattle.ob_silica_steps.specs.Starting.{first_notes, started_call, started_new}
 use Rattle.ob_silica_steps.specs.Steps.{act, run_step, control_step, step, then_steps, steps}
 use Rattle.ob_coherent_spec.specs.Coherent.{Beginning, IsCoherent, StepsSo}
+use Rattle.ob_coherent_spec.specs.Remaining.{IsCheckedProgram}
 use Rattle.ob_machine_steps.specs.Configurations as machine
 use Rattle.ob_machine_steps.specs.Entries.{Phase, starting, running, marked_world}
 use Rattle.ob_machine_steps.specs.Meanings.{entry_of_constructor, entry_of_transaction}
 use Rattle.ob_machine_steps.specs.Runs.{paused, after_steps}
-use Rattle.ob_emit_correct.specs.Law.{IsEmittable, code_of, EndsAlike, CallsEndAlike, NewsEndAlike}
+use Rattle.ob_emit_correct.specs.Law.{code_of, EndsAlike, CallsEndAlike, NewsEndAlike}
 use Rattle.ob_emit_correct.proofs.Branching.{if_does, pop_does}
 use Rattle.ob_emit_correct.proofs.Calling.{call_does, call_this_does, new_does}
 use Rattle.ob_emit_correct.proofs.Changing.{change_does}
@@ -50,20 +51,22 @@ form_does program (return_form place) span rest outer c m x = return_does place 
 form_does program (revert_form o) span rest outer c m x = revert_does x
 form_does program bad_row_form span rest outer c m x = record { by = tt }
 
-module _ (program : SilicaProgram) (checked : IsEmittable program) (entry : Option ℕ) (beginning : Beginning) where
+module _ (program : SilicaProgram) (checked : IsCheckedProgram program) (entry : Option ℕ) (beginning : Beginning) where
   -- the step of a frame that runs terms
   run_does : (c : Configuration) (m : machine.Configuration) → IsCoherent program.table entry beginning c
       → (terms : SilicaTerms) (outer : List Rest)
+      → ((d : Configuration) → run_step program terms outer c ≡ goes d → IsCoherent program.table entry beginning d)
       → c.control ≡ runs terms outer → (g : GoesOnWith program c.frame terms outer m.top) → KindsHold g.holdings c.frame.slots
       → AllWaitFor program (kind_given_by program c.frame) c.stack m.top.into m.below → SameWorld c.world m.world
       → Does program m (run_step program terms outer c)
-  run_does c m coherent no_terms outer control g kinds below world = pop_does program c m outer g kinds below world
-  run_does c m coherent (and_term form span rest) outer control g kinds below world =
+  run_does c m coherent no_terms outer next control g kinds below world = pop_does program c m outer g kinds below world
+  run_does c m coherent (and_term form span rest) outer next control g kinds below world =
       form_does program form span rest outer c m (record {
         checked = checked;
         entry = entry;
         beginning = beginning;
         coherent = running_of (and_term form span rest) outer control coherent;
+        next = next;
         goes_on = g;
         kinds = kinds;
         below = below;
@@ -71,12 +74,14 @@ module _ (program : SilicaProgram) (checked : IsEmittable program) (entry : Opti
       })
 
   -- one step
-  step_does : (c : Configuration) (m : machine.Configuration) → IsCoherent program.table entry beginning c → Matches program c m
+  step_does : (c : Configuration) (m : machine.Configuration) → IsCoherent program.table entry beginning c
+      → ((d : Configuration) → step program c ≡ goes d → IsCoherent program.table entry beginning d) → Matches program c m
       → Does program m (step program c)
-  step_does c m coherent (as_running r) =
+  step_does c m coherent next (as_running r) =
       subst (λ k. Does program m (control_step program k c)) (sym r.control)
-      (run_does c m coherent r.terms r.outer r.control r.goes_on r.kinds r.below r.world)
-  step_does c m coherent (as_leaving l) = leave_does program entry beginning c m coherent l
+      (run_does c m coherent r.terms r.outer (λ d e. next d (ap (λ k. control_step program k c) r.control ∙ e))
+      r.control r.goes_on r.kinds r.below r.world)
+  step_does c m coherent next (as_leaving l) = leave_does program entry beginning c m coherent l
 
   -- Steps, one after another.
 
@@ -115,7 +120,8 @@ module _ (program : SilicaProgram) (checked : IsEmittable program) (entry : Opti
       → Matches program c m → EndsAlike (code_of program) (running m) (steps program k c)
   steps_end zero c m all matched = tt
   steps_end (suc k) c m all matched =
-      ends_next (running m) (step program c) k (step_does c m (all 0) matched).by
+      ends_next (running m) (step program c) k
+      (step_does c m (all 0) (λ d e. from_next (step program c) d e (λ j. all (suc j)) 0) matched).by
       (λ d n e g. steps_end k d n (from_next (step program c) d e (λ j. all (suc j))) g)
 
   -- a run from where it starts

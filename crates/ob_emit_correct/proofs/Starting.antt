@@ -24,6 +24,7 @@ use Rattle.ob_silica_steps.specs.Entering.{calls_object, makes_object}
 use Rattle.ob_silica_steps.specs.Here.{with_unit}
 use Rattle.ob_silica_steps.specs.Starting.{pass_all, alone, started_call, started_new}
 use Rattle.ob_coherent_spec.specs.Coherent.{Beginning, IsCoherent, running, leaving, returning, Holds}
+use Rattle.ob_coherent_spec.specs.Remaining.{IsCheckedProgram}
 use Rattle.ob_machine_steps.specs.Entries.{MachineEntry, starting, args_come_in, comes_into_body, marked_world, nobody, next_step}
 use Rattle.ob_machine_steps.specs.Entries as entries
 use Rattle.ob_machine_steps.specs.ImageTables.{type_of_param}
@@ -33,9 +34,11 @@ use Rattle.ob_lower_correct.proofs.Binding.{come_all, bound_slots}
 use Rattle.ob_lower_correct.proofs.CallsThis.{parameters_length}
 use Rattle.ob_lower_correct.proofs.Changes.{same_or}
 use Rattle.ob_lower_correct.proofs.Outside.{passes}
-use Rattle.ob_lower_correct.proofs.Standing.{none_some}
-use Rattle.ob_emit_correct.specs.Law.{IsEmittable, code_of}
+use Rattle.ob_lower_correct.proofs.Standing.{none_some, some_same}
+use Rattle.ob_places_laws.proofs.Tables as tables
+use Rattle.ob_emit_correct.specs.Law.{code_of}
 use Rattle.ob_emit_correct.proofs.Agreeing.{signed_found}
+use Rattle.ob_emit_correct.proofs.Placed.{runs_class}
 use Rattle.ob_emit_correct.proofs.Entering.{StepsAlike, does_in_one, alike_there, alike_unit, calls_object_alike, makes_object_alike}
 use Rattle.ob_emit_correct.proofs.Matching.{DoesTo}
 use Rattle.ob_emit_correct.proofs.Worlds.{same_self, same_unit}
@@ -136,7 +139,7 @@ plain_coherent table entry beginning d own eo eh (returning r) = plain_body tabl
 
 -- Starts.
 
-module _ (program : SilicaProgram) (checked : IsEmittable program) (entry : Option ℕ) (beginning : Beginning) where
+module _ (program : SilicaProgram) (checked : IsCheckedProgram program) (entry : Option ℕ) (beginning : Beginning) where
   abbrev So : Configuration → Type 0
   So d = IsCoherent program.table entry beginning d
 
@@ -186,7 +189,8 @@ module _ (program : SilicaProgram) (checked : IsEmittable program) (entry : Opti
             (entries.enters (code_of program) call_entry (Some n))
             (λ k. calls_object_alike program checked So (alone slots notes (with_unit_taken come k)) nobody contract tx s n args
             (with_unit_taken marked k) es counted refl tt (same_unit k same)
-            (λ d own t eo answers et eh so. plain_coherent program.table entry beginning d own eo eh so)))
+            (λ d own t eo answers et eh so. plain_coherent program.table entry beginning d own eo eh so)
+            (λ d own eo so. runs_class program.table entry beginning d own eo so)))
         go (inr other) =
             subst (λ z. StepsAlike program So z (next_step (code_of program) (starting call_entry marked)))
             (sym (pass_stuck (reference n ∷ args) 0 (all_parameters contract s) nothing w next other)) (record { by = tt })
@@ -213,6 +217,10 @@ module _ (program : SilicaProgram) (checked : IsEmittable program) (entry : Opti
       where
         found : IsSigned program.table contract constructor_id s
         found = constructor_signed program.table contract s es
+
+        class : found.own.interface ≡ false
+        class = let c = tables.constructor_found program.table checked.table contract s es in
+            subst (λ (o : Contract). o.interface ≡ false) (some_same c.0 found.own (sym c.1 ∙ found.is_own)) c.2
 
         slots : SlotCells
         slots = bound_slots nothing 1 (parameters s) args
@@ -247,7 +255,7 @@ module _ (program : SilicaProgram) (checked : IsEmittable program) (entry : Opti
             (entries.enters (code_of program) new_entry None)
             (λ k. makes_object_alike program checked So (alone slots notes (with_unit_taken come k)) nobody contract found.own s
             (Some constructor_id) args (with_unit_taken marked k)
-            found.is_own found.is_signature refl counted refl tt (same_unit k same)))
+            found.is_own class found.is_signature refl counted refl tt (same_unit k same)))
         go (inr other) =
             subst (λ z. StepsAlike program So z (next_step (code_of program) (starting new_entry marked)))
             (sym (pass_stuck args 1 (parameters s) nothing w next other)) (record { by = tt })

@@ -1,11 +1,8 @@
 -- Emission keeps the meaning of a program: a run by Silica steps and by the machine (this project's own).
-use Rattle.std.specs.Prelude.{◌≡◌, ℕ, true, List, All, Option, Some, None, find, ⊤}
+use Rattle.std.specs.Prelude.{◌≡◌, ℕ, List, Option, Some, ⊤}
 use Rattle.ob_heap_spec.specs.Values.{Value}
 use Rattle.ob_heap_spec.specs.Worlds.{World, Spent, SameWorld, SameSpent}
-use Rattle.ob_table.specs.Tables.{contract_at}
-use Rattle.ob_table.specs.declared.contract.Contract.{Contract}
-use Rattle.ob_table_spec.specs.Conditions.{IsClassTable}
-use Rattle.ob_silica_steps.specs.Configurations.{SilicaProgram, is_terms_of, NextStep, HandleNote, goes, ended, aborted, stuck}
+use Rattle.ob_silica_steps.specs.Configurations.{SilicaProgram, NextStep, HandleNote, goes, ended, aborted, stuck}
 use Rattle.ob_silica_steps.specs.Starting.{first_notes, started_call, started_new}
 use Rattle.ob_silica_steps.specs.Steps.{then_steps, steps}
 use Rattle.ob_base.specs.declared.id.ContractId.{ContractId}
@@ -17,18 +14,9 @@ use Rattle.ob_machine_steps.specs.Meanings.{entry_of_constructor, entry_of_trans
 use Rattle.ob_machine_steps.specs.Runs.{over, after_steps}
 use Rattle.ob_machine_steps.specs.Entries.{marked_world}
 use Rattle.ob_coherent_spec.specs.Coherent.{Beginning, StepsSo}
-use Rattle.ob_coherent_spec.specs.Remaining.{IsCheckedBody, HasTerms}
+use Rattle.ob_coherent_spec.specs.Remaining.{IsCheckedProgram}
 use Rattle.ob_silica_steps.specs.Calling.{constructor_id}
 use Rattle.ob_emit_spec.specs.EmittedImages.{image_of}
-
--- What emission needs of a program: its class table meets the conditions; each constructor and transaction of a contract has terms,
--- and none of an interface; and each body is well-formed and derives.
-pub record IsEmittable (program : SilicaProgram) : Type 0 where
-  pub table : IsClassTable program.table
-  pub terms : HasTerms program
-  pub interfaces : (id : ContractId) (tx : TxId) (own : Contract) → contract_at program.table id ≡ Some own → own.interface ≡ true
-      → find (is_terms_of id tx) program.bodies ≡ None
-  pub bodies : All (IsCheckedBody program.table) program.bodies
 
 -- the image of a program
 abbrev pub code_of : SilicaProgram → Image
@@ -47,7 +35,7 @@ EndsAlike image p stuck = ⊤
 abbrev pub CallsEndAlike : Type 0
 CallsEndAlike =
     (program : SilicaProgram) (contract : ContractId) (tx : TxId) (n : ℕ) (args : List Value) (handles : List HandleNote)
-    (w : World) (entry : Option ℕ) (beginning : Beginning) → IsEmittable program
+    (w : World) (entry : Option ℕ) (beginning : Beginning) → IsCheckedProgram program
     → ((k : ℕ) → StepsSo program.table entry beginning
     (then_steps (started_call program contract tx n args (first_notes program.table w.objects handles) w) (steps program k)))
     → (k : ℕ) → EndsAlike (code_of program)
@@ -58,7 +46,7 @@ CallsEndAlike =
 abbrev pub NewsEndAlike : Type 0
 NewsEndAlike =
     (program : SilicaProgram) (contract : ContractId) (args : List Value) (handles : List HandleNote)
-    (w : World) (entry : Option ℕ) (beginning : Beginning) → IsEmittable program
+    (w : World) (entry : Option ℕ) (beginning : Beginning) → IsCheckedProgram program
     → ((k : ℕ) → StepsSo program.table entry beginning
     (then_steps (started_new program contract args (first_notes program.table w.objects handles) w) (steps program k)))
     → (k : ℕ) → EndsAlike (code_of program)

@@ -112,7 +112,7 @@ tested_unnamed meaning table content fuel e reads (Some u) =
     ap (λ state. left_as_it_was content (aborted (outside_cause content.objects u) state) reads)
     (told_unnamed table content.objects (outside_cause content.objects u))
 
-outside_unnamed : (table : ClassTable) (content : Content) (e : Entry)
+pub outside_unnamed : (table : ClassTable) (content : Content) (e : Entry)
     → first_outside_use (without_names table) content (entry_without_names e) ≡ first_outside_use table content e
 outside_unnamed table content e =
     ap (find (is_outside_use (without_names table) content.objects)) (uses_unnamed content e)

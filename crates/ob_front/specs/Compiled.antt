@@ -25,6 +25,7 @@ pub record IsCompiledProgram (table : ClassTable) (bodies : List SilicaBody) : T
 abbrev pub IsSoundProgram : ClassTable → List SilicaBody → Type 0
 IsSoundProgram table bodies = IsPermissionSound (record { table = table; bodies = bodies })
 
--- An image is sound code of such a program: each request on a store at rest comes by it to what the source meaning says.
+-- An image is sound code of such a program: it is a sound image, and each request on a store at rest comes by it to what the source
+-- meaning says.
 abbrev pub HasSoundCode : ClassTable → List SilicaBody → Image → Type 0
 HasSoundCode table bodies image = IsSoundCode (record { table = table; bodies = bodies }) image

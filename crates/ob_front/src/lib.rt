@@ -12,8 +12,8 @@ mod verifying;
 pub use checking::next_fault;
 pub use programs::{
     Compiled, LoweredProgram, accepted_texts_are_compiled, accepted_texts_are_sound,
-    accepted_texts_have_sound_code, check_program, compile, lowered, never_accepted_and_faulty,
-    one_text_fault,
+    accepted_texts_have_sound_code, check_program, checked_programs_have_sound_images, compile,
+    lowered, never_accepted_and_faulty, one_text_fault,
 };
 pub use seen::{AskedProgram, Seen};
 pub use stages::{CompileError, class_table, syntax_tree};

@@ -6,7 +6,10 @@ ghost use Rattle.ob_silica.specs.TermsView.{silica_body_of};
 ghost use Rattle.ob_table.specs.Tables.{ClassTable};
 ghost use Rattle.ob_code.specs.Images.{image};
 ghost use Rattle.ob_code.specs.declared.image.Image.{Image};
+ghost use Rattle.ob_coherent_spec.specs.Remaining.{IsCheckedProgram};
 ghost use Rattle.ob_emit_spec.specs.EmittedImages.{image_of};
+ghost use Rattle.ob_silica_steps.specs.Configurations.{SilicaProgram};
+ghost use Rattle.ob_sound_code.specs.SoundCode.{IsSoundImage};
 ghost use Rattle.ob_front.specs.Programs.{HasTerms, HasTermsFault, IsChecked, IsProgram, IsAccepted, HasTextFault};
 ghost use Rattle.ob_front.specs.Compiled.{IsCompiledProgram, IsSoundProgram, HasSoundCode};
 ghost use Rattle.ob_base.specs.TextErrors.{OnFault};
@@ -151,6 +154,13 @@ pub fn accepted_texts_are_sound()
 pub fn accepted_texts_have_sound_code()
     ensures { (text : List ℕ) (table : ClassTable) (bodies : List SilicaBody) → IsProgram text table bodies
         → HasSoundCode table bodies (image_of table bodies) }
+{}
+
+/// The image of a class table and terms that are well-formed and derive is sound, wherever they come from: the machine always has a next
+/// step until a run is over, no request on a store at rest goes wrong, and each leaves the store at rest. What is at rest is said with the
+/// class table that the image gives, and nothing is asked of a source.
+pub fn checked_programs_have_sound_images()
+    ensures { (program : SilicaProgram) → IsCheckedProgram program → IsSoundImage (image_of program.table program.bodies) }
 {}
 
 /// A text that is accepted has no first fault.

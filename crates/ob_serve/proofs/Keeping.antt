@@ -161,14 +161,14 @@ module _ (program : SilicaProgram) (image : Image) (fuel : ℕ) (area : Option �
   pub request_rests : (content : Content) (request : asked.Request) → IsStoreAtRest (table_of_image image) content → HasLabels request
       → KeepsStoreAtRest (table_of_image image) (machine_invocation image content request fuel)
   request_rests content request rests labels =
-      invoked_rests program image (machine_invocation image content request fuel) for (sound.rests content request fuel (rests_by_source program image for content rests) labels)
+      invoked_rests program image (machine_invocation image content request fuel) for (sound.by_table.rests content request fuel (rests_by_source program image for content rests) labels)
 
   asked_same : (s : StoreState) (asked : Result Request Refusal) → IsStoreAtRest program.table s.content → IfOk asked (λ request. HasLabels (request_of request))
       → item_of_asked (by_machine image fuel area) s asked ≡ item_of_asked (by_source program.table fuel area) s asked
   asked_same s (Err refusal) rests labels = refl
   asked_same s (Ok request) rests labels =
       same_item program image fuel area s request.id (source_invocation program.table s.content (request_of request) fuel) (machine_invocation image s.content (request_of request) fuel)
-      for (sound.requests s.content (request_of request) fuel rests labels)
+      for (sound.source.requests s.content (request_of request) fuel rests labels)
 
   asked_kept : (s : StoreState) (asked : Result Request Refusal) → IsStoreAtRest program.table s.content → IfOk asked (λ request. HasLabels (request_of request))
       → IsKept program.table s (item_of_asked (by_source program.table fuel area) s asked)
@@ -176,7 +176,7 @@ module _ (program : SilicaProgram) (image : Image) (fuel : ℕ) (area : Option �
   asked_kept s (Ok request) rests labels =
       invoked_kept program.table fuel area s request.id (source_invocation program.table s.content (request_of request) fuel) rests
       (rests_alike program.table (source_invocation program.table s.content (request_of request) fuel) (machine_invocation image s.content (request_of request) fuel)
-      (sound.requests s.content (request_of request) fuel rests labels) (sound.rests s.content (request_of request) fuel rests labels))
+      (sound.source.requests s.content (request_of request) fuel rests labels) (sound.by_table.rests s.content (request_of request) fuel rests labels))
       (leaves (source_meaning program.table fuel) program.table s.content (request_of request) fuel)
 
   line_same : (s : StoreState) (line : List ℕ) → IsStoreAtRest program.table s.content → item_of (by_machine image fuel area) s line ≡ item_of (by_source program.table fuel area) s line

@@ -1,8 +1,9 @@
 -- What is kept by each step, and by any number of them (this project's own).
-use Rattle.std.specs.Prelude.{◌≡◌, ◌+◌, ◌≤◌, ⊤}
+use Rattle.std.specs.Prelude.{◌≡◌, ℕ, ◌+◌, ◌≤◌, ⊤}
 use Rattle.ob_heap_spec.specs.Worlds.{World, Spent}
 use Rattle.ob_source_laws.specs.Laws.{Grows, KeepsObjects}
-use Rattle.ob_silica_steps.specs.Configurations.{NextStep, goes, ended, aborted, stuck}
+use Rattle.ob_silica_steps.specs.Configurations.{SilicaProgram, NextStep, goes, ended, aborted, stuck}
+use Rattle.ob_silica_steps.specs.Steps.{then_steps, steps}
 
 -- where steps lead to a world, the first holds of it; where they abort, the second of what the run has spent
 abbrev pub LeadsSo : (World → Type 0) → (Spent → Type 0) → NextStep → Type 0
@@ -29,3 +30,7 @@ IsOver (goes c) = ⊥
 IsOver (ended result w) = ⊤
 IsOver (aborted cause s) = ⊤
 IsOver stuck = ⊤
+
+-- Each run comes to an end: after some number of steps no further step follows, whatever the program.
+abbrev pub RunsEnd : Type 0
+RunsEnd = (program : SilicaProgram) (start : NextStep) → (n : ℕ) × IsOver (then_steps start (steps program n))

@@ -7,7 +7,7 @@ ghost use Rattle.ob_heap_spec.specs.Worlds.{World};
 ghost use Rattle.ob_silica_steps.specs.Configurations.{SilicaProgram, Configuration, Notes};
 ghost use Rattle.ob_silica_steps.specs.Steps.{then_steps, steps};
 ghost use Rattle.ob_silica_steps.specs.Starting.{started_call, started_new};
-ghost use Rattle.ob_silica_laws.specs.Laws.{UnitsAddUp, ReadsGrow, ObjectsStay, IsOver};
+ghost use Rattle.ob_silica_laws.specs.Laws.{UnitsAddUp, ReadsGrow, ObjectsStay, IsOver, RunsEnd};
 
 /// Units left and units taken add up to those that were there, after any number of steps and for each run from
 /// outside; an aborted run has taken no more than were there.
@@ -47,4 +47,10 @@ pub fn objects_stay()
         → ObjectsStay w (then_steps (started_call program contract tx n args notes w) (steps program most)) }
     ensures news { (program : SilicaProgram) (most : ℕ) (contract : ContractId) (args : List Value) (notes : Notes)
         (w : World) → ObjectsStay w (then_steps (started_new program contract args notes w) (steps program most)) }
+{}
+
+/// Each run comes to an end, whatever its program: a form takes as many steps as its parts say, each loan of a call takes one to go back,
+/// and each body that is entered takes a unit.
+pub fn runs_end()
+    ensures { RunsEnd }
 {}

@@ -3,4 +3,4 @@
 
 mod laws;
 
-pub use laws::{objects_stay, reads_grow, steps_are_enough, units_add_up};
+pub use laws::{objects_stay, reads_grow, runs_end, steps_are_enough, units_add_up};

@@ -2,5 +2,5 @@ pub mod Marks
 pub mod Meanings
 pub mod Running
 pub mod Sound
-pub mod Emittable
+pub mod Naming
 pub mod Whole

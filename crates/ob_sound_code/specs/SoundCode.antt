@@ -1,4 +1,4 @@
--- Sound code: what is so of the image of each accepted program (this project's own).
+-- Sound code: what is so of the image of each program whose terms are well-formed and derive (this project's own).
 use Rattle.std.specs.Prelude.{◌≡◌, ℕ, List, All, ⊤}
 use Rattle.ob_table.specs.Tables.{ClassTable}
 use Rattle.ob_table_spec.specs.WellFormed.{HasBodies}
@@ -13,10 +13,11 @@ use Rattle.ob_invocation_spec.specs.Replies.{Invoked, Invocation, invoked, goes_
 use Rattle.ob_invocation_spec.specs.Entries.{Entry}
 use Rattle.ob_invocation_spec.specs.SourceInvocation.{source_invocation}
 use Rattle.ob_invocation_laws.specs.Laws.{KeepsStoreAtRest}
-use Rattle.ob_coherent_spec.specs.Remaining.{IsCheckedBody}
+use Rattle.ob_coherent_spec.specs.Remaining.{IsCheckedBody, IsCheckedProgram}
 use Rattle.ob_soundness_laws.specs.Requests.{IsEntered}
 use Rattle.ob_code.specs.declared.image.Image.{Image}
 use Rattle.ob_machine_steps.specs.Entries.{started}
+use Rattle.ob_machine_steps.specs.ImageTables.{table_of_image}
 use Rattle.ob_machine_steps.specs.Meanings.{machine_invocation, entry_of_request}
 use Rattle.ob_machine_laws.specs.Laws.{IsSoundRun}
 use Rattle.ob_emit_spec.specs.EmittedImages.{image_of}
@@ -34,20 +35,41 @@ SameInvocation (invoked a) (invoked b) = SameInvoked a b
 SameInvocation goes_wrong goes_wrong = ⊤
 SameInvocation a b = ⊥
 
--- Sound code of a program.
-pub record IsSoundCode (program : SilicaProgram) (image : Image) : Type 0 where
+-- Code is sound, where what is at rest and what is entered are said with this class table.
+pub record IsSoundBy (table : ClassTable) (image : Image) : Type 0 where
   -- the run of what a request enters in a store at rest, with any number of units, has a next step wherever it isn't over
-  pub runs : (content : Content) (fuel : ℕ) (e : Entry) → IsStoreAtRest program.table content → IsEntered program.table content e
+  pub runs : (content : Content) (fuel : ℕ) (e : Entry) → IsStoreAtRest table content → IsEntered table content e
       → IsSoundRun image (started image (entry_of_request content e) content.objects fuel)
-  -- each request on a store at rest comes by the code to what it comes to by the source meaning
+  -- no request on a store at rest goes wrong, and each leaves the store at rest
+  pub rests : (content : Content) (request : Request) (fuel : ℕ) → IsStoreAtRest table content → HasLabels request
+      → KeepsStoreAtRest table (machine_invocation image content request fuel)
+
+-- Sound code, said of an image alone: with the class table that the image gives.
+abbrev pub IsSoundImage : Image → Type 0
+IsSoundImage image = IsSoundBy (table_of_image image) image
+
+-- Code goes as its source means: each request on a store at rest comes by it to what it comes to by the source meaning.
+pub record GoesAsItsSource (program : SilicaProgram) (image : Image) : Type 0 where
   pub requests : (content : Content) (request : Request) (fuel : ℕ) → IsStoreAtRest program.table content → HasLabels request
       → SameInvocation (source_invocation program.table content request fuel) (machine_invocation image content request fuel)
-  -- it doesn't go wrong, and leaves the store at rest
-  pub rests : (content : Content) (request : Request) (fuel : ℕ) → IsStoreAtRest program.table content → HasLabels request
-      → KeepsStoreAtRest program.table (machine_invocation image content request fuel)
 
--- The code of a program whose class table meets the conditions, whose bodies are well-formed and may be lowered to its terms, one for
--- each constructor and transaction, and whose terms are well-formed and derive, is sound.
+-- Sound code of a program: its image is sound, and so it is with the class table of the program, and it goes as the program means.
+pub record IsSoundCode (program : SilicaProgram) (image : Image) : Type 0 where
+  pub alone : IsSoundImage image
+  pub by_table : IsSoundBy program.table image
+  pub source : GoesAsItsSource program image
+
+-- The image of a class table that meets the conditions and of terms, one for each constructor and transaction, that are well-formed
+-- and derive, is sound. Nothing is asked of a source: neither bodies nor a meaning.
+abbrev pub CheckedImagesAreSound : Type 0
+CheckedImagesAreSound = (program : SilicaProgram) → IsCheckedProgram program → IsSoundImage (image_of program.table program.bodies)
+
+-- So it is with the class table from which it is made, whose names no image has.
+abbrev pub CheckedCodeIsSound : Type 0
+CheckedCodeIsSound = (program : SilicaProgram) → IsCheckedProgram program → IsSoundBy program.table (image_of program.table program.bodies)
+
+-- Where the terms are also those of well-formed bodies of the class table, one for each constructor and transaction, the code is sound
+-- code of the program.
 abbrev pub CompiledCodeIsSound : Type 0
 CompiledCodeIsSound =
     (table : ClassTable) (bodies : List SilicaBody) → IsLoweredProgram (record { table = table; bodies = bodies })

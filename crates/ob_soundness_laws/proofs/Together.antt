@@ -3,14 +3,14 @@ use Rattle.ob_invocation_spec.specs.Replies.{Invocation, invoked, goes_wrong}
 use Rattle.ob_invocation_laws.specs.Laws.{KeepsStoreAtRest}
 use Rattle.ob_invocation_laws.proofs.Still.{still_keeps}
 use Rattle.ob_table.specs.Tables.{ClassTable}
-use Rattle.ob_soundness_laws.specs.Requests.{BeginsSo, EndsSo, StillLeavesAtRest, NoRequestGoesWrong, RunsMeetStates}
+use Rattle.ob_soundness_laws.specs.Requests.{BeginsSo, EndsSo, StillLeavesAtRest, NoRequestGoesWrongBy, NoRequestGoesWrong, RunsMeetStates}
 use Rattle.ob_soundness_laws.specs.Sound.{CompiledProgramsAreSound}
 use Rattle.ob_soundness_laws.proofs.Begins.{begins_so}
 use Rattle.ob_soundness_laws.proofs.Keeping.{steps_keep}
 use Rattle.ob_soundness_laws.proofs.Rests.{ends_so}
 use Rattle.ob_soundness_laws.proofs.Sound.{compiled_are_sound}
 use Rattle.ob_soundness_laws.proofs.States.{runs_meet_states}
-use Rattle.ob_soundness_laws.proofs.Whole.{none_goes_wrong}
+use Rattle.ob_soundness_laws.proofs.Whole.{none_goes_wrong_by, none_goes_wrong}
 
 pub runs_begin : BeginsSo
 runs_begin = begins_so
@@ -26,6 +26,9 @@ kept_is_left table goes_wrong k = k
 still_leaves : StillLeavesAtRest
 still_leaves meaning table content request fuel is rests labels still =
     kept_is_left table _ (still_keeps meaning table content request fuel rests labels still)
+
+pub none_is_wrong_by : NoRequestGoesWrongBy
+none_is_wrong_by = none_goes_wrong_by steps_keep begins_so ends_so still_leaves
 
 pub none_is_wrong : NoRequestGoesWrong
 none_is_wrong = none_goes_wrong steps_keep begins_so ends_so still_leaves

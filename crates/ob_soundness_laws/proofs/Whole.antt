@@ -27,14 +27,14 @@ use Rattle.ob_invocation_laws.specs.Laws.{runs, KeepsStoreAtRest}
 use Rattle.ob_invocation_spec.specs.Entries.{HandleUse, Entry, entry_of_new, entry_of_call, values_of}
 use Rattle.ob_invocation_spec.specs.Checks.{check, refusal_of, reads_of, refused_or, with_found}
 use Rattle.ob_invocation_spec.specs.Refusals.{is_no_contract, is_not_main, is_no_transaction, argument_checks, found_checks, new_checks, call_checks}
-use Rattle.ob_invocation_spec.specs.Entering.{first_outside_use, entry_world, with_entry_lock, is_locked_at_entry, run_entry, run_on_receiver}
+use Rattle.ob_invocation_spec.specs.Entering.{first_outside_use, entry_world, with_entry_lock, is_locked_at_entry, Meaning, run_entry, run_on_receiver}
 use Rattle.ob_invocation_spec.specs.Invocation.{after_entry_test, enter_entry, invoke_new, invoke_call, invoke_operation}
 use Rattle.ob_invocation_spec.specs.Invocation.{ended as answered}
 use Rattle.ob_invocation_spec.specs.SourceInvocation.{source_meaning}
 use Rattle.ob_lower_correct.specs.Law.{IsLoweredProgram, EndsAs}
 use Rattle.ob_lower_correct.proofs.Law.{calls_keep_meaning, news_keep_meaning}
 use Rattle.ob_soundness_laws.specs.Running.{StepsKeep, EndsFrom}
-use Rattle.ob_soundness_laws.specs.Requests.{handles_in_run, entry_lock, beginning_of, started_on, started, IsEntered, by_request_new, by_request_call, BeginsSo, IsFirst, StartsSo, EndsSo, StillLeavesAtRest, NoRequestGoesWrong}
+use Rattle.ob_soundness_laws.specs.Requests.{handles_in_run, entry_lock, beginning_of, started_on, started, IsEntered, by_request_new, by_request_call, BeginsSo, IsFirst, StartsSo, EndsSo, StillLeavesAtRest, RunsAsTerms, NoRequestGoesWrongBy, NoRequestGoesWrong}
 use Rattle.ob_soundness_laws.proofs.Many.{never_stuck}
 use Rattle.ob_soundness_laws.proofs.Ending.{stays_itself, run_ends}
 use Rattle.ob_soundness_laws.proofs.Entries.{each_passes, each_after, has_passed, enters_new, enters_call, arguments_fit, fit_length}
@@ -112,7 +112,7 @@ module _ (keep : StepsKeep) (begins : BeginsSo) (program : SilicaProgram) (check
       go (aborted cause s) so starts is = absurd cc
       go stuck so starts is = absurd so
 
-  module _ (ends : EndsSo) (lowered : IsLoweredProgram program) (reads : List ReadItem) where
+  module _ (ends : EndsSo) (meaning : Meaning) (alike : RunsAsTerms meaning program content fuel) (reads : List ReadItem) where
     after_run : (outcome : RunOutcome (Option Value)) → EndsAs program (started program content fuel e) outcome
         → KeepsStoreAtRest program.table (answered program.table content e reads outcome)
     after_run (gives result w) (n, v, is, same) = let r = run_has_ended n result v is in
@@ -121,27 +121,27 @@ module _ (keep : StepsKeep) (begins : BeginsSo) (program : SilicaProgram) (check
     after_run wrong (n, is) = absurd (run_never_stuck n is)
 
     run_leaves : KeepsStoreAtRest program.table
-        (answered program.table content e reads (run_entry (source_meaning program.table fuel) content fuel e))
-    run_leaves = after_run (run_entry (source_meaning program.table fuel) content fuel e) (ends_as program checked lowered content fuel e entered)
+        (answered program.table content e reads (run_entry meaning content fuel e))
+    run_leaves = after_run (run_entry meaning content fuel e) (alike e entered)
 
 module _ (keep : StepsKeep) (begins : BeginsSo) (ends : EndsSo) (program : SilicaProgram)
-    (checked : IsCheckedProgram program) (lowered : IsLoweredProgram program) (content : Content)
-    (rests : IsStoreAtRest program.table content) (fuel : ℕ) where
+    (checked : IsCheckedProgram program) (content : Content) (rests : IsStoreAtRest program.table content) (fuel : ℕ)
+    (meaning : Meaning) (alike : RunsAsTerms meaning program content fuel) where
   -- what is entered, after its entry test
   entry_leaves : (e : Entry) (reads : List ReadItem)
       → (first_outside_use program.table content e ≡ None → IsEntered program.table content e)
-      → KeepsStoreAtRest program.table (enter_entry (source_meaning program.table fuel) program.table content fuel reads e)
+      → KeepsStoreAtRest program.table (enter_entry meaning program.table content fuel reads e)
   entry_leaves e reads entered = go (first_outside_use program.table content e) entered
     where
       go : (u : Option HandleUse) → (u ≡ None → IsEntered program.table content e)
-          → KeepsStoreAtRest program.table (after_entry_test (source_meaning program.table fuel) program.table content fuel e reads u)
-      go None entered = run_leaves keep begins program checked content rests fuel e (entered refl) ends lowered reads
+          → KeepsStoreAtRest program.table (after_entry_test meaning program.table content fuel e reads u)
+      go None entered = run_leaves keep begins program checked content rests fuel e (entered refl) ends meaning alike reads
       go (Some u) entered = rests
 
   found_leaves : (found : Option Entry) (reads : List ReadItem) → ((e : Entry) → found ≡ Some e
       → first_outside_use program.table content e ≡ None → IsEntered program.table content e) → found ≢ None
       → KeepsStoreAtRest program.table
-      (with_found found (enter_entry (source_meaning program.table fuel) program.table content fuel reads))
+      (with_found found (enter_entry meaning program.table content fuel reads))
   found_leaves None reads entered there = absurd (there refl)
   found_leaves (Some e) reads entered there = entry_leaves e reads (entered e refl)
 
@@ -237,15 +237,15 @@ main_enters table made content who r named main = go (contract_named table.contr
         (ap (λ (x : Option Signature). x >>= λ s. Some (new_entry who r id s)) s.1)
 
 module _ (keep : StepsKeep) (begins : BeginsSo) (ends : EndsSo) (still : StillLeavesAtRest) where
-  no_new_goes_wrong : (program : SilicaProgram) (content : Content) (who : List ℕ) (r : NewRequest) (fuel : ℕ)
-      → IsCheckedProgram program → IsLoweredProgram program → IsStoreAtRest program.table content
+  no_new_goes_wrong : (meaning : Meaning) (program : SilicaProgram) (content : Content) (who : List ℕ) (r : NewRequest) (fuel : ℕ)
+      → IsCheckedProgram program → RunsAsTerms meaning program content fuel → IsStoreAtRest program.table content
       → HasLabels (record { who = who; operation = new_request r })
-      → KeepsStoreAtRest program.table (invoke_new (source_meaning program.table fuel) program.table content fuel who r)
-  no_new_goes_wrong program content who r fuel checked lowered rests labels =
-      refused_leaves keep begins ends program checked lowered content rests fuel (refusal_of (new_checks program.table content who r))
+      → KeepsStoreAtRest program.table (invoke_new meaning program.table content fuel who r)
+  no_new_goes_wrong meaning program content who r fuel checked alike rests labels =
+      refused_leaves keep begins ends program checked content rests fuel meaning alike (refusal_of (new_checks program.table content who r))
       (reads_of (new_checks program.table content who r))
-      (λ reads. with_found (entry_of_new program.table who r) (enter_entry (source_meaning program.table fuel) program.table content fuel reads))
-      (λ passed. found_leaves keep begins ends program checked lowered content rests fuel (entry_of_new program.table who r)
+      (λ reads. with_found (entry_of_new program.table who r) (enter_entry meaning program.table content fuel reads))
+      (λ passed. found_leaves keep begins ends program checked content rests fuel meaning alike (entry_of_new program.table who r)
       (reads_of (new_checks program.table content who r))
       (λ e is within. by_request_new who r labels is passed within)
       (let all = each_after _ (argument_checks content who r.args)
@@ -253,15 +253,15 @@ module _ (keep : StepsKeep) (begins : BeginsSo) (ends : EndsSo) (still : StillLe
       ∷ found_checks program.table content (entry_of_new program.table who r)) (each_passes (new_checks program.table content who r) passed) in
       main_enters program.table checked.table content who r all.0 all.1.0))
 
-  no_call_goes_wrong : (program : SilicaProgram) (content : Content) (who : List ℕ) (r : CallRequest) (fuel : ℕ)
-      → IsCheckedProgram program → IsLoweredProgram program → IsStoreAtRest program.table content
+  no_call_goes_wrong : (meaning : Meaning) (program : SilicaProgram) (content : Content) (who : List ℕ) (r : CallRequest) (fuel : ℕ)
+      → IsCheckedProgram program → RunsAsTerms meaning program content fuel → IsStoreAtRest program.table content
       → HasLabels (record { who = who; operation = call_request r })
-      → KeepsStoreAtRest program.table (invoke_call (source_meaning program.table fuel) program.table content fuel who r)
-  no_call_goes_wrong program content who r fuel checked lowered rests labels =
-      refused_leaves keep begins ends program checked lowered content rests fuel (refusal_of (call_checks program.table content who r))
+      → KeepsStoreAtRest program.table (invoke_call meaning program.table content fuel who r)
+  no_call_goes_wrong meaning program content who r fuel checked alike rests labels =
+      refused_leaves keep begins ends program checked content rests fuel meaning alike (refusal_of (call_checks program.table content who r))
       (reads_of (call_checks program.table content who r))
-      (λ reads. with_found (entry_of_call program.table content who r) (enter_entry (source_meaning program.table fuel) program.table content fuel reads))
-      (λ passed. found_leaves keep begins ends program checked lowered content rests fuel (entry_of_call program.table content who r)
+      (λ reads. with_found (entry_of_call program.table content who r) (enter_entry meaning program.table content fuel reads))
+      (λ passed. found_leaves keep begins ends program checked content rests fuel meaning alike (entry_of_call program.table content who r)
       (reads_of (call_checks program.table content who r))
       (λ e is within. by_request_call who r labels is passed within)
       (let all = each_after _ (argument_checks content who r.args)
@@ -270,21 +270,27 @@ module _ (keep : StepsKeep) (begins : BeginsSo) (ends : EndsSo) (still : StillLe
       (each_passes (call_checks program.table content who r) passed).1 in
       is_some_of (entry_of_call program.table content who r) all.0))
 
-  -- each request
-  pub none_goes_wrong : NoRequestGoesWrong
-  none_goes_wrong program content request fuel checked lowered rests labels = go request.operation refl
+  -- each request, by whatever meaning
+  pub none_goes_wrong_by : NoRequestGoesWrongBy
+  none_goes_wrong_by meaning program content request fuel checked alike rests labels = go request.operation refl
     where
       go : (o : Operation) → request.operation ≡ o
-          → KeepsStoreAtRest program.table (invoke_operation (source_meaning program.table fuel) program.table content fuel request.who request.operation)
+          → KeepsStoreAtRest program.table (invoke_operation meaning program.table content fuel request.who request.operation)
       go (new_request r) is = subst (λ (o : Operation). KeepsStoreAtRest program.table
-          (invoke_operation (source_meaning program.table fuel) program.table content fuel request.who o)) (sym is)
-          (no_new_goes_wrong program content request.who r fuel checked lowered rests
+          (invoke_operation meaning program.table content fuel request.who o)) (sym is)
+          (no_new_goes_wrong meaning program content request.who r fuel checked alike rests
           (subst (λ (o : Operation). HasLabels (record { who = request.who; operation = o })) is labels))
       go (call_request r) is = subst (λ (o : Operation). KeepsStoreAtRest program.table
-          (invoke_operation (source_meaning program.table fuel) program.table content fuel request.who o)) (sym is)
-          (no_call_goes_wrong program content request.who r fuel checked lowered rests
+          (invoke_operation meaning program.table content fuel request.who o)) (sym is)
+          (no_call_goes_wrong meaning program content request.who r fuel checked alike rests
           (subst (λ (o : Operation). HasLabels (record { who = request.who; operation = o })) is labels))
-      go (disown_request on) is = still (source_meaning program.table fuel) program.table content request fuel checked.table rests labels (ap runs is)
-      go (give_request r) is = still (source_meaning program.table fuel) program.table content request fuel checked.table rests labels (ap runs is)
-      go (see_request on) is = still (source_meaning program.table fuel) program.table content request fuel checked.table rests labels (ap runs is)
-      go (owner_request on) is = still (source_meaning program.table fuel) program.table content request fuel checked.table rests labels (ap runs is)
+      go (disown_request on) is = still meaning program.table content request fuel checked.table rests labels (ap runs is)
+      go (give_request r) is = still meaning program.table content request fuel checked.table rests labels (ap runs is)
+      go (see_request on) is = still meaning program.table content request fuel checked.table rests labels (ap runs is)
+      go (owner_request on) is = still meaning program.table content request fuel checked.table rests labels (ap runs is)
+
+  -- and by the source meaning
+  pub none_goes_wrong : NoRequestGoesWrong
+  none_goes_wrong program content request fuel checked lowered rests labels =
+      none_goes_wrong_by (source_meaning program.table fuel) program content request fuel checked
+      (λ e entered. ends_as program checked lowered content fuel e entered) rests labels

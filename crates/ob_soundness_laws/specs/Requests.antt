@@ -35,11 +35,11 @@ use Rattle.ob_invocation_spec.specs.Handles.{NamedHandle, handle_name, handle_at
 use Rattle.ob_invocation_spec.specs.Entries.{HandleUse, Entry, mode_of_result, entry_of_new, entry_of_call, used_as_receiver, values_of, handle_uses}
 use Rattle.ob_invocation_spec.specs.Checks.{refusal_of}
 use Rattle.ob_invocation_spec.specs.Refusals.{has_other_count, has_other_kind, lacks_permission, repeats_object, lacks_into, has_needless_into, is_taken, new_checks, call_checks}
-use Rattle.ob_invocation_spec.specs.Entering.{first_outside_use, is_locked_at_entry, Meaning, entry_world, puts_after}
+use Rattle.ob_invocation_spec.specs.Entering.{first_outside_use, is_locked_at_entry, Meaning, entry_world, run_entry, puts_after}
 use Rattle.ob_invocation_spec.specs.Invocation.{invoke}
 use Rattle.ob_invocation_laws.specs.Laws.{runs as runs_body, is_put, puts_of_uses, KeepsStoreAtRest}
 use Rattle.ob_invocation_spec.specs.SourceInvocation.{source_invocation}
-use Rattle.ob_lower_correct.specs.Law.{IsLoweredProgram}
+use Rattle.ob_lower_correct.specs.Law.{IsLoweredProgram, EndsAs}
 use Rattle.ob_soundness_laws.specs.Running.{EndsFrom}
 
 -- What handles carry.
@@ -158,6 +158,19 @@ StillLeavesAtRest =
     (meaning : Meaning) (table : ClassTable) (content : Content) (request : Request) (fuel : ℕ) → IsClassTable table
     → IsStoreAtRest table content → HasLabels request → runs_body request.operation ≡ false
     → KeepsStoreAtRest table (invoke meaning table content request fuel)
+
+-- by a meaning, what is entered comes to what its run by the terms ends with
+abbrev pub RunsAsTerms : Meaning → SilicaProgram → Content → ℕ → Type 0
+RunsAsTerms meaning program content fuel =
+    (e : Entry) → IsEntered program.table content e → EndsAs program (started program content fuel e) (run_entry meaning content fuel e)
+
+-- No request goes wrong by a meaning that comes to what the terms of a checked program do: each request on a store at rest comes to a
+-- reply, whatever it asks and with any number of units, and leaves the store at rest.
+abbrev pub NoRequestGoesWrongBy : Type 0
+NoRequestGoesWrongBy =
+    (meaning : Meaning) (program : SilicaProgram) (content : Content) (request : Request) (fuel : ℕ) → IsCheckedProgram program
+    → RunsAsTerms meaning program content fuel → IsStoreAtRest program.table content → HasLabels request
+    → KeepsStoreAtRest program.table (invoke meaning program.table content request fuel)
 
 -- No request goes wrong: where a program is checked and lowered, each request on a store at rest comes to a reply, whatever it
 -- asks and with any number of units, and leaves the store at rest.

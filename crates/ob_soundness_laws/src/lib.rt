@@ -2,7 +2,7 @@
 //! request leaves the store at rest.
 #![tactic(auto)]
 
-ghost use Rattle.ob_soundness_laws.specs.Requests.{BeginsSo, EndsSo, NoRequestGoesWrong, RunsMeetStates};
+ghost use Rattle.ob_soundness_laws.specs.Requests.{BeginsSo, EndsSo, NoRequestGoesWrongBy, NoRequestGoesWrong, RunsMeetStates};
 ghost use Rattle.ob_soundness_laws.specs.Running.{StepsKeep};
 ghost use Rattle.ob_soundness_laws.specs.Sound.{CompiledProgramsAreSound};
 
@@ -19,11 +19,12 @@ pub fn runs_lead_from_rest_to_rest()
     ensures ends { EndsSo }
 {}
 
-/// Of a program that is lowered and checked no request on a store at rest goes wrong, with any number of units, and each leaves
-/// the store at rest. In each configuration of a run each object that a frame or a field owns is in one of the states that are
-/// noted there, and at a return in one of those that an owning exit declares: no transaction meets an object that it owns outside
-/// its states.
+/// Of a program that is checked no request on a store at rest goes wrong by a meaning that comes to what its terms do, with any number of
+/// units, and each leaves the store at rest. So it is by the source meaning of a program that is lowered and checked. In each
+/// configuration of a run each object that a frame or a field owns is in one of the states that are noted there, and at a return in one
+/// of those that an owning exit declares: no transaction meets an object that it owns outside its states.
 pub fn no_request_goes_wrong()
+    ensures by { NoRequestGoesWrongBy }
     ensures requests { NoRequestGoesWrong }
     ensures states { RunsMeetStates }
 {}
