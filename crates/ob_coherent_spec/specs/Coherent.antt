@@ -82,7 +82,7 @@ pub record Holds (table : ClassTable) (entry : Option ℕ) (beginning : Beginnin
   pub tested : (n : ℕ) → 0 < open_tests n c → 0 < times n c.world.progress
   -- an asset that must have an owner has one
   pub assets : (n : ℕ) → NeedsOwner table c.world.objects n → 0 < owners n c
-  -- what is noted of slots and fields is so
+  -- what is noted of slots, fields and handles is so
   pub slots : AllStand table c.world.objects c.frame.slots
   pub fields : (n : ℕ) → AllStand table c.world.objects (field_cell c.notes c.world.objects n)
   pub handles : HandlesStand c.world.objects c.notes.handles

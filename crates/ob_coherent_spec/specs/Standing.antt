@@ -82,7 +82,14 @@ pub record NeedsOwner (table : ClassTable) (objects : List Object) (n : ℕ) : T
   pub unshared : (nth_object objects n).shared ≡ false
   pub kept : (nth_object objects n).disowned ≡ false
 
--- handles are on objects that there are
+-- Handles.
+
+-- What is noted of a handle is so: it is on an object that there is; an object held as Shared is marked so.
+pub record IsHandleInRun (objects : List Object) (h : HandleNote) : Type 0 where
+  pub there : h.object < length objects
+  pub marked : h.permission ≡ shared → RefersToShared objects (reference h.object)
+
+-- it is so of each of these handles
 abbrev pub HandlesStand : List Object → List HandleNote → Type 0
 HandlesStand objects [] = ⊤
-HandlesStand objects (h ∷ hs) = (h.object < length objects) × HandlesStand objects hs
+HandlesStand objects (h ∷ hs) = IsHandleInRun objects h × HandlesStand objects hs

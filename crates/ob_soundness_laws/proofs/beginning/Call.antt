@@ -238,8 +238,8 @@ module _ (program : SilicaProgram) (is : IsCheckedProgram program) (content : Co
 
   handles_now : Rattle.ob_coherent_spec.specs.Standing.HandlesStand w.objects
       (map (note_in_run (puts_of_uses (uses_in xs))) content.handles)
-  handles_now = handles_stand content.objects (uses_in xs) content.handles (length content.objects) (omega arith)
-      rest.is_content.handles w.objects (let e = more.count in omega (arith, e))
+  handles_now = handles_stand program.table content rest (uses_in xs) w.objects (let e = more.count in omega (arith, e))
+      (λ i low. more.shared i)
 
   owners_past : (m : ℕ) → length w.objects ≤ m → owners m d ≡ 0
   owners_past m past =

@@ -263,8 +263,8 @@ module _ (program : SilicaProgram) (is : IsCheckedProgram program) (content : Co
       let two = objects_past program.table wr.objects m past d.notes
       (marked_stand program.table content rest (map (note_in_run (puts_of_uses (uses_in xs))) content.handles) wr.objects more) in
       let three = handles_past program.table wr.objects m past (map (note_in_run (puts_of_uses (uses_in xs))) content.handles)
-      (handles_stand content.objects (uses_in xs) content.handles (length content.objects) (omega arith)
-      rest.is_content.handles wr.objects (let e = more.count in omega (arith, e))) in
+      (handles_stand program.table content rest (uses_in xs) wr.objects (let e = more.count in omega (arith, e))
+      (λ i low. more.shared i)) in
       omega (arith, cell, here, none, objects, two, three)
 
   past_owners : (m : ℕ) → next ≤ m → owners m d ≡ one_if (nat_eq next m)
@@ -312,8 +312,10 @@ module _ (program : SilicaProgram) (is : IsCheckedProgram program) (content : Co
       (low_or_past i)
 
   handles_now : HandlesStand w.objects (map (note_in_run (puts_of_uses (uses_in xs))) content.handles)
-  handles_now = handles_stand content.objects (uses_in xs) content.handles (length content.objects) (omega arith)
-      rest.is_content.handles w.objects (let e = more.count in let z = new_count in omega (arith, e, z))
+  handles_now = handles_stand program.table content rest (uses_in xs) w.objects
+      (let e = more.count in let z = new_count in omega (arith, e, z))
+      (λ i low mark. ap (λ (o : Object). o.shared) (old_object i (let e = next_is in omega (arith, e, low)))
+      ∙ more.shared i mark)
 
   low_or_new : (m : ℕ) → m < length w.objects → (m < next) ⊎ (m ≡ next)
   low_or_new m below = ⊎_elim (λ low. inl low)

@@ -1,9 +1,12 @@
 -- What is so of the whole where a run begins: how many places own an object, by what was at rest and what is used.
-use Rattle.std.proofs.Common.{◌≡◌, ℕ, zero, suc, ◌+◌, ◌<◌, ◌≤◌, true, false, List, [], ◌∷◌, map, length, Option, Some, refl, sym, ap, subst, ◌∙◌, arith, ⊎_elim}
-use Rattle.std.specs.Prelude.{All}
+use Rattle.std.proofs.Common.{◌≡◌, ℕ, zero, suc, ◌+◌, ◌<◌, ◌≤◌, true, false, List, [], ◌∷◌, map, length, Option, Some, Bool, if◌then◌else◌, refl, sym, ap, subst, ◌∙◌, arith, ⊎_elim}
+use Rattle.std.specs.Prelude.{All, slice_get}
 use Rattle.std.specs.List.{list_any}
 use Rattle.std.proofs.lemmas.Bool.{cases_Bool, both_ways}
-use Rattle.ob_perm.specs.Permissions.{owns}
+use Rattle.ob_base.specs.declared.permission.Mode.{Mode}
+use Rattle.ob_base.specs.declared.permission.Mode.TheVariants.{Owned, Shared, Unowned}
+use Rattle.ob_perm.specs.Permissions.{owns, shared, unowned}
+use Rattle.ob_perm.specs.Masks.{held}
 use Rattle.ob_table.specs.Tables.{ClassTable}
 use Rattle.ob_table_spec.specs.Conditions.{IsClassTable}
 use Rattle.ob_heap_spec.specs.Objects.{Object}
@@ -14,6 +17,7 @@ use Rattle.ob_places_laws.proofs.Tables.{each_at}
 use Rattle.ob_coherent_spec.specs.Counting.{nth_object, in_objects, in_handles}
 use Rattle.ob_coherent_spec.specs.Standing.{NeedsOwner, HandlesStand}
 use Rattle.ob_soundness_laws.proofs.counting.Objects.{object_there}
+use Rattle.ob_rest_spec.specs.Modes.{is_shared}
 use Rattle.ob_rest_spec.specs.Incoming.{owners}
 use Rattle.ob_rest_spec.specs.AtRest.{IsStoreAtRest}
 use Rattle.ob_soundness_laws.proofs.stores.Fields.{stored_fields, first_declared}
@@ -22,19 +26,50 @@ use Rattle.ob_invocation_spec.specs.Handles.{NamedHandle}
 use Rattle.ob_invocation_spec.specs.Entries.{HandleUse}
 use Rattle.ob_invocation_spec.specs.Refusals.{is_repeated}
 use Rattle.ob_soundness_laws.specs.beginning.Uses.{owning_uses, sharing_uses, AreUses}
-use Rattle.ob_invocation_laws.specs.Laws.{puts_of_uses}
-use Rattle.ob_soundness_laws.specs.Requests.{note_in_run}
+use Rattle.ob_invocation_laws.specs.Laws.{is_put, puts_of_uses}
+use Rattle.ob_invocation_laws.proofs.Handles.{head_of, tail_of}
+use Rattle.ob_soundness_laws.specs.Requests.{any_state, note_in_run}
 use Rattle.ob_soundness_laws.specs.beginning.Marked.{AreMarked}
+use Rattle.ob_soundness_laws.proofs.beginning.Rests.{handle_marks}
 use Rattle.ob_soundness_laws.proofs.beginning.Totals.{lent, carried, total_one, total_disowned, total_shared, total_newly, total_asset, sharing_found, use_at}
 
--- handles are on objects that are there
-pub handles_stand : (os : List Object) (us : List HandleUse) (hs : List NamedHandle) (m : ℕ) → length os ≤ m
-    → All (IsHandle os) hs → (ps : List Object) → m ≤ length ps → HandlesStand ps (map (note_in_run (puts_of_uses us)) hs)
-handles_stand os us [] m low all ps more = tt
-handles_stand os us (h ∷ hs) m low all ps more = (
-  (let z = (all 0 h (omega arith)).object in omega (arith, z, low, more)),
-  handles_stand os us hs m low (λ k d below. all (suc k) d (omega (arith, below))) ps more,
+-- a handle that carries Shared is a Shared one
+carries_shared : (puts : List NamedHandle) (h : NamedHandle) → (note_in_run puts h).permission ≡ shared
+    → is_shared h.1.mode ≡ true
+carries_shared puts h e = go (is_put puts h.0) h.1.mode refl e
+  where
+    go : (b : Bool) (mode : Mode) → h.1.mode ≡ mode → (if b then unowned else held mode any_state) ≡ shared
+        → is_shared h.1.mode ≡ true
+    go true mode is e = absurd (cc)
+    go false Owned is e = absurd (cc)
+    go false Shared is e = ap is_shared is
+    go false Unowned is e = absurd (cc)
+
+-- handles stand where those of a store are on objects, no fewer are there, and those of Shared handles are marked
+handles_of_store : (os : List Object) (us : List HandleUse) (hs : List NamedHandle) → All (IsHandle os) hs
+    → (ps : List Object) → length os ≤ length ps
+    → ((k : ℕ) (h : NamedHandle) → slice_get hs k ≡ Some h → is_shared h.1.mode ≡ true
+    → (nth_object ps h.1.object).shared ≡ true)
+    → HandlesStand ps (map (note_in_run (puts_of_uses us)) hs)
+handles_of_store os us [] all ps more marks = tt
+handles_of_store os us (h ∷ hs) all ps more marks = (
+  record {
+    there = let z = (head_of (IsHandle os) h hs all).object in omega (arith, z, more);
+    marked = λ e. marks 0 h refl (carries_shared (puts_of_uses us) h e);
+  },
+  handles_of_store os us hs (tail_of (IsHandle os) h hs all) ps more (λ k g e. marks (suc k) g e),
 )
+
+-- the handles of a store at rest stand where a run begins, on objects that are marked where those of the store are
+pub handles_stand : (table : ClassTable) (content : Content) → IsStoreAtRest table content → (us : List HandleUse)
+    → (ps : List Object) → length content.objects ≤ length ps
+    → ((n : ℕ) → n < length content.objects → (nth_object content.objects n).shared ≡ true
+    → (nth_object ps n).shared ≡ true)
+    → HandlesStand ps (map (note_in_run (puts_of_uses us)) content.handles)
+handles_stand table content rest us ps more marks =
+    handles_of_store content.objects us content.handles rest.is_content.handles ps more (λ k h e mode.
+    let there = (each_at (IsHandle content.objects) content.handles k h rest.is_content.handles e).object in
+    marks h.1.object there (handle_marks table content rest k h e there mode))
 
 -- an object that is used as Shared is there
 pub sharing_there : (table : ClassTable) (content : Content) (entry : Option ℕ) (us : List HandleUse)

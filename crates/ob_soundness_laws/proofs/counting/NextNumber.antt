@@ -55,7 +55,7 @@ module _ (table : ClassTable) (objects : List Object) (n : ℕ) (past : length o
   pub handles_past : (hs : List HandleNote) → HandlesStand objects hs → in_handles any n hs ≡ 0
   handles_past [] stand = refl
   handles_past (h ∷ hs) stand =
-      omega (arith, handles_past hs stand.1, one_other h.object n (λ e. absurd (omega (arith, stand.0, e))))
+      omega (arith, handles_past hs stand.1, one_other h.object n (λ e. absurd (omega (arith, stand.0.there, e))))
 
   pub waiting_past : (N : ℕ → Type 0) (c : Configuration) → c.world.objects ≡ objects
       → (callee : SilicaFrame) (called : BodyParts) (above : List ℕ) (tests : ℕ → ℕ) (hs : List Waiting)

@@ -1,5 +1,5 @@
 -- What is so of all objects, where one changes and others are new.
-use Rattle.std.proofs.Common.{◌≡◌, ◌≢◌, ℕ, ◌<◌, ◌≤◌, ◌⊎◌, inl, inr, ⊎_elim, List, [], ◌∷◌, length, Option, sym, subst, arith}
+use Rattle.std.proofs.Common.{◌≡◌, ◌≢◌, ℕ, ◌<◌, ◌≤◌, ◌⊎◌, inl, inr, ⊎_elim, true, List, [], ◌∷◌, length, Option, sym, subst, arith}
 use Rattle.std.proofs.lemmas.Bool.{cases_lt}
 use Rattle.std.proofs.lemmas.Bool.Decides.{eqb_tells}
 use Rattle.ob_perm.specs.Permissions.{owns}
@@ -23,7 +23,7 @@ pub record ObjectHolds (table : ClassTable) (d : Configuration) (n : ℕ) : Type
   pub declared : entries n d ≡ 0 → constructions n d ≡ 0
       → IsAsDeclared table (NeedsOwner table d.world.objects) d.notes d.world.objects n
 
--- The same of all objects, and that handles are on objects.
+-- The same of all objects, and that handles stand.
 pub record ObjectsHold (table : ClassTable) (d : Configuration) : Type 0 where
   pub fields : (n : ℕ) → AllStand table d.world.objects (field_cell d.notes d.world.objects n)
   pub handles : HandlesStand d.world.objects d.notes.handles
@@ -31,11 +31,18 @@ pub record ObjectsHold (table : ClassTable) (d : Configuration) : Type 0 where
   pub declared : (n : ℕ) → n < length d.world.objects → entries n d ≡ 0 → constructions n d ≡ 0
       → IsAsDeclared table (NeedsOwner table d.world.objects) d.notes d.world.objects n
 
--- handles stand where there are no fewer objects
+-- handles stand where there are no fewer objects and no fewer marks
 pub handles_near : (before after : List Object) (hs : List HandleNote) → length before ≤ length after
+    → ((n : ℕ) → (nth_object before n).shared ≡ true → (nth_object after n).shared ≡ true)
     → HandlesStand before hs → HandlesStand after hs
-handles_near before after [] more a = tt
-handles_near before after (h ∷ hs) more a = (let below = a.0 in omega arith, handles_near before after hs more a.1)
+handles_near before after [] more marks a = tt
+handles_near before after (h ∷ hs) more marks a = (
+  record {
+    there = let below = a.0.there in omega (arith, below, more);
+    marked = λ e. marks h.object (a.0.marked e);
+  },
+  handles_near before after hs more marks a.1,
+)
 
 -- All objects hold where the one that changes and the new ones do, and where each other one that no frame has was
 -- had by
@@ -55,7 +62,7 @@ objects_hold table entry beginning i stays c d near t k handles free changed idl
   fields = λ n. ⊎_elim (λ below. (each n below).stand) (λ past. no_field table d.world.objects n d.notes past)
       (cases_lt n (length d.world.objects));
   handles = subst (HandlesStand d.world.objects) (sym handles)
-      (handles_near c.world.objects d.world.objects c.notes.handles near.count k.handles);
+      (handles_near c.world.objects d.world.objects c.notes.handles near.count near.shared k.handles);
   objects = λ n below. (each n below).object;
   declared = λ n below. (each n below).declared;
 }
