@@ -2,19 +2,15 @@
 ghost use Rattle.std.specs.Prelude.{◌≡◌, ◌<◌, ◌≤◌, ℕ, List, length, string_bytes, IfOk, OnErr, IfErr};
 
 use std::alloc::{AllocError, Global};
-use thiserror::Error;
 
 /// Why no field was read.
-#[derive(Clone, Copy, PartialEq, Eq, Debug, Error)]
+#[derive(Clone, Copy)]
 pub enum FieldFault {
     /// Too few bytes are left.
-    #[error("too few bytes are left")]
     Short,
     /// The bytes of a text aren't UTF-8.
-    #[error("a text isn't UTF-8")]
     BadText,
     /// Memory ran out.
-    #[error("out of memory")]
     Memory,
 }
 
@@ -31,7 +27,7 @@ impl From<AllocError> for FieldFault {
 
 /// Bytes from which numbers and texts are read, one after another, as `put_u8` and its kin wrote them. What can't be
 /// read moves nothing.
-#[derive(Clone, Copy, Debug)]
+#[derive(Clone, Copy)]
 pub struct Fields<'a> {
     bytes: &'a [u8],
     at: usize,

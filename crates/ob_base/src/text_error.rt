@@ -1,17 +1,14 @@
 //! Why a stage has nothing to give of a text.
 use crate::{Memory, ProgramFault};
 use std::alloc::AllocError;
-use thiserror::Error;
 
 /// Why a stage has nothing to give of a program's text: the text has a fault, or memory ran out. Each stage gives this type a
 /// name of its own.
-#[derive(Clone, Copy, PartialEq, Eq, Debug, Error)]
+#[derive(Clone, Copy)]
 pub enum TextError {
     /// The first fault of the text that the stage looks for.
-    #[error("the text has a fault")]
     Fault(ProgramFault),
     /// Memory ran out.
-    #[error("out of memory")]
     Memory,
 }
 

@@ -19,16 +19,13 @@ use ob_base::{Duplicate, MOST_OBJECTS, Memory, ObjectId};
 use sqlite_items::at;
 use std::alloc::{AllocFailed, Global};
 use std::marker::Model;
-use thiserror::Error;
 
 /// Why no object was made.
-#[derive(Clone, Copy, PartialEq, Eq, Debug, Error)]
+#[derive(Clone, Copy)]
 pub enum MakeError {
     /// There are as many objects as there may be.
-    #[error("as many objects as there may be")]
     Full,
     /// Memory ran out.
-    #[error("out of memory")]
     Memory,
 }
 

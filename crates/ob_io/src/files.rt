@@ -5,16 +5,13 @@ ghost use Rattle.ob_io.specs.Files.{AppendsContent, NotesAsk};
 ghost use Rattle.ob_io.specs.Views.{FilesView};
 
 use std::alloc::AllocError;
-use thiserror::Error;
 
 /// Why a file wasn't read.
-#[derive(Clone, Copy, PartialEq, Eq, Debug, Error)]
+#[derive(Clone, Copy, PartialEq, Eq, Debug)]
 pub enum FileError {
     /// There is no such file, or it can't be read.
-    #[error("the file could not be read")]
     Failed,
     /// Memory ran out.
-    #[error("out of memory")]
     Memory,
 }
 

@@ -1,15 +1,12 @@
 //! Why a store isn't one at rest.
 use ob_base::{Memory, ObjectId};
-use thiserror::Error;
 
 /// Why a store wasn't found to be at rest.
-#[derive(Clone, Copy, PartialEq, Eq, Debug, Error)]
+#[derive(Clone, Copy)]
 pub enum RestError {
     /// The object of this number fails, and none before it does.
-    #[error("object {} is not at rest", .0.0)]
     NotAtRest(ObjectId),
     /// Memory ran out.
-    #[error("out of memory")]
     Memory,
 }
 

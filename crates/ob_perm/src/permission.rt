@@ -8,19 +8,15 @@ ghost use Rattle.ob_perm.specs.Masks.{states_of, permission_of, IsCanonical};
 
 use crate::states::{all_states, bit, difference, intersection, subset, union};
 use ob_base::{Mode, NOT_OWNING, NOT_SHARED, Perm, StateId, WRONG_STATE};
-use thiserror::Error;
 
 /// Why a reference doesn't serve where another permission is wanted.
-#[derive(Clone, Copy, PartialEq, Eq, Debug, Error)]
+#[derive(Clone, Copy)]
 pub enum FitFault {
     /// An owner is wanted, and the reference is none.
-    #[error("the reference doesn't own its object")]
     NotOwning,
     /// An owner is wanted whose object is in one of certain states, and this one's may be in another.
-    #[error("the object may be in another state")]
     WrongState,
     /// A shared reference is wanted, and this one has no say.
-    #[error("the reference isn't shared")]
     NotShared,
 }
 
@@ -38,8 +34,7 @@ impl FitFault {
 }
 
 /// One branch holds the object as its owner and the other doesn't, so an asset would be lost after them.
-#[derive(Clone, Copy, PartialEq, Eq, Debug, Error)]
-#[error("an asset is kept by one branch and not by the other")]
+#[derive(Clone, Copy)]
 pub struct Loses;
 
 /// The permission of an owner whose object is in one of these states.

@@ -1,16 +1,13 @@
 //! Why bytes aren't a payload of a content.
 use ob_base::{Memory, NameError};
 use ob_format::Halt;
-use thiserror::Error;
 
 /// Why nothing was read of a payload.
-#[derive(Clone, Copy, PartialEq, Eq, Debug, Error)]
+#[derive(Clone, Copy)]
 pub enum PayloadError {
     /// The bytes say nothing that a payload may say.
-    #[error("no payload of this store")]
     Bad,
     /// Memory ran out.
-    #[error("out of memory")]
     Memory,
 }
 

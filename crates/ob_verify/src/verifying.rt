@@ -9,13 +9,11 @@ use ob_base::{Duplicate, Memory};
 use ob_code::Image;
 use std::alloc::Global;
 use std::marker::Model;
-use thiserror::Error;
 
 /// Why an image isn't verified.
-#[derive(Clone, Copy, PartialEq, Eq, Debug, Error)]
+#[derive(Clone, Copy)]
 pub enum VerifyError {
     /// It has a fault, and this is the first.
-    #[error("fault {number} at instruction {instruction} of body {body}")]
     Fault {
         /// Which fault it is, from `BAD_JUMP` to `FALLS_OFF`: the least number of those that stand there.
         number: u16,
@@ -25,7 +23,6 @@ pub enum VerifyError {
         instruction: u32,
     },
     /// Memory ran out.
-    #[error("out of memory")]
     Memory,
 }
 

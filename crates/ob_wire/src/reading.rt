@@ -14,19 +14,15 @@ use crate::{Arg, Op, Request};
 use ob_base::{Items, Label, Memory, Mode, NameError, Text};
 use serde_json::{Map, Number, Value};
 use std::alloc::{AllocError, Global};
-use thiserror::Error;
 
 /// Why a line has no request.
-#[derive(Clone, Copy, PartialEq, Eq, Debug, Error)]
+#[derive(Clone, Copy)]
 pub enum WireError {
     /// It is no JSON.
-    #[error("no JSON")]
     Json,
     /// It is JSON, but no request.
-    #[error("no request")]
     Shape,
     /// Memory ran out.
-    #[error("out of memory")]
     Memory,
 }
 
@@ -67,7 +63,7 @@ impl From<NameError> for WireError {
 }
 
 // The forms of a request, by the keys that it may have.
-#[derive(Clone, Copy, PartialEq, Eq, Debug)]
+#[derive(Clone, Copy)]
 enum Row {
     // A `new`.
     New,

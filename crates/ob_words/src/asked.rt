@@ -1,9 +1,8 @@
 //! What the words of a command line ask for.
 use std::alloc::AllocError;
-use thiserror::Error;
 
 /// What is done, and with which files (this project's own).
-#[derive(Clone, Copy, Debug, PartialEq, Eq)]
+#[derive(Clone, Copy)]
 pub enum Command<'a> {
     /// The first fault of the text in a file is told, or that there is none.
     Check(&'a str),
@@ -16,7 +15,7 @@ pub enum Command<'a> {
 }
 
 /// The settings of a session.
-#[derive(Clone, Copy, Debug, PartialEq, Eq)]
+#[derive(Clone, Copy)]
 pub struct Limits {
     /// The units of fuel that each request has, from 1 to `MOST_FUEL`.
     pub fuel: u32,
@@ -27,7 +26,7 @@ pub struct Limits {
 }
 
 /// A command, and the settings of the session that it begins. A command that begins none has them all the same.
-#[derive(Clone, Copy, Debug, PartialEq, Eq)]
+#[derive(Clone, Copy)]
 pub struct Asked<'a> {
     /// What is done.
     pub command: Command<'a>,
@@ -36,13 +35,11 @@ pub struct Asked<'a> {
 }
 
 /// Why words ask for nothing.
-#[derive(Clone, Copy, Debug, Drop, PartialEq, Eq, Error)]
+#[derive(Clone, Copy, Drop)]
 pub enum WordsError {
     /// They are no command.
-    #[error("the words are no command")]
     Usage,
     /// Memory ran out, maybe before it was known whether they are a command.
-    #[error("out of memory")]
     Memory,
 }
 
