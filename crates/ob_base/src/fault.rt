@@ -16,7 +16,7 @@ pub struct Span {
 }
 
 /// Why a text is no program: the fault's number and the place where it stands.
-#[derive(Clone, Copy, PartialEq, Eq, Debug)]
+#[derive(Clone, Copy, PartialEq, Eq)]
 pub struct ProgramFault {
     /// Which fault it is: one of the numbers below.
     pub number: u16,

@@ -2,7 +2,7 @@
 
 /// An operator (the Obsidian language documentation, "Expressions"): eleven that compare or reckon, two that stop
 /// early, and two of one operand.
-#[derive(Clone, Copy, PartialEq, Eq, Debug)]
+#[derive(Clone, Copy, Debug)]
 pub enum Operator {
     /// `+`: the sum of two `int`s, if that is an `int`.
     Add,

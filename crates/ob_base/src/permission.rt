@@ -13,7 +13,7 @@ pub enum Mode {
 }
 
 /// What a reference holds: a mode, and for an owner the states in which the object may be.
-#[derive(Clone, Copy, PartialEq, Eq, Debug)]
+#[derive(Clone, Copy)]
 pub struct Perm {
     /// How the object is held.
     pub mode: Mode,

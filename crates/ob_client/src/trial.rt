@@ -21,7 +21,7 @@ struct Holding {
 }
 
 // What is asked of the machine.
-#[derive(Clone, Copy, PartialEq, Eq, Debug)]
+#[derive(Clone, Copy)]
 enum Wish {
     // A coin.
     Mint,

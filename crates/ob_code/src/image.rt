@@ -6,7 +6,7 @@ use ob_base::{ContractId, Duplicate, Items, Memory, Mode, both, copy_items};
 use std::alloc::Global;
 
 /// A permission.
-#[derive(Clone, Copy, PartialEq, Eq, Debug)]
+#[derive(Clone, Copy)]
 pub struct PermCode {
     /// How the object is held.
     pub mode: Mode,
@@ -16,7 +16,7 @@ pub struct PermCode {
 }
 
 /// The type of a field or a result.
-#[derive(Clone, Copy, PartialEq, Eq, Debug)]
+#[derive(Clone, Copy)]
 pub enum TypeCode {
     /// `int`: a whole number from -2^63 to 2^63 - 1.
     Int,
@@ -29,7 +29,7 @@ pub enum TypeCode {
 }
 
 /// The type of a parameter.
-#[derive(Clone, Copy, PartialEq, Eq, Debug)]
+#[derive(Clone, Copy)]
 pub enum ParamCode {
     /// `int`: a whole number from -2^63 to 2^63 - 1.
     Int,

@@ -39,7 +39,7 @@ pub struct Entered {
 }
 
 /// Why a request enters nothing.
-#[derive(Clone, Copy, PartialEq, Eq, Debug)]
+#[derive(Clone, Copy)]
 pub enum EnterError {
     /// It is refused.
     Refused(Refusal),

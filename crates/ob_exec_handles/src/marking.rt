@@ -12,7 +12,7 @@ use ob_heap::{Content, Edit, Handle, Object, Overlay};
 use std::alloc::Global;
 
 /// A mark on an object (Coblenz et al., TOPLAS 42(3), 2020, "Permissions"; marks are this project's own).
-#[derive(Clone, Copy, PartialEq, Eq, Debug)]
+#[derive(Clone, Copy)]
 pub enum Mark {
     /// A reference to it is shared, or was.
     Shared,

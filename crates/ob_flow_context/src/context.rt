@@ -17,7 +17,7 @@ use ob_table::Kind;
 use std::alloc::Global;
 
 /// What is known of a place.
-#[derive(Clone, Copy, PartialEq, Eq, Debug)]
+#[derive(Clone, Copy)]
 pub struct Known {
     /// The kind of its value, without a permission.
     pub kind: Kind,

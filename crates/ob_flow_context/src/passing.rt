@@ -9,7 +9,7 @@ use ob_table::{Param, ResolvedType, Signature};
 use std::alloc::Global;
 
 /// A parameter, or `this`.
-#[derive(Clone, Copy, PartialEq, Eq, Debug)]
+#[derive(Clone, Copy)]
 pub struct Parameter {
     /// Its type, with the permission at the entry.
     pub of: ResolvedType,

@@ -31,7 +31,7 @@ impl Duplicate for Object {
 }
 
 /// A client's hold on an object.
-#[derive(Clone, Copy, PartialEq, Eq, Debug)]
+#[derive(Clone, Copy)]
 pub struct Handle {
     /// The object.
     pub object: ObjectId,

@@ -19,7 +19,7 @@ use ob_base::{
 use std::alloc::Global;
 
 /// What a text is made of, but for blanks and comments.
-#[derive(Debug, Drop)]
+#[derive(Drop)]
 pub struct Lexed {
     /// The tokens, in the order of the text.
     pub tokens: Items<Token>,

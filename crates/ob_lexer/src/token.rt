@@ -5,7 +5,7 @@ use ob_base::{Duplicate, Memory, Name, Span, Text};
 use std::alloc::Global;
 
 /// A token of a program, with the position where it stands.
-#[derive(Debug, Drop)]
+#[derive(Drop)]
 pub struct Token {
     /// Which token it is, with the name, number or text that it stands for, if any.
     pub kind: TokenKind,
@@ -14,7 +14,7 @@ pub struct Token {
 }
 
 /// The kinds of tokens (the Obsidian language documentation, "Lexical structure").
-#[derive(Debug, Drop)]
+#[derive(Drop)]
 pub enum TokenKind {
     /// A name that isn't a reserved word.
     Name(Name),

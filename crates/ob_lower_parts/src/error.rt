@@ -3,7 +3,7 @@ use ob_base::{Memory, Span};
 use std::alloc::AllocError;
 
 /// Why lowering stops in the midst of a body.
-#[derive(Clone, Copy, PartialEq, Eq, Debug)]
+#[derive(Clone, Copy)]
 pub enum Stopped {
     /// One more slot than there are is needed here.
     Full(Span),

@@ -14,7 +14,7 @@ use std::alloc::Global;
 use std::marker::Model;
 
 /// A variable that is visible: its number, its kind, and its slot.
-#[derive(Clone, Copy, PartialEq, Eq, Debug)]
+#[derive(Clone, Copy)]
 pub struct SlotVariable {
     /// Its number in the body, from 1: the parameters beside `this` come first.
     pub local: u32,

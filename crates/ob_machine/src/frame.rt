@@ -3,7 +3,7 @@ use ob_base::{ContractId, Items, ObjectId, TxId};
 use ob_heap::Value;
 
 /// How a frame was entered.
-#[derive(Clone, Copy, Debug)]
+#[derive(Clone, Copy)]
 pub enum EnteredBy {
     /// By a call with a receiver.
     Receiver,

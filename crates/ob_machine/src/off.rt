@@ -3,7 +3,7 @@ use ob_base::Memory;
 use std::alloc::{AllocError, AllocFailed};
 
 /// Why a part of a step gives nothing.
-#[derive(Clone, Copy, Debug)]
+#[derive(Clone, Copy)]
 pub enum Off {
     /// Memory ran out.
     Memory,

@@ -12,7 +12,7 @@ use ob_code::{ContractCode, FieldCode, PermCode, TypeCode};
 use ob_heap::{Object, Value};
 
 /// A reference that stands in a field.
-#[derive(Clone, Copy, PartialEq, Eq, Debug)]
+#[derive(Clone, Copy)]
 pub struct FieldReference {
     /// The contract or interface with which the field is declared.
     pub contract: ContractId,

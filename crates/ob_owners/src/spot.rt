@@ -2,7 +2,7 @@
 use ob_base::{FieldId, Label, ObjectId};
 
 /// A place of a store that refers to an object (this project's own).
-#[derive(Debug, Drop)]
+#[derive(Drop)]
 pub enum Spot {
     /// A field of an object.
     Field(ObjectId, FieldId),

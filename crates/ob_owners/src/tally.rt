@@ -21,7 +21,7 @@ use ob_heap::{Block, Content, Handle, Object};
 use std::alloc::Global;
 
 /// How many places own an object.
-#[derive(Clone, Copy, PartialEq, Eq, Debug)]
+#[derive(Clone, Copy)]
 pub enum OwnerCount {
     /// None does.
     Zero,
@@ -32,7 +32,7 @@ pub enum OwnerCount {
 }
 
 /// What the places that refer to an object say of it.
-#[derive(Clone, Copy, PartialEq, Eq, Debug)]
+#[derive(Clone, Copy)]
 pub struct Tally {
     /// How many of them own it.
     pub owners: OwnerCount,
@@ -43,7 +43,7 @@ pub struct Tally {
 }
 
 /// How a place holds an object.
-#[derive(Clone, Copy, PartialEq, Eq, Debug)]
+#[derive(Clone, Copy)]
 pub struct Holding {
     /// The object.
     pub object: ObjectId,

@@ -2,7 +2,7 @@
 
 /// What a written type stands for, without its permission (Coblenz et al., TOPLAS 42(3), 2020, "Types"; the Obsidian
 /// language documentation, "Types").
-#[derive(Clone, Copy, PartialEq, Eq, Debug)]
+#[derive(Clone, Copy, PartialEq, Eq)]
 pub enum InferredKind {
     /// `int`: a whole number from -2^63 to 2^63 - 1.
     Int,

@@ -7,7 +7,7 @@ use ob_base::{Memory, ObjectId};
 use std::alloc::Global;
 
 /// Why a store is refused.
-#[derive(Clone, Copy, PartialEq, Eq, Debug)]
+#[derive(Clone, Copy)]
 pub enum StoreRefusal {
     /// The disk holds no store: 611.
     NotStore,

@@ -38,7 +38,7 @@ fn exit_of(served: Served) -> Exit
 }
 
 /// Why no store was opened.
-#[derive(Clone, Copy, PartialEq, Eq, Debug)]
+#[derive(Clone, Copy)]
 pub(crate) enum Unopened {
     // It is refused.
     Refused(StoreRefusal),

@@ -13,7 +13,7 @@ use ob_disk::Disk;
 use ob_store::{Prepared, Store};
 
 /// Why nothing was kept.
-#[derive(Clone, Copy, PartialEq, Eq, Debug)]
+#[derive(Clone, Copy)]
 pub enum KeepError {
     /// The disk failed.
     DiskFault,

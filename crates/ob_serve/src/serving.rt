@@ -26,7 +26,7 @@ use ob_verify::Verified;
 use std::alloc::Global;
 
 /// How a session ended.
-#[derive(Clone, Copy, PartialEq, Eq, Debug)]
+#[derive(Clone, Copy)]
 pub enum Served {
     /// The input was read to its end, and every line was answered.
     Done,

@@ -4,7 +4,7 @@ use std::alloc::Global;
 
 /// Where a term finds or leaves a value (Coblenz et al., TOPLAS 42(3), 2020, "Silica"; that temporaries have numbers is
 /// this project's own).
-#[derive(Clone, Copy, PartialEq, Eq, Debug)]
+#[derive(Clone, Copy, PartialEq, Eq)]
 pub enum Place {
     /// `this`, which is also slot 0.
     This,
@@ -16,7 +16,7 @@ pub enum Place {
 }
 
 /// A place that a term reads.
-#[derive(Clone, Copy, PartialEq, Eq, Debug)]
+#[derive(Clone, Copy)]
 pub struct Operand {
     /// Where the value is found.
     pub place: Place,
@@ -25,7 +25,7 @@ pub struct Operand {
 }
 
 /// A field, and the place whose value a change of state gives it.
-#[derive(Clone, Copy, PartialEq, Eq, Debug)]
+#[derive(Clone, Copy)]
 pub struct Given {
     /// The field that gets the value.
     pub field: FieldId,

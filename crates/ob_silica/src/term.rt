@@ -8,7 +8,7 @@ use ob_table::{BinaryOperator, UnaryOperator};
 use std::alloc::Global;
 
 /// An operator of an operation: `&&` and `||` are none, they are tests of a `bool`.
-#[derive(Clone, Copy, PartialEq, Eq, Debug)]
+#[derive(Clone, Copy)]
 pub enum SilicaOperator {
     /// An operator of one operand.
     Unary(UnaryOperator),

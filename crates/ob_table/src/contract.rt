@@ -9,7 +9,7 @@ use ob_base::{
 use std::alloc::Global;
 
 /// The type of a field, a parameter or a result.
-#[derive(Clone, Copy, PartialEq, Eq, Debug)]
+#[derive(Clone, Copy)]
 pub enum ResolvedType {
     /// `int`: a whole number from -2^63 to 2^63 - 1.
     Int,
@@ -64,7 +64,7 @@ impl Duplicate for Param {
 }
 
 /// A field that a private transaction lists, since it isn't as declared there.
-#[derive(Clone, Copy, PartialEq, Eq, Debug)]
+#[derive(Clone, Copy)]
 pub struct Listed {
     /// The field, which is a reference.
     pub field: FieldId,

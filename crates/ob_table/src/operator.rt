@@ -2,7 +2,7 @@
 //! operands.
 
 /// An operator before its operand.
-#[derive(Clone, Copy, PartialEq, Eq, Debug)]
+#[derive(Clone, Copy, Debug)]
 pub enum UnaryOperator {
     /// `!`: whether a `bool` doesn't hold.
     Not,
@@ -11,7 +11,7 @@ pub enum UnaryOperator {
 }
 
 /// An operator between two operands that needs the values of both.
-#[derive(Clone, Copy, PartialEq, Eq, Debug)]
+#[derive(Clone, Copy, Debug)]
 pub enum BinaryOperator {
     /// `+`: the sum of two `int`s, if that is an `int`.
     Add,
@@ -38,7 +38,7 @@ pub enum BinaryOperator {
 }
 
 /// An operator between two `bool`s that asks for the right one only where the left one leaves it open.
-#[derive(Clone, Copy, PartialEq, Eq, Debug)]
+#[derive(Clone, Copy, Debug)]
 pub enum LogicalOperator {
     /// `&&`: whether both hold; the right one isn't asked where the left one fails.
     And,

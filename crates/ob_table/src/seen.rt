@@ -2,7 +2,7 @@
 use ob_base::{ContractId, FieldId, Span};
 
 /// What a name in a body stands for (the Obsidian language documentation, "Expressions").
-#[derive(Clone, Copy, PartialEq, Eq, Debug)]
+#[derive(Clone, Copy)]
 pub enum Seen {
     /// `this`
     This,
@@ -14,7 +14,7 @@ pub enum Seen {
 }
 
 /// What a name stands for, and where the name is.
-#[derive(Clone, Copy, PartialEq, Eq, Debug)]
+#[derive(Clone, Copy)]
 pub struct SeenAt {
     /// What it stands for.
     pub of: Seen,
@@ -24,7 +24,7 @@ pub struct SeenAt {
 
 /// The type of a local variable, which has no permission of its own (Coblenz et al., TOPLAS 42(3), 2020, where the
 /// permission of a variable follows from its use).
-#[derive(Clone, Copy, PartialEq, Eq, Debug)]
+#[derive(Clone, Copy)]
 pub enum Kind {
     /// `int`: a whole number from -2^63 to 2^63 - 1.
     Int,

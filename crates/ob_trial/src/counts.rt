@@ -1,7 +1,7 @@
 //! The numbers of a trial.
 
 /// How many lines a trial has, how many of their replies are of each kind, and what the store holds after them.
-#[derive(Clone, Copy, PartialEq, Eq, Debug)]
+#[derive(Clone, Copy)]
 pub struct Counts {
     /// The lines that got a reply.
     pub lines: u64,

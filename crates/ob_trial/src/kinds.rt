@@ -7,7 +7,7 @@ ghost use Rattle.ob_wire.specs.declared.reply.Reply.{Reply};
 ghost use Rattle.ob_trial.specs.Kinds.{kind_of};
 
 /// The kind of an answer.
-#[derive(Clone, Copy, PartialEq, Eq, Debug)]
+#[derive(Clone, Copy)]
 pub enum Kind {
     /// The request was done.
     Done,

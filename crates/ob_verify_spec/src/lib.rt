@@ -11,7 +11,7 @@ pub use laws::{
 };
 
 /// What is wrong with the code of a body, at an instruction or at the end of the body.
-#[derive(Clone, Copy, PartialEq, Eq, Debug)]
+#[derive(Clone, Copy)]
 pub enum CodeFault {
     /// An instruction leads to a place outside the body, or to one that isn't ahead.
     BadJump,

@@ -3,7 +3,7 @@ ghost use Rattle.std.specs.Prelude.{◌≡◌};
 ghost use Rattle.ob_wire.specs.Refusals.{number_of};
 
 /// Why a line isn't taken up (this project's own), in the order in which it is asked.
-#[derive(Clone, Copy, PartialEq, Eq, Debug)]
+#[derive(Clone, Copy)]
 pub enum Refusal {
     /// The line has more than `LONGEST_LINE` bytes.
     LongLine,

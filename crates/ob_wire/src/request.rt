@@ -6,7 +6,7 @@ use ob_base::{Duplicate, Items, Label, Memory, Mode, Text, both, copy_items, cop
 use std::alloc::Global;
 
 /// A request.
-#[derive(Debug, Drop)]
+#[derive(Drop)]
 pub struct Request {
     /// The number that the reply repeats, from 0.
     pub id: i64,
@@ -17,7 +17,7 @@ pub struct Request {
 }
 
 /// What is to be done.
-#[derive(Debug, Drop)]
+#[derive(Drop)]
 pub enum Op {
     /// Make an object of the main contract; the client gets it under a new handle `into`.
     New {
@@ -54,7 +54,7 @@ pub enum Op {
 }
 
 /// An argument.
-#[derive(Debug, Drop)]
+#[derive(Drop)]
 pub enum Arg {
     /// A whole number.
     Int(i64),
