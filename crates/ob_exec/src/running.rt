@@ -11,8 +11,7 @@ ghost use Rattle.ob_exec.specs.Ending.{IsRight, EndsSo};
 ghost use Rattle.ob_exec.specs.Bodies.{body_number};
 
 use ob_base::{ContractId, Memory, ObjectId, TxId};
-use ob_code::Image;
-use ob_code_lookups::{constructor_place, contract_code};
+use ob_code::{Image, constructor_place, contract_code};
 use ob_heap::{Content, Overlay};
 use ob_machine::{Entry, Machine, Progress};
 use ob_verify::Verified;

@@ -15,8 +15,7 @@ use crate::lookups::{body_code, constructor_code, mode_of_result};
 use crate::names::Names;
 use crate::target::Target;
 use ob_base::{ContractId, Items, Label, ObjectId, TxId};
-use ob_code::Image;
-use ob_code_lookups::is_private;
+use ob_code::{Image, is_private};
 use ob_heap::{Content, Handle};
 use ob_wire::Arg;
 

@@ -10,8 +10,7 @@ ghost use Rattle.ob_invocation_spec.specs.Entries.{mode_of_result};
 ghost use Rattle.ob_machine_steps.specs.ImageTables.{type_of_code, signature_of_code, interface_of, table_of_image};
 
 use ob_base::{ContractId, Mode, TxId};
-use ob_code::{BodyCode, ContractCode, Image, TypeCode};
-use ob_code_lookups::{contract_code, is_interface, is_main};
+use ob_code::{BodyCode, ContractCode, Image, TypeCode, contract_code, is_interface, is_main};
 
 // The constructor or transaction of a number.
 #[tactic(auto, using(crate::proofs::ImageLemmas::signatures))]

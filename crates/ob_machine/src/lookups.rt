@@ -10,9 +10,9 @@ ghost use Rattle.ob_machine.specs.Stretching.{AreInstructionsOf};
 
 use crate::off::Off;
 use ob_base::{ContractId, FieldId, Items, StateId, TxId};
-use ob_code::{BodyCode, ContractCode, Image, Instruction};
-use ob_code_lookups::{
-    body_code, constructor_place, contract_code, is_interface, is_transaction_named,
+use ob_code::{
+    BodyCode, ContractCode, Image, Instruction, body_code, constructor_place, contract_code,
+    is_interface, is_transaction_named,
 };
 use ob_heap::Object;
 use ob_machine_lookups::is_available_in;

@@ -9,8 +9,7 @@ ghost use Rattle.ob_table_spec.specs.Names.{number_of};
 
 use crate::available::{bits, has_bit, state_number};
 use ob_base::{ContractId, NO_STATE_BIT, OTHER_STATE_BIT, StateId};
-use ob_code::{CodeText, ContractCode, Image};
-use ob_code_lookups::contract_code;
+use ob_code::{CodeText, ContractCode, Image, contract_code};
 use ob_heap::Object;
 
 // The place of the first of these names that is the same.

@@ -23,8 +23,7 @@ ghost use Rattle.ob_store_spec.specs.Changes.{AreChangesOf};
 
 use crate::values::contract_at;
 use ob_base::{LONGEST_STRING, Label, MOST_HANDLES, MOST_OBJECTS, ObjectId, StateId};
-use ob_code::{ContractCode, FieldCode, Image, TypeCode};
-use ob_code_lookups::is_interface;
+use ob_code::{ContractCode, FieldCode, Image, TypeCode, is_interface};
 use ob_heap::{Content, Delta, Handle, Object, RcStr, Value};
 use ob_owners::available;
 use std::cmp::Ordering;

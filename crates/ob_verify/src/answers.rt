@@ -6,8 +6,7 @@ ghost use Rattle.ob_verify.specs.Named.{HavePlaces};
 
 use crate::kinds::{kind_of_param, kind_of_result, same_kind};
 use crate::transactions::Places;
-use ob_code::{BodyCode, ContractCode, ParamCode};
-use ob_code_lookups::is_private;
+use ob_code::{BodyCode, ContractCode, ParamCode, is_private};
 use ob_table::Kind;
 
 #[tactic(auto, using(crate::proofs::ListLoops::params))]

@@ -9,8 +9,7 @@ ghost use Rattle.ob_verify_spec.specs.Conditions.{has_state, takes, is_answered,
 use crate::frame::CodeFrame;
 use crate::survey::Surveyed;
 use ob_base::{ContractId, StateId, TxId};
-use ob_code::{BodyCode, ContractCode, Instruction, NO_RESULT};
-use ob_code_lookups::{is_constructor, is_interface};
+use ob_code::{BodyCode, ContractCode, Instruction, NO_RESULT, is_constructor, is_interface};
 
 fn has_state(state: StateId, own: &ContractCode) -> bool
     ensures { result ≡ has_state state own.now }

@@ -8,8 +8,7 @@ use crate::frame::CodeFrame;
 use crate::pass::{FaultAt, first_fault};
 use crate::survey::Surveyed;
 use ob_base::{ContractId, Memory};
-use ob_code::{ContractCode, Image};
-use ob_code_lookups::is_interface;
+use ob_code::{ContractCode, Image, is_interface};
 use std::alloc::Global;
 
 // The first fault of a body; an interface's body has none.

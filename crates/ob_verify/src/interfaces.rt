@@ -6,8 +6,7 @@ ghost use Rattle.ob_verify_spec.specs.Kinds.{one_kind, common, both_hold};
 use crate::kinds::same_kind;
 use crate::survey::Surveyed;
 use ob_base::ContractId;
-use ob_code::ContractCode;
-use ob_code_lookups::is_interface;
+use ob_code::{ContractCode, is_interface};
 use ob_table::Kind;
 
 // Whether a contract is an interface that implements none.

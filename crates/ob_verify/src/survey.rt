@@ -14,8 +14,9 @@ ghost use Rattle.ob_verify.specs.Surveys.{all_answers_by, with_answers, is_asked
 use crate::answers::has_answer;
 use crate::transactions::{Places, places_of};
 use ob_base::{ContractId, Items, Memory, TxId};
-use ob_code::{BodyCode, ContractCode, Image};
-use ob_code_lookups::{body_code, constructor_place, contract_code, is_interface};
+use ob_code::{
+    BodyCode, ContractCode, Image, body_code, constructor_place, contract_code, is_interface,
+};
 use std::alloc::Global;
 use std::marker::Model;
 

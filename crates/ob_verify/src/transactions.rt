@@ -4,8 +4,7 @@ ghost use Rattle.ob_verify.specs.Named.{place_in, added, plain, with_body, HaveP
 
 use indexmap::IndexMap;
 use ob_base::Memory;
-use ob_code::BodyCode;
-use ob_code_lookups::is_constructor;
+use ob_code::{BodyCode, is_constructor};
 use std::alloc::Global;
 use std::marker::Model;
 

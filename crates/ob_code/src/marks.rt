@@ -2,7 +2,7 @@
 ghost use Rattle.std.specs.Prelude.{◌≡◌, ◌<◌};
 ghost use Rattle.ob_code.specs.Code.{is_marked, is_interface, is_private, is_constructor, is_shared_at_entry, is_transaction_named};
 
-use ob_code::{BodyCode, ContractCode};
+use crate::image::{BodyCode, ContractCode};
 
 fn is_marked(bit: u8, flags: u8) -> bool
     requires { bit < 8 }

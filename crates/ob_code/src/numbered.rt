@@ -3,9 +3,9 @@ ghost use Rattle.std.specs.Prelude.{◌≡◌, position};
 ghost use Rattle.std.specs.Option.{option_copied};
 ghost use Rattle.ob_code.specs.Code.{contract_code, body_code, is_constructor};
 
+use crate::image::{BodyCode, ContractCode, Image};
 use crate::marks::is_constructor;
 use ob_base::{ContractId, TxId};
-use ob_code::{BodyCode, ContractCode, Image};
 
 /// The contract or interface of a number.
 pub fn contract_code(code: &Image, id: ContractId) -> Option<&ContractCode>
