@@ -1,2 +1,3 @@
 pub mod BodiesLemmas
+pub mod ExpressionsLemmas
 pub mod KeptLemmas

@@ -4,6 +4,7 @@
 
 mod bodies;
 mod error;
+mod expressions;
 mod position;
 mod rows;
 mod simple;

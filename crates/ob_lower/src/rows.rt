@@ -7,10 +7,10 @@ ghost use Rattle.ob_lower_functions.specs.StatementCode.{row_code, stage_code, g
 ghost use Rattle.ob_lower.specs.Waits.{then_settled};
 ghost use Rattle.ob_lower_parts.specs.Makes.{Makes, progress};
 
+use crate::expressions::lower_value;
 use crate::position::{BlockPosition, StagedRow, Waiting};
 use crate::values::{begin_value, end_with};
 use ob_base::{Items, Span, StateId};
-use ob_lower_expressions::lower_value;
 use ob_lower_parts::{AroundExpression, Code, Slots, StaticFrame, Stopped};
 use ob_silica::{Form, Given};
 use ob_table::{ResolvedGiven, ResolvedStmt};

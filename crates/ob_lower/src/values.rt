@@ -10,9 +10,9 @@ ghost use Rattle.ob_lower_functions.specs.StatementCode.{around_at, begun};
 ghost use Rattle.ob_lower_parts.specs.Makes.{Makes, progress};
 ghost use Rattle.ob_lower.specs.Plain.{alone_code};
 
+use crate::expressions::{lower_expression, lower_value};
 use crate::position::BlockPosition;
 use ob_base::{Memory, Span};
-use ob_lower_expressions::{lower_expression, lower_value};
 use ob_lower_parts::{Code, Slots, StaticFrame, Stopped, drop_temporaries};
 use ob_silica::{Form, Operand};
 use ob_table::ResolvedExpr;

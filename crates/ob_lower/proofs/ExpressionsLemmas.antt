@@ -13,7 +13,7 @@ use Rattle.ob_lower_functions.specs.Progress.{Stop, ◌>>=◌, Progress, with_te
 use Rattle.ob_lower_functions.specs.ExpressionCode.{branching, expression_code, value_code}
 use Rattle.ob_lower_parts.specs.Makes.{progress}
 use Rattle.ob_lower_parts.specs.Operands.{choice_code}
-use Rattle.ob_lower_expressions.specs.Parts.{binary_code, logical_rest, with_slots}
+use Rattle.ob_lower.specs.Parts.{binary_code, logical_rest, with_slots}
 
 pub bind-assoc : {A B C : Type 0} (r : Result A Stop) (f : A → Result B Stop) (g : B → Result C Stop)
     → (r >>= f) >>= g ≡ r >>= (λ x. f x >>= g)

@@ -5,7 +5,7 @@ ghost use Rattle.ob_table.specs.ExpressionsView.{expression_of, arguments_of, ca
 ghost use Rattle.ob_silica.specs.TermsView.{terms_of};
 ghost use Rattle.ob_lower_functions.specs.ExpressionCode.{expression_code, arguments_code, value_code};
 ghost use Rattle.ob_lower_parts.specs.Makes.{Makes, progress};
-ghost use Rattle.ob_lower_expressions.specs.Parts.{right_code, binary_code, logical_rest};
+ghost use Rattle.ob_lower.specs.Parts.{right_code, binary_code, logical_rest};
 
 use ob_base::{ContractId, Items, Span};
 use ob_lower_parts::{

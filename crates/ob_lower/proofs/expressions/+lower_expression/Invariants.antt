@@ -2,7 +2,7 @@ use Rattle.std.proofs.Common.{◌≡◌, [], drop}
 use Rattle.ob_table.specs.ExpressionsView.{arguments_of}
 use Rattle.ob_lower_functions.specs.ExpressionCode.{arguments_code}
 use Rattle.ob_lower_parts.specs.Makes.{progress}
-use Rattle.ob_lower_expressions.proofs.expressions.+lower_expression.Given as goal
+use Rattle.ob_lower.proofs.expressions.+lower_expression.Given as goal
 
 abbrev pub invariant-lower_args-loop-arg : goal.invariant-lower_args-loop-arg
 invariant-lower_args-loop-arg l =
