@@ -9,7 +9,7 @@ use Rattle.ob_parser_spec.proofs.FieldLaws.{field_laws}
 use Rattle.ob_parser_spec.proofs.MemberLaws.{member_laws, interface_member_laws}
 use Rattle.ob_parser_spec.proofs.ContractLaws.{contract_laws}
 use Rattle.ob_parser_spec.proofs.BlockLaws.{all_refs_laws, all_named_laws, all_blocks_laws}
-use Rattle.ob_parser_names.proofs.Loops.{Consumes, consumes}
+use Rattle.ob_parser_expressions.proofs.Loops.{Consumes, consumes}
 
 module _ (room : ℕ) (less : room < 256) where
   pub field_item : Consumes (read_field (all_refs room))

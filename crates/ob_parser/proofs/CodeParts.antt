@@ -15,8 +15,8 @@ use Rattle.ob_parser_spec.specs.ContractReaders.{members_of}
 use Rattle.ob_tree.specs.Members.{Member}
 use Rattle.ob_tree.specs.declared.member.Member.{Member as MemberNode}
 use Rattle.ob_parser.specs.Parts.{body_parts}
-use Rattle.ob_parser_names.specs.Answering.{Answers}
-use Rattle.ob_parser_names.specs.declared.halt.Halt.{Halt}
+use Rattle.ob_parser_expressions.specs.Answering.{Answers}
+use Rattle.ob_parser_expressions.specs.declared.halt.Halt.{Halt}
 
 module _ {A B D : Type 0} (x : B) (make : B × A → D) where
   -- a row after what has been read

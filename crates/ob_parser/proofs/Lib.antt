@@ -1,3 +1,4 @@
+pub mod CodeStatements
 pub mod CodeParts
 pub mod CodeMembers
 pub mod Whole

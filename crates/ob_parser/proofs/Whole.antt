@@ -12,11 +12,11 @@ use Rattle.ob_parser_spec.specs.Grammar.{tokens_of, HasTree, fault_in, HasSyntax
 use Rattle.ob_parser_spec.specs.Readers.{Read, done, stop, deep, Reader}
 use Rattle.ob_parser_spec.specs.ContractReaders.{contract_first}
 use Rattle.ob_parser_spec.specs.AllReaders.{all_programs}
-use Rattle.ob_parser_names.specs.Answering.{Halts, not_halted, stopped_with, deep_with}
+use Rattle.ob_parser_expressions.specs.Answering.{Halts, not_halted, stopped_with, deep_with}
 use Rattle.ob_parser.specs.Parsing.{whole, span_or_end, span_at, error_at}
 use Rattle.ob_base.specs.TextErrors.{OnFault}
-use Rattle.ob_parser_names.specs.declared.halt.Halt.{Halt}
-use Rattle.ob_parser_names.specs.declared.halt.Halt.TheVariants as halt
+use Rattle.ob_parser_expressions.specs.declared.halt.Halt.{Halt}
+use Rattle.ob_parser_expressions.specs.declared.halt.Halt.TheVariants as halt
 use Rattle.ob_parser_spec.proofs.Laws.{Laws, Case, is_done, is_stop, is_deep, case_of}
 use Rattle.ob_parser_spec.proofs.Outcomes.{has_tree, refused_at_token, refused_after, refused_at_end, refused_deep}
 use Rattle.ob_parser_spec.proofs.ProgramLaws.{whole_laws}

@@ -1,2 +1,3 @@
+pub mod CodeStatements
 pub mod Parts
 pub mod Parsing

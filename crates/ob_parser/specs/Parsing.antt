@@ -8,9 +8,9 @@ use Rattle.ob_tree.specs.MembersView.{tree_of}
 use Rattle.ob_tree.specs.declared.contract.Tree.{Tree}
 use Rattle.ob_parser_spec.specs.Grammar.{fault_in}
 use Rattle.ob_parser_spec.specs.Readers.{Read, done, stop, deep}
-use Rattle.ob_parser_names.specs.Answering.{Halts}
-use Rattle.ob_parser_names.specs.declared.halt.Halt.{Halt}
-use Rattle.ob_parser_names.specs.declared.halt.Halt.TheVariants as halt
+use Rattle.ob_parser_expressions.specs.Answering.{Halts}
+use Rattle.ob_parser_expressions.specs.declared.halt.Halt.{Halt}
+use Rattle.ob_parser_expressions.specs.declared.halt.Halt.TheVariants as halt
 use Rattle.ob_base.specs.declared.text_error.TextError.{TextError}
 use Rattle.ob_base.specs.declared.text_error.TextError.TheVariants.{Fault, Memory}
 

@@ -17,12 +17,12 @@ ghost use Rattle.ob_parser_spec.specs.AllReaders.{all_refs, all_blocks, all_prog
 ghost use Rattle.ob_parser_spec.specs.StmtReaders.{read_sign};
 ghost use Rattle.ob_lexer.specs.declared.token.Sign.TheVariants.{CloseBrace};
 ghost use Rattle.ob_parser.specs.Parts.{title_part, body_parts, kind_part};
-ghost use Rattle.ob_parser_names.specs.Answering.{Answers, as_it_is};
+ghost use Rattle.ob_parser_expressions.specs.Answering.{Answers, as_it_is};
 
 use crate::members::{interface_member, member};
 use ob_base::{Items, Mode, Span};
 use ob_lexer::{Sign, Token, Word};
-use ob_parser_names::{
+use ob_parser_expressions::{
     Halt, Symbol, before, fixed, mode_word, name_part, named, span_between, starts_with,
     starts_with_one_of, with,
 };

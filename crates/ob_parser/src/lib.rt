@@ -7,5 +7,7 @@
 mod contracts;
 mod members;
 mod parsing;
+mod simple;
+mod statements;
 
 pub use parsing::{ParseError, parse};

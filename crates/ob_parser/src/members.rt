@@ -20,15 +20,15 @@ ghost use Rattle.ob_parser_spec.specs.AllReaders.{all_refs, all_blocks};
 ghost use Rattle.ob_parser_spec.specs.StmtReaders.{read_sign};
 ghost use Rattle.ob_lexer.specs.declared.token.Sign.TheVariants.{Semicolon};
 ghost use Rattle.ob_parser.specs.Parts.{access_part, head_part, tail_part};
-ghost use Rattle.ob_parser_names.specs.Answering.{Answers, as_it_is};
+ghost use Rattle.ob_parser_expressions.specs.Answering.{Answers, as_it_is};
 
+use crate::statements::block;
 use ob_base::{Items, Span};
 use ob_lexer::{Sign, Token, Word};
-use ob_parser_names::{
+use ob_parser_expressions::{
     Halt, Symbol, TYPES, VALUE_TYPES, before, ended, fixed, listed_part, name_list, name_part,
     params, reference, span_between, starts_with, starts_with_one_of, type_node, value_type, with,
 };
-use ob_parser_statements::block;
 use ob_tree::{Block, FieldNode, FormalNode, ListedNode, Member, NamePart, RefNode, TypeNode};
 use std::alloc::Global;
 

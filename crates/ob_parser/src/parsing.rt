@@ -11,7 +11,7 @@ ghost use Rattle.ob_base.specs.TextErrors.{OnFault};
 use crate::contracts::program;
 use ob_base::{EXPECTED, MOST_OPEN, ProgramFault, Span, TOO_DEEP, TextError};
 use ob_lexer::Token;
-use ob_parser_names::{Halt, refused};
+use ob_parser_expressions::{Halt, refused};
 use ob_tree::Tree;
 use std::alloc::Global;
 

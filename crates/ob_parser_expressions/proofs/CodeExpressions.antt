@@ -20,10 +20,10 @@ use Rattle.ob_parser_spec.specs.Primaries.{expr_first, grouped, read_group, argu
 use Rattle.ob_parser_spec.specs.AllReaders.{all_refs, all_unary, all_counted, all_exprs}
 use Rattle.ob_parser_expressions.specs.declared.levels.Level.{Level}
 use Rattle.ob_parser_expressions.specs.declared.levels.Level.TheVariants.{Or, And, Equality, Relation, Sum, Product}
-use Rattle.ob_parser_names.specs.declared.halt.Halt.{Halt}
-use Rattle.ob_parser_names.specs.declared.halt.Halt.TheVariants as halt
+use Rattle.ob_parser_expressions.specs.declared.halt.Halt.{Halt}
+use Rattle.ob_parser_expressions.specs.declared.halt.Halt.TheVariants as halt
 use Rattle.ob_parser_expressions.specs.Levels.{number_of_level, repeats, read_row, read_operand, read_further}
-use Rattle.ob_parser_names.specs.Answering.{Halts, Answers, prefixed}
+use Rattle.ob_parser_expressions.specs.Answering.{Halts, Answers, prefixed}
 use Rattle.ob_parser_spec.proofs.Laws.{Laws, Case, is_done, is_stop, is_deep, case_of}
 use Rattle.ob_parser_spec.proofs.Lists.{after_sign, item_laws}
 use Rattle.ob_parser_spec.proofs.Chains.{at_level}
@@ -31,8 +31,8 @@ use Rattle.ob_parser_spec.proofs.ExprLaws.{after_operand, row_1, row_2, row_3, r
 use Rattle.ob_parser_spec.proofs.DepthLaws.{unary_all, after_expr}
 use Rattle.ob_parser_spec.proofs.Arguments.{expr_laws}
 use Rattle.ob_parser_spec.proofs.Deeper.{unary_step}
-use Rattle.ob_parser_names.proofs.Halts.{halts_bind}
-use Rattle.ob_parser_names.proofs.Loops.{Consumes, consumes, one_more_from, none_from, halts_from}
+use Rattle.ob_parser_expressions.proofs.Halts.{halts_bind}
+use Rattle.ob_parser_expressions.proofs.Loops.{Consumes, consumes, one_more_from, none_from, halts_from}
 
 -- ---- operands have tokens
 

@@ -7,11 +7,11 @@ use Rattle.ob_lexer.specs.declared.token.Sign.{Sign}
 use Rattle.ob_parser_spec.specs.Symbols.{a_sign}
 use Rattle.ob_parser_spec.specs.Readers.{Read, done, Reader, ◌>>=◌, and_after, span_if, read_token, read_opened, put_before, read_many}
 use Rattle.ob_parser_spec.specs.NameReaders.{on, second, read_item, read_parted, inner, read_counted}
-use Rattle.ob_parser_names.specs.Answering.{Halts, Answers, read_open}
-use Rattle.ob_parser_names.specs.Places.{first_span}
-use Rattle.ob_parser_names.specs.declared.halt.Halt.{Halt}
-use Rattle.ob_parser_names.proofs.Halts.{halts_bind}
-use Rattle.ob_parser_names.proofs.CodeTokens.{opened_is}
+use Rattle.ob_parser_expressions.specs.Answering.{Halts, Answers, read_open}
+use Rattle.ob_parser_expressions.specs.Places.{first_span}
+use Rattle.ob_parser_expressions.specs.declared.halt.Halt.{Halt}
+use Rattle.ob_parser_expressions.proofs.Halts.{halts_bind}
+use Rattle.ob_parser_expressions.proofs.CodeTokens.{opened_is}
 
 -- ---- a part under a token that counts
 

@@ -1,2 +1,9 @@
+pub mod Halts
+pub mod Loops
+pub mod Nexts
+pub mod CodeItems
+pub mod CodeTokens
+pub mod CodeParams
+pub mod Tails
 pub mod CodeParts
 pub mod CodeExpressions

@@ -1,2 +1,4 @@
-pub mod Levels
+pub mod Answering
 pub mod ExprAnswers
+pub mod Levels
+pub mod Places

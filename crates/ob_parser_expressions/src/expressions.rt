@@ -26,19 +26,19 @@ ghost use Rattle.ob_parser_spec.specs.Primaries.{uncounted, read_group, read_arg
 ghost use Rattle.ob_parser_spec.specs.StmtReaders.{read_called_name, read_called_this};
 ghost use Rattle.ob_parser_spec.specs.AllReaders.{all_refs, all_unary, all_counted, all_exprs};
 ghost use Rattle.ob_parser_expressions.specs.Levels.{number_of_level, read_row, read_operand};
-ghost use Rattle.ob_parser_names.specs.Answering.{Answers, AnswersBoth};
+ghost use Rattle.ob_parser_expressions.specs.Answering.{Answers, AnswersBoth};
 ghost use Rattle.ob_parser_expressions.specs.ExprAnswers.{with_count, with_none, tail_of, method_parts, step_of};
 
+use crate::halt::Halt;
 use crate::levels::{
     Level, opens_operator, opens_unary, repeats, starts_with_operator, starts_with_unary, tighter,
 };
+use crate::names::{name_part, named};
+use crate::parts::before;
 use crate::primaries::{Operation, TailPart, binary, called, called_this, literal, moved, negated};
+use crate::tokens::{Symbol, fixed, opens, span_between, starts_with, starts_with_one_of};
 use ob_base::{Items, Span};
 use ob_lexer::{Sign, Token, Word};
-use ob_parser_names::{
-    Halt, Symbol, before, fixed, name_part, named, opens, span_between, starts_with,
-    starts_with_one_of,
-};
 use ob_tree::{Expr, NamePart};
 use std::alloc::Global;
 

@@ -15,11 +15,12 @@ ghost use Rattle.ob_parser_spec.specs.Readers.{one_among, begin_with, read_token
 ghost use Rattle.ob_parser_spec.specs.Operators.{of_level, symbol_of_operator, operator_if, signs_of_level};
 ghost use Rattle.ob_parser_spec.specs.ExprReaders.{unary_if, unary_signs};
 ghost use Rattle.ob_parser_expressions.specs.Levels.{number_of_level, levels_from, tighter, repeats, operator_with_span};
-ghost use Rattle.ob_parser_names.specs.Answering.{AnswersBoth, read_open};
+ghost use Rattle.ob_parser_expressions.specs.Answering.{AnswersBoth, read_open};
 
+use crate::halt::Halt;
+use crate::tokens::{Symbol, is_symbol, refused};
 use ob_base::{Operator, Span};
 use ob_lexer::Token;
-use ob_parser_names::{Halt, Symbol, is_symbol, refused};
 use ob_tree::{OPERATORS, level_of, sign_of_operator};
 
 /// The levels of operators with two operands, from the loosest to the tightest.

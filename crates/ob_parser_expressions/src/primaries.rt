@@ -6,13 +6,14 @@ ghost use Rattle.ob_tree.specs.declared.name.Subject.TheVariants.{This};
 ghost use Rattle.ob_parser_spec.specs.Rows.{joined};
 ghost use Rattle.ob_parser_spec.specs.Readers.{read_token};
 ghost use Rattle.ob_parser_spec.specs.Primaries.{moved, literal_if, name_with_tail};
-ghost use Rattle.ob_parser_names.specs.Answering.{Answers};
+ghost use Rattle.ob_parser_expressions.specs.Answering.{Answers};
 ghost use Rattle.ob_parser_expressions.specs.ExprAnswers.{with_none, tail_of};
-ghost use Rattle.ob_parser_names.specs.declared.halt.Halt.TheVariants.{Memory};
+ghost use Rattle.ob_parser_expressions.specs.declared.halt.Halt.TheVariants.{Memory};
 
+use crate::halt::Halt;
+use crate::tokens::{joined, refused};
 use ob_base::{Boxed, Duplicate, Items, Operator, Span};
 use ob_lexer::{Token, TokenKind, Word};
-use ob_parser_names::{Halt, joined, refused};
 use ob_tree::{CallNode, Expr, NamePart, Subject, span_of_expr};
 use std::alloc::Global;
 

@@ -1,8 +1,8 @@
 use Rattle.std.proofs.Common.{rules}
 use Rattle.ob_parser_spec.specs.ContractReaders.{member_first, read_member, read_body}
 use Rattle.ob_parser_spec.specs.AllReaders.{all_refs, all_blocks}
-use Rattle.ob_parser_names.specs.Answering.{Halts}
-use Rattle.ob_parser_names.proofs.Halts.{halts_bind}
+use Rattle.ob_parser_expressions.specs.Answering.{Halts}
+use Rattle.ob_parser_expressions.proofs.Halts.{halts_bind}
 use Rattle.ob_parser_spec.specs.Readers.{read_many}
 use Rattle.ob_parser.proofs.CodeParts.{body_answer}
 use Rattle.ob_parser.proofs.contracts.contract_body.Goals as goal

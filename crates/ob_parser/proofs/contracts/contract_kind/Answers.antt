@@ -3,10 +3,10 @@ use Rattle.ob_tree.specs.NamesView.{named_of}
 use Rattle.ob_parser_spec.specs.NameReaders.{read_named}
 use Rattle.ob_parser_spec.specs.ContractReaders.{read_contract_kind}
 use Rattle.ob_parser_spec.specs.AllReaders.{all_refs, all_blocks}
-use Rattle.ob_parser_names.specs.Answering.{Halts}
+use Rattle.ob_parser_expressions.specs.Answering.{Halts}
 use Rattle.ob_parser.specs.Parts.{body_parts}
-use Rattle.ob_parser_names.proofs.Halts.{halts_bind}
-use Rattle.ob_parser_names.proofs.Nexts.{next_done, next_halts}
+use Rattle.ob_parser_expressions.proofs.Halts.{halts_bind}
+use Rattle.ob_parser_expressions.proofs.Nexts.{next_done, next_halts}
 use Rattle.ob_parser.proofs.contracts.contract_kind.Goals as goal
 
 pub returns-in_err-named : goal.returns-in_err-named

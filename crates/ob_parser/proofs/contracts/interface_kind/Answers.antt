@@ -1,7 +1,7 @@
 use Rattle.std.proofs.Common.{rules, refl}
 use Rattle.ob_parser.specs.Parts.{body_parts}
-use Rattle.ob_parser_names.proofs.Nexts.{next_done}
-use Rattle.ob_parser_names.proofs.Halts.{halts_bind}
+use Rattle.ob_parser_expressions.proofs.Nexts.{next_done}
+use Rattle.ob_parser_expressions.proofs.Halts.{halts_bind}
 use Rattle.ob_parser.proofs.contracts.interface_kind.Goals as goal
 
 pub returns-in_err-rest : goal.returns-in_err-rest

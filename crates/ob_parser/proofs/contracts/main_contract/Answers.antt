@@ -2,8 +2,8 @@ use Rattle.std.proofs.Common.{rules, refl}
 use Rattle.ob_parser_spec.specs.NameReaders.{read_named}
 use Rattle.ob_parser_spec.specs.ContractReaders.{read_main}
 use Rattle.ob_parser_spec.specs.AllReaders.{all_refs, all_blocks}
-use Rattle.ob_parser_names.specs.Answering.{Halts}
-use Rattle.ob_parser_names.proofs.Halts.{halts_bind}
+use Rattle.ob_parser_expressions.specs.Answering.{Halts}
+use Rattle.ob_parser_expressions.proofs.Halts.{halts_bind}
 use Rattle.ob_parser.proofs.contracts.main_contract.Goals as goal
 
 pub returns-in_err-kind : goal.returns-in_err-kind

@@ -3,7 +3,7 @@ use Rattle.ob_tree.specs.MembersView.{member_of}
 use Rattle.ob_parser_spec.specs.Readers.{read_many}
 use Rattle.ob_parser_spec.specs.ContractReaders.{member_first, read_member}
 use Rattle.ob_parser_spec.specs.AllReaders.{all_refs, all_blocks}
-use Rattle.ob_parser_names.specs.Answering.{prefixed}
+use Rattle.ob_parser_expressions.specs.Answering.{prefixed}
 use Rattle.ob_parser.proofs.contracts.member_list.Given as goal
 
 abbrev pub invariant-members : goal.invariant-members

@@ -1,8 +1,8 @@
 use Rattle.std.proofs.Common.{rules, ◌∙◌, sym, ap, Some}
 use Rattle.ob_parser_spec.specs.Readers.{done, ◌>>=◌}
 use Rattle.ob_parser_spec.specs.ContractReaders.{read_maybe_generic}
-use Rattle.ob_parser_names.specs.Answering.{Halts}
-use Rattle.ob_parser_names.proofs.Halts.{halts_bind}
+use Rattle.ob_parser_expressions.specs.Answering.{Halts}
+use Rattle.ob_parser_expressions.proofs.Halts.{halts_bind}
 use Rattle.ob_parser.proofs.contracts.optional_generic.Goals as goal
 
 pub returns-in_err-param : goal.returns-in_err-param

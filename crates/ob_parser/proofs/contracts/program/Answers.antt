@@ -4,8 +4,8 @@ use Rattle.ob_parser_spec.specs.Readers.{read_many}
 use Rattle.ob_parser_spec.specs.NameReaders.{read_named}
 use Rattle.ob_parser_spec.specs.ContractReaders.{contract_first, read_contract}
 use Rattle.ob_parser_spec.specs.AllReaders.{all_refs, all_blocks}
-use Rattle.ob_parser_names.proofs.Loops.{kept_as}
-use Rattle.ob_parser_names.proofs.Tails.{halts_in, begun_as}
+use Rattle.ob_parser_expressions.proofs.Loops.{kept_as}
+use Rattle.ob_parser_expressions.proofs.Tails.{halts_in, begun_as}
 use Rattle.ob_parser.proofs.CodeMembers.{contract_item}
 use Rattle.ob_parser.proofs.contracts.program.Goals as goal
 

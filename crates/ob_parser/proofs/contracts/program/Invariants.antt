@@ -4,7 +4,7 @@ use Rattle.ob_parser_spec.specs.Readers.{read_many}
 use Rattle.ob_parser_spec.specs.NameReaders.{read_named}
 use Rattle.ob_parser_spec.specs.ContractReaders.{contract_first, read_contract}
 use Rattle.ob_parser_spec.specs.AllReaders.{all_refs, all_blocks}
-use Rattle.ob_parser_names.specs.Answering.{prefixed}
+use Rattle.ob_parser_expressions.specs.Answering.{prefixed}
 use Rattle.ob_parser.proofs.contracts.program.Given as goal
 
 abbrev pub invariant-contracts : goal.invariant-contracts

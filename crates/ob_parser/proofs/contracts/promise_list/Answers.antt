@@ -3,8 +3,8 @@ use Rattle.ob_tree.specs.MembersView.{member_of}
 use Rattle.ob_parser_spec.specs.Readers.{read_many}
 use Rattle.ob_parser_spec.specs.ContractReaders.{promise_first, read_interface_member}
 use Rattle.ob_parser_spec.specs.AllReaders.{all_refs}
-use Rattle.ob_parser_names.proofs.Loops.{kept_as}
-use Rattle.ob_parser_names.proofs.Tails.{halts_in, begun_as}
+use Rattle.ob_parser_expressions.proofs.Loops.{kept_as}
+use Rattle.ob_parser_expressions.proofs.Tails.{halts_in, begun_as}
 use Rattle.ob_parser.proofs.CodeMembers.{interface_item}
 use Rattle.ob_parser.proofs.contracts.promise_list.Goals as goal
 

@@ -1,8 +1,8 @@
 use Rattle.std.proofs.Common.{rules}
 use Rattle.ob_parser_spec.specs.ContractReaders.{read_braced}
 use Rattle.ob_parser_spec.specs.AllReaders.{all_refs}
-use Rattle.ob_parser_names.specs.Answering.{Halts}
-use Rattle.ob_parser_names.proofs.Halts.{halts_bind}
+use Rattle.ob_parser_expressions.specs.Answering.{Halts}
+use Rattle.ob_parser_expressions.proofs.Halts.{halts_bind}
 use Rattle.ob_parser.proofs.members.braced_fields.Goals as goal
 
 pub returns-in_err-fields : goal.returns-in_err-fields

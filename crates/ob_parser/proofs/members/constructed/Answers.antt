@@ -2,9 +2,9 @@ use Rattle.std.proofs.Common.{rules}
 use Rattle.ob_tree.specs.StmtsView.{block_of}
 use Rattle.ob_parser_spec.specs.ContractReaders.{read_constructed}
 use Rattle.ob_parser_spec.specs.AllReaders.{all_refs, all_blocks}
-use Rattle.ob_parser_names.specs.Answering.{Halts}
-use Rattle.ob_parser_names.proofs.Halts.{halts_bind}
-use Rattle.ob_parser_names.proofs.Nexts.{next_halts}
+use Rattle.ob_parser_expressions.specs.Answering.{Halts}
+use Rattle.ob_parser_expressions.proofs.Halts.{halts_bind}
+use Rattle.ob_parser_expressions.proofs.Nexts.{next_halts}
 use Rattle.ob_parser.proofs.members.constructed.Goals as goal
 
 pub returns-in_err-params : goal.returns-in_err-params

@@ -1,7 +1,7 @@
 use Rattle.std.proofs.Common.{rules}
 use Rattle.ob_parser_spec.specs.MemberReaders.{read_type}
 use Rattle.ob_parser_spec.specs.AllReaders.{all_refs}
-use Rattle.ob_parser_names.proofs.Halts.{halts_bind}
+use Rattle.ob_parser_expressions.proofs.Halts.{halts_bind}
 use Rattle.ob_parser.proofs.CodeParts.{field_answer}
 use Rattle.ob_parser.proofs.members.field.Goals as goal
 

@@ -3,8 +3,8 @@ use Rattle.ob_tree.specs.MembersView.{field_of}
 use Rattle.ob_parser_spec.specs.Readers.{read_many}
 use Rattle.ob_parser_spec.specs.MemberReaders.{types, read_field}
 use Rattle.ob_parser_spec.specs.AllReaders.{all_refs}
-use Rattle.ob_parser_names.proofs.Loops.{kept_as}
-use Rattle.ob_parser_names.proofs.Tails.{halts_in, begun_as}
+use Rattle.ob_parser_expressions.proofs.Loops.{kept_as}
+use Rattle.ob_parser_expressions.proofs.Tails.{halts_in, begun_as}
 use Rattle.ob_parser.proofs.CodeMembers.{field_item}
 use Rattle.ob_parser.proofs.members.field_list.Goals as goal
 

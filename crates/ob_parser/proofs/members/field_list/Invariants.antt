@@ -3,7 +3,7 @@ use Rattle.ob_tree.specs.MembersView.{field_of}
 use Rattle.ob_parser_spec.specs.Readers.{read_many}
 use Rattle.ob_parser_spec.specs.MemberReaders.{types, read_field}
 use Rattle.ob_parser_spec.specs.AllReaders.{all_refs}
-use Rattle.ob_parser_names.specs.Answering.{prefixed}
+use Rattle.ob_parser_expressions.specs.Answering.{prefixed}
 use Rattle.ob_parser.proofs.members.field_list.Given as goal
 
 abbrev pub invariant-fields : goal.invariant-fields

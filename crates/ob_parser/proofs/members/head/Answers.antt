@@ -2,9 +2,9 @@ use Rattle.std.proofs.Common.{rules, map}
 use Rattle.ob_tree.specs.MembersView.{formal_of}
 use Rattle.ob_parser_spec.specs.MemberReaders.{read_head}
 use Rattle.ob_parser_spec.specs.AllReaders.{all_refs}
-use Rattle.ob_parser_names.specs.Answering.{Halts}
-use Rattle.ob_parser_names.proofs.Halts.{halts_bind}
-use Rattle.ob_parser_names.proofs.Nexts.{next_halts}
+use Rattle.ob_parser_expressions.specs.Answering.{Halts}
+use Rattle.ob_parser_expressions.proofs.Halts.{halts_bind}
+use Rattle.ob_parser_expressions.proofs.Nexts.{next_halts}
 use Rattle.ob_parser.proofs.members.head.Goals as goal
 
 pub returns-in_err-name-3 : goal.returns-in_err-name-3

@@ -2,10 +2,10 @@ use Rattle.std.proofs.Common.{rules}
 use Rattle.ob_tree.specs.StmtsView.{block_of}
 use Rattle.ob_parser_spec.specs.ContractReaders.{read_transaction}
 use Rattle.ob_parser_spec.specs.AllReaders.{all_refs, all_blocks}
-use Rattle.ob_parser_names.specs.Answering.{Halts}
+use Rattle.ob_parser_expressions.specs.Answering.{Halts}
 use Rattle.ob_parser.specs.Parts.{head_part}
-use Rattle.ob_parser_names.proofs.Halts.{halts_bind}
-use Rattle.ob_parser_names.proofs.Nexts.{next_done, next_halts}
+use Rattle.ob_parser_expressions.proofs.Halts.{halts_bind}
+use Rattle.ob_parser_expressions.proofs.Nexts.{next_done, next_halts}
 use Rattle.ob_parser.proofs.members.transaction.Goals as goal
 
 pub returns-in_err-access-3 : goal.returns-in_err-access-3

@@ -1,7 +1,7 @@
 use Rattle.std.proofs.Common.{rules}
 use Rattle.ob_parser_spec.specs.Readers.{read_token}
 use Rattle.ob_parser_spec.specs.MemberReaders.{value_type_if}
-use Rattle.ob_parser_names.proofs.Halts.{halts_bind}
+use Rattle.ob_parser_expressions.proofs.Halts.{halts_bind}
 use Rattle.ob_parser.proofs.CodeParts.{field_answer}
 use Rattle.ob_parser.proofs.members.value_field.Goals as goal
 

@@ -10,9 +10,9 @@ use Rattle.ob_parser_spec.specs.Primaries.{read_arguments}
 use Rattle.ob_parser_spec.specs.NameReaders.{on, read_item, read_parted}
 use Rattle.ob_parser_spec.specs.AllReaders.{all_unary, all_counted, all_exprs}
 use Rattle.ob_parser_expressions.specs.Levels.{number_of_level, read_operand}
-use Rattle.ob_parser_names.specs.Answering.{Halts}
-use Rattle.ob_parser_names.proofs.Halts.{halts_bind}
-use Rattle.ob_parser_names.proofs.Loops.{parted_begins, kept_as, none_more, halts_more}
+use Rattle.ob_parser_expressions.specs.Answering.{Halts}
+use Rattle.ob_parser_expressions.proofs.Halts.{halts_bind}
+use Rattle.ob_parser_expressions.proofs.Loops.{parted_begins, kept_as, none_more, halts_more}
 use Rattle.ob_parser_expressions.proofs.CodeParts.{opened_halts, opened_done, not_opened, inside_halts, end_halts, counted_done, closed_answer, parted_halts, item_halts, item_done}
 use Rattle.ob_parser_expressions.proofs.CodeExpressions.{expr_item, row_begins, row_extended, row_halts, row_ends, single_extended, single_ends, single_halts, row_is_chain, row_is_single, extended_is, fewer_extended, halts_back, negation_halts, negation_done, primary_is, arguments_are, group_halts, group_done}
 use Rattle.ob_parser_expressions.proofs.expressions.+expr.Goals as goal

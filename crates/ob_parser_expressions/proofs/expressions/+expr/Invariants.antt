@@ -7,7 +7,7 @@ use Rattle.ob_parser_spec.specs.AllReaders.{all_exprs}
 use Rattle.ob_parser_spec.specs.Operators.{operator_if, signs_of_level}
 use Rattle.ob_parser_spec.specs.Chains.{read_chain}
 use Rattle.ob_parser_expressions.specs.Levels.{number_of_level, levels_from, read_operand, read_further}
-use Rattle.ob_parser_names.specs.Answering.{prefixed}
+use Rattle.ob_parser_expressions.specs.Answering.{prefixed}
 use Rattle.ob_parser_expressions.proofs.expressions.+expr.Given as goal
 
 abbrev pub decreases-applied : goal.decreases-applied

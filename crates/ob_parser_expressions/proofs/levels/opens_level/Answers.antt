@@ -1,6 +1,6 @@
 use Rattle.std.proofs.Common.{rules, arith}
 use Rattle.ob_parser_spec.specs.Operators.{operator_if}
-use Rattle.ob_parser_names.proofs.CodeTokens.{open_halts, open_deep, open_done}
+use Rattle.ob_parser_expressions.proofs.CodeTokens.{open_halts, open_deep, open_done}
 use Rattle.ob_parser_expressions.proofs.levels.opens_level.Goals as goal
 
 pub returns-in_err-operator-clause-read : goal.returns-in_err-operator-clause-read

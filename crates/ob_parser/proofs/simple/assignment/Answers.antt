@@ -1,0 +1,6 @@
+use Rattle.std.proofs.Common.{rules}
+use Rattle.ob_parser_expressions.proofs.Halts.{halts_bind}
+use Rattle.ob_parser.proofs.simple.assignment.Goals as goal
+
+pub returns-in_err-name : goal.returns-in_err-name
+returns-in_err-name c = search (rules, halts_bind)

@@ -1,0 +1,6 @@
+use Rattle.std.proofs.Common.{rules}
+use Rattle.ob_parser_expressions.proofs.Halts.{halts_bind}
+use Rattle.ob_parser.proofs.simple.optional_value.Goals as goal
+
+pub returns-in_err-value : goal.returns-in_err-value
+returns-in_err-value c = search (rules, halts_bind)

@@ -1,0 +1,12 @@
+use Rattle.std.proofs.Common.{rules}
+use Rattle.ob_parser_expressions.proofs.Halts.{halts_bind}
+use Rattle.ob_parser.proofs.simple.returning.Goals as goal
+
+pub returns-in_err-rest : goal.returns-in_err-rest
+returns-in_err-rest c = search (rules, halts_bind)
+
+pub returns-in_err-value : goal.returns-in_err-value
+returns-in_err-value c = search (rules, halts_bind)
+
+pub returns-in_err-value-2 : goal.returns-in_err-value-2
+returns-in_err-value-2 c = search (rules, halts_bind)

@@ -1,0 +1,12 @@
+use Rattle.std.proofs.Common.{rules}
+use Rattle.ob_parser_expressions.proofs.Halts.{halts_bind}
+use Rattle.ob_parser.proofs.simple.reverting.Goals as goal
+
+pub returns-in_err-rest : goal.returns-in_err-rest
+returns-in_err-rest c = search (rules, halts_bind)
+
+pub returns-in_err-text : goal.returns-in_err-text
+returns-in_err-text c = search (rules, halts_bind)
+
+pub returns-in_err-text-2 : goal.returns-in_err-text-2
+returns-in_err-text-2 c = search (rules, halts_bind)

@@ -1,0 +1,12 @@
+use Rattle.std.proofs.Common.{rules}
+use Rattle.ob_parser_expressions.proofs.Halts.{halts_bind}
+use Rattle.ob_parser.proofs.statements.test.Goals as goal
+
+pub returns-in_err-subject : goal.returns-in_err-subject
+returns-in_err-subject c = search (rules, halts_bind)
+
+pub returns-in_err-subject-2 : goal.returns-in_err-subject-2
+returns-in_err-subject-2 c = search (rules, halts_bind)
+
+pub returns-in_err-subject-3 : goal.returns-in_err-subject-3
+returns-in_err-subject-3 c = search (rules, halts_bind)

@@ -1,6 +1,0 @@
-use Rattle.std.proofs.Common.{rules}
-use Rattle.ob_parser_names.proofs.Halts.{halts_bind}
-use Rattle.ob_parser_names.proofs.names.type_node.Goals as goal
-
-pub returns-in_err-of : goal.returns-in_err-of
-returns-in_err-of c = search (rules, halts_bind)

@@ -1,9 +1,0 @@
-use Rattle.std.proofs.Common.{rules}
-use Rattle.ob_parser_names.proofs.Halts.{halts_bind}
-use Rattle.ob_parser_statements.proofs.simple.assigned.Goals as goal
-
-pub returns-in_err-rest : goal.returns-in_err-rest
-returns-in_err-rest c = search (rules, halts_bind)
-
-pub returns-in_err-value : goal.returns-in_err-value
-returns-in_err-value c = search (rules, halts_bind)

@@ -1,6 +1,0 @@
-use Rattle.std.proofs.Common.{rules}
-use Rattle.ob_parser_names.proofs.Halts.{halts_bind}
-use Rattle.ob_parser_statements.proofs.statements.question.Goals as goal
-
-pub returns-in_err-condition : goal.returns-in_err-condition
-returns-in_err-condition c = search (rules, halts_bind)
