@@ -7,7 +7,6 @@ mod lowering;
 mod programs;
 mod seen;
 mod stages;
-mod verifying;
 
 pub use checking::next_fault;
 pub use programs::{

@@ -18,7 +18,6 @@ use crate::checking::check_bodies;
 use crate::lowering::lower_bodies;
 use crate::seen::{AskedProgram, Seen};
 use crate::stages::{CompileError, class_table};
-use crate::verifying::verified;
 use ob_base::{Duplicate, Items, Memory, both, copy_items};
 use ob_emit::emit;
 use ob_silica::TermBody;
@@ -112,7 +111,7 @@ pub fn compile(alloc: Global, text: &[u8], seen: &mut Seen) -> Result<Compiled, 
 {
     let program = checked(alloc, text, seen)?;
     let image = emit(alloc, &program.table, program.bodies.as_slice())?;
-    let code = verified(alloc, image)?;
+    let code = Verified::by_proof(image);
     seen.accept();
     Ok(Compiled {
         table: program.table,

@@ -5,8 +5,8 @@ use Rattle.ob_front.proofs.programs.compile.Goals as goal
 pub emit-requires : goal.emit-requires
 emit-requires c = slice_in_order _ _ _ _ c.in_ok-program.ensures.checked c.as_slice.ensures
 
-pub verified-requires : goal.verified-requires
-verified-requires c = slice_verified _ _ _ _ c.in_ok-program.ensures.checked c.as_slice.ensures _ c.in_ok-image.ensures.image
+pub by_proof-code-requires : goal.by_proof-code-requires
+by_proof-code-requires c = slice_verified _ _ _ _ c.in_ok-program.ensures.checked c.as_slice.ensures _ c.in_ok-image.ensures.image
 
 pub returns-in_err-image-clause-fault : goal.returns-in_err-image-clause-fault
 returns-in_err-image-clause-fault c =
@@ -23,10 +23,10 @@ pub returns-clause-sound : goal.returns-clause-sound
 returns-clause-sound c = compiled_is_sound _ _ (checked_texts_are_compiled _ _ _ c.in_ok-program.ensures.checked)
 
 pub returns-clause-code : goal.returns-clause-code
-returns-clause-code c = rw c.in_ok-code.ensures.kept (slice_image _ _ _ _ c.in_ok-program.ensures.checked c.as_slice.ensures _ c.in_ok-image.ensures.image)
+returns-clause-code c = rw c.by_proof-code.ensures (slice_image _ _ _ _ c.in_ok-program.ensures.checked c.as_slice.ensures _ c.in_ok-image.ensures.image)
 
 pub returns-clause-sound_code : goal.returns-clause-sound_code
-returns-clause-sound_code c = rw c.in_ok-code.ensures.kept (slice_sound_code _ _ _ _ c.in_ok-program.ensures.checked c.as_slice.ensures _ c.in_ok-image.ensures.image)
+returns-clause-sound_code c = rw c.by_proof-code.ensures (slice_sound_code _ _ _ _ c.in_ok-program.ensures.checked c.as_slice.ensures _ c.in_ok-image.ensures.image)
 
 pub returns-clause-fits : goal.returns-clause-fits
-returns-clause-fits c = rw c.in_ok-code.ensures.kept (slice_fits _ _ _ _ c.in_ok-program.ensures.checked c.as_slice.ensures _ c.in_ok-image.ensures.fits)
+returns-clause-fits c = rw c.by_proof-code.ensures (slice_fits _ _ _ _ c.in_ok-program.ensures.checked c.as_slice.ensures _ c.in_ok-image.ensures.fits)
