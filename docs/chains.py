@@ -4,6 +4,7 @@
 It prints the longest chain of crates. It fails, with a line for each cause, where
 - that chain is longer than 14 crates,
 - a crate of the source meaning, of Silica, of lowering or of the flow check stands, however far below, on the lexer or the tree,
+- a crate stands in crates.txt under none of the groups, each of which a comment heads, or before one that it names,
 - or the table of floors in docs/ARCHITECTURE.md isn't the one that follows from crates.txt; with `--write` it is written there.
 A crate's floor is the number of crates in the longest chain below it. Libraries of the toolchain don't count.
 """
@@ -16,6 +17,8 @@ LONGEST = 14
 # What means the same whatever the text looked like, and what it therefore never stands on.
 MEANINGS = ("ob_source_", "ob_heap_spec", "ob_table_spec", "ob_silica", "ob_lower", "ob_flow")
 TEXTS = ("ob_lexer", "ob_tree")
+# What crates are about. A line '# GROUP: ..' of crates.txt heads each group, in this order.
+GROUPS = ("text", "names", "meaning", "silica", "code", "store", "serve", "explain", "top")
 # A crate with one of these endings has definitions and laws, and no code but types of which they speak.
 WITHOUT_CODE = ("_spec", "_meaning", "_steps", "_places", "_formed", "_functions", "_laws", "_correct", "_verified", "_sound_code", "_examples")
 HEAD = ["| floor | code | definitions and laws |", "|---|---|---|"]
@@ -26,6 +29,18 @@ def read_crates():
     lines = [line.split("#")[0] for line in (TOP / "crates.txt").read_text().splitlines()]
     named = {line.split(":")[0].split()[0]: line.split(":")[1].split() for line in lines if ":" in line}
     return {name: [it for it in below if it in named] for name, below in named.items()}
+
+
+def read_groups():
+    """The groups that crates.txt heads, and the crates that stand under none."""
+    heads, without = [], []
+    for line in (TOP / "crates.txt").read_text().splitlines():
+        front = line.partition(":")[0]
+        if front.removeprefix("# ") in GROUPS:
+            heads.append(front.removeprefix("# "))
+        elif line and not line.startswith("#") and not heads:
+            without.append(front)
+    return heads, without
 
 
 def longest_chain(name, crates, found):
@@ -63,6 +78,13 @@ def main():
         wrong.append(f"the longest chain has {len(longest)} crates, and at most {LONGEST} are allowed")
     ways = [way_to_text(name, crates) for name in crates if name.startswith(MEANINGS)]
     wrong += [f"{way[0]} stands on {way[-1]}: {', '.join(way)}" for way in ways if way]
+
+    heads, without = read_groups()
+    if heads != list(GROUPS):
+        wrong.append(f"crates.txt heads the groups {', '.join(heads)}, and not {', '.join(GROUPS)}")
+    wrong += [f"{name} stands in crates.txt under no group" for name in without]
+    place = {name: at for at, name in enumerate(crates)}
+    wrong += [f"{name} stands in crates.txt before {it}" for name in crates for it in crates[name] if place[it] > place[name]]
 
     text = DOCUMENT.read_text()
     front, head, rest = text.partition(HEAD[0])
