@@ -1,20 +1,30 @@
 #!/usr/bin/env python3
-"""Writes docs/THEOREM.md: the contract of the top call, and below it the definitions of the run's own layer as they are written.
+"""Writes docs/THEOREM.md: the contract of the top call, and below it the definitions of the run's own layer as they are written; and in
+README.md, between two marks, the list of the modules that the contract rests on.
 
 Only definitions on which the contract rests are shown, each with the comment above it, crate by crate from the top down and file by
-file, so that a name stands before what it is made of. What lies deeper is named at the end, with its place in docs/DEFINITIONS.md.
+file, so that a name stands before what it is made of. What lies deeper is named at the end, with its place in docs/DEFINITIONS.md. What is
+longer than a screen is cut where a clause or a definition begins, under a heading that names what it has.
 
-With `--check` nothing is written: it says whether the document is up to date, and ends with 1 if not.
+With `--check` nothing is written: it says whether both are up to date, and ends with 1 if not.
 """
 import pathlib
 import re
 import sys
+import textwrap
 
 sys.path.insert(0, str(pathlib.Path(__file__).resolve().parent))
 import definitions as names
 
 DOCUMENT = names.TOP / "docs" / "THEOREM.md"
 INTRODUCTION = names.TOP / "docs" / "theorem.txt"
+README = names.TOP / "README.md"
+# Between these marks stands the list of modules, in lines of so many characters at most.
+BEGINS, ENDS, WIDTH = "<!-- docs/theorem.py writes this list -->", "<!-- to here -->", 140
+# The call whose clauses promise more of an accepted program than the top call's, and the clauses.
+PROMISE_FILE, PROMISE_CALL, PROMISES = "ob_front/src/programs.rt", "compile", ("sound", "sound_code")
+# The most lines of code under one heading.
+MOST_LINES = 44
 # The run's own layer, from the top down: what each crate is about, in a few words.
 LAYER = {
     "ob_run": "What each status says of a run",
@@ -27,7 +37,11 @@ LAYER = {
     "ob_disk_spec": "A disk, and what a crash leaves of it",
 }
 DEFINED = re.compile(r"(?:abbrev |unfoldable )?pub (?:data |record )?(\S+)")
+CLAUSE = re.compile(r"    (?:ensures|requires) (\w+)? ?\{")
+RULE = re.compile(r"-- -+ (.*)$")
 
+
+# ---- the contract and the definitions as they are written
 
 def blocks(path):
     """The parts of a file of definitions between blank lines, without its head and what it imports."""
@@ -39,6 +53,12 @@ def blocks(path):
 def defined_in(block):
     """The names that a block defines."""
     return [found[1] for line in block.split("\n") if (found := DEFINED.match(line.strip()))]
+
+
+def heads_of(block):
+    """The names that a block defines, without its fields and cases."""
+    margin = "  " if block.split("\n")[0] in ("mutual", "abbrev mutual") else ""
+    return [found[1] for line in block.split("\n") if line.startswith(margin) and (found := DEFINED.match(line[len(margin):]))]
 
 
 def without_head(block, path):
@@ -53,22 +73,66 @@ def without_head(block, path):
 
 
 def shown(writer, place):
-    """The definitions of a file on which the top call's contract rests, as they are written."""
+    """The definitions of a file on which the top call's contract rests, as they are written: each with the title above its part."""
     path = names.CRATES / (place.replace("/", "/specs/", 1) + ".antt")
     reached = {name for at, name in writer.reached if at == place}
-    parts = [without_head(block, path) for block in blocks(path)]
-    return "\n\n".join(part for part in parts if reached & set(defined_in(part)))
+    title, found = "", []
+    for part in (without_head(block, path) for block in blocks(path)):
+        rule = RULE.match(part)
+        title = rule[1] if rule else title
+        part = "\n".join(line for line in part.split("\n") if not RULE.match(line))
+        if reached & set(defined_in(part)):
+            found.append((title, part))
+    return found
+
+
+def height(parts):
+    """How many lines parts take, with a blank one after each."""
+    return sum(part.count("\n") + 2 for part in parts)
+
+
+def cut(parts):
+    """Parts in as few groups as are no longer than a screen, of much the same height."""
+    most = height(parts) / -(-height(parts) // MOST_LINES)
+    groups = [[]]
+    for part in parts:
+        if groups[-1] and (height(groups[-1]) >= most or height(groups[-1] + [part]) > MOST_LINES):
+            groups.append([])
+        groups[-1].append(part)
+    return groups
+
+
+def grouped(parts):
+    """Parts with titles in groups: one for each title, or more where it would be longer than a screen."""
+    titles = list(dict.fromkeys(title for title, _ in parts))
+    return [(title, some) for title in titles for some in cut([part for at, part in parts if at == title])]
+
+
+def fenced(language, text):
+    """A block of code."""
+    return ["", f"```{language}", text, "```"]
+
+
+def named(words):
+    """Names in a heading: the first four."""
+    return ", ".join(f"`{word}`" for word in words[:4]) + (", .." if len(words) > 4 else "")
 
 
 def file_part(writer, place):
     """A file: its heading, what its head says, and its definitions."""
-    text = shown(writer, place)
-    if not text:
+    groups = grouped(shown(writer, place))
+    if not groups:
         return []
     head, source = names.taken_apart(writer.project.files[place].head)
     source = source or writer.told.get(place) or "this project's own"
     says = f"{names.sentence(head)} Source: {source.rstrip('.')}.".strip()
-    return ["", f"### {place}", "", says, "", "```antt", text, "```"]
+    lines = ["", f"### {place}", "", *textwrap.wrap(says, WIDTH, break_on_hyphens=False)]
+    for title, parts in groups:
+        if len(groups) > 1:
+            words = named([name for part in parts for name in heads_of(part)])
+            lines += ["", f"#### {title[:1].upper() + title[1:]}: {words}" if title else f"#### {words}"]
+        lines += fenced("antt", "\n\n".join(parts))
+    return lines
 
 
 def crate_part(writer, crate):
@@ -78,11 +142,42 @@ def crate_part(writer, crate):
     return ["", f"## {LAYER[crate]} ({crate})"] + lines if lines else []
 
 
+def clauses(contract):
+    """A contract without its head: each clause with its name, and with the comment above its part."""
+    title, found = "", []
+    for line in contract.split("\n"):
+        begins = CLAUSE.match(line)
+        if line.strip().startswith("//"):
+            title = line.strip().strip("/ ").rstrip(".")
+        elif begins:
+            found.append([title, begins[1], line])
+        elif found and line.strip():
+            found[-1][2] += "\n" + line
+    return found
+
+
+def contract_part(contract):
+    """The top call's contract: what it takes and gives, and its clauses under headings of their own."""
+    first = CLAUSE.search(contract, re.search(r"^    (?:ensures|requires) ", contract, re.M).start())
+    head = "\n".join(line for line in contract[:first.start()].rstrip().split("\n") if not line.strip().startswith("//"))
+    lines = ["", f"## The contract of `{names.TOP_CALL}`", "", "What it is handed, and what it answers:"] + fenced("rust", head)
+    found = clauses(contract)
+    for title, parts in grouped([(title, text) for title, _, text in found]):
+        words = [name for _, name, text in found if name and text in parts]
+        lines += ["", f"### {title}: {named(words)}" if title else f"### {named(words)}"] + fenced("rust", "\n".join(parts))
+    return lines
+
+
 def traits_part(writer):
     """The contracts of what the call is handed."""
     lines = ["", "## What files, streams and a disk promise", "", "The run is generic over these. Whatever meets them meets the theorem."]
     for file, text in writer.contracts[1:]:
-        lines += ["", f"{file.place}:", "", "```rust", text, "```"]
+        lines += ["", f"### {re.search(r'trait (.*?) [{]', text)[1]} ({file.place})"]
+        methods = [("", part) for part in re.split(r"\n\s*\n", text)]
+        for number, (_, parts) in enumerate(grouped(methods)):
+            words = named(re.findall(r"^    (?:ghost|fn) (\w+)", "\n".join(parts), re.M))
+            lines += ["", f"#### {words}"] if number else []
+            lines += fenced("rust", "\n\n".join(parts))
     return lines
 
 
@@ -99,24 +194,101 @@ def deeper_part(writer):
     return lines
 
 
-def document():
+def document(writer):
     """The whole text."""
-    writer = names.Writer()
     (_, contract), *_ = writer.contracts
-    lines = [INTRODUCTION.read_text().strip(), "", f"## The contract of `{names.TOP_CALL}`", "", "```rust", contract, "```"]
-    lines += traits_part(writer)
+    lines = [INTRODUCTION.read_text().strip()] + contract_part(contract) + traits_part(writer)
     for crate in LAYER:
         lines += crate_part(writer, crate)
     return "\n".join(lines + deeper_part(writer)).rstrip() + "\n"
 
 
+# ---- the list of modules in README
+
+def groups_of_crates():
+    """The groups of crates.txt from the top down: what each is about, and its crates from the top down."""
+    groups = []
+    for line in (names.TOP / "crates.txt").read_text().split("\n"):
+        head = re.match(r"# (\w+): (.*)", line)
+        if head and head[1].islower():
+            groups.append((head[1], []))
+        elif line and not line.startswith("#") and groups:
+            groups[-1][1].append(line.split(":")[0])
+    return [(group, crates[::-1]) for group, crates in reversed(groups)]
+
+
+def files_of(keys):
+    """The files of definitions among what is reached."""
+    return {place for place, _ in keys if "/src/" not in place}
+
+
+def split_modules(project, crate, files):
+    """The modules of a crate that are to be read, and those that aren't."""
+    every = sorted(place for place in project.files if place.startswith(crate + "/"))
+    some = [place.split("/")[1] for place in every if place in files]
+    return some, [place.split("/")[1] for place in every if place not in files]
+
+
+def listed(project, crates, files):
+    """What is to be read of crates: those of which it is all, and then the others with their modules, or with those that are left out."""
+    whole, parts = [], []
+    for crate in crates:
+        some, left = split_modules(project, crate, files)
+        if some and left:
+            parts.append(f"{crate}: all but {', '.join(left)}" if len(left) < len(some) else f"{crate}: {', '.join(some)}")
+        elif some:
+            whole.append(crate)
+    return "; ".join(([f"all of {', '.join(whole)}"] if whole else []) + parts)
+
+
+def wrapped(text):
+    """An item of a list, in lines."""
+    return textwrap.wrap(f"- {text}", WIDTH, subsequent_indent="  ", break_on_hyphens=False)
+
+
+def promised(writer):
+    """What the clauses rest on that promise more of an accepted program."""
+    path = names.CRATES / PROMISE_FILE
+    text = re.search(rf"^pub fn {PROMISE_CALL}\b.*?\n\{{\n", path.read_text(), re.M | re.S)[0]
+    cited = [text for _, name, text in clauses(text) if name in PROMISES]
+    if len(cited) != len(PROMISES):
+        sys.exit(f"theorem.py: {PROMISE_CALL} of {PROMISE_FILE} doesn't have the clauses {', '.join(PROMISES)}")
+    project, text = writer.project, "\n".join(cited)
+    keys = {key for key, _ in project.cited(names.ghost_uses(path), text, names.bound(text))}
+    return project.reachable(keys)
+
+
+def modules(writer):
+    """The list of modules."""
+    groups, first = groups_of_crates(), files_of(writer.reached)
+    more = files_of(promised(writer)) - first
+    lines = ["", f"The contract of `{names.TOP_CALL}` rests on {len(first)} modules of `crates/CRATE/specs/`:", ""]
+    for group, crates in groups:
+        text = listed(writer.project, crates, first)
+        lines += wrapped(f"**{group}**: {text}") if text else []
+    lines += ["", f"The clauses `{'` and `'.join(PROMISES)}` of `{PROMISE_CALL}` rest on {len(more)} more:", ""]
+    lines += wrapped(listed(writer.project, [crate for _, crates in groups for crate in crates], more))
+    return "\n".join(lines) + "\n\n"
+
+
+def readme(writer):
+    """README with the list of modules between its marks."""
+    text = README.read_text()
+    if text.count(BEGINS) != 1 or text.count(ENDS) != 1:
+        sys.exit(f"theorem.py: README.md doesn't have the marks {BEGINS} and {ENDS} once each")
+    front, rest = text.split(BEGINS)
+    return front + BEGINS + "\n" + modules(writer) + ENDS + rest.split(ENDS)[1]
+
+
 def main():
-    text = document()
+    writer = names.Writer()
+    made = [(DOCUMENT, document(writer)), (README, readme(writer))]
+    stale = [path.name for path, text in made if not path.exists() or path.read_text() != text]
     if "--check" in sys.argv[1:]:
-        is_same = DOCUMENT.exists() and DOCUMENT.read_text() == text
-        print("up to date" if is_same else "not up to date")
-        return 0 if is_same else 1
-    DOCUMENT.write_text(text)
+        print(f"not up to date: {', '.join(stale)}" if stale else "up to date")
+        return 1 if stale else 0
+    for path, text in made:
+        path.write_text(text)
     return 0
 
 
