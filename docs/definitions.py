@@ -243,7 +243,7 @@ class Project:
                 self.cite(file, definition)
 
     def meant(self, file, chain):
-        """What a name with what is behind its dots stands for: (the key of a definition, a constructor or nothing)."""
+        """What a name with what is behind its dots refers to: (the key of a definition, a constructor or nothing)."""
         first, *others = chain.split(".")
         if first in file.aliases and others:
             place, of_code = file.aliases[first]
@@ -263,7 +263,7 @@ class Project:
         return (owner, name) if owner else None
 
     def is_constructor(self, file, chain):
-        """Whether a name stands for a constructor."""
+        """Whether a name refers to a constructor."""
         meant = self.meant(file, chain)
         return bool(meant and meant[1])
 
@@ -675,7 +675,7 @@ class Faults:
         functions = self.code.get(in_code, [])
         cases = self.cases.get(number, {})
         if not conditions and not functions and not cases:
-            return lines + ["Nothing tells it yet."]
+            return lines + ["Nothing answers it yet."]
         lines.append("- Code: " + (", ".join(functions) or "none") + ".")
         counts = ", ".join(f"{file} {count}" for file, count in sorted(cases.items(), key=lambda pair: (-pair[1], pair[0])))
         lines.append(f"- Cases: {sum(cases.values())}" + (f": {counts}." if counts else "."))
@@ -820,16 +820,16 @@ what a crash leaves begins at `Survives` (ob_run/Survival), goes on to `AfterFir
 down, floor by floor and file by file: a file stands before those whose definitions it uses, so a reader may stop wherever a name
 says enough. Types of the code of which definitions speak stand at the end of their crate."""
 
-TRAITS = """What is handed in keeps the contracts of its trait, whatever it is; its `view` is what it tells of itself. The
+TRAITS = """What is handed in keeps the contracts of its trait, whatever it is; its `view` has what is observable of it. The
 definitions that these cite are among those below."""
 
-FAULTS_INTRODUCTION = """A text that is refused has one fault that is told: a number with its name, and a place. Beside each
+FAULTS_INTRODUCTION = """A text that is refused has one fault that is reported: a number with its name, and a place. Beside each
 stands what it says, and
 
 - its conditions: the definitions of part 1 that give the number, with what must hold, or else the fault is there
 - its sites: the kinds of places at which a condition of names and types looks (part 3), and the forms of a lowered body whose
   permission rules ask for a premise
-- its code: the functions that tell the number
+- its code: the functions that answer the number
 - its cases: how many have it in their answer, by files of `crates/{cases}/data`"""
 
 SITES_INTRODUCTION = """A site is a place of a program at which something is asked of it. The conditions in part 2 say which

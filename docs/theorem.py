@@ -118,6 +118,11 @@ def named(words):
     return ", ".join(f"`{word}`" for word in words[:4]) + (", .." if len(words) > 4 else "")
 
 
+def heading(level, title, words):
+    """A heading: a title, or names, or both."""
+    return f"{level} {': '.join(filter(None, (title[:1].upper() + title[1:], named(words))))}"
+
+
 def file_part(writer, place):
     """A file: its heading, what its head says, and its definitions."""
     groups = grouped(shown(writer, place))
@@ -129,8 +134,8 @@ def file_part(writer, place):
     lines = ["", f"### {place}", "", *textwrap.wrap(says, WIDTH, break_on_hyphens=False)]
     for title, parts in groups:
         if len(groups) > 1:
-            words = named([name for part in parts for name in heads_of(part)])
-            lines += ["", f"#### {title[:1].upper() + title[1:]}: {words}" if title else f"#### {words}"]
+            words = [name for part in parts for name in heads_of(part)]
+            lines += ["", heading("####", title, words)]
         lines += fenced("antt", "\n\n".join(parts))
     return lines
 
@@ -164,7 +169,7 @@ def contract_part(contract):
     found = clauses(contract)
     for title, parts in grouped([(title, text) for title, _, text in found]):
         words = [name for _, name, text in found if name and text in parts]
-        lines += ["", f"### {title}: {named(words)}" if title else f"### {named(words)}"] + fenced("rust", "\n".join(parts))
+        lines += ["", heading("###", title or ("" if words else "What it promises"), words)] + fenced("rust", "\n".join(parts))
     return lines
 
 
