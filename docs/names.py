@@ -9,6 +9,8 @@ It reads README.md, the documents of docs/ but for those that scripts make of th
   without its comments, in a script, or as the stem of a file
 - each name in backticks, whatever it looks like, that is said to be `of` a crate, or that stands under a heading which names crates alone:
   it has to stand in a source of these crates, unless it is a word of the language or of requests
+- each name in backticks that stands in parentheses, alone or with others: a source has to declare it, as a function, a type, a definition, a
+  clause, a field or a case
 - each name of a crate, in backticks or not, as ob_base
 - each link: its file, and the heading that it leads to
 
@@ -37,6 +39,11 @@ PATH = re.compile(rf"[\w.][\w./-]*\.(?:{'|'.join(ENDINGS)})(?![\w-])")
 OF_CRATE = re.compile(r"((?:`\w+`(?:,| and)? )+)of (ob_\w+)")
 HEAD = re.compile(r"#+ (ob_[a-z_]+(?:, ob_[a-z_]+)*)$")
 LINK = re.compile(r"\[[^\]]*\]\(([^)#\s]*)(?:#([^)\s]*))?\)")
+ASIDE = re.compile(r"\(((?:`[A-Za-z_]{3,}`(?:, | and )?)+)[),;:]")
+DECLARED = {
+    ".rt": re.compile(r"\b(?:fn|struct|enum|trait|const|type|mod|ensures|requires|ghost) (\w+)|^\s+(?:pub )?(\w+)\s*[:(,{]", re.M),
+    ".antt": re.compile(r"\bpub (?:data |record |mod )?(\w+)|^\s+(\w+) : ", re.M),
+}
 COMMENT = {".rt": re.compile(r"//.*"), ".antt": re.compile(r"(?:^|\s)--.*"), ".py": re.compile(r"#.*")}
 
 
@@ -49,10 +56,14 @@ def tracked():
     return sorted(found)
 
 
-def words_of(path):
-    """The words of a source or a script without its comments."""
-    text = path.read_text(errors="replace")
-    return set(re.findall(r"[A-Za-z_][A-Za-z0-9_]*", "\n".join(COMMENT[path.suffix].sub("", line) for line in text.split("\n"))))
+def without_comments(path):
+    """A source or a script without its comments."""
+    return "\n".join(COMMENT[path.suffix].sub("", line) for line in path.read_text(errors="replace").split("\n"))
+
+
+def declared_in(suffix, text):
+    """The names that a source declares."""
+    return {name for found in DECLARED[suffix].findall(text) for name in found if name} if suffix in DECLARED else set()
 
 
 def quoted(crate):
@@ -68,10 +79,14 @@ class Repository:
         self.files = tracked()
         self.crates = {path.name for path in CRATES.iterdir() if path.is_dir()}
         self.names, self.by_crate = set(), {crate: set() for crate in self.crates}
+        # Besides what sources declare, the libraries that crates use.
+        self.declared = set(re.findall(r"\w+", (TOP / "crates.txt").read_text()))
         for place in self.files:
             path, parts = TOP / place, pathlib.PurePath(place).parts
-            found = {*parts, path.stem} | (words_of(path) if path.suffix in COMMENT else set())
+            text = without_comments(path) if path.suffix in COMMENT else ""
+            found = {*parts, path.stem, *re.findall(r"[A-Za-z_][A-Za-z0-9_]*", text)}
             self.names |= found
+            self.declared |= {*parts, path.stem} | declared_in(path.suffix, text)
             if parts[0] == "crates":
                 self.by_crate[parts[1]] |= found
         self.spoken = {word for crate in SPOKEN for word in quoted(crate)}
@@ -160,6 +175,9 @@ class Document:
         for path in PATH.findall(CODE.sub("", LINK.sub("", text))):
             if "/" in path and not self.repository.has_path(path, set()):
                 self.note(number, f"no file {path}")
+        for name in [name for found in ASIDE.findall(text) for name in CODE.findall(found)]:
+            if name not in self.repository.declared | self.repository.spoken | self.own:
+                self.note(number, f"no source declares {name}")
         for names, crate in OF_CRATE.findall(text):
             self.of_crates(number, CODE.findall(names), {crate})
         if self.headed:
