@@ -7,8 +7,8 @@ left, crate by crate; and an index. All is read from the crates: sentences are t
 comes from stands in brackets in the head of its file. What isn't there, docs/definitions.txt may say.
 
 With `--check` nothing is written: it says whether the document is up to date, and ends with 1 if not. Either way it names on
-standard error each definition without a comment, each name of the code that stands in a comment without marks, and each line
-of definitions.txt that is of nothing.
+standard error each definition that has neither a comment nor a sentence in definitions.txt, each name of the code that stands in a
+comment without marks, and each line of definitions.txt that is of nothing.
 """
 import pathlib
 import re
@@ -479,12 +479,13 @@ class Writer:
         if definition.place == NUMBERS and definition.name in self.numbers:
             number, _, said, _ = self.numbers[definition.name]
             return f"{number}: {said}"
-        if not definition.comment:
+        told = self.told.get(f"{definition.place} {definition.name}", "")
+        if not definition.comment and not told:
             self.wrong.append(f"no comment: {definition.name} of {definition.place}")
         for comment in [definition.comment] + [part.comment for part in definition.parts]:
             for name in BARE_NAME.findall(re.sub(r"`[^`]*`", "", comment)):
                 self.wrong.append(f"a name of the code in plain words: {name}, above {definition.name} of {definition.place}")
-        return sentence(definition.comment or self.told.get(f"{definition.place} {definition.name}", ""))
+        return sentence(definition.comment or told)
 
     def table(self, place, definitions, title, level):
         """A file's heading, what its head says, and the table of some of its definitions."""

@@ -77,7 +77,7 @@ class Repository:
 
     def __init__(self):
         self.files = tracked()
-        self.crates = {path.name for path in CRATES.iterdir() if path.is_dir()}
+        self.crates = {place.split("/")[1] for place in self.files if place.startswith("crates/")}
         self.names, self.by_crate = set(), {crate: set() for crate in self.crates}
         # Besides what sources declare, the libraries that crates use.
         self.declared = set(re.findall(r"\w+", (TOP / "crates.txt").read_text()))
