@@ -1,0 +1,235 @@
+#!/usr/bin/env python3
+"""Runs sessions of a program, and compares each reply with the one that the session has.
+
+  ./obsidian test [--fuel UNITS] [--lanes LANES] [--slice UNITS] P SESSION..
+  python3 test_sessions.py [--program COMMAND] [OPTIONS] P SESSION..
+
+How a session is written says docs/GUIDE.md, under "Tests of your own". Each is served from an empty store; one with a line `restart` over a
+store in a file, which is gone at the end. Of each session the first reply that differs is shown, with its place, and how many agree; at the end
+stands which transactions no session has answered by `ok`. The status is 0 where all replies agree, 1 where one doesn't, where the text of P is
+refused or the program ended otherwise, and 2 where the words are wrong, or a session can't be read.
+"""
+import argparse
+import json
+import os
+import re
+import shlex
+import subprocess
+import sys
+import tempfile
+from dataclasses import dataclass, field
+
+TOP = os.path.dirname(os.path.abspath(__file__))
+PROGRAM = os.path.join(TOP, "crates", "obsidian", "out", "obsidian")
+OPTIONS = ("--fuel", "--lanes", "--slice")
+# Comments, texts, words and signs of a program.
+TOKENS = re.compile(r'//[^\n]*|/\*.*?\*/|"(?:\\.|[^"\\\n])*"|\w+|\S', re.DOTALL)
+# A line of these alone, and not longer, has no reply.
+BLANKS = b" \t\r"
+LONGEST_LINE = 65536
+
+
+class Trouble(Exception):
+    """Why a session can't be read."""
+
+
+class Stopped(Exception):
+    """Why a program serves no longer."""
+
+
+@dataclass
+class Request:
+    """A request of a session, with the replies that stand under it, each with the number of its line."""
+    line: int
+    text: bytes
+    wanted: list = field(default_factory=list)
+    # Whether the program is started anew before it.
+    restarts: bool = False
+
+    def is_blank(self):
+        return not self.text.strip(BLANKS) and len(self.text) <= LONGEST_LINE
+
+    def called(self):
+        """The client, the handle and the transaction of a call; nothing of another request."""
+        try:
+            asked = json.loads(self.text)
+        except (ValueError, RecursionError):
+            return None
+        if not isinstance(asked, dict) or asked.get("op") != "call":
+            return None
+        words = [asked.get(key) for key in ("who", "on", "tx")]
+        return words if all(isinstance(word, str) for word in words) else None
+
+
+# ---- sessions
+
+def take_line(requests, restarts, number, line):
+    """Adds what a line of a session says. Returns whether the program is started anew before the next request."""
+    mark, text = line[:1], line[1:].removeprefix(b" ")
+    if mark == b">":
+        requests.append(Request(number, text, restarts=restarts))
+        return False
+    if mark in (b"<", b"{"):
+        if not requests or restarts:
+            raise Trouble("a reply that stands under no request")
+        requests[-1].wanted.append((number, (text if mark == b"<" else line).rstrip(b"\r")))
+    elif line.strip() == b"restart":
+        return True
+    elif line.strip() and mark != b"#":
+        raise Trouble("no line of a session: each is a request behind `> `, a reply, `restart`, a comment behind `#`, or empty")
+    return restarts
+
+
+def requests_of(path):
+    """The requests of a session."""
+    requests, restarts, number = [], False, 0
+    try:
+        with open(path, "rb") as file:
+            for number, line in enumerate(file.read().split(b"\n"), 1):
+                restarts = take_line(requests, restarts, number, line)
+    except OSError as error:
+        raise Trouble(f"{path}: {error.strerror}") from error
+    except Trouble as trouble:
+        raise Trouble(f"{path}:{number}: {trouble}") from trouble
+    if restarts or not requests:
+        raise Trouble(f"{path}: no request stands behind the last `restart`" if restarts else f"{path}: no request stands in it")
+    return requests
+
+
+# ---- runs
+
+def look(request):
+    """The line that asks of which contract the object is that a request calls; no byte, where it calls none."""
+    called = request.called()
+    return json.dumps({"op": "see", "id": 0, "who": called[0], "on": called[1]}).encode() + b"\n" if called else b""
+
+
+def replies_of(command, requests):
+    """The replies of one run: for each request what `look` told before it, and its own; nothing where there is none."""
+    given = b"".join(look(request) + request.text + b"\n" for request in requests)
+    ran = subprocess.run(command, input=given, stdout=subprocess.PIPE, check=False)
+    lines = ran.stdout.split(b"\n")
+    if ran.returncode != 0:
+        raise Stopped(f"the program ended with status {ran.returncode}\n  " + b"\n".join(lines[-2:]).decode(errors="replace").strip())
+    told = iter(lines[:-1])
+    return [(next(told, None) if look(request) else None, None if request.is_blank() else next(told, None)) for request in requests]
+
+
+def runs_of(requests):
+    """The requests of each run of a session."""
+    runs = [[]]
+    for request in requests:
+        if request.restarts:
+            runs.append([])
+        runs[-1].append(request)
+    return runs
+
+
+def served(command, requests):
+    """The requests of a session, each with what came of it."""
+    runs = runs_of(requests)
+    with tempfile.TemporaryDirectory() as folder:
+        store = [os.path.join(folder, "store")] if len(runs) > 1 else []
+        for run in runs:
+            yield from zip(run, replies_of([*command, *store], run))
+
+
+# ---- reports
+
+def fields(reply):
+    """The fields of a reply; none where there is no reply."""
+    try:
+        return json.loads(reply or b"{}")
+    except ValueError:
+        return {}
+
+
+def answered(request, told, reply):
+    """The contract and the transaction that a reply has answered by `ok`."""
+    called, seen = request.called(), fields(told).get("ok")
+    return {(seen["contract"], called[2])} if called and seen and "ok" in fields(reply) else set()
+
+
+def differences(request, reply):
+    """Where a request's replies aren't those of the session: the line, what it has and what came."""
+    came = [] if reply is None else [reply]
+    for place in range(max(len(request.wanted), len(came))):
+        line, wanted = request.wanted[place] if place < len(request.wanted) else (request.line, None)
+        other = came[place] if place < len(came) else None
+        if wanted != other:
+            yield line, wanted, other
+
+
+def shown(reply):
+    return "no reply" if reply is None else reply.decode(errors="replace")
+
+
+def compare(command, path):
+    """Runs a session, and says how many replies agree. Returns whether all do, and what was answered by `ok`."""
+    first, agreeing, total, done = None, 0, 0, set()
+    for request, (told, reply) in served(command, requests_of(path)):
+        others = list(differences(request, reply))
+        total += max(len(request.wanted), reply is not None)
+        agreeing += max(len(request.wanted), reply is not None) - len(others)
+        first = first or (others[0] if others else None)
+        done |= answered(request, told, reply)
+    if first:
+        print(f"{path}:{first[0]}: another reply came\n  wanted | {shown(first[1])}\n  came   | {shown(first[2])}")
+    print(f"{path}: {agreeing} of {total} replies agree", flush=True)
+    return first is None, done
+
+
+def transactions_of(text):
+    """The transactions of a program that a client can call, under their contracts."""
+    found, contract, depth, is_private, before = {}, None, 0, False, ""
+    for token in TOKENS.findall(text):
+        if depth == 0 and before in ("contract", "interface"):
+            contract = found.setdefault(token, []) if before == "contract" else []
+        elif depth == 1 and before == "transaction" and not is_private:
+            contract.append(token)
+        is_private = token == "private" or is_private and before != "transaction"
+        depth += (token == "{") - (token == "}")
+        before = token
+    return found
+
+
+def tell_missing(program, done):
+    """Says which transactions no session has answered by `ok`."""
+    with open(program, encoding="utf-8") as file:
+        found = transactions_of(file.read())
+    missing = {contract: [name for name in names if (contract, name) not in done] for contract, names in found.items()}
+    lines = [f"  {contract}: {', '.join(names)}" for contract, names in missing.items() if names]
+    print("\n".join(["never answered by ok:", *lines] if lines else ["each transaction was answered by ok"]))
+
+
+def words():
+    parser = argparse.ArgumentParser(usage=__doc__.split("\n\n")[1].strip())
+    parser.add_argument("--program", default=shlex.quote(PROGRAM))
+    for option in OPTIONS:
+        parser.add_argument(option)
+    parser.add_argument("text", metavar="P")
+    parser.add_argument("sessions", metavar="SESSION", nargs="+")
+    return parser.parse_args()
+
+
+def main():
+    given = words()
+    options = [word for option in OPTIONS if (value := getattr(given, option[2:])) for word in (option, value)]
+    command = [*shlex.split(given.program), *options, "serve", "--", given.text]
+    is_well, done = True, set()
+    for path in given.sessions:
+        try:
+            agrees, more = compare(command, path)
+        except Trouble as trouble:
+            print(trouble, file=sys.stderr)
+            return 2
+        except (Stopped, OSError) as stopped:
+            print(f"{path}: {stopped}")
+            return 1
+        is_well, done = is_well and agrees, done | more
+    tell_missing(given.text, done)
+    return 0 if is_well else 1
+
+
+if __name__ == "__main__":
+    sys.exit(main())
