@@ -1,0 +1,214 @@
+"""A client of `obsidian serve`: it starts the program, asks line by line, and says by name what is refused or aborted, and what to do.
+
+    import obsidian
+
+    with obsidian.Server("vending_machine.obs") as server:
+        alice = server.client("alice")
+        alice.new("Machine", into="m")
+        alice.call("m", "mint", into="c")
+        try:
+            alice.call("m", "buy", obsidian.Ref("c"), into="candy")
+        except obsidian.Aborted as aborted:
+            print(aborted.name, aborted.details)
+
+Only Python's standard library is needed. `who` is a name that this process vouches for: a front for many people decides which of them is which
+client, since the program takes each line as it stands.
+"""
+import itertools
+import json
+import subprocess
+import threading
+from dataclasses import dataclass
+
+# Why a line is refused, by its number: the name, and what to do.
+REFUSALS = {
+    1: ("LongLine", "shorten it"),
+    2: ("Json", "mend it"),
+    3: ("Shape", "write the keys of its row"),
+    5: ("NoHandle", "ask as the client that has it"),
+    6: ("NoContract", "see the program"),
+    7: ("NotMain", "call a transaction that makes such an object"),
+    8: ("NoTransaction", "see the program"),
+    9: ("ArgCount", "give as many"),
+    10: ("ArgKind", "give a number, truth value, text or handle as declared"),
+    11: ("Permission", "use a handle that owns, or shares"),
+    12: ("Repeated", "give another object"),
+    13: ("IntoMissing", "name it"),
+    14: ("IntoNeedless", "leave it out"),
+    15: ("IntoTaken", "use another name, or `disown` that one"),
+    16: ("HandlesFull", "`disown` some"),
+}
+# Why a line is aborted, by its name and what is told with it: what to do.
+ABORTS = {
+    ("revert", "text"): "as it says",
+    ("state", "object", "state"): "ask for it, by `see`, before",
+    ("state", "object"): "ask otherwise: the program meets itself",
+    ("reentry", "object"): "ask otherwise: the program meets itself",
+    ("overflow", "line"): "give other numbers",
+    ("fuel",): "do it in several requests",
+    ("full",): "begin a new store",
+    ("room", "need", "size"): 'see "A full store" in the guide',
+}
+# How a run ends, by its status: the name, and what it says of the line that has no reply.
+ENDS = {
+    1: ("Refused", "the text of the program has a fault: nothing was done"),
+    2: ("Usage", "the words are no command: nothing was done"),
+    3: ("ReadFault", "the line wasn't read: it wasn't done"),
+    4: ("WriteFault", "the line may be done"),
+    5: ("DiskFault", "the line is in the store whole or not at all: look before you ask again"),
+    6: ("StoreRefused", "the store wasn't opened: nothing was done"),
+    7: ("Memory", "the line changed nothing"),
+    8: ("FileFault", "the file of the program couldn't be read: nothing was done"),
+    9: ("Long", "the line wasn't read: it wasn't done"),
+}
+UNKNOWN_END = ("Crash", "the line is in the store whole or not at all: look before you ask again")
+# How an object is given.
+MODES = ("owned", "shared", "unowned")
+
+
+class Error(Exception):
+    """Whatever a request comes to that isn't done."""
+
+
+class Refused(Error):
+    """The program took up nothing: `number`, `name`, and what to do (`advice`)."""
+
+    def __init__(self, number):
+        self.number = number
+        self.name, self.advice = REFUSALS.get(number, ("unknown", "see the guide of this program"))
+        super().__init__(f"refused: {number} {self.name}: {self.advice}")
+
+
+class Aborted(Error):
+    """The request ran and was undone: `name`, the `details` that are told with it, and what to do (`advice`)."""
+
+    def __init__(self, name, details):
+        self.name, self.details = name, details
+        self.advice = ABORTS.get((name, *sorted(details)), "see the guide of this program")
+        told = ", ".join(f"{key} {value!r}" for key, value in details.items())
+        super().__init__(f"aborted: {name}{', ' + told if told else ''}: {self.advice}")
+
+
+class Ended(Error):
+    """The program has ended and answers no more: `status`, `name`, the lines that it still wrote (`told`), and what became of the request
+    (`advice`)."""
+
+    def __init__(self, status, told=()):
+        self.status, self.told = status, list(told)
+        self.name, self.advice = ENDS.get(status, UNKNOWN_END)
+        super().__init__("; ".join([f"the program ended: status {status} {self.name}: {self.advice}", *self.told]))
+
+
+@dataclass(frozen=True)
+class Ref:
+    """An argument: the object of this handle of the client that asks."""
+    handle: str
+
+
+def argument(value):
+    """An argument as it stands in a request."""
+    if isinstance(value, Ref):
+        return {"ref": value.handle}
+    if isinstance(value, (bool, int, str)):
+        return value
+    raise TypeError(f"an argument is an int, a bool, a str or a Ref, and not {value!r}")
+
+
+class Server:
+    """A run of `COMMAND serve PROGRAM [STORE]`, from its beginning to `close`, or to the end of a `with`. Several threads may ask."""
+
+    def __init__(self, program, store=None, command=("obsidian",), fuel=None):
+        options = [] if fuel is None else ["--fuel", str(fuel)]
+        words = [*command, *options, "serve", "--", program, *([] if store is None else [store])]
+        self.run = subprocess.Popen(words, stdin=subprocess.PIPE, stdout=subprocess.PIPE)
+        self.numbers = itertools.count(1)
+        self.turn = threading.Lock()
+
+    def client(self, who):
+        return Client(self, who)
+
+    def ask(self, **request):
+        """Asks a request, whose `id` is given here, and returns what its reply has as `ok`; raises Refused, Aborted or Ended."""
+        with self.turn:
+            request["id"] = next(self.numbers)
+            line = json.dumps(request, ensure_ascii=False, separators=(",", ":")).encode() + b"\n"
+            reply = self.reply_to(line)
+        if "ok" in reply:
+            return reply["ok"]
+        if "refused" in reply:
+            raise Refused(reply["refused"])
+        raise Aborted(reply["abort"], {key: value for key, value in reply.items() if key not in ("abort", "id")})
+
+    def reply_to(self, line):
+        """The reply to a line. What the program writes on one that it doesn't answer, as a fault of its text, is no reply."""
+        try:
+            self.run.stdin.write(line)
+            self.run.stdin.flush()
+        except (BrokenPipeError, ValueError):
+            raise self.ended() from None
+        told = self.run.stdout.readline()
+        if not told.startswith(b"{") or not told.endswith(b"\n"):
+            raise self.ended(told)
+        return json.loads(told)
+
+    def ended(self, told=b""):
+        """How the program ended, with the rest of its lines."""
+        if self.run.stdout.closed:
+            return Ended(self.run.returncode)
+        rest = told + self.run.stdout.read()
+        return Ended(self.run.wait(), rest.decode(errors="replace").splitlines())
+
+    def close(self):
+        """Ends the input, waits for the program's end, and returns its status: 0 where all is well."""
+        try:
+            self.run.stdin.close()
+        except BrokenPipeError:
+            pass
+        status = self.run.wait()
+        self.run.stdout.close()
+        return status
+
+    def __enter__(self):
+        return self
+
+    def __exit__(self, *_):
+        self.close()
+
+
+@dataclass(frozen=True)
+class Client:
+    """One client of a server. Handles are named by their names."""
+    server: Server
+    who: str
+
+    def ask(self, operation, **parts):
+        given = {key: value for key, value in parts.items() if value is not None}
+        return self.server.ask(op=operation, who=self.who, **given)
+
+    def new(self, contract, *args, into):
+        """Makes an object of the main contract, and returns its number."""
+        return self.ask("new", contract=contract, args=[argument(value) for value in args], into=into)["object"]
+
+    def call(self, handle, transaction, *args, into=None):
+        """Calls a transaction, and returns what it gives: None, an int, a bool, a str, or with `into` the number of an object."""
+        given = self.ask("call", on=handle, tx=transaction, args=[argument(value) for value in args], into=into)
+        return given["object"] if isinstance(given, dict) else given
+
+    def see(self, handle):
+        """The object: a dict with `contract`, `disowned`, `fields`, `object`, `shared` and `state`."""
+        return self.ask("see", on=handle)
+
+    def owner(self, handle):
+        """What owns the object: ("handle", CLIENT, NAME), ("field", NUMBER, NAME), or None."""
+        given = self.ask("owner", on=handle)
+        return None if given is None else next((kind, *place) for kind, place in given.items())
+
+    def give(self, handle, to, into, mode):
+        """Gives the client `to` a handle `into` on the object: as `owned`, `shared` or `unowned`."""
+        if mode not in MODES:
+            raise ValueError(f"an object is given as one of {', '.join(MODES)}, and not as {mode!r}")
+        self.ask("give", on=handle, to=to, into=into, **{"as": mode})
+
+    def disown(self, handle):
+        """Removes the handle. Where it was an owned one, nobody owns the object any more."""
+        self.ask("disown", on=handle)
