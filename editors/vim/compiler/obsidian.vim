@@ -4,4 +4,5 @@ if exists('current_compiler')
 endif
 let current_compiler = 'obsidian'
 CompilerSet makeprg=obsidian\ check\ %:S
-CompilerSet errorformat=%f:%l:%c:\ %tote:\ %m,%E%f:%l:%c:\ %n\ %m,%+C\ \ %m,%-G%.%#
+" The program's line and its mark are left out of a message; what is wrong, the note and the help stay.
+CompilerSet errorformat=%f:%l:%c:\ %tote:\ %m,%E%f:%l:%c:\ %n\ %m,%-C%*\\d\ \|%.%#,%-C\ %#\|%.%#,%+C\ \ %m,%-G%.%#
