@@ -2,7 +2,7 @@
 """Runs sessions of a program, and compares each reply with the one that the session has.
 
   ./obsidian test [--fuel UNITS] [--lanes LANES] [--slice UNITS] P SESSION..
-  python3 test_sessions.py [--program COMMAND] [OPTIONS] P SESSION..
+  python3 compare_sessions.py [--program COMMAND] [OPTIONS] P SESSION..
 
 How a session is written says docs/GUIDE.md, under "Tests of your own". Each is served from an empty store; one with a line `restart` over a
 store in a file, which is gone at the end. Of each session the first reply that differs is shown, with its place, and how many agree; at the end
