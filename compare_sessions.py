@@ -110,7 +110,8 @@ def replies_of(command, requests):
     ran = subprocess.run(command, input=given, stdout=subprocess.PIPE, check=False)
     lines = ran.stdout.split(b"\n")
     if ran.returncode != 0:
-        raise Stopped(f"the program ended with status {ran.returncode}\n  " + b"\n".join(lines[-2:]).decode(errors="replace").strip())
+        last = [line.decode(errors="replace") for line in lines if line][-1:]
+        raise Stopped("\n  ".join([f"the program ended with status {ran.returncode}", *last]))
     told = iter(lines[:-1])
     return [(next(told, None) if look(request) else None, None if request.is_blank() else next(told, None)) for request in requests]
 
