@@ -51,6 +51,7 @@ ABORTS = {
 }
 # How a run ends, by its status: the name, and what it says of the line that has no reply.
 ENDS = {
+    0: ("Done", "its input was ended before: the line wasn't asked"),
     1: ("Refused", "the text of the program has a fault: nothing was done"),
     2: ("Usage", "the words are no command: nothing was done"),
     3: ("ReadFault", "the line wasn't read: it wasn't done"),

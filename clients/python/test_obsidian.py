@@ -201,7 +201,7 @@ class EndsTest(unittest.TestCase):
         ann = server.client("ann")
         ann.new("Tally", into="t")
         self.assertEqual(server.close(), 0)
-        self.assertRaises(obsidian.Ended, ann.call, "t", "add", 1)
+        self.ended(0, "Done", ann.call, "t", "add", 1)
 
 
 class ExampleTest(unittest.TestCase):
