@@ -71,7 +71,7 @@ def main():
     program = shlex.quote(os.path.abspath(words[1] if words else os.path.join(TOP, "crates", "obsidian", "out", "obsidian")))
     agree = samples_agree(program)
     told = [is_told(program, *row) for row in TOLD]
-    print(f"of {len(told)} sessions is told what has to be" if all(told) else "of a session is told something else")
+    print(f"{sum(told)} of {len(told)} wrong sessions are reported as they have to be")
     sys.exit(0 if agree and all(told) else 1)
 
 
