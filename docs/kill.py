@@ -1,13 +1,15 @@
 #!/usr/bin/env python3
-"""Kills the program while it serves over a store, and looks whether each line that it answered is there.
+"""Kills the program while it serves over a store, and looks whether each line that it answered is there, and all money.
 
   python3 docs/kill.py [--times N] [--seed N] [--program PROGRAM]
 
 Each time it starts `PROGRAM serve P STORE` (`./obsidian` at the top of the repository, if none is named) over one store, hands it lines
-that each mint a coin, and kills it by SIGKILL: half the times after a number of replies, half after a while, both drawn at random. Then it
-opens the store again and asks for each coin. It is an error where the store isn't opened, where a coin is missing of whose reply a byte was
-written, where it isn't the object that the reply names, or where a line is there and one before it isn't. It tells the first error and ends
-with status 1; else it tells how many lines were handed over, answered and kept.
+that each split a part from a purse or merge one into it, and kills it by SIGKILL: half the times after a number of replies, half after a
+while, both drawn at random. Then, without a look at the store, it does so with a second run, and opens the store by a third one. It is an
+error where the store isn't opened, where a line isn't there of whose reply a byte was written, where a split isn't of the object that
+its reply names, where a line is there and one before it isn't, where more is there than the line in hand, or where the amounts of all
+money don't add up to what was minted. It tells the first error and ends with status 1; else it tells how many lines were handed over,
+answered and kept.
 
 What it tries is that a process may end at any moment. The system goes on, so bytes that were written and not yet synced aren't lost.
 """
@@ -22,9 +24,14 @@ import threading
 import time
 
 TOP = os.path.dirname(os.path.dirname(os.path.abspath(__file__)))
-MACHINE = os.path.join(TOP, "crates", "obsidian", "data", "vending_machine.obs")
-# The most lines of one time: their bytes and those of their replies fit into a pipe.
-LINES = 150
+MONEY = os.path.join(TOP, "crates", "ob_conformance", "data", "money.obs")
+MINT = "main contract Mint { transaction mint(int amount) returns Money@Owned { return new Money(amount); } }\n"
+# How much money there is.
+MINTED = 1_000_000_000
+# The most that is split off by one line.
+PART = 1000
+# The most splits of one run: the bytes of its lines and those of their replies fit into a pipe.
+SPLITS = 75
 
 
 def request(number, operation, **parts):
@@ -32,15 +39,37 @@ def request(number, operation, **parts):
     return json.dumps({"op": operation, "id": number, "who": "alice", **parts}, separators=(",", ":")) + "\n"
 
 
+class Line:
+    """A line that splits a part from the purse, or merges it into the purse again."""
+
+    def __init__(self, number, name, part, merges):
+        self.number, self.name, self.part, self.merges = number, name, part, merges
+
+    def text(self):
+        if self.merges:
+            return request(self.number, "call", on="purse", tx="merge", args=[{"ref": self.name}])
+        return request(self.number, "call", on="purse", tx="split", args=[self.part], into=self.name)
+
+    def is_there(self, seen):
+        """Whether the line was done, by what is seen of each part."""
+        return seen[self.name] is not None and (not self.merges or seen[self.name]["disowned"])
+
+    def is_told(self, reply, seen):
+        """Whether the reply is what this line gives."""
+        return reply.get("ok", "") == (None if self.merges else {"object": seen[self.name]["object"]})
+
+
 class Trial:
     """One program over one store."""
 
-    def __init__(self, program, store, draw):
-        self.words = [program, "serve", MACHINE, store]
+    def __init__(self, program, text, store, draw):
+        self.words = [program, "serve", text, store]
         self.draw = draw
-        # How long it took to answer all lines of a time.
+        # How long it took to answer all lines of a run.
         self.whole = 0.0
         self.handed = self.answered = self.kept = 0
+        # What is in parts that weren't merged again, by their names.
+        self.parts = {}
 
     def start(self):
         return subprocess.Popen(self.words, stdin=subprocess.PIPE, stdout=subprocess.PIPE, stderr=subprocess.PIPE)
@@ -52,6 +81,10 @@ class Trial:
         if run.returncode != 0:
             sys.exit(f"the store was not opened: status {run.returncode}, {output.decode()} {error.decode()}")
         return [json.loads(line) for line in output.decode().splitlines()]
+
+    def see(self, names):
+        """What is seen of these, by their names; None, where there is no such handle."""
+        return dict(zip(names, (reply.get("ok") for reply in self.ask([request(0, "see", on=name) for name in names]))))
 
     def killed(self, lines):
         """What was written by a run that is killed."""
@@ -83,28 +116,54 @@ class Trial:
                 pipe.close()
             except BrokenPipeError:
                 pass
-        return output
+        return output.decode()
 
-    def time(self, number):
-        """Kills one run, and looks for the lines that it was handed."""
-        count = self.draw.randrange(1, LINES + 1)
-        names = [f"c{number}_{place}" for place in range(count)]
-        written = self.killed([request(place, "call", on="m", tx="mint", into=name) for place, name in enumerate(names)])
-        replies = [json.loads(line) for line in written.decode().splitlines() if line.endswith("}}")]
-        reached = written.count(b"\n") + (not written.endswith(b"\n") and written != b"")
-        seen = self.ask([request(place, "see", on=name) for place, name in enumerate(names)])
-        there = ["ok" in reply for reply in seen]
-        kept = there.index(False) if False in there else count
+    def drawn(self, time_name):
+        """The lines of a run: splits, and a merge behind about half of them."""
+        lines = []
+        for place in range(self.draw.randrange(1, SPLITS + 1)):
+            name, part = f"{time_name}_{place}", self.draw.randrange(PART + 1)
+            for merges in (False, True)[: self.draw.randrange(1, 3)]:
+                lines.append(Line(len(lines), name, part, merges))
+        return lines
+
+    def look(self, title, lines, written, seen):
+        """Looks for the lines that a killed run was handed."""
+        there = [line.is_there(seen) for line in lines]
+        kept = there.index(False) if False in there else len(lines)
+        reached = written.count("\n") + (not written.endswith("\n") and written != "")
         if kept < reached:
-            sys.exit(f"time {number}: {reached} lines were answered, and {kept} are there")
+            sys.exit(f"{title}: {reached} lines were answered, and {kept} are there")
+        if kept > reached + 1:
+            sys.exit(f"{title}: {reached} lines were answered, and {kept} are there, more than one that has no reply")
         if any(there[kept:]):
-            sys.exit(f"time {number}: line {kept} isn't there, and a later one is")
-        for reply, object_seen in zip(replies, seen):
-            if reply["ok"]["object"] != object_seen["ok"]["object"]:
-                sys.exit(f"time {number}: line {reply['id']} made another object than its reply says")
-        self.handed += count
+            sys.exit(f"{title}: line {kept} isn't there, and a later one is")
+        for line, reply in zip(lines, written.splitlines(keepends=True)):
+            if reply.endswith("\n") and not line.is_told(json.loads(reply), seen):
+                sys.exit(f"{title}: line {line.number} did something else than its reply says")
+        for line in lines[:kept]:
+            self.parts[line.name] = 0 if line.merges else line.part
+        self.handed += len(lines)
         self.answered += reached
         self.kept += kept
+
+    def time(self, number):
+        """Kills two runs in a row, and then looks for their lines and for the money."""
+        runs = []
+        for letter in "ab":
+            lines = self.drawn(f"c{number}{letter}")
+            runs.append((f"time {number}{letter}", lines, self.killed([line.text() for line in lines])))
+        names = dict.fromkeys(line.name for _, lines, _ in runs for line in lines)
+        seen = self.see([*names, "purse"])
+        for title, lines, written in runs:
+            self.look(title, lines, written, seen)
+        if seen["purse"]["fields"]["amount"] + sum(self.parts.values()) != MINTED:
+            sys.exit(f"time {number}: the purse has {seen['purse']['fields']['amount']}, and not what is left of {MINTED}")
+
+    def sum(self):
+        """The money in the purse and in all parts that have an owner."""
+        seen = self.see(["purse", *self.parts]).values()
+        return sum(money["fields"]["amount"] for money in seen if not money["disowned"])
 
 
 def iter_lines(pipe, count):
@@ -123,14 +182,21 @@ def main():
     parser.add_argument("--program", default=os.path.join(TOP, "obsidian"))
     given = parser.parse_args()
     with tempfile.TemporaryDirectory() as folder:
-        trial = Trial(os.path.abspath(given.program), os.path.join(folder, "store"), random.Random(given.seed))
+        text, store = os.path.join(folder, "mint.obs"), os.path.join(folder, "store")
+        with open(MONEY, encoding="utf-8") as money, open(text, "w", encoding="utf-8") as file:
+            file.write(money.read() + MINT)
+        trial = Trial(os.path.abspath(given.program), text, store, random.Random(given.seed))
         begun = time.monotonic()
-        trial.ask([request(0, "new", contract="Machine", into="m")])
+        trial.ask([request(0, "new", contract="Mint", into="mint"),
+                   request(1, "call", on="mint", tx="mint", args=[MINTED], into="purse")])
         trial.whole = time.monotonic() - begun
         for number in range(given.times):
             trial.time(number)
-        size = os.path.getsize(os.path.join(folder, "store"))
-    print(f"killed {given.times} times: {trial.handed} lines handed over, {trial.answered} answered, {trial.kept} there, {size} bytes")
+        if trial.sum() != MINTED:
+            sys.exit(f"the amounts add up to {trial.sum()}, and {MINTED} were minted")
+        size = os.path.getsize(store)
+    print(f"killed {2 * given.times} runs: {trial.handed} lines handed over, {trial.answered} answered, {trial.kept} there, "
+          f"all money there, {size} bytes")
 
 
 if __name__ == "__main__":

@@ -35,11 +35,10 @@ use Rattle.ob_verify_spec.specs.Instructions as kinds
 use Rattle.ob_verify_spec.specs.Conditions.{takes, same_kinds, same_result, answers_for, has_answer, answers_if_implemented, is_answered, constructs}
 use Rattle.ob_verify_spec.specs.Ways.{IsAt}
 use Rattle.ob_verify_spec.specs.Running.{AreKnownAt}
-use Rattle.ob_verify_spec.specs.Laws.{HasBody}
+use Rattle.ob_verify_spec.specs.Laws.{HasBody, SlotsFitByte}
 use Rattle.ob_verify_spec.proofs.Cells.{some_same, none_some, same_kind_of}
 use Rattle.ob_verify_spec.proofs.Listed.{head, behind, each_passes, from_get}
 use Rattle.ob_code_laws.specs.Kinds.{NamesObject, IsOfKind, AreOfKinds, HasFieldsOfKinds, HaveFieldsOfKinds, IsObjectOf, Holds, AreMet}
-use Rattle.ob_code_laws.specs.Premises.{SlotsFitByte}
 use Rattle.ob_code_laws.proofs.Basics.{then_some, passes_some, found_at, get-append_last}
 use Rattle.ob_code_laws.proofs.Growing.{kinds_grow}
 use Rattle.ob_code_laws.proofs.Worlds.{Follows, read_objects, made_follows}

@@ -1,7 +1,7 @@
 -- What slots hold meets the needs that their kinds meet.
 use Rattle.std.proofs.Common.{◌≡◌, ℕ, ◌<◌, List, [], ◌∷◌, Option, Some, None, true, false, not, ◌==◌, Contains, slice_get, refl, sym, ap, ◌∙◌, subst, ◌⊎◌, inl, inr}
 use Rattle.std.specs.Option.{option_map_or}
-use Rattle.std.proofs.lemmas.Bool.{true≢false, or_cases, and_parts, eqb-true, not-true}
+use Rattle.std.proofs.lemmas.Bool.{true≢false, or_cases, and_parts, eqb-true, not-true, false_from_ne_true}
 use Rattle.ob_base.specs.declared.id.ContractId.{ContractId}
 use Rattle.ob_table.specs.declared.seen.Kind.{Kind}
 use Rattle.ob_table.specs.declared.seen.Kind.TheVariants as kind
@@ -14,11 +14,10 @@ use Rattle.ob_code.specs.Code.{is_interface, contract_code}
 use Rattle.ob_verify_spec.specs.Kinds.{same_kind, implements_number as implements_it, fits_contract, fits, is_reference}
 use Rattle.ob_verify_spec.specs.Instructions.{Need, of_kind, any_value, any_reference, alike, slots_needed, passes, are_alike, meets}
 use Rattle.ob_verify_spec.specs.Instructions as kinds
-use Rattle.ob_verify_spec.specs.Calling.{FitKnown}
-use Rattle.ob_verify_spec.proofs.Cells.{some_same, same_kind_of}
+use Rattle.ob_verify_spec.specs.Calling.{ImplementsInterfacesAlone, FitKnown}
+use Rattle.ob_verify_spec.proofs.Cells.{same_kind_of}
 use Rattle.ob_verify_spec.proofs.Listed.{head, behind}
 use Rattle.ob_code_laws.specs.Kinds.{IsOfKind, Holds, HoldsReference, AreMet}
-use Rattle.ob_code_laws.specs.Premises.{ImplementsInterface, ImplementsOnlyInterfaces}
 use Rattle.ob_code_laws.proofs.Basics.{passes_some, same_contract}
 
 -- Contracts.
@@ -36,26 +35,24 @@ fits_cases image a b e = elim (or_cases (a.0 == b.0) (option_map_or (implements_
 ]
 
 -- what stands for a contract that is no interface is that contract
-pub fits_of_contract : (image : Image) → ImplementsOnlyInterfaces image → (a b : ContractId) (own : ContractCode) → contract_code image b ≡ Some own → is_interface own ≡ false
+pub fits_of_contract : (image : Image) → ImplementsInterfacesAlone image → (a b : ContractId) (own : ContractCode) → contract_code image b ≡ Some own → is_interface own ≡ false
     → fits_contract image a b ≡ true → a ≡ b
 fits_of_contract image imps a b own of contract e = elim (fits_cases image a b e) [
   | inl h ↦ h
   | inr h ↦
-      let i : ImplementsInterface image h.0 b = imps.each a b h.0 h.1 h.2 in
-      let same : own ≡ i.interface = some_same (sym of ∙ i.there) in
-      absurd (true≢false (sym i.is ∙ ap is_interface (sym same) ∙ contract))
+      let is : is_interface own ≡ true = imps.interfaces a b h.0 own h.1 h.2 of in absurd (true≢false (sym is ∙ contract))
 ]
 
-fits_on : (image : Image) → ImplementsOnlyInterfaces image → (a b c : ContractId) → fits_contract image a b ≡ true → fits_contract image b c ≡ true → fits_contract image a c ≡ true
+fits_on : (image : Image) → ImplementsInterfacesAlone image → (a b c : ContractId) → fits_contract image a b ≡ true → fits_contract image b c ≡ true → fits_contract image a c ≡ true
 fits_on image imps a b c e g = elim (fits_cases image b c g) [
   | inl h ↦ subst (λ z. fits_contract image a z ≡ true) h e
   | inr h ↦
-      let i : ImplementsInterface image h.0 c = imps.each b c h.0 h.1 h.2 in
-      subst (λ z. fits_contract image z c ≡ true) (sym (fits_of_contract image imps a b h.0 h.1 i.contract e)) g
+      let plain : is_interface h.0 ≡ false = false_from_ne_true (is_interface h.0) (λ is. true≢false (sym h.2 ∙ imps.contracts b c h.0 h.1 is)) in
+      subst (λ z. fits_contract image z c ≡ true) (sym (fits_of_contract image imps a b h.0 h.1 plain e)) g
 ]
 
 -- a value of a kind is of each kind for which that may stand
-pub widens : (image : Image) → ImplementsOnlyInterfaces image → (objects : List Object) (x y : Kind) (v : Value) → fits image x y ≡ true → IsOfKind image objects x v → IsOfKind image objects y v
+pub widens : (image : Image) → ImplementsInterfacesAlone image → (objects : List Object) (x y : Kind) (v : Value) → fits image x y ≡ true → IsOfKind image objects x v → IsOfKind image objects y v
 widens image imps objects (kind.Reference c) (kind.Reference d) (reference n) e h = record { object = h.object; there = h.there; fits = fits_on image imps h.object.contract c d h.fits e }
 widens image imps objects (kind.Reference c) (kind.Reference d) v e h = absurd h
 widens image imps objects x y v e h = subst (λ z. IsOfKind image objects z v) (same_kind_of x y e) h
@@ -67,12 +64,12 @@ abbrev pub HoldKnown : Image → List Object → ℕ → kinds.KindsOfSlots → 
 HoldKnown image objects n known slots = (k : ℕ) (x : Kind) → k < n → known k ≡ Some x → Holds image objects slots k x
 
 -- a slot that holds a value of a kind holds one of each kind for which that may stand
-pub holds_widens : (image : Image) → ImplementsOnlyInterfaces image → (objects : List Object) (slots : Slots) (k : ℕ) (x y : Kind) → fits image x y ≡ true → Holds image objects slots k x
+pub holds_widens : (image : Image) → ImplementsInterfacesAlone image → (objects : List Object) (slots : Slots) (k : ℕ) (x y : Kind) → fits image x y ≡ true → Holds image objects slots k x
     → Holds image objects slots k y
 holds_widens image imps objects slots k x y e h = record { value = h.value; there = h.there; kind = widens image imps objects x y h.value e h.kind }
 
 -- where less is known of slots, they hold that too
-pub hold_less : (image : Image) → ImplementsOnlyInterfaces image → (objects : List Object) (n : ℕ) (known less : kinds.KindsOfSlots) (slots : Slots) → FitKnown image n less known
+pub hold_less : (image : Image) → ImplementsInterfacesAlone image → (objects : List Object) (n : ℕ) (known less : kinds.KindsOfSlots) (slots : Slots) → FitKnown image n less known
     → HoldKnown image objects n known slots → HoldKnown image objects n less slots
 hold_less image imps objects n known less slots fit holds k x lt e = let a = fit k x lt e in holds_widens image imps objects slots k a.0 x a.2 (holds k a.0 lt a.1)
 
@@ -89,7 +86,7 @@ are_same (Some x) p e =
     let found = passes_some (same_kind x) p parts.1 in
     (x, not-true (is_reference x) parts.0, refl, found.1 ∙ ap Some (sym (same_kind_of x found.0 found.2)))
 
-pub are_met : (image : Image) → ImplementsOnlyInterfaces image → (objects : List Object) (n : ℕ) (known : kinds.KindsOfSlots) (slots : Slots) → HoldKnown image objects n known slots → (need : Need)
+pub are_met : (image : Image) → ImplementsInterfacesAlone image → (objects : List Object) (n : ℕ) (known : kinds.KindsOfSlots) (slots : Slots) → HoldKnown image objects n known slots → (need : Need)
     → ((k : ℕ) → Contains (slots_needed need) k → k < n) → meets image known need ≡ true → AreMet image objects slots need
 are_met image imps objects n known slots holds (of_kind k wanted) lt e =
     let found = passes_some (λ given. fits image given wanted) (known k) e in

@@ -20,10 +20,10 @@ use Rattle.ob_verify_spec.specs.Instructions.{leads, Need, slots_needed, needs, 
 use Rattle.ob_verify_spec.specs.Instructions as kinds
 use Rattle.ob_verify_spec.specs.Ways.{IsAt}
 use Rattle.ob_verify_spec.specs.Verified.{IsVerified}
+use Rattle.ob_verify_spec.specs.Calling.{ImplementsInterfacesAlone}
 use Rattle.ob_verify_spec.specs.Running.{AreKnownAt, KeepsKinds}
-use Rattle.ob_verify_spec.specs.Laws.{frame_of, HasBody}
+use Rattle.ob_verify_spec.specs.Laws.{frame_of, HasBody, SlotsFitByte}
 use Rattle.ob_code_laws.specs.Kinds.{IsObjectOf, HaveFieldsOfKinds, Holds, AreMet, IsResultOf}
-use Rattle.ob_code_laws.specs.Premises.{ImplementsOnlyInterfaces, SlotsFitByte}
 use Rattle.ob_code_laws.specs.Keeping.{kind_given}
 use Rattle.ob_code_laws.proofs.Growing.{Grows, object_grows, holds_grows}
 use Rattle.ob_code_laws.proofs.Worlds.{Follows}
@@ -32,7 +32,7 @@ use Rattle.ob_code_laws.proofs.Fitting.{HoldKnown, hold_less, are_met}
 -- an image whose code is verified and may be run
 pub record IsSound (image : Image) : Type 0 where
   pub verified : IsVerified image
-  pub implements : ImplementsOnlyInterfaces image
+  pub implements : ImplementsInterfacesAlone image
   pub slots : SlotsFitByte image
 
 -- a frame runs a verified body on an object of its contract
@@ -76,7 +76,7 @@ Wait image objects out (f ∷ fs) given into = (w : IsWaiting image objects f gi
 
 -- a configuration of a run, of an image whose code may be run, that is to give a result of a kind
 pub record IsRunning (image : Image) (out : Option Kind) (c : Configuration) : Type 0 where
-  pub implements : ImplementsOnlyInterfaces image
+  pub implements : ImplementsInterfacesAlone image
   pub objects : HaveFieldsOfKinds image c.world.objects
   pub top : IsInnermost image c.world.objects c.top
   pub below : Wait image c.world.objects out c.below (kind_given c.top.entered c.top.contract top.frame.body) c.top.into

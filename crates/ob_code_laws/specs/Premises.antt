@@ -1,5 +1,5 @@
 -- When verified code may be run: what has to be so of the image, of the objects, and of the entry (this project's own).
-use Rattle.std.specs.Prelude.{◌≡◌, ℕ, ◌≤◌, Bool, true, false, not, ◌&&◌, List, [], ◌∷◌, Some, None, is_some, slice_get}
+use Rattle.std.specs.Prelude.{◌≡◌, ℕ, Bool, true, false, not, ◌&&◌, List, [], ◌∷◌, Some, None, is_some, slice_get}
 use Rattle.ob_base.specs.declared.id.ContractId.{ContractId}
 use Rattle.ob_base.specs.declared.id.TxId.{TxId}
 use Rattle.ob_table.specs.declared.seen.Kind.{Kind}
@@ -14,29 +14,12 @@ use Rattle.ob_code.specs.declared.image.Image.{Image}
 use Rattle.ob_machine_steps.specs.ImageTables.{table_of_image}
 use Rattle.ob_machine_steps.specs.Entries.{MachineEntry}
 use Rattle.ob_code.specs.Code.{is_interface, is_constructor, contract_code, body_code}
-use Rattle.ob_verify_spec.specs.Kinds.{kind_of_type, implements_number as implements_it}
+use Rattle.ob_verify_spec.specs.Kinds.{kind_of_type}
 use Rattle.ob_verify_spec.specs.Frames.{kinds_of_params}
 use Rattle.ob_verify_spec.specs.Verified.{IsVerified}
-use Rattle.ob_verify_spec.specs.Laws.{HasBody}
+use Rattle.ob_verify_spec.specs.Calling.{ImplementsInterfacesAlone}
+use Rattle.ob_verify_spec.specs.Laws.{HasBody, SlotsFitByte}
 use Rattle.ob_code_laws.specs.Kinds.{NamesObject}
-
--- The image.
-
--- a contract implements an interface of the image, and no interface does
-pub record ImplementsInterface (image : Image) (own : ContractCode) (declared : ContractId) : Type 0 where
-  pub interface : ContractCode
-  pub there : contract_code image declared ≡ Some interface
-  pub is : is_interface interface ≡ true
-  pub contract : is_interface own ≡ false
-
--- in an image only interfaces are implemented, and no interface implements one
-pub record ImplementsOnlyInterfaces (image : Image) : Type 0 where
-  pub each : (c declared : ContractId) (own : ContractCode) → contract_code image c ≡ Some own → implements_it declared own ≡ true
-      → ImplementsInterface image own declared
-
--- each body of an image has at most as many slots as the byte of their number can say
-pub record SlotsFitByte (image : Image) : Type 0 where
-  pub each : (c : ContractId) (own : ContractCode) (tx : TxId) (b : BodyCode) → HasBody image c own tx b → b.slots ≤ 255
 
 -- The objects.
 
@@ -82,7 +65,7 @@ pub record NamesObjects (image : Image) (objects : List Object) (e : MachineEntr
 -- A verified image may be run on a content from an entry.
 pub record MayRun (image : Image) (content : Content) (e : MachineEntry) : Type 0 where
   pub verified : IsVerified image
-  pub implements : ImplementsOnlyInterfaces image
+  pub implements : ImplementsInterfacesAlone image
   pub slots : SlotsFitByte image
   pub objects : IsContent (table_of_image image) content
   pub refers : RefersAsDeclared image content.objects

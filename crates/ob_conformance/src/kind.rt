@@ -1,11 +1,11 @@
 //! The kinds of cases. A new one is a variant, a row of `KINDS`, and what it answers.
-use crate::bytes::Bytes;
+use crate::area::area;
 use crate::case::Case;
-use crate::kinds::lines::Lines;
-use crate::kinds::{
-    area, asked, base, calls, client, code, disk, fronts, image, replies, requests, run, steps,
-    store, table, terms, tokens, tree,
-};
+use crate::run::{cut_run, whole_run};
+use crate::store::store;
+use crate::{front, fronts};
+use ob_conformance_lines::{Lines, asked, base, client, disk, image, replies, requests, steps};
+use ob_front::Seen;
 use std::alloc::Global;
 
 /// What is asked of a text.
@@ -147,7 +147,8 @@ impl CaseKind {
         None
     }
 
-    fn is_run(self) -> bool {
+    /// Whether what is asked is a whole run, of which the status is expected as well.
+    pub fn is_run(self) -> bool {
         matches!(self.question, Question::Run)
     }
 
@@ -164,31 +165,35 @@ impl CaseKind {
             || is_among(name, OF_TABLES)
     }
 
-    /// What is expected of a case, of which this is written.
-    pub fn put_wanted(self, case: &Case, written: &[u8], bytes: &mut Bytes) {
-        if self.is_run() {
-            bytes.put(case.parts.find("status").unwrap_or(b"0 Done"));
-            bytes.put(b"\n");
-        }
-        bytes.put(written);
+    /// Shows what comes of a case, of which this is asked.
+    pub fn answer(self, alloc: Global, case: &Case<'_>, asked: &[u8], lines: &mut Lines) {
+        let mut seen = Seen::new(alloc);
+        self.put_answer(alloc, case, asked, &mut seen, lines);
     }
 
-    /// Shows what comes of a case, of which this is asked.
-    pub fn answer(self, alloc: Global, case: &Case, asked: &[u8], lines: &mut Lines) {
+    // The same, where the stages may leave behind what they made of a text.
+    fn put_answer(
+        self,
+        alloc: Global,
+        case: &Case<'_>,
+        asked: &[u8],
+        seen: &mut Seen,
+        lines: &mut Lines,
+    ) {
         let text = case.part("text");
         let objects = case.part("objects");
         match self.question {
-            Question::Table => table::table(alloc, asked, lines),
-            Question::Terms => terms::terms(alloc, asked, lines),
-            Question::Code => code::code(alloc, asked, lines),
-            Question::Compiled => code::compiled(alloc, asked, lines),
-            Question::Calls => calls::calls(alloc, text, objects, asked, lines),
-            Question::Run => run::whole_run(alloc, case, asked, lines),
-            Question::Outside => run::cut_run(alloc, case, asked, lines),
-            Question::Layout => tree::layout(alloc, asked, lines),
-            Question::Again => tree::again(alloc, asked, lines),
-            Question::Tokens => tokens::tokens(alloc, asked, lines),
-            Question::Tree => tree::tree(alloc, text, asked, lines),
+            Question::Table => front::table(alloc, asked, seen, lines),
+            Question::Terms => front::terms(alloc, asked, seen, lines),
+            Question::Code => front::code(alloc, asked, seen, lines),
+            Question::Compiled => front::compiled(alloc, asked, seen, lines),
+            Question::Calls => front::calls(alloc, case, asked, seen, lines),
+            Question::Run => whole_run(alloc, case, asked, lines),
+            Question::Outside => cut_run(alloc, case, asked, lines),
+            Question::Layout => front::layout(alloc, asked, lines),
+            Question::Again => front::again(alloc, asked, lines),
+            Question::Tokens => front::tokens(alloc, asked, lines),
+            Question::Tree => front::tree(alloc, text, asked, lines),
             Question::Whole => fronts::whole(alloc, asked, lines),
             Question::Fronts => fronts::fronts(alloc, asked, lines),
             Question::Request => requests::request(alloc, asked, lines),
@@ -205,8 +210,8 @@ impl CaseKind {
             Question::Sent => client::sent(alloc, asked, lines),
             Question::Answered => client::answered(alloc, asked, lines),
             Question::Trial => client::trial(alloc, asked, lines),
-            Question::Area => area::area(alloc, text, asked, lines),
-            Question::Store => store::store(alloc, case, asked, lines),
+            Question::Area => area(alloc, text, asked, seen, lines),
+            Question::Store => store(alloc, case, asked, lines),
         }
     }
 }

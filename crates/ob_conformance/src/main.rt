@@ -6,24 +6,23 @@
 //! They ask for what the shipped program doesn't show by itself; docs/cases.py runs those of which it shows the answer.
 #![tactic(auto)]
 
-mod bytes;
+mod area;
 mod case;
+mod front;
+mod fronts;
 mod kind;
-mod kinds;
-mod named;
-mod pieces;
+mod outside;
 mod report;
+mod run;
 mod sheet;
-mod trouble;
-mod words;
+mod store;
 
-use named::Named;
+use ob_conformance_lines::{Named, Trouble};
 use report::Report;
 use sheet::Sheet;
 use std::io::{Write, read_to_string, writer};
 use std::process::ExitCode;
 use std::{env, fs, io};
-use trouble::Trouble;
 
 /// The file that names the others: programs, which end in `.obs`, words of images, which end in `.image`, and behind the name of who
 /// runs them files of cases, which end in `.txt`.
@@ -37,14 +36,8 @@ fn out_of_memory() -> io::Error {
 }
 
 // Prints a report to its end, and answers whether all its cases agree.
-fn print_all(rt: &HostRuntime, topic: &str, report: &mut Report) -> io::Result<bool> {
-    if !report.answers {
-        report.sum_up(rt.alloc(), topic);
-    }
-    match report.text.written() {
-        Ok(text) => writer(rt).write_all(text)?,
-        Err(_) => return Err(out_of_memory()),
-    }
+fn print_all(rt: &HostRuntime, report: &Report) -> io::Result<bool> {
+    writer(rt).write_all(report.text.as_slice())?;
     Ok(report.cases == report.agreeing)
 }
 
@@ -56,17 +49,19 @@ fn print_trouble(rt: &HostRuntime, topic: &str, line: usize, trouble: Trouble) -
 }
 
 // Prints the report on a text, and answers whether all its cases agree.
-fn print_report(
+fn print_report<'a>(
     rt: &HostRuntime,
-    programs: &Named,
+    programs: &'a Named,
     topic: &str,
-    text: &str,
+    text: &'a str,
     answers: bool,
 ) -> io::Result<bool> {
     let mut sheet = Sheet::new(rt.alloc(), programs, Report::new(rt.alloc(), answers));
-    match sheet.take_all(text) {
-        Ok(()) => print_all(rt, topic, &mut sheet.report),
-        Err(trouble) => print_trouble(rt, topic, sheet.line, trouble),
+    sheet.take_all(text);
+    sheet.report.sum_up(rt.alloc(), topic);
+    match sheet.report.text.trouble() {
+        None => print_all(rt, &sheet.report),
+        Some(trouble) => print_trouble(rt, topic, sheet.line, trouble),
     }
 }
 

@@ -1,8 +1,6 @@
 //! What is printed of cases.
-use crate::bytes::Bytes;
 use crate::case::Case;
-use crate::kinds::lines::Lines;
-use crate::trouble::Trouble;
+use ob_conformance_lines::{Bytes, Lines, Trouble};
 use std::alloc::Global;
 
 /// What is printed of the cases of a file.
@@ -42,20 +40,6 @@ fn shown_of(bytes: &[u8]) -> &[u8] {
     &bytes[..end]
 }
 
-// What comes of a case, of which this is asked.
-fn answer_to(alloc: Global, case: &Case, asked: &[u8]) -> Result<Vec<u8>, Trouble> {
-    let mut lines = Lines::new(alloc);
-    case.kind.answer(alloc, case, asked, &mut lines);
-    lines.into_bytes()
-}
-
-// What is expected of a case, of which this is written.
-fn wanted_of(alloc: Global, case: &Case, written: &[u8]) -> Result<Vec<u8>, Trouble> {
-    let mut bytes = Bytes::new(alloc);
-    case.kind.put_wanted(case, written, &mut bytes);
-    bytes.finish()
-}
-
 impl Report {
     /// Nothing is printed yet.
     pub fn new(alloc: Global, answers: bool) -> Report {
@@ -71,26 +55,33 @@ impl Report {
         self.text.put(text.as_bytes());
     }
 
+    fn put_answer(&mut self, title: &str, came: &[u8]) {
+        self.put("= ");
+        self.put(title);
+        self.put("\n");
+        put_marked(b"| ", came, &mut self.text);
+    }
+
     /// Answers a case, of which this is asked, and compares, or prints the answer. `row` is its row in a table.
     pub fn judge(
         &mut self,
         alloc: Global,
-        case: &Case,
+        case: &Case<'_>,
         row: &str,
-        asked: &[u8],
-        written: &[u8],
-    ) -> Result<(), Trouble> {
-        let came = answer_to(alloc, case, asked)?;
+        asked: &Bytes,
+        wanted: &Bytes,
+    ) {
+        let mut lines = Lines::new(alloc);
+        lines.note(asked.trouble());
+        lines.note(wanted.trouble());
+        case.kind.answer(alloc, case, asked.as_slice(), &mut lines);
+        self.text.note(lines.trouble());
+        let came = lines.text().as_bytes();
         if self.answers {
-            self.put("= ");
-            self.put(case.title.as_str());
-            self.put("\n");
-            put_marked(b"| ", &came, &mut self.text);
+            self.put_answer(case.title, came);
         } else {
-            let wanted = wanted_of(alloc, case, written)?;
-            self.compare(case.title.as_str(), row, &wanted, &came);
+            self.compare(case.title, row, wanted.as_slice(), came);
         }
-        Ok(())
     }
 
     fn compare(&mut self, title: &str, row: &str, wanted: &[u8], came: &[u8]) {
@@ -111,8 +102,11 @@ impl Report {
         put_marked(b"  came   | ", shown_of(came), &mut self.text);
     }
 
-    /// Says how many cases of a file agree.
+    /// Says how many cases of a file agree, if they were compared.
     pub fn sum_up(&mut self, alloc: Global, topic: &str) {
+        if self.answers {
+            return;
+        }
         let cases = self.cases;
         let agreeing = self.agreeing;
         match format!(in alloc; "{topic}: {agreeing} of {cases} cases agree\n") {

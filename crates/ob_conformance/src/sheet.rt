@@ -1,11 +1,8 @@
 //! A file of cases, line by line.
-use crate::bytes::Bytes;
 use crate::case::Case;
 use crate::kind::CaseKind;
-use crate::named::Named;
-use crate::pieces::put_text;
 use crate::report::Report;
-use crate::trouble::Trouble;
+use ob_conformance_lines::{Bytes, Named, Trouble, put_text};
 use std::alloc::Global;
 
 /// What was read so far of a file of cases.
@@ -13,9 +10,9 @@ use std::alloc::Global;
 pub struct Sheet<'a> {
     alloc: Global,
     programs: &'a Named,
-    case: Option<Case>,
+    case: Option<Case<'a>>,
     /// The name of the part that a line of text goes on with.
-    part: String,
+    part: &'a str,
     /// Whether the case is a table, whose rows were judged.
     is_table: bool,
     /// How many lines were read.
@@ -26,16 +23,6 @@ pub struct Sheet<'a> {
 
 /// What is said of a line that stands before all cases.
 const NO_CASE: Trouble = Trouble::Line("no case was begun");
-
-// What stands after the mark of a line, and a blank.
-fn marked<'a>(line: &'a str, mark: &str) -> Option<&'a str> {
-    let rest = line.strip_prefix(mark)?;
-    if rest.is_empty() {
-        Some(rest)
-    } else {
-        rest.strip_prefix(' ')
-    }
-}
 
 // What a row asks, and what it expects, if it says so itself.
 fn sides_of(row: &str) -> (&str, Option<&str>) {
@@ -49,7 +36,7 @@ fn sides_of(row: &str) -> (&str, Option<&str>) {
 fn put_side(
     alloc: Global,
     programs: &Named,
-    case: &Case,
+    case: &Case<'_>,
     (front, text, back): (&str, &str, &str),
     into: &mut Bytes,
 ) {
@@ -59,29 +46,46 @@ fn put_side(
 }
 
 // What is asked in a row.
-fn asked_of(alloc: Global, programs: &Named, case: &Case, text: &str) -> Result<Vec<u8>, Trouble> {
-    let mut bytes = Bytes::new(alloc);
-    put_side(alloc, programs, case, ("front", text, "back"), &mut bytes);
-    bytes.finish()
+fn asked_of(alloc: Global, programs: &Named, case: &Case<'_>, text: &str) -> Bytes {
+    let mut asked = Bytes::new(alloc);
+    put_side(alloc, programs, case, ("front", text, "back"), &mut asked);
+    asked
 }
 
 // What is expected of a row: its own answer, or that of every row.
-fn answer_of(
-    alloc: Global,
-    programs: &Named,
-    case: &Case,
-    answer: Option<&str>,
-) -> Result<Vec<u8>, Trouble> {
-    let mut bytes = Bytes::new(alloc);
+fn wanted_of(alloc: Global, programs: &Named, case: &Case<'_>, answer: Option<&str>) -> Bytes {
+    let mut wanted = Bytes::new(alloc);
+    case.put_status(&mut wanted);
     match answer {
         Some(answer) => {
             let side = ("answer-front", answer, "answer-back");
-            put_side(alloc, programs, case, side, &mut bytes);
+            put_side(alloc, programs, case, side, &mut wanted);
         }
-        None => bytes.put(case.part("every")),
+        None => wanted.put(case.part("every")),
     }
-    bytes.put(b"\n");
-    bytes.finish()
+    wanted.put(b"\n");
+    wanted
+}
+
+// Answers a case that isn't a table.
+fn judge_case(alloc: Global, case: &Case<'_>, report: &mut Report) {
+    let mut asked = Bytes::new(alloc);
+    asked.put(case.part(case.kind.asked));
+    let mut wanted = Bytes::new(alloc);
+    case.put_status(&mut wanted);
+    wanted.put(case.part(case.kind.wanted()));
+    report.judge(alloc, case, "", &asked, &wanted);
+}
+
+// Answers a row of a case.
+fn judge_row(alloc: Global, programs: &Named, case: &Case<'_>, row: &str, report: &mut Report) {
+    let (text, answer) = sides_of(row);
+    if answer.is_none() && !report.answers && case.parts.find("every").is_none() {
+        report.text.fail(Trouble::Line("no answer of this row"));
+    }
+    let asked = asked_of(alloc, programs, case, text);
+    let wanted = wanted_of(alloc, programs, case, answer);
+    report.judge(alloc, case, row, &asked, &wanted);
 }
 
 impl<'a> Sheet<'a> {
@@ -91,109 +95,87 @@ impl<'a> Sheet<'a> {
             alloc,
             programs,
             case: None,
-            part: String::new(alloc),
+            part: "",
             is_table: false,
             line: 0,
             report,
         }
     }
 
-    /// Reads all lines.
-    pub fn take_all(&mut self, text: &str) -> Result<(), Trouble> {
+    /// Reads all lines, up to one with a trouble, which the report notes.
+    pub fn take_all(&mut self, text: &'a str) {
         for line in text.lines() {
-            self.line = self.line.saturating_add(1);
-            self.take(line)?;
+            if self.report.text.trouble().is_none() {
+                self.line = self.line.saturating_add(1);
+                self.take(line);
+            }
         }
-        self.end_case()
+        self.end_case();
     }
 
     // Reads the next line.
-    fn take(&mut self, line: &str) -> Result<(), Trouble> {
+    fn take(&mut self, line: &'a str) {
         if line.is_empty() || line.starts_with('#') {
-            return Ok(());
+            return;
         }
-        if let Some(row) = marked(line, "-") {
-            return self.take_row(row);
+        let (word, rest) = line.split_once(' ').unwrap_or((line, ""));
+        match word {
+            "-" => self.take_row(rest),
+            ">" => self.add_line("input", rest),
+            "<" => self.add_line("output", rest),
+            "|" => self.add_line(self.part, rest),
+            _ => self.take_word(word, rest),
         }
-        if let Some(text) = marked(line, ">") {
-            return self.add_line("input", text);
-        }
-        if let Some(text) = marked(line, "<") {
-            return self.add_line("output", text);
-        }
-        if let Some(text) = marked(line, "|") {
-            let part = self.part.clone()?;
-            return self.add_line(part.as_str(), text);
-        }
-        self.take_word(line)
     }
 
     // A line that begins with a word: the kind of a new case, or the name of a part.
-    fn take_word(&mut self, line: &str) -> Result<(), Trouble> {
-        let (word, rest) = line.split_once(' ').unwrap_or((line, ""));
+    fn take_word(&mut self, word: &'a str, rest: &'a str) {
         match CaseKind::of(word) {
             Some(kind) => {
-                self.end_case()?;
-                self.case = Some(Case {
-                    kind,
-                    title: String::from_str(self.alloc, rest)?,
-                    parts: Named::new(self.alloc),
-                });
-                Ok(())
+                self.end_case();
+                self.case = Some(Case::new(self.alloc, kind, rest));
             }
             None => {
-                self.part = String::from_str(self.alloc, word)?;
-                self.add_text(word, rest)
+                self.part = word;
+                self.add_text(word, rest);
             }
         }
     }
 
-    fn add_text(&mut self, part: &str, text: &str) -> Result<(), Trouble> {
-        let Some(case) = &mut self.case else {
-            return Err(NO_CASE);
-        };
-        if !case.kind.has_part(part) {
-            return Err(Trouble::Line("an unknown word"));
+    fn add_text(&mut self, part: &str, text: &str) {
+        let notes = &mut self.report.text;
+        match &mut self.case {
+            Some(case) => case.add(self.alloc, self.programs, part, text, notes),
+            None => notes.fail(NO_CASE),
         }
-        let mut bytes = Bytes::new(self.alloc);
-        put_text(self.alloc, self.programs, text, &mut bytes);
-        case.parts.add(self.alloc, part, &bytes.finish()?)
     }
 
     // A line of a part. Its newline is left out where `unended` stands at its end.
-    fn add_line(&mut self, part: &str, line: &str) -> Result<(), Trouble> {
+    fn add_line(&mut self, part: &str, line: &str) {
         match line.strip_suffix("`unended`") {
             Some(text) => self.add_text(part, text),
             None => {
-                self.add_text(part, line)?;
-                self.add_text(part, "`newline`")
+                self.add_text(part, line);
+                self.add_text(part, "`newline`");
             }
         }
     }
 
-    fn take_row(&mut self, row: &str) -> Result<(), Trouble> {
-        let Some(case) = &self.case else {
-            return Err(NO_CASE);
-        };
-        let (text, answer) = sides_of(row);
-        if answer.is_none() && !self.report.answers && case.parts.find("every").is_none() {
-            return Err(Trouble::Line("no answer of this row"));
-        }
-        let asked = asked_of(self.alloc, self.programs, case, text)?;
-        let wanted = answer_of(self.alloc, self.programs, case, answer)?;
+    fn take_row(&mut self, row: &str) {
         self.is_table = true;
-        self.report.judge(self.alloc, case, row, &asked, &wanted)
+        match &self.case {
+            Some(case) => judge_row(self.alloc, self.programs, case, row, &mut self.report),
+            None => self.report.text.fail(NO_CASE),
+        }
     }
 
     // The case ends where the next one begins.
-    fn end_case(&mut self) -> Result<(), Trouble> {
+    fn end_case(&mut self) {
         if let Some(case) = self.case.take() {
             if !self.is_table {
-                let (asked, wanted) = (case.part(case.kind.asked), case.part(case.kind.wanted()));
-                self.report.judge(self.alloc, &case, "", asked, wanted)?;
+                judge_case(self.alloc, &case, &mut self.report);
             }
         }
         self.is_table = false;
-        Ok(())
     }
 }

@@ -10,8 +10,8 @@ kept true old new bytes at is c reads =
     subst (λ (b : List ℕ). Torn at (length bytes) old b) there (torn_overwritten at bytes old)
 kept false old new bytes at is c reads = cc
 
-pub sure_write : (told tells : Bool) (old new bytes : List ℕ) (at : ℕ) → told ≡ true → (tells ≡ true → new ≡ overwritten at bytes old) → IsWrite at (length bytes) (sure_told told old) (sure_told tells new)
-sure_write told tells old new bytes at was is = record {
+pub sure_write : (told tells : Bool) (old new bytes : List ℕ) (at i j : ℕ) → told ≡ true → (tells ≡ true → new ≡ overwritten at bytes old) → IsWrite at (length bytes) (sure_told told old i) (sure_told tells new j)
+sure_write told tells old new bytes at i j was is = record {
   content = λ c reads. (old, ap (λ t. if t then Some old else None) was, kept tells old new bytes at is c reads);
   images = λ c left. absurd left;
   time = record { only = record { later = omega arith; each = λ t c le left. inl left }; keeps = λ t c le left. left };

@@ -1,3 +1,4 @@
 pub mod Noted
 pub mod Undoing
 pub mod Kept
+pub mod Named

@@ -1,8 +1,8 @@
 -- One more call is noted.
-use Rattle.std.proofs.Common.{◌≡◌, ◌⊎◌, inl, inr, ⊎_elim, ℕ, ◌-◌, ◌==◌, cond, List, [], ◌∷◌, ◌++◌, reverse, length, Some, refl, sym, ◌∙◌, ap, subst, arith}
+use Rattle.std.proofs.Common.{◌≡◌, ◌⊎◌, inl, inr, ⊎_elim, ℕ, ◌-◌, ◌==◌, cond, List, [], ◌∷◌, ◌++◌, reverse, length, Option, Some, refl, sym, ◌∙◌, ap, subst, arith}
 use Rattle.std.proofs.lemmas.Bool.{cond_both}
 use Rattle.std.proofs.lemmas.List.{reverse-append}
-use Rattle.ob_disk_spec.specs.Disk.{Torn, Elapses, IsQuiet, IsWrite, overwritten}
+use Rattle.ob_disk_spec.specs.Disk.{Attach, Torn, Elapses, IsQuiet, IsWrite, overwritten}
 use Rattle.ob_disk_spec.proofs.TornLemmas.{torn_same, torn_again, torn_overwritten, unsome}
 use Rattle.ob_disk.specs.Notes.{Left, LeftSince, stopped, spoiled, undone, before, own_left}
 use Rattle.ob_disk.specs.Memory.{told}
@@ -14,8 +14,8 @@ use Rattle.ob_disk.proofs.Undoing.{torn_spoiled}
 reversed : (notes later : List Note) (note : Note) → later ≡ notes ++ note ∷ [] → reverse later ≡ note ∷ reverse notes
 reversed notes later note is = ap reverse is ∙ reverse-append notes (note ∷ [])
 
-elapses : (old new : List ℕ) (notes : List Note) (note : Note) (f g : ℕ) → undone note new ≡ old → Elapses (told old notes f) (told new (note ∷ notes) g)
-elapses old new notes note f g back = record {
+elapses : (old new : List ℕ) (notes : List Note) (note : Note) (f g : ℕ) (xs ys : Option (List Attach)) (i j : ℕ) → undone note new ≡ old → Elapses (told old notes f xs i) (told new (note ∷ notes) g ys j)
+elapses old new notes note f g xs ys i j back = record {
   only = record {
     later = omega arith;
     each = λ t c le left. ⊎_elim (λ now. inr now) (λ was. inl (subst (λ (b : List ℕ). LeftSince notes t b c) back was.1)) left;
@@ -24,69 +24,69 @@ elapses old new notes note f g back = record {
 }
 
 -- nothing is noted
-same_quiet : (bytes : List ℕ) (notes : List Note) (f g : ℕ) → IsQuiet (told bytes notes f) (told bytes notes g)
-same_quiet bytes notes f g = record {
+same_quiet : (bytes : List ℕ) (notes : List Note) (f g : ℕ) (xs ys : Option (List Attach)) (i j : ℕ) → IsQuiet (told bytes notes f xs i) (told bytes notes g ys j)
+same_quiet bytes notes f g xs ys i j = record {
   content = λ c reads. reads;
   images = λ c left. left;
   time = record { only = record { later = omega arith; each = λ t c le left. inl left }; keeps = λ t c le left. left };
 }
 
-same_write : (bytes : List ℕ) (notes : List Note) (at n f g : ℕ) → IsWrite at n (told bytes notes f) (told bytes notes g)
-same_write bytes notes at n f g = record {
+same_write : (bytes : List ℕ) (notes : List Note) (at n f g : ℕ) (xs ys : Option (List Attach)) (i j : ℕ) → IsWrite at n (told bytes notes f xs i) (told bytes notes g ys j)
+same_write bytes notes at n f g xs ys i j = record {
   content = λ c reads. (c, reads, torn_same at n c);
   images = λ c left. (c, left, torn_same at n c);
-  time = (same_quiet bytes notes f g).time;
+  time = (same_quiet bytes notes f g xs ys i j).time;
 }
 
 -- a write that failed is noted
-fault_write : (bytes : List ℕ) (notes : List Note) (at n f g : ℕ) → IsWrite at n (told bytes notes f) (told bytes (Lost at n ∷ notes) g)
-fault_write bytes notes at n f g = record {
+fault_write : (bytes : List ℕ) (notes : List Note) (at n f g : ℕ) (xs ys : Option (List Attach)) (i j : ℕ) → IsWrite at n (told bytes notes f xs i) (told bytes (Lost at n ∷ notes) g ys j)
+fault_write bytes notes at n f g xs ys i j = record {
   content = λ c reads. (c, reads, torn_same at n c);
   images = λ c left. ⊎_elim (λ torn. (bytes, own_left notes bytes, torn)) (λ was. was) left;
-  time = elapses bytes bytes notes (Lost at n) f g refl;
+  time = elapses bytes bytes notes (Lost at n) f g xs ys i j refl;
 }
 
-lost_either : (bytes : List ℕ) (notes later : List Note) (at n f g : ℕ) → (later ≡ notes) ⊎ (later ≡ notes ++ Lost at n ∷ []) → IsWrite at n (told bytes (reverse notes) f) (told bytes (reverse later) g)
-lost_either bytes notes later at n f g (inl is) = subst (λ (l : List Note). IsWrite at n (told bytes (reverse notes) f) (told bytes (reverse l) g)) (sym is) (same_write bytes (reverse notes) at n f g)
-lost_either bytes notes later at n f g (inr is) =
-    subst (λ (l : List Note). IsWrite at n (told bytes (reverse notes) f) (told bytes l g)) (sym (reversed notes later (Lost at n) is)) (fault_write bytes (reverse notes) at n f g)
+lost_either : (bytes : List ℕ) (notes later : List Note) (at n f g : ℕ) (xs ys : Option (List Attach)) (i j : ℕ) → (later ≡ notes) ⊎ (later ≡ notes ++ Lost at n ∷ []) → IsWrite at n (told bytes (reverse notes) f xs i) (told bytes (reverse later) g ys j)
+lost_either bytes notes later at n f g xs ys i j (inl is) = subst (λ (l : List Note). IsWrite at n (told bytes (reverse notes) f xs i) (told bytes (reverse l) g ys j)) (sym is) (same_write bytes (reverse notes) at n f g xs ys i j)
+lost_either bytes notes later at n f g xs ys i j (inr is) =
+    subst (λ (l : List Note). IsWrite at n (told bytes (reverse notes) f xs i) (told bytes l g ys j)) (sym (reversed notes later (Lost at n) is)) (fault_write bytes (reverse notes) at n f g xs ys i j)
 
 -- a write failed, and it may be that this was noted
-pub lost_write : (old new : List ℕ) (notes later : List Note) (at n f g : ℕ) → new ≡ old → (later ≡ notes) ⊎ (later ≡ notes ++ Lost at n ∷ []) → IsWrite at n (told old (reverse notes) f) (told new (reverse later) g)
-lost_write old new notes later at n f g same is = subst (λ (b : List ℕ). IsWrite at n (told old (reverse notes) f) (told b (reverse later) g)) (sym same) (lost_either old notes later at n f g is)
+pub lost_write : (old new : List ℕ) (notes later : List Note) (at n f g : ℕ) (xs ys : Option (List Attach)) (i j : ℕ) → new ≡ old → (later ≡ notes) ⊎ (later ≡ notes ++ Lost at n ∷ []) → IsWrite at n (told old (reverse notes) f xs i) (told new (reverse later) g ys j)
+lost_write old new notes later at n f g xs ys i j same is = subst (λ (b : List ℕ). IsWrite at n (told old (reverse notes) f xs i) (told b (reverse later) g ys j)) (sym same) (lost_either old notes later at n f g xs ys i j is)
 
 -- bytes were written
-written_write : (old bytes : List ℕ) (notes : List Note) (over : Over) (f g : ℕ) → over.count ≡ length bytes → before over (overwritten over.at bytes old) ≡ old → IsWrite over.at over.count (told old notes f) (told (overwritten over.at bytes old) (Written over ∷ notes) g)
-written_write old bytes notes over f g count back =
+written_write : (old bytes : List ℕ) (notes : List Note) (over : Over) (f g : ℕ) (xs ys : Option (List Attach)) (i j : ℕ) → over.count ≡ length bytes → before over (overwritten over.at bytes old) ≡ old → IsWrite over.at over.count (told old notes f xs i) (told (overwritten over.at bytes old) (Written over ∷ notes) g ys j)
+written_write old bytes notes over f g xs ys i j count back =
     let new = overwritten over.at bytes old in
     let torn : Torn over.at over.count old new = subst (λ (k : ℕ). Torn over.at k old new) (sym count) (torn_overwritten over.at bytes old) in
     record {
       content = λ c reads. (old, refl, subst (λ (b : List ℕ). Torn over.at over.count old b) (unsome new c reads) torn);
       images = λ c left. ⊎_elim (λ more. (old, own_left notes old, torn_again over.at over.count old new c torn more))
           (λ was. (was.0, subst (λ (b : List ℕ). Left notes b was.0) back was.1, was.2)) left;
-      time = elapses old new notes (Written over) f g back;
+      time = elapses old new notes (Written over) f g xs ys i j back;
     }
 
-pub put_write : (old new bytes : List ℕ) (notes later : List Note) (over : Over) (at f g : ℕ) → new ≡ overwritten at bytes old → later ≡ notes ++ Written over ∷ [] → over.at ≡ at → over.count ≡ length bytes → before over (overwritten at bytes old) ≡ old → IsWrite at (length bytes) (told old (reverse notes) f) (told new (reverse later) g)
-put_write old new bytes notes later over at f g is noted start count back =
-    let there = written_write old bytes (reverse notes) over f g count (ap (λ (k : ℕ). before over (overwritten k bytes old)) start ∙ back) in
-    let from = subst (λ (k : ℕ). IsWrite k over.count (told old (reverse notes) f) (told (overwritten k bytes old) (Written over ∷ reverse notes) g)) start there in
-    let long = subst (λ (k : ℕ). IsWrite at k (told old (reverse notes) f) (told (overwritten at bytes old) (Written over ∷ reverse notes) g)) count from in
-    let made = subst (λ (b : List ℕ). IsWrite at (length bytes) (told old (reverse notes) f) (told b (Written over ∷ reverse notes) g)) (sym is) long in
-    subst (λ (l : List Note). IsWrite at (length bytes) (told old (reverse notes) f) (told new l g)) (sym (reversed notes later (Written over) noted)) made
+pub put_write : (old new bytes : List ℕ) (notes later : List Note) (over : Over) (at f g : ℕ) (xs ys : Option (List Attach)) (i j : ℕ) → new ≡ overwritten at bytes old → later ≡ notes ++ Written over ∷ [] → over.at ≡ at → over.count ≡ length bytes → before over (overwritten at bytes old) ≡ old → IsWrite at (length bytes) (told old (reverse notes) f xs i) (told new (reverse later) g ys j)
+put_write old new bytes notes later over at f g xs ys i j is noted start count back =
+    let there = written_write old bytes (reverse notes) over f g xs ys i j count (ap (λ (k : ℕ). before over (overwritten k bytes old)) start ∙ back) in
+    let from = subst (λ (k : ℕ). IsWrite k over.count (told old (reverse notes) f xs i) (told (overwritten k bytes old) (Written over ∷ reverse notes) g ys j)) start there in
+    let long = subst (λ (k : ℕ). IsWrite at k (told old (reverse notes) f xs i) (told (overwritten at bytes old) (Written over ∷ reverse notes) g ys j)) count from in
+    let made = subst (λ (b : List ℕ). IsWrite at (length bytes) (told old (reverse notes) f xs i) (told b (Written over ∷ reverse notes) g ys j)) (sym is) long in
+    subst (λ (l : List Note). IsWrite at (length bytes) (told old (reverse notes) f xs i) (told new l g ys j)) (sym (reversed notes later (Written over) noted)) made
 
 -- a sync came to the disk
-synced : (bytes : List ℕ) (notes : List Note) (f g : ℕ) → IsQuiet (told bytes notes f) (told bytes (Synced ∷ notes) g)
-synced bytes notes f g = record {
+synced : (bytes : List ℕ) (notes : List Note) (f g : ℕ) (xs ys : Option (List Attach)) (i j : ℕ) → IsQuiet (told bytes notes f xs i) (told bytes (Synced ∷ notes) g ys j)
+synced bytes notes f g xs ys i j = record {
   content = λ c reads. reads;
   images = λ c is. subst (λ (b : List ℕ). Left notes bytes b) (sym is) (own_left notes bytes);
-  time = elapses bytes bytes notes Synced f g refl;
+  time = elapses bytes bytes notes Synced f g xs ys i j refl;
 }
 
-pub sync_quiet : (old new : List ℕ) (notes later : List Note) (f g : ℕ) → new ≡ old → later ≡ notes ++ Synced ∷ [] → IsQuiet (told old (reverse notes) f) (told new (reverse later) g)
-sync_quiet old new notes later f g same is =
-    subst (λ (b : List ℕ). IsQuiet (told old (reverse notes) f) (told b (reverse later) g)) (sym same)
-    (subst (λ (l : List Note). IsQuiet (told old (reverse notes) f) (told old l g)) (sym (reversed notes later Synced is)) (synced old (reverse notes) f g))
+pub sync_quiet : (old new : List ℕ) (notes later : List Note) (f g : ℕ) (xs ys : Option (List Attach)) (i j : ℕ) → new ≡ old → later ≡ notes ++ Synced ∷ [] → IsQuiet (told old (reverse notes) f xs i) (told new (reverse later) g ys j)
+sync_quiet old new notes later f g xs ys i j same is =
+    subst (λ (b : List ℕ). IsQuiet (told old (reverse notes) f xs i) (told b (reverse later) g ys j)) (sym same)
+    (subst (λ (l : List Note). IsQuiet (told old (reverse notes) f xs i) (told old l g ys j)) (sym (reversed notes later Synced is)) (synced old (reverse notes) f g xs ys i j))
 
 pub sync_durable : (bytes : List ℕ) (notes later : List Note) → later ≡ notes ++ Synced ∷ [] → (c : List ℕ) → Left (reverse later) bytes c → Some bytes ≡ Some c
 sync_durable bytes notes later is c left =

@@ -1,3 +1,4 @@
+pub mod Calls
 pub mod Memory
 pub mod Notes
 pub mod Plans

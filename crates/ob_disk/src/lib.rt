@@ -2,12 +2,14 @@
 #![tactic(auto)]
 
 mod bytes;
+mod calls;
 mod disk;
 mod durable;
 mod memory;
 mod plan;
 mod sure;
 
+pub use calls::Calls;
 pub use disk::Disk;
 pub use durable::{durable_write, settle};
 pub use memory::MemoryDisk;

@@ -2,6 +2,7 @@
 //! have left.
 ghost use Rattle.std.specs.Prelude.{◌≡◌, ◌<◌, ◌≤◌, ◌+◌, ◌^◌, ◌↔◌, ◌⊎◌, ◌++◌, ◌∷◌, [], ℕ, List, Some, length, take, drop, IsTrue, IsErr, IfOk, OnOk, OnErr};
 ghost use Rattle.ob_disk_spec.specs.Disk.{Reads, WrittenOver, overwritten, IsQuiet, IsWrite};
+ghost use Rattle.ob_disk_spec.specs.Calls.{NotesAttach, IsOneMore};
 ghost use Rattle.ob_io.specs.Causes.{HasCause};
 ghost use Rattle.ob_disk.specs.declared.memory.Note.TheVariants.{Written, Lost, Synced};
 ghost use Rattle.ob_disk.specs.declared.memory.Over.{Over};
@@ -10,6 +11,7 @@ ghost use Rattle.ob_disk.specs.Plans.{is_to_fail, IsNewPlan, CountsCall};
 
 use crate::Disk;
 use crate::bytes::{overwrite, restore, spoil};
+use crate::calls::Calls;
 use crate::plan::Plan;
 use ob_base::{Failed, Memory};
 use std::alloc::Global;
@@ -38,7 +40,7 @@ enum Note {
 }
 
 /// A disk in memory, without a byte at first. A call fails where it is to, past the room, and where there is no
-/// memory for its note.
+/// memory for its note. It tells by which names it was attached, until there is no memory to note one.
 #[derive(Drop)]
 pub struct MemoryDisk {
     alloc: Global,
@@ -46,6 +48,8 @@ pub struct MemoryDisk {
     notes: Vec<Note>,
     room: u64,
     plan: Plan,
+    calls: Calls,
+    notes_all: bool,
     ghost most: { room ≤ 2 ^ 62 },
 }
 
@@ -74,6 +78,8 @@ impl MemoryDisk {
         ensures images { (c : List ℕ) → (memory_disk_view result).now c → c ≡ [] }
         ensures room { room ≤ 2 ^ 62 → memory_disk_room result ≡ room }
         ensures plan { IsNewPlan (disk_plan result) fails.items }
+        ensures attaches { (memory_disk_view result).attaches ≡ Some [] }
+        ensures calls { (memory_disk_view result).calls ≡ 0 }
     {
         MemoryDisk {
             alloc,
@@ -81,6 +87,8 @@ impl MemoryDisk {
             notes: Vec::new(alloc),
             room: room.min(MOST_ROOM),
             plan: Plan::new(fails),
+            calls: Calls::new(alloc),
+            notes_all: true,
         }
     }
 
@@ -102,6 +110,7 @@ impl MemoryDisk {
     fn roll_back(&mut self, images: u64)
         ensures bytes { self.new.bytes.items ≡ stopped images (notes_of self.old) self.old.bytes.items }
         ensures same { (self.new.plan ≡ self.old.plan) × (self.new.room ≡ self.old.room) }
+        ensures calls { (self.new.calls ≡ self.old.calls) × (self.new.notes_all ≡ self.old.notes_all) }
     {
         let mut left = images;
         'calls: loop {
@@ -140,6 +149,8 @@ impl MemoryDisk {
             Reads (memory_disk_view self.new) (stopped images (notes_of self.old) bytes) }
         ensures durable { (c : List ℕ) → (memory_disk_view self.new).now c → Reads (memory_disk_view self.new) c }
         ensures plan { disk_plan self.new ≡ disk_plan self.old }
+        ensures attaches { (memory_disk_view self.new).attaches ≡ (memory_disk_view self.old).attaches }
+        ensures calls { (memory_disk_view self.new).calls ≡ (memory_disk_view self.old).calls }
         ensures room { memory_disk_room self.new ≡ memory_disk_room self.old }
     {
         self.roll_back(images);
@@ -156,6 +167,7 @@ impl MemoryDisk {
         ensures err { OnErr result ((self.new.bytes.items ≡ self.old.bytes.items)
             × (self.new.notes.items ≡ self.old.notes.items)) }
         ensures same { (self.new.plan ≡ self.old.plan) × (self.new.room ≡ self.old.room) }
+        ensures calls { (self.new.calls ≡ self.old.calls) × (self.new.notes_all ≡ self.old.notes_all) }
     {
         let note = covered(self.alloc, &self.bytes, at, bytes.len())?;
         self.notes.reserve(1)?;
@@ -169,6 +181,7 @@ impl MemoryDisk {
         ensures noted { OnOk result (self.new.notes.items ≡ self.old.notes.items ++ Synced ∷ []) }
         ensures err { OnErr result (self.new.notes.items ≡ self.old.notes.items) }
         ensures same { (self.new.bytes ≡ self.old.bytes) × (self.new.plan ≡ self.old.plan) × (self.new.room ≡ self.old.room) }
+        ensures calls { (self.new.calls ≡ self.old.calls) × (self.new.notes_all ≡ self.old.notes_all) }
     {
         self.notes.push(Note::Synced)?;
         Ok(())
@@ -179,6 +192,7 @@ impl MemoryDisk {
         ensures notes { (self.new.notes.items ≡ self.old.notes.items)
             ⊎ (self.new.notes.items ≡ self.old.notes.items ++ Lost at count ∷ []) }
         ensures same { (self.new.bytes ≡ self.old.bytes) × (self.new.plan ≡ self.old.plan) × (self.new.room ≡ self.old.room) }
+        ensures calls { (self.new.calls ≡ self.old.calls) × (self.new.notes_all ≡ self.old.notes_all) }
     {
         match self.notes.push(Note::Lost(at, count)) {
             Ok(()) => return,
@@ -201,6 +215,9 @@ impl Disk for MemoryDisk {
     fn attach(&mut self, name: &str) -> Result<(), Failed>
         ensures quiet { IsQuiet (memory_disk_view self.old) (memory_disk_view self.new) }
         ensures cause { HasCause (memory_disk_view self.old).faults (memory_disk_view self.new).faults result }
+        ensures attaches { NotesAttach (memory_disk_view self.old) (memory_disk_view self.new) name.now result }
+        ensures calls { (memory_disk_view self.new).calls ≡ (memory_disk_view self.old).calls }
+        ensures unnoted { OnErr result ((memory_disk_view self.new).attaches ≡ (memory_disk_view self.old).attaches) }
         ensures same { OnOk result ((memory_disk_view self.new).content ≡ (memory_disk_view self.old).content) }
         ensures always { (memory_disk_view self.new).content ≡ (memory_disk_view self.old).content }
         ensures planned { IsErr result ↔ IsTrue (is_to_fail (disk_plan self.old)) }
@@ -211,6 +228,10 @@ impl Disk for MemoryDisk {
             self.plan.fault();
             return Err(Failed);
         }
+        let Ok(()) = self.calls.attach(name) else {
+            self.notes_all = false;
+            return Ok(());
+        };
         Ok(())
     }
 
@@ -219,11 +240,14 @@ impl Disk for MemoryDisk {
         ensures same { OnOk result ((memory_disk_view self.new).content ≡ (memory_disk_view self.old).content) }
         ensures quiet { IsQuiet (memory_disk_view self.old) (memory_disk_view self.new) }
         ensures cause { HasCause (memory_disk_view self.old).faults (memory_disk_view self.new).faults result }
+        ensures attaches { (memory_disk_view self.new).attaches ≡ (memory_disk_view self.old).attaches }
+        ensures calls { IsOneMore (memory_disk_view self.old).calls (memory_disk_view self.new).calls }
         ensures always { (memory_disk_view self.new).content ≡ (memory_disk_view self.old).content }
         ensures planned { IsErr result ↔ IsTrue (is_to_fail (disk_plan self.old)) }
         ensures counts { CountsCall (disk_plan self.old) (disk_plan self.new) }
         ensures room { memory_disk_room self.new ≡ memory_disk_room self.old }
     {
+        self.calls.count();
         if self.plan.next_fails() {
             self.plan.fault();
             return Err(Failed);
@@ -238,11 +262,14 @@ impl Disk for MemoryDisk {
         ensures same { OnOk result ((memory_disk_view self.new).content ≡ (memory_disk_view self.old).content) }
         ensures quiet { IsQuiet (memory_disk_view self.old) (memory_disk_view self.new) }
         ensures cause { HasCause (memory_disk_view self.old).faults (memory_disk_view self.new).faults result }
+        ensures attaches { (memory_disk_view self.new).attaches ≡ (memory_disk_view self.old).attaches }
+        ensures calls { IsOneMore (memory_disk_view self.old).calls (memory_disk_view self.new).calls }
         ensures always { (memory_disk_view self.new).content ≡ (memory_disk_view self.old).content }
         ensures planned { IsErr result ↔ IsTrue (is_to_fail (disk_plan self.old)) }
         ensures counts { CountsCall (disk_plan self.old) (disk_plan self.new) }
         ensures room { memory_disk_room self.new ≡ memory_disk_room self.old }
     {
+        self.calls.count();
         if self.plan.next_fails() {
             self.plan.fault();
             return Err(Failed);
@@ -257,12 +284,15 @@ impl Disk for MemoryDisk {
             WrittenOver (Reads (memory_disk_view self.old)) at bytes.now c) }
         ensures torn { IsWrite at (length bytes.now) (memory_disk_view self.old) (memory_disk_view self.new) }
         ensures cause { HasCause (memory_disk_view self.old).faults (memory_disk_view self.new).faults result }
+        ensures attaches { (memory_disk_view self.new).attaches ≡ (memory_disk_view self.old).attaches }
+        ensures calls { IsOneMore (memory_disk_view self.old).calls (memory_disk_view self.new).calls }
         ensures err { OnErr result ((memory_disk_view self.new).content ≡ (memory_disk_view self.old).content) }
         ensures planned { IsTrue (is_to_fail (disk_plan self.old)) → IsErr result }
         ensures full { memory_disk_room self.old < at + length bytes.now → IsErr result }
         ensures counts { CountsCall (disk_plan self.old) (disk_plan self.new) }
         ensures room { memory_disk_room self.new ≡ memory_disk_room self.old }
     {
+        self.calls.count();
         let count = bytes.len() as u64;
         if self.plan.next_fails() || count > self.room || at > self.room - count {
             self.lose(at as usize, bytes.len());
@@ -284,11 +314,14 @@ impl Disk for MemoryDisk {
         ensures same { OnOk result ((memory_disk_view self.new).content ≡ (memory_disk_view self.old).content) }
         ensures quiet { IsQuiet (memory_disk_view self.old) (memory_disk_view self.new) }
         ensures cause { HasCause (memory_disk_view self.old).faults (memory_disk_view self.new).faults result }
+        ensures attaches { (memory_disk_view self.new).attaches ≡ (memory_disk_view self.old).attaches }
+        ensures calls { IsOneMore (memory_disk_view self.old).calls (memory_disk_view self.new).calls }
         ensures always { (memory_disk_view self.new).content ≡ (memory_disk_view self.old).content }
         ensures planned { IsTrue (is_to_fail (disk_plan self.old)) → IsErr result }
         ensures counts { CountsCall (disk_plan self.old) (disk_plan self.new) }
         ensures room { memory_disk_room self.new ≡ memory_disk_room self.old }
     {
+        self.calls.count();
         if self.plan.next_fails() {
             self.plan.fault();
             return Err(Failed);

@@ -40,7 +40,7 @@ front_kept at n a b torn =
     ∙ ap (λ (l : List ℕ). l ++ drop (length p) (take at b)) (take-take (length p) at b within ∙ ap (take (length p)) torn.is ∙ take_at p (torn.middle ++ drop (at + n) a) (length p) refl)
 
 -- within the old bytes, those behind the range stay
-behind_kept : (at n : ℕ) (a b : List ℕ) → at + n < length a → Torn at n a b → (take at b ≡ take at a) × (drop (at + n) b ≡ drop (at + n) a)
+pub behind_kept : (at n : ℕ) (a b : List ℕ) → at + n < length a → Torn at n a b → (take at b ≡ take at a) × (drop (at + n) b ≡ drop (at + n) a)
 behind_kept at n a b inside torn =
     let p = take at a in
     let front : length p ≡ at = omega (arith, length-take at a, inside) in

@@ -1,18 +1,25 @@
 -- A disk at a moment, and what its calls do to it, a crash at any moment counted in (this project's own; the model of a crash
--- is that of writes that are torn until a sync). All is said backwards: what is told or may be left after a call comes from
--- what was told or might be left before it.
+-- is that of writes that are torn until a sync). All is said backwards: what is observable or may be left after a call
+-- comes from what was so before it.
 use Rattle.std.specs.Prelude.{ℕ, ◌≡◌, ◌≤◌, ◌+◌, ◌-◌, ◌⊎◌, max, List, ◌++◌, length, take, drop, Option, Some}
 use Rattle.std.proofs.Math.ListN.{replicate}
 
--- A disk at a moment: what a read gives, where it is told; the crash images, which a crash at this moment may leave, where
--- they are told; those that a crash at some moment since a time might have left; the time, which doesn't fall; and how often
--- a call failed.
+-- a disk that was attached: its name, and how many other calls there had been
+pub record Attach : Type 0 where
+  pub name : List ℕ
+  pub calls : ℕ
+
+-- A disk at a moment: what a read gives, where it is observable; the crash images, which a crash at this moment may leave, where
+-- they are observable; those that a crash at some moment since a time might have left; the time, which doesn't fall; how often
+-- a call failed; which disks were attached, in their order, where that is observable; and how many other calls there were.
 pub record DiskView : Type 1 where
   pub content : Option (List ℕ)
   pub now : List ℕ → Type 0
   pub since : ℕ → List ℕ → Type 0
   pub clock : ℕ
   pub faults : ℕ
+  pub attaches : Option (List Attach)
+  pub calls : ℕ
 
 -- these bytes with others written over them from an offset on: zero bytes fill up to it
 abbrev pub overwritten : ℕ → List ℕ → List ℕ → List ℕ
@@ -30,7 +37,7 @@ pub record Torn (at n : ℕ) (old new : List ℕ) : Type 0 where
 abbrev pub After : (List ℕ → Type 0) → (List ℕ → List ℕ → Type 0) → List ℕ → Type 0
 After olds step new = (old : List ℕ) × olds old × step old new
 
--- what a read gives is told, and is this
+-- what a read gives is observable, and is this
 abbrev pub Reads : DiskView → List ℕ → Type 0
 Reads v bytes = v.content ≡ Some bytes
 
@@ -39,7 +46,7 @@ pub record LeavesOnly (old new : DiskView) (P : List ℕ → Type 0) : Type 0 wh
   pub later : old.clock ≤ new.clock
   pub each : (t : ℕ) (c : List ℕ) → t ≤ old.clock → new.since t c → old.since t c ⊎ P c
 
--- One call: a crash in it leaves an image of those before or after it, and what a crash might have left stays so.
+-- One call: a crash in it leaves a crash image of those before or after it, and what a crash might have left stays so.
 pub record Elapses (old new : DiskView) : Type 0 where
   pub only : LeavesOnly old new new.now
   pub keeps : (t : ℕ) (c : List ℕ) → t ≤ old.clock → old.since t c → new.since t c

@@ -4,7 +4,7 @@ use Rattle.std.specs.List.{list_all}
 use Rattle.std.specs.Option.{option_map_or, option_and_then}
 use Rattle.std.specs.Prelude.{◌==◌, ◌&&◌, None, if◌then◌else◌}
 use Rattle.std.proofs.lemmas.Bool.{or_cases, eqb-true, eq-eqb}
-use Rattle.std.proofs.lemmas.Bool.{true≢false, lt-ltb}
+use Rattle.std.proofs.lemmas.Bool.{true≢false, lt-ltb, false_from_ne_true}
 use Rattle.std.proofs.lemmas.Option.{slice_get_within}
 use Rattle.std.proofs.Math.Dec.{eqb-suc-zero}
 use Rattle.ob_table.specs.declared.seen.Kind.{Kind}
@@ -21,9 +21,8 @@ use Rattle.ob_verify_spec.specs.Kinds.{implements_number, fits, is_plain_interfa
 use Rattle.ob_verify_spec.specs.Frames.{CodeFrame}
 use Rattle.ob_verify_spec.specs.Instructions.{KindsOfSlots, targets, leads, Need, slots_needed, meets, needs, done, effect}
 use Rattle.ob_verify_spec.specs.Conditions.{is_ahead, bad_jump, lacks_slots}
-use Rattle.ob_verify_spec.specs.Calling.{ImplementsInterfacesAlone}
+use Rattle.ob_verify_spec.specs.Calling.{ImplementsInterfacesAlone, ImplementsWhatIsThere}
 use Rattle.ob_verify_spec.specs.Ways.{IsAt, at_entry, Way, start, step, Mismatch, unmet, differs, Holds, IsFaultless}
-use Rattle.ob_code_laws.specs.Premises.{ImplementsOnlyInterfaces}
 use Rattle.ob_verify_spec.proofs.Cells.{none_some, some_same}
 use Rattle.ob_verify_spec.proofs.Listed.{not_empty, head, behind, cases}
 use Rattle.ob_verify_spec.proofs.Naming.{needs_below}
@@ -169,47 +168,49 @@ there_passes test None e = absurd (true≢false (sym e))
 there_passes test (Some x) e = (x, refl, e)
 
 -- what stands for a kind belongs to it, where each interface that is implemented is there and implements none
-none_implemented : (m : Image) → ImplementsOnlyInterfaces m → (d : ContractId) (own : ContractCode) (n : ℕ)
+none_implemented : (m : Image) → ImplementsInterfacesAlone m → (d : ContractId) (own : ContractCode) (n : ℕ)
     → contract_code m d ≡ Some own → is_interface own ≡ true → own.implements ≡ n → n ≡ 0
-none_implemented m only d own zero there interface e = refl
-none_implemented m only d own (suc n) there interface e =
-    let i = only.each d (record { 0 = n }) own there (eq-eqb own.implements (n + 1) (e ∙ omega arith)) in
-    absurd (true≢false (sym interface ∙ i.contract))
+none_implemented m alone d own zero there interface e = refl
+none_implemented m alone d own (suc n) there interface e =
+    let implements : implements_number (record { 0 = n }) own ≡ true = eq-eqb own.implements (n + 1) (e ∙ omega arith) in
+    absurd (true≢false (sym implements ∙ alone.contracts d (record { 0 = n }) own there interface))
 
-declared_interface : (m : Image) → ImplementsOnlyInterfaces m → (c d : ContractId) (own : ContractCode)
+declared_interface : (m : Image) → ImplementsInterfacesAlone m → ImplementsWhatIsThere m → (c d : ContractId) (own : ContractCode)
     → contract_code m c ≡ Some own → implements_number d own ≡ true
     → interface_of_contract m c own ≡ Some (kind.Reference d)
-declared_interface m only c d own there implements =
-    let i = only.each c d own there implements in
+declared_interface m alone has c d own there implements =
+    let other = has c d own there implements in
+    let interface : is_interface other.0 ≡ true = alone.interfaces c d own other.0 there implements other.1 in
+    let contract : is_interface own ≡ false = false_from_ne_true (is_interface own) (λ e. true≢false (sym implements ∙ alone.contracts c d own there e)) in
     let number : own.implements ≡ suc d.0 = let e : own.implements ≡ d.0 + 1 = eqb-true own.implements (d.0 + 1) implements in omega arith in
-    let last : (i.interface.implements == 0) ≡ true = eq-eqb i.interface.implements 0 (none_implemented m only d i.interface i.interface.implements i.there i.is refl) in
-    let plain : is_plain_interface i.interface ≡ true = rw (i.is, last) refl in
-    let found : option_map_or is_plain_interface (slice_get m.contracts d.0) false ≡ true = ap (λ o. option_map_or is_plain_interface o false) i.there ∙ plain in
-    ap (λ b. if b && own.implements == 0 then Some (kind.Reference c) else interface_declared m own.implements) i.contract
+    let last : (other.0.implements == 0) ≡ true = eq-eqb other.0.implements 0 (none_implemented m alone d other.0 other.0.implements other.1 interface refl) in
+    let plain : is_plain_interface other.0 ≡ true = rw (interface, last) refl in
+    let found : option_map_or is_plain_interface (slice_get m.contracts d.0) false ≡ true = ap (λ o. option_map_or is_plain_interface o false) other.1 ∙ plain in
+    ap (λ b. if b && own.implements == 0 then Some (kind.Reference c) else interface_declared m own.implements) contract
     ∙ ap (interface_declared m) number ∙ ap (λ b. if b then Some (kind.Reference d) else None) found
 
-fits_belongs : (m : Image) → ImplementsOnlyInterfaces m → (y x : Kind) → fits m y x ≡ true → BelongsTo m y x
-fits_belongs m only kind.Int kind.Int e = inl refl
-fits_belongs m only kind.Bool kind.Bool e = inl refl
-fits_belongs m only kind.Text kind.Text e = inl refl
-fits_belongs m only (kind.Reference c) (kind.Reference d) e = elim (or_cases (c.0 == d.0) (option_map_or (implements_number d) (slice_get m.contracts c.0) false) e) [
+fits_belongs : (m : Image) → ImplementsInterfacesAlone m → ImplementsWhatIsThere m → (y x : Kind) → fits m y x ≡ true → BelongsTo m y x
+fits_belongs m alone has kind.Int kind.Int e = inl refl
+fits_belongs m alone has kind.Bool kind.Bool e = inl refl
+fits_belongs m alone has kind.Text kind.Text e = inl refl
+fits_belongs m alone has (kind.Reference c) (kind.Reference d) e = elim (or_cases (c.0 == d.0) (option_map_or (implements_number d) (slice_get m.contracts c.0) false) e) [
   | inl same ↦ inl (ap kind.Reference (ap (λ n. let made : ContractId = record { 0 = n } in made) (eqb-true c.0 d.0 same)))
   | inr implements ↦
       let own = there_passes (implements_number d) (slice_get m.contracts c.0) implements in
-      inr (ap (option_and_then (interface_of_contract m c)) own.1 ∙ declared_interface m only c d own.0 own.1 own.2)
+      inr (ap (option_and_then (interface_of_contract m c)) own.1 ∙ declared_interface m alone has c d own.0 own.1 own.2)
 ]
-fits_belongs m only (kind.Reference c) kind.Int e = absurd (true≢false (sym e))
-fits_belongs m only (kind.Reference c) kind.Bool e = absurd (true≢false (sym e))
-fits_belongs m only (kind.Reference c) kind.Text e = absurd (true≢false (sym e))
-fits_belongs m only y x e = absurd (true≢false (sym e))
+fits_belongs m alone has (kind.Reference c) kind.Int e = absurd (true≢false (sym e))
+fits_belongs m alone has (kind.Reference c) kind.Bool e = absurd (true≢false (sym e))
+fits_belongs m alone has (kind.Reference c) kind.Text e = absurd (true≢false (sym e))
+fits_belongs m alone has y x e = absurd (true≢false (sym e))
 
-no_mismatch : (f : CodeFrame) → ImplementsOnlyInterfaces f.image → (c : IsCertifiedBody f) (i : ℕ) (x : Instruction) (n : Need)
+no_mismatch : (f : CodeFrame) → ImplementsWhatIsThere f.image → (c : IsCertifiedBody f) (i : ℕ) (x : Instruction) (n : Need)
     → IsAt f i x → Contains (needs f x) n → ¬ (Mismatch f i n)
-no_mismatch f only c i x n at needed (unmet s w e) = true≢false (sym (met_on_way f c i x n s at needed w) ∙ e)
-no_mismatch f only c i x n at needed (differs s t k w v d none) =
+no_mismatch f has c i x n at needed (unmet s w e) = true≢false (sym (met_on_way f c i x n s at needed w) ∙ e)
+no_mismatch f has c i x n at needed (differs s t k w v d none) =
     let h = common_on_ways f c i x n s t k at needed d w v in
-    let one : HoldsOne f.image (s k) h.common = (h.one, h.first, fits_belongs f.image only h.one h.common h.one_serves) in
-    let two : HoldsOne f.image (t k) h.common = (h.two, h.second, fits_belongs f.image only h.two h.common h.two_serves) in
+    let one : HoldsOne f.image (s k) h.common = (h.one, h.first, fits_belongs f.image c.alone has h.one h.common h.one_serves) in
+    let two : HoldsOne f.image (t k) h.common = (h.two, h.second, fits_belongs f.image c.alone has h.two h.common h.two_serves) in
     none_some (both_least f.image (s k) (t k) None h.common none one two).1
 
 -- no condition holds but that on kinds
@@ -226,11 +227,11 @@ none_but_kinds f c i FallsOff other (e, (s, w)) =
     let lt : i < length f.body.instructions = within_body f c i come.known come.there in
     absurd (omega arith)
 
--- where only interfaces are implemented none holds
-pub faultless : (f : CodeFrame) → ImplementsOnlyInterfaces f.image → IsCertifiedBody f → IsFaultless f
-faultless f only c i BadJump h = none_but_kinds f c i BadJump (λ e. absurd (cc)) h
-faultless f only c i BadSlot h = none_but_kinds f c i BadSlot (λ e. absurd (cc)) h
-faultless f only c i KindMismatch h = no_mismatch f only c i h.instruction h.need h.at h.needed h.so
-faultless f only c i BadField h = none_but_kinds f c i BadField (λ e. absurd (cc)) h
-faultless f only c i BadCall h = none_but_kinds f c i BadCall (λ e. absurd (cc)) h
-faultless f only c i FallsOff h = none_but_kinds f c i FallsOff (λ e. absurd (cc)) h
+-- where what is implemented is there none holds
+pub faultless : (f : CodeFrame) → ImplementsWhatIsThere f.image → IsCertifiedBody f → IsFaultless f
+faultless f has c i BadJump h = none_but_kinds f c i BadJump (λ e. absurd (cc)) h
+faultless f has c i BadSlot h = none_but_kinds f c i BadSlot (λ e. absurd (cc)) h
+faultless f has c i KindMismatch h = no_mismatch f has c i h.instruction h.need h.at h.needed h.so
+faultless f has c i BadField h = none_but_kinds f c i BadField (λ e. absurd (cc)) h
+faultless f has c i BadCall h = none_but_kinds f c i BadCall (λ e. absurd (cc)) h
+faultless f has c i FallsOff h = none_but_kinds f c i FallsOff (λ e. absurd (cc)) h

@@ -14,12 +14,11 @@ use Rattle.ob_silica_formed.specs.Holdings.{held_at_start}
 use Rattle.ob_silica_formed.specs.WellFormedTerms.{AreWellFormed, IsWellFormedTerms}
 use Rattle.ob_silica_steps.specs.Configurations.{SilicaProgram, is_terms_of}
 use Rattle.ob_coherent_spec.specs.Remaining.{IsCheckedBody}
-use Rattle.ob_places_laws.proofs.Interfaces.{contract_number, interface_is, implementing_plain}
+use Rattle.ob_places_laws.proofs.Interfaces.{contract_number, interface_is}
 use Rattle.ob_places_laws.proofs.Tables.{there_is}
-use Rattle.ob_code.specs.Code.{is_interface, contract_code}
+use Rattle.ob_code.specs.Code.{is_interface}
 use Rattle.ob_code.specs.declared.image.ContractCode.{ContractCode}
 use Rattle.ob_verify_spec.specs.Kinds.{implements_number}
-use Rattle.ob_code_laws.specs.Premises.{ImplementsInterface}
 use Rattle.ob_verify_spec.specs.Frames.{CodeFrame, frames_of}
 use Rattle.ob_verify_spec.specs.Laws.{frame_of as frame_in, HasBody}
 use Rattle.ob_verify_spec.specs.Verified.{IsVerifiedBody}
@@ -29,9 +28,9 @@ use Rattle.ob_verify_spec.proofs.Listed.{head, behind}
 use Rattle.ob_verify_spec.proofs.SlotKinds.{faultless_verified}
 use Rattle.ob_emit_spec.specs.EmittedImages.{emitted_body, emitted_contract, image_of}
 use Rattle.ob_emit_verified.specs.Premises.{IsWellFormedProgram}
-use Rattle.ob_emit_verified.specs.Law.{CheckedProgramsAreWellFormed, EmittedCodeIsVerified, EmittedCodeImplementsInterfaces}
+use Rattle.ob_emit_verified.specs.Law.{CheckedProgramsAreWellFormed, EmittedCodeIsVerified, EmittedCodeImplementsInterfaces, EmittedInterfacesAreThere}
 use Rattle.ob_emit_verified.proofs.Faultless.{faultless}
-use Rattle.ob_emit_verified.proofs.Images.{contract_emitted, emitted_at, body_same, contract_found, interface_marked, implements_same}
+use Rattle.ob_emit_verified.proofs.Images.{contract_emitted, emitted_at, body_same, contract_found, interface_marked, implements_same, implements_alone}
 use Rattle.ob_emit_verified.proofs.Bodies.{HasCode, frame_at, certified_body}
 
 -- Bodies that are found.
@@ -160,28 +159,21 @@ from_each : {X : Type 0} (P : X → Type 0) (xs : List X) → ((x : X) → Conta
 from_each P xs h = λ k d lt. h (get_or xs k d) (All-contains_itself xs k d lt)
 
 pub code_implements : EmittedCodeImplementsInterfaces
-code_implements program is = record { each = each }
-  where
-    each : (c declared : ContractId) (own : ContractCode) → contract_code (image_of program.table program.bodies) c ≡ Some own
-        → implements_number declared own ≡ true
-        → ImplementsInterface (image_of program.table program.bodies) own declared
-    each c declared own e implements =
-        let x = contract_emitted program.table program.bodies c own e in
-        let so : is_implemented program.table c declared ≡ true =
-        sym (implements_same program.table program.bodies c declared x.own x.is_own) ∙ ap (implements_number declared) x.same ∙ implements in
-        let found = interface_is program.table is.table c declared x.own x.is_own so in
-        record {
-          interface = emitted_contract program.table program.bodies declared found.0;
-          there = contract_found program.table program.bodies declared found.0 found.1;
-          is = interface_marked program.table program.bodies declared found.0 ∙ found.2;
-          contract = ap is_interface (sym x.same) ∙ interface_marked program.table program.bodies c x.own ∙ implementing_plain program.table is.table c declared x.own x.is_own so;
-        }
+code_implements program is = implements_alone program.table program.bodies is.table
+
+pub interfaces_there : EmittedInterfacesAreThere
+interfaces_there program is = λ c declared own e implements.
+    let x = contract_emitted program.table program.bodies c own e in
+    let so : is_implemented program.table c declared ≡ true =
+    sym (implements_same program.table program.bodies c declared x.own x.is_own) ∙ ap (implements_number declared) x.same ∙ implements in
+    let found = interface_is program.table is.table c declared x.own x.is_own so in
+    (emitted_contract program.table program.bodies declared found.0, contract_found program.table program.bodies declared found.0 found.1)
 
 pub code_is_verified : EmittedCodeIsVerified
 code_is_verified program is = from_each (λ (f : CodeFrame). is_interface f.own ≡ false → IsVerifiedBody f) (frames_of (image_of program.table program.bodies)) (λ f c plain.
     let b = body_of program is f c plain in
     let frame = frame_at program.table program.bodies b.id b.tx b.terms.code in
-    subst IsVerifiedBody b.same (faultless_verified frame (faultless frame (code_implements program is) (certified_body program.table program.bodies is.table b.id b.tx b.terms.code))))
+    subst IsVerifiedBody b.same (faultless_verified frame (faultless frame (interfaces_there program is) (certified_body program.table program.bodies is.table b.id b.tx b.terms.code))))
 
 pub checked_formed : CheckedProgramsAreWellFormed
 checked_formed program is = record {

@@ -15,7 +15,7 @@ use ob_code::Image;
 use ob_exec_entries::HandleUse;
 use ob_heap::Content;
 use ob_machine::Cause;
-use ob_machine_lookups::is_in_states;
+use ob_machine_parts::seen::is_in_states;
 
 // Whether the object of a use is in none of the states of its entry; where there is no object it is in none.
 fn is_in_none(code: &Image, content: &Content, used: &HandleUse) -> bool

@@ -6,7 +6,7 @@ ghost use Rattle.ob_machine_steps.specs.Entries.{started};
 ghost use Rattle.ob_machine_steps.specs.Images.{constructor_of};
 ghost use Rattle.ob_machine_steps.specs.Meanings.{outcome};
 ghost use Rattle.ob_machine.specs.Phases.{entry_of};
-ghost use Rattle.ob_machine.specs.Shown.{number_of};
+ghost use Rattle.ob_machine_parts.specs.Shown.{number_of};
 ghost use Rattle.ob_exec.specs.Ending.{IsRight, EndsSo};
 ghost use Rattle.ob_exec.specs.Bodies.{body_number};
 

@@ -43,7 +43,7 @@ all_lower : (table : ClassTable) (bs : List ResolvedBody) (ls : List SilicaBody)
 all_lower table [] [] lowered = tt
 all_lower table [] (l ∷ ls) lowered = absurd lowered
 all_lower table (b ∷ bs) [] lowered = absurd lowered
-all_lower table (b ∷ bs) (l ∷ ls) lowered = (lowered.0.lowers, all_lower table bs ls lowered.1)
+all_lower table (b ∷ bs) (l ∷ ls) lowered = ((gives_terms table b l lowered.0).lowers, all_lower table bs ls lowered.1)
 
 -- and these have few slots
 all_few : (table : ClassTable) (bs : List ResolvedBody) (ls : List SilicaBody) → AreLoweredTo table bs ls → All HasFewSlots ls
@@ -51,7 +51,7 @@ all_few table [] [] lowered = λ k d h. absurd (omega (arith, h))
 all_few table [] (l ∷ ls) lowered = absurd lowered
 all_few table (b ∷ bs) [] lowered = absurd lowered
 all_few table (b ∷ bs) (l ∷ ls) lowered =
-    All-cons HasFewSlots l ls (gives_terms table b l lowered.0.in_order).few (all_few table bs ls lowered.1)
+    All-cons HasFewSlots l ls (gives_terms table b l lowered.0).few (all_few table bs ls lowered.1)
 
 pub checked_texts_are_compiled : (text : List ℕ) (table : ClassTable) (bodies : List SilicaBody) → IsChecked text table bodies
     → IsCompiledProgram table bodies

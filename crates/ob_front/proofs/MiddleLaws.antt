@@ -11,6 +11,7 @@ use Rattle.ob_table.specs.Tables.{ClassTable}
 use Rattle.ob_silica.specs.Terms.{SilicaBody}
 use Rattle.ob_flow_spec.specs.Deriving.{derive_body, Derives}
 use Rattle.ob_lower_functions.specs.BodyCode.{body_code}
+use Rattle.ob_lower_functions.proofs.Bodies.{gives_terms}
 use Rattle.ob_front.specs.Lowered.{AreLoweredTo, first_slot_past, LacksSlots}
 use Rattle.ob_front.specs.Checked.{first_flow_fault}
 
@@ -30,13 +31,13 @@ one_lowering table [] (l ∷ ls) ms one other = absurd one
 one_lowering table (b ∷ bs) [] ms one other = absurd one
 one_lowering table (b ∷ bs) (l ∷ ls) [] one other = absurd other
 one_lowering table (b ∷ bs) (l ∷ ls) (m ∷ ms) one other =
-    ap (λ x. x ∷ ls) (ok_is l m (body_code table b) one.0.in_order other.0.in_order) ∙ ap (λ xs. m ∷ xs) (one_lowering table bs ls ms one.1 other.1)
+    ap (λ x. x ∷ ls) (ok_is l m (body_code table b) one.0 other.0) ∙ ap (λ xs. m ∷ xs) (one_lowering table bs ls ms one.1 other.1)
 
 -- bodies that have terms need no slot past the most
 pub none_past : (table : ClassTable) (bs : List ResolvedBody) (ls : List SilicaBody) → AreLoweredTo table bs ls → first_slot_past table bs ≡ None
 none_past table [] ls lowered = refl
 none_past table (b ∷ bs) [] lowered = absurd lowered
-none_past table (b ∷ bs) (l ∷ ls) lowered = ap (λ o. option_or o (first_slot_past table bs)) lowered.0.fits ∙ none_past table bs ls lowered.1
+none_past table (b ∷ bs) (l ∷ ls) lowered = ap (λ o. option_or o (first_slot_past table bs)) (gives_terms table b l lowered.0).fits ∙ none_past table bs ls lowered.1
 
 abbrev fault_with : ℕ → Span → ProgramFault
 fault_with number span = record { number = number; span = span }

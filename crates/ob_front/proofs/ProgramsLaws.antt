@@ -16,6 +16,7 @@ use Rattle.ob_table_spec.specs.Conditions.{IsClassTable}
 use Rattle.ob_table_spec.specs.WellFormed.{IsWellFormed}
 use Rattle.ob_flow_spec.specs.Numbered.{AllNameStates}
 use Rattle.ob_lower_formed.proofs.NamesStates.{lowered_terms_name_states_lem}
+use Rattle.ob_lower_functions.proofs.Bodies.{gives_terms}
 use Rattle.ob_base.specs.TextErrors.{OnFault}
 use Rattle.ob_base.specs.declared.text_error.TextError.{TextError}
 use Rattle.ob_base.specs.declared.text_error.TextError.TheVariants.{Fault, Memory}
@@ -150,7 +151,7 @@ numbered_of table [] (l ∷ ls) is made lowered = absurd lowered
 numbered_of table (b ∷ bs) [] is made lowered = absurd lowered
 numbered_of table (b ∷ bs) (l ∷ ls) is made lowered =
     All-cons (λ body. AllNameStates body.terms) l ls
-    (lowered_terms_name_states_lem table b l is (made 0 b (omega arith)) lowered.0.lowers)
+    (lowered_terms_name_states_lem table b l is (made 0 b (omega arith)) (gives_terms table b l lowered.0).lowers)
     (numbered_of table bs ls is (λ k d h. made (suc k) d (omega (arith, h))) lowered.1)
 
 pub all_numbered : (text : List ℕ) (table : ClassTable) (bodies : List SilicaBody) → HasTerms text table bodies → AllNumbered bodies

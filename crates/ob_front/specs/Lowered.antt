@@ -7,16 +7,13 @@ use Rattle.ob_base.specs.declared.fault.ProgramFault.{ProgramFault}
 use Rattle.ob_table.specs.Statements.{ResolvedBody}
 use Rattle.ob_table.specs.Tables.{ClassTable}
 use Rattle.ob_silica.specs.Terms.{SilicaBody}
-use Rattle.ob_lower_spec.specs.BodyTerms.{Lowers}
 use Rattle.ob_lower_spec.specs.SlotNeeds.{slots_run_out}
 use Rattle.ob_lower_functions.specs.BodyCode.{body_code}
 
--- These are the terms of a body: it may be lowered to them, no slot past the most is needed, and the slots are taken one
--- after the other.
-pub record IsLoweredTo (table : ClassTable) (body : ResolvedBody) (lowered : SilicaBody) : Type 0 where
-  pub lowers : Lowers table body lowered
-  pub fits : slots_run_out table body ≡ None
-  pub in_order : body_code table body ≡ Ok lowered
+-- These are the terms of a body: those that taking one slot after the other gives. By `slots_in_order_lower` it may be lowered to them,
+-- and needs no slot past the most.
+abbrev pub IsLoweredTo : ClassTable → ResolvedBody → SilicaBody → Type 0
+IsLoweredTo table body lowered = body_code table body ≡ Ok lowered
 
 -- these are the terms of bodies, in their order
 abbrev pub AreLoweredTo : ClassTable → List ResolvedBody → List SilicaBody → Type 0

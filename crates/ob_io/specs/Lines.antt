@@ -21,7 +21,7 @@ taken lines = lines.taken
 abbrev pub handed : Lines → ℕ
 handed lines = taken lines - (lines.end - lines.start)
 
--- all that is still to come, where the source tells it
+-- all that is still to come, where the source's bytes are observable
 abbrev pub pending : Lines → Option (List ℕ) → Option (List ℕ)
 pending lines left = prepend_known (held lines) left
 

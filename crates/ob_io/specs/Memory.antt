@@ -1,4 +1,4 @@
--- What the forms in memory tell, and which of their calls fail.
+-- The views of the forms in memory, and which of their calls fail.
 use Rattle.std.specs.Prelude.{◌≡◌, ℕ, ◌+◌, ◌-◌, ◌^◌, ◌==◌, min, Bool, List, length, Some}
 use Rattle.std.specs.List.{list_any}
 use Rattle.ob_io.specs.declared.memory.Plan.{Plan}
@@ -9,15 +9,15 @@ use Rattle.ob_io.specs.FilesInMemory.{content_of}
 use Rattle.ob_io.specs.Sure.{sure_source_left}
 use Rattle.ob_io.specs.Views.{SourceView, SinkView, FilesView}
 
--- a source tells all that no read took
+-- of a source all that no read took is observable
 abbrev pub memory_source_view : MemorySource → SourceView
 memory_source_view s = record { left = Some (sure_source_left s.inner); taken = s.inner.at; faults = s.plan.faults }
 
--- a sink tells all that was written
+-- of a sink all that was written is observable
 abbrev pub memory_sink_view : MemorySink → SinkView
 memory_sink_view s = record { written = Some s.bytes.items; faults = s.plan.faults }
 
--- the bytes of the file of this name. For a name that is lacking nothing is told
+-- the bytes of the file of this name. For a name that is lacking nothing is observable
 abbrev pub memory_files_view : MemoryFiles → FilesView
 memory_files_view f = record { content = content_of f.files.items; asks = f.asks; faults = f.plan.faults }
 

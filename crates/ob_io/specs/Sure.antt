@@ -1,4 +1,4 @@
--- What the sure forms tell. They never fail, so each count of faults is 0.
+-- The views of the sure forms. They never fail, so each count of faults is 0.
 use Rattle.std.specs.Prelude.{ℕ, ◌-◌, List, [], length, drop, Option, Some, None, if◌then◌else◌, unwrap_or}
 use Rattle.ob_io.specs.declared.sure.SureSource.{SureSource}
 use Rattle.ob_io.specs.declared.sure.SureSink.{SureSink}
@@ -10,7 +10,7 @@ use Rattle.ob_io.specs.Views.{SourceView, SinkView, FilesView}
 abbrev pub sure_source_left : SureSource → List ℕ
 sure_source_left s = drop s.at s.bytes.items
 
--- a source tells all that is left
+-- of a source all that is left is observable
 abbrev pub sure_source_view : SureSource → SourceView
 sure_source_view s = record { left = Some (sure_source_left s); taken = s.at; faults = 0 }
 
@@ -22,7 +22,7 @@ sure_sink_written s = if s.tells then Some s.bytes.items else None
 abbrev pub sure_sink_room : SureSink → ℕ
 sure_sink_room s = s.room - length s.bytes.items
 
--- a sink tells what was written as long as it keeps it
+-- of a sink what was written is observable as long as it keeps it
 abbrev pub sure_sink_view : SureSink → SinkView
 sure_sink_view s = record { written = sure_sink_written s; faults = 0 }
 
@@ -30,6 +30,6 @@ sure_sink_view s = record { written = sure_sink_written s; faults = 0 }
 abbrev pub sure_content : SureFiles → List ℕ → List ℕ
 sure_content f name = unwrap_or (content_of f.files.items name) []
 
--- files tell the content of every name
+-- of files the content of every name is observable
 abbrev pub sure_files_view : SureFiles → FilesView
 sure_files_view f = record { content = λ name. Some (sure_content f name); asks = f.asks; faults = 0 }

@@ -28,7 +28,7 @@ impl From<AllocError> for FileError {
 
 /// Files by name.
 pub trait Files {
-    /// What the file of each name contains, where it is told, what was asked, call by call, and how often a read
+    /// What the file of each name contains, where that is observable, what was asked, call by call, and how often a read
     /// failed.
     ghost view: { Self → FilesView };
 

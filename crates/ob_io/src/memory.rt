@@ -191,7 +191,7 @@ impl MemoryFiles {
     ghost use Rattle.ob_io.specs.Memory.{memory_files_view, files_plan, IsNewPlan};
 
     /// The files by name, of which the first of a name is read. `fails` are the numbers of the calls, from 0,
-    /// that fail. The contents are told for each name that is here, and for no other.
+    /// that fail. The contents are observable for each name that is here, and for no other.
     pub fn new(alloc: Global, files: Vec<(String, Vec<u8>)>, fails: Vec<u64>) -> Self
         ensures content { (name : List ℕ) → (memory_files_view result).content name ≡ content_of files.items name }
         ensures faults { (memory_files_view result).faults ≡ 0 }

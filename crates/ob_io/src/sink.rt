@@ -8,10 +8,10 @@ use ob_base::Failed;
 
 /// A stream of bytes that goes out.
 pub trait Sink {
-    /// The bytes that were written, where it tells them, and how often a write failed.
+    /// The bytes that were written, where they are observable, and how often a write failed.
     ghost view: { Self → SinkView };
 
-    /// Writes a front of `bytes`, and answers how many they are: at least one, unless `bytes` is empty.
+    /// Writes a prefix of `bytes`, and answers how many they are: at least one, unless `bytes` is empty.
     /// `Failed` writes no byte, and comes only where the count of faults rose, by one at most. `Ok` leaves the
     /// count as it was.
     fn write(&mut self, bytes: &[u8]) -> Result<usize, Failed>
@@ -21,7 +21,7 @@ pub trait Sink {
         ensures cause { HasCause (view self.old).faults (view self.new).faults result };
 }
 
-/// Writes all the bytes. At the first write that fails it stops, and a front of them was written. It takes no
+/// Writes all the bytes. At the first write that fails it stops, and a prefix of them was written. It takes no
 /// memory.
 pub fn write_all<K: Sink>(sink: &mut K, bytes: &[u8]) -> Result<(), Failed>
     ensures ok { OnOk result (Gives (K.view sink.old).written (K.view sink.new).written bytes.now) }

@@ -8,10 +8,10 @@ use ob_base::Failed;
 
 /// A stream of bytes that comes in.
 pub trait Source {
-    /// The bytes that are left, where it tells them, how many bytes its reads took, and how often a read failed.
+    /// The bytes that are left, where they are observable, how many bytes its reads took, and how often a read failed.
     ghost view: { Self → SourceView };
 
-    /// Fills a front of `into` with the next bytes, and answers how many they are. 0 is the end, where
+    /// Fills the first part of `into` with the next bytes, and answers how many they are. 0 is the end, where
     /// `into` isn't empty. `Failed` takes no byte, and comes only where the count of faults rose, by one at
     /// most. `Ok` leaves the count as it was.
     fn read(&mut self, into: &mut [u8]) -> Result<usize, Failed>

@@ -60,8 +60,8 @@ impl Source for SureSource {
     }
 }
 
-/// A sink in memory that never fails. It tells what was written until a call passes its room or gets no
-/// memory. From then on it takes calls and tells nothing.
+/// A sink in memory that never fails. What was written is observable until a call passes its room or gets no
+/// memory. From then on it takes calls and nothing is observable.
 #[derive(Drop)]
 pub struct SureSink {
     bytes: Vec<u8>,
@@ -86,7 +86,7 @@ impl SureSink {
         }
     }
 
-    /// What was written, where it is told.
+    /// What was written, where it is observable.
     pub fn bytes(&self) -> Option<&[u8]>
         ensures { MatchOption result ((sure_sink_view self.now).written ≡ None)
             (λ bytes. (sure_sink_view self.now).written ≡ Some bytes.now) }

@@ -1,4 +1,4 @@
--- What std's readers, writers and files tell: how often they failed, how many bytes were taken and what was asked, and
+-- The views of std's readers, writers and files: how often they failed, how many bytes were taken and what was asked, and
 -- nothing of what the bytes are.
 use Rattle.std.specs.Prelude.{None}
 use Rattle.ob_io_std.specs.declared.adapters.StdSource.{StdSource}
@@ -6,7 +6,7 @@ use Rattle.ob_io_std.specs.declared.adapters.StdSink.{StdSink}
 use Rattle.ob_io_std.specs.declared.adapters.StdFiles.{StdFiles}
 use Rattle.ob_io.specs.Views.{SourceView, SinkView, FilesView}
 
--- what a reader of std has left isn't told
+-- what a reader of std has left isn't observable
 abbrev pub std_source_view : {R : Type 0} → StdSource R → SourceView
 std_source_view s = record { left = None; taken = s.taken; faults = s.faults }
 
@@ -14,7 +14,7 @@ std_source_view s = record { left = None; taken = s.taken; faults = s.faults }
 abbrev pub std_source_inner : {R : Type 0} → StdSource R → R
 std_source_inner s = s.inner
 
--- what was written to a writer of std isn't told
+-- what was written to a writer of std isn't observable
 abbrev pub std_sink_view : {W : Type 0} → StdSink W → SinkView
 std_sink_view s = record { written = None; faults = s.faults }
 
@@ -22,6 +22,6 @@ std_sink_view s = record { written = None; faults = s.faults }
 abbrev pub std_sink_inner : {W : Type 0} → StdSink W → W
 std_sink_inner s = s.inner
 
--- what a file of std contains isn't told
+-- what a file of std contains isn't observable
 abbrev pub std_files_view : {R : Type 0} → StdFiles R → FilesView
 std_files_view f = record { content = λ _. None; asks = f.asks; faults = f.faults }

@@ -1,4 +1,4 @@
-//! The trusted edge: std's readers, writers and files, which tell nothing of their bytes.
+//! The trusted edge: std's readers, writers and files, none of whose bytes is observable.
 ghost use Rattle.std.specs.Prelude.{◌≡◌, ◌<◌, ◌≤◌, ◌++◌, ℕ, List, [], length, IfOk};
 ghost use Rattle.std.specs.Io.KnownBytes.{ReadConsumes, WriteAppends};
 ghost use Rattle.ob_io.specs.Causes.{HasCause};
@@ -10,7 +10,7 @@ use std::alloc::Global;
 use std::fs;
 use std::io::{Read, Write};
 
-/// A reader of std, which doesn't tell what is left. It counts the bytes in 64 bits: a read that might pass them fails.
+/// A reader of std. What is left isn't observable. It counts the bytes in 64 bits: a read that might pass them fails.
 #[derive(Drop)]
 pub struct StdSource<R> {
     inner: R,
@@ -64,7 +64,7 @@ impl<R: Read> Source for StdSource<R> {
     }
 }
 
-/// A writer of std, which doesn't tell what was written.
+/// A writer of std. What was written isn't observable.
 #[derive(Drop)]
 pub struct StdSink<W> {
     inner: W,
@@ -151,7 +151,7 @@ fn append_file<R: fs::Files>(
     append_pieces(&mut file, limit, into)
 }
 
-/// The files of std, which don't tell what they contain.
+/// The files of std. What they contain isn't observable.
 #[derive(Drop)]
 pub struct StdFiles<R> {
     host: R,

@@ -1,32 +1,74 @@
-//! A file of std as a disk, which tells nothing of its bytes.
-ghost use Rattle.std.specs.Prelude.{◌≡◌};
+//! A file of std as a disk, none of whose bytes is observable.
+ghost use Rattle.std.specs.Prelude.{◌≡◌, [], Some};
 ghost use Rattle.ob_io.specs.Causes.{HasCause};
 
 use ob_base::Failed;
-use ob_disk::Disk;
-use std::os::unix::fs::FileExt;
+use ob_disk::{Calls, Disk};
+use std::alloc::Global;
+use std::os::unix::fs::{FileExt, OpenOptionsExt};
 use std::{fs, io};
 
-/// A file of std. Before it is attached each call fails.
+/// A regular file of std, locked while it is attached. Before it is attached, and after an `attach` that failed, each call fails.
 #[derive(Drop)]
 pub struct FileDisk<R> {
+    alloc: Global,
     host: R,
     file: Option<fs::File>,
     faults: u64,
+    calls: Calls,
 }
+
+// The rights of a file that is made: its owner reads and writes it, and nobody else.
+const OWNER_ALONE: u32 = 0o600;
 
 // What a call answers of a disk that isn't attached.
 fn lacking() -> io::Error {
     io::Error::from(io::ErrorKind::NotFound)
 }
 
-// Takes the file of this name, and makes it where it is missing.
-fn take<R: fs::Files<File = fs::File>>(host: &R, name: &str) -> io::Result<fs::File> {
+// Opens the file of this name, and makes it where it is missing.
+fn open<R: fs::Files<File = fs::File>>(host: &R, name: &str) -> io::Result<fs::File> {
     fs::OpenOptions::new()
         .read(true)
         .write(true)
         .create(true)
+        .mode(OWNER_ALONE)
         .open(host, name)
+}
+
+// Locks a regular file for this run alone, as long as it is open. A device may have no byte that is seen, and would look blank.
+fn claim(file: &fs::File) -> io::Result<()> {
+    if !file.metadata()?.is_file() {
+        return Err(io::Error::from(io::ErrorKind::InvalidInput));
+    }
+    file.try_lock()?;
+    Ok(())
+}
+
+// Brings the names in the file's own folder to the disk for good. A file whose name isn't there is lost with all that was synced to it.
+// Whoever made the file may have been stopped before this, so it is done of each file that is attached.
+fn sync_folder<R: fs::Files<File = fs::File>>(
+    alloc: Global,
+    host: &R,
+    name: &str,
+) -> io::Result<()> {
+    let path = host.canonicalize(alloc, name)?;
+    match path.parent() {
+        Some(folder) => fs::open(host, folder)?.sync_all(),
+        None => Err(lacking()),
+    }
+}
+
+// Takes the file of this name, before anything of it is read or written.
+fn take<R: fs::Files<File = fs::File>>(
+    alloc: Global,
+    host: &R,
+    name: &str,
+) -> io::Result<fs::File> {
+    let file = open(host, name)?;
+    claim(&file)?;
+    sync_folder(alloc, host, name)?;
+    Ok(file)
 }
 
 // How many bytes the file has.
@@ -65,13 +107,17 @@ impl<R> FileDisk<R> {
     ghost use Rattle.ob_io_std.specs.Disks.{file_disk_view};
 
     /// A disk that is yet to be attached, over the files that a runtime opens, as `&HostRuntime`.
-    pub fn new(host: R) -> Self
-        ensures { (file_disk_view result).faults ≡ 0 }
+    pub fn new(alloc: Global, host: R) -> Self
+        ensures faults { (file_disk_view result).faults ≡ 0 }
+        ensures attaches { (file_disk_view result).attaches ≡ Some [] }
+        ensures calls { (file_disk_view result).calls ≡ 0 }
     {
         FileDisk {
+            alloc,
             host,
             file: None,
             faults: 0,
+            calls: Calls::new(alloc),
         }
     }
 
@@ -84,7 +130,8 @@ impl<R> FileDisk<R> {
 
     // Counts a fault, where a call of std failed.
     fn counted<T: Drop>(&mut self, told: io::Result<T>) -> Result<T, Failed>
-        ensures { HasCause self.old.faults self.new.faults result }
+        ensures cause { HasCause self.old.faults self.new.faults result }
+        ensures calls { self.new.calls ≡ self.old.calls }
     {
         match told {
             Ok(value) => Ok(value),
@@ -109,27 +156,36 @@ impl<R: fs::Files<File = fs::File>> Disk for FileDisk<R> {
     ghost own = { λ d bytes c reads left. left };
 
     fn attach(&mut self, name: &str) -> Result<(), Failed> {
-        let taken = take(&self.host, name);
+        if self.calls.attach(name).is_err() {
+            self.faults = self.faults.saturating_add(1);
+            return Err(Failed);
+        }
+        self.file = None;
+        let taken = take(self.alloc, &self.host, name);
         self.file = Some(self.counted(taken)?);
         Ok(())
     }
 
     fn len(&mut self) -> Result<u64, Failed> {
+        self.calls.count();
         let measured = measure(&self.file);
         self.counted(measured)
     }
 
     fn read(&mut self, at: u64, into: &mut [u8]) -> Result<(), Failed> {
+        self.calls.count();
         let done = read(&self.file, at, into);
         self.counted(done)
     }
 
     fn write(&mut self, at: u64, bytes: &[u8]) -> Result<(), Failed> {
+        self.calls.count();
         let done = write(&self.file, at, bytes);
         self.counted(done)
     }
 
     fn sync(&mut self) -> Result<(), Failed> {
+        self.calls.count();
         let done = sync(&self.file);
         self.counted(done)
     }

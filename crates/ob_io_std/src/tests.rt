@@ -4,6 +4,7 @@ use ob_base::Failed;
 use ob_disk::Disk;
 use ob_io::{FileError, Files, Source};
 use std::io::Read;
+use std::os::unix::fs::PermissionsExt;
 use std::test::Fail;
 use std::{fs, io};
 
@@ -59,12 +60,13 @@ fn files_count_a_fault(rt: HostRuntime) -> Result<(), Fail> {
 
 #[test]
 fn disk_keeps_what_is_written(rt: HostRuntime) -> Result<(), Fail> {
-    let mut disk = FileDisk::new(&rt);
+    let mut disk = FileDisk::new(rt.alloc(), &rt);
     assert_eq!(rt; disk.attach("ob_std_disk"), Ok(()));
     assert_eq!(rt; disk.write(2, b"ab"), Ok(()));
     assert_eq!(rt; disk.sync(), Ok(()));
     assert_eq!(rt; disk.len(), Ok(4));
-    let mut disk = FileDisk::new(&rt);
+    drop(disk);
+    let mut disk = FileDisk::new(rt.alloc(), &rt);
     let mut bytes = [9; 4];
     assert_eq!(rt; disk.read(0, &mut bytes), Err(Failed));
     assert_eq!(rt; disk.attach("ob_std_disk"), Ok(()));
@@ -73,5 +75,50 @@ fn disk_keeps_what_is_written(rt: HostRuntime) -> Result<(), Fail> {
     assert_eq!(rt; disk.read(1, &mut bytes), Err(Failed));
     assert_eq!(rt; disk.faults(), 2);
     fs::remove_file(&rt, "ob_std_disk")?;
+    Ok(())
+}
+
+// Whether a disk of its own takes the file of this name. It lets go of it again.
+fn is_free(rt: &HostRuntime, name: &str) -> bool {
+    FileDisk::new(rt.alloc(), rt).attach(name).is_ok()
+}
+
+#[test]
+fn disk_takes_a_file_that_is_there_as_it_is(rt: HostRuntime) -> Result<(), Fail> {
+    fs::write(&rt, "ob_std_there", "abc")?;
+    assert!(rt; is_free(&rt, "ob_std_there"));
+    assert_eq!(rt; fs::metadata(&rt, "ob_std_there")?.len(), 3);
+    fs::remove_file(&rt, "ob_std_there")?;
+    Ok(())
+}
+
+#[test]
+fn disk_makes_a_file_for_its_owner_alone(rt: HostRuntime) -> Result<(), Fail> {
+    assert!(rt; is_free(&rt, "ob_std_made"));
+    let rights = fs::metadata(&rt, "ob_std_made")?.permissions().mode();
+    assert_eq!(rt; rights & 0o777, 0o600);
+    fs::remove_file(&rt, "ob_std_made")?;
+    Ok(())
+}
+
+#[test]
+fn disk_takes_no_device(rt: HostRuntime) {
+    assert!(rt; !is_free(&rt, "/dev/null"));
+}
+
+#[test]
+fn disk_takes_nothing_in_a_folder_that_is_missing(rt: HostRuntime) {
+    assert!(rt; !is_free(&rt, "ob_std_nowhere/disk"));
+}
+
+#[test]
+fn disk_is_locked_while_it_is_attached(rt: HostRuntime) -> Result<(), Fail> {
+    let mut disk = FileDisk::new(rt.alloc(), &rt);
+    assert_eq!(rt; disk.attach("ob_std_locked"), Ok(()));
+    assert!(rt; !is_free(&rt, "ob_std_locked"));
+    assert_eq!(rt; disk.attach("ob_std_locked"), Ok(()));
+    drop(disk);
+    assert!(rt; is_free(&rt, "ob_std_locked"));
+    fs::remove_file(&rt, "ob_std_locked")?;
     Ok(())
 }

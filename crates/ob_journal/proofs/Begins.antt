@@ -1,5 +1,5 @@
 -- An area is begun: what each of the writes leaves.
-use Rattle.std.proofs.Common.{◌≡◌, Bool, true, false, inl, inr, ℕ, ◌<◌, ◌^◌, nat_eq, List, [], ◌∷◌, ◌++◌, length, get_or, take, refl, sym, ◌∙◌, ap, subst, arith, drop}
+use Rattle.std.proofs.Common.{◌≡◌, Bool, true, false, inl, inr, ℕ, ◌+◌, ◌≤◌, ◌<◌, ◌^◌, nat_eq, List, [], ◌∷◌, ◌++◌, length, length-append, get_or, take, refl, sym, ◌∙◌, ap, subst, arith, drop}
 use Rattle.std.proofs.lemmas.Bool.{eqb-true, eqb-false}
 use Rattle.std.specs.Prelude.{pos, ◌≤ℤ◌}
 use Rattle.std.specs.Int.{w64}
@@ -11,6 +11,7 @@ use Rattle.ob_journal_spec.specs.Spellings.{header}
 use Rattle.ob_journal_spec.specs.Areas.{StandsFor, IsBlank, IsBlankOrBegun, begun, area_of, next_gate}
 use Rattle.ob_journal_spec.proofs.Beginning.{IsHeaded, short_torn, short_closed, closed_torn, heads, headed_torn, headed_opens}
 use Rattle.ob_journal_spec.proofs.Bytes.{put_inside}
+use Rattle.ob_journal_spec.proofs.Spelled.{length-header}
 use Rattle.ob_journal_spec.proofs.Whole.{either_in, stands_in, blank_out}
 use Rattle.ob_journal.specs.Moments.{IsFresh, LooksClosed, LooksBlank, OpensByOne}
 
@@ -94,3 +95,7 @@ module _ (image built : List ℕ) (small : length image < 2 ^ 32) (is : built �
 
   pub gate_there : (w x : DiskView) → Throughout w (IsHeaded image) → Throughout x (WrittenOver (Reads w) 0 (1 ∷ [])) → Throughout x (StandsFor (begun image))
   gate_there w x now then = throughout_to x _ _ then (λ c a. headed_opens image small one_fits from_one a.0 c (now.content a.0 a.1) a.2)
+
+-- what is written to begin an area
+pub begun_length : (image built : List ℕ) → built ≡ header.bytes (pos 1, image) ++ 0 ∷ [] → 1 + length built ≤ 18 + length image
+begun_length image built is = omega (arith, ap (λ (l : List ℕ). length l) is, length-append (header.bytes (pos 1, image)) (0 ∷ []), length-header (pos 1) image)

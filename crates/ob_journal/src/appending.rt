@@ -1,7 +1,7 @@
 //! A record is put on a disk.
 ghost use Rattle.std.specs.Prelude.{◌≡◌, ◌+◌, ◌<◌, ◌≤◌, ◌^◌, ◌++◌, ◌∷◌, [], ℕ, List, length, IfOk, OnOk};
 ghost use Rattle.ob_disk_spec.specs.Disk.{Reads, WrittenOver};
-ghost use Rattle.ob_disk_spec.specs.Durable.{Throughout, During};
+ghost use Rattle.ob_disk_spec.specs.Durable.{Throughout, During, KeepsBehind};
 ghost use Rattle.ob_io.specs.Causes.{HasCause};
 ghost use Rattle.ob_journal_spec.specs.Spellings.{sized};
 ghost use Rattle.ob_journal_spec.specs.Areas.{Journaled, with_payload, StandsWithOrWithout, area_of};
@@ -22,6 +22,8 @@ pub fn put_record<D: Disk>(disk: &mut D, gate: u64, built: &[u8]) -> Result<(), 
         During (D.view disk.old) (D.view disk.new) (λ c. StandsWithOrWithout j payload (area_of size c)) }
     ensures written { OnOk result (Throughout (D.view disk.new)
         (WrittenOver (WrittenOver (Reads (D.view disk.old)) (gate + 1) built.now) gate (1 ∷ []))) }
+    ensures behind { (size : ℕ) → gate + 1 + length built.now ≤ size → KeepsBehind size (D.view disk.old) (D.view disk.new) }
+    ensures attaches { (D.view disk.new).attaches ≡ (D.view disk.old).attaches }
     ensures cause { HasCause (D.view disk.old).faults (D.view disk.new).faults result }
 {
     durable_write(disk, gate + 1, built)?;

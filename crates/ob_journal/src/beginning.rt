@@ -1,7 +1,7 @@
 //! An area is begun on a blank disk.
 ghost use Rattle.std.specs.Prelude.{◌≡◌, ◌+◌, ◌<◌, ◌≤◌, ◌^◌, ◌++◌, ◌∷◌, [], ℕ, List, true, length, pos, IfOk, OnOk};
 ghost use Rattle.ob_disk_spec.specs.Disk.{Reads, IsQuiet};
-ghost use Rattle.ob_disk_spec.specs.Durable.{May, Throughout, During};
+ghost use Rattle.ob_disk_spec.specs.Durable.{May, Throughout, During, KeepsBehind};
 ghost use Rattle.ob_io.specs.Causes.{HasCause};
 ghost use Rattle.ob_journal_spec.specs.Spellings.{header};
 ghost use Rattle.ob_journal_spec.specs.Areas.{StandsFor, IsBlank, IsBlankOrBegun, begun};
@@ -29,6 +29,8 @@ pub fn header_of(alloc: Global, image: &[u8]) -> Result<Vec<u8>, Memory>
 pub fn is_closed<D: Disk>(disk: &mut D) -> Result<bool, Failed>
     ensures looks { IfOk result (λ closed. (c : List ℕ) → Reads (D.view disk.old) c → LooksClosed closed c) }
     ensures quiet { During (D.view disk.old) (D.view disk.new) (May (D.view disk.old)) }
+    ensures behind { (size : ℕ) → KeepsBehind size (D.view disk.old) (D.view disk.new) }
+    ensures attaches { (D.view disk.new).attaches ≡ (D.view disk.old).attaches }
     ensures cause { HasCause (D.view disk.old).faults (D.view disk.new).faults result }
 {
     if disk.len()? == 0 {
@@ -45,6 +47,8 @@ fn close<D: Disk>(disk: &mut D, closed: bool) -> Result<(), Failed>
         Throughout (D.view disk.new) (LooksBlank true)) }
     ensures crash { Throughout (D.view disk.old) (LooksBlank closed) →
         During (D.view disk.old) (D.view disk.new) IsBlank }
+    ensures behind { (size : ℕ) → 1 ≤ size → KeepsBehind size (D.view disk.old) (D.view disk.new) }
+    ensures attaches { (D.view disk.new).attaches ≡ (D.view disk.old).attaches }
     ensures cause { HasCause (D.view disk.old).faults (D.view disk.new).faults result }
 {
     if closed {
@@ -66,6 +70,8 @@ fn open_area<D: Disk>(disk: &mut D, built: &[u8]) -> Result<(), Failed>
         Throughout (D.view disk.old) (LooksBlank true) →
         During (D.view disk.old) (D.view disk.new) (IsBlankOrBegun image) }
     ensures opened { OnOk result (Throughout (D.view disk.new) OpensByOne) }
+    ensures behind { (size : ℕ) → 1 + length built.now ≤ size → KeepsBehind size (D.view disk.old) (D.view disk.new) }
+    ensures attaches { (D.view disk.new).attaches ≡ (D.view disk.old).attaches }
     ensures cause { HasCause (D.view disk.old).faults (D.view disk.new).faults result }
 {
     durable_write(disk, 1, built)?;
@@ -83,6 +89,8 @@ pub fn start<D: Disk>(disk: &mut D, closed: bool, built: &[u8]) -> Result<(), Fa
         Throughout (D.view disk.old) (LooksBlank closed) →
         During (D.view disk.old) (D.view disk.new) (IsBlankOrBegun image) }
     ensures opened { OnOk result (Throughout (D.view disk.new) OpensByOne) }
+    ensures behind { (size : ℕ) → 1 + length built.now ≤ size → KeepsBehind size (D.view disk.old) (D.view disk.new) }
+    ensures attaches { (D.view disk.new).attaches ≡ (D.view disk.old).attaches }
     ensures cause { HasCause (D.view disk.old).faults (D.view disk.new).faults result }
 {
     close(disk, closed)?;

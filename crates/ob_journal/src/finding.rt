@@ -1,7 +1,7 @@
 //! What is read of a disk.
 ghost use Rattle.std.specs.Prelude.{◌≡◌, ◌≤◌, ℕ, List, length, take, IfOk, OnOk};
 ghost use Rattle.ob_disk_spec.specs.Disk.{Reads};
-ghost use Rattle.ob_disk_spec.specs.Durable.{May, Throughout, During};
+ghost use Rattle.ob_disk_spec.specs.Durable.{May, Throughout, During, KeepsBehind};
 ghost use Rattle.ob_io.specs.Causes.{HasCause};
 ghost use Rattle.ob_journal.specs.Reading.{ReadsAs};
 
@@ -16,6 +16,8 @@ pub fn measure<D: Disk>(disk: &mut D) -> Result<u64, Failed>
     ensures same { OnOk result ((D.view disk.new).content ≡ (D.view disk.old).content) }
     ensures settled { OnOk result (Throughout (D.view disk.new) (Reads (D.view disk.new))) }
     ensures quiet { During (D.view disk.old) (D.view disk.new) (May (D.view disk.old)) }
+    ensures behind { (size : ℕ) → KeepsBehind size (D.view disk.old) (D.view disk.new) }
+    ensures attaches { (D.view disk.new).attaches ≡ (D.view disk.old).attaches }
     ensures cause { HasCause (D.view disk.old).faults (D.view disk.new).faults result }
 {
     settle(disk)?;
@@ -38,6 +40,8 @@ pub fn read_front<D: Disk>(alloc: Global, disk: &mut D, count: u64) -> Result<Ve
     ensures len { IfOk result (λ bytes. length bytes.items ≡ count) }
     ensures same { OnOk result ((D.view disk.new).content ≡ (D.view disk.old).content) }
     ensures quiet { During (D.view disk.old) (D.view disk.new) (May (D.view disk.old)) }
+    ensures behind { (size : ℕ) → KeepsBehind size (D.view disk.old) (D.view disk.new) }
+    ensures attaches { (D.view disk.new).attaches ≡ (D.view disk.old).attaches }
     ensures cause { ReadsAs result (D.view disk.old).faults (D.view disk.new).faults }
 {
     let Ok(mut bytes) = zeros(alloc, count as usize) else {

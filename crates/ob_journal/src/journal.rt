@@ -34,14 +34,14 @@ pub struct Built {
 pub enum Found {
     /// The area is blank.
     Blank,
-    /// It stands for a journal.
+    /// It represents a journal.
     Current(Journal),
 }
 
 impl Journal {
     ghost use Rattle.std.specs.Prelude.{◌+◌, ◌++◌, ◌∷◌, [], ℕ, List, length, map, IfOk, OnOk, OnErr};
     ghost use Rattle.ob_disk_spec.specs.Disk.{Reads, WrittenOver};
-    ghost use Rattle.ob_disk_spec.specs.Durable.{May, Throughout, During};
+    ghost use Rattle.ob_disk_spec.specs.Durable.{May, Throughout, During, KeepsBehind};
     ghost use Rattle.ob_io.specs.Causes.{HasCause};
     ghost use Rattle.ob_journal_spec.specs.Areas.{with_payload, StandsWithOrWithout, IsBlankOrBegun, area_of};
     ghost use Rattle.ob_journal.specs.Surveys.{payload_of};
@@ -50,7 +50,7 @@ impl Journal {
     ghost use Rattle.ob_journal.specs.Rooms.{StaysWithoutRoom, NeedsNoRoom};
     ghost use Rattle.ob_journal.specs.Journals.{journaled, area_size, Holds, HasSpare, IsBuilt, payload_built, bytes_built, Builds, Begins};
 
-    /// What the area at the front of a disk stands for. It begins with a sync, so that what it reads is what a crash
+    /// Which journal the area at the start of a disk represents. It begins with a sync, so that what it reads is what a crash
     /// leaves, and writes nothing.
     pub fn find<D: Disk>(alloc: Global, disk: &mut D, area: u64) -> Result<Found, JournalError>
         requires some { 1 ≤ area }
@@ -59,6 +59,8 @@ impl Journal {
         ensures whole { IfOk result (λ found. IsFoundIn area found (D.view disk.new)) }
         ensures room { NeedsNoRoom result }
         ensures quiet { During (D.view disk.old) (D.view disk.new) (May (D.view disk.old)) }
+        ensures behind { (size : ℕ) → KeepsBehind size (D.view disk.old) (D.view disk.new) }
+        ensures attaches { (D.view disk.new).attaches ≡ (D.view disk.old).attaches }
         ensures cause { FaultsAs result (D.view disk.old).faults (D.view disk.new).faults }
     {
         let Ok(count) = measure(disk) else {
@@ -78,7 +80,8 @@ impl Journal {
         }
     }
 
-    /// Begins an area for this image on a blank disk. A crash in it, and an `Err`, leave the area blank or begun.
+    /// Begins an area for this image on a blank disk. A crash in it, and an `Err`, leave the area blank or begun. It writes
+    /// the header with its two gates, and what follows them stays.
     pub fn begin<D: Disk>(
         alloc: Global,
         disk: &mut D,
@@ -93,6 +96,9 @@ impl Journal {
         ensures crash { IsFresh area (D.view disk.old) →
             During (D.view disk.old) (D.view disk.new) (λ c. IsBlankOrBegun image.now (area_of area c)) }
         ensures room { StaysWithoutRoom (D.view disk.old) (D.view disk.new) result }
+        ensures behind { KeepsBehind area (D.view disk.old) (D.view disk.new) }
+        ensures only { KeepsBehind (18 + length image.now) (D.view disk.old) (D.view disk.new) }
+        ensures attaches { (D.view disk.new).attaches ≡ (D.view disk.old).attaches }
         ensures cause { FaultsAs result (D.view disk.old).faults (D.view disk.new).faults }
     {
         let count = image.len() as u64;
@@ -174,7 +180,7 @@ impl Journal {
     }
 
     /// Appends a record. At `Ok` it is there for good. A crash in it, and an `Err`, leave the area with it or without
-    /// it. It takes no memory.
+    /// it, and what follows the area as it was. It takes no memory.
     pub fn append<D: Disk>(&mut self, disk: &mut D, built: Built) -> Result<(), DiskFault>
         requires spare { HasSpare self.old }
         requires built { IsBuilt self.old built }
@@ -187,6 +193,8 @@ impl Journal {
             (WrittenOver (WrittenOver (Reads (D.view disk.old)) (next_gate (journaled self.old) + 1) (bytes_built built))
             (next_gate (journaled self.old)) (1 ∷ []))) }
         ensures err { OnErr result (journaled self.new ≡ journaled self.old) }
+        ensures behind { KeepsBehind (area_size self.old) (D.view disk.old) (D.view disk.new) }
+        ensures attaches { (D.view disk.new).attaches ≡ (D.view disk.old).attaches }
         ensures cause { HasCause (D.view disk.old).faults (D.view disk.new).faults result }
     {
         let Ok(()) = put_record(disk, self.contents.gate, built.bytes.as_slice()) else {

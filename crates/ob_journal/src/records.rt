@@ -26,7 +26,7 @@ pub struct ReadArea {
 pub enum Survey {
     /// It is blank.
     Blank,
-    /// It stands for this.
+    /// It represents this.
     Standing(ReadArea),
 }
 

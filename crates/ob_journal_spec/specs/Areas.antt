@@ -1,4 +1,4 @@
--- What the bytes of an area stand for, or why they stand for nothing (this project's own).
+-- Which journal the bytes of an area represent, or why they represent none (this project's own).
 use Rattle.std.specs.Prelude.{ℕ, ℤ, pos, ◌≤ℤ◌, ◌≡◌, ◌<◌, ◌≤◌, ◌+◌, ◌⊎◌, List, [], ◌∷◌, ◌++◌, length, take}
 use Rattle.ob_journal_spec.specs.Spellings.{sized, header}
 
@@ -8,7 +8,7 @@ pub record Journaled : Type 0 where
   pub image : List ℕ
   pub payloads : List (List ℕ)
 
--- the bytes of the area of a size at the front of a disk
+-- the bytes of the area of a size at the start of a disk
 abbrev pub area_of : ℕ → List ℕ → List ℕ
 area_of size bytes = take size bytes
 
@@ -28,7 +28,7 @@ pub record Front (j : Journaled) (bytes : List ℕ) : Type 0 where
   pub from_one : pos 1 ≤ℤ j.serial
   pub payloads : Records j.payloads records
 
--- An area stands for this: behind its records is a closed gate, and behind that anything.
+-- An area represents this: behind its records is a closed gate, and behind that anything.
 pub record StandsFor (j : Journaled) (area : List ℕ) : Type 0 where
   pub front : List ℕ
   pub behind : List ℕ
@@ -98,7 +98,7 @@ pub record IsDamaged (offset : ℕ) (area : List ℕ) : Type 0 where
   pub at : offset ≡ length front
   pub no_record : ¬ (HasRecord behind)
 
--- the area stands for the records with this one or without it
+-- the area represents the records with this one or without it
 abbrev pub StandsWithOrWithout : Journaled → List ℕ → List ℕ → Type 0
 StandsWithOrWithout j payload area = StandsFor j area ⊎ StandsFor (with_payload j payload) area
 

@@ -8,7 +8,7 @@ use Rattle.ob_table.specs.declared.operator.BinaryOperator.{BinaryOperator}
 use Rattle.ob_table.specs.declared.operator.LogicalOperator.{LogicalOperator}
 use Rattle.ob_table.specs.declared.operator.LogicalOperator.TheVariants.{And, Or}
 use Rattle.ob_silica.specs.Terms.{copy_form, no_terms}
-use Rattle.ob_lower_spec.specs.Points.{AroundExpression}
+use Rattle.ob_lower_spec.specs.Forms.{AroundExpression}
 use Rattle.ob_lower_functions.specs.Progress.{Stop, ◌>>=◌, Progress, with_term}
 use Rattle.ob_lower_functions.specs.ExpressionCode.{branching, expression_code, value_code}
 use Rattle.ob_lower_parts.specs.Makes.{progress}

@@ -5,10 +5,9 @@ use Rattle.ob_base.specs.declared.fault.Span.{Span}
 use Rattle.ob_table.specs.Statements.{GivenField, Statement, resolved_declare, resolved_assign, resolved_stage, resolved_change, resolved_discard, resolved_test, resolved_if, resolved_return, resolved_revert, resolved_disown, resolved_assert, Statements, no_statements, and_statement}
 use Rattle.ob_table_spec.specs.WellFormed.{StaticFrame}
 use Rattle.ob_silica.specs.Terms.{SilicaTerms, unit_form, test_form, if_form}
-use Rattle.ob_lower_spec.specs.StatementTerms.{set_slot, join_of}
+use Rattle.ob_lower_spec.specs.Forms.{set_slot, join_of, SlotVariable, refused_at}
 use Rattle.ob_lower_functions.specs.ExpressionCode.{value_code}
 use Rattle.ob_silica.specs.declared.place.Given.{Given}
-use Rattle.ob_lower_spec.specs.Points.{SlotVariable, refused_at}
 use Rattle.ob_lower_functions.specs.Progress.{Stop, ◌>>=◌, Slots, slots_from, next_slot, with_term, ended}
 use Rattle.ob_lower_functions.specs.StatementCode.{Waiting, none_waits, row_waits, refused_waits, BlockPosition, settled, declared, around_at, begun, named_code, condition_code, block_code, otherwise_code, row_code, first_code, stage_code, statement_code, statements_code}
 

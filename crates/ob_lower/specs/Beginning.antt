@@ -1,7 +1,7 @@
 -- Where a body begins.
 use Rattle.std.specs.Prelude.{ℕ, List}
 use Rattle.ob_table.specs.Statements.{Block, resolved_block, ResolvedBody}
-use Rattle.ob_lower_spec.specs.Points.{SlotVariable}
+use Rattle.ob_lower_spec.specs.Forms.{SlotVariable}
 use Rattle.ob_lower_functions.specs.StatementCode.{BlockPosition, none_waits}
 
 -- the statements of a body, as a block

@@ -9,7 +9,7 @@ use Rattle.ob_silica.specs.Terms.{SilicaTerms, copy_form, no_terms}
 use Rattle.ob_silica.specs.declared.place.Operand.{Operand}
 use Rattle.ob_silica.specs.declared.place.Place.{Place}
 use Rattle.ob_silica.specs.declared.term.SilicaOperator.TheVariants.{Binary}
-use Rattle.ob_lower_spec.specs.Points.{AroundExpression}
+use Rattle.ob_lower_spec.specs.Forms.{AroundExpression}
 use Rattle.ob_lower_functions.specs.Progress.{Stop, ◌>>=◌, Slots, Progress, with_term}
 use Rattle.ob_lower_functions.specs.ExpressionCode.{value_code}
 use Rattle.ob_lower_parts.specs.Makes.{progress}

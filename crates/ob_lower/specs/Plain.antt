@@ -8,9 +8,7 @@ use Rattle.ob_table_spec.specs.WellFormed.{StaticFrame, kind_of_seen}
 use Rattle.ob_silica.specs.Terms.{SilicaForm, SilicaTerms, unit_form, const_form, revert_form}
 use Rattle.ob_silica.specs.declared.place.Constant.TheVariants.{Text}
 use Rattle.ob_silica.specs.declared.place.Operand.{Operand}
-use Rattle.ob_lower_spec.specs.ExpressionTerms.{slot_operand}
-use Rattle.ob_lower_spec.specs.Points.{AroundExpression, locals_of, place_seen}
-use Rattle.ob_lower_spec.specs.StatementTerms.{set_place}
+use Rattle.ob_lower_spec.specs.Forms.{slot_operand, AroundExpression, locals_of, place_seen, set_place}
 use Rattle.ob_lower_functions.specs.Progress.{Stop, ◌>>=◌, found, slots_from, with_term}
 use Rattle.ob_lower_functions.specs.ExpressionCode.{value_code}
 use Rattle.ob_lower_functions.specs.StatementCode.{BlockPosition, around_at, begun, named_code, past_statement}

@@ -1,7 +1,7 @@
 //! Staged statements and changes of state (the Obsidian language documentation, "States").
 ghost use Rattle.std.specs.Prelude.{◌≡◌, [], map};
 ghost use Rattle.ob_table.specs.StatementsView.{given_field_of, statements_of};
-ghost use Rattle.ob_lower_spec.specs.Points.{refused_at};
+ghost use Rattle.ob_lower_spec.specs.Forms.{refused_at};
 ghost use Rattle.ob_lower_functions.specs.Progress.{slots_from};
 ghost use Rattle.ob_lower_functions.specs.StatementCode.{row_code, stage_code, given_code, change_after, change_code};
 ghost use Rattle.ob_lower.specs.Waits.{then_settled};

@@ -5,7 +5,7 @@ ghost use Rattle.ob_table.specs.StatementsView.{statement_of, statements_of};
 ghost use Rattle.ob_table_spec.specs.WellFormed.{ends_there};
 ghost use Rattle.ob_silica.specs.Terms.{unit_form, disown_form, assert_form};
 ghost use Rattle.ob_silica.specs.TermsView.{form_of};
-ghost use Rattle.ob_lower_spec.specs.StatementTerms.{set_slot, set_place};
+ghost use Rattle.ob_lower_spec.specs.Forms.{set_slot, set_place};
 ghost use Rattle.ob_lower_functions.specs.Progress.{with_term};
 ghost use Rattle.ob_lower_functions.specs.StatementCode.{declare_code, assign_code, discard_code, condition_code};
 ghost use Rattle.ob_lower_functions.specs.StatementCode.{return_code, revert_code, named_code, settled, statement_code};

@@ -4,7 +4,7 @@ ghost use Rattle.ob_table.specs.Statements.{resolved_block};
 ghost use Rattle.ob_table.specs.StatementsView.{statement_of, statements_of, resolved_block_of, otherwise_of};
 ghost use Rattle.ob_table_spec.specs.WellFormed.{ends_there, one_ends_there, block_ends_there, other_ends_there};
 ghost use Rattle.ob_silica.specs.TermsView.{form_of, terms_of};
-ghost use Rattle.ob_lower_spec.specs.StatementTerms.{join_of};
+ghost use Rattle.ob_lower_spec.specs.Forms.{join_of};
 ghost use Rattle.ob_lower_functions.specs.Progress.{with_term};
 ghost use Rattle.ob_lower_functions.specs.StatementCode.{settled, statement_code, statements_code};
 ghost use Rattle.ob_lower_functions.specs.StatementCode.{block_code, otherwise_code};

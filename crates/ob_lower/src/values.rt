@@ -3,7 +3,7 @@ ghost use Rattle.std.specs.Prelude.{◌≡◌, OnOk};
 ghost use Rattle.ob_table.specs.ExpressionsView.{expression_of};
 ghost use Rattle.ob_silica.specs.Terms.{then_terms};
 ghost use Rattle.ob_silica.specs.TermsView.{form_of};
-ghost use Rattle.ob_lower_spec.specs.Points.{drops};
+ghost use Rattle.ob_lower_spec.specs.Forms.{drops};
 ghost use Rattle.ob_lower_functions.specs.Progress.{ended};
 ghost use Rattle.ob_lower_functions.specs.ExpressionCode.{expression_code, value_code};
 ghost use Rattle.ob_lower_functions.specs.StatementCode.{around_at, begun};

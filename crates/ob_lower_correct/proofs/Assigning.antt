@@ -28,10 +28,11 @@ use Rattle.ob_silica_steps.specs.Cells.{value_in}
 use Rattle.ob_silica_places.specs.Places.{located}
 use Rattle.ob_silica_steps.specs.Configurations.{SilicaProgram, SlotCells, Rest, runs, Configuration}
 use Rattle.ob_silica_steps.specs.Here.{Here, read}
-use Rattle.ob_lower_spec.specs.Points.{around, IsFree, Temporary, references, drops_of, locals_of, slot_of, place_seen, Point, passed}
+use Rattle.ob_lower_spec.specs.Forms.{locals_of, slot_of, place_seen, set_slot as set_slot_form, set_place}
+use Rattle.ob_lower_spec.specs.Points.{around, IsFree, Temporary, references, drops_of, Point, passed}
 use Rattle.ob_lower_spec.specs.ExpressionTerms.{Lowered, LowersExpression}
 use Rattle.ob_lower_spec.specs.GivenTerms.{with_unit}
-use Rattle.ob_lower_spec.specs.StatementTerms.{ended_by, set_slot as set_slot_form, set_place}
+use Rattle.ob_lower_spec.specs.StatementTerms.{ended_by}
 use Rattle.ob_lower_correct.proofs.Slots.{Used, free_differs, within_self}
 use Rattle.ob_lower_correct.proofs.Runs.{Ends, leads_on, ends_map, join}
 use Rattle.ob_lower_correct.proofs.Standing.{same_value, Setting, frame_in, made_in, config, shape, Comes, Reached, kept_on, none_some, some_same, comes_fewer}

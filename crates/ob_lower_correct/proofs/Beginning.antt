@@ -14,7 +14,8 @@ use Rattle.ob_source_meaning.specs.Frames.{Calls, Flow, goes_on, returns, known,
 use Rattle.ob_silica.specs.Terms.{SilicaTerms, no_terms, then_terms, one_term, return_form}
 use Rattle.ob_silica_steps.specs.Configurations.{SilicaProgram, SlotCells, Rest, runs, Configuration}
 use Rattle.ob_silica_steps.specs.Here.{Here}
-use Rattle.ob_lower_spec.specs.Points.{locals_of, slot_of, Point, passed}
+use Rattle.ob_lower_spec.specs.Forms.{params_from as lowered_params, locals_of, slot_of, ending}
+use Rattle.ob_lower_spec.specs.Points.{Point, passed}
 use Rattle.ob_lower_spec.specs.BodyTerms.{slots_below}
 use Rattle.ob_lower_correct.proofs.Slots.{Used, within_self}
 use Rattle.ob_lower_correct.proofs.Runs.{Ends, ends_map, ends_later}
@@ -32,7 +33,7 @@ use Rattle.ob_source_meaning.specs.Bodies.{result_of}
 use Rattle.ob_heap_spec.specs.GoingWrong.{is_within, may_pass, may_leave_args, type_at_exit}
 use Rattle.ob_heap_spec.specs.Objects.{Object}
 use Rattle.ob_lower_spec.specs.BodyTerms as low
-use Rattle.ob_lower_spec.specs.BodyTerms.{beginning, ending}
+use Rattle.ob_lower_spec.specs.BodyTerms.{beginning}
 use Rattle.ob_lower_spec.specs.StatementTerms.{LowersBlock}
 use Rattle.ob_silica_places.specs.Parameters.{parameter_of}
 use Rattle.ob_silica_steps.specs.Entering.{are_within}
@@ -65,43 +66,43 @@ below_used n (suc m) (inl e) = omega (arith, e)
 below_used n (suc m) (inr u) = let r = below_used n m u in omega (arith, r)
 
 -- a parameter has the slot of its number
-pub param_slot : (m : ℕ) (ps : List Param) (n k : ℕ) → slot_of (low.params_from m ps) n ≡ Some k → (k ≡ n) × (m ≤ n) × (n < m + length ps)
+pub param_slot : (m : ℕ) (ps : List Param) (n k : ℕ) → slot_of (lowered_params m ps) n ≡ Some k → (k ≡ n) × (m ≤ n) × (n < m + length ps)
 param_slot m [] n k e = absurd (none_some e)
 param_slot m (p ∷ ps) n k e = by_number (nat_eq n m) refl e (param_slot (m + 1) ps n k)
   where
-    by_number : (b : Bool) → nat_eq n m ≡ b → (if b then Some m else slot_of (low.params_from (m + 1) ps) n) ≡ Some k → (slot_of (low.params_from (m + 1) ps) n ≡ Some k → (k ≡ n) × (m + 1 ≤ n) × (n < (m + 1) + length ps))
+    by_number : (b : Bool) → nat_eq n m ≡ b → (if b then Some m else slot_of (lowered_params (m + 1) ps) n) ≡ Some k → (slot_of (lowered_params (m + 1) ps) n ≡ Some k → (k ≡ n) × (m + 1 ≤ n) × (n < (m + 1) + length ps))
         → (k ≡ n) × (m ≤ n) × (n < m + suc (length ps))
     by_number true eb e next = let same = eqb-true n m eb in (sym (some_same m k e) ∙ sym same, omega (arith, same), omega (arith, same))
     by_number false eb e next = let r = next e in (r.0, omega (arith, r.1), omega (arith, r.2))
 
-kinds_of_params : (m : ℕ) (ps : List Param) → locals_of (low.params_from m ps) ≡ made.params_from m ps
+kinds_of_params : (m : ℕ) (ps : List Param) → locals_of (lowered_params m ps) ≡ made.params_from m ps
 kinds_of_params m [] = refl
 kinds_of_params m (p ∷ ps) = ap (λ l. (m, kind_of_resolved p.of) ∷ l) (kinds_of_params (m + 1) ps)
 
 -- the value of a parameter
-pub param_held : (ps : List Param) (args : List Value) (m n k : ℕ) (slots : SlotCells) → HoldsFrom slots m (map parameter_of ps) args → slot_of (low.params_from m ps) n ≡ Some k
-    → (x : meaning.SourceVariable) × (variables_from m ps args n ≡ Some x) × (local_kind (locals_of (low.params_from m ps)) n ≡ Some x.kind) × (shape (slots k) ≡ Some (x.value, x.kind))
+pub param_held : (ps : List Param) (args : List Value) (m n k : ℕ) (slots : SlotCells) → HoldsFrom slots m (map parameter_of ps) args → slot_of (lowered_params m ps) n ≡ Some k
+    → (x : meaning.SourceVariable) × (variables_from m ps args n ≡ Some x) × (local_kind (locals_of (lowered_params m ps)) n ≡ Some x.kind) × (shape (slots k) ≡ Some (x.value, x.kind))
 param_held [] args m n k slots h e = absurd (none_some e)
 param_held (p ∷ ps) [] m n k slots h e = absurd h
 param_held (p ∷ ps) (v ∷ args) m n k slots h e =
-    by_number (nat_eq n m) refl e (λ d. let r = param_held ps args (suc m) n k slots h.1 (ap (λ i. slot_of (low.params_from i ps) n) (sym (one_more m)) ∙ d) in
-    (r.0, r.1, ap (λ i. local_kind (locals_of (low.params_from i ps)) n) (one_more m) ∙ r.2, r.3))
+    by_number (nat_eq n m) refl e (λ d. let r = param_held ps args (suc m) n k slots h.1 (ap (λ i. slot_of (lowered_params i ps) n) (sym (one_more m)) ∙ d) in
+    (r.0, r.1, ap (λ i. local_kind (locals_of (lowered_params i ps)) n) (one_more m) ∙ r.2, r.3))
   where
-    by_number : (b : Bool) → nat_eq n m ≡ b → (if nat_eq n m then Some m else slot_of (low.params_from (m + 1) ps) n) ≡ Some k
-        → (slot_of (low.params_from (m + 1) ps) n ≡ Some k → (x : meaning.SourceVariable) × (variables_from (suc m) ps args n ≡ Some x) × (local_kind (locals_of (low.params_from (m + 1) ps)) n ≡ Some x.kind) × (shape (slots k) ≡ Some (x.value, x.kind)))
+    by_number : (b : Bool) → nat_eq n m ≡ b → (if nat_eq n m then Some m else slot_of (lowered_params (m + 1) ps) n) ≡ Some k
+        → (slot_of (lowered_params (m + 1) ps) n ≡ Some k → (x : meaning.SourceVariable) × (variables_from (suc m) ps args n ≡ Some x) × (local_kind (locals_of (lowered_params (m + 1) ps)) n ≡ Some x.kind) × (shape (slots k) ≡ Some (x.value, x.kind)))
         → (x : meaning.SourceVariable) × ((if nat_eq n m then Some (record { value = v; kind = kind_of_resolved p.of }) else variables_from (suc m) ps args n) ≡ Some x)
-        × ((if nat_eq n m then Some (kind_of_resolved p.of) else local_kind (locals_of (low.params_from (m + 1) ps)) n) ≡ Some x.kind) × (shape (slots k) ≡ Some (x.value, x.kind))
+        × ((if nat_eq n m then Some (kind_of_resolved p.of) else local_kind (locals_of (lowered_params (m + 1) ps)) n) ≡ Some x.kind) × (shape (slots k) ≡ Some (x.value, x.kind))
     by_number true eb e next = (
       record { value = v; kind = kind_of_resolved p.of },
       ap (λ b. if b then Some (record { value = v; kind = kind_of_resolved p.of }) else variables_from (suc m) ps args n) eb,
-      ap (λ b. if b then Some (kind_of_resolved p.of) else local_kind (locals_of (low.params_from (m + 1) ps)) n) eb,
-      ap (λ i. shape (slots i)) (sym (some_same m k (sym (ap (λ b. if b then Some m else slot_of (low.params_from (m + 1) ps) n) eb) ∙ e))) ∙ h.0,
+      ap (λ b. if b then Some (kind_of_resolved p.of) else local_kind (locals_of (lowered_params (m + 1) ps)) n) eb,
+      ap (λ i. shape (slots i)) (sym (some_same m k (sym (ap (λ b. if b then Some m else slot_of (lowered_params (m + 1) ps) n) eb) ∙ e))) ∙ h.0,
     )
     by_number false eb e next =
-        let r = next (sym (ap (λ b. if b then Some m else slot_of (low.params_from (m + 1) ps) n) eb) ∙ e) in (
+        let r = next (sym (ap (λ b. if b then Some m else slot_of (lowered_params (m + 1) ps) n) eb) ∙ e) in (
           r.0,
           ap (λ b. if b then Some (record { value = v; kind = kind_of_resolved p.of }) else variables_from (suc m) ps args n) eb ∙ r.1,
-          ap (λ b. if b then Some (kind_of_resolved p.of) else local_kind (locals_of (low.params_from (m + 1) ps)) n) eb ∙ r.2,
+          ap (λ b. if b then Some (kind_of_resolved p.of) else local_kind (locals_of (lowered_params (m + 1) ps)) n) eb ∙ r.2,
           r.3,
         )
 

@@ -24,8 +24,9 @@ use Rattle.ob_silica_steps.specs.Configurations.{SilicaProgram, SlotCells, Rest,
 use Rattle.ob_silica_steps.specs.Here.{Here, read}
 use Rattle.ob_silica_places.specs.Known.{at}
 use Rattle.ob_silica_steps.specs.Steps.{step}
-use Rattle.ob_lower_spec.specs.Points.{around, in_use, references, drops_of, SlotVariable, locals_of, Point, passed, AroundExpression}
-use Rattle.ob_lower_spec.specs.ExpressionTerms.{Lowered, operand, into, LowersExpression}
+use Rattle.ob_lower_spec.specs.Forms.{SlotVariable, locals_of, AroundExpression, operand, refused_at}
+use Rattle.ob_lower_spec.specs.Points.{around, in_use, references, drops_of, Point, passed}
+use Rattle.ob_lower_spec.specs.ExpressionTerms.{Lowered, into, LowersExpression}
 use Rattle.ob_lower_spec.specs.GivenTerms.{with_unit}
 use Rattle.ob_lower_correct.proofs.Slots.{Used, free_differs, within_self}
 use Rattle.ob_lower_correct.proofs.Runs.{Ends, one_step, ends_map, ends_later, join}
@@ -43,7 +44,6 @@ use Rattle.ob_source_meaning.specs.Statements.{choose, run_block, run_otherwise}
 use Rattle.ob_silica.specs.Terms.{if_form}
 use Rattle.ob_silica_steps.specs.Configurations.{plain_end}
 use Rattle.ob_silica_steps.specs.Straight.{with_truth}
-use Rattle.ob_lower_spec.specs.Points.{refused_at}
 use Rattle.ob_lower_spec.specs.ExpressionTerms.{LowersName}
 use Rattle.ob_lower_correct.proofs.Branches.{plain_ends, branch_runs}
 use Rattle.ob_lower_correct.proofs.Fresh.{Value as Apart, value_last, value_left}

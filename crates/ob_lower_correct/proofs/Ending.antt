@@ -32,8 +32,9 @@ use Rattle.ob_silica_steps.specs.Here.{Here, if_there, read, set_permission}
 use Rattle.ob_silica_places.specs.Known.{at}
 use Rattle.ob_silica_steps.specs.Steps.{step}
 use Rattle.ob_silica_steps.specs.Straight.{with_text, disowns_object}
+use Rattle.ob_lower_spec.specs.Forms.{operand, slot_operand}
 use Rattle.ob_lower_spec.specs.Points.{around, in_use, references, drops_of, Point, passed}
-use Rattle.ob_lower_spec.specs.ExpressionTerms.{Lowered, LoweredCall, operand, slot_operand, LowersExpression, LowersDiscarded}
+use Rattle.ob_lower_spec.specs.ExpressionTerms.{Lowered, LoweredCall, LowersExpression, LowersDiscarded}
 use Rattle.ob_lower_spec.specs.GivenTerms.{with_unit}
 use Rattle.ob_lower_spec.specs.StatementTerms.{IsNamed, LowersReturn, LowersRevert}
 use Rattle.ob_lower_correct.proofs.Slots.{Used, free_differs, free_within, within_self, within_use}

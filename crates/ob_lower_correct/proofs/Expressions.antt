@@ -29,8 +29,9 @@ use Rattle.ob_silica_steps.specs.Here.{Here, read, set_slot, if_there}
 use Rattle.ob_silica_places.specs.Known.{at}
 use Rattle.ob_silica_steps.specs.Steps.{step}
 use Rattle.ob_silica_steps.specs.Straight.{with_truth, copy_to}
-use Rattle.ob_lower_spec.specs.Points.{IsFree, Temporary, in_use, SlotVariable, locals_of, place_seen, AroundExpression}
-use Rattle.ob_lower_spec.specs.ExpressionTerms.{Lowered, LoweredArguments, operand, into, LowersName, copied_into, logical_form, logical_into, LowersExpression, LowersArguments}
+use Rattle.ob_lower_spec.specs.Forms.{SlotVariable, locals_of, place_seen, AroundExpression, operand, logical_form}
+use Rattle.ob_lower_spec.specs.Points.{IsFree, Temporary, in_use}
+use Rattle.ob_lower_spec.specs.ExpressionTerms.{Lowered, LoweredArguments, into, LowersName, copied_into, logical_into, LowersExpression, LowersArguments}
 use Rattle.ob_lower_correct.proofs.Slots.{Used, Within, within_self, within_on, within_use, within_first, within_second, free_within}
 use Rattle.ob_lower_correct.proofs.Runs.{Leads, Ends, stays, leads_on, one_step, ends_map, ends_later, join}
 use Rattle.ob_lower_correct.proofs.Standing.{Setting, frame_in, made_in, config, Comes, Reached, kept_self, at_same, comes_self, comes_on, comes_fewer, reached_closed, bind}

@@ -24,7 +24,8 @@ use Rattle.ob_silica_steps.specs.Configurations.{SilicaProgram, SlotCells, Notes
 use Rattle.ob_silica_steps.specs.Here.{Here, read, with_fuel_left}
 use Rattle.ob_silica_places.specs.Known.{at}
 use Rattle.ob_silica_steps.specs.Steps.{step}
-use Rattle.ob_lower_spec.specs.Points.{IsFree, in_use, drops, SlotVariable, locals_of, slot_of, StagedRow, no_row, staged_row, refused_row, made_before, Point, used_at}
+use Rattle.ob_lower_spec.specs.Forms.{drops, SlotVariable, locals_of, slot_of}
+use Rattle.ob_lower_spec.specs.Points.{IsFree, in_use, StagedRow, no_row, staged_row, refused_row, made_before, Point, used_at}
 use Rattle.ob_lower_spec.specs.ExpressionTerms.{Lowered, LowersExpression}
 use Rattle.ob_lower_correct.proofs.Slots.{Used, free_differs, Within, within_self, within_on, within_use}
 use Rattle.ob_lower_correct.proofs.Runs.{Leads, Ends, stays, leads_on, one_step, ends_map, ends_later}

@@ -7,8 +7,9 @@ use Rattle.ob_table.specs.declared.seen.Kind.{Kind}
 use Rattle.ob_table_spec.specs.WellFormed.{is_reference}
 use Rattle.ob_silica.specs.declared.place.Operand.{Operand}
 use Rattle.ob_silica.specs.declared.place.Place.TheVariants.{Slot}
-use Rattle.ob_lower_spec.specs.Points.{IsFree, Temporary, in_use, references, AroundExpression}
-use Rattle.ob_lower_spec.specs.ExpressionTerms.{Lowered, LoweredArguments, LoweredCall, temporary, LowersName, operand, LowersExpression, LowersArguments, LowersDiscarded, LowersPlainCall}
+use Rattle.ob_lower_spec.specs.Forms.{AroundExpression, operand}
+use Rattle.ob_lower_spec.specs.Points.{IsFree, Temporary, in_use, references}
+use Rattle.ob_lower_spec.specs.ExpressionTerms.{Lowered, LoweredArguments, LoweredCall, temporary, LowersName, LowersExpression, LowersArguments, LowersDiscarded, LowersPlainCall}
 use Rattle.ob_lower_spec.specs.GivenTerms.{LoweredGiven, LowersGiven}
 use Rattle.ob_lower_correct.proofs.Slots.{Used, used_left, used_right, used_split, free_differs, free_by, slots_made, made_append, Within, within_use, free_within}
 

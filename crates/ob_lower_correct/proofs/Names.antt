@@ -18,7 +18,7 @@ use Rattle.ob_silica_steps.specs.Cells.{Cell, value_in}
 use Rattle.ob_silica_places.specs.Places.{field, location_of}
 use Rattle.ob_silica_steps.specs.Configurations.{SlotCells}
 use Rattle.ob_silica_steps.specs.Here.{Here, self, field_value, read}
-use Rattle.ob_lower_spec.specs.Points.{SlotVariable, locals_of, slot_of, place_seen}
+use Rattle.ob_lower_spec.specs.Forms.{SlotVariable, locals_of, slot_of, place_seen}
 use Rattle.ob_lower_correct.proofs.Slots.{Used}
 use Rattle.ob_lower_correct.proofs.Standing.{Setting, frame_in, made_in, shape, Kept, Stands, this_value, self_is, none_some, some_same, same_value}
 

@@ -26,8 +26,9 @@ use Rattle.ob_silica_steps.specs.Cells.{value_in}
 use Rattle.ob_silica_places.specs.Places.{located, all_located}
 use Rattle.ob_silica_steps.specs.Configurations.{SilicaProgram, Rest, runs, Configuration}
 use Rattle.ob_silica_steps.specs.Here.{Here, read}
-use Rattle.ob_lower_spec.specs.Points.{IsFree, in_use, SlotVariable, locals_of, place_seen, AroundExpression}
-use Rattle.ob_lower_spec.specs.ExpressionTerms.{Lowered, LoweredArguments, operand, LowersName, IsCall, calls_this, calls_other, LowersExpression}
+use Rattle.ob_lower_spec.specs.Forms.{SlotVariable, locals_of, place_seen, AroundExpression, operand}
+use Rattle.ob_lower_spec.specs.Points.{IsFree, in_use}
+use Rattle.ob_lower_spec.specs.ExpressionTerms.{Lowered, LoweredArguments, LowersName, IsCall, calls_this, calls_other, LowersExpression}
 use Rattle.ob_lower_correct.proofs.Slots.{Used, free_differs, Within}
 use Rattle.ob_lower_correct.proofs.Runs.{Ends, stays}
 use Rattle.ob_lower_correct.proofs.Standing.{Setting, frame_in, made_in, config, Kept, Stands, Comes, Reached, kept_fewer, none_some, some_same, stands_on, comes_self}

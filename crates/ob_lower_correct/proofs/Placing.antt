@@ -37,7 +37,7 @@ use Rattle.ob_silica_steps.specs.Getting.{got_from}
 use Rattle.ob_silica_places.specs.Converting.{converted}
 use Rattle.ob_silica_steps.specs.Steps.{step}
 use Rattle.ob_silica_steps.specs.Straight.{copy_to, move_to, available_field}
-use Rattle.ob_lower_spec.specs.StatementTerms.{set_slot as set_slot_form, set_place}
+use Rattle.ob_lower_spec.specs.Forms.{set_slot as set_slot_form, set_place}
 use Rattle.ob_lower_correct.proofs.Runs.{Ends, one_step}
 use Rattle.ob_lower_correct.proofs.Standing.{Setting, frame_in, config, Reached, later_on, shape, Noted, Stands, at_same, at_other, some_same, self_is, self_shape}
 use Rattle.ob_lower_correct.proofs.Changes.{Alike, alike_self, permission_alike, Quiet, quiet_into, quiet_later, quiet_object, noted_quiet, edited_fuel, same_or, bare, later_edit, noted_edit}

@@ -13,7 +13,8 @@ use Rattle.ob_table.specs.declared.seen.Kind.TheVariants.{Int, Bool as BoolKind,
 use Rattle.ob_table.specs.declared.seen.Seen.{Seen}
 use Rattle.ob_table.specs.declared.seen.Seen.TheVariants.{This, Local, Field}
 use Rattle.ob_table_spec.specs.WellFormed.{StaticFrame, LocalKinds, local_kind, kind_of_seen, kind_of_expression, kind_of_unary, ServesAs, serves_as, is_reference, HasOperands, PassTo}
-use Rattle.ob_lower_spec.specs.Points.{AroundExpression, in_use}
+use Rattle.ob_lower_spec.specs.Forms.{AroundExpression}
+use Rattle.ob_lower_spec.specs.Points.{in_use}
 use Rattle.ob_lower_spec.specs.ExpressionTerms.{LoweredArguments, LowersArguments}
 use Rattle.ob_lower_correct.proofs.Standing.{some_same}
 

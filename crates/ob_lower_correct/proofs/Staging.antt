@@ -17,9 +17,10 @@ use Rattle.ob_silica.specs.Terms.{SilicaTerms, then_terms}
 use Rattle.ob_silica.specs.declared.place.Given as silica
 use Rattle.ob_silica_steps.specs.Configurations.{SilicaProgram, SlotCells, Rest, runs, Configuration}
 use Rattle.ob_silica_steps.specs.Here.{Here}
-use Rattle.ob_lower_spec.specs.Points.{with_row, around, Temporary, in_use, SlotVariable, staged_row, Point}
+use Rattle.ob_lower_spec.specs.Forms.{SlotVariable, given_from}
+use Rattle.ob_lower_spec.specs.Points.{with_row, around, Temporary, in_use, staged_row, Point}
 use Rattle.ob_lower_spec.specs.ExpressionTerms.{Lowered, LowersExpression}
-use Rattle.ob_lower_spec.specs.GivenTerms.{given_from, LoweredGiven, LowersGiven, with_unit}
+use Rattle.ob_lower_spec.specs.GivenTerms.{LoweredGiven, LowersGiven, with_unit}
 use Rattle.ob_lower_correct.proofs.Slots.{Used, Within, within_self, within_on, within_use}
 use Rattle.ob_lower_correct.proofs.Runs.{Ends, stays, join}
 use Rattle.ob_lower_correct.proofs.Standing.{Setting, frame_in, made_in, config, Stands, Reached, later_self, kept_self, kept_fewer, stands_on, comes_self, bind}

@@ -20,7 +20,8 @@ use Rattle.ob_silica_steps.specs.Configurations.{SilicaProgram, SlotCells, Rest,
 use Rattle.ob_silica_steps.specs.Here.{Here}
 use Rattle.ob_silica_places.specs.Known.{at}
 use Rattle.ob_silica_steps.specs.Steps.{step}
-use Rattle.ob_lower_spec.specs.Points.{around, declares, IsFree, in_use, drops, SlotVariable, locals_of, slot_of, StagedRow, no_row, staged_row, refused_row, made_before, Point, passed}
+use Rattle.ob_lower_spec.specs.Forms.{drops, SlotVariable, locals_of, slot_of, refused_at, given_from, join_of}
+use Rattle.ob_lower_spec.specs.Points.{around, declares, IsFree, in_use, StagedRow, no_row, staged_row, refused_row, made_before, Point, passed}
 use Rattle.ob_lower_spec.specs.ExpressionTerms.{kind_around}
 use Rattle.ob_lower_spec.specs.GivenTerms.{with_unit}
 use Rattle.ob_lower_spec.specs.StatementTerms.{ended_by, LowersStatement}
@@ -39,8 +40,8 @@ use Rattle.ob_heap_spec.specs.GoingWrong.{is_followed}
 use Rattle.ob_source_meaning.specs.Statements.{run_block, run_otherwise}
 use Rattle.ob_silica.specs.Terms.{change_form}
 use Rattle.ob_silica_steps.specs.Configurations.{stuck}
-use Rattle.ob_lower_spec.specs.Points.{refused_at, span_of_terms, given_before, with_row}
-use Rattle.ob_lower_spec.specs.GivenTerms.{LoweredGiven, LowersGiven, given_from, LowersStage}
+use Rattle.ob_lower_spec.specs.Points.{span_of_terms, given_before, with_row}
+use Rattle.ob_lower_spec.specs.GivenTerms.{LoweredGiven, LowersGiven, LowersStage}
 use Rattle.ob_lower_correct.proofs.Setting.{placed_declares}
 use Rattle.ob_lower_correct.proofs.Fresh.{Fresh, fresh_append}
 use Rattle.ob_lower_correct.proofs.Choosing.{accepted, refused, rest_of_row as after_row, if_runs}
@@ -55,7 +56,7 @@ use Rattle.ob_table.specs.Statements.{resolved_block, no_otherwise, otherwise_bl
 use Rattle.ob_source_meaning.specs.Statements.{run_all, after}
 use Rattle.ob_heap_spec.specs.Worlds.{if_right}
 use Rattle.ob_lower_spec.specs.Points.{inside}
-use Rattle.ob_lower_spec.specs.StatementTerms.{LowersStatements, LowersBlock, LowersOtherwise, closing, join_of}
+use Rattle.ob_lower_spec.specs.StatementTerms.{LowersStatements, LowersBlock, LowersOtherwise, closing}
 
 -- the point after a statement, whatever the run
 pub record PointAfter (params : ℕ) (base : List ℕ) (p q : Point) (ws : made.LocalKinds) (xs : Statements) : Type 0 where

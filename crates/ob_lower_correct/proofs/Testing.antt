@@ -27,8 +27,8 @@ use Rattle.ob_silica_places.specs.Places.{slot, field, location_of, located}
 use Rattle.ob_silica_steps.specs.Configurations.{SilicaProgram, SlotCells, Rest, runs, Configuration, goes}
 use Rattle.ob_silica_steps.specs.Here.{Here, if_there, read, set_permission}
 use Rattle.ob_silica_steps.specs.Steps.{step}
-use Rattle.ob_lower_spec.specs.Points.{around, locals_of, slot_of, place_seen, Point, passed}
-use Rattle.ob_lower_spec.specs.ExpressionTerms.{operand}
+use Rattle.ob_lower_spec.specs.Forms.{locals_of, slot_of, place_seen, operand}
+use Rattle.ob_lower_spec.specs.Points.{around, Point, passed}
 use Rattle.ob_lower_spec.specs.GivenTerms.{with_unit}
 use Rattle.ob_lower_spec.specs.StatementTerms.{IsNamed}
 use Rattle.ob_lower_correct.proofs.Slots.{Used, Within, within_self}

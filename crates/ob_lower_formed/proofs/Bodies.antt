@@ -17,9 +17,9 @@ use Rattle.ob_silica.specs.Terms.{SilicaTerms, no_terms, one_term, then_terms, r
 use Rattle.ob_silica_formed.specs.Holdings.{SlotContent, held, Holdings, params_held, held_at_start, after_terms, terms_end, Each}
 use Rattle.ob_silica_formed.specs.Points.{NamesWhatIsThere, HasKinds, TakesResult, LeavesParams, LosesNoReference, NamesBody, ReturnsResult, IsReturnedAs, NoneFollows}
 use Rattle.ob_silica_formed.specs.WellFormedTerms.{AreWellFormed}
-use Rattle.ob_lower_spec.specs.Points.{locals_of, slot_of}
+use Rattle.ob_lower_spec.specs.Forms.{locals_of, slot_of, params_from}
 use Rattle.ob_lower_spec.specs.StatementTerms.{LowersBlock}
-use Rattle.ob_lower_spec.specs.BodyTerms.{params_from, slots_below, beginning, LowersWith}
+use Rattle.ob_lower_spec.specs.BodyTerms.{slots_below, beginning, LowersWith}
 use Rattle.ob_lower_formed.proofs.Sets.{among, by_bool, nat_same}
 use Rattle.ob_lower_formed.proofs.Ways.{IsWellFormedForm, each_map, end_then}
 use Rattle.ob_lower_formed.proofs.Effects.{leaves_of}

@@ -9,7 +9,7 @@ use Rattle.ob_silica.specs.Terms.{SilicaForm, test_form, if_form, drop_form, Sil
 use Rattle.ob_silica.specs.declared.place.Operand.{Operand}
 use Rattle.ob_silica_formed.specs.Holdings.{SlotContent, held, Holdings, with_slot, with_slot_if, written, slot_written, kind_written, after_form, after_terms, form_ends, terms_end, kinds_equal, common_kind, either_way, joined, Each, EachWithin}
 use Rattle.ob_silica_formed.specs.Points.{NoneFollows, NoneFollowsWithin}
-use Rattle.ob_lower_spec.specs.Points.{drops}
+use Rattle.ob_lower_spec.specs.Forms.{drops}
 use Rattle.ob_lower_formed.proofs.Sets.{among, by_bool, nat_same, apart_parts, Within, apart_within}
 use Rattle.ob_lower_formed.proofs.Ways.{IsWellFormedForm, after_then, each_then, end_then, follows_then}
 

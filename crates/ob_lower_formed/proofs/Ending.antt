@@ -23,10 +23,11 @@ use Rattle.ob_silica.specs.declared.place.Operand.{Operand}
 use Rattle.ob_silica.specs.declared.place.Place.TheVariants.{Slot}
 use Rattle.ob_silica_formed.specs.Holdings.{SlotContent, held, Holdings, kind_of_place, kind_of_operand, after_terms, terms_end}
 use Rattle.ob_silica_formed.specs.Points.{IsPlace, HasKind, IsReturnedAs}
-use Rattle.ob_lower_spec.specs.Points.{in_use, references, drops, drops_of, locals_of, Point, passed, around}
-use Rattle.ob_lower_spec.specs.ExpressionTerms.{Lowered, LoweredCall, slot_operand, kind_around, LowersExpression, LowersPlainCall, LowersDiscarded}
+use Rattle.ob_lower_spec.specs.Forms.{drops, locals_of, slot_operand, join_of}
+use Rattle.ob_lower_spec.specs.Points.{in_use, references, drops_of, Point, passed, around}
+use Rattle.ob_lower_spec.specs.ExpressionTerms.{Lowered, LoweredCall, kind_around, LowersExpression, LowersPlainCall, LowersDiscarded}
 use Rattle.ob_lower_spec.specs.GivenTerms.{with_unit}
-use Rattle.ob_lower_spec.specs.StatementTerms.{IsNamed, LowersReturn, LowersRevert, join_of}
+use Rattle.ob_lower_spec.specs.StatementTerms.{IsNamed, LowersReturn, LowersRevert}
 use Rattle.ob_lower_formed.proofs.Sets.{among, or_split, free_among, nat_same, within_self, within_right, slots_made}
 use Rattle.ob_lower_formed.proofs.Ways.{IsWellFormedForm, after_then, end_then}
 use Rattle.ob_lower_formed.proofs.Effects.{set_at, Runs, Leaves, runs_of, then_dropped, Plain, set_leaves, set_after, quiet_leaves, drops_leave, if_runs, test_runs}

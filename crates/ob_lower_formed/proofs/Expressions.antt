@@ -31,8 +31,9 @@ use Rattle.ob_silica.specs.declared.term.SilicaOperator.TheVariants.{Unary, Bina
 use Rattle.ob_silica_places.specs.Known.{kind_of_operator}
 use Rattle.ob_silica_formed.specs.Holdings.{SlotContent, held, Holdings, kind_of_place, kind_of_operand, slot_of_place, slot_written, kind_written, kind_of_result, after_terms, terms_end, joined}
 use Rattle.ob_silica_formed.specs.Points.{IsConstant, IsPlace, HasKind, HaveOperands, ArePassed}
-use Rattle.ob_lower_spec.specs.Points.{IsFree, Temporary, in_use, references, SlotVariable, locals_of, slot_of, place_seen, AroundExpression}
-use Rattle.ob_lower_spec.specs.ExpressionTerms.{Lowered, LoweredArguments, operand, into, LowersName, IsCall, calls_this, calls_other, copied_into, logical_into, LowersExpression, LowersArguments}
+use Rattle.ob_lower_spec.specs.Forms.{SlotVariable, locals_of, slot_of, place_seen, AroundExpression, operand}
+use Rattle.ob_lower_spec.specs.Points.{IsFree, Temporary, in_use, references}
+use Rattle.ob_lower_spec.specs.ExpressionTerms.{Lowered, LoweredArguments, into, LowersName, IsCall, calls_this, calls_other, copied_into, logical_into, LowersExpression, LowersArguments}
 use Rattle.ob_lower_formed.proofs.Sets.{among, free_among, among_left, among_split, apart_both, slots_made, made_append, references_append, Within, within_self, within_left, within_right, within_first, within_second}
 use Rattle.ob_lower_formed.proofs.Ways.{IsWellFormedForm, after_then}
 use Rattle.ob_lower_formed.proofs.Effects.{Quiet, kept_self, after_on, set_at, held_by, either_of, Leaves, runs_of, leaves_of, none_leaves, leaves_more, then_leaves, Plain, set_leaves, set_after, if_runs}

@@ -18,9 +18,10 @@ use Rattle.ob_silica.specs.declared.place.Operand.{Operand}
 use Rattle.ob_silica.specs.declared.place.Place.{Place}
 use Rattle.ob_silica.specs.declared.place.Place.TheVariants.{This, Slot, Field}
 use Rattle.ob_flow_spec.specs.Numbered.{NamesStates, AllNameStates}
-use Rattle.ob_lower_spec.specs.Points.{references, StagedRow, no_row, staged_row, refused_row, Point, AroundExpression, refused_at, drops, drops_of}
+use Rattle.ob_lower_spec.specs.Forms.{AroundExpression, refused_at, drops, set_slot, set_place, join_of}
+use Rattle.ob_lower_spec.specs.Points.{references, StagedRow, no_row, staged_row, refused_row, Point, drops_of}
 use Rattle.ob_lower_spec.specs.GivenTerms.{LowersFirstStage, LowersStage}
-use Rattle.ob_lower_spec.specs.StatementTerms.{set_slot, set_place, join_of, LowersReturn, LowersRevert, closing, LowersStatement, LowersStatements, LowersBlock, LowersOtherwise}
+use Rattle.ob_lower_spec.specs.StatementTerms.{LowersReturn, LowersRevert, closing, LowersStatement, LowersStatements, LowersBlock, LowersOtherwise}
 use Rattle.ob_lower_formed.proofs.NamedTerms.{both, dropped, of_expression, of_discarded, of_given}
 
 -- each contract of the table that a body is in has few states

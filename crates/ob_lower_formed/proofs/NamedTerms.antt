@@ -11,7 +11,8 @@ use Rattle.ob_table.specs.declared.seen.SeenAt.{SeenAt}
 use Rattle.ob_silica.specs.Terms.{SilicaForm, SilicaTerms, no_terms, and_term, one_term, then_terms}
 use Rattle.ob_silica.specs.declared.place.Operand.{Operand}
 use Rattle.ob_flow_spec.specs.Numbered.{NamesStates, AllNameStates}
-use Rattle.ob_lower_spec.specs.Points.{AroundExpression, in_use, drops}
+use Rattle.ob_lower_spec.specs.Forms.{AroundExpression, drops}
+use Rattle.ob_lower_spec.specs.Points.{in_use}
 use Rattle.ob_lower_spec.specs.ExpressionTerms.{Lowered, LoweredArguments, LoweredCall, LowersName, IsCall, calls_this, calls_other, LowersExpression, LowersArguments, LowersDiscarded}
 use Rattle.ob_lower_spec.specs.GivenTerms.{LoweredGiven, LowersGiven}
 

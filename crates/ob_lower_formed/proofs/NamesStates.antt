@@ -12,7 +12,8 @@ use Rattle.ob_table_spec.specs.Conditions.{IsContract, IsClassTable}
 use Rattle.ob_table_spec.specs.WellFormed.{IsBodyOf, frame_of, params_from, one_ends_there}
 use Rattle.ob_silica.specs.Terms.{SilicaBody, no_terms, one_term, return_form}
 use Rattle.ob_flow_spec.specs.Numbered.{AllNameStates}
-use Rattle.ob_lower_spec.specs.BodyTerms.{LowersWith, ending, beginning}
+use Rattle.ob_lower_spec.specs.Forms.{ending}
+use Rattle.ob_lower_spec.specs.BodyTerms.{LowersWith, beginning}
 use Rattle.ob_lower_formed.specs.NamesStates.{LoweredTermsNameStates}
 use Rattle.ob_lower_formed.proofs.NamedTerms.{both}
 use Rattle.ob_lower_formed.proofs.NamedStatements.{Few, of_block}

@@ -14,7 +14,8 @@ use Rattle.ob_silica.specs.declared.place.Place.{Place}
 use Rattle.ob_silica.specs.declared.place.Place.TheVariants.{This, Slot, Field}
 use Rattle.ob_silica_formed.specs.Holdings.{SlotContent, held, Holdings, kind_of_place, slot_written, kind_written, after_terms}
 use Rattle.ob_silica_formed.specs.Points.{IsPlace, ArePlaces, AreFields, HasKind, ArePassed, AreServed}
-use Rattle.ob_lower_spec.specs.Points.{Temporary, in_use, references, SlotVariable, locals_of, slot_of}
+use Rattle.ob_lower_spec.specs.Forms.{SlotVariable, locals_of, slot_of}
+use Rattle.ob_lower_spec.specs.Points.{Temporary, in_use, references}
 use Rattle.ob_lower_spec.specs.ExpressionTerms.{Lowered, temporary, into}
 use Rattle.ob_lower_formed.proofs.Sets.{among, by_bool, nat_same, among_left, among_right, apart_parts, apart_both, slots_made, made_append, references_append, Within, within_on, within_left, within_right, apart_within, references_within}
 use Rattle.ob_lower_formed.proofs.Ways.{after_then}

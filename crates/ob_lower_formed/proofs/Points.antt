@@ -10,7 +10,8 @@ use Rattle.ob_silica.specs.Terms.{SilicaForm, unit_form, SilicaTerms, one_term, 
 use Rattle.ob_silica.specs.declared.place.Given.{Given}
 use Rattle.ob_silica_formed.specs.Holdings.{Holdings, after_terms, terms_end, Each}
 use Rattle.ob_silica_formed.specs.Points.{NoneFollows}
-use Rattle.ob_lower_spec.specs.Points.{Temporary, references, SlotVariable, locals_of, slot_of, StagedRow, no_row, staged_row, refused_row, refused_at, given_before, made_before, Point, passed, declares, used_at}
+use Rattle.ob_lower_spec.specs.Forms.{SlotVariable, locals_of, slot_of, refused_at}
+use Rattle.ob_lower_spec.specs.Points.{Temporary, references, StagedRow, no_row, staged_row, refused_row, given_before, made_before, Point, passed, declares, used_at}
 use Rattle.ob_lower_spec.specs.GivenTerms.{with_unit}
 use Rattle.ob_lower_spec.specs.StatementTerms.{ended_by}
 use Rattle.ob_lower_formed.proofs.Sets.{among, or_split, Within, within_self, within_on}

@@ -19,10 +19,11 @@ use Rattle.ob_silica.specs.declared.place.Place.{Place}
 use Rattle.ob_silica.specs.declared.place.Place.TheVariants.{Slot, Field}
 use Rattle.ob_silica_formed.specs.Holdings.{SlotContent, held, Holdings, with_slot, kind_of_place, slot_written, kind_written, after_terms}
 use Rattle.ob_silica_formed.specs.Points.{HasKind}
-use Rattle.ob_lower_spec.specs.Points.{IsFree, references, drops, SlotVariable, locals_of, slot_of, place_seen, Point, passed, declares, around}
+use Rattle.ob_lower_spec.specs.Forms.{drops, SlotVariable, locals_of, slot_of, place_seen, set_slot, set_place}
+use Rattle.ob_lower_spec.specs.Points.{IsFree, references, Point, passed, declares, around}
 use Rattle.ob_lower_spec.specs.ExpressionTerms.{Lowered, LowersExpression}
 use Rattle.ob_lower_spec.specs.GivenTerms.{with_unit}
-use Rattle.ob_lower_spec.specs.StatementTerms.{ended_by, set_slot, set_place}
+use Rattle.ob_lower_spec.specs.StatementTerms.{ended_by}
 use Rattle.ob_lower_formed.proofs.Sets.{among, by_bool, or_split, free_among, nat_same, apart_both, Within, within_self}
 use Rattle.ob_lower_formed.proofs.Ways.{after_then}
 use Rattle.ob_lower_formed.proofs.Effects.{Kept, Quiet, After, kept_self, kept_on, set_at, if_refers, Leaves, runs_of, then_leaves, Plain, set_leaves, set_after, quiet_leaves, drops_leave}

@@ -12,9 +12,10 @@ use Rattle.ob_table_spec.specs.WellFormed.{StaticFrame, LocalKinds, local_kind, 
 use Rattle.ob_silica.specs.Terms.{SilicaForm, bad_row_form, change_form, SilicaTerms, no_terms, one_term}
 use Rattle.ob_silica.specs.declared.place.Given.{Given}
 use Rattle.ob_silica_formed.specs.Holdings.{Holdings, after_terms}
-use Rattle.ob_lower_spec.specs.Points.{Temporary, in_use, references, SlotVariable, locals_of, StagedRow, no_row, staged_row, refused_row, refused_at, span_of_terms, given_before, made_before, Point, with_row, passed, used_at, around}
+use Rattle.ob_lower_spec.specs.Forms.{SlotVariable, locals_of, refused_at, given_from}
+use Rattle.ob_lower_spec.specs.Points.{Temporary, in_use, references, StagedRow, no_row, staged_row, refused_row, span_of_terms, given_before, made_before, Point, with_row, passed, used_at, around}
 use Rattle.ob_lower_spec.specs.ExpressionTerms.{Lowered, LowersExpression}
-use Rattle.ob_lower_spec.specs.GivenTerms.{with_unit, LoweredGiven, given_from, LowersGiven, LowersFirstStage, LowersStage}
+use Rattle.ob_lower_spec.specs.GivenTerms.{with_unit, LoweredGiven, LowersGiven, LowersFirstStage, LowersStage}
 use Rattle.ob_lower_spec.specs.StatementTerms.{ended_by}
 use Rattle.ob_lower_formed.proofs.Sets.{among, nat_same, apart_parts, apart_both, references_append, Within, within_on, within_right, within_first, within_second, slots_made}
 use Rattle.ob_lower_formed.proofs.Ways.{after_then}

@@ -7,7 +7,8 @@ use Rattle.ob_table_spec.specs.WellFormed.{StaticFrame, LocalKinds, local_kind, 
 use Rattle.ob_silica.specs.Terms.{SilicaTerms, no_terms, and_term, then_terms}
 use Rattle.ob_silica_formed.specs.Holdings.{Holdings, after_terms, terms_end, Each}
 use Rattle.ob_silica_formed.specs.Points.{NoneFollows}
-use Rattle.ob_lower_spec.specs.Points.{drops, references, locals_of, StagedRow, no_row, staged_row, refused_row, refused_at, made_before, Point, inside}
+use Rattle.ob_lower_spec.specs.Forms.{drops, locals_of, refused_at}
+use Rattle.ob_lower_spec.specs.Points.{references, StagedRow, no_row, staged_row, refused_row, made_before, Point, inside}
 use Rattle.ob_lower_spec.specs.StatementTerms.{LowersStatement, LowersStatements, LowersBlock, LowersOtherwise}
 use Rattle.ob_lower_formed.proofs.Sets.{among, by_bool, within_self}
 use Rattle.ob_lower_formed.proofs.Ways.{IsWellFormedForm, after_then, each_then, end_then, follows_then}

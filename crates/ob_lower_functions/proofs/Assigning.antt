@@ -14,10 +14,10 @@ use Rattle.ob_silica.specs.Slots.{slots_of_form, slots_of_operand, slots_of_plac
 use Rattle.ob_silica.specs.declared.place.Operand.{Operand}
 use Rattle.ob_silica.specs.declared.place.Place.{Place}
 use Rattle.ob_silica.specs.declared.place.Place.TheVariants.{This, Slot, Field}
-use Rattle.ob_lower_spec.specs.Points.{locals_of, place_seen, StagedRow}
-use Rattle.ob_lower_spec.specs.ExpressionTerms.{operand}
+use Rattle.ob_lower_spec.specs.Forms.{locals_of, place_seen, operand, set_slot, set_place}
+use Rattle.ob_lower_spec.specs.Points.{StagedRow}
 use Rattle.ob_lower_spec.specs.GivenTerms.{with_unit}
-use Rattle.ob_lower_spec.specs.StatementTerms.{ended_by, set_slot, set_place}
+use Rattle.ob_lower_spec.specs.StatementTerms.{ended_by}
 use Rattle.ob_lower_spec.specs.SlotNeeds.{needs, Staged}
 use Rattle.ob_lower_functions.specs.Progress.{◌>>=◌, found, slots_from, Progress, with_term, ended}
 use Rattle.ob_lower_functions.specs.ExpressionCode.{value_code}

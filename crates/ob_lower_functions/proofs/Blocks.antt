@@ -4,7 +4,8 @@ use Rattle.ob_base.specs.Limits.{most_slots}
 use Rattle.ob_table.specs.Statements.{Statement, resolved_declare, resolved_assign, resolved_stage, resolved_change, resolved_discard, resolved_test, resolved_if, resolved_return, resolved_revert, resolved_disown, resolved_assert, Block, resolved_block, Otherwise, no_otherwise, otherwise_block, Statements, no_statements, and_statement}
 use Rattle.ob_table_spec.specs.WellFormed.{StaticFrame}
 use Rattle.ob_silica.specs.Terms.{SilicaTerms, no_terms}
-use Rattle.ob_lower_spec.specs.Points.{locals_of, StagedRow, no_row, Point, inside}
+use Rattle.ob_lower_spec.specs.Forms.{locals_of}
+use Rattle.ob_lower_spec.specs.Points.{StagedRow, no_row, Point, inside}
 use Rattle.ob_lower_spec.specs.SlotNeeds.{needs_of_block, needs_of_otherwise, needs_of_statement, needs_of_statements, Staged, none_staged}
 use Rattle.ob_lower_functions.specs.StatementCode.{BlockPosition, settled, statement_code, statements_code, block_code, otherwise_code}
 use Rattle.ob_lower_functions.proofs.Places.{Above, AllBelow}

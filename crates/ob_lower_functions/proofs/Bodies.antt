@@ -12,8 +12,8 @@ use Rattle.ob_table.specs.declared.contract.Signature.{Signature}
 use Rattle.ob_table_spec.specs.WellFormed.{frame_of, one_ends_there}
 use Rattle.ob_silica.specs.Terms.{SilicaTerms, no_terms, one_term, then_terms, return_form, SilicaBody}
 use Rattle.ob_silica.specs.Slots.{slots_of_terms}
-use Rattle.ob_lower_spec.specs.Points.{locals_of}
-use Rattle.ob_lower_spec.specs.BodyTerms.{params_from, slots_below, beginning, ending, LowersWith}
+use Rattle.ob_lower_spec.specs.Forms.{locals_of, params_from, ending}
+use Rattle.ob_lower_spec.specs.BodyTerms.{slots_below, beginning, LowersWith}
 use Rattle.ob_lower_spec.specs.SlotNeeds.{none_staged, needs_of_statements, needs_of_body, first_past}
 use Rattle.ob_lower_functions.specs.Progress.{Stop, full, not_well_formed, ◌>>=◌, found}
 use Rattle.ob_lower_functions.specs.StatementCode.{block_code}

@@ -11,9 +11,10 @@ use Rattle.ob_table_spec.specs.WellFormed.{StaticFrame, one_ends_there}
 use Rattle.ob_silica.specs.Terms.{unit_form, test_form, if_form, SilicaTerms, no_terms, one_term, then_terms}
 use Rattle.ob_silica.specs.Slots.{slots_of_terms, slots_of_operand}
 use Rattle.ob_silica.specs.declared.place.Operand.{Operand}
-use Rattle.ob_lower_spec.specs.Points.{references, drops, drops_of, locals_of, StagedRow, no_row, Point, inside}
+use Rattle.ob_lower_spec.specs.Forms.{drops, locals_of, join_of}
+use Rattle.ob_lower_spec.specs.Points.{references, drops_of, StagedRow, no_row, Point, inside}
 use Rattle.ob_lower_spec.specs.GivenTerms.{with_unit}
-use Rattle.ob_lower_spec.specs.StatementTerms.{join_of, LowersStatements, LowersBlock, LowersOtherwise}
+use Rattle.ob_lower_spec.specs.StatementTerms.{LowersStatements, LowersBlock, LowersOtherwise}
 use Rattle.ob_lower_spec.specs.SlotNeeds.{needs, needs_of_block, needs_of_otherwise, needs_of_statement, needs_of_statements, Staged, visible_after, in_use_after, staged_after}
 use Rattle.ob_lower_functions.specs.Progress.{Stop, ◌>>=◌, slots_from, Progress, with_term}
 use Rattle.ob_lower_functions.specs.ExpressionCode.{value_code}

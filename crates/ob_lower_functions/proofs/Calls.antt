@@ -12,8 +12,9 @@ use Rattle.ob_table_spec.specs.WellFormed.{is_reference}
 use Rattle.ob_silica.specs.Terms.{new_form, no_terms, one_term, then_terms}
 use Rattle.ob_silica.specs.Slots.{slots_of_form, slots_of_operand, slots_of_operands, slots_of_place, slots_of_result}
 use Rattle.ob_silica.specs.declared.place.Operand.{Operand}
-use Rattle.ob_lower_spec.specs.Points.{in_use, AroundExpression, locals_of, place_seen}
-use Rattle.ob_lower_spec.specs.ExpressionTerms.{operand, kind_around, into, IsCall, calls_this, calls_other}
+use Rattle.ob_lower_spec.specs.Forms.{AroundExpression, locals_of, place_seen, operand}
+use Rattle.ob_lower_spec.specs.Points.{in_use}
+use Rattle.ob_lower_spec.specs.ExpressionTerms.{kind_around, into, IsCall, calls_this, calls_other}
 use Rattle.ob_lower_spec.specs.SlotNeeds.{one_more, temporaries, temporaries_of_all, needs, needs_of_all}
 use Rattle.ob_lower_functions.specs.Progress.{Stop, ◌>>=◌, found, Progress, with_term, into_slot}
 use Rattle.ob_lower_functions.specs.ExpressionCode.{value, receiver_code, form_of_call, kind_of_result, call_code}

@@ -10,10 +10,11 @@ use Rattle.ob_silica.specs.Terms.{unit_form, const_form, return_form, revert_for
 use Rattle.ob_silica.specs.Slots.{slots_of_terms, slots_of_operand}
 use Rattle.ob_silica.specs.declared.place.Constant.TheVariants.{Text as TextConstant}
 use Rattle.ob_silica.specs.declared.place.Operand.{Operand}
-use Rattle.ob_lower_spec.specs.Points.{locals_of, StagedRow, no_row, drops, drops_of, references}
-use Rattle.ob_lower_spec.specs.ExpressionTerms.{slot_operand, LowersDiscarded}
+use Rattle.ob_lower_spec.specs.Forms.{locals_of, drops, slot_operand, set_slot}
+use Rattle.ob_lower_spec.specs.Points.{StagedRow, no_row, drops_of, references}
+use Rattle.ob_lower_spec.specs.ExpressionTerms.{LowersDiscarded}
 use Rattle.ob_lower_spec.specs.GivenTerms.{with_unit}
-use Rattle.ob_lower_spec.specs.StatementTerms.{ended_by, set_slot}
+use Rattle.ob_lower_spec.specs.StatementTerms.{ended_by}
 use Rattle.ob_lower_spec.specs.SlotNeeds.{one_more, needs, needs_of_value, needs_of_revert, Staged, none_staged}
 use Rattle.ob_lower_functions.specs.Progress.{Stop, ◌>>=◌, Slots, slots_from, next_slot, Progress, with_term, ended}
 use Rattle.ob_lower_functions.specs.ExpressionCode.{expression_code, value_code}

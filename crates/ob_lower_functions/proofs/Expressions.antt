@@ -6,7 +6,7 @@ use Rattle.ob_silica.specs.Terms.{const_form}
 use Rattle.ob_silica.specs.declared.term.SilicaOperator.TheVariants.{Binary}
 use Rattle.ob_silica.specs.declared.place.Constant.TheVariants.{Int, Bool as BoolConstant, Text}
 use Rattle.ob_silica.specs.declared.place.Operand.{Operand}
-use Rattle.ob_lower_spec.specs.Points.{AroundExpression, locals_of}
+use Rattle.ob_lower_spec.specs.Forms.{AroundExpression, locals_of}
 use Rattle.ob_lower_spec.specs.SlotNeeds.{one_more, needs, needs_of_all}
 use Rattle.ob_lower_functions.specs.Progress.{Progress, ◌>>=◌}
 use Rattle.ob_lower_functions.specs.ExpressionCode.{expression_code, arguments_code, constant_code, value_code, valued}

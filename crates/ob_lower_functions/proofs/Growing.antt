@@ -5,8 +5,9 @@ use Rattle.ob_base.specs.declared.fault.Span.{Span}
 use Rattle.ob_silica.specs.Terms.{SilicaForm, SilicaTerms, no_terms, one_term, then_terms}
 use Rattle.ob_silica.specs.Slots.{slots_of_terms, slots_of_form}
 use Rattle.ob_silica.specs.declared.place.Operand.{Operand}
-use Rattle.ob_lower_spec.specs.Points.{Temporary, in_use, references, IsFree, AroundExpression}
-use Rattle.ob_lower_spec.specs.ExpressionTerms.{temporary, slot_operand}
+use Rattle.ob_lower_spec.specs.Forms.{AroundExpression, slot_operand}
+use Rattle.ob_lower_spec.specs.Points.{Temporary, in_use, references, IsFree}
+use Rattle.ob_lower_spec.specs.ExpressionTerms.{temporary}
 use Rattle.ob_lower_spec.specs.SlotNeeds.{one_more}
 use Rattle.ob_lower_functions.specs.Progress.{Slots, next_slot, kept, Progress, with_term, into_slot}
 use Rattle.ob_lower_functions.proofs.Places.{Above, above_free, above_taken, above_append}

@@ -13,7 +13,7 @@ use Rattle.ob_silica.specs.Terms.{SilicaForm}
 use Rattle.ob_silica.specs.declared.place.Operand.{Operand}
 use Rattle.ob_silica.specs.declared.place.Place.{Place}
 use Rattle.ob_silica.specs.declared.place.Place.TheVariants.{Slot}
-use Rattle.ob_lower_spec.specs.Points.{AroundExpression, SlotVariable, locals_of, slot_of, place_seen}
+use Rattle.ob_lower_spec.specs.Forms.{AroundExpression, SlotVariable, locals_of, slot_of, place_seen}
 use Rattle.ob_lower_functions.specs.Progress.{Stop, full, not_well_formed, ◌>>=◌, found, Slots, next_slot, Progress, into_slot}
 use Rattle.ob_lower_functions.specs.ExpressionCode.{valued, value}
 use Rattle.ob_lower_functions.proofs.Places.{none_some}

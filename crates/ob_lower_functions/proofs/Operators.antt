@@ -12,8 +12,9 @@ use Rattle.ob_silica.specs.Slots.{slots_of_form, slots_of_terms, slots_of_operan
 use Rattle.ob_silica.specs.declared.term.SilicaOperator.{SilicaOperator}
 use Rattle.ob_silica.specs.declared.term.SilicaOperator.TheVariants.{Unary}
 use Rattle.ob_silica.specs.declared.place.Operand.{Operand}
-use Rattle.ob_lower_spec.specs.Points.{IsFree, Temporary, in_use, AroundExpression, locals_of}
-use Rattle.ob_lower_spec.specs.ExpressionTerms.{Lowered, operand, kind_around, into, copied_into, logical_form, logical_into, LowersExpression}
+use Rattle.ob_lower_spec.specs.Forms.{AroundExpression, locals_of, operand, logical_form}
+use Rattle.ob_lower_spec.specs.Points.{IsFree, Temporary, in_use}
+use Rattle.ob_lower_spec.specs.ExpressionTerms.{Lowered, kind_around, into, copied_into, logical_into, LowersExpression}
 use Rattle.ob_lower_spec.specs.SlotNeeds.{one_more, temporaries, needs}
 use Rattle.ob_lower_functions.specs.Progress.{Stop, ◌>>=◌, Progress, with_term, into_slot}
 use Rattle.ob_lower_functions.specs.ExpressionCode.{value, branching, copied_code, logical_code}

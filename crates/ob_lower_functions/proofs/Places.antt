@@ -9,8 +9,9 @@ use Rattle.ob_table_spec.specs.WellFormed.{kind_of_resolved}
 use Rattle.ob_silica.specs.Slots.{slots_of_place}
 use Rattle.ob_silica.specs.declared.place.Place.{Place}
 use Rattle.ob_silica.specs.declared.place.Place.TheVariants.{Slot}
-use Rattle.ob_lower_spec.specs.Points.{IsFree, Temporary, in_use, SlotVariable, slot_of, place_seen, locals_of}
-use Rattle.ob_lower_spec.specs.BodyTerms.{slots_below, params_from}
+use Rattle.ob_lower_spec.specs.Forms.{SlotVariable, slot_of, place_seen, locals_of, params_from}
+use Rattle.ob_lower_spec.specs.Points.{IsFree, Temporary, in_use}
+use Rattle.ob_lower_spec.specs.BodyTerms.{slots_below}
 
 -- Free slots.
 

@@ -7,7 +7,8 @@ use Rattle.ob_table_spec.specs.WellFormed.{StaticFrame, LocalKinds}
 use Rattle.ob_silica.specs.Terms.{SilicaForm, unit_form, SilicaTerms, and_term, one_term, then_terms}
 use Rattle.ob_silica.specs.Slots.{slots_of_terms, slots_of_form, slots_of_given}
 use Rattle.ob_silica.specs.declared.place.Given.{Given}
-use Rattle.ob_lower_spec.specs.Points.{Temporary, in_use, references, drops, drops_of, locals_of, StagedRow, no_row, staged_row, refused_row, Point, passed}
+use Rattle.ob_lower_spec.specs.Forms.{drops, locals_of}
+use Rattle.ob_lower_spec.specs.Points.{Temporary, in_use, references, drops_of, StagedRow, no_row, staged_row, refused_row, Point, passed}
 use Rattle.ob_lower_spec.specs.GivenTerms.{with_unit}
 use Rattle.ob_lower_spec.specs.StatementTerms.{ended_by, LowersStatement}
 use Rattle.ob_lower_spec.specs.SlotNeeds.{SlotNeed, Staged, none_staged, row_staged, row_refused, visible_after, in_use_after, staged_after}

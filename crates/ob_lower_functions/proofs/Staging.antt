@@ -9,9 +9,10 @@ use Rattle.ob_silica.specs.Terms.{change_form, bad_row_form, SilicaTerms, no_ter
 use Rattle.ob_silica.specs.Slots.{slots_of_given, slots_of_operand}
 use Rattle.ob_silica.specs.declared.place.Given.{Given}
 use Rattle.ob_silica.specs.declared.place.Operand.{Operand}
-use Rattle.ob_lower_spec.specs.Points.{Temporary, in_use, references, locals_of, refused_at, StagedRow, no_row, staged_row, refused_row, passed, with_row, AroundExpression}
+use Rattle.ob_lower_spec.specs.Forms.{locals_of, refused_at, AroundExpression, given_from}
+use Rattle.ob_lower_spec.specs.Points.{Temporary, in_use, references, StagedRow, no_row, staged_row, refused_row, passed, with_row}
 use Rattle.ob_lower_spec.specs.ExpressionTerms.{Lowered, LowersExpression}
-use Rattle.ob_lower_spec.specs.GivenTerms.{with_unit, LoweredGiven, given_from, LowersGiven, LowersStage}
+use Rattle.ob_lower_spec.specs.GivenTerms.{with_unit, LoweredGiven, LowersGiven, LowersStage}
 use Rattle.ob_lower_spec.specs.StatementTerms.{ended_by, LowersStatement}
 use Rattle.ob_lower_spec.specs.SlotNeeds.{temporaries, needs, needs_of_given, Staged, none_staged, row_staged, row_refused, kept_staged, staged_with, needs_of_staged}
 use Rattle.ob_lower_functions.specs.Progress.{◌>>=◌, Slots, slots_from, Progress, with_term, ended}

@@ -7,7 +7,8 @@ use Rattle.ob_silica.specs.Terms.{SilicaForm, SilicaTerms, no_terms, and_term, o
 use Rattle.ob_silica.specs.Slots.{slots_of_terms, slots_of_form, slots_of_operands, slots_of_given}
 use Rattle.ob_silica.specs.declared.place.Operand.{Operand}
 use Rattle.ob_silica.specs.declared.place.Given.{Given}
-use Rattle.ob_lower_spec.specs.Points.{Temporary, drops, references}
+use Rattle.ob_lower_spec.specs.Forms.{drops}
+use Rattle.ob_lower_spec.specs.Points.{Temporary, references}
 use Rattle.ob_lower_functions.specs.StatementCode.{slots_between}
 
 pub then_none : (ts : SilicaTerms) → then_terms ts no_terms ≡ ts

@@ -13,8 +13,9 @@ use Rattle.ob_silica.specs.Slots.{slots_of_form, slots_of_operand, slots_of_oper
 use Rattle.ob_silica.specs.declared.place.Operand.{Operand}
 use Rattle.ob_silica.specs.declared.place.Place.{Place}
 use Rattle.ob_silica.specs.declared.place.Place.TheVariants.{Slot}
-use Rattle.ob_lower_spec.specs.Points.{IsFree, Temporary, in_use, AroundExpression, locals_of, place_seen}
-use Rattle.ob_lower_spec.specs.ExpressionTerms.{Lowered, LoweredArguments, LoweredCall, operand, kind_around, temporary, into, LowersName, LowersExpression, LowersArguments, LowersPlainCall}
+use Rattle.ob_lower_spec.specs.Forms.{AroundExpression, locals_of, place_seen, operand}
+use Rattle.ob_lower_spec.specs.Points.{IsFree, Temporary, in_use}
+use Rattle.ob_lower_spec.specs.ExpressionTerms.{Lowered, LoweredArguments, LoweredCall, kind_around, temporary, into, LowersName, LowersExpression, LowersArguments, LowersPlainCall}
 use Rattle.ob_lower_spec.specs.SlotNeeds.{SlotNeed, one_more, temporaries, temporaries_of_all, names_reference, needs}
 use Rattle.ob_lower_functions.specs.Progress.{Stop, ◌>>=◌, found, Progress, into_slot}
 use Rattle.ob_lower_functions.specs.ExpressionCode.{valued, value, name_code, seen_code}

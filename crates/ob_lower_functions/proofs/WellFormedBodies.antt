@@ -12,7 +12,7 @@ use Rattle.ob_table.specs.declared.contract.Signature.{Signature}
 use Rattle.ob_table_spec.specs.WellFormed as made
 use Rattle.ob_table_spec.specs.WellFormed.{local_kind, frame_of, IsBodyOf}
 use Rattle.ob_silica.specs.Terms.{then_terms, SilicaBody}
-use Rattle.ob_lower_spec.specs.BodyTerms.{params_from, ending}
+use Rattle.ob_lower_spec.specs.Forms.{params_from, ending}
 use Rattle.ob_lower_functions.specs.Progress.{Stop, full, not_well_formed, ◌>>=◌, found}
 use Rattle.ob_lower_functions.specs.StatementCode.{block_code}
 use Rattle.ob_lower_functions.specs.BodyCode.{first_position, body_of_terms, code_with, body_code}

@@ -18,8 +18,7 @@ use Rattle.ob_silica.specs.Terms.{op_form, copy_form, new_form}
 use Rattle.ob_silica.specs.declared.term.SilicaOperator.TheVariants.{Unary, Binary}
 use Rattle.ob_silica.specs.declared.place.Operand.{Operand}
 use Rattle.ob_silica.specs.declared.place.Place.TheVariants.{Slot}
-use Rattle.ob_lower_spec.specs.Points.{AroundExpression, locals_of, place_seen}
-use Rattle.ob_lower_spec.specs.ExpressionTerms.{operand}
+use Rattle.ob_lower_spec.specs.Forms.{AroundExpression, locals_of, place_seen, operand}
 use Rattle.ob_lower_functions.specs.Progress.{◌>>=◌, found, Progress, into_slot}
 use Rattle.ob_lower_functions.specs.ExpressionCode.{valued, value, name_code, seen_code, branching, receiver_code, form_of_call, kind_of_result, call_code, expression_code, arguments_code, value_code}
 use Rattle.ob_lower_functions.proofs.Naming.{Keeps, keeps_bind, keeps_into, HasOne, keeps_valued, keeps_some, some_and, Names, keeps_place, keeps_kind}

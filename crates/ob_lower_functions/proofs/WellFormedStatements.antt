@@ -15,8 +15,7 @@ use Rattle.ob_table_spec.specs.WellFormed as made
 use Rattle.ob_table_spec.specs.WellFormed.{StaticFrame, LocalKinds, kind_of_seen, kind_of_expression, kind_of_resolved, serves_as, IsWellFormedExpression, IsValue, IsGiven, AreGiven, IsReturned, Refers, RefersTo, IsStatement, AreStatements, IsBlock, IsOtherwise, rest_of_row}
 use Rattle.ob_silica.specs.Terms.{SilicaTerms, no_terms}
 use Rattle.ob_silica.specs.declared.place.Given.{Given}
-use Rattle.ob_lower_spec.specs.Points.{locals_of, place_seen, refused_at}
-use Rattle.ob_lower_spec.specs.GivenTerms.{given_from}
+use Rattle.ob_lower_spec.specs.Forms.{locals_of, place_seen, refused_at, given_from}
 use Rattle.ob_lower_functions.specs.Progress.{Stop, ◌>>=◌, found, Slots, slots_from, next_slot, Progress}
 use Rattle.ob_lower_functions.specs.ExpressionCode.{expression_code, value_code}
 use Rattle.ob_lower_functions.specs.StatementCode.{Waiting, none_waits, row_waits, refused_waits, BlockPosition, settled, around_at, begun, declare_code, assign_code, row_code, first_code, stage_code, given_code, change_after, change_code, discard_code, condition_code, return_code, revert_code, named_code, past_statement, statement_code, statements_code, block_code, otherwise_code}

@@ -9,7 +9,7 @@ use Rattle.ob_table.specs.declared.contract.Signature.{Signature}
 use Rattle.ob_table_spec.specs.WellFormed.{frame_of}
 use Rattle.ob_silica.specs.Terms.{SilicaTerms, then_terms, SilicaBody}
 use Rattle.ob_silica.specs.Slots.{slots_of}
-use Rattle.ob_lower_spec.specs.BodyTerms.{params_from, ending}
+use Rattle.ob_lower_spec.specs.Forms.{params_from, ending}
 use Rattle.ob_lower_functions.specs.Progress.{Stop, not_well_formed, ◌>>=◌, found}
 use Rattle.ob_lower_functions.specs.StatementCode.{BlockPosition, none_waits, block_code}
 

@@ -17,8 +17,7 @@ use Rattle.ob_silica.specs.declared.place.Constant.{Constant}
 use Rattle.ob_silica.specs.declared.place.Constant.TheVariants.{Int, Bool as BoolConstant, Text}
 use Rattle.ob_silica.specs.declared.place.Operand.{Operand}
 use Rattle.ob_silica.specs.declared.place.Place.TheVariants.{Slot}
-use Rattle.ob_lower_spec.specs.Points.{AroundExpression, locals_of, place_seen}
-use Rattle.ob_lower_spec.specs.ExpressionTerms.{operand, logical_form}
+use Rattle.ob_lower_spec.specs.Forms.{AroundExpression, locals_of, place_seen, operand, logical_form}
 use Rattle.ob_lower_functions.specs.Progress.{Stop, ◌>>=◌, found, Progress, with_term, into_slot}
 
 -- the operand of an expression's value, which must have one

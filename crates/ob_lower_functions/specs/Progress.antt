@@ -4,8 +4,7 @@ use Rattle.ob_base.specs.Limits.{most_slots}
 use Rattle.ob_base.specs.declared.fault.Span.{Span}
 use Rattle.ob_silica.specs.Terms.{SilicaForm, SilicaTerms, one_term, then_terms}
 use Rattle.ob_silica.specs.declared.place.Operand.{Operand}
-use Rattle.ob_lower_spec.specs.Points.{AroundExpression, drops}
-use Rattle.ob_lower_spec.specs.ExpressionTerms.{slot_operand}
+use Rattle.ob_lower_spec.specs.Forms.{AroundExpression, drops, slot_operand}
 
 -- Why lowering stops: a slot past the most is needed at this place; or something isn't there that a body names, as a
 -- variable, or the value of a call, which is so in no body that is well-formed.

@@ -11,10 +11,7 @@ use Rattle.ob_silica.specs.Terms.{const_form, unit_form, change_form, test_form,
 use Rattle.ob_silica.specs.declared.place.Constant.TheVariants.{Text}
 use Rattle.ob_silica.specs.declared.place.Given.{Given}
 use Rattle.ob_silica.specs.declared.place.Operand.{Operand}
-use Rattle.ob_lower_spec.specs.Points.{SlotVariable, AroundExpression, locals_of, place_seen, drops, refused_at}
-use Rattle.ob_lower_spec.specs.ExpressionTerms.{operand, slot_operand}
-use Rattle.ob_lower_spec.specs.GivenTerms.{given_from}
-use Rattle.ob_lower_spec.specs.StatementTerms.{set_slot, set_place, join_of}
+use Rattle.ob_lower_spec.specs.Forms.{SlotVariable, AroundExpression, locals_of, place_seen, drops, refused_at, operand, slot_operand, given_from, set_slot, set_place, join_of}
 use Rattle.ob_lower_functions.specs.Progress.{Stop, ◌>>=◌, found, Slots, slots_from, next_slot, Progress, with_term, ended}
 use Rattle.ob_lower_functions.specs.ExpressionCode.{expression_code, value_code}
 

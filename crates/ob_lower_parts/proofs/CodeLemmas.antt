@@ -1,7 +1,7 @@
 -- Terms put one after the other.
 use Rattle.std.proofs.Common.{◌≡◌, ◌≤◌, ◌<◌, ℕ, ◌+◌, zero, suc, List, [], ◌∷◌, ◌++◌, length, drop, get_or, refl, ap, sym, ◌∙◌, arith, add-one, drop-cons}
 use Rattle.ob_base.specs.declared.fault.Span.{Span}
-use Rattle.ob_lower_spec.specs.Points.{drops}
+use Rattle.ob_lower_spec.specs.Forms.{drops}
 use Rattle.ob_lower_functions.specs.Progress.{with_term}
 use Rattle.ob_silica.specs.Terms.{SilicaTerms, no_terms, and_term, then_terms, one_term, drop_form}
 use Rattle.ob_silica.specs.TermsView.{form_of, term_of, terms_of, term_of-fields, term_views}

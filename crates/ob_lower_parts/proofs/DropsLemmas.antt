@@ -4,7 +4,7 @@ use Rattle.std.specs.Prelude.{if◌then◌else◌}
 use Rattle.std.proofs.lemmas.Bool.{le-leb, lt-leb}
 use Rattle.ob_base.specs.declared.fault.Span.{Span}
 use Rattle.ob_silica.specs.Terms.{SilicaTerms, then_terms, one_term, drop_form}
-use Rattle.ob_lower_spec.specs.Points.{drops}
+use Rattle.ob_lower_spec.specs.Forms.{drops}
 use Rattle.ob_lower_functions.specs.Progress.{with_term}
 use Rattle.ob_lower_functions.specs.StatementCode.{slots_between}
 use Rattle.ob_lower_parts.proofs.CodeLemmas.{then_terms-assoc, then_terms-none}

@@ -3,11 +3,10 @@ use Rattle.std.proofs.Common.{◌≡◌, ◌≤◌, ◌<◌, ℕ, ◌+◌, ◌-�
 use Rattle.std.proofs.Math.Seq.{take-suc}
 use Rattle.std.proofs.lemmas.Bool.{eq-eqb, ne_eqb}
 use Rattle.ob_table_spec.specs.WellFormed.{kind_of_resolved}
-use Rattle.ob_lower_spec.specs.BodyTerms.{params_from}
+use Rattle.ob_lower_spec.specs.Forms.{params_from, SlotVariable, locals_of, slot_of}
 use Rattle.ob_table.specs.declared.contract.Param.{Param}
 use Rattle.std.specs.Prelude.{option_map, nat_eq, if◌then◌else◌}
 use Rattle.ob_table_spec.specs.WellFormed.{local_kind}
-use Rattle.ob_lower_spec.specs.Points.{SlotVariable, locals_of, slot_of}
 use Rattle.ob_lower_parts.specs.Visible.{newest_first, variable_of, variable_at}
 use Rattle.ob_lower_parts.specs.declared.variables.SlotVariable as made
 

@@ -5,8 +5,7 @@ use Rattle.ob_table.specs.Expressions.{Expression, resolved_number, resolved_tex
 use Rattle.ob_silica.specs.Terms.{SilicaForm, SilicaTerms, op_form, if_form}
 use Rattle.ob_silica.specs.declared.place.Operand.{Operand}
 use Rattle.ob_silica.specs.declared.term.SilicaOperator.{SilicaOperator}
-use Rattle.ob_lower_spec.specs.Points.{AroundExpression}
-use Rattle.ob_lower_spec.specs.ExpressionTerms.{operand, slot_operand}
+use Rattle.ob_lower_spec.specs.Forms.{AroundExpression, operand, slot_operand}
 use Rattle.ob_lower_functions.specs.Progress.{Stop, ◌>>=◌, Progress, with_term, into_slot}
 use Rattle.ob_lower_functions.specs.ExpressionCode.{value}
 

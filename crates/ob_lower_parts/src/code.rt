@@ -2,7 +2,7 @@
 ghost use Rattle.std.specs.Prelude.{◌≡◌, OnOk};
 ghost use Rattle.ob_silica.specs.Terms.{no_terms, drop_form, then_terms};
 ghost use Rattle.ob_silica.specs.TermsView.{form_of, terms_of};
-ghost use Rattle.ob_lower_spec.specs.Points.{drops};
+ghost use Rattle.ob_lower_spec.specs.Forms.{drops};
 ghost use Rattle.ob_lower_functions.specs.Progress.{with_term};
 
 use ob_base::{Items, Memory, Span};

@@ -1,7 +1,7 @@
 //! Where slots end: those of a statement's temporaries, and those of a block's variables.
 ghost use Rattle.std.specs.Prelude.{◌≡◌, OnOk, if◌then◌else◌};
 ghost use Rattle.ob_silica.specs.Terms.{then_terms};
-ghost use Rattle.ob_lower_spec.specs.Points.{drops};
+ghost use Rattle.ob_lower_spec.specs.Forms.{drops};
 ghost use Rattle.ob_lower_functions.specs.StatementCode.{slots_between};
 
 use crate::code::Code;

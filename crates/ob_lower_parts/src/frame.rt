@@ -3,7 +3,7 @@ ghost use Rattle.std.specs.Prelude.{◌≡◌, option_map};
 ghost use Rattle.std.specs.Option.{option_and_then};
 ghost use Rattle.ob_table.specs.Tables.{signature_of};
 ghost use Rattle.ob_table_spec.specs.WellFormed.{frame_of, kind_of_seen, kind_of_resolved};
-ghost use Rattle.ob_lower_spec.specs.Points.{locals_of, place_seen};
+ghost use Rattle.ob_lower_spec.specs.Forms.{locals_of, place_seen};
 ghost use Rattle.ob_lower_functions.specs.ExpressionCode.{kind_of_result};
 
 use crate::variables::Variables;
@@ -76,7 +76,7 @@ pub struct AroundExpression<'a> {
 }
 
 impl<'a> Model for AroundExpression<'a> {
-    ghost use Rattle.ob_lower_spec.specs.Points.{AroundExpression as Standing};
+    ghost use Rattle.ob_lower_spec.specs.Forms.{AroundExpression as Standing};
     ghost use Rattle.std.specs.Coded.{codes};
     ghost use Rattle.ob_table.specs.StatementsBack.{statements_code};
     ghost use Rattle.ob_table.specs.contracts.stmt.ResolvedStmt as statement;

@@ -3,7 +3,7 @@ ghost use Rattle.std.specs.Prelude.{◌≡◌, OnOk};
 ghost use Rattle.ob_table_spec.specs.WellFormed.{is_reference};
 ghost use Rattle.ob_silica.specs.TermsView.{form_of};
 ghost use Rattle.ob_silica.specs.declared.place.Constant.TheVariants.{Text as text_constant};
-ghost use Rattle.ob_lower_spec.specs.ExpressionTerms.{slot_operand};
+ghost use Rattle.ob_lower_spec.specs.Forms.{slot_operand};
 ghost use Rattle.ob_lower_functions.specs.Progress.{found, kept};
 ghost use Rattle.ob_lower_functions.specs.ExpressionCode.{constant_code};
 ghost use Rattle.ob_lower_parts.specs.Makes.{Makes, progress};

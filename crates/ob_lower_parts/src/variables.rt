@@ -2,8 +2,7 @@
 ghost use Rattle.std.specs.Prelude.{◌≡◌, ◌<◌, ◌-◌, ◌∷◌, length, drop, option_map, IfOk, OnOk};
 ghost use Rattle.std.specs.Option.{option_copied};
 ghost use Rattle.ob_table_spec.specs.WellFormed.{local_kind};
-ghost use Rattle.ob_lower_spec.specs.Points.{locals_of, place_seen};
-ghost use Rattle.ob_lower_spec.specs.BodyTerms.{params_from};
+ghost use Rattle.ob_lower_spec.specs.Forms.{locals_of, place_seen, params_from};
 ghost use Rattle.ob_lower_parts.specs.Visible.{variable_of, newest_first, variable_at};
 
 use crate::frame::kind_of_resolved;
@@ -32,7 +31,7 @@ pub struct Variables {
 
 impl Model for Variables {
     ghost use Rattle.std.specs.Prelude.{List};
-    ghost use Rattle.ob_lower_spec.specs.Points.{SlotVariable as Point};
+    ghost use Rattle.ob_lower_spec.specs.Forms.{SlotVariable as Point};
     ghost use Rattle.ob_lower_parts.specs.Visible.{newest_first};
 
     ghost Value = { List Point };

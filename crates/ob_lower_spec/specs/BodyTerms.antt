@@ -1,21 +1,16 @@
 -- To which terms the body of a transaction or a constructor may be lowered (this project's own).
-use Rattle.std.specs.Prelude.{◌≡◌, ℕ, zero, suc, ◌+◌, List, [], ◌∷◌, length, None, IsSomeAnd, ⊤, if◌then◌else◌}
-use Rattle.ob_base.specs.declared.fault.Span.{Span}
-use Rattle.ob_table.specs.Statements.{Statements, resolved_block, ResolvedBody}
+use Rattle.std.specs.Prelude.{◌≡◌, ℕ, zero, suc, ◌+◌, List, [], ◌∷◌, length, IsSomeAnd, ⊤}
+use Rattle.ob_table.specs.Statements.{resolved_block, ResolvedBody}
 use Rattle.ob_table.specs.Tables.{ClassTable, contract_at, signature_at}
 use Rattle.ob_table.specs.declared.contract.Contract.{Contract}
 use Rattle.ob_table.specs.declared.contract.Param.{Param}
 use Rattle.ob_table.specs.declared.contract.Signature.{Signature}
-use Rattle.ob_table_spec.specs.WellFormed.{kind_of_resolved, frame_of, one_ends_there}
-use Rattle.ob_silica.specs.Terms.{SilicaTerms, no_terms, one_term, then_terms, return_form, SilicaBody}
+use Rattle.ob_table_spec.specs.WellFormed.{frame_of}
+use Rattle.ob_silica.specs.Terms.{SilicaTerms, then_terms, SilicaBody}
 use Rattle.ob_silica.specs.Slots.{slots_of}
-use Rattle.ob_lower_spec.specs.Points.{SlotVariable, Point, no_row}
+use Rattle.ob_lower_spec.specs.Forms.{params_from, ending}
+use Rattle.ob_lower_spec.specs.Points.{Point, no_row}
 use Rattle.ob_lower_spec.specs.StatementTerms.{LowersBlock}
-
--- the parameters beside `this`, from this number on: each has the slot of its number
-abbrev pub params_from : ℕ → List Param → List SlotVariable
-params_from n [] = []
-params_from n (p ∷ ps) = record { local = n; kind = kind_of_resolved p.of; slot = n } ∷ params_from (n + 1) ps
 
 -- the slots below this one, the last first
 abbrev pub slots_below : ℕ → List ℕ
@@ -30,10 +25,6 @@ beginning params = record {
   declared = [];
   row = no_row;
 }
-
--- where the end of a body is reached, it is a `return` without a value
-abbrev pub ending : Statements → Span → SilicaTerms
-ending statements end = if one_ends_there statements then no_terms else one_term (return_form None) end
 
 -- a body with this signature, of this contract
 pub record LowersWith (table : ClassTable) (own : Contract) (s : Signature) (body : ResolvedBody)

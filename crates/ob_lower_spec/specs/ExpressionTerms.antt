@@ -7,17 +7,17 @@ use Rattle.ob_base.specs.declared.id.ContractId.{ContractId}
 use Rattle.ob_base.specs.declared.id.TxId.{TxId}
 use Rattle.ob_table.specs.Expressions.{Expression, resolved_number, resolved_text, resolved_bool, resolved_seen, resolved_unary, resolved_binary, resolved_logical, resolved_call, resolved_new, Arguments, no_arguments, and_argument}
 use Rattle.ob_table.specs.declared.operator.LogicalOperator.{LogicalOperator}
-use Rattle.ob_table.specs.declared.operator.LogicalOperator.TheVariants.{And, Or}
 use Rattle.ob_table.specs.declared.seen.Kind.{Kind}
 use Rattle.ob_table.specs.declared.seen.SeenAt.{SeenAt}
 use Rattle.ob_table_spec.specs.WellFormed.{kind_of_expression, kind_of_seen, is_reference}
-use Rattle.ob_silica.specs.Terms.{SilicaForm, const_form, op_form, copy_form, new_form, call_form, call_this_form, if_form, SilicaTerms, no_terms, one_term, then_terms}
+use Rattle.ob_silica.specs.Terms.{SilicaForm, const_form, op_form, copy_form, new_form, call_form, call_this_form, SilicaTerms, no_terms, one_term, then_terms}
 use Rattle.ob_silica.specs.declared.term.SilicaOperator.TheVariants.{Unary, Binary}
 use Rattle.ob_silica.specs.declared.place.Constant.TheVariants.{Int, Bool as BoolConstant, Text}
 use Rattle.ob_silica.specs.declared.place.Operand.{Operand}
 use Rattle.ob_silica.specs.declared.place.Place.{Place}
 use Rattle.ob_silica.specs.declared.place.Place.TheVariants.{Slot}
-use Rattle.ob_lower_spec.specs.Points.{IsFree, Temporary, in_use, locals_of, place_seen, AroundExpression}
+use Rattle.ob_lower_spec.specs.Forms.{locals_of, place_seen, AroundExpression, operand, slot_operand, logical_form}
+use Rattle.ob_lower_spec.specs.Points.{IsFree, Temporary, in_use}
 
 -- what an expression is lowered to: its terms, the operand that stands for its value, the temporaries in the order made
 pub record Lowered : Type 0 where
@@ -30,14 +30,6 @@ pub record LoweredArguments : Type 0 where
   pub terms : SilicaTerms
   pub operands : List Operand
   pub made : List Temporary
-
--- a place that stands for a part of the text
-abbrev pub operand : Place → Span → Operand
-operand place span = record { place = place; span = span }
-
--- a slot that stands for a part of the text
-abbrev pub slot_operand : ℕ → Span → Operand
-slot_operand k span = operand (Slot k) span
 
 -- the kind of an expression's value, if it has one
 abbrev pub kind_around : AroundExpression → Expression → Option Kind
@@ -71,11 +63,6 @@ pub data IsCall (a : AroundExpression) : Option ℕ → Option SeenAt → Contra
 -- the terms of a right side, whose value is copied into the left side's temporary
 abbrev pub copied_into : AroundExpression → Lowered → Lowered → SilicaTerms
 copied_into a x y = then_terms y.terms (one_term (copy_form x.operand.place y.operand) a.span)
-
--- a test of the left side: the terms of the right side run after `&&` where it is true, and after `||` where it is false
-abbrev pub logical_form : LogicalOperator → Operand → SilicaTerms → Span → SilicaForm
-logical_form And left right sign = if_form left right no_terms sign
-logical_form Or left right sign = if_form left no_terms right sign
 
 -- `&&` or `||`: the left side, and where it leaves the value open the right side, which is copied into the left side's
 -- temporary

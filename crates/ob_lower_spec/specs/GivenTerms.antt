@@ -5,8 +5,8 @@ use Rattle.ob_table.specs.Statements.{GivenField}
 use Rattle.ob_table_spec.specs.WellFormed.{StaticFrame}
 use Rattle.ob_silica.specs.Terms.{unit_form, bad_row_form, SilicaTerms, no_terms, and_term, one_term, then_terms}
 use Rattle.ob_silica.specs.declared.place.Given.{Given}
-use Rattle.ob_silica.specs.declared.place.Operand.{Operand}
-use Rattle.ob_lower_spec.specs.Points.{in_use, Temporary, StagedRow, no_row, staged_row, refused_row, Point, with_row, AroundExpression, around}
+use Rattle.ob_lower_spec.specs.Forms.{AroundExpression, given_from}
+use Rattle.ob_lower_spec.specs.Points.{in_use, Temporary, StagedRow, no_row, staged_row, refused_row, Point, with_row, around}
 use Rattle.ob_lower_spec.specs.ExpressionTerms.{Lowered, LowersExpression}
 
 -- a unit of fuel, and then these terms
@@ -18,10 +18,6 @@ pub record LoweredGiven : Type 0 where
   pub terms : SilicaTerms
   pub given : List Given
   pub made : List Temporary
-
--- a field and the operand that it is given
-abbrev pub given_from : GivenField → Operand → Given
-given_from g from = record { field = g.field; span = g.span; from = from }
 
 -- the given fields from left to right
 abbrev pub LowersGiven : AroundExpression → List ℕ → List GivenField → LoweredGiven → Type 0

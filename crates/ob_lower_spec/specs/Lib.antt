@@ -1,3 +1,4 @@
+pub mod Forms
 pub mod Points
 pub mod ExpressionTerms
 pub mod GivenTerms

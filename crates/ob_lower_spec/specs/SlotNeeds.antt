@@ -14,7 +14,7 @@ use Rattle.ob_table.specs.declared.contract.Contract.{Contract}
 use Rattle.ob_table.specs.declared.contract.Signature.{Signature}
 use Rattle.ob_table.specs.declared.seen.Seen.{Seen}
 use Rattle.ob_table_spec.specs.WellFormed.{StaticFrame, LocalKinds, kind_of_seen, kind_of_expression, is_reference, params_from, frame_of}
-use Rattle.ob_lower_spec.specs.Points.{refused_at}
+use Rattle.ob_lower_spec.specs.Forms.{refused_at}
 
 -- a slot that is needed: how many are in use with it, and the span where it is needed
 pub record SlotNeed : Type 0 where

@@ -5,34 +5,20 @@ use Rattle.ob_base.specs.declared.fault.Span.{Span}
 use Rattle.ob_table.specs.Expressions.{Expression}
 use Rattle.ob_table.specs.Statements.{Statement, resolved_declare, resolved_assign, resolved_stage, resolved_change, resolved_discard, resolved_test, resolved_if, resolved_return, resolved_revert, resolved_disown, resolved_assert, Block, resolved_block, Otherwise, no_otherwise, otherwise_block, Statements, no_statements, and_statement}
 use Rattle.ob_table.specs.declared.seen.Kind.{Kind}
-use Rattle.ob_table.specs.declared.seen.Kind.TheVariants.{Int, Bool as BoolKind, Text, Reference}
 use Rattle.ob_table.specs.declared.seen.SeenAt.{SeenAt}
 use Rattle.ob_table_spec.specs.WellFormed.{StaticFrame, kind_of_seen, one_ends_there}
-use Rattle.ob_silica.specs.Terms.{SilicaForm, const_form, copy_form, move_form, change_form, test_form, if_form, assert_form, disown_form, return_form, revert_form, SilicaTerms, no_terms, and_term, one_term, then_terms}
+use Rattle.ob_silica.specs.Terms.{SilicaForm, const_form, change_form, test_form, if_form, assert_form, disown_form, return_form, revert_form, SilicaTerms, no_terms, and_term, one_term, then_terms}
 use Rattle.ob_silica.specs.declared.place.Constant.TheVariants.{Text as TextConstant}
 use Rattle.ob_silica.specs.declared.place.Operand.{Operand}
 use Rattle.ob_silica.specs.declared.place.Place.{Place}
-use Rattle.ob_silica.specs.declared.place.Place.TheVariants.{Slot, Field}
-use Rattle.ob_lower_spec.specs.Points.{IsFree, drops, drops_of, Temporary, locals_of, place_seen, refused_at, span_of_terms, given_before, made_before, Point, passed, declares, used_at, inside, AroundExpression, around}
-use Rattle.ob_lower_spec.specs.ExpressionTerms.{Lowered, LoweredCall, operand, slot_operand, kind_around, LowersExpression, LowersDiscarded}
+use Rattle.ob_lower_spec.specs.Forms.{locals_of, place_seen, AroundExpression, operand, slot_operand, drops, set_slot, set_place, refused_at, join_of}
+use Rattle.ob_lower_spec.specs.Points.{IsFree, drops_of, Temporary, span_of_terms, given_before, made_before, Point, passed, declares, used_at, inside, around}
+use Rattle.ob_lower_spec.specs.ExpressionTerms.{Lowered, LoweredCall, kind_around, LowersExpression, LowersDiscarded}
 use Rattle.ob_lower_spec.specs.GivenTerms.{with_unit, LoweredGiven, LowersGiven, LowersStage}
 
 -- these terms, then the form, then its temporaries end
 abbrev pub ended_by : Span → SilicaTerms → SilicaForm → List Temporary → SilicaTerms
 ended_by span terms form made = then_terms terms (and_term form span (drops_of made span))
-
--- what sets a slot of this kind: a value is copied, a reference is moved
-abbrev pub set_slot : Kind → ℕ → Operand → SilicaForm
-set_slot Int k from = copy_form (Slot k) from
-set_slot BoolKind k from = copy_form (Slot k) from
-set_slot Text k from = copy_form (Slot k) from
-set_slot (Reference contract) k from = move_form (Slot k) from (Some contract)
-
--- what sets a place of this kind; `this` is never set
-abbrev pub set_place : Kind → Place → Operand → SilicaForm
-set_place kind (Slot k) from = set_slot kind k from
-set_place (Reference contract) (Field f) from = move_form (Field f) from None
-set_place kind place from = copy_form place from
 
 -- a name as an operand
 abbrev pub IsNamed : AroundExpression → SeenAt → Operand → Type 0
@@ -52,15 +38,6 @@ LowersRevert a used None ts =
     × (ts ≡ and_term (const_form k (TextConstant [])) a.span (one_term (revert_form (slot_operand k a.span)) a.span))
 LowersRevert a used (Some e) ts =
     (x : Lowered) × LowersExpression a used e x × (ts ≡ then_terms x.terms (one_term (revert_form x.operand) a.span))
-
--- the closing brace of a block
-abbrev pub block_end : Block → Span
-block_end (resolved_block body end) = end
-
--- where two branches join: the closing brace of the last block
-abbrev pub join_of : Block → Otherwise → Span
-join_of branch no_otherwise = block_end branch
-join_of branch (otherwise_block other) = block_end other
 
 -- the slots of a block's own variables are dropped where its end is reached, the last declared first
 abbrev pub closing : Statements → List ℕ → Span → SilicaTerms

@@ -2,7 +2,7 @@
 use Rattle.std.proofs.Common.{◌≡◌, ℕ, Bool, true, false, List, ◌∷◌, Option, Some, None, refl, sym, ap, subst, ◌∙◌}
 use Rattle.std.specs.Prelude.{not, nat_le, length, if◌then◌else◌}
 use Rattle.ob_base.specs.Limits.{most_objects}
-use Rattle.ob_guard.specs.Guards.{Guarded, with_entry}
+use Rattle.ob_machine_parts.specs.Guards.{Guarded, with_entry}
 use Rattle.ob_base.specs.Optional.{◌>>=◌}
 use Rattle.ob_base.specs.declared.id.ContractId.{ContractId}
 use Rattle.ob_base.specs.declared.id.TxId.{TxId}
@@ -24,7 +24,7 @@ use Rattle.ob_machine_steps.specs.Calling.{Caller, caller, begun, answers, calls
 use Rattle.ob_machine_laws.specs.Laws.{SameNext}
 use Rattle.ob_machine.specs.Beginning.{runs}
 use Rattle.ob_machine.specs.Calls.{calls_with, makes_with, constructs_with}
-use Rattle.ob_machine.specs.Units.{Metered, IsTaken}
+use Rattle.ob_machine_parts.specs.Units.{Metered, IsTaken}
 use Rattle.ob_machine.specs.Shown.{world_of}
 use Rattle.ob_machine.specs.declared.run.Run.{Run}
 
@@ -107,14 +107,21 @@ reentered image k contract tx n args vs c v e s f =
     subst (λ x. SameNext x (Some (abort (by_reentry n) v))) (sym (reading image k contract tx n args vs c v true (object_at v.objects n) e s f refl))
     (refl, record { taken = s.taken; reads = s.reads })
 
-pub calls_same : (image : Image) (k : ℕ) (contract : ContractId) (tx : TxId) (n : ℕ) (args : List ℕ) (vs : List PlainValue) (c : Configuration) (v : World) (o : PlainObject) (id : CalleeId)
-    → values_at c.top.slots args ≡ Some vs → SameWorld (read_object c.world n) v → is_in_progress v n ≡ false → object_at v.objects n ≡ Some o
-    → callee image contract tx o ≡ Some id
+-- what a call of an object runs, which an object answers that there is
+answered : (image : Image) (contract : ContractId) (tx : TxId) (found : Option PlainObject) (go : CalleeId → Option Next) (r : Option CalleeId)
+    → (found >>= λ o. callee image contract tx o) ≡ r → (found >>= λ o. callee image contract tx o >>= go) ≡ (r >>= go)
+answered image contract tx None go r h = ap (λ (x : Option CalleeId). x >>= go) h
+answered image contract tx (Some o) go r h = ap (λ (x : Option CalleeId). x >>= go) h
+
+pub calls_same : (image : Image) (k : ℕ) (contract : ContractId) (tx : TxId) (n : ℕ) (args : List ℕ) (vs : List PlainValue) (c : Configuration) (v : World) (id : CalleeId)
+    → values_at c.top.slots args ≡ Some vs → SameWorld (read_object c.world n) v → is_in_progress v n ≡ false
+    → (object_at v.objects n >>= λ o. callee image contract tx o) ≡ Some id
     → SameNext (calls_with image k contract tx n args c) (runs image k id n on_receiver args (with_world (enter n v) c))
-calls_same image k contract tx n args vs c v o id e s f g h =
+calls_same image k contract tx n args vs c v id e s f h =
     let w = read_object c.world n in
     let left : calls_with image k contract tx n args c ≡ answers image (caller c k) n vs w id =
-    reading image k contract tx n args vs c v false (Some o) e s f g ∙ ap (λ (r : Option CalleeId). r >>= answers image (caller c k) n vs w) h in
+    reading image k contract tx n args vs c v false (object_at v.objects n) e s f refl
+    ∙ answered image contract tx (object_at v.objects n) (answers image (caller c k) n vs w) (Some id) h in
     let right : runs image k id n on_receiver args (with_world (enter n v) c)
     ≡ (body_code image id.0 id.1 >>= λ (b : BodyCode). Some (goes (begun (caller c k) id b n vs on_receiver (is_shared_at_entry b) (enter n v)))) =
     ap (λ (r : Option (List PlainValue)). r >>= λ vs. body_code image id.0 id.1 >>= λ (b : BodyCode). Some (goes (begun (caller c k) id b n vs on_receiver (is_shared_at_entry b) (enter n v)))) e in
@@ -242,20 +249,23 @@ entry_reentered image by contract tx n vs w v s f =
     subst (λ b. SameNext (if b then Some (abort (by_reentry n) r) else (object_at r.objects n >>= λ o. callee image contract tx o >>= answers image by n vs r)) (Some (abort (by_reentry n) v)))
     (sym p) (refl, record { taken = s.taken; reads = s.reads })
 
-pub entry_called : (image : Image) (by : Caller) (contract : ContractId) (tx : TxId) (n : ℕ) (vs : List PlainValue) (w v : World) (o : PlainObject) (id : CalleeId)
-    → SameWorld (read_object w n) v → is_in_progress v n ≡ false → object_at v.objects n ≡ Some o → callee image contract tx o ≡ Some id
+entering : (image : Image) (by : Caller) (contract : ContractId) (tx : TxId) (n : ℕ) (vs : List PlainValue) (w v : World) (r : Option CalleeId)
+    → SameWorld (read_object w n) v → is_in_progress v n ≡ false → (object_at v.objects n >>= λ o. callee image contract tx o) ≡ r
+    → calls_object image by contract tx n vs w ≡ (r >>= answers image by n vs (read_object w n))
+entering image by contract tx n vs w v r s f h =
+    let u = read_object w n in
+    let p : is_in_progress u n ≡ false = ap (λ xs. is_in_progress (record u { progress = xs }) n) (sym s.progress) ∙ f in
+    ap (λ b. if b then Some (abort (by_reentry n) u) else (object_at u.objects n >>= λ o. callee image contract tx o >>= answers image by n vs u)) p
+    ∙ ap (λ xs. object_at xs n >>= λ o. callee image contract tx o >>= answers image by n vs u) (sym s.objects)
+    ∙ answered image contract tx (object_at v.objects n) (answers image by n vs u) r h
+
+pub entry_called : (image : Image) (by : Caller) (contract : ContractId) (tx : TxId) (n : ℕ) (vs : List PlainValue) (w v : World) (id : CalleeId)
+    → SameWorld (read_object w n) v → is_in_progress v n ≡ false → (object_at v.objects n >>= λ o. callee image contract tx o) ≡ Some id
     → SameNext (calls_object image by contract tx n vs w)
     (body_code image id.0 id.1 >>= λ (b : BodyCode). Some (goes (begun by id b n vs on_receiver (is_shared_at_entry b) (enter n v))))
-entry_called image by contract tx n vs w v o id s f g h =
-    let r = read_object w n in
-    let p : is_in_progress r n ≡ false = ap (λ xs. is_in_progress (record r { progress = xs }) n) (sym s.progress) ∙ f in
-    let q : object_at r.objects n ≡ Some o = ap (λ xs. object_at xs n) (sym s.objects) ∙ g in
-    let left : calls_object image by contract tx n vs w ≡ answers image by n vs r id =
-    ap (λ b. if b then Some (abort (by_reentry n) r) else (object_at r.objects n >>= λ o. callee image contract tx o >>= answers image by n vs r)) p
-    ∙ ap (λ (x : Option PlainObject). x >>= λ o. callee image contract tx o >>= answers image by n vs r) q
-    ∙ ap (λ (x : Option CalleeId). x >>= answers image by n vs r) h in
+entry_called image by contract tx n vs w v id s f h =
     subst (λ x. SameNext x (body_code image id.0 id.1 >>= λ (b : BodyCode). Some (goes (begun by id b n vs on_receiver (is_shared_at_entry b) (enter n v)))))
-    (sym left) (inner (body_code image id.0 id.1))
+    (sym (entering image by contract tx n vs w v (Some id) s f h)) (inner (body_code image id.0 id.1))
   where
     inner : (x : Option BodyCode)
         → SameNext (x >>= λ (b : BodyCode). Some (goes (begun by id b n vs on_receiver (is_shared_at_entry b) (enter n (read_object w n)))))

@@ -1,6 +1,3 @@
-pub mod SlotsLemmas
-pub mod WorldLemmas
-pub mod FieldLemmas
 pub mod WaitingLemmas
 pub mod StepLemmas
 pub mod ChangeLemmas

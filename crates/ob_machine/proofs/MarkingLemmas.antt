@@ -32,11 +32,12 @@ use Rattle.ob_machine_steps.specs.Runs.{world_of as world_of_phase}
 use Rattle.ob_machine_steps.specs.Configurations.{Configuration}
 use Rattle.ob_machine_laws.specs.Laws.{SamePhase}
 use Rattle.ob_machine.specs.Phases.{entry_of, phase_at, phase_of, world_at_start}
-use Rattle.ob_machine.specs.Shown.{number_of, shown, world_of}
+use Rattle.ob_machine_parts.specs.Shown.{number_of}
+use Rattle.ob_machine.specs.Shown.{shown, world_of}
 use Rattle.ob_machine.specs.declared.entry.Entry.{Entry}
 use Rattle.ob_machine.specs.declared.machine.Machine.{Machine}
 use Rattle.ob_machine.specs.declared.run.Run.{Run}
-use Rattle.ob_machine.proofs.WorldLemmas.{same_world, edit_same}
+use Rattle.ob_machine_parts.proofs.WorldLemmas.{same_world, edit_same}
 use Rattle.ob_machine.proofs.SliceLemmas.{world_on}
 
 -- Worlds that are the same but for reads.

@@ -21,8 +21,8 @@ use Rattle.ob_machine.specs.Phases.{phase_at, phase_of, HasBegun}
 use Rattle.ob_machine.specs.Shown.{shown}
 use Rattle.ob_machine.specs.Slicing.{StopsSo, IsStuckIn, TurnsSo, Tries}
 use Rattle.ob_machine.specs.declared.machine.Machine.{Machine}
-use Rattle.ob_machine.specs.declared.off.Off.{Off}
-use Rattle.ob_machine.specs.declared.off.Off.TheVariants.{NoStep}
+use Rattle.ob_machine_parts.specs.declared.off.Off.{Off}
+use Rattle.ob_machine_parts.specs.declared.off.Off.TheVariants.{NoStep}
 use Rattle.ob_machine.specs.declared.progress.Progress.{Progress}
 use Rattle.ob_machine.specs.declared.progress.Progress.TheVariants.{Going}
 use Rattle.ob_machine.specs.declared.slice.Turn.{Turn}

@@ -1,12 +1,12 @@
 -- Steps, from what their parts give.
-use Rattle.std.proofs.Common.{◌≡◌, ℕ, ◌+◌, Bool, true, List, [], ◌∷◌, Option, Some, None, refl, sym, ap, ◌∙◌}
+use Rattle.std.proofs.Common.{◌≡◌, ℕ, ◌+◌, Bool, true, false, List, [], ◌∷◌, Option, Some, None, Err, refl, sym, ap, ◌∙◌}
 use Rattle.std.specs.Prelude.{if◌then◌else◌}
 use Rattle.ob_base.specs.Optional.{◌>>=◌}
 use Rattle.ob_base.specs.declared.id.FieldId.{FieldId}
 use Rattle.ob_heap_spec.specs.Objects.{Object as PlainObject, with_field}
 use Rattle.ob_heap_spec.specs.Values.{Value as PlainValue}
-use Rattle.ob_heap_spec.specs.Worlds.{World}
-use Rattle.ob_guard.specs.Guards.{Guarded}
+use Rattle.ob_heap_spec.specs.Worlds.{World, edit_object}
+use Rattle.ob_machine_parts.specs.Guards.{Guarded}
 use Rattle.ob_code.specs.declared.image.ContractCode.{ContractCode}
 use Rattle.ob_code.specs.declared.image.Image.{Image}
 use Rattle.ob_heap.specs.declared.object.Object.{Object}
@@ -19,9 +19,14 @@ use Rattle.ob_machine_steps.specs.Parts.{goes_on, with_world, this_object}
 use Rattle.ob_machine_steps.specs.Changing.{edits_this, store_step}
 use Rattle.ob_machine_steps.specs.Testing.{without_lock, without_locks}
 use Rattle.ob_machine_steps.specs.Returning.{without_progress}
-use Rattle.ob_machine.specs.Changes.{is_storable}
-use Rattle.ob_machine.specs.Guarding.{released, all_released, left_by}
+use Rattle.ob_machine_parts.specs.Changes.{is_storable, stored}
+use Rattle.ob_machine_parts.specs.Guarding.{released, all_released, left_by}
+use Rattle.ob_machine_parts.specs.Giving.{Gives}
+use Rattle.ob_machine_parts.specs.Shown.{slots_of}
+use Rattle.ob_machine_parts.specs.declared.off.Off.{Off}
+use Rattle.ob_machine_parts.specs.declared.off.Off.TheVariants.{Memory, NoStep}
 use Rattle.ob_machine.specs.Shown.{frame_of, frames_of, shown, told, world_of}
+use Rattle.ob_machine.specs.Stretching.{Acts}
 use Rattle.ob_machine.specs.declared.run.Run.{Run}
 use Rattle.ob_machine.specs.declared.progress.Progress.{Progress}
 use Rattle.ob_machine.specs.declared.progress.Progress.TheVariants.{Going}
@@ -38,18 +43,60 @@ on_with m after base old new next progress w e f g h =
 
 -- `store`
 
-storing : (r : Option ContractCode) (has : ContractCode → Bool) (x : Option Next) → (r >>= λ own. Some (has own)) ≡ Some true
-    → (r >>= λ own. if has own then x else None) ≡ x
-storing None has x e = absurd cc
-storing (Some own) has x e = let h : has own ≡ true = cc in rw h refl
+-- what follows a field that is set goes on from the world in which it is
+pub stores_so : (image : Image) (field : FieldId) (a : ℕ) (c : Configuration)
+    → store_step image field a c ≡ (stored image field a c.top.this c.top.slots c.world >>= λ w. goes_on (with_world w c))
+stores_so image field a c = by (value_at c.top.slots a) (this_object c)
+  where
+    may : (v : PlainValue) (b : Bool)
+        → (if b then edits_this (with_field field.0 v) c else None)
+        ≡ ((if b then Some (edit_object (with_field field.0 v) c.top.this c.world) else None) >>= λ w. goes_on (with_world w c))
+    may v true = refl
+    may v false = refl
 
-pub stored : (image : Image) (field : FieldId) (a : ℕ) (c : Configuration) (v : PlainValue) (o : PlainObject) (b : Bool)
-    → value_at c.top.slots a ≡ Some v → this_object c ≡ Some o → is_storable image field o ≡ Some b → b ≡ true
-    → store_step image field a c ≡ edits_this (with_field field.0 v) c
-stored image field a c v o b e f g h =
-    ap (λ (r : Option PlainValue). r >>= λ v. this_object c >>= λ o. contract_code image o.contract >>= λ own. if has_field_code own o.state field.0 then edits_this (with_field field.0 v) c else None) e
-    ∙ ap (λ (r : Option PlainObject). r >>= λ o. contract_code image o.contract >>= λ own. if has_field_code own o.state field.0 then edits_this (with_field field.0 v) c else None) f
-    ∙ storing (contract_code image o.contract) (λ own. has_field_code own o.state field.0) (edits_this (with_field field.0 v) c) (g ∙ ap Some h)
+    never : (b : Bool) → None ≡ ((if b then None else None) >>= λ (w : World). goes_on (with_world w c))
+    never true = refl
+    never false = refl
+
+    own : (v : Option PlainValue) (o : PlainObject) (r : Option ContractCode)
+        → (v >>= λ v. r >>= λ own. if has_field_code own o.state field.0 then edits_this (with_field field.0 v) c else None)
+        ≡ (((r >>= λ own. Some (has_field_code own o.state field.0)) >>= λ b. if b then (v >>= λ v. Some (edit_object (with_field field.0 v) c.top.this c.world)) else None)
+        >>= λ w. goes_on (with_world w c))
+    own None o None = refl
+    own (Some v) o None = refl
+    own None o (Some x) = never (has_field_code x o.state field.0)
+    own (Some v) o (Some x) = may v (has_field_code x o.state field.0)
+
+    by : (v : Option PlainValue) (o : Option PlainObject)
+        → (v >>= λ v. o >>= λ o. contract_code image o.contract >>= λ own. if has_field_code own o.state field.0 then edits_this (with_field field.0 v) c else None)
+        ≡ ((o >>= λ o. is_storable image field o >>= λ b. if b then (v >>= λ v. Some (edit_object (with_field field.0 v) c.top.this c.world)) else None)
+        >>= λ w. goes_on (with_world w c))
+    by None None = refl
+    by (Some v) None = refl
+    by v (Some o) = own v o (contract_code image o.contract)
+
+-- where a field is set the machine goes on with it
+pub stored_on : (image : Image) (field : FieldId) (a : ℕ) (m after : Run) (base : List Object) (old new : Changes) (next : ℕ) (progress : Progress)
+    → stored image field a m.top.this.0 (slots_of m.top.slots) (world_of m base old) ≡ Some (world_of m base new)
+    → progress ≡ Going → after ≡ record m { top = record m.top { at = next } } → next ≡ m.top.at + 1
+    → store_step image field a (shown m base old) ≡ Some (told (shown after base new) progress)
+stored_on image field a m after base old new next progress s e f g =
+    stores_so image field a (shown m base old)
+    ∙ ap (λ (r : Option World). r >>= λ w. goes_on (with_world w (shown m base old))) s
+    ∙ on_with m after base old new next progress (world_of m base new) e f g refl
+
+-- where none is there is no step
+pub stored_off : (off : Off) (image : Image) (field : FieldId) (a : ℕ) (c : Configuration) (w : World) (show : Progress → Next)
+    → Gives {A = Unit {0}} (Err off) (stored image field a c.top.this c.top.slots c.world) (λ _. w) → Gives {A = Progress} (Err off) (store_step image field a c) show
+stored_off Memory image field a c w show s = tt
+stored_off NoStep image field a c w show s =
+    stores_so image field a c ∙ ap (λ (r : Option World). r >>= λ w. goes_on (with_world w c)) s
+
+pub stretched_off : (off : Off) (image : Image) (field : FieldId) (a : ℕ) (c d : Configuration) (w : World)
+    → Gives {A = Unit {0}} (Err off) (stored image field a c.top.this c.top.slots c.world) (λ _. w) → Acts (Err off) (store_step image field a c) c d
+stretched_off Memory image field a c d w s = tt
+stretched_off NoStep image field a c d w s =
+    stores_so image field a c ∙ ap (λ (r : Option World). r >>= λ w. goes_on (with_world w c)) s
 
 -- Returns.
 

@@ -17,10 +17,11 @@ use Rattle.ob_machine_laws.specs.Laws.{SameNext}
 use Rattle.ob_machine.specs.Phases.{phase_of, HasBegun}
 use Rattle.ob_machine.specs.Shown.{cause_of, shown, world_of}
 use Rattle.ob_machine.specs.Slicing.{ComesTo, Tries}
-use Rattle.ob_machine.specs.Stretching.{AreInstructionsOf, IsSameBody, LeadsOn, Strides, Stretches, Turns}
+use Rattle.ob_machine_parts.specs.Images.{AreInstructionsOf}
+use Rattle.ob_machine.specs.Stretching.{IsSameBody, LeadsOn, Strides, Stretches, Turns}
 use Rattle.ob_machine.specs.declared.machine.Machine.{Machine}
-use Rattle.ob_machine.specs.declared.off.Off.{Off}
-use Rattle.ob_machine.specs.declared.off.Off.TheVariants.{Memory, NoStep}
+use Rattle.ob_machine_parts.specs.declared.off.Off.{Off}
+use Rattle.ob_machine_parts.specs.declared.off.Off.TheVariants.{Memory, NoStep}
 use Rattle.ob_machine.specs.declared.progress.Progress.{Progress}
 use Rattle.ob_machine.specs.declared.progress.Progress.TheVariants.{Finished, Aborted, Going}
 use Rattle.ob_machine.specs.declared.slice.Turn.{Turn}

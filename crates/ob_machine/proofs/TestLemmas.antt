@@ -16,10 +16,10 @@ use Rattle.ob_machine_steps.specs.Parts.{with_world}
 use Rattle.ob_machine_steps.specs.Changing.{is_locked_out}
 use Rattle.ob_machine_steps.specs.Testing.{branches, tests_this, tests_other, test_step, is_barred, lock_of}
 use Rattle.ob_machine_laws.specs.Laws.{SameNext}
-use Rattle.ob_machine.specs.Giving.{Gives}
+use Rattle.ob_machine_parts.specs.Giving.{Gives}
 use Rattle.ob_machine.specs.Shown.{told, Tells}
-use Rattle.ob_machine.specs.declared.off.Off.{Off}
-use Rattle.ob_machine.specs.declared.off.Off.TheVariants.{Memory, NoStep}
+use Rattle.ob_machine_parts.specs.declared.off.Off.{Off}
+use Rattle.ob_machine_parts.specs.declared.off.Off.TheVariants.{Memory, NoStep}
 use Rattle.ob_machine.specs.declared.progress.Progress.{Progress}
 
 pub not_true : (b : Bool) → not b ≡ true → b ≡ false

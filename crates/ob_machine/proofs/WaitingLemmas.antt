@@ -1,18 +1,8 @@
--- Lists with the newest last, from the newest on.
-use Rattle.std.proofs.Common.{◌≡◌, List, [], ◌∷◌, ◌++◌, map, reverse, Option, ap, ◌∙◌}
-use Rattle.std.specs.Prelude.{option_map}
-use Rattle.std.proofs.lemmas.List.{map-append, reverse-append}
-use Rattle.ob_base.specs.declared.id.ObjectId.{ObjectId}
-use Rattle.ob_machine.specs.Shown.{frame_of, frames_of, number_of, tests_of}
+-- Frames that wait, from the newest on.
+use Rattle.std.proofs.Common.{◌≡◌, List, [], ◌∷◌, ◌++◌}
+use Rattle.ob_machine_parts.proofs.LocksLemmas.{newest_first}
+use Rattle.ob_machine.specs.Shown.{frame_of, frames_of}
 use Rattle.ob_machine.specs.declared.frame.Frame.{Frame}
-
-newest_first : {A B : Type 0} (f : A → B) (xs : List A) (x : A) → reverse (map f (xs ++ x ∷ [])) ≡ f x ∷ reverse (map f xs)
-newest_first f xs x = ap reverse (map-append f xs (x ∷ [])) ∙ reverse-append (map f xs) (f x ∷ [])
 
 pub frames_newest : (xs : List Frame) (x : Frame) → frames_of (xs ++ x ∷ []) ≡ frame_of x ∷ frames_of xs
 frames_newest xs x = newest_first frame_of xs x
-
-pub tests_newest : (xs : List (Option ObjectId)) (x : Option ObjectId) → tests_of (xs ++ x ∷ []) ≡ option_map number_of x ∷ tests_of xs
-tests_newest xs x = newest_first (option_map number_of) xs x
-
-pub ruleset newest = (frames_newest, tests_newest)

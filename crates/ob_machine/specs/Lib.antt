@@ -1,14 +1,7 @@
-pub mod Giving
-pub mod Images
-pub mod Units
 pub mod Shown
-pub mod Operating
-pub mod Editing
-pub mod Guarding
 pub mod Changes
 pub mod Beginning
 pub mod Calls
-pub mod Making
 pub mod Phases
 pub mod Slicing
 pub mod Stretching

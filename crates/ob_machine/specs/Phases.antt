@@ -13,8 +13,9 @@ use Rattle.ob_machine_steps.specs.Images.{CalleeId}
 use Rattle.ob_machine_steps.specs.Configurations.{Entered, Configuration, Next, goes}
 use Rattle.ob_machine_steps.specs.Calling.{begun}
 use Rattle.ob_machine_steps.specs.Entries.{MachineEntry, Phase, starting, running, nobody, lock_receiver}
-use Rattle.ob_machine.specs.Beginning.{is_shared_in}
-use Rattle.ob_machine.specs.Shown.{number_of, reads_of, shown}
+use Rattle.ob_machine_parts.specs.Arguments.{is_shared_in}
+use Rattle.ob_machine_parts.specs.Shown.{number_of, reads_of}
+use Rattle.ob_machine.specs.Shown.{shown}
 use Rattle.ob_machine.specs.declared.entry.Entry.{Entry}
 use Rattle.ob_machine.specs.declared.machine.Machine.{Machine}
 

@@ -1,44 +1,22 @@
 -- For which phase of a run the code's state stands (this project's own).
-use Rattle.std.specs.Prelude.{◌≡◌, ℕ, Bool, List, [], ◌∷◌, ◌++◌, map, reverse, length, Option, Some, None, option_map, Result, Ok, Err, ⊤, if◌then◌else◌}
-use Rattle.ob_base.specs.declared.id.ObjectId.{ObjectId}
-use Rattle.ob_heap_spec.specs.Worlds.{ReadItem, object_item, next_item, World, AbortCause, by_revert, by_state, by_reentry, by_overflow, by_fuel, by_full}
+use Rattle.std.specs.Prelude.{List, map, reverse, Option, Some, None, option_map, ◌≡◌, Result, Ok, Err, ⊤}
+use Rattle.ob_heap_spec.specs.Worlds.{World, AbortCause, by_revert, by_state, by_reentry, by_overflow, by_fuel, by_full}
 use Rattle.ob_heap.specs.declared.object.Object.{Object}
-use Rattle.ob_heap.specs.declared.value.Value.{Value}
 use Rattle.ob_heap.specs.Plain.{value_of}
-use Rattle.ob_heap.specs.Overlays.{Changes, objects_over}
-use Rattle.ob_machine_steps.specs.Slots.{Slots}
-use Rattle.ob_machine_steps.specs.Configurations.{Entered, on_receiver, on_this, on_new, MachineFrame, Configuration, ended, Next, goes, stops, abort}
+use Rattle.ob_heap.specs.Overlays.{Changes}
+use Rattle.ob_machine_steps.specs.Configurations.{MachineFrame, Configuration, ended, Next, goes, stops, abort}
 use Rattle.ob_machine_laws.specs.Laws.{SameNext}
-use Rattle.ob_machine.specs.declared.frame.EnteredBy.{EnteredBy}
-use Rattle.ob_machine.specs.declared.frame.EnteredBy.TheVariants.{Receiver, This, New}
+use Rattle.ob_machine_parts.specs.Shown.{slots_of, tests_of, entered_of, world_with}
+use Rattle.ob_machine_parts.specs.declared.off.Off.{Off}
+use Rattle.ob_machine_parts.specs.declared.off.Off.TheVariants.{Memory, NoStep}
 use Rattle.ob_machine.specs.declared.frame.Frame.{Frame}
 use Rattle.ob_machine.specs.declared.run.Run.{Run}
-use Rattle.ob_machine.specs.declared.off.Off.{Off}
-use Rattle.ob_machine.specs.declared.off.Off.TheVariants.{Memory, NoStep}
 use Rattle.ob_machine.specs.declared.progress.Cause.{Cause}
 use Rattle.ob_machine.specs.declared.progress.Cause.TheVariants.{Revert, State, Reentry, Overflow, Fuel, Full}
 use Rattle.ob_machine.specs.declared.progress.Progress.{Progress}
 use Rattle.ob_machine.specs.declared.progress.Progress.TheVariants.{Finished, Aborted, Going}
 
 -- Frames.
-
--- the number of an object
-abbrev pub number_of : ObjectId → ℕ
-number_of id = id.0
-
--- what slots hold
-abbrev pub slots_of : List (Option Value) → Slots
-slots_of slots = map (option_map value_of) slots
-
--- noted tests, the newest first, each with the object that it has locked
-abbrev pub tests_of : List (Option ObjectId) → List (Option ℕ)
-tests_of tests = reverse (map (option_map number_of) tests)
-
--- how a frame was entered
-abbrev pub entered_of : EnteredBy → Entered
-entered_of Receiver = on_receiver
-entered_of This = on_this
-entered_of New = on_new
 
 -- a frame
 abbrev pub frame_of : Frame → MachineFrame
@@ -60,25 +38,9 @@ frames_of frames = reverse (map frame_of frames)
 
 -- The world.
 
--- whether it was read which number is the next, as a list
-abbrev pub next_read : Bool → List ReadItem
-next_read next = if next then next_item ∷ [] else []
-
--- what was read, each item once
-abbrev pub reads_of : Changes → List ReadItem
-reads_of o = next_read o.next ++ map object_item o.reads
-
 -- the world of a run on the objects of a store with the changes laid over them
 abbrev pub world_of : Run → List Object → Changes → World
-world_of m base o = record {
-  objects = objects_over base o;
-  made = length o.made;
-  locked = m.guard.locked;
-  progress = m.guard.progress;
-  fuel = m.units.fuel;
-  taken = m.units.taken;
-  reads = reads_of o;
-}
+world_of m base o = world_with m.guard m.units base o
 
 -- Runs.
 

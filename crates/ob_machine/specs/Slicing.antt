@@ -12,8 +12,8 @@ use Rattle.ob_machine_laws.specs.Laws.{SamePhase, SameNext, SameStop}
 use Rattle.ob_machine.specs.Phases.{phase_of, HasBegun}
 use Rattle.ob_machine.specs.Shown.{cause_of, shown, told, world_of}
 use Rattle.ob_machine.specs.declared.machine.Machine.{Machine}
-use Rattle.ob_machine.specs.declared.off.Off.{Off}
-use Rattle.ob_machine.specs.declared.off.Off.TheVariants.{Memory, NoStep}
+use Rattle.ob_machine_parts.specs.declared.off.Off.{Off}
+use Rattle.ob_machine_parts.specs.declared.off.Off.TheVariants.{Memory, NoStep}
 use Rattle.ob_machine.specs.declared.progress.Progress.{Progress}
 use Rattle.ob_machine.specs.declared.progress.Progress.TheVariants.{Finished, Aborted, Going}
 use Rattle.ob_machine.specs.declared.slice.Turn.{Turn}

@@ -1,28 +1,20 @@
 -- How the code runs a stretch: steps inside one body that neither call nor test nor end (this project's own).
-use Rattle.std.specs.Prelude.{◌≡◌, ◌<◌, ◌≤◌, ℕ, Bool, true, false, List, Option, Some, None, slice_get, Result, Ok, Err, ⊤}
-use Rattle.ob_base.specs.declared.id.ContractId.{ContractId}
-use Rattle.ob_base.specs.declared.id.TxId.{TxId}
+use Rattle.std.specs.Prelude.{◌≡◌, ◌<◌, ◌≤◌, ℕ, Bool, true, false, List, Option, Some, None, Result, Ok, Err, ⊤}
 use Rattle.ob_code.specs.declared.image.Image.{Image}
-use Rattle.ob_code.specs.declared.instruction.Instruction.{Instruction}
 use Rattle.ob_heap.specs.declared.object.Object.{Object}
 use Rattle.ob_heap.specs.Overlays.{Changes}
 use Rattle.ob_machine_steps.specs.Configurations.{Configuration, Next, goes}
 use Rattle.ob_machine_steps.specs.Entries.{Phase, running, next_step}
-use Rattle.ob_machine_steps.specs.Images.{instruction_at}
 use Rattle.ob_machine_steps.specs.Measures.{steps_left}
 use Rattle.ob_machine_steps.specs.Runs.{Stop, paused, waits, pays, left_after}
 use Rattle.ob_machine.specs.Phases.{phase_of}
 use Rattle.ob_machine.specs.Slicing.{ComesTo, stop_told}
 use Rattle.ob_machine.specs.declared.machine.Machine.{Machine}
-use Rattle.ob_machine.specs.declared.off.Off.{Off}
-use Rattle.ob_machine.specs.declared.off.Off.TheVariants.{Memory, NoStep}
+use Rattle.ob_machine_parts.specs.declared.off.Off.{Off}
+use Rattle.ob_machine_parts.specs.declared.off.Off.TheVariants.{Memory, NoStep}
 use Rattle.ob_machine.specs.declared.progress.Progress.TheVariants.{Finished, Aborted, Going}
 use Rattle.ob_machine.specs.declared.slice.Turn.{Turn}
 use Rattle.ob_machine.specs.declared.slice.Turn.TheVariants.{Waits, Made}
-
--- these are the instructions of the body of a number
-abbrev pub AreInstructionsOf : Image → ContractId → TxId → List Instruction → Type 0
-AreInstructionsOf image contract tx instructions = (place : ℕ) → instruction_at image contract tx place ≡ slice_get instructions place
 
 -- two configurations are in the same body
 abbrev pub IsSameBody : Configuration → Configuration → Type 0

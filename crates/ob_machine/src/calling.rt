@@ -3,22 +3,23 @@ ghost use Rattle.std.specs.Prelude.{◌≡◌, ◌+◌, true, List};
 ghost use Rattle.ob_heap.specs.Overlays.{Changes};
 ghost use Rattle.ob_heap.specs.declared.object.Object.{Object};
 ghost use Rattle.ob_machine_steps.specs.Calling.{call_step, self_step, new_step};
-ghost use Rattle.ob_machine.specs.Beginning.{are_set};
+ghost use Rattle.ob_machine_parts.specs.Arguments.{are_set};
 ghost use Rattle.ob_machine.specs.Calls.{calls_with, makes_with, constructs_with};
-ghost use Rattle.ob_machine.specs.Giving.{Gives};
-ghost use Rattle.ob_machine.specs.Shown.{shown, told, slots_of, Tells};
+ghost use Rattle.ob_machine_parts.specs.Giving.{Gives};
+ghost use Rattle.ob_machine_parts.specs.Shown.{slots_of};
+ghost use Rattle.ob_machine.specs.Shown.{shown, told, Tells};
 
-use crate::beginning::are_set;
-use crate::frame::EnteredBy;
-use crate::heap::{find, make, note};
-use crate::lookups::{callee, constructor_of, contract_at};
-use crate::off::Off;
 use crate::progress::{Cause, Progress};
 use crate::run::Run;
-use crate::slots::reference;
 use ob_base::{ContractId, ObjectId, TxId};
 use ob_code::Image;
 use ob_heap::{Content, Overlay};
+use ob_machine_parts::calling::{answer, enter};
+use ob_machine_parts::entered::EnteredBy;
+use ob_machine_parts::heap::make;
+use ob_machine_parts::lookups::{constructor_of, contract_at};
+use ob_machine_parts::off::Off;
+use ob_machine_parts::slots::{are_set, reference};
 
 impl Run {
     // Calls an object, once the unit of the call is taken.
@@ -38,12 +39,10 @@ impl Run {
         requires set { are_set (slots_of self.old.top.slots) args.now ≡ true }
         ensures { Tells result (calls_with code.now slot contract tx id.0 args.now (shown self.old base.now.objects overlay.old)) (shown self.new base.now.objects overlay.new) }
     {
-        note(base, overlay, id)?;
-        if !self.guard.enter(id)? {
+        if !enter(base, overlay, &mut self.guard, id)? {
             return Ok(Progress::Aborted(Cause::Reentry(id)));
         }
-        let object = find(base, overlay, id)?;
-        let answer = callee(code, contract, tx, object)?;
+        let answer = answer(code, base, overlay, contract, tx, id)?;
         self.runs(
             code,
             slot,

@@ -1,56 +1,28 @@
 //! The first step of a run: it enters its body.
-ghost use Rattle.std.specs.Prelude.{◌≡◌, ◌++◌, List, Some, map};
+ghost use Rattle.std.specs.Prelude.{List, Some, map};
 ghost use Rattle.ob_heap.specs.Overlays.{Changes};
 ghost use Rattle.ob_heap.specs.Plain.{value_of};
 ghost use Rattle.ob_heap.specs.declared.object.Object.{Object};
-ghost use Rattle.ob_machine_steps.specs.Slots.{first_slots};
 ghost use Rattle.ob_machine_steps.specs.Calling.{calls_object, makes_object};
 ghost use Rattle.ob_machine_steps.specs.Entries.{starting, next_step, nobody};
-ghost use Rattle.ob_machine.specs.Giving.{Gives};
+ghost use Rattle.ob_machine_parts.specs.Giving.{Gives};
 ghost use Rattle.ob_machine.specs.Phases.{entry_of, enters_body};
-ghost use Rattle.ob_machine.specs.Shown.{shown, told, slots_of, entered_of, world_of, Tells};
+ghost use Rattle.ob_machine_parts.specs.Shown.{entered_of};
+ghost use Rattle.ob_machine.specs.Shown.{shown, told, world_of, Tells};
 
-use crate::beginning::{is_shared_in, pad, push};
 use crate::entry::Entry;
-use crate::frame::{EnteredBy, Frame};
-use crate::heap::{find, make, note};
-use crate::lookups::{body_at, callee};
-use crate::off::Off;
+use crate::frame::Frame;
 use crate::progress::{Cause, Progress};
 use crate::run::Run;
-use ob_base::{ContractId, Duplicate, Items, ObjectId, TxId};
+use ob_base::{ContractId, Items, ObjectId, TxId};
 use ob_code::{Image, NO_RESULT};
 use ob_heap::{Content, Overlay, Value};
-use std::alloc::Global;
-
-fn gather_values(
-    alloc: Global,
-    args: &[Value],
-    out: Vec<Option<Value>>,
-) -> Result<Vec<Option<Value>>, Off>
-    ensures { Gives result (Some (slots_of out.items ++ map (λ v. Some v) (map value_of args.now))) (λ v. slots_of v.items) }
-{
-    let mut gathered = out;
-    for value in args {
-        push(&mut gathered, Some(value.copy(alloc)?))?;
-    }
-    Ok(gathered)
-}
-
-// The slots with which a body begins, with these values as its arguments.
-fn first_of(
-    alloc: Global,
-    count: u8,
-    this: ObjectId,
-    args: &[Value],
-) -> Result<Items<Option<Value>>, Off>
-    ensures { Gives result (Some (first_slots count this.0 (map value_of args.now))) slots_of }
-{
-    let mut first = Vec::with_capacity(alloc, count as usize)?;
-    push(&mut first, Some(Value::Object(this)))?;
-    let given = gather_values(alloc, args, first)?;
-    pad(count, given)
-}
+use ob_machine_parts::arguments::first_of;
+use ob_machine_parts::calling::{answer, enter};
+use ob_machine_parts::entered::{EnteredBy, is_shared_in};
+use ob_machine_parts::heap::make;
+use ob_machine_parts::lookups::body_at;
+use ob_machine_parts::off::Off;
 
 impl Run {
     // The body of an entry begins on an object.
@@ -94,12 +66,10 @@ impl Run {
     ) -> Result<Progress, Off>
         ensures { Tells result (calls_object code.now nobody entry.now.contract entry.now.tx id.0 (map value_of entry.now.args) (world_of self.old base.now.objects overlay.old)) (shown self.new base.now.objects overlay.new) }
     {
-        note(base, overlay, id)?;
-        if !self.guard.enter(id)? {
+        if !enter(base, overlay, &mut self.guard, id)? {
             return Ok(Progress::Aborted(Cause::Reentry(id)));
         }
-        let object = find(base, overlay, id)?;
-        let answer = callee(code, entry.contract, entry.tx, object)?;
+        let answer = answer(code, base, overlay, entry.contract, entry.tx, id)?;
         self.enters_body(
             code,
             answer.0,

@@ -1,17 +1,7 @@
 //! Frames.
 use ob_base::{ContractId, Items, ObjectId, TxId};
 use ob_heap::Value;
-
-/// How a frame was entered.
-#[derive(Clone, Copy)]
-pub enum EnteredBy {
-    /// By a call with a receiver.
-    Receiver,
-    /// By a call on `this`.
-    This,
-    /// By a `new`.
-    New,
-}
+use ob_machine_parts::entered::EnteredBy;
 
 /// A body that runs, or that waits for one that it has called.
 #[derive(Drop)]

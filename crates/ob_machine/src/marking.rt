@@ -8,19 +8,20 @@ ghost use Rattle.ob_heap_spec.specs.Worlds.{SameWorld};
 ghost use Rattle.ob_machine_steps.specs.Entries.{args_come_in, receiver_comes_in, marked_world};
 ghost use Rattle.ob_machine_steps.specs.ImageTables.{perm_of_code, type_of_param};
 ghost use Rattle.ob_machine.specs.Phases.{entry_of};
-ghost use Rattle.ob_machine.specs.Shown.{number_of, world_of};
+ghost use Rattle.ob_machine_parts.specs.Shown.{number_of};
+ghost use Rattle.ob_machine.specs.Shown.{world_of};
 ghost use Rattle.ob_machine.specs.declared.run.Run.{Run};
 ghost use Rattle.ob_perm.specs.Masks.{permission_of};
 ghost use Rattle.ob_perm.specs.Permissions.{is_shared};
 ghost use Rattle.ob_table.specs.declared.contract.ResolvedType.TheVariants.{Reference};
 
 use crate::entry::Entry;
-use crate::heap::mark_shared;
-use crate::lookups::body_at;
-use crate::off::Off;
 use ob_base::{Memory, Mode, ObjectId};
 use ob_code::{BodyCode, Image, ParamCode, PermCode};
 use ob_heap::{Content, Overlay, Value};
+use ob_machine_parts::heap::mark_shared;
+use ob_machine_parts::lookups::body_at;
+use ob_machine_parts::off::Off;
 use std::alloc::Global;
 
 // Whether a permission is that of one of those that share an object.

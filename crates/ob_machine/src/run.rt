@@ -1,8 +1,8 @@
 //! The state of a run once it has entered a body.
 use crate::frame::Frame;
-use crate::units::Units;
 use ob_base::Items;
-use ob_guard::Guard;
+use ob_machine_parts::guard::Guard;
+use ob_machine_parts::units::Units;
 use std::alloc::Global;
 
 /// A run of code (this project's own). It has frames, locks and units of its own; the objects stand in a store's content with what

@@ -1,18 +1,18 @@
 //! Slices of a run.
 ghost use Rattle.std.specs.Prelude.{◌≡◌, option_map, IsSome, IfOk};
-ghost use Rattle.ob_machine_steps.specs.Runs.{takes_unit, IsSoundIn};
+ghost use Rattle.ob_machine_steps.specs.Runs.{IsSoundIn};
 ghost use Rattle.ob_machine.specs.Phases.{phase_of, HasBegun};
 ghost use Rattle.ob_machine.specs.Slicing.{Pays, Tries, StopsSo, ComesTo, stop_told};
 ghost use Rattle.ob_machine.specs.Stretching.{Turns};
 ghost use Rattle.ob_machine_steps.specs.Measures.{LeadsAhead};
 
-use crate::lookups::fetch;
 use crate::machine::Machine;
-use crate::off::Off;
 use crate::progress::Progress;
 use ob_base::Memory;
-use ob_code::{Image, Instruction};
+use ob_code::Image;
 use ob_heap::{Content, Overlay};
+use ob_machine_parts::lookups::fetch;
+use ob_machine_parts::off::Off;
 use ob_verify::Verified;
 
 /// What a turn of a slice comes to.
@@ -22,18 +22,6 @@ pub enum Turn {
     Waits,
     /// The next step is made, and the slice has so many units left.
     Made(Progress, u32),
-}
-
-pub fn takes_unit(instruction: &Instruction) -> bool
-    ensures { result ≡ takes_unit instruction.now }
-{
-    match instruction {
-        Instruction::Unit => true,
-        Instruction::New { .. } => true,
-        Instruction::Call { .. } => true,
-        Instruction::SelfCall { .. } => true,
-        _ => false,
-    }
 }
 
 // What a slice has left once it has paid, if it can.
@@ -84,7 +72,7 @@ impl Machine {
         let top = &self.run.top;
         let instruction = fetch(code, top.contract, top.tx, top.at)?;
         let next = top.at + 1;
-        let paid = takes_unit(instruction) && self.run.units.has_unit();
+        let paid = self.run.units.pays_for(instruction);
         match left_after(paid, left) {
             None => Ok(Turn::Waits),
             Some(rest) => {

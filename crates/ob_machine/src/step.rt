@@ -3,12 +3,12 @@ ghost use Rattle.std.specs.Prelude.{◌≡◌, ◌+◌};
 ghost use Rattle.ob_machine_steps.specs.Steps.{act, step_of};
 ghost use Rattle.ob_machine.specs.Shown.{shown, Tells};
 
-use crate::lookups::fetch;
-use crate::off::Off;
 use crate::progress::Progress;
 use crate::run::Run;
 use ob_code::{Image, Instruction};
 use ob_heap::{Content, Overlay, Value};
+use ob_machine_parts::lookups::fetch;
+use ob_machine_parts::off::Off;
 
 impl Run {
     #[tactic(auto, using(crate::proofs::TestLemmas::telling))]

@@ -3,21 +3,20 @@ ghost use Rattle.std.specs.Prelude.{◌≡◌, ◌+◌, List, Some};
 ghost use Rattle.ob_heap.specs.Overlays.{Changes};
 ghost use Rattle.ob_heap.specs.Plain.{value_of};
 ghost use Rattle.ob_heap.specs.declared.object.Object.{Object};
-ghost use Rattle.ob_machine_steps.specs.Parts.{sets, goes_to};
-ghost use Rattle.ob_machine_steps.specs.Straight.{unit_step, copy_step, text_step, op_step, unless_step, revert_step, operation, with_operated};
-ghost use Rattle.ob_machine.specs.Giving.{Gives};
-ghost use Rattle.ob_machine.specs.Operating.{operated_of};
-ghost use Rattle.ob_machine.specs.Shown.{shown, told, slots_of};
+ghost use Rattle.ob_machine_steps.specs.Parts.{sets};
+ghost use Rattle.ob_machine_steps.specs.Straight.{unit_step, copy_step, text_step, op_step, unless_step, revert_step};
+ghost use Rattle.ob_machine_parts.specs.Giving.{Gives};
+ghost use Rattle.ob_machine.specs.Shown.{shown, told};
 ghost use Rattle.ob_machine.specs.declared.progress.Progress.{Progress};
 
-use crate::off::Off;
-use crate::operations::{Operated, negated_number, negated_truth, of_two};
 use crate::progress::{Cause, Progress};
 use crate::run::Run;
-use crate::slots::{copy_of, put, text, truth, value};
-use ob_base::{Items, Operator};
+use ob_base::Operator;
 use ob_code::CodeText;
 use ob_heap::{RcStr, Value};
+use ob_machine_parts::off::Off;
+use ob_machine_parts::operations::{Operated, operate};
+use ob_machine_parts::slots::{copy_of, put, text, truth};
 use std::alloc::Global;
 
 // The text of a constant.
@@ -27,27 +26,6 @@ fn text_of(alloc: Global, constant: &CodeText) -> Result<RcStr, Off>
     match str::from_utf8(constant.as_bytes()) {
         Ok(text) => Ok(RcStr::from_str(alloc, text)?),
         Err(_) => unreachable!(),
-    }
-}
-
-// What an operator gives of what two slots hold.
-#[inline(always)]
-pub fn operate(
-    operator: Operator,
-    slots: &Items<Option<Value>>,
-    a: u8,
-    b: u8,
-) -> Result<Operated, Off>
-    ensures { Gives result (operation operator (slots_of slots.now) a b) operated_of }
-{
-    match operator {
-        Operator::Not => Ok(negated_truth(value(slots, a)?)),
-        Operator::Negate => Ok(negated_number(value(slots, a)?)),
-        _ => {
-            let left = value(slots, a)?;
-            let right = value(slots, b)?;
-            Ok(of_two(operator, left, right))
-        }
     }
 }
 

@@ -9,20 +9,20 @@ ghost use Rattle.ob_machine_steps.specs.Parts.{sets, goes_to};
 ghost use Rattle.ob_machine_steps.specs.Steps.{act};
 ghost use Rattle.ob_machine_steps.specs.Straight.{unit_step, copy_step, load_step, op_step, unless_step};
 ghost use Rattle.ob_machine.specs.Shown.{shown};
-ghost use Rattle.ob_machine.specs.Stretching.{AreInstructionsOf, Acts, Strides, Stretches};
+ghost use Rattle.ob_machine_parts.specs.Images.{AreInstructionsOf};
+ghost use Rattle.ob_machine.specs.Stretching.{Acts, Strides, Stretches};
 
-use crate::changing::is_storable;
-use crate::heap::{field_value, find, set_field};
-use crate::lookups::code_of;
-use crate::off::Off;
-use crate::operations::Operated;
 use crate::run::Run;
-use crate::slice::{left_after, takes_unit};
-use crate::slots::{copy_of, put, truth};
-use crate::straight::operate;
+use crate::slice::left_after;
 use ob_base::{FieldId, Items, Operator};
 use ob_code::{Image, Instruction};
 use ob_heap::{Content, Overlay, Value};
+use ob_machine_parts::fields::store;
+use ob_machine_parts::heap::{field_value, find};
+use ob_machine_parts::lookups::code_of;
+use ob_machine_parts::off::Off;
+use ob_machine_parts::operations::{Operated, operate};
+use ob_machine_parts::slots::{copy_of, put, truth};
 
 impl Run {
     #[inline(always)]
@@ -85,13 +85,22 @@ impl Run {
         requires { next ≡ self.old.top.at + 1 }
         ensures { Acts result (store_step code.now field a (shown self.old base.now.objects overlay.old)) (shown self.old base.now.objects overlay.old) (shown self.new base.now.objects overlay.new) }
     {
-        let value = copy_of(self.alloc, &self.top.slots, a)?;
-        if !is_storable(code, find(base, overlay, self.top.this)?, field)? {
-            return Err(Off::NoStep);
+        match store(
+            self.alloc,
+            code,
+            base,
+            overlay,
+            &self.top.slots,
+            self.top.this,
+            field,
+            a,
+        ) {
+            Ok(()) => {
+                self.top.at = next;
+                Ok(true)
+            }
+            Err(off) => Err(off),
         }
-        set_field(self.alloc, base, overlay, self.top.this, field, value)?;
-        self.top.at = next;
-        Ok(true)
     }
 
     // Where the result is no `int`, nothing is done: the run aborts then.
@@ -185,7 +194,7 @@ impl Run {
             None => Ok(None),
             Some(instruction) => {
                 let next = self.top.at + 1;
-                let paid = takes_unit(instruction) && self.units.has_unit();
+                let paid = self.units.pays_for(instruction);
                 match left_after(paid, left) {
                     None => Ok(None),
                     Some(rest) => {

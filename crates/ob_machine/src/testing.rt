@@ -1,36 +1,24 @@
 //! Instructions that test the state of an object, and that end a test.
-ghost use Rattle.std.specs.Prelude.{◌≡◌, ◌+◌, false, List, option_map, OnOk};
+ghost use Rattle.std.specs.Prelude.{◌≡◌, ◌+◌, false, List, option_map};
 ghost use Rattle.ob_heap.specs.Overlays.{Changes};
 ghost use Rattle.ob_heap.specs.declared.object.Object.{Object};
 ghost use Rattle.ob_heap_spec.specs.Objects.{Object as PlainObject};
 ghost use Rattle.ob_machine_steps.specs.Testing.{branches, tests_this, tests_other, test_step, end_test_step};
-ghost use Rattle.ob_machine.specs.Giving.{Gives};
-ghost use Rattle.ob_machine.specs.Guarding.{locked_by, holds_lock};
-ghost use Rattle.ob_machine.specs.Shown.{shown, told, number_of, Tells};
+ghost use Rattle.ob_machine_parts.specs.Giving.{Gives};
+ghost use Rattle.ob_machine_parts.specs.Guarding.{holds_lock};
+ghost use Rattle.ob_machine_parts.specs.Shown.{number_of};
+ghost use Rattle.ob_machine.specs.Shown.{shown, told, Tells};
 
-use crate::heap::{find, note};
-use crate::off::Off;
 use crate::progress::{Cause, Progress};
-use crate::returning::release;
 use crate::run::Run;
-use crate::slots::reference;
-use crate::waiting::{pop_test, push_test};
-use ob_base::{ContractId, Memory, ObjectId, StateId};
+use ob_base::{ContractId, ObjectId, StateId};
 use ob_code::Image;
-use ob_guard::Guard;
 use ob_heap::{Content, Overlay};
-use ob_machine_lookups::is_in_state;
-
-// The lock of a test, if it takes one: of an object that isn't locked.
-fn take_lock(guard: &mut Guard, lock: Option<ObjectId>) -> Result<(), Memory>
-    requires { holds_lock (option_map number_of lock) guard.old ≡ false }
-    ensures { OnOk result (guard.new ≡ locked_by (option_map number_of lock) guard.old) }
-{
-    if let Some(id) = lock {
-        let _taken = guard.lock(id)?;
-    }
-    Ok(())
-}
+use ob_machine_parts::heap::{find, note};
+use ob_machine_parts::locks::{pop_test, push_test, release, take_lock};
+use ob_machine_parts::off::Off;
+use ob_machine_parts::seen::is_in_state;
+use ob_machine_parts::slots::reference;
 
 impl Run {
     // Where a test holds it is noted, with the lock that it takes; else the run goes to the target.

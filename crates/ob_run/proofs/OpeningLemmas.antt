@@ -3,7 +3,7 @@ use Rattle.std.proofs.Common.{◌≡◌, ◌⊎◌, inl, inr, ⊎_elim, ℕ, ◌
 use Rattle.ob_code.specs.Images.{image}
 use Rattle.ob_code.specs.declared.image.Image.{Image}
 use Rattle.ob_disk_spec.specs.Disk.{DiskView, Reads, LeavesOnly, IsQuiet}
-use Rattle.ob_disk_spec.specs.Durable.{May, Throughout, During}
+use Rattle.ob_disk_spec.specs.Durable.{May, During}
 use Rattle.ob_disk_spec.proofs.Moments.{weaker, then, call, during_to, throughout_to}
 use Rattle.ob_emit_spec.specs.EmittedImages.{image_of}
 use Rattle.ob_emit_spec.specs.Weights.{most_weight}
@@ -11,8 +11,7 @@ use Rattle.ob_front.specs.Compiled.{IsCompiledProgram}
 use Rattle.ob_front.specs.Programs.{IsProgram}
 use Rattle.ob_heap.specs.Contents.{content_of}
 use Rattle.ob_io.specs.Causes.{Rose}
-use Rattle.ob_io.specs.Views.{SinkView}
-use Rattle.ob_journal_spec.specs.Areas.{IsBlank, IsBlankOrBegun, area_of, begun}
+use Rattle.ob_journal_spec.specs.Areas.{IsBlankOrBegun, area_of, begun}
 use Rattle.ob_machine_steps.specs.ImageTables.{table_of_image}
 use Rattle.ob_rest_spec.specs.AtRest.{IsStoreAtRest}
 use Rattle.ob_silica.specs.Terms.{SilicaBody}
@@ -24,11 +23,11 @@ use Rattle.ob_store.specs.Opening.{IsBlankStart}
 use Rattle.ob_store.specs.Stores.{program_of, area_of_store, kept_of, state_of, StandsOn}
 use Rattle.ob_store.specs.declared.store.Store.{Store}
 use Rattle.ob_store_spec.specs.Stores.{StoreProgram, StoreRefusal, IsStoreOf, IsRefused}
-use Rattle.ob_words.specs.Asked.{Command, serve_stored}
-use Rattle.ob_run.specs.Openings.{RefusesStore, OpensNot, IsOpenedAs, StaysUnopened, OpensAs}
+use Rattle.ob_words.specs.Asked.{serve_stored}
+use Rattle.ob_run.specs.Openings.{KeepsStoreOf, OpensNot, IsOpenedAs, StaysUnopened, OpensAs}
 use Rattle.ob_run.specs.Sessions.{area_bytes, program_with}
 use Rattle.ob_run.specs.Statuses.{Treats}
-use Rattle.ob_run.specs.TextRead.{asked_with, TellsRefusal}
+use Rattle.ob_run.specs.TextRead.{TellsRefusal, asked_with}
 use Rattle.ob_run.specs.declared.serving.Unopened.{Unopened}
 use Rattle.ob_run.specs.declared.serving.Unopened.TheVariants as unopened
 use Rattle.ob_run.specs.declared.exit.Exit.{Exit}
@@ -125,17 +124,17 @@ module _ (table : ClassTable) (bodies : List SilicaBody) (code : Image) (compile
   image_is : image.bytes code ≡ image.bytes (image_of table bodies)
   image_is = cc emitted
 
+  abbrev pub kept_store : KeepsStoreOf (serve_stored name file) text
+  kept_store = record { name = name; store = file; is = refl; table = table; bodies = bodies; program = is }
+
   -- its store wasn't opened
   pub opens_not : StaysUnopened (program_of code) old.disk new.disk → new.input ≡ old.input → new.output ≡ old.output → OpensNot (serve_stored name file) text old new
   opens_not stays input output = record {
-    name = name;
-    store = file;
-    is = refl;
-    table = table;
-    bodies = bodies;
-    program = is;
-    quiet = stays.quiet;
-    disk = subst (λ (bytes : List ℕ). During old.disk new.disk (λ c. May old.disk c ⊎ IsBlankOrBegun bytes (area_of area_bytes c))) image_is stays.disk;
+    of = kept_store;
+    stays = record {
+      quiet = stays.quiet;
+      disk = subst (λ (bytes : List ℕ). During old.disk new.disk (λ c. May old.disk c ⊎ IsBlankOrBegun bytes (area_of area_bytes c))) image_is stays.disk;
+    };
     input = input;
     output = output;
   }
@@ -152,24 +151,14 @@ module _ (table : ClassTable) (bodies : List SilicaBody) (code : Image) (compile
           (refused_by_source (record { table = table; bodies = bodies }) code (is_sound_for table bodies code compiled emitted sound) (image.bytes code) (area_of area_bytes c) cause (told c reads))
 
       by : (exit : Exit) → TellsRefusal cause old.output new.output exit → Treats (asked_with (serve_stored name file) fuel lanes slice) text old new exit
-      by StoreRefused tells = inr (inl (record {
-        name = name;
-        store = file;
-        is = refl;
-        table = table;
-        bodies = bodies;
-        program = is;
+      by StoreRefused tells = record {
+        of = kept_store;
         line = record { bytes = tells.bytes; said = record { cause = cause; told = refused; line = tells.said }; written = tells.written };
         input = input;
         disk = kept;
-      }))
+      }
       by WriteFault tells = inr (inl (record {
-        name = name;
-        store = file;
-        is = refl;
-        table = table;
-        bodies = bodies;
-        program = is;
+        of = kept_store;
         line = record { bytes = tells.bytes; said = record { cause = cause; told = refused; line = tells.said }; cause = tells.cause; front = tells.front };
         input = input;
         disk = kept;

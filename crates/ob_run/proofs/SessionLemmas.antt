@@ -1,9 +1,11 @@
 -- From a session of a program to what its command says.
-use Rattle.std.specs.Prelude.{pos, option_map}
-use Rattle.std.proofs.Common.{◌≡◌, ◌⊎◌, inl, inr, ⊎_elim, ℕ, ◌≤◌, ◌+◌, List, [], length, map, Option, None, Some, refl, sym, ◌∙◌, ap, subst, arith}
+use Rattle.std.specs.Prelude.{◌≢◌, pos, option_map}
+use Rattle.std.proofs.Common.{◌≡◌, ◌⊎◌, inl, inr, ⊎_elim, ℕ, ◌≤◌, ◌+◌, List, length, Option, None, Some, refl, sym, ◌∙◌, ap, subst, arith}
 use Rattle.ob_code.specs.Images.{image}
 use Rattle.ob_code.specs.declared.image.Image.{Image}
-use Rattle.ob_disk_spec.specs.Disk.{DiskView, Reads, LeavesOnly}
+use Rattle.ob_disk_spec.specs.Disk.{DiskView}
+use Rattle.ob_disk_spec.specs.Calls.{IsUntouched}
+use Rattle.ob_disk_spec.proofs.Untouched.{untouched_none}
 use Rattle.ob_disk_spec.specs.Durable.{May, Throughout, During}
 use Rattle.ob_disk_spec.proofs.Moments.{weaker, then, during_none, throughout_to, throughout_may}
 use Rattle.ob_io.specs.Causes.{Rose}
@@ -11,7 +13,7 @@ use Rattle.ob_base.specs.Limits.{most_taken}
 use Rattle.ob_io.specs.Told.{TakesAtMost, Gives}
 use Rattle.ob_io.specs.Views.{SourceView, SinkView}
 use Rattle.ob_store.proofs.Standing.{stores_stand}
-use Rattle.ob_serve.specs.Session.{SessionItem}
+use Rattle.ob_serve.specs.Session.{SessionItem, requests_in}
 use Rattle.ob_emit_spec.specs.EmittedImages.{image_of}
 use Rattle.ob_emit_spec.specs.Weights.{most_weight}
 use Rattle.ob_front.specs.Compiled.{IsCompiledProgram}
@@ -33,32 +35,56 @@ use Rattle.ob_store.specs.Stores.{program_of, area_of_store, gate_of, serial_of,
 use Rattle.ob_store.specs.declared.store.Store.{Store}
 use Rattle.ob_store_spec.specs.Stores.{StoreProgram, StoreState, IsStoreOf}
 use Rattle.ob_serve.specs.Items.{by_source, item_of}
-use Rattle.ob_serve.specs.Kept.{IsSoundFor, IsSound}
+use Rattle.ob_serve.specs.Kept.{IsServable, IsSoundFor}
 use Rattle.ob_serve.specs.Served.{Devices, SpeaksOf, Ends, IsCause}
 use Rattle.ob_serve.specs.Standing.{StandsForStore, source_program}
 use Rattle.ob_serve.specs.declared.serving.Served.{Served}
 use Rattle.ob_serve.specs.declared.serving.Served.TheVariants as ended
 use Rattle.ob_serve.proofs.Keeping.{empty_rests, keeps_sessions}
-use Rattle.ob_serve.proofs.Tables.{rests_by_source, rests_by_image, stands_by_source}
+use Rattle.ob_serve.proofs.Progress.{stored_holds}
+use Rattle.ob_serve.proofs.Tables.{rests_by_source, stands_by_source, storable}
 use Rattle.ob_words.specs.Asked.{serve, serve_stored, Asked}
 use Rattle.ob_run.specs.Openings.{IsOpenedAs}
 use Rattle.ob_run.specs.Sessions.{area_bytes, program_with, store_in_memory, ServesProgram}
-use Rattle.ob_run.specs.Statuses.{Tells, EndsSession, Treats}
-use Rattle.ob_run.specs.TextRead.{asked_with, exit_of}
+use Rattle.ob_run.specs.Statuses.{Treats}
+use Rattle.ob_run.specs.Survival.{Survives}
+use Rattle.ob_run.specs.TextRead.{Tells, asked_with, exit_of}
 use Rattle.ob_run.specs.declared.exit.Exit.{Exit}
+use Rattle.ob_run.specs.declared.exit.Exit.TheVariants.{Done, Refused, Usage, ReadFault, WriteFault, DiskFault, StoreRefused, FileFault, Memory, Long}
 
 -- nothing is done with a disk
-pub spared : (v : DiskView) → During v v (May v)
-spared v = during_none v (May v) (record { content = λ c reads. inl reads; images = λ c left. inr left })
+pub spared : (v : DiskView) → IsUntouched v v
+spared v = untouched_none v
 
--- a session that ended is told by the exit
-pub ends_session : (asked : Asked) (text : List ℕ) (old new : Devices) (served : Served) → ServesProgram asked text old new served → EndsSession asked text old new (exit_of served)
-ends_session asked text old new ended.Done h = h
+-- what was written of the text alone is what the exit says
+pub told_alone : (asked : Asked) (text : List ℕ) (old new : Devices) (exit : Exit) → Tells asked.command text old.output new.output exit → new.input ≡ old.input → IsUntouched old.disk new.disk → Treats asked text old new exit
+told_alone asked text old new Done tells input disk = inl (record { output = tells; input = input; disk = disk })
+told_alone asked text old new Refused tells input disk = record { output = tells; input = input; disk = disk }
+told_alone asked text old new WriteFault tells input disk = inl (record { output = tells; input = input; disk = disk })
+told_alone asked text old new Memory tells input disk = inl (record { output = tells; input = input; disk = disk })
+told_alone asked text old new Usage tells input disk = absurd tells
+told_alone asked text old new ReadFault tells input disk = absurd tells
+told_alone asked text old new DiskFault tells input disk = absurd tells
+told_alone asked text old new StoreRefused tells input disk = absurd tells
+told_alone asked text old new FileFault tells input disk = absurd tells
+told_alone asked text old new Long tells input disk = absurd tells
+
+-- a session that ended is what the exit says
+pub ends_session : (asked : Asked) (text : List ℕ) (old new : Devices) (served : Served) → ServesProgram asked text old new served → Treats asked text old new (exit_of served)
+ends_session asked text old new ended.Done h = inr h
 ends_session asked text old new ended.ReadFault h = h
-ends_session asked text old new ended.WriteFault h = h
-ends_session asked text old new ended.DiskFault h = h
-ends_session asked text old new ended.Memory h = h
+ends_session asked text old new ended.WriteFault h = inr (inr h)
+ends_session asked text old new ended.DiskFault h = inr h
+ends_session asked text old new ended.Memory h = inr (inr h)
 ends_session asked text old new ended.Long h = h
+
+-- what a crash leaves of a session, by its end
+pub survives : {S : Type 0} (item : S → List ℕ → SessionItem S) (stands : S → List ℕ → Type 0) (start : S) (old new : Devices) (served : Served) (ends : Ends item stands start old new served)
+    → Survives item stands start (requests_in ends.lines) ends.given old.disk new.disk
+survives item stands start old new served ends = record {
+  now = throughout_to new.disk _ _ ends.stored (stored_holds item stands start old new served ends);
+  since = ends.since;
+}
 
 -- a store in memory has no journal
 no_journal : (journal : Option Journal) → option_map area_size journal ≡ None → journal ≡ None
@@ -98,8 +124,9 @@ module _ (table : ClassTable) (bodies : List SilicaBody) (code : Image) (compile
   pub is_sound_for : IsSoundFor program code
   is_sound_for = record { sound = sound; emitted = emitted; table = compiled.lowered.table }
 
-  pub is_sound : IsSound code
-  is_sound = (program, is_sound_for)
+  -- and may be served
+  pub is_servable : IsServable code
+  is_servable = record { sound = sound.alone; storable = storable program code is_sound_for }
 
   -- a store knows it by its class table and its image
   pub same_program : source_program table code ≡ program_with table bodies
@@ -109,20 +136,24 @@ module _ (table : ClassTable) (bodies : List SilicaBody) (code : Image) (compile
     -- a session over a store in memory
     pub serves_in_memory : (name : List ℕ) (old new : Devices) (served : Served) (store : Store) → content_of (kept_of store) ≡ empty_content → area_of_store store ≡ None → state_of store ≡ store_in_memory
         → Ends (item_of (by_source table fuel (area_of_store store))) (StandsForStore (source_program table code) (area_of_store store)) (state_of store) old new served
-        → During old.disk new.disk (May old.disk) → TakesAtMost old.input new.input most_taken → ServesProgram (asked_with (serve name) fuel lanes slice) text old new served
-    serves_in_memory name old new served store empty memory begins ends quiet few = record {
+        → IsUntouched old.disk new.disk → served ≢ ended.DiskFault → TakesAtMost old.input new.input most_taken → ServesProgram (asked_with (serve name) fuel lanes slice) text old new served
+    serves_in_memory name old new served store empty memory begins ends quiet sure few = record {
       table = table;
       bodies = bodies;
       program = is;
       start = store_in_memory;
       begins = refl;
-      ends = subst (λ (p : StoreProgram). Ends (item_of (by_source table fuel None)) (StandsForStore p None) store_in_memory old new served) same_program
-          (subst (λ (s : StoreState). Ends (item_of (by_source table fuel None)) (StandsForStore (source_program table code) None) s old new served) begins
-          (subst (λ (area : Option ℕ). Ends (item_of (by_source table fuel area)) (StandsForStore (source_program table code) area) (state_of store) old new served) memory ends));
+      ends = in_memory;
+      crash = survives (item_of (by_source table fuel None)) (StandsForStore (program_with table bodies) None) store_in_memory old new served in_memory;
       kept = keeps_sessions program code fuel is_sound_for;
-      spared = quiet;
+      spared = λ none. (quiet, sure);
       few = few;
     }
+      where
+        in_memory : Ends (item_of (by_source table fuel None)) (StandsForStore (program_with table bodies) None) store_in_memory old new served
+        in_memory = subst (λ (p : StoreProgram). Ends (item_of (by_source table fuel None)) (StandsForStore p None) store_in_memory old new served) same_program
+            (subst (λ (s : StoreState). Ends (item_of (by_source table fuel None)) (StandsForStore (source_program table code) None) s old new served) begins
+            (subst (λ (area : Option ℕ). Ends (item_of (by_source table fuel area)) (StandsForStore (source_program table code) area) (state_of store) old new served) memory ends))
 
     -- an area that stands for a store of the code stands for one of the program
     pub by_program : (c : List ℕ) (s : StoreState) → IsStoreOf (program_of code) (area_of area_bytes c) s → IsStoreOf (program_with table bodies) (area_of area_bytes c) s
@@ -141,8 +172,9 @@ module _ (table : ClassTable) (bodies : List SilicaBody) (code : Image) (compile
       start = state_of store;
       begins = (rests_by_source program code is_sound_for (content_of (kept_of store)) opened.at_rest, λ c reads. by_program c (state_of store) (opened.was c reads));
       ends = from_old;
+      crash = survives item stands (state_of store) old new served from_old;
       kept = keeps_sessions program code fuel is_sound_for;
-      spared = tt;
+      spared = λ none. absurd (cc none);
       few = subst (λ (v : SourceView). TakesAtMost v new.input most_taken) input few;
     }
       where

@@ -1,19 +1,22 @@
 -- What is done with a text that was cut is done with all of it.
-use Rattle.std.proofs.Common.{◌≡◌, ◌⊎◌, inl, inr, ℕ, ◌<◌, ◌≤◌, List, length, take, Option, None, Some, refl, subst, arith, length-take}
+use Rattle.std.proofs.Common.{◌≡◌, inl, inr, ℕ, ◌<◌, ◌≤◌, List, length, take, Option, None, Some, refl, subst, arith, length-take}
 use Rattle.std.proofs.lemmas.Bool.{cases_lt}
 use Rattle.std.proofs.lemmas.List.{take_all}
 use Rattle.ob_base.specs.Limits.{longest_program}
 use Rattle.ob_base.specs.declared.fault.ProgramFault.{ProgramFault}
-use Rattle.ob_io.specs.Views.{SinkView}
 use Rattle.ob_table.specs.Tables.{ClassTable}
 use Rattle.ob_silica.specs.Terms.{SilicaBody}
 use Rattle.ob_lexer.specs.Flaws.{HasFault, too_long, no_utf8, flawed}
 use Rattle.ob_front.specs.Stages.{at_token, at_row, HasTableFault, at_tree, at_bracket, at_site}
 use Rattle.ob_front.specs.Programs.{HasTermsFault, at_table, at_slot, IsProgram, HasTextFault, at_terms, at_premise, at_weight}
-use Rattle.ob_serve.specs.Served.{Devices, IsAll}
+use Rattle.ob_serve.specs.Served.{Devices, IsToldAs}
+use Rattle.ob_serve.specs.declared.serving.Served.{Served}
+use Rattle.ob_serve.specs.declared.serving.Served.TheVariants as ended
 use Rattle.ob_words.specs.Asked.{Command, check, serve, serve_stored, trial, Asked}
 use Rattle.ob_run.specs.FileAsks.{most_read}
-use Rattle.ob_run.specs.Statuses.{IsRefusal, IsFinding, IsOfText, Tells, FailsToOpen, EndsSession, Treats}
+use Rattle.ob_run.specs.Openings.{OpensNot}
+use Rattle.ob_run.specs.Sessions.{ServesProgram}
+use Rattle.ob_run.specs.Statuses.{IsRefusal, IsFinding, IsOfText, Treats}
 use Rattle.ob_run.specs.TextRead.{IsReadOf}
 use Rattle.ob_run.specs.declared.exit.Exit.{Exit}
 use Rattle.ob_run.specs.declared.exit.Exit.TheVariants.{Done, Refused, Usage, ReadFault, WriteFault, DiskFault, StoreRefused, FileFault, Memory, Long}
@@ -59,46 +62,37 @@ module _ (content : List ℕ) (long : longest_program < length (take most_read c
   too_long_of_text command bytes (inl h) = inl (too_long_refusal bytes h)
   too_long_of_text command bytes (inr h) = absurd (not_found command bytes h)
 
-  too_long_tells : (command : Command) (old new : SinkView) (exit : Exit) → Tells command (take most_read content) old new exit → Tells command content old new exit
-  too_long_tells command old new Done h = absurd (not_found command h.bytes h.said)
-  too_long_tells command old new Refused h = record { bytes = h.bytes; said = too_long_refusal h.bytes h.said; written = h.written }
-  too_long_tells command old new WriteFault h = record { bytes = h.bytes; said = too_long_of_text command h.bytes h.said; cause = h.cause; front = h.front }
-  too_long_tells command old new Memory h = h
-  too_long_tells command old new Usage h = h
-  too_long_tells command old new ReadFault h = h
-  too_long_tells command old new DiskFault h = h
-  too_long_tells command old new StoreRefused h = h
-  too_long_tells command old new FileFault h = h
-  too_long_tells command old new Long h = h
+  serves_none : (asked : Asked) (old new : Devices) (served : Served) → ServesProgram asked (take most_read content) old new served → ⊥
+  serves_none asked old new served h = no_program h.table h.bodies h.program
 
-  opens_none : (command : Command) (old new : Devices) (exit : Exit) → FailsToOpen command (take most_read content) old new exit → ⊥
-  opens_none command old new StoreRefused h = no_program h.table h.bodies h.program
-  opens_none command old new WriteFault h = no_program h.table h.bodies h.program
-  opens_none command old new DiskFault h = no_program h.0.table h.0.bodies h.0.program
-  opens_none command old new Memory h = no_program h.table h.bodies h.program
-  opens_none command old new Done h = h
-  opens_none command old new Refused h = h
-  opens_none command old new Usage h = h
-  opens_none command old new ReadFault h = h
-  opens_none command old new FileFault h = h
-  opens_none command old new Long h = h
-
-  serves_none : (asked : Asked) (old new : Devices) (exit : Exit) → EndsSession asked (take most_read content) old new exit → ⊥
-  serves_none asked old new Done h = no_program h.table h.bodies h.program
-  serves_none asked old new ReadFault h = no_program h.table h.bodies h.program
-  serves_none asked old new WriteFault h = no_program h.table h.bodies h.program
-  serves_none asked old new DiskFault h = no_program h.table h.bodies h.program
-  serves_none asked old new Memory h = no_program h.table h.bodies h.program
-  serves_none asked old new Long h = no_program h.table h.bodies h.program
-  serves_none asked old new Refused h = h
-  serves_none asked old new Usage h = h
-  serves_none asked old new StoreRefused h = h
-  serves_none asked old new FileFault h = h
+  opens_none : (command : Command) (old new : Devices) → OpensNot command (take most_read content) old new → ⊥
+  opens_none command old new h = no_program h.of.table h.of.bodies h.of.program
 
   too_long_treated : (asked : Asked) (old new : Devices) (exit : Exit) → Treats asked (take most_read content) old new exit → Treats asked content old new exit
-  too_long_treated asked old new exit (inl h) = inl (record { output = too_long_tells asked.command old.output new.output exit h.output; input = h.input; disk = h.disk })
-  too_long_treated asked old new exit (inr (inl h)) = absurd (opens_none asked.command old new exit h)
-  too_long_treated asked old new exit (inr (inr h)) = absurd (serves_none asked old new exit h)
+  too_long_treated asked old new Done (inl h) = absurd (not_found asked.command h.output.bytes h.output.said)
+  too_long_treated asked old new Done (inr h) = absurd (serves_none asked old new ended.Done h)
+  too_long_treated asked old new Refused h = record {
+    output = record { bytes = h.output.bytes; said = too_long_refusal h.output.bytes h.output.said; written = h.output.written };
+    input = h.input;
+    disk = h.disk;
+  }
+  too_long_treated asked old new ReadFault h = absurd (serves_none asked old new ended.ReadFault h)
+  too_long_treated asked old new WriteFault (inl h) = inl (record {
+    output = record { bytes = h.output.bytes; said = too_long_of_text asked.command h.output.bytes h.output.said; cause = h.output.cause; front = h.output.front };
+    input = h.input;
+    disk = h.disk;
+  })
+  too_long_treated asked old new WriteFault (inr (inl h)) = absurd (no_program h.of.table h.of.bodies h.of.program)
+  too_long_treated asked old new WriteFault (inr (inr h)) = absurd (serves_none asked old new ended.WriteFault h)
+  too_long_treated asked old new DiskFault (inl h) = absurd (opens_none asked.command old new h.0)
+  too_long_treated asked old new DiskFault (inr h) = absurd (serves_none asked old new ended.DiskFault h)
+  too_long_treated asked old new StoreRefused h = absurd (no_program h.of.table h.of.bodies h.of.program)
+  too_long_treated asked old new Memory (inl h) = inl h
+  too_long_treated asked old new Memory (inr (inl h)) = absurd (opens_none asked.command old new h)
+  too_long_treated asked old new Memory (inr (inr h)) = absurd (serves_none asked old new ended.Memory h)
+  too_long_treated asked old new Long h = absurd (serves_none asked old new ended.Long h)
+  too_long_treated asked old new Usage h = h
+  too_long_treated asked old new FileFault h = h
 
 -- a text that isn't too long was read whole
 whole : (content : List ℕ) → length (take most_read content) ≤ longest_program → take most_read content ≡ content
@@ -113,7 +107,7 @@ treated_whole asked content old new exit h = elim (cases_lt longest_program (len
 -- what a command does with what it read is what it does with all that is told
 pub record TreatsAll (asked : Asked) (content : Option (List ℕ)) (old new : Devices) (exit : Exit) : Type 0 where
   pub text : List ℕ
-  pub told : IsAll content text
+  pub told : IsToldAs content text
   pub treats : Treats asked text old new exit
 
 pub treated_all : (asked : Asked) (content : Option (List ℕ)) (text : List ℕ) (old new : Devices) (exit : Exit) → IsReadOf content text → Treats asked text old new exit → TreatsAll asked content old new exit

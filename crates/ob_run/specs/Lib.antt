@@ -4,11 +4,15 @@ pub mod FileAsks
 pub mod FaultLine
 pub mod StoreLine
 pub mod Outside
+pub mod Faults
 pub mod Writes
+pub mod Survival
 pub mod Sessions
+pub mod Attaching
 pub mod Openings
 pub mod TrialLines
 pub mod Statuses
-pub mod Survival
+pub mod Reasons
+pub mod Runs
 pub mod ExitStatus
 pub mod TextRead

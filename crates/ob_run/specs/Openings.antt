@@ -15,6 +15,7 @@ use Rattle.ob_journal_spec.specs.Areas.{IsBlank, IsBlankOrBegun, area_of}
 use Rattle.ob_store_spec.specs.Stores.{StoreProgram, StoreRefusal, IsStoreOf, IsRefused}
 use Rattle.ob_serve.specs.Served.{Devices}
 use Rattle.ob_words.specs.Asked.{Command, serve_stored}
+use Rattle.ob_run.specs.Outside.{KeepsBytes}
 use Rattle.ob_run.specs.Sessions.{area_bytes, program_with}
 use Rattle.ob_run.specs.StoreLine.{store_line, refusal_view}
 use Rattle.ob_run.specs.declared.serving.Unopened.{Unopened}
@@ -26,52 +27,50 @@ pub record IsStoreRefusal (program : StoreProgram) (disk : DiskView) (bytes : Li
   pub told : (c : List ℕ) → Reads disk c → IsRefused program (area_of area_bytes c) cause
   pub line : bytes ≡ store_line cause
 
+-- The command keeps its store on a disk, and its text is a program.
+pub record KeepsStoreOf (command : Command) (text : List ℕ) : Type 0 where
+  pub name : List ℕ
+  pub store : List ℕ
+  pub is : command ≡ serve_stored name store
+  pub table : ClassTable
+  pub bodies : List SilicaBody
+  pub program : IsProgram text table bodies
+
 -- The text is a program, and what the disk reads was refused for it: this is said of the line and the output. No input was taken, and no
 -- byte of the disk changed.
-pub record RefusesStore (command : Command) (text : List ℕ) (says : (List ℕ → Type 0) → SinkView → SinkView → Type 0) (old new : Devices) : Type 0 where
-  pub name : List ℕ
-  pub store : List ℕ
-  pub is : command ≡ serve_stored name store
-  pub table : ClassTable
-  pub bodies : List SilicaBody
-  pub program : IsProgram text table bodies
-  pub line : says (IsStoreRefusal (program_with table bodies) old.disk) old.output new.output
-  pub input : new.input ≡ old.input
-  pub disk : During old.disk new.disk (May old.disk)
+pub record RefusesStore (command : Command) (text : List ℕ) (says : (List ℕ → Type 0) → SinkView → SinkView → Type 0) (before after : Devices) : Type 0 where
+  pub of : KeepsStoreOf command text
+  pub line : says (IsStoreRefusal (program_with of.table of.bodies) before.disk) before.output after.output
+  pub input : after.input ≡ before.input
+  pub disk : KeepsBytes before.disk after.disk
 
--- The text is a program, and its store wasn't opened. A disk that isn't blank is as it was handed in; of a blank one each image is as it
--- was, or blank, or begun. Neither stream was touched.
-pub record OpensNot (command : Command) (text : List ℕ) (old new : Devices) : Type 0 where
-  pub name : List ℕ
-  pub store : List ℕ
-  pub is : command ≡ serve_stored name store
-  pub table : ClassTable
-  pub bodies : List SilicaBody
-  pub program : IsProgram text table bodies
-  pub quiet : (c : List ℕ) → Reads old.disk c → ¬ (IsBlank (area_of area_bytes c)) → During old.disk new.disk (May old.disk)
-  pub disk : During old.disk new.disk (λ c. May old.disk c ⊎ IsBlankOrBegun (program_with table bodies).image (area_of area_bytes c))
-  pub input : new.input ≡ old.input
-  pub output : new.output ≡ old.output
+-- A store of this program wasn't opened. A disk that isn't blank is as it was handed in; of a blank one each image is as it was, or blank, or
+-- begun.
+pub record StaysUnopened (program : StoreProgram) (before after : DiskView) : Type 0 where
+  pub quiet : (c : List ℕ) → Reads before c → ¬ (IsBlank (area_of area_bytes c)) → KeepsBytes before after
+  pub disk : During before after (λ c. May before c ⊎ IsBlankOrBegun program.image (area_of area_bytes c))
+
+-- The text is a program, and its store wasn't opened. Neither stream was touched.
+pub record OpensNot (command : Command) (text : List ℕ) (before after : Devices) : Type 0 where
+  pub of : KeepsStoreOf command text
+  pub stays : StaysUnopened (program_with of.table of.bodies) before.disk after.disk
+  pub input : after.input ≡ before.input
+  pub output : after.output ≡ before.output
 
 -- ---- what opening a store answers; for private clauses
 
 -- what is said of a disk whose store was opened
-pub record IsOpenedAs (program : StoreProgram) (old new : DiskView) (store : Store) : Type 0 where
+pub record IsOpenedAs (program : StoreProgram) (before after : DiskView) (store : Store) : Type 0 where
   pub area : area_of_store store ≡ Some area_bytes
   pub at_rest : IsStoreAtRest program.table (content_of (kept_of store))
-  pub was : (c : List ℕ) → Reads old c → IsStoreOf program (area_of area_bytes c) (state_of store)
-  pub stands : StandsOn program store new
-  pub since : LeavesOnly old new (λ c. May old c ⊎ IsStoreOf program (area_of area_bytes c) (state_of store))
-
--- what is said of one whose store wasn't
-pub record StaysUnopened (program : StoreProgram) (old new : DiskView) : Type 0 where
-  pub quiet : (c : List ℕ) → Reads old c → ¬ (IsBlank (area_of area_bytes c)) → During old new (May old)
-  pub disk : During old new (λ c. May old c ⊎ IsBlankOrBegun program.image (area_of area_bytes c))
+  pub was : (c : List ℕ) → Reads before c → IsStoreOf program (area_of area_bytes c) (state_of store)
+  pub stands : StandsOn program store after
+  pub since : LeavesOnly before after (λ c. May before c ⊎ IsStoreOf program (area_of area_bytes c) (state_of store))
 
 -- the answer says its own
 abbrev pub OpensAs : StoreProgram → DiskView → DiskView → Result Store Unopened → Type 0
-OpensAs program old new (Ok store) = IsOpenedAs program old new store
-OpensAs program old new (Err (Refused refusal)) =
-    ((c : List ℕ) → Reads old c → IsRefused program (area_of area_bytes c) (refusal_view refusal)) × During old new (May old)
-OpensAs program old new (Err DiskFault) = StaysUnopened program old new × Rose old.faults new.faults
-OpensAs program old new (Err Memory) = StaysUnopened program old new
+OpensAs program before after (Ok store) = IsOpenedAs program before after store
+OpensAs program before after (Err (Refused refusal)) =
+    ((c : List ℕ) → Reads before c → IsRefused program (area_of area_bytes c) (refusal_view refusal)) × KeepsBytes before after
+OpensAs program before after (Err DiskFault) = StaysUnopened program before after × Rose before.faults after.faults
+OpensAs program before after (Err Memory) = StaysUnopened program before after

@@ -1,38 +1,33 @@
 -- All that a run meets outside itself.
-use Rattle.std.specs.Prelude.{ℕ, ◌≡◌, ◌+◌}
+use Rattle.std.specs.Prelude.{◌≡◌}
 use Rattle.ob_disk_spec.specs.Disk.{DiskView}
 use Rattle.ob_disk_spec.specs.Durable.{May, During}
+use Rattle.ob_disk_spec.specs.Calls.{IsUntouched}
 use Rattle.ob_io.specs.Views.{SourceView, SinkView, FilesView}
 use Rattle.ob_serve.specs.Served.{Devices}
+use Rattle.ob_run.specs.declared.outside.Outside.{Outside}
 
 -- what the files, the input, the output and the disk tell at a moment
-pub record Outside : Type 1 where
+pub record OutsideView : Type 1 where
   pub files : FilesView
   pub input : SourceView
   pub output : SinkView
   pub disk : DiskView
 
--- what these tell
-abbrev pub outside : FilesView → SourceView → SinkView → DiskView → Outside
-outside files input output disk = record { files = files; input = input; output = output; disk = disk }
+-- what they tell, each by its own view
+abbrev pub told : {F S K D : Type 0} → (F → FilesView) → (S → SourceView) → (K → SinkView) → (D → DiskView) → Outside F S K D → OutsideView
+told files input output disk o = record { files = files o.files; input = input o.input; output = output o.output; disk = disk o.disk }
 
 -- the input, the output and the disk
-abbrev pub devices : Outside → Devices
+abbrev pub devices : OutsideView → Devices
 devices o = record { input = o.input; output = o.output; disk = o.disk }
 
--- how often a call of any of them failed
-abbrev pub faults_of : Outside → ℕ
-faults_of o = o.files.faults + o.input.faults + o.output.faults + o.disk.faults
+-- no byte of a disk changed, a crash at any moment counted in
+abbrev pub KeepsBytes : DiskView → DiskView → Type 0
+KeepsBytes before after = During before after (May before)
 
--- no call of any of them failed: each count is as it was
-pub record IsCalm (old new : Outside) : Type 0 where
-  pub files : new.files.faults ≡ old.files.faults
-  pub input : new.input.faults ≡ old.input.faults
-  pub output : new.output.faults ≡ old.output.faults
-  pub disk : new.disk.faults ≡ old.disk.faults
-
--- the input is as it was, and so is the output, and no byte of the disk changed
-pub record KeepsDevices (old new : Devices) : Type 0 where
-  pub input : new.input ≡ old.input
-  pub output : new.output ≡ old.output
-  pub disk : During old.disk new.disk (May old.disk)
+-- the input is as it was, and so is the output, and no call of the disk was made
+pub record KeepsDevices (before after : Devices) : Type 0 where
+  pub input : after.input ≡ before.input
+  pub output : after.output ≡ before.output
+  pub disk : IsUntouched before.disk after.disk

@@ -1,12 +1,12 @@
 -- The sessions of a program that is served (this project's own).
-use Rattle.std.specs.Prelude.{ℕ, pos, ◌≡◌, ⊤, List, Option, Some, None}
+use Rattle.std.specs.Prelude.{ℕ, pos, ◌≡◌, ◌≢◌, List, Option, Some, None}
 use Rattle.ob_base.specs.Limits.{most_taken}
 use Rattle.ob_table.specs.Tables.{ClassTable}
 use Rattle.ob_silica.specs.Terms.{SilicaBody}
 use Rattle.ob_code.specs.Images.{image}
 use Rattle.ob_emit_spec.specs.EmittedImages.{image_of}
 use Rattle.ob_disk_spec.specs.Disk.{DiskView, Reads}
-use Rattle.ob_disk_spec.specs.Durable.{May, During}
+use Rattle.ob_disk_spec.specs.Calls.{IsUntouched}
 use Rattle.ob_front.specs.Programs.{IsProgram}
 use Rattle.ob_heap_spec.specs.Contents.{empty_content}
 use Rattle.ob_io.specs.Told.{TakesAtMost}
@@ -15,11 +15,13 @@ use Rattle.ob_rest_spec.specs.AtRest.{IsStoreAtRest}
 use Rattle.ob_store_spec.specs.Stores.{StoreProgram, StoreState, IsStoreOf}
 use Rattle.ob_serve.specs.Items.{by_source, item_of}
 use Rattle.ob_serve.specs.Kept.{KeepsSessions}
-use Rattle.ob_serve.specs.Session.{SessionItem}
+use Rattle.ob_serve.specs.Session.{SessionItem, requests_in}
 use Rattle.ob_serve.specs.Served.{Devices, Ends}
 use Rattle.ob_serve.specs.Standing.{StandsForStore}
 use Rattle.ob_serve.specs.declared.serving.Served.{Served}
+use Rattle.ob_serve.specs.declared.serving.Served.TheVariants.{DiskFault}
 use Rattle.ob_words.specs.Asked.{Command, check, serve, serve_stored, trial, Asked}
+use Rattle.ob_run.specs.Survival.{Survives}
 
 -- how many bytes a store may take on a disk: 64 MiB
 abbrev pub area_bytes : ℕ
@@ -40,7 +42,7 @@ program_with table bodies = record { table = table; image = image.bytes (image_o
 abbrev pub store_in_memory : StoreState
 store_in_memory = record { content = empty_content; gate = 0; serial = pos 0 }
 
--- the store on which a command's session begins: an empty one in memory, or the one, at rest, for which the disk stands
+-- the store on which a command's session begins: an empty one in memory, or the one, at rest, that the disk represents
 abbrev pub BeginsAt : Command → StoreProgram → DiskView → StoreState → Type 0
 BeginsAt (check name) program disk start = ⊥
 BeginsAt (serve name) program disk start = start ≡ store_in_memory
@@ -48,19 +50,12 @@ BeginsAt (serve_stored name store) program disk start =
     IsStoreAtRest program.table start.content × ((c : List ℕ) → Reads disk c → IsStoreOf program (area_of area_bytes c) start)
 BeginsAt (trial length) program disk start = ⊥
 
--- a command whose store is kept in memory changes no byte of the disk
-abbrev pub SparesDisk : Command → Devices → Devices → Type 0
-SparesDisk (check name) old new = During old.disk new.disk (May old.disk)
-SparesDisk (serve name) old new = During old.disk new.disk (May old.disk)
-SparesDisk (serve_stored name store) old new = ⊤
-SparesDisk (trial length) old new = During old.disk new.disk (May old.disk)
-
 -- The item of a line: it is answered by the source meaning of a class table, with the fuel that is asked for, on the store that the line
 -- before left.
 abbrev pub source_item : Asked → ClassTable → StoreState → List ℕ → SessionItem StoreState
 source_item asked table = item_of (by_source table asked.limits.fuel (area_for asked.command))
 
--- bytes of a disk stand for the store of a command's session
+-- bytes of a disk represent the store of a command's session
 abbrev pub StandsOnDisk : Command → ClassTable → List SilicaBody → StoreState → List ℕ → Type 0
 StandsOnDisk command table bodies = StandsForStore (program_with table bodies) (area_for command)
 
@@ -69,15 +64,21 @@ StandsOnDisk command table bodies = StandsForStore (program_with table bodies) (
 abbrev pub IsKeptAlways : ClassTable → ℕ → Type 0
 IsKeptAlways table fuel = KeepsSessions table fuel
 
--- The text is a program, and a session of it ended so, on the store at which the command begins; what its items keep is kept, whatever
--- the lines are; and at most `most_taken` bytes of input were taken.
-pub record ServesProgram (asked : Asked) (text : List ℕ) (old new : Devices) (served : Served) : Type 0 where
+-- The text is a program, and a session of it ended so.
+pub record ServesProgram (asked : Asked) (text : List ℕ) (before after : Devices) (served : Served) : Type 0 where
   pub table : ClassTable
   pub bodies : List SilicaBody
   pub program : IsProgram text table bodies
+  -- the store at which it began
   pub start : StoreState
-  pub begins : BeginsAt asked.command (program_with table bodies) old.disk start
-  pub ends : Ends (source_item asked table) (StandsOnDisk asked.command table bodies) start old new served
+  pub begins : BeginsAt asked.command (program_with table bodies) before.disk start
+  -- of which lines the end speaks, how many were answered, what was written, and for what the disk stands
+  pub ends : Ends (source_item asked table) (StandsOnDisk asked.command table bodies) start before after served
+  -- of the same lines and the same bytes: a crash loses no line of whose reply a byte was written
+  pub crash : Survives (source_item asked table) (StandsOnDisk asked.command table bodies) start (requests_in ends.lines) ends.given before.disk after.disk
+  -- what each item keeps, whatever the lines are
   pub kept : IsKeptAlways table asked.limits.fuel
-  pub spared : SparesDisk asked.command old new
-  pub few : TakesAtMost old.input new.input most_taken
+  -- over a store in memory no call of the disk was made, so none failed
+  pub spared : area_for asked.command ≡ None → IsUntouched before.disk after.disk × (served ≢ DiskFault)
+  -- however it ended, at most `most_taken` bytes of input were taken
+  pub few : TakesAtMost before.input after.input most_taken

@@ -11,7 +11,7 @@ store_line (damaged offset) = codes "store: 612 Damaged " ++ decimal offset ++ c
 store_line (other_program offset) = codes "store: 615 OtherProgram " ++ decimal offset ++ codes "\n"
 store_line (not_at_rest object) = codes "store: 601 NotAtRest " ++ decimal object ++ codes "\n"
 
--- the cause that the code tells
+-- the cause that the code answers
 abbrev pub refusal_view : Told → StoreRefusal
 refusal_view NotStore = not_store
 refusal_view (Damaged offset) = damaged offset

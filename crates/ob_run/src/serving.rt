@@ -1,20 +1,27 @@
 //! A program is served: over a store in memory, or over one on a disk.
-ghost use Rattle.std.specs.Prelude.{◌≡◌, ◌≢◌, ◌+◌, ◌≤◌, ℕ, List, length};
+ghost use Rattle.std.specs.Prelude.{◌≡◌, ◌≤◌, ℕ, List, Some, None, OnOk, length};
 ghost use Rattle.ob_code.specs.Images.{image};
+ghost use Rattle.ob_disk_spec.specs.Calls.{IsAttached};
+ghost use Rattle.ob_disk_spec.specs.Durable.{KeepsBehind};
 ghost use Rattle.ob_emit_spec.specs.Weights.{most_weight};
 ghost use Rattle.ob_store.specs.Stores.{program_of};
 ghost use Rattle.ob_words.specs.Asked.{serve, serve_stored};
+ghost use Rattle.ob_run.specs.Attaching.{UsesDisk};
+ghost use Rattle.ob_run.specs.Faults.{CountsFault, EndsAtFault};
 ghost use Rattle.ob_run.specs.Openings.{OpensAs};
+ghost use Rattle.ob_run.specs.Outside.{told, devices};
+ghost use Rattle.ob_run.specs.Sessions.{area_bytes};
 ghost use Rattle.ob_run.specs.Statuses.{Treats};
 ghost use Rattle.ob_run.specs.TextRead.{asked_with, exit_of};
 
 use crate::examined::Examined;
 use crate::exit::Exit;
+use crate::outside::Outside;
 use crate::refusal::StoreRefusal;
 use crate::telling::{refuse, refuse_store};
 use ob_disk::Disk;
-use ob_front::{CompileError, compile};
-use ob_io::{Sink, Source};
+use ob_front::compile;
+use ob_io::{Files, Sink, Source};
 use ob_serve::{Served, serve};
 use ob_store::{OpenError, Store};
 use ob_verify::Verified;
@@ -53,9 +60,9 @@ fn open_taken<D: Disk>(alloc: Global, disk: &mut D, code: &Verified) -> Result<S
     requires fits { image.fits code.now }
     requires light { length (image.bytes code.now) ≤ most_weight }
     ensures opens { OpensAs (program_of code.now) (D.view disk.old) (D.view disk.new) result }
-    ensures later { (D.view disk.old).faults ≤ (D.view disk.new).faults }
-    ensures calm { result ≢ Err Unopened.DiskFault → (D.view disk.new).faults ≡ (D.view disk.old).faults }
-    ensures once { (D.view disk.new).faults ≤ (D.view disk.old).faults + 1 }
+    ensures behind { KeepsBehind area_bytes (D.view disk.old) (D.view disk.new) }
+    ensures attaches { (D.view disk.new).attaches ≡ (D.view disk.old).attaches }
+    ensures faults { CountsFault (result ≡ Err Unopened.DiskFault) (D.view disk.old).faults (D.view disk.new).faults }
 {
     match Store::open_store(alloc, disk, code, AREA) {
         Ok(store) => Ok(store),
@@ -84,9 +91,9 @@ fn open_named<D: Disk>(
     requires fits { image.fits code.now }
     requires light { length (image.bytes code.now) ≤ most_weight }
     ensures opens { OpensAs (program_of code.now) (D.view disk.old) (D.view disk.new) result }
-    ensures later { (D.view disk.old).faults ≤ (D.view disk.new).faults }
-    ensures calm { result ≢ Err Unopened.DiskFault → (D.view disk.new).faults ≡ (D.view disk.old).faults }
-    ensures once { (D.view disk.new).faults ≤ (D.view disk.old).faults + 1 }
+    ensures disk { UsesDisk (Some name.now) (D.view disk.old) (D.view disk.new) }
+    ensures attached { OnOk result (IsAttached (D.view disk.old) (D.view disk.new) name.now) }
+    ensures faults { CountsFault (result ≡ Err Unopened.DiskFault) (D.view disk.old).faults (D.view disk.new).faults }
 {
     match disk.attach(name) {
         Ok(()) => open_taken(alloc, disk, code),
@@ -94,80 +101,78 @@ fn open_named<D: Disk>(
     }
 }
 
-/// Serves the program of a text over a store in memory, or refuses the text.
-pub fn serve_text<S: Source, K: Sink, D: Disk>(
+/// Serves the program of a text over a store in memory, or refuses the text. The files stay.
+pub fn serve_text<F: Files, S: Source, K: Sink, D: Disk>(
     alloc: Global,
     text: &[u8],
     fuel: u32,
-    input: &mut S,
-    output: &mut K,
-    disk: &mut D,
+    outside: &mut Outside<F, S, K, D>,
     examined: &mut Examined,
 ) -> Exit
     ensures treats { (name : List ℕ) (lanes slice : ℕ) → Treats (asked_with (serve name) fuel lanes slice) text.now
-        (record { input = S.view input.old; output = K.view output.old; disk = D.view disk.old })
-        (record { input = S.view input.new; output = K.view output.new; disk = D.view disk.new })
-        result }
-    ensures later_read { (S.view input.old).faults ≤ (S.view input.new).faults }
-    ensures later_write { (K.view output.old).faults ≤ (K.view output.new).faults }
-    ensures later_disk { (D.view disk.old).faults ≤ (D.view disk.new).faults }
-    ensures calm { result ≢ Exit.ReadFault → result ≢ Exit.WriteFault → result ≢ Exit.DiskFault →
-        ((S.view input.new).faults ≡ (S.view input.old).faults)
-        × ((K.view output.new).faults ≡ (K.view output.old).faults)
-        × ((D.view disk.new).faults ≡ (D.view disk.old).faults) }
-    ensures once { (S.view input.new).faults + (K.view output.new).faults + (D.view disk.new).faults
-        ≤ (S.view input.old).faults + (K.view output.old).faults + (D.view disk.old).faults + 1 }
+        (devices (told F.view S.view K.view D.view outside.old))
+        (devices (told F.view S.view K.view D.view outside.new)) result }
+    ensures files { outside.new.files ≡ outside.old.files }
+    ensures disk { UsesDisk None (D.view outside.old.disk) (D.view outside.new.disk) }
+    ensures faults { EndsAtFault
+        (told F.view S.view K.view D.view outside.old)
+        (told F.view S.view K.view D.view outside.new) result }
 {
     let program = match compile(alloc, text, &mut examined.seen) {
         Ok(program) => program,
-        Err(CompileError::Fault(fault)) => {
-            return refuse(alloc, fault, output, &mut examined.fault);
-        }
-        Err(CompileError::Memory) => return Exit::Memory,
+        Err(error) => return refuse(alloc, error, &mut outside.output, &mut examined.fault),
     };
     let mut store = Store::blank(alloc);
-    let served = serve(alloc, &program.code, &mut store, fuel, input, output, disk);
+    let served = serve(
+        alloc,
+        &program.code,
+        &mut store,
+        fuel,
+        &mut outside.input,
+        &mut outside.output,
+        &mut outside.disk,
+    );
     exit_of(served)
 }
 
-/// Serves the program of a text over the store of the disk of a name, or refuses the text or the store.
-pub fn serve_text_stored<S: Source, K: Sink, D: Disk>(
+/// Serves the program of a text over the store of the disk of a name, or refuses the text or the store. The files stay.
+pub fn serve_text_stored<F: Files, S: Source, K: Sink, D: Disk>(
     alloc: Global,
     text: &[u8],
     name: &str,
     fuel: u32,
-    input: &mut S,
-    output: &mut K,
-    disk: &mut D,
+    outside: &mut Outside<F, S, K, D>,
     examined: &mut Examined,
 ) -> Exit
     ensures treats { (file : List ℕ) (lanes slice : ℕ) → Treats (asked_with (serve_stored file name.now) fuel lanes slice) text.now
-        (record { input = S.view input.old; output = K.view output.old; disk = D.view disk.old })
-        (record { input = S.view input.new; output = K.view output.new; disk = D.view disk.new })
-        result }
-    ensures later_read { (S.view input.old).faults ≤ (S.view input.new).faults }
-    ensures later_write { (K.view output.old).faults ≤ (K.view output.new).faults }
-    ensures later_disk { (D.view disk.old).faults ≤ (D.view disk.new).faults }
-    ensures calm { result ≢ Exit.ReadFault → result ≢ Exit.WriteFault → result ≢ Exit.DiskFault →
-        ((S.view input.new).faults ≡ (S.view input.old).faults)
-        × ((K.view output.new).faults ≡ (K.view output.old).faults)
-        × ((D.view disk.new).faults ≡ (D.view disk.old).faults) }
-    ensures once { (S.view input.new).faults + (K.view output.new).faults + (D.view disk.new).faults
-        ≤ (S.view input.old).faults + (K.view output.old).faults + (D.view disk.old).faults + 1 }
+        (devices (told F.view S.view K.view D.view outside.old))
+        (devices (told F.view S.view K.view D.view outside.new)) result }
+    ensures files { outside.new.files ≡ outside.old.files }
+    ensures disk { UsesDisk (Some name.now) (D.view outside.old.disk) (D.view outside.new.disk) }
+    ensures faults { EndsAtFault
+        (told F.view S.view K.view D.view outside.old)
+        (told F.view S.view K.view D.view outside.new) result }
 {
     let program = match compile(alloc, text, &mut examined.seen) {
         Ok(program) => program,
-        Err(CompileError::Fault(fault)) => {
-            return refuse(alloc, fault, output, &mut examined.fault);
-        }
-        Err(CompileError::Memory) => return Exit::Memory,
+        Err(error) => return refuse(alloc, error, &mut outside.output, &mut examined.fault),
     };
-    let mut store = match open_named(alloc, disk, name, &program.code) {
+    let mut store = match open_named(alloc, &mut outside.disk, name, &program.code) {
         Ok(store) => store,
-        Err(Unopened::Refused(refusal)) => return refuse_store(alloc, refusal, output),
+        Err(Unopened::Refused(refusal)) => {
+            return refuse_store(alloc, refusal, &mut outside.output);
+        }
         Err(Unopened::DiskFault) => return Exit::DiskFault,
         Err(Unopened::Memory) => return Exit::Memory,
     };
-    let served = serve(alloc, &program.code, &mut store, fuel, input, output, disk);
+    let served = serve(
+        alloc,
+        &program.code,
+        &mut store,
+        fuel,
+        &mut outside.input,
+        &mut outside.output,
+        &mut outside.disk,
+    );
     exit_of(served)
 }

@@ -1,10 +1,11 @@
 //! What is written where no line is served.
-ghost use Rattle.std.specs.Prelude.{◌≡◌, ◌≢◌, ◌+◌, ◌≤◌, ℕ, List};
+ghost use Rattle.std.specs.Prelude.{◌≡◌, ℕ, List};
+ghost use Rattle.ob_base.specs.TextErrors.{OnFault};
 ghost use Rattle.ob_front.specs.Programs.{IsAccepted, HasTextFault};
 ghost use Rattle.ob_words.specs.Asked.{Command, check};
-ghost use Rattle.ob_run.specs.Statuses.{Tells};
+ghost use Rattle.ob_run.specs.Faults.{CountsFault};
 ghost use Rattle.ob_run.specs.StoreLine.{refusal_view};
-ghost use Rattle.ob_run.specs.TextRead.{TellsRefusal};
+ghost use Rattle.ob_run.specs.TextRead.{Tells, TellsRefusal};
 
 use crate::examined::Examined;
 use crate::exit::Exit;
@@ -15,19 +16,20 @@ use ob_front::{CompileError, check_program};
 use ob_io::{Sink, write_all};
 use std::alloc::Global;
 
-/// Writes the line of a fault that a command tells of a text, which is the fault that was refused.
+/// Writes the line of the fault for which a text is refused, and notes the fault; nothing where memory ran out.
 pub fn refuse<K: Sink>(
     alloc: Global,
-    fault: ProgramFault,
+    error: CompileError,
     output: &mut K,
     refused: &mut Option<ProgramFault>,
 ) -> Exit
-    ensures tells { (command : Command) (text : List ℕ) → HasTextFault text fault →
+    ensures tells { (command : Command) (text : List ℕ) → OnFault error (HasTextFault text) →
         Tells command text (K.view output.old) (K.view output.new) result }
-    ensures later { (K.view output.old).faults ≤ (K.view output.new).faults }
-    ensures calm { result ≢ Exit.WriteFault → (K.view output.new).faults ≡ (K.view output.old).faults }
-    ensures once { (K.view output.new).faults ≤ (K.view output.old).faults + 1 }
+    ensures faults { CountsFault (result ≡ Exit.WriteFault) (K.view output.old).faults (K.view output.new).faults }
 {
+    let CompileError::Fault(fault) = error else {
+        return Exit::Memory;
+    };
     *refused = Some(fault);
     let Ok(line) = fault_line(alloc, fault) else {
         return Exit::Memory;
@@ -42,9 +44,7 @@ pub fn refuse<K: Sink>(
 fn accept<K: Sink>(output: &mut K) -> Exit
     ensures tells { (name text : List ℕ) → IsAccepted text →
         Tells (check name) text (K.view output.old) (K.view output.new) result }
-    ensures later { (K.view output.old).faults ≤ (K.view output.new).faults }
-    ensures calm { result ≢ Exit.WriteFault → (K.view output.new).faults ≡ (K.view output.old).faults }
-    ensures once { (K.view output.new).faults ≤ (K.view output.old).faults + 1 }
+    ensures faults { CountsFault (result ≡ Exit.WriteFault) (K.view output.old).faults (K.view output.new).faults }
 {
     match write_all(output, b"accepted\n") {
         Ok(()) => Exit::Done,
@@ -60,23 +60,18 @@ pub fn check_text<K: Sink>(
     examined: &mut Examined,
 ) -> Exit
     ensures tells { (name : List ℕ) → Tells (check name) text.now (K.view output.old) (K.view output.new) result }
-    ensures later { (K.view output.old).faults ≤ (K.view output.new).faults }
-    ensures calm { result ≢ Exit.WriteFault → (K.view output.new).faults ≡ (K.view output.old).faults }
-    ensures once { (K.view output.new).faults ≤ (K.view output.old).faults + 1 }
+    ensures faults { CountsFault (result ≡ Exit.WriteFault) (K.view output.old).faults (K.view output.new).faults }
 {
     match check_program(alloc, text, &mut examined.seen) {
         Ok(()) => accept(output),
-        Err(CompileError::Fault(fault)) => refuse(alloc, fault, output, &mut examined.fault),
-        Err(CompileError::Memory) => Exit::Memory,
+        Err(error) => refuse(alloc, error, output, &mut examined.fault),
     }
 }
 
 /// Writes the line of a store that is refused.
 pub fn refuse_store<K: Sink>(alloc: Global, refusal: StoreRefusal, output: &mut K) -> Exit
     ensures tells { TellsRefusal (refusal_view refusal) (K.view output.old) (K.view output.new) result }
-    ensures later { (K.view output.old).faults ≤ (K.view output.new).faults }
-    ensures calm { result ≢ Exit.WriteFault → (K.view output.new).faults ≡ (K.view output.old).faults }
-    ensures once { (K.view output.new).faults ≤ (K.view output.old).faults + 1 }
+    ensures faults { CountsFault (result ≡ Exit.WriteFault) (K.view output.old).faults (K.view output.new).faults }
 {
     let Ok(line) = store_line(alloc, refusal) else {
         return Exit::Memory;

@@ -1,20 +1,22 @@
 //! The top call.
-ghost use Rattle.std.specs.Prelude.{◌≡◌, ◌≢◌, ◌+◌, ◌≤◌, ◌⊎◌, None, Some, List, ℕ, map, option_map, string_bytes, IfOk, IsErrOf};
-ghost use Rattle.ob_front.specs.Programs.{IsAccepted};
+ghost use Rattle.std.specs.Prelude.{◌≡◌, Some, map, option_map, string_bytes, IfOk, IsErrOf};
 ghost use Rattle.ob_io.specs.Causes.{Rose};
 ghost use Rattle.ob_io.specs.Files.{NotesAsk};
 ghost use Rattle.ob_words.specs.Asked.{asked_of};
 ghost use Rattle.ob_words.specs.AskedView.{asked_view, command_view};
+ghost use Rattle.ob_run.specs.Attaching.{UsesDisk, store_of, store_asked};
 ghost use Rattle.ob_run.specs.Commands.{file_of};
+ghost use Rattle.ob_run.specs.Faults.{CountsFault, EndsAtFault};
 ghost use Rattle.ob_run.specs.FileAsks.{AsksFor, program_ask};
-ghost use Rattle.ob_run.specs.Outside.{outside, faults_of, IsCalm};
-ghost use Rattle.ob_run.specs.Statuses.{Treats, MeetsStatus, IsDone, IsRefused, IsUsage, IsReadFault, IsWriteFault, IsDiskFault, IsStoreRefused, IsFileFault, IsMemory, IsLong, IsSmooth, HasStoreFor, IsSmoothFinding};
-ghost use Rattle.ob_run.specs.Survival.{Survives};
+ghost use Rattle.ob_run.specs.Outside.{told, devices};
+ghost use Rattle.ob_run.specs.Runs.{IsRun};
+ghost use Rattle.ob_run.specs.Statuses.{Treats, MeetsStatus};
 ghost use Rattle.ob_run.specs.TextRead.{IsReadOf};
 
 use crate::examined::Examined;
 use crate::exit::Exit;
 use crate::machine::vending_machine;
+use crate::outside::Outside;
 use crate::serving::{serve_text, serve_text_stored};
 use crate::telling::check_text;
 use crate::trying::try_text;
@@ -42,73 +44,58 @@ fn read_text<F: Files>(alloc: Global, files: &mut F, name: &str) -> Result<Vec<u
     ensures text { IfOk result (λ text. IsReadOf ((F.view files.old).content name.now) text.items) }
     ensures asks { NotesAsk (F.view files.old).asks (F.view files.new).asks (program_ask name.now) result }
     ensures cause { IsErrOf result FileError.Failed → Rose (F.view files.old).faults (F.view files.new).faults }
-    ensures later { (F.view files.old).faults ≤ (F.view files.new).faults }
-    ensures calm { result ≢ Err FileError.Failed → (F.view files.new).faults ≡ (F.view files.old).faults }
-    ensures once { (F.view files.new).faults ≤ (F.view files.old).faults + 1 }
+    ensures faults { CountsFault (result ≡ Err FileError.Failed) (F.view files.old).faults (F.view files.new).faults }
 {
     let mut text = Vec::new(alloc);
     files.read(name, MOST_READ, &mut text)?;
     Ok(text)
 }
 
-// Does with a text what is asked.
-fn treat<S: Source, K: Sink, D: Disk>(
+// Does with a text what is asked. The files stay.
+fn treat<F: Files, S: Source, K: Sink, D: Disk>(
     alloc: Global,
     asked: Asked<'_>,
     text: &[u8],
-    input: &mut S,
-    output: &mut K,
-    disk: &mut D,
+    outside: &mut Outside<F, S, K, D>,
     examined: &mut Examined,
 ) -> Exit
     ensures treats { Treats (asked_view asked.entry) text.now
-        (record { input = S.view input.old; output = K.view output.old; disk = D.view disk.old })
-        (record { input = S.view input.new; output = K.view output.new; disk = D.view disk.new })
-        result }
-    ensures later_read { (S.view input.old).faults ≤ (S.view input.new).faults }
-    ensures later_write { (K.view output.old).faults ≤ (K.view output.new).faults }
-    ensures later_disk { (D.view disk.old).faults ≤ (D.view disk.new).faults }
-    ensures calm { result ≢ Exit.ReadFault → result ≢ Exit.WriteFault → result ≢ Exit.DiskFault →
-        ((S.view input.new).faults ≡ (S.view input.old).faults)
-        × ((K.view output.new).faults ≡ (K.view output.old).faults)
-        × ((D.view disk.new).faults ≡ (D.view disk.old).faults) }
-    ensures once { (S.view input.new).faults + (K.view output.new).faults + (D.view disk.new).faults
-        ≤ (S.view input.old).faults + (K.view output.old).faults + (D.view disk.old).faults + 1 }
+        (devices (told F.view S.view K.view D.view outside.old))
+        (devices (told F.view S.view K.view D.view outside.new)) result }
+    ensures files { outside.new.files ≡ outside.old.files }
+    ensures disk { UsesDisk (store_of (asked_view asked.entry).command) (D.view outside.old.disk) (D.view outside.new.disk) }
+    ensures faults { EndsAtFault
+        (told F.view S.view K.view D.view outside.old)
+        (told F.view S.view K.view D.view outside.new) result }
 {
     let fuel = asked.limits.fuel;
     match asked.command {
-        Command::Check(_) => check_text(alloc, text, output, examined),
-        Command::Serve(_) => serve_text(alloc, text, fuel, input, output, disk, examined),
+        Command::Check(_) => check_text(alloc, text, &mut outside.output, examined),
+        Command::Serve(_) => serve_text(alloc, text, fuel, outside, examined),
         Command::ServeStored(_, name) => {
-            serve_text_stored(alloc, text, name, fuel, input, output, disk, examined)
+            serve_text_stored(alloc, text, name, fuel, outside, examined)
         }
-        Command::Trial(length) => try_text(alloc, text, length, output, examined),
+        Command::Trial(length) => try_text(alloc, text, length, &mut outside.output, examined),
     }
 }
 
+// Does what the words say.
 fn run_words<F: Files, S: Source, K: Sink, D: Disk>(
     alloc: Global,
     words: &[String],
-    files: &mut F,
-    input: &mut S,
-    output: &mut K,
-    disk: &mut D,
+    outside: &mut Outside<F, S, K, D>,
     examined: &mut Examined,
 ) -> Exit
-    ensures meets { MeetsStatus (asked_of (map string_bytes words.now))
-        (outside (F.view files.old) (S.view input.old) (K.view output.old) (D.view disk.old))
-        (outside (F.view files.new) (S.view input.new) (K.view output.new) (D.view disk.new))
-        result }
-    ensures asked { AsksFor (asked_of (map string_bytes words.now)) (F.view files.old).asks (F.view files.new).asks }
-    ensures later_files { (F.view files.old).faults ≤ (F.view files.new).faults }
-    ensures later_read { (S.view input.old).faults ≤ (S.view input.new).faults }
-    ensures later_write { (K.view output.old).faults ≤ (K.view output.new).faults }
-    ensures later_disk { (D.view disk.old).faults ≤ (D.view disk.new).faults }
-    ensures calm { result ≢ Exit.ReadFault → result ≢ Exit.WriteFault → result ≢ Exit.DiskFault → result ≢ Exit.FileFault → IsCalm
-        (outside (F.view files.old) (S.view input.old) (K.view output.old) (D.view disk.old))
-        (outside (F.view files.new) (S.view input.new) (K.view output.new) (D.view disk.new)) }
-    ensures once { faults_of (outside (F.view files.new) (S.view input.new) (K.view output.new) (D.view disk.new))
-        ≤ faults_of (outside (F.view files.old) (S.view input.old) (K.view output.old) (D.view disk.old)) + 1 }
+    ensures status { MeetsStatus (asked_of (map string_bytes words.now))
+        (told F.view S.view K.view D.view outside.old)
+        (told F.view S.view K.view D.view outside.new) result }
+    ensures asks { AsksFor (asked_of (map string_bytes words.now))
+        (F.view outside.old.files).asks (F.view outside.new.files).asks }
+    ensures disk { UsesDisk (store_asked (asked_of (map string_bytes words.now)))
+        (D.view outside.old.disk) (D.view outside.new.disk) }
+    ensures faults { EndsAtFault
+        (told F.view S.view K.view D.view outside.old)
+        (told F.view S.view K.view D.view outside.new) result }
 {
     let asked = match parse_words(alloc, words) {
         Ok(asked) => asked,
@@ -120,15 +107,13 @@ fn run_words<F: Files, S: Source, K: Sink, D: Disk>(
             alloc,
             asked,
             vending_machine().as_bytes(),
-            input,
-            output,
-            disk,
+            outside,
             examined,
         );
     };
-    match read_text(alloc, files, name) {
+    match read_text(alloc, &mut outside.files, name) {
         Ok(text) => {
-            let exit = treat(alloc, asked, &text, input, output, disk, examined);
+            let exit = treat(alloc, asked, &text, outside, examined);
             examined.text = Some(text);
             exit
         }
@@ -137,91 +122,19 @@ fn run_words<F: Files, S: Source, K: Sink, D: Disk>(
     }
 }
 
-/// Does what the words say, and answers how it ended. The words leave out the program's own name. Each status says
-/// what was read, written and stored, where the objects handed in tell their bytes. Of `examined`, which serves to explain
-/// a text to a person, nothing is said.
+/// Does what the words say, and answers how it ended. The words leave out the program's own name. What is promised is `IsRun`: it speaks of
+/// what the files, the input, the output and the disk tell, before the run and after it. Of `examined`, which serves to explain a text to a
+/// person, nothing is said.
+#[tactic(auto, using(crate::proofs::TopLemmas::has_reason))]
 pub fn run<F: Files, S: Source, K: Sink, D: Disk>(
     alloc: Global,
     words: &[String],
-    files: &mut F,
-    input: &mut S,
-    output: &mut K,
-    disk: &mut D,
+    outside: &mut Outside<F, S, K, D>,
     examined: &mut Examined,
 ) -> Exit
-    // What each status says.
-    ensures done { result ≡ Exit.Done → IsDone (asked_of (map string_bytes words.now))
-        (outside (F.view files.old) (S.view input.old) (K.view output.old) (D.view disk.old))
-        (outside (F.view files.new) (S.view input.new) (K.view output.new) (D.view disk.new)) }
-    ensures refused { result ≡ Exit.Refused → IsRefused (asked_of (map string_bytes words.now))
-        (outside (F.view files.old) (S.view input.old) (K.view output.old) (D.view disk.old))
-        (outside (F.view files.new) (S.view input.new) (K.view output.new) (D.view disk.new)) }
-    ensures usage { result ≡ Exit.Usage → IsUsage (asked_of (map string_bytes words.now))
-        (outside (F.view files.old) (S.view input.old) (K.view output.old) (D.view disk.old))
-        (outside (F.view files.new) (S.view input.new) (K.view output.new) (D.view disk.new)) }
-    ensures read_fault { result ≡ Exit.ReadFault → IsReadFault (asked_of (map string_bytes words.now))
-        (outside (F.view files.old) (S.view input.old) (K.view output.old) (D.view disk.old))
-        (outside (F.view files.new) (S.view input.new) (K.view output.new) (D.view disk.new)) }
-    ensures write_fault { result ≡ Exit.WriteFault → IsWriteFault (asked_of (map string_bytes words.now))
-        (outside (F.view files.old) (S.view input.old) (K.view output.old) (D.view disk.old))
-        (outside (F.view files.new) (S.view input.new) (K.view output.new) (D.view disk.new)) }
-    ensures disk_fault { result ≡ Exit.DiskFault → IsDiskFault (asked_of (map string_bytes words.now))
-        (outside (F.view files.old) (S.view input.old) (K.view output.old) (D.view disk.old))
-        (outside (F.view files.new) (S.view input.new) (K.view output.new) (D.view disk.new)) }
-    ensures store_refused { result ≡ Exit.StoreRefused → IsStoreRefused (asked_of (map string_bytes words.now))
-        (outside (F.view files.old) (S.view input.old) (K.view output.old) (D.view disk.old))
-        (outside (F.view files.new) (S.view input.new) (K.view output.new) (D.view disk.new)) }
-    ensures file_fault { result ≡ Exit.FileFault → IsFileFault (asked_of (map string_bytes words.now))
-        (outside (F.view files.old) (S.view input.old) (K.view output.old) (D.view disk.old))
-        (outside (F.view files.new) (S.view input.new) (K.view output.new) (D.view disk.new)) }
-    ensures memory { result ≡ Exit.Memory → IsMemory (asked_of (map string_bytes words.now))
-        (outside (F.view files.old) (S.view input.old) (K.view output.old) (D.view disk.old))
-        (outside (F.view files.new) (S.view input.new) (K.view output.new) (D.view disk.new)) }
-    ensures long { result ≡ Exit.Long → IsLong (asked_of (map string_bytes words.now))
-        (outside (F.view files.old) (S.view input.old) (K.view output.old) (D.view disk.old))
-        (outside (F.view files.new) (S.view input.new) (K.view output.new) (D.view disk.new)) }
-
-    // Whatever the status of `serve P STORE`, a crash at any moment loses no line of whose reply a byte was written.
-    ensures crash { Survives (asked_of (map string_bytes words.now))
-        (outside (F.view files.old) (S.view input.old) (K.view output.old) (D.view disk.old))
-        (outside (F.view files.new) (S.view input.new) (K.view output.new) (D.view disk.new)) }
-
-    // Nothing is refused without reason.
-    ensures unknown { asked_of (map string_bytes words.now) ≡ None → (result ≡ Exit.Usage) ⊎ (result ≡ Exit.Memory) }
-    ensures served { (smooth : IsSmooth (asked_of (map string_bytes words.now))
-        (outside (F.view files.old) (S.view input.old) (K.view output.old) (D.view disk.old))
-        (outside (F.view files.new) (S.view input.new) (K.view output.new) (D.view disk.new)))
-        → IsAccepted smooth.text → HasStoreFor smooth.asked.command smooth.text
-        (outside (F.view files.old) (S.view input.old) (K.view output.old) (D.view disk.old))
-        → (result ≡ Exit.Done) ⊎ (result ≡ Exit.Memory) }
-    ensures faulty { (smooth : IsSmooth (asked_of (map string_bytes words.now))
-        (outside (F.view files.old) (S.view input.old) (K.view output.old) (D.view disk.old))
-        (outside (F.view files.new) (S.view input.new) (K.view output.new) (D.view disk.new)))
-        → ¬ (IsAccepted smooth.text) → (result ≡ Exit.Refused) ⊎ (result ≡ Exit.Memory) }
-    ensures checked { (smooth : IsSmoothFinding (asked_of (map string_bytes words.now))
-        (outside (F.view files.old) (S.view input.old) (K.view output.old) (D.view disk.old))
-        (outside (F.view files.new) (S.view input.new) (K.view output.new) (D.view disk.new)))
-        → IsAccepted smooth.text → (result ≡ Exit.Done) ⊎ (result ≡ Exit.Memory) }
-    ensures unaccepted { (smooth : IsSmoothFinding (asked_of (map string_bytes words.now))
-        (outside (F.view files.old) (S.view input.old) (K.view output.old) (D.view disk.old))
-        (outside (F.view files.new) (S.view input.new) (K.view output.new) (D.view disk.new)))
-        → ¬ (IsAccepted smooth.text) → (result ≡ Exit.Refused) ⊎ (result ≡ Exit.Memory) }
-
-    // The program's file is asked once at most, for `most_read` bytes, and no other file is.
-    ensures asked { AsksFor (asked_of (map string_bytes words.now)) (F.view files.old).asks (F.view files.new).asks }
-
-    // No count of faults falls.
-    ensures later_files { (F.view files.old).faults ≤ (F.view files.new).faults }
-    ensures later_read { (S.view input.old).faults ≤ (S.view input.new).faults }
-    ensures later_write { (K.view output.old).faults ≤ (K.view output.new).faults }
-    ensures later_disk { (D.view disk.old).faults ≤ (D.view disk.new).faults }
-
-    // The run ends at the first fault: a call after it might fail too, and would be counted.
-    ensures calm { result ≢ Exit.ReadFault → result ≢ Exit.WriteFault → result ≢ Exit.DiskFault → result ≢ Exit.FileFault → IsCalm
-        (outside (F.view files.old) (S.view input.old) (K.view output.old) (D.view disk.old))
-        (outside (F.view files.new) (S.view input.new) (K.view output.new) (D.view disk.new)) }
-    ensures once { faults_of (outside (F.view files.new) (S.view input.new) (K.view output.new) (D.view disk.new))
-        ≤ faults_of (outside (F.view files.old) (S.view input.old) (K.view output.old) (D.view disk.old)) + 1 }
+    ensures { IsRun (asked_of (map string_bytes words.now))
+        (told F.view S.view K.view D.view outside.old)
+        (told F.view S.view K.view D.view outside.new) result }
 {
-    run_words(alloc, words, files, input, output, disk, examined)
+    run_words(alloc, words, outside, examined)
 }

@@ -1,7 +1,9 @@
 //! A trial is held, and told.
-ghost use Rattle.std.specs.Prelude.{◌≡◌, ◌≢◌, ◌+◌, ◌≤◌, ◌++◌, ℕ, List, IfOk, OnOk, string_bytes};
+ghost use Rattle.std.specs.Prelude.{◌≡◌, ◌++◌, ℕ, List, IfOk, OnOk, string_bytes};
 ghost use Rattle.ob_words.specs.Asked.{trial};
-ghost use Rattle.ob_run.specs.Statuses.{IsFinding, Tells};
+ghost use Rattle.ob_run.specs.Faults.{CountsFault};
+ghost use Rattle.ob_run.specs.Statuses.{IsFinding};
+ghost use Rattle.ob_run.specs.TextRead.{Tells};
 ghost use Rattle.ob_run.specs.TrialLines.{count_line, trial_text};
 
 use crate::examined::Examined;
@@ -9,7 +11,7 @@ use crate::exit::Exit;
 use crate::serving::AREA;
 use crate::telling::refuse;
 use ob_base::Memory;
-use ob_front::{CompileError, compile};
+use ob_front::compile;
 use ob_io::{Sink, write_all};
 use ob_trial::{Counts, hold_trial};
 use ob_words::DEFAULT_FUEL;
@@ -42,9 +44,7 @@ fn trial_text(alloc: Global, counts: Counts) -> Result<String, Memory>
 fn tell_trial<K: Sink>(alloc: Global, counts: Counts, output: &mut K) -> Exit
     ensures tells { (length : ℕ) (text : List ℕ) → IsFinding (trial length) text (trial_text counts) →
         Tells (trial length) text (K.view output.old) (K.view output.new) result }
-    ensures later { (K.view output.old).faults ≤ (K.view output.new).faults }
-    ensures calm { result ≢ Exit.WriteFault → (K.view output.new).faults ≡ (K.view output.old).faults }
-    ensures once { (K.view output.new).faults ≤ (K.view output.old).faults + 1 }
+    ensures faults { CountsFault (result ≡ Exit.WriteFault) (K.view output.old).faults (K.view output.new).faults }
 {
     let Ok(text) = trial_text(alloc, counts) else {
         return Exit::Memory;
@@ -64,16 +64,11 @@ pub fn try_text<K: Sink>(
     examined: &mut Examined,
 ) -> Exit
     ensures tells { Tells (trial length) text.now (K.view output.old) (K.view output.new) result }
-    ensures later { (K.view output.old).faults ≤ (K.view output.new).faults }
-    ensures calm { result ≢ Exit.WriteFault → (K.view output.new).faults ≡ (K.view output.old).faults }
-    ensures once { (K.view output.new).faults ≤ (K.view output.old).faults + 1 }
+    ensures faults { CountsFault (result ≡ Exit.WriteFault) (K.view output.old).faults (K.view output.new).faults }
 {
     let program = match compile(alloc, text, &mut examined.seen) {
         Ok(program) => program,
-        Err(CompileError::Fault(fault)) => {
-            return refuse(alloc, fault, output, &mut examined.fault);
-        }
-        Err(CompileError::Memory) => return Exit::Memory,
+        Err(error) => return refuse(alloc, error, output, &mut examined.fault),
     };
     match hold_trial(alloc, &program.code, DEFAULT_FUEL, AREA, length) {
         Ok(counts) => tell_trial(alloc, counts, output),

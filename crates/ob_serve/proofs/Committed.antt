@@ -1,12 +1,14 @@
 -- What committing leaves of a store and of its disk.
 use Rattle.std.proofs.Common.{◌≡◌, ◌⊎◌, inl, inr, ⊎_elim, ℕ, List, Option, Some, None, refl, sym, ◌∙◌, ap, subst}
-use Rattle.std.specs.Prelude.{Result, Ok, Err, IsErrOf}
+use Rattle.std.specs.Prelude.{◌≢◌, Result, Ok, Err, IsErrOf}
 use Rattle.ob_io.specs.Causes.{Rose}
 use Rattle.ob_serve.specs.declared.committing.KeepError.{KeepError}
 use Rattle.ob_serve.specs.declared.committing.KeepError.TheVariants.{Memory as KeepMemory, DiskFault as KeepFault}
 use Rattle.ob_disk_spec.specs.Disk.{DiskView}
+use Rattle.ob_disk_spec.specs.Calls.{IsUntouched}
 use Rattle.ob_disk_spec.specs.Durable.{May, Throughout, During}
-use Rattle.ob_disk_spec.proofs.Moments.{throughout_to, throughout_may, during_to, during_then, during_none}
+use Rattle.ob_disk_spec.proofs.Untouched.{untouched_during}
+use Rattle.ob_disk_spec.proofs.Moments.{throughout_to, throughout_may, during_to, during_none}
 use Rattle.ob_code.specs.declared.image.Image.{Image}
 use Rattle.ob_heap.specs.Contents.{content_of}
 use Rattle.ob_rest_spec.specs.AtRest.{IsStoreAtRest}
@@ -22,11 +24,9 @@ use Rattle.ob_store.proofs.Standing.{stores_stand}
 use Rattle.ob_serve.specs.Items.{by_machine, item_of}
 use Rattle.ob_serve.specs.Session.{SessionItem, bytes_of}
 use Rattle.ob_serve.specs.Standing.{StandsForStore}
-use Rattle.ob_serve.specs.Stops.{CommitsTo, LeadsOn}
-
--- nothing is done with a disk
-pub spared : (v : DiskView) → During v v (May v)
-spared v = during_none v (May v) (record { content = λ c reads. inl reads; images = λ c left. inr left })
+use Rattle.ob_serve.specs.Stops.{LineReader, IsStop, CommitsTo, LeadsOn}
+use Rattle.ob_serve.specs.declared.serving.Served.{Served}
+use Rattle.ob_serve.specs.declared.serving.Served.TheVariants as ended
 
 -- a store stands on its disk and on each image of it
 pub stands_through : (program : StoreProgram) (store : Store) (v : DiskView) → StandsOn program store v → IsStoreAtRest program.table (content_of (kept_of store))
@@ -74,7 +74,7 @@ module _ (program : StoreProgram) (after : StoreState) (store same : Store) (p :
   kept_after new settles = one_store (state_of new) after (sym settles ∙ settles_again)
 
   -- a crash leaves the store before or after
-  pub crash_leaves : (old new : DiskView) → (area_of_store same ≡ None → During old new (May old))
+  pub crash_leaves : (old new : DiskView) → (area_of_store same ≡ None → IsUntouched old new)
       → ((size : ℕ) → area_of_store same ≡ Some size → During old new (StandsBeforeOrAfter program size (state_of same) (content_with (kept_of same) (delta_prepared p))))
       → During old new (λ c. StandsForStore program (area_of_store store) (state_of store) c ⊎ StandsForStore program (area_of_store store) after c)
   crash_leaves old new none some = by_area (area_of_store store) refl
@@ -86,7 +86,7 @@ module _ (program : StoreProgram) (after : StoreState) (store same : Store) (p :
           inr (subst (λ (s : StoreState). StandsForStore program (Some size) s c) (one_store later.0 after (sym later.1 ∙ ap (λ (a : Option ℕ). settled program.table a (state_of same) (content_with (kept_of same) (delta_prepared p))) (sym (area ∙ is)) ∙ settles_again)) later.2)
 
       by_area : (a : Option ℕ) → area_of_store store ≡ a → During old new (λ c. StandsForStore program a (state_of store) c ⊎ StandsForStore program a after c)
-      by_area None is = during_to old new _ _ (none (area ∙ is)) (λ c may. inl tt)
+      by_area None is = during_to old new _ _ (untouched_during old new (none (area ∙ is))) (λ c may. inl tt)
       by_area (Some size) is = during_to old new _ _ (some size (area ∙ is)) (λ c stood. to_after size c is stood)
 
 -- a store stands, said of its place and of what it is
@@ -116,15 +116,21 @@ module _ (code : Image) (fuel : ℕ) (store : Store) (area : Option ℕ) (s : St
   after_there t told = told ∙ ap (λ (i : SessionItem StoreState). i.after) same_there
 
 -- a disk of which no byte changed
-pub quiet_then : (old mid new : DiskView) → During old mid (May old) → During mid new (May mid) → During old new (May old)
-quiet_then old mid new was next = during_then old mid new (May old) was (during_to mid new _ _ next (throughout_may mid _ was.now))
-
 pub quiet_stands : (mid new : DiskView) (P : List ℕ → Type 0) → During mid new (May mid) → Throughout mid P → Throughout new P
 quiet_stands mid new P next here = throughout_to new _ _ next.now (throughout_may mid P here)
 
 -- what keeping answered
-pub keeps_quiet : (r : Result (Unit {0}) KeepError) (mid new : DiskView) → r ≡ Err KeepMemory → (IsErrOf r KeepMemory → During mid new (May mid)) → During mid new (May mid)
+pub keeps_quiet : (r : Result (Unit {0}) KeepError) (mid new : DiskView) → r ≡ Err KeepMemory → (IsErrOf r KeepMemory → IsUntouched mid new) → IsUntouched mid new
 keeps_quiet r mid new is memory = memory (subst (λ (x : Result (Unit {0}) KeepError). IsErrOf x KeepMemory) (sym is) refl)
 
 pub disk_rose : (r : Result (Unit {0}) KeepError) (before now : ℕ) → r ≡ Err KeepFault → (IsErrOf r KeepFault → Rose before now) → Rose before now
 disk_rose r before now is cause = cause (subst (λ (x : Result (Unit {0}) KeepError). IsErrOf x KeepFault) (sym is) refl)
+
+-- what ends a session while it reads is no failure of the disk
+pub no_disk_stop : (old new : LineReader) (served : Served) → IsStop old new served → served ≢ ended.DiskFault
+no_disk_stop old new ended.Done stop = λ is. cc is
+no_disk_stop old new ended.ReadFault stop = λ is. cc is
+no_disk_stop old new ended.Long stop = λ is. cc is
+no_disk_stop old new ended.Memory stop = λ is. cc is
+no_disk_stop old new ended.WriteFault stop = absurd stop
+no_disk_stop old new ended.DiskFault stop = absurd stop

@@ -6,7 +6,6 @@ use Rattle.ob_code.specs.declared.image.Image.{Image}
 use Rattle.ob_heap_spec.specs.Contents.{Content, empty_content}
 use Rattle.ob_rest_spec.specs.AtRest.{IsStoreAtRest}
 use Rattle.ob_rest_laws.proofs.OneOwner.{one_owner}
-use Rattle.ob_invocation_spec.specs.Requests as asked
 use Rattle.ob_invocation_spec.specs.Requests.{HasLabels}
 use Rattle.ob_invocation_spec.specs.Replies as told
 use Rattle.ob_invocation_spec.specs.Replies.{Invocation, invoked, goes_wrong, is_ok}
@@ -16,7 +15,7 @@ use Rattle.ob_invocation_laws.proofs.Leaving.{leaves}
 use Rattle.ob_machine_steps.specs.ImageTables.{table_of_image}
 use Rattle.ob_machine_steps.specs.Meanings.{machine_invocation}
 use Rattle.ob_silica_steps.specs.Configurations.{SilicaProgram}
-use Rattle.ob_sound_code.specs.SoundCode.{SameInvocation, IsSoundCode}
+use Rattle.ob_sound_code.specs.SoundCode.{SameInvocation, IsSoundImage, IsSoundCode}
 use Rattle.ob_exec_handles.specs.Coming.{IsInLimits}
 use Rattle.ob_store_spec.specs.Payloads.{payload}
 use Rattle.ob_store_spec.specs.Between.{changes_between}
@@ -29,12 +28,12 @@ use Rattle.ob_wire.specs.declared.reply.Answer.{Answer}
 use Rattle.ob_serve.specs.Session.{SessionItem, session, state_after, requests_in}
 use Rattle.ob_serve.specs.Asked.{asked_by}
 use Rattle.ob_serve.specs.Items.{by_source, by_machine, refused_item, settled_item, invoked_item, item_of_asked, item_of}
-use Rattle.ob_serve.specs.Kept.{says_done, IsKept, AreKept, KeepsSessions, IsSoundFor, IsSound, GoesAsSource}
+use Rattle.ob_serve.specs.Kept.{says_done, IsKept, AreKept, KeepsSessions, IsSoundFor, GoesAsSource}
 use Rattle.ob_heap.specs.Contents.{content_of}
 use Rattle.ob_store.specs.Stores.{area_of_store, kept_of, state_of}
 use Rattle.ob_store.specs.declared.store.Store.{Store}
 use Rattle.ob_serve.proofs.Asking.{asked_labels}
-use Rattle.ob_serve.proofs.Tables.{rests_by_image, rests_by_source, settles_alike}
+use Rattle.ob_serve.proofs.Tables.{settles_alike}
 use Rattle.ob_serve.proofs.Unchanged.{nothing_differs}
 
 -- the store at the start is at rest
@@ -100,11 +99,6 @@ pub within_limits : (table : ClassTable) (i : Invocation) → KeepsStoreAtRest t
 within_limits table (invoked i) rests = rests.few_objects
 within_limits table goes_wrong rests = absurd rests
 
--- what is at rest by the class table is so by the image's
-invoked_rests : (program : SilicaProgram) (image : Image) (i : Invocation) → IsSoundFor program image → KeepsStoreAtRest program.table i → KeepsStoreAtRest (table_of_image image) i
-invoked_rests program image (invoked i) sound rests = rests_by_image program image sound i.content rests
-invoked_rests program image goes_wrong sound rests = absurd rests
-
 -- a reply tells whether its request was done
 told_done : (reply : told.Reply) → says_done (answer_of reply) ≡ is_ok reply
 told_done told.ok_nothing = refl
@@ -157,12 +151,6 @@ module _ (program : SilicaProgram) (image : Image) (fuel : ℕ) (area : Option �
   abbrev source : StoreState → List ℕ → SessionItem StoreState
   source = item_of (by_source program.table fuel area)
 
-  -- a request on a store at rest leaves it at rest
-  pub request_rests : (content : Content) (request : asked.Request) → IsStoreAtRest (table_of_image image) content → HasLabels request
-      → KeepsStoreAtRest (table_of_image image) (machine_invocation image content request fuel)
-  request_rests content request rests labels =
-      invoked_rests program image (machine_invocation image content request fuel) for (sound.by_table.rests content request fuel (rests_by_source program image for content rests) labels)
-
   asked_same : (s : StoreState) (asked : Result Request Refusal) → IsStoreAtRest program.table s.content → IfOk asked (λ request. HasLabels (request_of request))
       → item_of_asked (by_machine image fuel area) s asked ≡ item_of_asked (by_source program.table fuel area) s asked
   asked_same s (Err refusal) rests labels = refl
@@ -184,14 +172,6 @@ module _ (program : SilicaProgram) (image : Image) (fuel : ℕ) (area : Option �
 
   line_kept : (s : StoreState) (line : List ℕ) → IsStoreAtRest program.table s.content → IsKept program.table s (item_of (by_source program.table fuel area) s line)
   line_kept s line rests = asked_kept s (asked_by line) rests (asked_labels line)
-
-  -- a store is at rest after each line
-  pub line_rests : (s : StoreState) (line : List ℕ) → IsStoreAtRest (table_of_image image) s.content
-      → IsStoreAtRest (table_of_image image) (item_of (by_machine image fuel area) s line).after.content
-  line_rests s line rests =
-      let by_table = rests_by_source program image for s.content rests in
-      rests_by_image program image for (item_of (by_machine image fuel area) s line).after.content
-      (subst (λ (i : SessionItem StoreState). IsStoreAtRest program.table i.after.content) (sym (line_same s line by_table)) (line_kept s line by_table).at_rest)
 
   -- a session goes by the code as by the source meaning
   pub same_items : (s : StoreState) (lines : List (List ℕ)) → IsStoreAtRest program.table s.content
@@ -222,9 +202,30 @@ goes_as_source program image fuel sound area start lines rests = same_items prog
 pub keeps_sessions : (program : SilicaProgram) (image : Image) (fuel : ℕ) → IsSoundFor program image → KeepsSessions program.table fuel
 keeps_sessions program image fuel sound area start lines rests = kept_items program image fuel area sound start (requests_in lines) rests
 
+-- By sound code a store is at rest after each line.
+
+settled_rests : (table : ClassTable) (s : StoreState) (id : ℤ) (answer : Answer) (after : Content) (r : Result StoreState (ℕ × ℕ)) → IsStoreAtRest table s.content → IsStoreAtRest table after
+    → IfOk r (λ t. t.content ≡ after) → IsStoreAtRest table (settled_item id answer s r).after.content
+settled_rests table s id answer after (Ok t) before rests is = subst (IsStoreAtRest table) (sym is) rests
+settled_rests table s id answer after (Err lack) before rests is = before
+
+invoked_rests : (image : Image) (fuel : ℕ) (area : Option ℕ) (s : StoreState) (id : ℤ) (i : Invocation) → IsStoreAtRest (table_of_image image) s.content → KeepsStoreAtRest (table_of_image image) i
+    → IsStoreAtRest (table_of_image image) (invoked_item (by_machine image fuel area) s id i).after.content
+invoked_rests image fuel area s id (invoked i) before rests =
+    settled_rests (table_of_image image) s id (answer_of i.reply) i.content (settled (table_of_image image) area s i.content) before rests
+    (settled_content (table_of_image image) area s i.content)
+invoked_rests image fuel area s id goes_wrong before rests = before
+
+asked_rests : (image : Image) (fuel : ℕ) (area : Option ℕ) (s : StoreState) (asked : Result Request Refusal) → IsSoundImage image → IsStoreAtRest (table_of_image image) s.content
+    → IfOk asked (λ request. HasLabels (request_of request)) → IsStoreAtRest (table_of_image image) (item_of_asked (by_machine image fuel area) s asked).after.content
+asked_rests image fuel area s (Err refusal) sound rests labels = rests
+asked_rests image fuel area s (Ok request) sound rests labels =
+    invoked_rests image fuel area s request.id (machine_invocation image s.content (request_of request) fuel) rests (sound.rests s.content (request_of request) fuel rests labels)
+
 -- the store that is kept after a line is at rest
-pub kept_rests : (image : Image) (fuel : ℕ) (store new : Store) (line : List ℕ) → IsSound image
+pub kept_rests : (image : Image) (fuel : ℕ) (store new : Store) (line : List ℕ) → IsSoundImage image
     → state_of new ≡ (item_of (by_machine image fuel (area_of_store store)) (state_of store) line).after
     → IsStoreAtRest (table_of_image image) (content_of (kept_of store)) → IsStoreAtRest (table_of_image image) (content_of (kept_of new))
 kept_rests image fuel store new line sound is rests =
-    subst (λ (s : StoreState). IsStoreAtRest (table_of_image image) s.content) (sym is) (line_rests sound.0 image fuel (area_of_store store) sound.1 (state_of store) line rests)
+    subst (λ (s : StoreState). IsStoreAtRest (table_of_image image) s.content) (sym is)
+    (asked_rests image fuel (area_of_store store) (state_of store) (asked_by line) sound rests (asked_labels line))

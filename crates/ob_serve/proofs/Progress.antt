@@ -13,7 +13,7 @@ use Rattle.ob_disk_spec.specs.Durable.{May, Throughout, During}
 use Rattle.ob_disk_spec.proofs.Moments.{weaker, then, throughout_to, throughout_may}
 use Rattle.ob_serve.specs.Session.{SessionItem, session, bytes_of, state_after, requests_in, replies, is_blank_line}
 use Rattle.ob_serve.specs.Crash.{AfterAll, AfterFirst, AfterSome}
-use Rattle.ob_serve.specs.Served.{Devices, IsAll, ReadsSome, SpeaksOf, IsAnswered, IsGiven, IsStored, IsCause, Ends}
+use Rattle.ob_serve.specs.Served.{Devices, IsToldAs, ReadsSome, SpeaksOf, IsAnswered, IsGiven, IsStored, IsCause, Ends}
 use Rattle.ob_serve.specs.Stops.{LineReader, ReadsLine, ReadsPart, IsStop}
 use Rattle.ob_serve.specs.declared.serving.Served.{Served}
 use Rattle.ob_serve.specs.declared.serving.Served.TheVariants.{Done, ReadFault, WriteFault, DiskFault, Memory, Long}
@@ -50,7 +50,7 @@ reads_more first from now is_long line was read = record {
 -- the whole input, and its lines from those that were read on
 pub record Reaches (first : Option (List ℕ)) (lines : List (List ℕ)) : Type 0 where
   pub input : List ℕ
-  pub is : IsAll first input
+  pub is : IsToldAs first input
   pub rest : List (List ℕ)
   pub all : lines_of input ≡ lines ++ rest
 

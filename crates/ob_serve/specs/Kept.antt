@@ -3,10 +3,12 @@ use Rattle.std.specs.Prelude.{◌≡◌, ℕ, Bool, true, false, ⊤, List, [], 
 use Rattle.ob_table.specs.Tables.{ClassTable}
 use Rattle.ob_table_spec.specs.Conditions.{IsClassTable}
 use Rattle.ob_code.specs.declared.image.Image.{Image}
+use Rattle.ob_machine_steps.specs.ImageTables.{table_of_image}
 use Rattle.ob_emit_spec.specs.EmittedImages.{image_of}
 use Rattle.ob_rest_spec.specs.AtRest.{IsStoreAtRest, EachAssetHasOneOwner}
 use Rattle.ob_silica_steps.specs.Configurations.{SilicaProgram}
-use Rattle.ob_sound_code.specs.SoundCode.{IsSoundCode}
+use Rattle.ob_sound_code.specs.SoundCode.{IsSoundImage, IsSoundCode}
+use Rattle.ob_store_laws.specs.Recorded.{IsStorable}
 use Rattle.ob_store_spec.specs.Stores.{StoreState}
 use Rattle.ob_wire.specs.declared.reply.Answer.{Answer}
 use Rattle.ob_wire.specs.declared.reply.Answer.TheVariants.{Ok, Abort, Refused}
@@ -44,15 +46,16 @@ KeepsSessions table fuel =
     (area : Option ℕ) (start : StoreState) (lines : List (List ℕ)) → IsStoreAtRest table start.content
     → AreKept table start (items_of (by_source table fuel area) start lines)
 
+-- code may be served: its image is sound, and payloads can tell its contracts and states apart
+pub record IsServable (image : Image) : Type 0 where
+  pub sound : IsSoundImage image
+  pub storable : IsStorable (table_of_image image)
+
 -- code is sound for a program: it is that program's code
 pub record IsSoundFor (program : SilicaProgram) (image : Image) : Type 0 where
   pub sound : IsSoundCode program image
   pub emitted : image ≡ image_of program.table program.bodies
   pub table : IsClassTable program.table
-
--- code is sound: it is so for some program
-abbrev pub IsSound : Image → Type 0
-IsSound image = (program : SilicaProgram) × IsSoundFor program image
 
 -- each session goes by the code as by the source meaning: the replies are the same, and so is the store after each
 abbrev pub GoesAsSource : SilicaProgram → Image → ℕ → Type 0

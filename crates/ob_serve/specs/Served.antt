@@ -19,10 +19,10 @@ pub record Devices : Type 1 where
   pub output : SinkView
   pub disk : DiskView
 
--- the bytes are all that is told, where it is told
-abbrev pub IsAll : Option (List ℕ) → List ℕ → Type 0
-IsAll None bytes = ⊤
-IsAll (Some all) bytes = bytes ≡ all
+-- the bytes are what is told; where nothing is told, nothing is said
+abbrev pub IsToldAs : Option (List ℕ) → List ℕ → Type 0
+IsToldAs None bytes = ⊤
+IsToldAs (Some all) bytes = bytes ≡ all
 
 -- The input was read to its end, of fewer than `most_taken` bytes, and these are its lines.
 pub record ReadsAll (old new : SourceView) (lines : List (List ℕ)) : Type 0 where
@@ -42,7 +42,7 @@ pub record ReadsSome (P : ℕ → Type 0) (old new : SourceView) (lines : List (
 -- These are all lines of the input, whether or not they were read.
 pub record HasLines (old : SourceView) (lines : List (List ℕ)) : Type 0 where
   pub input : List ℕ
-  pub all : IsAll old.left input
+  pub all : IsToldAs old.left input
   pub is : lines ≡ lines_of input
 
 -- which lines an end speaks of
@@ -63,7 +63,7 @@ IsAnswered WriteFault items k = k < items
 IsAnswered DiskFault items k = k < items
 IsAnswered Memory items k = k ≤ items
 
--- what was written, where the whole replies of k items were: at WriteFault a front of the next follows
+-- what was written, where the whole replies of k items were: at WriteFault a prefix of the next follows
 abbrev pub IsGiven : {S : Type 0} → Served → List (SessionItem S) → ℕ → List ℕ → Type 0
 IsGiven WriteFault items k given =
     (front rest : List ℕ) × (given ≡ replies (take k items) ++ front) × (replies (take (k + 1) items) ≡ given ++ rest)
@@ -82,7 +82,7 @@ IsStored ReadFault k j = j ≡ k
 IsStored Long k j = j ≡ k
 IsStored Memory k j = j ≡ k
 
--- the fault that an end tells
+-- the fault that an end has for its cause
 abbrev pub IsCause : Served → Devices → Devices → Type 0
 IsCause ReadFault old new = Rose old.input.faults new.input.faults
 IsCause WriteFault old new = Rose old.output.faults new.output.faults
@@ -91,7 +91,7 @@ IsCause Done old new = ⊤
 IsCause Long old new = ⊤
 IsCause Memory old new = ⊤
 
--- A session ended: the row of its status. `stands` says when bytes stand for a store.
+-- A session ended: the row of its status. `stands` says when bytes represent a store.
 pub record Ends {S : Type 0} (item : S → List ℕ → SessionItem S) (stands : S → List ℕ → Type 0) (start : S) (old new : Devices) (served : Served) : Type 0 where
   pub lines : List (List ℕ)
   pub of_input : SpeaksOf served old.input new.input lines

@@ -1,4 +1,4 @@
--- When the bytes of a disk stand for the store of a session (this project's own).
+-- When the bytes of a disk represent the store of a session (this project's own).
 use Rattle.std.specs.Prelude.{ℕ, ⊤, List, Option, Some, None}
 use Rattle.ob_code.specs.Images.{image}
 use Rattle.ob_code.specs.declared.image.Image.{Image}
@@ -6,7 +6,7 @@ use Rattle.ob_journal_spec.specs.Areas.{area_of}
 use Rattle.ob_table.specs.Tables.{ClassTable}
 use Rattle.ob_store_spec.specs.Stores.{StoreProgram, StoreState, IsStoreOf}
 
--- the area of a size at the front of a disk stands for a store; one in memory has no disk
+-- the area of a size at the start of a disk represents a store; one in memory has no disk
 abbrev pub StandsForStore : StoreProgram → Option ℕ → StoreState → List ℕ → Type 0
 StandsForStore program None s bytes = ⊤
 StandsForStore program (Some size) s bytes = IsStoreOf program (area_of size bytes) s

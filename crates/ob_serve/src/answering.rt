@@ -16,7 +16,7 @@ ghost use Rattle.ob_exec_entries.specs.Naming.{IsNamesOf};
 ghost use Rattle.ob_serve.specs.Session.{is_space, is_blank_line};
 ghost use Rattle.ob_serve.specs.Asked.{asked_by_value};
 ghost use Rattle.ob_serve.specs.Items.{by_machine, invoked_item, item_of_asked};
-ghost use Rattle.ob_serve.specs.Kept.{IsSound};
+ghost use Rattle.ob_serve.specs.Kept.{IsServable};
 ghost use Rattle.ob_serve.specs.Stops.{IsFull, GivesItem, Readies, refusal_line, room_line};
 
 use ob_base::Memory;
@@ -153,7 +153,7 @@ fn ready_line(
     line: &[u8],
 ) -> Result<Ready, Memory>
     requires names { IsNamesOf names.now code.now }
-    requires sound { IsSound code.now }
+    requires servable { IsServable code.now }
     requires at_rest { IsStoreAtRest (table_of_image code.now) (content_of (kept_of store.now)) }
     ensures { IfOk result (λ ready. GivesItem (program_of code.now) store.now
         (item_of_asked (by_machine code.now fuel (area_of_store store.now)) (state_of store.now) (asked_by_value (value_of line.now)))
@@ -179,7 +179,7 @@ pub fn make_ready(
 ) -> Result<Option<Ready>, Memory>
     requires short { length line.now ≤ longest_line }
     requires names { IsNamesOf names.now code.now }
-    requires sound { IsSound code.now }
+    requires servable { IsServable code.now }
     requires at_rest { IsStoreAtRest (table_of_image code.now) (content_of (kept_of store.now)) }
     ensures { IfOk result (λ ready. (full : List ℕ) → IsFull is_long line.now full →
         Readies (program_of code.now) (by_machine code.now fuel (area_of_store store.now)) store.now full ready) }

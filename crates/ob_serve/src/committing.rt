@@ -1,6 +1,7 @@
 //! What was made ready is kept.
-ghost use Rattle.std.specs.Prelude.{◌≡◌, ◌≢◌, ◌⊎◌, ◌≤◌, ◌+◌, None, OnOk, IsErrOf};
-ghost use Rattle.ob_disk_spec.specs.Durable.{May, During};
+ghost use Rattle.std.specs.Prelude.{◌≡◌, ◌≢◌, ◌⊎◌, ◌≤◌, ◌+◌, ℕ, None, Some, OnOk, IsErrOf};
+ghost use Rattle.ob_disk_spec.specs.Calls.{IsUntouched};
+ghost use Rattle.ob_disk_spec.specs.Durable.{During, KeepsBehind};
 ghost use Rattle.ob_heap.specs.Contents.{content_of};
 ghost use Rattle.ob_io.specs.Causes.{Rose};
 ghost use Rattle.ob_rest_spec.specs.AtRest.{IsStoreAtRest};
@@ -22,7 +23,7 @@ pub enum KeepError {
 }
 
 /// Commits what was made ready, if there is anything. All memory is taken before the disk is touched. Where the disk fails, it and each
-/// image of it stand for the store before or after.
+/// image of it stand for the store before or after. Over a store in memory no call of the disk is made. What follows the area stays.
 pub fn keep<D: Disk>(
     store: &mut Store,
     disk: &mut D,
@@ -37,8 +38,11 @@ pub fn keep<D: Disk>(
         IsStoreAtRest program.table (content_of (kept_of store.old)) → StandsOn program store.old (D.view disk.old) → During (D.view disk.old) (D.view disk.new)
         (λ c. StandsForStore program (area_of_store store.old) (state_of store.old) c
         ⊎ StandsForStore program (area_of_store store.old) after c) }
-    ensures untouched { area_of_store store.old ≡ None → During (D.view disk.old) (D.view disk.new) (May (D.view disk.old)) }
-    ensures memory { IsErrOf result KeepError.Memory → During (D.view disk.old) (D.view disk.new) (May (D.view disk.old)) }
+    ensures untouched { area_of_store store.old ≡ None → IsUntouched (D.view disk.old) (D.view disk.new) }
+    ensures sure { area_of_store store.old ≡ None → result ≢ Err KeepError.DiskFault }
+    ensures memory { IsErrOf result KeepError.Memory → IsUntouched (D.view disk.old) (D.view disk.new) }
+    ensures behind { (size : ℕ) → area_of_store store.old ≡ Some size → KeepsBehind size (D.view disk.old) (D.view disk.new) }
+    ensures attaches { (D.view disk.new).attaches ≡ (D.view disk.old).attaches }
     ensures area { area_of_store store.new ≡ area_of_store store.old }
     ensures cause { IsErrOf result KeepError.DiskFault → Rose (D.view disk.old).faults (D.view disk.new).faults }
     ensures later { (D.view disk.old).faults ≤ (D.view disk.new).faults }

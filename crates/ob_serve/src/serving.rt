@@ -1,8 +1,9 @@
 //! The session.
-ghost use Rattle.std.specs.Prelude.{◌≡◌, ◌≢◌, ◌+◌, ◌≤◌, None, IfOk, IfErr};
+ghost use Rattle.std.specs.Prelude.{◌≡◌, ◌≢◌, ◌+◌, ◌≤◌, ℕ, None, Some, IfOk, IfErr};
 ghost use Rattle.ob_base.specs.Limits.{most_taken};
 ghost use Rattle.ob_heap.specs.Contents.{content_of};
-ghost use Rattle.ob_disk_spec.specs.Durable.{May, During};
+ghost use Rattle.ob_disk_spec.specs.Calls.{IsUntouched};
+ghost use Rattle.ob_disk_spec.specs.Durable.{KeepsBehind};
 ghost use Rattle.ob_io.specs.Lines.{EndIsTold, CountsTaken, taken};
 ghost use Rattle.ob_io.specs.Told.{TakesAtMost};
 ghost use Rattle.ob_machine_steps.specs.ImageTables.{table_of_image};
@@ -10,7 +11,7 @@ ghost use Rattle.ob_rest_spec.specs.AtRest.{IsStoreAtRest};
 ghost use Rattle.ob_silica_steps.specs.Configurations.{SilicaProgram};
 ghost use Rattle.ob_store.specs.Stores.{area_of_store, kept_of, program_of, state_of, StandsOn};
 ghost use Rattle.ob_serve.specs.Items.{by_machine, by_source, item_of};
-ghost use Rattle.ob_serve.specs.Kept.{IsSound, IsSoundFor};
+ghost use Rattle.ob_serve.specs.Kept.{IsServable, IsSoundFor};
 ghost use Rattle.ob_serve.specs.Served.{Ends};
 ghost use Rattle.ob_serve.specs.Standing.{StandsForStore, source_program};
 ghost use Rattle.ob_serve.specs.Stops.{reader, ReadsLine, IsStop};
@@ -79,7 +80,7 @@ fn serve_lines<S: Source, K: Sink, D: Disk>(
     output: &mut K,
     disk: &mut D,
 ) -> Served
-    requires sound { IsSound code.now }
+    requires servable { IsServable code.now }
     requires at_rest { IsStoreAtRest (table_of_image code.now) (content_of (kept_of store.old)) }
     ensures ends { StandsOn (program_of code.now) store.old (D.view disk.old) →
         Ends (item_of (by_machine code.now fuel (area_of_store store.old)))
@@ -87,7 +88,10 @@ fn serve_lines<S: Source, K: Sink, D: Disk>(
         (record { input = S.view input.old; output = K.view output.old; disk = D.view disk.old })
         (record { input = S.view input.new; output = K.view output.new; disk = D.view disk.new })
         result }
-    ensures untouched { area_of_store store.old ≡ None → During (D.view disk.old) (D.view disk.new) (May (D.view disk.old)) }
+    ensures untouched { area_of_store store.old ≡ None → IsUntouched (D.view disk.old) (D.view disk.new) }
+    ensures sure { area_of_store store.old ≡ None → result ≢ Served.DiskFault }
+    ensures behind { (size : ℕ) → area_of_store store.old ≡ Some size → KeepsBehind size (D.view disk.old) (D.view disk.new) }
+    ensures attaches { (D.view disk.new).attaches ≡ (D.view disk.old).attaches }
     ensures few { TakesAtMost (S.view input.old) (S.view input.new) most_taken }
     ensures later_read { (S.view input.old).faults ≤ (S.view input.new).faults }
     ensures later_write { (K.view output.old).faults ≤ (K.view output.new).faults }
@@ -129,8 +133,8 @@ fn serve_lines<S: Source, K: Sink, D: Disk>(
     }
 }
 
-/// Answers the lines of the input, one after another, by the code of a program and with so many units of fuel for each, on a store at
-/// rest. For each line the reply is built and all memory is taken, then what it changes is committed, then the reply is written.
+/// Answers the lines of the input, one after another, by sound code and with so many units of fuel for each, on a store at rest. For
+/// each line the reply is built and all memory is taken, then what it changes is committed, then the reply is written.
 pub fn serve<S: Source, K: Sink, D: Disk>(
     alloc: Global,
     code: &Verified,
@@ -140,11 +144,18 @@ pub fn serve<S: Source, K: Sink, D: Disk>(
     output: &mut K,
     disk: &mut D,
 ) -> Served
-    requires sound { IsSound code.now }
+    requires servable { IsServable code.now }
     requires at_rest { IsStoreAtRest (table_of_image code.now) (content_of (kept_of store.old)) }
     requires stands { StandsOn (program_of code.now) store.old (D.view disk.old) }
 
-    // The row of each status, by the source meaning of each program of which this is the code.
+    // The row of each status, by the code.
+    ensures by_code { Ends (item_of (by_machine code.now fuel (area_of_store store.old)))
+        (StandsForStore (program_of code.now) (area_of_store store.old)) (state_of store.old)
+        (record { input = S.view input.old; output = K.view output.old; disk = D.view disk.old })
+        (record { input = S.view input.new; output = K.view output.new; disk = D.view disk.new })
+        result }
+
+    // The same by the source meaning of each program of which this is sound code.
     ensures ends { (program : SilicaProgram) → IsSoundFor program code.now →
         Ends (item_of (by_source program.table fuel (area_of_store store.old)))
         (StandsForStore (source_program program.table code.now) (area_of_store store.old)) (state_of store.old)
@@ -152,8 +163,13 @@ pub fn serve<S: Source, K: Sink, D: Disk>(
         (record { input = S.view input.new; output = K.view output.new; disk = D.view disk.new })
         result }
 
-    // Over a store in memory no byte of the disk changes.
-    ensures untouched { area_of_store store.old ≡ None → During (D.view disk.old) (D.view disk.new) (May (D.view disk.old)) }
+    // Over a store in memory no call of the disk is made.
+    ensures untouched { area_of_store store.old ≡ None → IsUntouched (D.view disk.old) (D.view disk.new) }
+    ensures sure { area_of_store store.old ≡ None → result ≢ Served.DiskFault }
+
+    // What follows the area of a store on a disk stays, and no other disk is taken.
+    ensures behind { (size : ℕ) → area_of_store store.old ≡ Some size → KeepsBehind size (D.view disk.old) (D.view disk.new) }
+    ensures attaches { (D.view disk.new).attaches ≡ (D.view disk.old).attaches }
 
     // However it ends, at most 2^40 bytes of input were taken.
     ensures few { TakesAtMost (S.view input.old) (S.view input.new) most_taken }

@@ -1,7 +1,8 @@
 -- A disk stands for a store.
 use Rattle.std.proofs.Common.{◌≡◌, ℕ, inr, List, Option, Some, None, option_map, refl, subst}
 use Rattle.ob_disk_spec.specs.Disk.{DiskView}
-use Rattle.ob_disk_spec.specs.Durable.{Throughout}
+use Rattle.ob_disk_spec.specs.Durable.{Throughout, KeepsBehind}
+use Rattle.ob_disk_spec.proofs.Behind.{behind_none}
 use Rattle.ob_disk_spec.proofs.Moments.{throughout_to}
 use Rattle.ob_heap.specs.Contents.{content_of}
 use Rattle.ob_heap_spec.specs.Contents.{Content}
@@ -11,6 +12,7 @@ use Rattle.ob_journal.specs.declared.journal.Journal.{Journal}
 use Rattle.ob_rest_spec.specs.AtRest.{IsAtRest, IsStoreAtRest}
 use Rattle.ob_store_spec.specs.Stores.{StoreProgram, IsStoreOf}
 use Rattle.ob_store.specs.Stores.{gate_of, serial_of, state_of, area_of_store, IsKeptAs, IsKeptIn, StandsOn}
+use Rattle.ob_store.specs.Committing.{KeepsBehindIn}
 use Rattle.ob_store.specs.declared.store.Store.{Store}
 
 -- an area that stands for what is kept of a store stands for the store
@@ -40,3 +42,13 @@ stands_by program content (Some j) size v is kept rest =
 pub stores_stand : (program : StoreProgram) (store : Store) (size : ℕ) (v : DiskView) → area_of_store store ≡ Some size → StandsOn program store v
     → IsStoreAtRest program.table (content_of store.content) → Throughout v (λ c. IsStoreOf program (area_of size c) (state_of store))
 stores_stand program store size v area stands rest = stands_by program (content_of store.content) store.journal size v area stands rest.at_rest
+
+-- where no call of the disk is made
+pub behind_in : (journal : Option Journal) (v : DiskView) → KeepsBehindIn journal v v
+behind_in None v = tt
+behind_in (Some journal) v = behind_none (area_size journal) v
+
+-- what follows the area of a store stays
+pub behind_area : (journal : Option Journal) (old new : DiskView) (size : ℕ) → KeepsBehindIn journal old new → option_map area_size journal ≡ Some size → KeepsBehind size old new
+behind_area None old new size kept is = let none : ⊥ = cc in absurd none
+behind_area (Some journal) old new size kept is = subst (λ (n : ℕ). KeepsBehind n old new) (unsome_number (area_size journal) size is) kept

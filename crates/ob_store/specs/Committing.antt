@@ -1,6 +1,7 @@
 -- How a store goes from one content to another (this project's own).
 use Rattle.std.specs.Prelude.{ℕ, ◌≡◌, ◌⊎◌, ⊤, List, Option, Some, None, Ok}
 use Rattle.ob_disk_spec.specs.Disk.{DiskView}
+use Rattle.ob_disk_spec.specs.Durable.{KeepsBehind}
 use Rattle.ob_heap.specs.Contents.{content_of}
 use Rattle.ob_heap_spec.specs.Contents.{Content}
 use Rattle.ob_journal_spec.specs.Areas.{StandsFor, StandsWithOrWithout, with_payload, area_of}
@@ -32,6 +33,11 @@ StandsBeforeOrAfter program size s content c =
 abbrev pub HoldsIn : Option Journal → DiskView → Type 0
 HoldsIn None v = ⊤
 HoldsIn (Some journal) v = Holds journal v
+
+-- what follows the area of a journal stays, where there is one
+abbrev pub KeepsBehindIn : Option Journal → DiskView → DiskView → Type 0
+KeepsBehindIn None old new = ⊤
+KeepsBehindIn (Some journal) old new = KeepsBehind (area_size journal) old new
 
 -- the record was appended, where one was built
 abbrev pub IsAppendedTo : Option Journal → Option Built → Option Journal → Type 0

@@ -1,7 +1,7 @@
 //! A store is opened: begun on a blank disk, or rebuilt from its journal.
 ghost use Rattle.std.specs.Prelude.{◌≡◌, ◌≤◌, ◌<◌, ◌+◌, ◌^◌, ⊤, ℕ, List, length, map, MatchOption, IfOk, OnOk};
 ghost use Rattle.ob_base.specs.Limits.{most_objects, most_handles};
-ghost use Rattle.ob_disk_spec.specs.Durable.{During};
+ghost use Rattle.ob_disk_spec.specs.Durable.{During, KeepsBehind};
 ghost use Rattle.ob_code.specs.Images.{image};
 ghost use Rattle.ob_heap.specs.Contents.{content_of};
 ghost use Rattle.ob_heap_spec.specs.Contents.{IsContent};
@@ -132,6 +132,8 @@ pub fn begin_store<D: Disk>(
     ensures stands { IfOk result (λ store. IsFresh area (D.view disk.old) → StandsOn (program_of code.now) store (D.view disk.new)) }
     ensures crash { IsFresh area (D.view disk.old) → During (D.view disk.old) (D.view disk.new)
         (λ c. IsBlankOrBegun (image.bytes code.now) (area_of area c)) }
+    ensures behind { KeepsBehind area (D.view disk.old) (D.view disk.new) }
+    ensures attaches { (D.view disk.new).attaches ≡ (D.view disk.old).attaches }
     ensures cause { FaultsAs result (D.view disk.old).faults (D.view disk.new).faults }
 {
     let Ok(image) = encode(alloc, code) else {

@@ -1,7 +1,8 @@
 //! The store.
-ghost use Rattle.std.specs.Prelude.{◌≡◌, ◌≤◌, ◌^◌, ◌⊎◌, ℕ, List, IfOk, OnOk, OnErr, IsTrue, is_ok};
+ghost use Rattle.std.specs.Prelude.{◌≡◌, ◌≤◌, ◌^◌, ◌⊎◌, ℕ, List, IfOk, OnOk, OnErr, IsTrue, is_ok, Some};
 ghost use Rattle.ob_disk_spec.specs.Disk.{Reads};
-ghost use Rattle.ob_disk_spec.specs.Durable.{May, During};
+ghost use Rattle.ob_disk_spec.specs.Durable.{May, During, KeepsBehind};
+ghost use Rattle.ob_disk_spec.specs.Calls.{IsUntouched};
 ghost use Rattle.ob_heap.specs.Contents.{content_of};
 ghost use Rattle.ob_heap.specs.Deltas.{IsDelta};
 ghost use Rattle.ob_heap_spec.specs.Contents.{IsContent, empty_content};
@@ -17,7 +18,7 @@ ghost use Rattle.ob_store_spec.specs.Stores.{StoreProgram};
 ghost use Rattle.ob_store.specs.Stores.{program_of, area_of_store, kept_of, state_of, StandsOn, IsSameJournal, IsSameStore};
 ghost use Rattle.ob_store.specs.Opening.{Opens, LacksArea, StaysUnlessBlank, FaultsAs};
 ghost use Rattle.ob_store.specs.Preparing.{delta_prepared, IsBuiltFor, IsBuiltForStore, WritesNothing, IsPrepared, BuildsWhatDiffers, Prepares, HasSpareIn, HasRoomFor};
-ghost use Rattle.ob_store.specs.Committing.{IsReady, StandsBeforeOrAfter, HoldsIn, IsAppendedTo, StandsIn};
+ghost use Rattle.ob_store.specs.Committing.{IsReady, StandsBeforeOrAfter, HoldsIn, KeepsBehindIn, IsAppendedTo, StandsIn};
 
 use crate::error::{OpenError, PrepareError};
 use crate::opening::{begin_store, rebuilt, refused_by};
@@ -92,7 +93,9 @@ fn append_record<D: Disk>(
     ensures whole { OnOk result (HoldsIn journal.old (D.view disk.old) → HoldsIn journal.new (D.view disk.new)) }
     ensures crash { HoldsIn journal.old (D.view disk.old) → During (D.view disk.old) (D.view disk.new) (StandsIn journal.old built) }
     ensures sure { built ≡ None → IsTrue (is_ok result) }
-    ensures none { built ≡ None → During (D.view disk.old) (D.view disk.new) (May (D.view disk.old)) }
+    ensures none { built ≡ None → IsUntouched (D.view disk.old) (D.view disk.new) }
+    ensures behind { KeepsBehindIn journal.old (D.view disk.old) (D.view disk.new) }
+    ensures attaches { (D.view disk.new).attaches ≡ (D.view disk.old).attaches }
     ensures err { OnErr result (IsSameJournal journal.old journal.new) }
     ensures cause { HasCause (D.view disk.old).faults (D.view disk.new).faults result }
 {
@@ -119,11 +122,11 @@ impl Store {
     }
 
     /// Opens the store that an area of so many bytes at the front of a disk stands for. It writes on a blank disk alone, where it
-    /// begins an area.
+    /// begins an area. What follows the area stays.
     ///
     /// # Errors
     ///
-    /// `NotStore`, `Damaged`, `OtherProgram` and `NotAtRest` exactly where the area stands for no store of this program, by their
+    /// `NotStore`, `Damaged`, `OtherProgram` and `NotAtRest` exactly where the area represents no store of this program, by their
     /// definitions; `Room` where the area of a blank disk is too small to be begun; `DiskFault` where a call of the disk failed: a
     /// disk that isn't blank is then as it was, and a blank one is blank or begun; `Memory` where memory ran out.
     pub fn open_store<D: Disk>(
@@ -145,6 +148,8 @@ impl Store {
         ensures still { StaysUnlessBlank (program_of code.now) (D.view disk.old) (D.view disk.new) result }
         ensures crash { During (D.view disk.old) (D.view disk.new)
             (λ c. May (D.view disk.old) c ⊎ IsBlankOrBegun (image.bytes code.now) (area_of area c)) }
+        ensures behind { KeepsBehind area (D.view disk.old) (D.view disk.new) }
+        ensures attaches { (D.view disk.new).attaches ≡ (D.view disk.old).attaches }
         ensures cause { FaultsAs result (D.view disk.old).faults (D.view disk.new).faults }
     {
         match Journal::find(alloc, disk, area) {
@@ -211,7 +216,7 @@ impl Store {
     /// # Errors
     ///
     /// `DiskFault` where a call of the disk failed: the store is then as it was, and the disk and each image of it stand for the store
-    /// before or after.
+    /// before or after. What follows the area stays. Where there is nothing to write, as in memory, no call of the disk is made.
     pub fn commit<D: Disk>(&mut self, disk: &mut D, prepared: Prepared) -> Result<(), DiskFault>
         requires delta { IsDelta (kept_of self.old) (delta_prepared prepared) }
         requires built { IsBuiltForStore self.old prepared }
@@ -225,7 +230,9 @@ impl Store {
         ensures crash { (program : StoreProgram) (size : ℕ) → IsReady program self.old prepared → area_of_store self.old ≡ Some size →
             StandsOn program self.old (D.view disk.old) → During (D.view disk.old) (D.view disk.new)
             (StandsBeforeOrAfter program size (state_of self.old) (content_with (kept_of self.old) (delta_prepared prepared))) }
-        ensures nothing { WritesNothing self.old prepared → During (D.view disk.old) (D.view disk.new) (May (D.view disk.old)) }
+        ensures nothing { WritesNothing self.old prepared → IsUntouched (D.view disk.old) (D.view disk.new) }
+        ensures behind { (size : ℕ) → area_of_store self.old ≡ Some size → KeepsBehind size (D.view disk.old) (D.view disk.new) }
+        ensures attaches { (D.view disk.new).attaches ≡ (D.view disk.old).attaches }
         ensures sure { WritesNothing self.old prepared → IsTrue (is_ok result) }
         ensures err { OnErr result (state_of self.new ≡ state_of self.old) }
         ensures cause { HasCause (D.view disk.old).faults (D.view disk.new).faults result }

@@ -28,7 +28,7 @@ use ob_base::{ContractId, FieldId, Label, Memory, Mode, ObjectId, StateId};
 use ob_code::{ContractCode, FieldCode, Image};
 use ob_format::{Halt, any_byte, integer, number, refused, text};
 use ob_heap::{Delta, Fields, Handle, Object, RcStr, Sequence, Value};
-use ob_machine_lookups::is_available_in;
+use ob_machine_parts::available::is_available_in;
 use std::alloc::Global;
 
 // A text of its own with these bytes.

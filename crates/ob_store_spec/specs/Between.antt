@@ -37,7 +37,7 @@ abbrev pub is_stored_so : ClassTable → List Object → StoredObject → Bool
 is_stored_so table objects o =
     option_map_or (λ x. bytes_eq ((object table).bytes (stored_object table o.number x)) ((object table).bytes o)) (object_at objects o.number) false
 
--- whether a name stands for the same in a content: for this handle, or for none
+-- whether a name refers to the same in a content: to this handle, or to none
 abbrev pub is_held_so : Content → HandleName × Option Handle → Bool
 is_held_so content h = bytes_eq (held.bytes (handle_at content h.0)) (held.bytes h.1)
 
@@ -45,7 +45,7 @@ is_held_so content h = bytes_eq (held.bytes (handle_at content h.0)) (held.bytes
 abbrev pub changed_objects : ClassTable → Content → Content → List StoredObject
 changed_objects table before after = filter (λ o. not (is_stored_so table before.objects o)) (stored_from table 0 after.objects)
 
--- the names of the handles of both that stand for something else in the second content, each with what it stands for there
+-- the names of the handles of both that refer to something else in the second content, each with what it refers to there
 abbrev pub changed_handles : Content → Content → List (HandleName × Option Handle)
 changed_handles before after =
     filter (λ h. not (is_held_so before h)) (map (λ h. (h.0, handle_at after h.0)) (put_handles before.handles after.handles))

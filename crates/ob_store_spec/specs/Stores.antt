@@ -1,4 +1,4 @@
--- What a disk's bytes stand for, for a program: the content, the next gate and the serial; or why they are refused (this
+-- Which store a disk's bytes represent, for a program: the content, the next gate and the serial; or why they are refused (this
 -- project's own). The conditions stand in the order in which they are asked: each supposes that none before it holds.
 use Rattle.std.specs.Prelude.{ℕ, ℤ, pos, ◌≡◌, ◌+◌, ◌⊎◌, List, ◌∷◌, ◌++◌, length, Some}
 use Rattle.ob_table.specs.Tables.{ClassTable}
@@ -20,20 +20,20 @@ pub record StoreState : Type 0 where
   pub gate : ℕ
   pub serial : ℤ
 
--- the area stands for records of this program, which lead to this content
+-- the area represents records of this program, which lead to this content
 pub record IsOpened (program : StoreProgram) (area : List ℕ) (j : Journaled) (content : Content) : Type 0 where
   pub stands : StandsFor j area
   pub image : j.image ≡ program.image
   pub content_is : LeadFrom program.table empty_content j.payloads content
 
--- a blank area stands for the empty store, with the gate and the serial that it will begin with
+-- a blank area represents the empty store, with the gate and the serial that it will begin with
 pub record IsBlankStore (program : StoreProgram) (area : List ℕ) (s : StoreState) : Type 0 where
   pub blank : IsBlank area
   pub content : s.content ≡ empty_content
   pub gate : s.gate ≡ next_gate (begun program.image)
   pub serial : s.serial ≡ pos 1
 
--- an open area stands for the content to which its payloads lead, which is at rest
+-- an open area represents the content to which its payloads lead, which is at rest
 pub record IsOpenStore (program : StoreProgram) (area : List ℕ) (s : StoreState) : Type 0 where
   pub says : Journaled
   pub opened : IsOpened program area says s.content
@@ -41,7 +41,7 @@ pub record IsOpenStore (program : StoreProgram) (area : List ℕ) (s : StoreStat
   pub gate : s.gate ≡ next_gate says
   pub serial : s.serial ≡ says.serial
 
--- what an area stands for
+-- the store that an area represents
 abbrev pub IsStoreOf : StoreProgram → List ℕ → StoreState → Type 0
 IsStoreOf program area s = IsBlankStore program area s ⊎ IsOpenStore program area s
 

@@ -27,7 +27,7 @@ use Rattle.ob_table.specs.Tables.{ClassTable}
 use Rattle.ob_wire.specs.Replies.{reply_line}
 use Rattle.ob_wire.specs.declared.reply.Answer.{Answer}
 use Rattle.ob_wire.specs.declared.reply.Reply.{Reply}
-use Rattle.ob_serve.specs.Items.{by_source, item_of, items_of}
+use Rattle.ob_serve.specs.Items.{by_machine, by_source, item_of, items_of}
 use Rattle.ob_serve.specs.Kept.{says_done, IsSoundFor, AreKept}
 use Rattle.ob_serve.specs.Served.{Devices, Ends, ReadsAll, SpeaksOf, IsCause}
 use Rattle.ob_serve.specs.Session.{SessionItem, session, state_after, requests_in, replies, bytes_of}
@@ -36,7 +36,7 @@ use Rattle.ob_serve.specs.declared.serving.Served.{Served}
 use Rattle.ob_serve.specs.declared.serving.Served.TheVariants as ended
 use Rattle.ob_serve.proofs.Keeping.{keeps_sessions}
 use Rattle.ob_serve.proofs.Sessions.{length-session}
-use Rattle.ob_serve.proofs.Tables.{rests_by_source, stands_by_source, refused_by_source}
+use Rattle.ob_serve.proofs.Tables.{rests_by_source, stands_by_source}
 use Rattle.ob_trial.specs.Counting.{is_aborted, is_refused, replies_so, count_replies, AreCountsOf}
 use Rattle.ob_trial.specs.Holding.{IsUnrefused, EndsUnlessMemory}
 use Rattle.ob_trial.specs.Kinds.{lines_of_replies, count_answers, CountsReplies}
@@ -146,6 +146,14 @@ module _ (n : ℕ) (old new : Devices) (left : old.input.left ≡ Some (trial_li
 
 -- ---- the trial
 
+-- the disk is refused for no cause after a session by the code
+pub session_unrefused : (code : Image) (fuel area : ℕ) (store : Store) (old new : Devices) (served : Served) → area_of_store store ≡ Some area
+    → Ends (item_of (by_machine code fuel (area_of_store store))) (StandsForStore (program_of code) (area_of_store store)) (state_of store) old new served
+    → IsUnrefused (program_of code) area new.disk
+session_unrefused code fuel area store old new served area_is ends c reads r refused =
+    let stood = (subst (λ (a : Option ℕ). Ends (item_of (by_machine code fuel a)) (StandsForStore (program_of code) a) (state_of store) old new served) area_is ends).stored.content c reads in
+    never_both (program_of code) (area_of area c) r _ refused stood.2
+
 module _ (program : SilicaProgram) (code : Image) (sound : IsSoundFor program code) (fuel area n : ℕ) where
   abbrev pub served_program : StoreProgram
   served_program = source_program program.table code
@@ -156,13 +164,6 @@ module _ (program : SilicaProgram) (code : Image) (sound : IsSoundFor program co
   abbrev pub EndsSession : Store → Devices → Devices → Served → Type 0
   EndsSession store old new served =
       Ends (item_of (by_source program.table fuel (area_of_store store))) (StandsForStore served_program (area_of_store store)) (state_of store) old new served
-
-  -- the disk is refused for no cause after the session
-  pub session_unrefused : (store : Store) (old new : Devices) (served : Served) → area_of_store store ≡ Some area → EndsSession store old new served
-      → IsUnrefused (program_of code) area new.disk
-  session_unrefused store old new served area_is ends c reads r refused =
-      let stood = (subst (λ (a : Option ℕ). Ends (item_of (by_source program.table fuel a)) (StandsForStore served_program a) (state_of store) old new served) area_is ends).stored.content c reads in
-      never_both served_program (area_of area c) r _ (refused_by_source program code sound (image.bytes code) (area_of area c) r refused) stood.2
 
   -- a session that was read to its end
   pub done_session : (store : Store) (old new : Devices) (served : Served) → area_of_store store ≡ Some area → served ≡ ended.Done → EndsSession store old new served

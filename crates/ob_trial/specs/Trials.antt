@@ -17,7 +17,7 @@ lines_of_trial length = lines_of (trial_lines length)
 abbrev pub service : StoreProgram → ℕ → ℕ → Service
 service program fuel area = by_source program.table fuel (Some area)
 
--- The numbers are those of the trial of a length: of the items of its lines, on the store for which a blank disk stands, and of what that
+-- The numbers are those of the trial of a length: of the items of its lines, on the store that a blank disk represents, and of what that
 -- store holds after the last of them.
 pub record IsTrial (program : StoreProgram) (fuel area length : ℕ) (counts : Counts) : Type 0 where
   pub start : StoreState

@@ -7,7 +7,7 @@ ghost use Rattle.ob_heap.specs.Contents.{content_of};
 ghost use Rattle.ob_journal_spec.specs.Areas.{area_of};
 ghost use Rattle.ob_machine_steps.specs.ImageTables.{table_of_image};
 ghost use Rattle.ob_rest_spec.specs.AtRest.{IsStoreAtRest};
-ghost use Rattle.ob_serve.specs.Kept.{IsSound, IsSoundFor};
+ghost use Rattle.ob_serve.specs.Kept.{IsServable, IsSoundFor};
 ghost use Rattle.ob_serve.specs.Standing.{source_program};
 ghost use Rattle.ob_silica_steps.specs.Configurations.{SilicaProgram};
 ghost use Rattle.ob_store.specs.Stores.{area_of_store, kept_of, program_of, state_of, StandsOn};
@@ -36,7 +36,7 @@ fn out_of_memory(error: OpenError) -> Memory
     Memory
 }
 
-// Opens the store for which a disk stands, or none where the disk doesn't tell its bytes, since memory ran out.
+// Opens the store that a disk represents, or none where its bytes aren't observable, since memory ran out.
 fn open_told(
     alloc: Global,
     disk: &mut SureDisk,
@@ -91,8 +91,8 @@ fn counts_with_store(replies: &[u8], store: &Store) -> Counts
     )
 }
 
-/// Holds the trial of this length: serves its lines by the code of a program, with so many units of fuel for each, on a blank store in an
-/// area of so many bytes on a disk in memory. The store after the last line is the one for which the disk then stands.
+/// Holds the trial of this length: serves its lines by sound code, with so many units of fuel for each, on a blank store in an area of so
+/// many bytes on a disk in memory. The store after the last line is the one for which the disk then stands.
 ///
 /// # Errors
 ///
@@ -104,7 +104,7 @@ pub fn hold_trial(
     area: u64,
     trial_length: u32,
 ) -> Result<Counts, Memory>
-    requires sound { IsSound code.now }
+    requires servable { IsServable code.now }
     requires fits { image.fits code.now }
     requires room { 18 + length (image.bytes code.now) ≤ area }
     requires small { area ≤ 2 ^ 31 }

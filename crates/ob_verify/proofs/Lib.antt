@@ -4,3 +4,4 @@ pub mod PassLoops
 pub mod ImageLoops
 pub mod PlaceLemmas
 pub mod SurveyLoops
+pub mod SlotLoops

@@ -3,3 +3,4 @@ pub mod Names
 pub mod Answering
 pub mod Named
 pub mod Surveys
+pub mod Slots

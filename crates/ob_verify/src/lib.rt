@@ -13,6 +13,7 @@ mod needs;
 mod numbers;
 mod pass;
 mod rows;
+mod slots;
 mod survey;
 mod transactions;
 mod verifying;

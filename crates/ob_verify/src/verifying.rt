@@ -1,10 +1,12 @@
 //! The verifier's verdict.
 ghost use Rattle.std.specs.Prelude.{◌≡◌, IfOk, IfErr, OnOk};
+ghost use Rattle.ob_verify_spec.specs.Laws.{SlotsFitByte};
 ghost use Rattle.ob_verify_spec.specs.Verified.{IsVerified};
 ghost use Rattle.ob_verify.specs.Answering.{Refuses};
 
 use crate::image::{fault_in_image, number_after};
 use crate::numbers::number_of;
+use crate::slots::read_slots;
 use ob_base::{Duplicate, Memory};
 use ob_code::Image;
 use std::alloc::Global;
@@ -45,21 +47,23 @@ pub struct Verified {
 
 impl Model for Verified {
     ghost use Rattle.ob_code.specs.declared.image.Image.{Image};
+    ghost use Rattle.ob_verify_spec.specs.Laws.{SlotsFitByte};
     ghost use Rattle.ob_verify_spec.specs.Verified.{IsVerified};
 
     ghost Value = { Image };
 
     ghost view = { λ v. v.image };
 
-    ghost invariant = { λ v. IsVerified v.image };
+    ghost invariant = { λ v. IsVerified v.image × SlotsFitByte v.image };
 }
 
 impl Verified {
-    /// An image of which it is proved that it is verified, so that nothing is looked at.
+    /// An image of which it is proved that it is verified, so that no instruction is looked at.
     pub fn by_proof(image: Image) -> Verified
         requires { IsVerified image }
         ensures { result ≡ image }
     {
+        read_slots(&image);
         Verified { image }
     }
 
@@ -67,6 +71,7 @@ impl Verified {
     pub fn image(&self) -> &Image
         ensures image { result.now ≡ self.now }
         ensures verified { IsVerified self.now }
+        ensures slots { SlotsFitByte self.now }
     {
         &self.image
     }
@@ -94,7 +99,10 @@ pub fn verify(alloc: Global, image: Image) -> Result<Verified, VerifyError>
     ensures refused { IfErr result (Refuses image) }
 {
     match fault_in_image(alloc, &image)? {
-        None => Ok(Verified { image }),
+        None => {
+            read_slots(&image);
+            Ok(Verified { image })
+        }
         Some((body, at)) => Err(VerifyError::Fault {
             number: number_of(at.fault),
             body,

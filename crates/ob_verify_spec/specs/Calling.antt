@@ -65,6 +65,12 @@ pub record ImplementsInterfacesAlone (m : Image) : Type 0 where
       → implements_number d own ≡ true → contract_code m d ≡ Some other → is_interface other ≡ true
   pub contracts : (c d : ContractId) (own : ContractCode) → contract_code m c ≡ Some own → is_interface own ≡ true → implements_number d own ≡ false
 
+-- what a contract of an image implements is there
+abbrev pub ImplementsWhatIsThere : Image → Type 0
+ImplementsWhatIsThere m =
+    (c d : ContractId) (own : ContractCode) → contract_code m c ≡ Some own → implements_number d own ≡ true
+    → (other : ContractCode) × (contract_code m d ≡ Some other)
+
 -- each of so many slots of which a kind is known holds a value of that kind, or of one that may stand for it
 abbrev pub FitKnown : Image → ℕ → KindsOfSlots → KindsOfSlots → Type 0
 FitKnown m count known s = (k : ℕ) (x : Kind) → k < count → known k ≡ Some x → (y : Kind) × (s k ≡ Some y) × (fits m y x ≡ true)

@@ -1,5 +1,5 @@
 -- What holds of the verifier's definitions (the statements are this project's own).
-use Rattle.std.specs.Prelude.{◌≡◌, ◌↔◌, ◌⊎◌, ℕ, ◌<◌, Option, Some, None, false, slice_get, Contains}
+use Rattle.std.specs.Prelude.{◌≡◌, ◌↔◌, ◌⊎◌, ℕ, ◌<◌, ◌≤◌, Option, Some, None, false, slice_get, Contains}
 use Rattle.ob_base.specs.declared.id.ContractId.{ContractId}
 use Rattle.ob_base.specs.declared.id.TxId.{TxId}
 use Rattle.ob_code.specs.declared.image.BodyCode.{BodyCode}
@@ -47,6 +47,10 @@ frame_of m c own b = record { image = m; here = c; own = own; body = b }
 pub record HasBody (m : Image) (c : ContractId) (own : ContractCode) (tx : TxId) (b : BodyCode) : Type 0 where
   pub contract : contract_code m c ≡ Some own
   pub body : slice_get own.bodies tx.0 ≡ Some b
+
+-- each body of an image has at most as many slots as the byte of their number can say
+pub record SlotsFitByte (image : Image) : Type 0 where
+  pub each : (c : ContractId) (own : ContractCode) (tx : TxId) (b : BodyCode) → HasBody image c own tx b → b.slots ≤ 255
 
 -- the frames of an image are those of the bodies of its contracts
 pub record HasFrames (m : Image) : Type 0 where

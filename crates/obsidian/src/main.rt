@@ -6,7 +6,7 @@ mod explaining;
 
 use crate::explaining::explanation;
 use ob_io_std::{FileDisk, StdFiles, StdSink, StdSource};
-use ob_run::{Examined, Exit, run};
+use ob_run::{Examined, Exit, Outside, run};
 use ob_words::help_text;
 use std::io::writer;
 use std::process::ExitCode;
@@ -22,19 +22,13 @@ fn words(rt: &HostRuntime) -> io::Result<Vec<String>> {
 }
 
 fn run_host(rt: &HostRuntime, words: &[String], examined: &mut Examined) -> Exit {
-    let mut files = StdFiles::new(rt.alloc(), rt);
-    let mut input = StdSource::new(rt.reader());
-    let mut output = StdSink::new(writer(rt));
-    let mut disk = FileDisk::new(rt);
-    run(
-        rt.alloc(),
-        words,
-        &mut files,
-        &mut input,
-        &mut output,
-        &mut disk,
-        examined,
-    )
+    let mut outside = Outside {
+        files: StdFiles::new(rt.alloc(), rt),
+        input: StdSource::new(rt.reader()),
+        output: StdSink::new(writer(rt)),
+        disk: FileDisk::new(rt.alloc(), rt),
+    };
+    run(rt.alloc(), words, &mut outside, examined)
 }
 
 // Runs what the words ask for, and says on standard error what a person is told of the text; where memory lacks, nothing.

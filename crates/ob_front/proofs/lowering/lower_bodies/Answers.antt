@@ -26,8 +26,7 @@ loop-body-preserved c =
     record {
       made = subst (λ ls. AreLoweredTo c.args.table.now (map resolved_body_of (take (c.loop-body.body-index + 1) xs)) (map silica_body_of ls)) (sym c.in_ok-add.ensures)
           (made_turn c.args.table.now xs c.loop-body.lowered c.loop-body.body-index c.body-item.result c.in_ok-terms.terms
-          c.loop-body-test.true c.body-item.is c.loop-body.invariant.made
-          (record { lowers = lowered.lowered; fits = lowered.fits; in_order = lowered.in_order }));
+          c.loop-body-test.true c.body-item.is c.loop-body.invariant.made lowered.in_order);
       left = left_turn c.args.table.now xs c.loop-body.body-index c.body-item.result _ c.loop-body-test.true c.body-item.is
           lowered.fits c.loop-body.invariant.left;
     }

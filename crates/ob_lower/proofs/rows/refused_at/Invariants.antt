@@ -1,6 +1,6 @@
 use Rattle.std.proofs.Common.{◌≡◌, drop}
 use Rattle.ob_table.specs.StatementsView.{statements_of}
-use Rattle.ob_lower_spec.specs.Points.{refused_at}
+use Rattle.ob_lower_spec.specs.Forms.{refused_at}
 use Rattle.ob_lower.proofs.rows.refused_at.Given as goal
 
 abbrev pub invariant-loop-statement : goal.invariant-loop-statement

@@ -1,6 +1,6 @@
 use Rattle.std.proofs.Common.{◌≡◌}
 use Rattle.ob_silica.specs.Terms.{then_terms}
-use Rattle.ob_lower_spec.specs.Points.{drops}
+use Rattle.ob_lower_spec.specs.Forms.{drops}
 use Rattle.ob_lower_functions.specs.StatementCode.{slots_between}
 use Rattle.ob_lower_parts.proofs.drops.drop_locals.Given as goal
 

@@ -4,7 +4,7 @@ use Rattle.ob_heap.specs.Plain.{value_of}
 use Rattle.ob_heap_spec.specs.Worlds.{SameWorld}
 use Rattle.ob_machine_steps.specs.Entries.{args_come_in}
 use Rattle.ob_machine.specs.Shown.{world_of}
-use Rattle.ob_machine.proofs.WorldLemmas.{same_world}
+use Rattle.ob_machine_parts.proofs.WorldLemmas.{same_world}
 use Rattle.ob_machine.proofs.MarkingLemmas.{args_end, args_turn}
 use Rattle.ob_machine.proofs.marking.args_come_in.Goals as goal
 

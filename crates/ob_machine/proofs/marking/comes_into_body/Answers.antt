@@ -1,7 +1,8 @@
 use Rattle.std.specs.Prelude.{option_map}
 use Rattle.std.proofs.lemmas.Result.{on_ok_weaker}
 use Rattle.ob_machine_steps.specs.Entries.{receiver_comes_in}
-use Rattle.ob_machine.specs.Shown.{number_of, world_of}
+use Rattle.ob_machine_parts.specs.Shown.{number_of}
+use Rattle.ob_machine.specs.Shown.{world_of}
 use Rattle.ob_machine.proofs.MarkingLemmas.{then_args}
 use Rattle.ob_machine.proofs.marking.comes_into_body.Goals as goal
 

@@ -14,6 +14,3 @@ pub returns-in-Err-DiskFault-clause-opens : goal.returns-in-Err-DiskFault-clause
 returns-in-Err-DiskFault-clause-opens g c =
     let failed = rw c.in-Err-DiskFault.field-0-is at c.in-Err-DiskFault.ensures.cause in
     (record { quiet = c.open_store.ensures.quiet; disk = c.open_store.ensures.crash }, failed.0)
-
-pub returns-in-Err-DiskFault-clause-later : goal.returns-in-Err-DiskFault-clause-later
-returns-in-Err-DiskFault-clause-later g c = let failed = rw c.in-Err-DiskFault.field-0-is at c.in-Err-DiskFault.ensures.cause in failed.1

@@ -1,45 +1,52 @@
-use Rattle.std.proofs.Common.{inl, inr, map, refl, sym, subst}
+use Rattle.std.proofs.Common.{map, None, refl, sym, subst}
 use Rattle.ob_silica.specs.TermsView.{silica_body_of}
 use Rattle.ob_serve.specs.Served.{Devices}
 use Rattle.ob_words.specs.Asked.{serve}
+use Rattle.ob_run.specs.Outside.{told, devices}
 use Rattle.ob_run.specs.Statuses.{Treats}
 use Rattle.ob_run.specs.TextRead.{asked_with}
 use Rattle.ob_run.specs.declared.exit.Exit.{Exit}
-use Rattle.ob_run.proofs.SessionLemmas.{spared, ends_session, is_sound, stands_in_memory, begins_in_memory, rests_in_memory, serves_in_memory}
+use Rattle.ob_run.proofs.SessionLemmas.{spared, told_alone, ends_session, is_servable, stands_in_memory, begins_in_memory, rests_in_memory, serves_in_memory}
 use Rattle.ob_store.specs.Stores.{program_of}
+use Rattle.ob_run.proofs.AttachingLemmas.{uses_nothing, uses_untouched}
 use Rattle.ob_run.proofs.serving.serve_text.Goals as goal
 
-pub returns-in-Err-Fault-clause-treats : goal.returns-in-Err-Fault-clause-treats
-returns-in-Err-Fault-clause-treats g c = λ name lanes slice. inl (record {
-  output = c.refuse.ensures.tells (serve name) c.args.text.now (rw c.in-Err-Fault.field-0-is at c.in-Err-Fault.ensures.fault);
-  input = refl;
-  disk = spared (g.D.Disk.view c.args.disk.now);
-})
+-- the text has no program
+pub returns-in-Err-clause-treats : goal.returns-in-Err-clause-treats
+returns-in-Err-clause-treats g c = λ name lanes slice.
+    let old : Devices = devices (told g.F.Files.view g.S.Source.view g.K.Sink.view g.D.Disk.view c.args.outside.now) in
+    let new : Devices = record { input = old.input; output = g.K.Sink.view c.refuse.new.output; disk = old.disk } in
+    told_alone (asked_with (serve name) c.args.fuel lanes slice) c.args.text.now old new c.refuse.result
+    (c.refuse.ensures.tells (serve name) c.args.text.now c.in-Err.ensures.fault) refl (spared old.disk)
 
-pub returns-in-Err-Memory-clause-treats : goal.returns-in-Err-Memory-clause-treats
-returns-in-Err-Memory-clause-treats g c = λ name lanes slice. inl (record { output = refl; input = refl; disk = spared (g.D.Disk.view c.args.disk.now) })
-
-pub serve-served-requires-clause-sound : goal.serve-served-requires-clause-sound
-serve-served-requires-clause-sound g c =
-    let program = c.in-Ok.program in is_sound program.table (map silica_body_of program.bodies) program.code c.in-Ok.ensures.compiled c.in-Ok.ensures.code c.in-Ok.ensures.sound_code
+pub serve-served-requires-clause-servable : goal.serve-served-requires-clause-servable
+serve-served-requires-clause-servable g c =
+    let program = c.in-Ok.program in is_servable program.table (map silica_body_of program.bodies) program.code c.in-Ok.ensures.compiled c.in-Ok.ensures.code c.in-Ok.ensures.sound_code
 
 pub serve-served-requires-clause-at_rest : goal.serve-served-requires-clause-at_rest
 serve-served-requires-clause-at_rest g c = rests_in_memory c.in-Ok.program.code c.blank-store.result c.blank-store.ensures.content
 
 pub serve-served-requires-clause-stands : goal.serve-served-requires-clause-stands
-serve-served-requires-clause-stands g c = stands_in_memory (program_of c.in-Ok.program.code) c.blank-store.result (g.D.Disk.view c.args.disk.now) c.blank-store.ensures.memory
+serve-served-requires-clause-stands g c = stands_in_memory (program_of c.in-Ok.program.code) c.blank-store.result (g.D.Disk.view c.args.outside.now.disk) c.blank-store.ensures.memory
 
 -- the run ends as the session of the program does
 pub returns-clause-treats : goal.returns-clause-treats
 returns-clause-treats g c = λ name lanes slice.
-    let old : Devices = record { input = g.S.Source.view c.args.input.now; output = g.K.Sink.view c.args.output.now; disk = g.D.Disk.view c.args.disk.now } in
+    let old : Devices = devices (told g.F.Files.view g.S.Source.view g.K.Sink.view g.D.Disk.view c.args.outside.now) in
     let new : Devices = record { input = g.S.Source.view c.serve-served.new.input; output = g.K.Sink.view c.serve-served.new.output; disk = g.D.Disk.view c.serve-served.new.disk } in
     let program = c.in-Ok.program in
     let bodies = map silica_body_of program.bodies in
     let sound = (c.in-Ok.ensures.sound_code) in
     subst (λ (e : Exit). Treats (asked_with (serve name) c.args.fuel lanes slice) c.args.text.now old new e) (sym c.exit_of.ensures)
-    (inr (inr (ends_session (asked_with (serve name) c.args.fuel lanes slice) c.args.text.now old new c.serve-served.result
+    (ends_session (asked_with (serve name) c.args.fuel lanes slice) c.args.text.now old new c.serve-served.result
     (serves_in_memory program.table bodies program.code c.in-Ok.ensures.compiled c.in-Ok.ensures.code sound c.args.text.now c.in-Ok.ensures.program c.args.fuel lanes slice name old new c.serve-served.result c.blank-store.result
     c.blank-store.ensures.content c.blank-store.ensures.memory (begins_in_memory c.blank-store.result c.blank-store.ensures.content c.blank-store.ensures.memory)
     (c.serve-served.ensures.ends (record { table = program.table; bodies = bodies }) (record { sound = sound; emitted = c.in-Ok.ensures.code; table = c.in-Ok.ensures.compiled.lowered.table }))
-    (c.serve-served.ensures.untouched c.blank-store.ensures.memory) c.serve-served.ensures.few))))
+    (c.serve-served.ensures.untouched c.blank-store.ensures.memory) (c.serve-served.ensures.sure c.blank-store.ensures.memory) c.serve-served.ensures.few))
+
+-- no call of the disk is made
+pub returns-in-Err-clause-disk : goal.returns-in-Err-clause-disk
+returns-in-Err-clause-disk g c = uses_nothing None (g.D.Disk.view c.args.outside.now.disk)
+
+pub returns-clause-disk : goal.returns-clause-disk
+returns-clause-disk g c = uses_untouched (g.D.Disk.view c.args.outside.now.disk) (g.D.Disk.view c.serve-served.new.disk) (c.serve-served.ensures.untouched c.blank-store.ensures.memory)

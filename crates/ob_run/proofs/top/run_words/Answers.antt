@@ -2,26 +2,49 @@ use Rattle.std.proofs.Common.{sym, refl}
 use Rattle.std.specs.Prelude.{map, string_bytes}
 use Rattle.ob_words.specs.Asked.{asked_of}
 use Rattle.ob_words.specs.AskedView.{asked_view}
-use Rattle.ob_run.specs.Outside.{outside}
+use Rattle.ob_run.specs.Outside.{told}
 use Rattle.ob_run.specs.FileAsks.{file_asked}
 use Rattle.ob_run.proofs.TopLemmas.{asks_nothing, treated, treated_own}
+use Rattle.ob_run.specs.Attaching.{store_asked}
+use Rattle.ob_run.proofs.AttachingLemmas.{uses_nothing, uses_asked}
 use Rattle.ob_run.proofs.top.run_words.Goals as goal
 
 -- the text of a trial is the command's own
-pub returns-in_default-clause-meets : goal.returns-in_default-clause-meets
-returns-in_default-clause-meets g c =
-    treated_own _ (outside (g.F.Files.view c.args.files.now) (g.S.Source.view c.args.input.now) (g.K.Sink.view c.args.output.now) (g.D.Disk.view c.args.disk.now))
-    (outside (g.F.Files.view c.args.files.now) (g.S.Source.view c.treat.new.input) (g.K.Sink.view c.treat.new.output) (g.D.Disk.view c.treat.new.disk))
-    (asked_view c.in-Ok.asked) c.treat.result c.in-Ok.ensures.ok (sym c.in_default.ensures) refl (rw (c.as_bytes.ensures.value, c.vending_machine.ensures) at c.treat.ensures.treats)
+pub returns-in_default-clause-status : goal.returns-in_default-clause-status
+returns-in_default-clause-status g c =
+    treated_own _ (told g.F.Files.view g.S.Source.view g.K.Sink.view g.D.Disk.view c.args.outside.now) (told g.F.Files.view g.S.Source.view g.K.Sink.view g.D.Disk.view c.treat.new.outside)
+    (asked_view c.in-Ok.asked) c.treat.result c.in-Ok.ensures.ok (sym c.in_default.ensures) (rw c.treat.ensures.files refl)
+    (rw (c.as_bytes.ensures.value, c.vending_machine.ensures) at c.treat.ensures.treats)
 
 -- the text of P, as far as it was read
-pub returns-in-Ok-read_text-clause-meets : goal.returns-in-Ok-read_text-clause-meets
-returns-in-Ok-read_text-clause-meets g c =
-    treated _ (outside (g.F.Files.view c.args.files.now) (g.S.Source.view c.args.input.now) (g.K.Sink.view c.args.output.now) (g.D.Disk.view c.args.disk.now))
-    (outside (g.F.Files.view c.read_text.new.files) (g.S.Source.view c.treat-exit.new.input) (g.K.Sink.view c.treat-exit.new.output) (g.D.Disk.view c.treat-exit.new.disk))
-    (asked_view c.in-Ok.asked) c.in-Some.name.now c.in-Ok-read_text.text.items c.treat-exit.result c.in-Ok.ensures.ok (sym c.in-Some.ensures) c.in-Ok-read_text.ensures.asks c.in-Ok-read_text.ensures.text
-    (rw c.deref.ensures.value at c.treat-exit.ensures.treats)
+pub returns-in-Ok-read_text-clause-status : goal.returns-in-Ok-read_text-clause-status
+returns-in-Ok-read_text-clause-status g c =
+    treated _ (told g.F.Files.view g.S.Source.view g.K.Sink.view g.D.Disk.view c.args.outside.now) (told g.F.Files.view g.S.Source.view g.K.Sink.view g.D.Disk.view c.treat-exit.new.outside)
+    (asked_view c.in-Ok.asked) c.in-Some.name.now c.in-Ok-read_text.text.items c.treat-exit.result c.in-Ok.ensures.ok (sym c.in-Some.ensures)
+    (rw c.treat-exit.ensures.files c.in-Ok-read_text.ensures.asks) c.in-Ok-read_text.ensures.text (rw c.deref.ensures.value at c.treat-exit.ensures.treats)
 
 -- nothing was asked
-pub returns-in-Err-Memory-clause-asked : goal.returns-in-Err-Memory-clause-asked
-returns-in-Err-Memory-clause-asked g c = asks_nothing (file_asked (asked_of (map string_bytes c.args.words.now))) (g.F.Files.view c.args.files.now).asks
+pub returns-in-Err-Memory-clause-asks : goal.returns-in-Err-Memory-clause-asks
+returns-in-Err-Memory-clause-asks g c = asks_nothing (file_asked (asked_of (map string_bytes c.args.words.now))) (g.F.Files.view c.args.outside.now.files).asks
+
+-- ---- the calls of the disk
+
+pub returns-in_default-clause-disk : goal.returns-in_default-clause-disk
+returns-in_default-clause-disk g c =
+    uses_asked (asked_of (map string_bytes c.args.words.now)) (asked_view c.in-Ok.asked) (g.D.Disk.view c.args.outside.now.disk) (g.D.Disk.view c.treat.new.outside.disk) c.in-Ok.ensures.ok c.treat.ensures.disk
+
+pub returns-in-Ok-read_text-clause-disk : goal.returns-in-Ok-read_text-clause-disk
+returns-in-Ok-read_text-clause-disk g c =
+    uses_asked (asked_of (map string_bytes c.args.words.now)) (asked_view c.in-Ok.asked) (g.D.Disk.view c.args.outside.now.disk) (g.D.Disk.view c.treat-exit.new.outside.disk) c.in-Ok.ensures.ok c.treat-exit.ensures.disk
+
+pub returns-in-Err-Usage-clause-disk : goal.returns-in-Err-Usage-clause-disk
+returns-in-Err-Usage-clause-disk g c = uses_nothing (store_asked (asked_of (map string_bytes c.args.words.now))) (g.D.Disk.view c.args.outside.now.disk)
+
+pub returns-in-Err-Memory-clause-disk : goal.returns-in-Err-Memory-clause-disk
+returns-in-Err-Memory-clause-disk g c = uses_nothing (store_asked (asked_of (map string_bytes c.args.words.now))) (g.D.Disk.view c.args.outside.now.disk)
+
+pub returns-in-Err-Failed-clause-disk : goal.returns-in-Err-Failed-clause-disk
+returns-in-Err-Failed-clause-disk g c = uses_nothing (store_asked (asked_of (map string_bytes c.args.words.now))) (g.D.Disk.view c.args.outside.now.disk)
+
+pub returns-in-Err-Memory-read_text-clause-disk : goal.returns-in-Err-Memory-read_text-clause-disk
+returns-in-Err-Memory-read_text-clause-disk g c = uses_nothing (store_asked (asked_of (map string_bytes c.args.words.now))) (g.D.Disk.view c.args.outside.now.disk)

@@ -1,4 +1,4 @@
-use Rattle.std.proofs.Common.{inr, refl}
+use Rattle.std.proofs.Common.{inr}
 use Rattle.ob_run.specs.TrialLines.{trial_text}
 use Rattle.ob_run.proofs.trying.tell_trial.Goals as goal
 

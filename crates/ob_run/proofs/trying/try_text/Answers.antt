@@ -5,16 +5,15 @@ use Rattle.ob_trial.specs.Trials.{IsTrial}
 use Rattle.ob_words.specs.Asked.{trial}
 use Rattle.ob_words.specs.Settings.{fuel, default}
 use Rattle.ob_run.specs.Sessions.{area_bytes}
-use Rattle.ob_run.proofs.SessionLemmas.{is_sound, is_sound_for, same_program, image_fits}
+use Rattle.ob_run.proofs.SessionLemmas.{is_servable, is_sound_for, same_program, image_fits}
 use Rattle.ob_run.proofs.trying.try_text.Goals as goal
 
-pub returns-in-Err-Fault-clause-tells : goal.returns-in-Err-Fault-clause-tells
-returns-in-Err-Fault-clause-tells g c =
-    c.refuse.ensures.tells (trial c.args.length) c.args.text.now (rw c.in-Err-Fault.field-0-is at c.in-Err-Fault.ensures.fault)
+pub returns-in-Err-clause-tells : goal.returns-in-Err-clause-tells
+returns-in-Err-clause-tells g c = c.refuse.ensures.tells (trial c.args.length) c.args.text.now c.in-Err.ensures.fault
 
-pub hold_trial-requires-clause-sound : goal.hold_trial-requires-clause-sound
-hold_trial-requires-clause-sound g c =
-    let program = c.in-Ok.program in is_sound program.table (map silica_body_of program.bodies) program.code c.in-Ok.ensures.compiled c.in-Ok.ensures.code c.in-Ok.ensures.sound_code
+pub hold_trial-requires-clause-servable : goal.hold_trial-requires-clause-servable
+hold_trial-requires-clause-servable g c =
+    let program = c.in-Ok.program in is_servable program.table (map silica_body_of program.bodies) program.code c.in-Ok.ensures.compiled c.in-Ok.ensures.code c.in-Ok.ensures.sound_code
 
 pub hold_trial-requires-clause-room : goal.hold_trial-requires-clause-room
 hold_trial-requires-clause-room g c =

@@ -1,24 +1,22 @@
 use Rattle.std.specs.Prelude.{Ok}
 use Rattle.ob_heap.specs.Contents.{content_of}
-use Rattle.ob_store.specs.Stores.{kept_of, area_of_store}
+use Rattle.ob_store.specs.Stores.{kept_of}
 use Rattle.ob_wire.specs.Meanings.{request_of}
 use Rattle.ob_wire.specs.Reading.{value_of}
 use Rattle.ob_wire.specs.declared.refusal.Refusal.TheVariants.{Json, Shape}
 use Rattle.ob_serve.specs.Asked.{asked_by_value}
 use Rattle.ob_serve.proofs.Asking.{asks_request, asks_no_json, asks_nothing, request_labels}
-use Rattle.ob_serve.proofs.Keeping.{request_rests}
 use Rattle.ob_serve.proofs.Readied.{given_by, refused_by}
-use Rattle.ob_serve.proofs.Tables.{storable}
 use Rattle.ob_serve.proofs.answering.ready_line.Goals as goal
 
 pub ready_request-requires-clause-storable : goal.ready_request-requires-clause-storable
-ready_request-requires-clause-storable c = storable c.requires.sound.0 c.args.code.now c.requires.sound.1
+ready_request-requires-clause-storable c = c.requires.servable.storable
 
 pub ready_request-requires-clause-rests : goal.ready_request-requires-clause-rests
 ready_request-requires-clause-rests c =
     let asks = c.in-Ok.ensures.asked in
-    request_rests c.requires.sound.0 c.args.code.now c.args.fuel (area_of_store c.args.store.now) c.requires.sound.1 (content_of (kept_of c.args.store.now)) (request_of c.in-Ok.request)
-    c.requires.at_rest (request_labels asks.0 c.in-Ok.request asks.2)
+    c.requires.servable.sound.rests (content_of (kept_of c.args.store.now)) (request_of c.in-Ok.request) c.args.fuel c.requires.at_rest
+    (request_labels asks.0 c.in-Ok.request asks.2)
 
 pub returns-in-Ok : goal.returns-in-Ok
 returns-in-Ok c =

@@ -1,4 +1,6 @@
-use Rattle.std.proofs.Common.{inl}
+use Rattle.std.proofs.Common.{inl, ◌∙◌}
+use Rattle.ob_disk_spec.proofs.Behind.{behind_none}
+use Rattle.ob_disk_spec.proofs.Untouched.{untouched_none}
 use Rattle.ob_store.proofs.Same.{same_stands}
 use Rattle.ob_serve.proofs.Committed.{some_leads, crash_leaves, ready_again}
 use Rattle.ob_serve.proofs.committing.keep.Goals as goal
@@ -20,3 +22,32 @@ returns-clause-crash g c = λ program after leads rests stands.
     crash_leaves program after c.args.store.now c.reserve.new.self c.in-Some.prepared some c.reserve.ensures.state c.reserve.ensures.area c.reserve.ensures.content prepared
     (g.D.Disk.view c.args.disk.now) (g.D.Disk.view c.commit.new.disk) (λ none. c.commit.ensures.nothing (inl none))
     (λ size area. c.commit.ensures.crash program size ready area (same_stands program c.args.store.now c.reserve.new.self (g.D.Disk.view c.args.disk.now) c.reserve.ensures.same stands))
+
+-- ---- the calls of the disk
+
+pub returns-in_default-clause-untouched : goal.returns-in_default-clause-untouched
+returns-in_default-clause-untouched g c = λ none. untouched_none (g.D.Disk.view c.args.disk.now)
+
+pub returns-in_default-clause-behind : goal.returns-in_default-clause-behind
+returns-in_default-clause-behind g c = λ size is. behind_none size (g.D.Disk.view c.args.disk.now)
+
+pub returns-then-is_err-clause-untouched : goal.returns-then-is_err-clause-untouched
+returns-then-is_err-clause-untouched g c = λ none. untouched_none (g.D.Disk.view c.args.disk.now)
+
+pub returns-then-is_err-clause-memory : goal.returns-then-is_err-clause-memory
+returns-then-is_err-clause-memory g c = λ is. untouched_none (g.D.Disk.view c.args.disk.now)
+
+pub returns-then-is_err-clause-behind : goal.returns-then-is_err-clause-behind
+returns-then-is_err-clause-behind g c = λ size is. behind_none size (g.D.Disk.view c.args.disk.now)
+
+pub returns-then-is_err-2-clause-untouched : goal.returns-then-is_err-2-clause-untouched
+returns-then-is_err-2-clause-untouched g c = λ none. c.commit.ensures.nothing (inl (c.reserve.ensures.area ∙ none))
+
+pub returns-then-is_err-2-clause-behind : goal.returns-then-is_err-2-clause-behind
+returns-then-is_err-2-clause-behind g c = λ size is. c.commit.ensures.behind size (c.reserve.ensures.area ∙ is)
+
+pub returns-clause-untouched : goal.returns-clause-untouched
+returns-clause-untouched g c = λ none. c.commit.ensures.nothing (inl (c.reserve.ensures.area ∙ none))
+
+pub returns-clause-behind : goal.returns-clause-behind
+returns-clause-behind g c = λ size is. c.commit.ensures.behind size (c.reserve.ensures.area ∙ is)

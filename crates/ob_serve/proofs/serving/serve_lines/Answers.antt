@@ -4,7 +4,9 @@ use Rattle.ob_heap.specs.Contents.{content_of}
 use Rattle.ob_io.specs.Views.{SourceView}
 use Rattle.ob_io.proofs.LinesLemmas.{nothing_held}
 use Rattle.ob_store.specs.Stores.{program_of, area_of_store, kept_of, state_of}
-use Rattle.ob_serve.proofs.Committed.{spared, stands_through, stands_now, quiet_then, quiet_stands, crash_between, reply_there, after_there, keeps_quiet, disk_rose}
+use Rattle.ob_disk_spec.proofs.Behind.{behind_none, behind_then}
+use Rattle.ob_disk_spec.proofs.Untouched.{untouched_none, untouched_then, untouched_during}
+use Rattle.ob_serve.proofs.Committed.{stands_through, stands_now, quiet_stands, no_disk_stop, crash_between, reply_there, after_there, keeps_quiet, disk_rose}
 use Rattle.ob_serve.proofs.Keeping.{kept_rests}
 use Rattle.ob_serve.specs.declared.committing.KeepError.{KeepError}
 use Rattle.ob_serve.specs.declared.committing.KeepError.TheVariants.{Memory as KeepMemory, DiskFault as KeepFault}
@@ -50,7 +52,9 @@ lines-init g c =
       state = refl;
       answered = λ stood. answered_none item stands (state_of c.args.store.now) (g.K.Sink.view c.args.output.now).written (g.D.Disk.view c.args.disk.now);
       stands = λ stood. stood;
-      untouched = λ none. spared (g.D.Disk.view c.args.disk.now);
+      untouched = λ none. untouched_none (g.D.Disk.view c.args.disk.now);
+      behind = λ size is. behind_none size (g.D.Disk.view c.args.disk.now);
+      attaches = refl;
       calm_read = refl;
       calm_write = refl;
       calm_disk = refl;
@@ -89,6 +93,8 @@ lines-preserved-in-Ok-None g c =
       answered = λ stood. answered_blank item stands start inv.read.lines line.full blank (inv.answered stood);
       stands = inv.stands;
       untouched = inv.untouched;
+      behind = inv.behind;
+      attaches = inv.attaches;
       calm_read = c.in-Ok-next_line.ensures.calm (λ e. cc) ∙ inv.calm_read;
       calm_write = inv.calm_write;
       calm_disk = inv.calm_disk;
@@ -121,7 +127,7 @@ returns-in-Err-Memory-clause-ends g c = λ stood.
     let stands = StandsForStore (program_of c.args.code.now) area in
     let here = stands_now (program_of c.args.code.now) c.lines.store (g.D.Disk.view c.lines.disk) area _ inv.area inv.state (inv.stands stood) inv.at_rest in
     let is : c.keep.result ≡ Err KeepMemory = c.in-Err-Memory.is ∙ ap (λ (e : KeepError). Err e) c.in-Err-Memory.field-0-is in
-    let quiet = keeps_quiet c.keep.result _ _ is c.keep.ensures.memory in
+    let quiet = untouched_during _ _ (keeps_quiet c.keep.result _ _ is c.keep.ensures.memory) in
     gives_up item stands (state_of c.args.store.now) _ _ _ _ _ inv.read inv.ends
     (answered_quiet item stands (state_of c.args.store.now) (requests_in inv.read.lines) (inv.answered stood) quiet here)
     (quiet_stands (g.D.Disk.view c.lines.disk) (g.D.Disk.view c.keep.new.disk) _ quiet here)
@@ -154,7 +160,47 @@ returns-in-Err-write_all-clause-few g c = few_taken _ _ _ (more_taken _ _ _ _ _ 
 
 pub returns-in-Err-write_all-clause-untouched : goal.returns-in-Err-write_all-clause-untouched
 returns-in-Err-write_all-clause-untouched g c = λ none.
-    quiet_then (g.D.Disk.view c.args.disk.now) (g.D.Disk.view c.lines.disk) (g.D.Disk.view c.keep.new.disk) (c.lines.invariant.untouched none) (c.keep.ensures.untouched (c.lines.invariant.area ∙ none))
+    untouched_then (g.D.Disk.view c.args.disk.now) (g.D.Disk.view c.lines.disk) (g.D.Disk.view c.keep.new.disk) (c.lines.invariant.untouched none) (c.keep.ensures.untouched (c.lines.invariant.area ∙ none))
+
+pub returns-in_default-clause-untouched : goal.returns-in_default-clause-untouched
+returns-in_default-clause-untouched g c = λ none. untouched_none (g.D.Disk.view c.args.disk.now)
+
+pub returns-in_default-new-clause-untouched : goal.returns-in_default-new-clause-untouched
+returns-in_default-new-clause-untouched g c = λ none. untouched_none (g.D.Disk.view c.args.disk.now)
+
+pub returns-in_default-clause-behind : goal.returns-in_default-clause-behind
+returns-in_default-clause-behind g c = λ size is. behind_none size (g.D.Disk.view c.args.disk.now)
+
+pub returns-in_default-new-clause-behind : goal.returns-in_default-new-clause-behind
+returns-in_default-new-clause-behind g c = λ size is. behind_none size (g.D.Disk.view c.args.disk.now)
+
+pub returns-in-Err-Memory-clause-untouched : goal.returns-in-Err-Memory-clause-untouched
+returns-in-Err-Memory-clause-untouched g c = λ none.
+    untouched_then (g.D.Disk.view c.args.disk.now) (g.D.Disk.view c.lines.disk) (g.D.Disk.view c.keep.new.disk) (c.lines.invariant.untouched none) (c.keep.ensures.untouched (c.lines.invariant.area ∙ none))
+
+pub returns-in-Err-DiskFault-clause-untouched : goal.returns-in-Err-DiskFault-clause-untouched
+returns-in-Err-DiskFault-clause-untouched g c = λ none.
+    untouched_then (g.D.Disk.view c.args.disk.now) (g.D.Disk.view c.lines.disk) (g.D.Disk.view c.keep.new.disk) (c.lines.invariant.untouched none) (c.keep.ensures.untouched (c.lines.invariant.area ∙ none))
+
+pub returns-in-Err-Memory-clause-behind : goal.returns-in-Err-Memory-clause-behind
+returns-in-Err-Memory-clause-behind g c = λ size is.
+    behind_then size (g.D.Disk.view c.args.disk.now) (g.D.Disk.view c.lines.disk) (g.D.Disk.view c.keep.new.disk) (c.lines.invariant.behind size is) (c.keep.ensures.behind size (c.lines.invariant.area ∙ is))
+
+pub returns-in-Err-DiskFault-clause-behind : goal.returns-in-Err-DiskFault-clause-behind
+returns-in-Err-DiskFault-clause-behind g c = λ size is.
+    behind_then size (g.D.Disk.view c.args.disk.now) (g.D.Disk.view c.lines.disk) (g.D.Disk.view c.keep.new.disk) (c.lines.invariant.behind size is) (c.keep.ensures.behind size (c.lines.invariant.area ∙ is))
+
+pub returns-in-Err-write_all-clause-behind : goal.returns-in-Err-write_all-clause-behind
+returns-in-Err-write_all-clause-behind g c = λ size is.
+    behind_then size (g.D.Disk.view c.args.disk.now) (g.D.Disk.view c.lines.disk) (g.D.Disk.view c.keep.new.disk) (c.lines.invariant.behind size is) (c.keep.ensures.behind size (c.lines.invariant.area ∙ is))
+
+-- over a store in memory no call of the disk fails
+pub returns-in-Err-clause-sure : goal.returns-in-Err-clause-sure
+returns-in-Err-clause-sure g c = λ none. no_disk_stop _ _ c.in-Err.served c.in-Err.ensures.err
+
+pub returns-in-Err-DiskFault-clause-sure : goal.returns-in-Err-DiskFault-clause-sure
+returns-in-Err-DiskFault-clause-sure g c = λ none.
+    absurd (c.keep.ensures.sure (c.lines.invariant.area ∙ none) (c.in-Err-DiskFault.is ∙ ap (λ (e : KeepError). Err e) c.in-Err-DiskFault.field-0-is))
 
 pub returns-in-Err-write_all-clause-ends : goal.returns-in-Err-write_all-clause-ends
 returns-in-Err-write_all-clause-ends g c = λ stood.
@@ -173,7 +219,7 @@ returns-in-Err-write_all-clause-ends g c = λ stood.
     let change = crash_between c.args.code.now c.args.fuel c.lines.store area before line.full inv.area inv.state (g.D.Disk.view c.lines.disk) (g.D.Disk.view c.keep.new.disk)
     (c.keep.ensures.crash program after some.1.next inv.at_rest (inv.stands stood)) in
     let kept : state_of c.keep.new.store ≡ after = c.in-Ok-keep.ensures.kept program after some.1.next in
-    let rests = kept_rests c.args.code.now c.args.fuel c.lines.store c.keep.new.store line.full c.requires.sound kept inv.at_rest in
+    let rests = kept_rests c.args.code.now c.args.fuel c.lines.store c.keep.new.store line.full c.requires.servable.sound kept inv.at_rest in
     let images = stands_now program c.keep.new.store (g.D.Disk.view c.keep.new.disk) area _ (c.keep.ensures.area ∙ inv.area)
     (after_there c.args.code.now c.args.fuel c.lines.store area before line.full inv.area inv.state (state_of c.keep.new.store) kept)
     (c.in-Ok-keep.ensures.stands program after some.1.next (inv.stands stood)) rests in
@@ -201,7 +247,7 @@ lines-preserved g c =
       read = reads_more _ (reader c.lines.lines (g.S.Source.view c.lines.input)) (reader c.next_line.new.lines (g.S.Source.view c.next_line.new.input)) _ _ inv.read line;
       ends = line.ends;
       drawn = more_taken _ _ _ _ _ inv.drawn c.next_line.ensures.taken;
-      at_rest = kept_rests c.args.code.now c.args.fuel c.lines.store c.keep.new.store line.full c.requires.sound kept inv.at_rest;
+      at_rest = kept_rests c.args.code.now c.args.fuel c.lines.store c.keep.new.store line.full c.requires.servable.sound kept inv.at_rest;
       area = c.keep.ensures.area ∙ inv.area;
       state = kept_line item stands start (λ s. state_of c.keep.new.store ≡ s) inv.read.lines line.full some.0
           (after_there c.args.code.now c.args.fuel c.lines.store area before line.full inv.area inv.state (state_of c.keep.new.store) kept);
@@ -211,7 +257,9 @@ lines-preserved g c =
           (c.keep.ensures.crash program after some.1.next inv.at_rest (inv.stands stood)))
           (reply_there c.args.code.now c.args.fuel c.lines.store area before line.full inv.area inv.state c.in-Ok-Some.ready.reply.items some.1.reply) whole;
       stands = λ stood. c.in-Ok-keep.ensures.stands program after some.1.next (inv.stands stood);
-      untouched = λ none. quiet_then (g.D.Disk.view c.args.disk.now) (g.D.Disk.view c.lines.disk) (g.D.Disk.view c.keep.new.disk) (inv.untouched none) (c.keep.ensures.untouched (inv.area ∙ none));
+      untouched = λ none. untouched_then (g.D.Disk.view c.args.disk.now) (g.D.Disk.view c.lines.disk) (g.D.Disk.view c.keep.new.disk) (inv.untouched none) (c.keep.ensures.untouched (inv.area ∙ none));
+      behind = λ size is. behind_then size (g.D.Disk.view c.args.disk.now) (g.D.Disk.view c.lines.disk) (g.D.Disk.view c.keep.new.disk) (inv.behind size is) (c.keep.ensures.behind size (inv.area ∙ is));
+      attaches = c.keep.ensures.attaches ∙ inv.attaches;
       calm_read = c.in-Ok-next_line.ensures.calm (λ e. cc) ∙ inv.calm_read;
       calm_write = c.in-Ok-write_all.ensures.cause.calm ∙ inv.calm_write;
       calm_disk = c.in-Ok-keep.ensures.calm (λ e. cc) ∙ inv.calm_disk;

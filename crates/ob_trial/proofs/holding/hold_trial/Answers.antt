@@ -16,7 +16,7 @@ end_of-requires c =
     let old : Devices = record { input = sure_source_view c.new-input.result; output = sure_sink_view c.new-output.result; disk = sure_disk_view c.open_told.new.disk } in
     let new : Devices = record { input = sure_source_view c.serve-served.new.input; output = sure_sink_view c.serve-served.new.output; disk = sure_disk_view c.serve-served.new.disk } in
     let left = some_bytes (sure_source_view c.new-input.result).left c.in_ok-trial_lines.field-0.items (trial_lines c.args.trial_length) c.new-input.ensures.left c.in_ok-trial_lines.ensures in
-    let ends = c.serve-served.ensures.ends c.requires.sound.0 c.requires.sound.1 in
+    let ends = c.serve-served.ensures.by_code in
     ends_unless_memory c.args.trial_length old new left ends.lines c.serve-served.result c.ranges.trial_length.fits ends.of_input ends.cause refl refl refl refl refl refl
 
 -- the disk stands for the store after the session
@@ -24,8 +24,7 @@ pub open_told-requires-2-clause-unrefused : goal.open_told-requires-2-clause-unr
 open_told-requires-2-clause-unrefused c =
     let old : Devices = record { input = sure_source_view c.new-input.result; output = sure_sink_view c.new-output.result; disk = sure_disk_view c.open_told.new.disk } in
     let new : Devices = record { input = sure_source_view c.serve-served.new.input; output = sure_sink_view c.serve-served.new.output; disk = sure_disk_view c.serve-served.new.disk } in
-    session_unrefused c.requires.sound.0 c.args.code.now c.requires.sound.1 c.args.fuel c.args.area c.args.trial_length c.in_ok-store.store old new c.serve-served.result
-    c.in_ok-store.ensures.area (c.serve-served.ensures.ends c.requires.sound.0 c.requires.sound.1)
+    session_unrefused c.args.code.now c.args.fuel c.args.area c.in_ok-store.store old new c.serve-served.result c.in_ok-store.ensures.area c.serve-served.ensures.by_code
 
 pub returns : goal.returns
 returns c = λ program sound.

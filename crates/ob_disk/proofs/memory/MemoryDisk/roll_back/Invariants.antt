@@ -8,6 +8,8 @@ invariant-calls l = record {
   image : stopped l.left (reverse l.self.notes.items) l.self.bytes.items ≡ stopped l.images (reverse l.fn.self.notes.items) l.fn.self.bytes.items;
   plan : l.self.plan ≡ l.fn.self.plan;
   room : l.self.room ≡ l.fn.self.room;
+  calls : l.self.calls ≡ l.fn.self.calls;
+  notes_all : l.self.notes_all ≡ l.fn.self.notes_all;
 }
 
 abbrev pub decreases-calls : goal.decreases-calls

@@ -33,3 +33,15 @@ returns-clause-whole g c = λ holds.
     let p = c.args.built.payload.items in
     let now = c.in-Ok.ensures.whole s.area (plain s.contents) p (appends s.area (plain s.contents) p _ s.contents.gate s.place s.small c.requires.built.within (c.as_slice.ensures.value ∙ c.requires.built.is)) holds in
     subst (λ (j : Journaled). Throughout (g.D.Disk.view c.put_record.new.disk) (λ c'. StandsFor j (area_of s.area c'))) (sym c.put_last.ensures.payloads) now
+
+pub returns-in_default-clause-behind : goal.returns-in_default-clause-behind
+returns-in_default-clause-behind g c =
+    let s = c.args.self.now in
+    let p = c.args.built.payload.items in
+    c.put_record.ensures.behind s.area (appends s.area (plain s.contents) p _ s.contents.gate s.place s.small c.requires.built.within (c.as_slice.ensures.value ∙ c.requires.built.is)).within
+
+pub returns-clause-behind : goal.returns-clause-behind
+returns-clause-behind g c =
+    let s = c.args.self.now in
+    let p = c.args.built.payload.items in
+    c.put_record.ensures.behind s.area (appends s.area (plain s.contents) p _ s.contents.gate s.place s.small c.requires.built.within (c.as_slice.ensures.value ∙ c.requires.built.is)).within

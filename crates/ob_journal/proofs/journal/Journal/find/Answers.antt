@@ -2,6 +2,7 @@ use Rattle.std.proofs.Common.{ℕ, take, ap, ◌∙◌, refl}
 use Rattle.ob_journal_spec.specs.Areas.{StandsFor, IsBlank, IsNoStore, IsDamaged}
 use Rattle.ob_journal.specs.Surveys.{plain}
 use Rattle.ob_journal.proofs.Fronts.{of_area, found_blank, found_whole, blank_survey, standing_survey, no_store_survey, damaged_survey}
+use Rattle.ob_disk_spec.proofs.Behind.{behind_then}
 use Rattle.ob_journal.proofs.journal.Journal.find.Goals as goal
 
 pub returns-in-Ok-Blank-clause-found : goal.returns-in-Ok-Blank-clause-found
@@ -30,3 +31,27 @@ returns-in-Err-NotStore-clause-found g c = λ c' reads.
 pub returns-in-Err-Damaged-clause-found : goal.returns-in-Err-Damaged-clause-found
 returns-in-Err-Damaged-clause-found g c = λ c' reads.
     of_area (IsDamaged c.in-Err-Damaged.offset) c.as_slice.result.now c' c.in-Ok.count c.args.area (damaged_survey _ c.in-Err-Damaged.offset _ c.in-Err-Damaged.field-0-is c.in-Err-Damaged.ensures) (c.as_slice.ensures.value ∙ c.in-Ok-read_front.ensures.bytes c' (c.in-Ok.ensures.same ∙ reads) ∙ ap (λ (n : ℕ). take n c') c.min.ensures) (c.in-Ok.ensures.length c' reads)
+
+pub returns-in_default-clause-behind : goal.returns-in_default-clause-behind
+returns-in_default-clause-behind g c = λ size. c.measure.ensures.behind size
+
+pub returns-in-Err-Disk-clause-behind : goal.returns-in-Err-Disk-clause-behind
+returns-in-Err-Disk-clause-behind g c = λ size. behind_then size _ _ _ (c.measure.ensures.behind size) (c.read_front.ensures.behind size)
+
+pub returns-in-Err-Memory-clause-behind : goal.returns-in-Err-Memory-clause-behind
+returns-in-Err-Memory-clause-behind g c = λ size. behind_then size _ _ _ (c.measure.ensures.behind size) (c.read_front.ensures.behind size)
+
+pub returns-in-Ok-Blank-clause-behind : goal.returns-in-Ok-Blank-clause-behind
+returns-in-Ok-Blank-clause-behind g c = λ size. behind_then size _ _ _ (c.measure.ensures.behind size) (c.read_front.ensures.behind size)
+
+pub returns-in-Ok-Standing-clause-behind : goal.returns-in-Ok-Standing-clause-behind
+returns-in-Ok-Standing-clause-behind g c = λ size. behind_then size _ _ _ (c.measure.ensures.behind size) (c.read_front.ensures.behind size)
+
+pub returns-in-Err-NotStore-clause-behind : goal.returns-in-Err-NotStore-clause-behind
+returns-in-Err-NotStore-clause-behind g c = λ size. behind_then size _ _ _ (c.measure.ensures.behind size) (c.read_front.ensures.behind size)
+
+pub returns-in-Err-Damaged-clause-behind : goal.returns-in-Err-Damaged-clause-behind
+returns-in-Err-Damaged-clause-behind g c = λ size. behind_then size _ _ _ (c.measure.ensures.behind size) (c.read_front.ensures.behind size)
+
+pub returns-clause-behind : goal.returns-clause-behind
+returns-clause-behind g c = λ size. behind_then size _ _ _ (c.measure.ensures.behind size) (c.read_front.ensures.behind size)

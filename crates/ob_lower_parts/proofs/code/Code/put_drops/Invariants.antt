@@ -1,6 +1,6 @@
 use Rattle.std.proofs.Common.{◌≡◌, drop}
 use Rattle.ob_silica.specs.Terms.{then_terms}
-use Rattle.ob_lower_spec.specs.Points.{drops}
+use Rattle.ob_lower_spec.specs.Forms.{drops}
 use Rattle.ob_lower_parts.proofs.code.Code.put_drops.Given as goal
 
 abbrev pub invariant-loop-slot : goal.invariant-loop-slot

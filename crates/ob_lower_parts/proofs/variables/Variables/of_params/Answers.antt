@@ -1,7 +1,6 @@
 use Rattle.std.proofs.Common.{◌≡◌, ◌+◌, ◌-◌, ◌<◌, ◌∷◌, length, get_or, ap, sym, ◌∙◌, arith, drop}
 use Rattle.ob_table_spec.specs.WellFormed.{kind_of_resolved}
-use Rattle.ob_lower_spec.specs.Points.{SlotVariable}
-use Rattle.ob_lower_spec.specs.BodyTerms.{params_from}
+use Rattle.ob_lower_spec.specs.Forms.{SlotVariable, params_from}
 use Rattle.ob_lower_parts.specs.Visible.{newest_first}
 use Rattle.ob_lower_parts.proofs.VariablesLemmas.{newest_first-push, params_from-drop}
 use Rattle.ob_lower_parts.proofs.variables.Variables.of_params.Goals as goal

@@ -1,5 +1,5 @@
 use Rattle.std.proofs.Common.{◌≡◌, ◌+◌, drop}
-use Rattle.ob_lower_spec.specs.BodyTerms.{params_from}
+use Rattle.ob_lower_spec.specs.Forms.{params_from}
 use Rattle.ob_lower_parts.specs.Visible.{newest_first}
 use Rattle.ob_lower_parts.proofs.variables.Variables.of_params.Given as goal
 

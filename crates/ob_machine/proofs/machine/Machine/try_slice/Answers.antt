@@ -4,7 +4,7 @@ use Rattle.ob_machine_steps.specs.Measures.{LeadsAhead}
 use Rattle.ob_machine_steps.specs.Runs.{paused}
 use Rattle.ob_machine.specs.Phases.{phase_of}
 use Rattle.ob_machine.specs.Slicing.{StopsSo, IsStuckIn, stop_told}
-use Rattle.ob_machine.specs.declared.off.Off.TheVariants.{NoStep}
+use Rattle.ob_machine_parts.specs.declared.off.Off.TheVariants.{NoStep}
 use Rattle.ob_machine.specs.declared.progress.Progress.TheVariants.{Finished, Aborted, Going}
 use Rattle.ob_machine.specs.declared.slice.Turn.TheVariants.{Waits}
 use Rattle.ob_machine.proofs.StretchLemmas.{on_turn, on_made, off_turn}

@@ -3,7 +3,8 @@ use Rattle.ob_heap_spec.specs.Worlds.{by_fuel}
 use Rattle.ob_machine_steps.specs.Configurations.{abort}
 use Rattle.ob_machine_steps.specs.Calling.{caller, calls_object}
 use Rattle.ob_machine_laws.specs.Laws.{SameNext}
-use Rattle.ob_machine.specs.Shown.{shown, world_of, slots_of, Tells}
+use Rattle.ob_machine_parts.specs.Shown.{slots_of}
+use Rattle.ob_machine.specs.Shown.{shown, world_of, Tells}
 use Rattle.ob_machine.proofs.BeginningLemmas.{Held, all_held, none_held}
 use Rattle.ob_machine.proofs.CallLemmas.{call_unset, call_unpaid, called, no_unit, unit_taken, with_units_of, same_abort}
 use Rattle.ob_machine.proofs.run.Run.call.Goals as goal

@@ -1,8 +1,9 @@
 use Rattle.std.proofs.Common.{◌≡◌, ◌∙◌, sym, subst, Some, None, true, false, refl}
 use Rattle.ob_heap_spec.specs.Values.{nothing}
 use Rattle.ob_machine_steps.specs.Changing.{given_values, is_locked_out}
-use Rattle.ob_machine.specs.Giving.{Gives}
-use Rattle.ob_machine.specs.Shown.{shown, slots_of, told}
+use Rattle.ob_machine_parts.specs.Giving.{Gives}
+use Rattle.ob_machine_parts.specs.Shown.{slots_of}
+use Rattle.ob_machine.specs.Shown.{shown, told}
 use Rattle.ob_machine.proofs.ChangeLemmas.{Got, given_none, given_some, changing}
 use Rattle.ob_machine.proofs.run.Run.change.Goals as goal
 

@@ -5,13 +5,13 @@ use Rattle.ob_heap.specs.Plain.{value_of}
 use Rattle.ob_machine_steps.specs.Configurations.{on_new}
 use Rattle.ob_machine_steps.specs.Calling.{makes_object}
 use Rattle.ob_machine_steps.specs.Entries.{nobody}
-use Rattle.ob_machine.specs.Giving.{Gives}
-use Rattle.ob_machine.specs.Making.{Makes}
+use Rattle.ob_machine_parts.specs.Giving.{Gives}
+use Rattle.ob_machine_parts.specs.Making.{Makes}
 use Rattle.ob_machine.specs.Phases.{enters_body}
 use Rattle.ob_machine.specs.Shown.{shown, told, world_of}
 use Rattle.ob_machine.proofs.CallLemmas.{entry_made, entry_full}
 use Rattle.ob_machine.proofs.TestLemmas.{told_same}
-use Rattle.ob_machine.proofs.WorldLemmas.{below_most, from_most}
+use Rattle.ob_machine_parts.proofs.WorldLemmas.{below_most, from_most}
 use Rattle.ob_machine.proofs.run.Run.enters_new.Goals as goal
 
 pub returns-in-Some : goal.returns-in-Some
@@ -27,7 +27,7 @@ returns-in-Some c =
     told_same c.enters_body.result (makes_object c.args.code.now nobody e.contract (Some e.tx) vs w)
     (enters_body c.args.code.now (e.contract, e.tx) c.in-Some.id.0 on_new vs v) (shown c.enters_body.new.self base c.make.new.overlay)
     (entry_made c.args.code.now nobody e.contract e.tx vs w v c.in-Some.id.0
-    (below_most (length (objects_over base c.args.overlay.now)) most_objects made.0) made.1 (made.2 m))
+    (below_most (length (objects_over base c.args.overlay.now)) most_objects made.0) made.1 (made.2 m.guard m.units))
     (subst (λ xs. Gives c.enters_body.result (enters_body c.args.code.now (e.contract, e.tx) c.in-Some.id.0 on_new (map value_of xs) v) (told (shown c.enters_body.new.self base c.make.new.overlay)))
     c.as_slice.ensures (c.enters_body.ensures base c.make.new.overlay))
 
@@ -39,4 +39,4 @@ returns-in-None c =
     let made : Makes base e.contract c.args.overlay.now c.make.new.overlay None =
     subst (Makes base e.contract c.args.overlay.now c.make.new.overlay) c.in-None.is c.in_ok-id.ensures in
     entry_full c.args.code.now nobody e.contract e.tx (map value_of e.args) (world_of m base c.args.overlay.now) (world_of m base c.make.new.overlay)
-    (from_most (length (objects_over base c.args.overlay.now)) most_objects made.0) (made.1 m)
+    (from_most (length (objects_over base c.args.overlay.now)) most_objects made.0) (made.1 m.guard m.units)

@@ -1,10 +1,10 @@
 use Rattle.std.proofs.Common.{◌≡◌, ◌∙◌, sym, subst, false, map}
 use Rattle.ob_heap_spec.specs.Marks.{enter, is_among}
-use Rattle.ob_heap.specs.Plain.{object_of, value_of}
+use Rattle.ob_heap.specs.Plain.{value_of}
 use Rattle.ob_machine_steps.specs.Configurations.{on_receiver}
 use Rattle.ob_machine_steps.specs.Calling.{calls_object}
 use Rattle.ob_machine_steps.specs.Entries.{nobody}
-use Rattle.ob_machine.specs.Giving.{Gives}
+use Rattle.ob_machine_parts.specs.Giving.{Gives}
 use Rattle.ob_machine.specs.Phases.{enters_body}
 use Rattle.ob_machine.specs.Shown.{shown, told, world_of}
 use Rattle.ob_machine.proofs.CallLemmas.{entry_reentered, entry_called, entry_shown, not_false, not_true}
@@ -16,23 +16,23 @@ returns-then-not-branch c =
     let m = c.args.self.now in
     let base = c.args.base.now.objects in
     entry_reentered c.args.code.now nobody c.args.entry.now.contract c.args.entry.now.tx c.args.id.0 (map value_of c.args.entry.now.args) (world_of m base c.args.overlay.now)
-    (world_of m base c.note.new.overlay) (c.in_ok-note.ensures.world m)
-    (not_false (is_among c.args.id.0 m.guard.progress) (sym c.in_ok-enter.ensures.ok.0 ∙ c.if-not-branch.true))
+    (world_of m base c.enter.new.overlay) (c.in_ok-enter.ensures.world m.guard m.units)
+    (not_false (is_among c.args.id.0 m.guard.progress) (sym c.in_ok-enter.ensures.entered.0 ∙ c.if-not-branch.true))
 
 pub returns : goal.returns
 returns c =
     let m = c.args.self.now in
     let base = c.args.base.now.objects in
     let n = c.args.id.0 in
-    let v = world_of m base c.note.new.overlay in
+    let v = world_of m base c.enter.new.overlay in
     let vs = map value_of c.args.entry.now.args in
-    let free : is_among n m.guard.progress ≡ false = not_true (is_among n m.guard.progress) (sym c.in_ok-enter.ensures.ok.0 ∙ c.if-not-branch.false) in
+    let free : is_among n m.guard.progress ≡ false = not_true (is_among n m.guard.progress) (sym c.in_ok-enter.ensures.entered.0 ∙ c.if-not-branch.false) in
     let body = enters_body c.args.code.now c.in_ok-answer.answer n on_receiver vs (enter n v) in
     told_same c.enters_body.result (calls_object c.args.code.now nobody c.args.entry.now.contract c.args.entry.now.tx n vs (world_of m base c.args.overlay.now))
-    body (shown c.enters_body.new.self base c.note.new.overlay)
-    (entry_called c.args.code.now nobody c.args.entry.now.contract c.args.entry.now.tx n vs (world_of m base c.args.overlay.now) v (object_of c.in_ok-object.object.now)
-    c.in_ok-answer.answer (c.in_ok-note.ensures.world m) free c.in_ok-object.ensures.object c.in_ok-answer.ensures)
-    (subst (λ w. Gives c.enters_body.result (enters_body c.args.code.now c.in_ok-answer.answer n on_receiver vs w) (told (shown c.enters_body.new.self base c.note.new.overlay)))
-    (entry_shown m base c.note.new.overlay n c.enter.new.self c.in_ok-enter.ensures.ok.1 free)
-    (subst (λ xs. Gives c.enters_body.result (enters_body c.args.code.now c.in_ok-answer.answer n on_receiver (map value_of xs) (world_of (record m { guard = c.enter.new.self }) base c.note.new.overlay))
-    (told (shown c.enters_body.new.self base c.note.new.overlay))) c.as_slice.ensures (c.enters_body.ensures base c.note.new.overlay)))
+    body (shown c.enters_body.new.self base c.enter.new.overlay)
+    (entry_called c.args.code.now nobody c.args.entry.now.contract c.args.entry.now.tx n vs (world_of m base c.args.overlay.now) v
+    c.in_ok-answer.answer (c.in_ok-enter.ensures.world m.guard m.units) free c.in_ok-answer.ensures)
+    (subst (λ w. Gives c.enters_body.result (enters_body c.args.code.now c.in_ok-answer.answer n on_receiver vs w) (told (shown c.enters_body.new.self base c.enter.new.overlay)))
+    (entry_shown m base c.enter.new.overlay n c.enter.new.guard c.in_ok-enter.ensures.entered.1 free)
+    (subst (λ xs. Gives c.enters_body.result (enters_body c.args.code.now c.in_ok-answer.answer n on_receiver (map value_of xs) (world_of (record m { guard = c.enter.new.guard }) base c.enter.new.overlay))
+    (told (shown c.enters_body.new.self base c.enter.new.overlay))) c.as_slice.ensures (c.enters_body.ensures base c.enter.new.overlay)))

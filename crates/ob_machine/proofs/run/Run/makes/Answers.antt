@@ -3,12 +3,13 @@ use Rattle.ob_base.specs.Limits.{most_objects}
 use Rattle.ob_heap.specs.Overlays.{objects_over}
 use Rattle.ob_machine_steps.specs.Parts.{with_world}
 use Rattle.ob_machine.specs.Calls.{makes_with, constructs_with}
-use Rattle.ob_machine.specs.Making.{Makes}
-use Rattle.ob_machine.specs.Shown.{shown, world_of, slots_of}
+use Rattle.ob_machine_parts.specs.Making.{Makes}
+use Rattle.ob_machine_parts.specs.Shown.{slots_of}
+use Rattle.ob_machine.specs.Shown.{shown, world_of}
 use Rattle.ob_machine.proofs.BeginningLemmas.{Held, all_held}
 use Rattle.ob_machine.proofs.CallLemmas.{makes_same, full_same}
 use Rattle.ob_machine.proofs.TestLemmas.{told_same}
-use Rattle.ob_machine.proofs.WorldLemmas.{below_most, from_most}
+use Rattle.ob_machine_parts.proofs.WorldLemmas.{below_most, from_most}
 use Rattle.ob_machine.proofs.run.Run.makes.Goals as goal
 
 pub returns-in-Some : goal.returns-in-Some
@@ -24,7 +25,7 @@ returns-in-Some c =
     told_same c.constructs.result (makes_with c.args.code.now c.args.slot c.args.contract c.args.args.now s)
     (constructs_with c.args.code.now c.args.slot c.args.contract n c.args.args.now (with_world v s)) (shown c.constructs.new.self base c.make.new.overlay)
     (makes_same c.args.code.now c.args.slot c.args.contract c.args.args.now held.values s n v held.is
-    (below_most (length (objects_over base c.args.overlay.now)) most_objects made.0) made.1 (made.2 m))
+    (below_most (length (objects_over base c.args.overlay.now)) most_objects made.0) made.1 (made.2 m.guard m.units))
     (c.constructs.ensures base c.make.new.overlay)
 
 pub returns-in-None : goal.returns-in-None
@@ -36,4 +37,4 @@ returns-in-None c =
     let made : Makes base c.args.contract c.args.overlay.now c.make.new.overlay None =
     subst (Makes base c.args.contract c.args.overlay.now c.make.new.overlay) c.in-None.is c.in_ok-id.ensures in
     full_same c.args.code.now c.args.slot c.args.contract c.args.args.now held.values s (world_of m base c.make.new.overlay) held.is
-    (from_most (length (objects_over base c.args.overlay.now)) most_objects made.0) (made.1 m)
+    (from_most (length (objects_over base c.args.overlay.now)) most_objects made.0) (made.1 m.guard m.units)

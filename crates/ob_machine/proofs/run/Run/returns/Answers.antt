@@ -4,8 +4,9 @@ use Rattle.ob_heap_spec.specs.Values.{Value as PlainValue}
 use Rattle.ob_heap_spec.specs.Worlds.{World}
 use Rattle.ob_heap.specs.Plain.{value_of}
 use Rattle.ob_machine_steps.specs.Returning.{resumes, given_by}
-use Rattle.ob_machine.specs.Giving.{Gives}
-use Rattle.ob_machine.specs.Shown.{shown, told, frames_of, world_of, entered_of, tests_of}
+use Rattle.ob_machine_parts.specs.Giving.{Gives}
+use Rattle.ob_machine_parts.specs.Shown.{entered_of, tests_of}
+use Rattle.ob_machine.specs.Shown.{shown, told, frames_of, world_of}
 use Rattle.ob_machine.proofs.StepLemmas.{left_as}
 use Rattle.ob_machine.proofs.run.Run.returns.Goals as goal
 

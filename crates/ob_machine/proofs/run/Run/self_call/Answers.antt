@@ -2,8 +2,9 @@ use Rattle.std.proofs.Common.{◌∙◌, sym, subst, Some}
 use Rattle.ob_heap_spec.specs.Worlds.{by_fuel}
 use Rattle.ob_machine_steps.specs.Configurations.{abort}
 use Rattle.ob_machine_steps.specs.Calling.{calls_this}
-use Rattle.ob_machine.specs.Giving.{Gives}
-use Rattle.ob_machine.specs.Shown.{shown, told, world_of, slots_of}
+use Rattle.ob_machine_parts.specs.Giving.{Gives}
+use Rattle.ob_machine_parts.specs.Shown.{slots_of}
+use Rattle.ob_machine.specs.Shown.{shown, told, world_of}
 use Rattle.ob_machine.proofs.BeginningLemmas.{Held, all_held, none_held}
 use Rattle.ob_machine.proofs.CallLemmas.{self_unset, self_unpaid, self_called, no_unit, unit_taken, with_units_of}
 use Rattle.ob_machine.proofs.run.Run.self_call.Goals as goal

@@ -1,17 +1,16 @@
-use Rattle.std.proofs.Common.{◌∙◌}
-use Rattle.ob_heap_spec.specs.Objects.{with_field}
-use Rattle.ob_heap_spec.specs.Worlds.{edit_object}
-use Rattle.ob_heap.specs.Plain.{value_of, object_of}
-use Rattle.ob_machine.specs.Shown.{shown, world_of}
-use Rattle.ob_machine.proofs.StepLemmas.{on_with, stored}
+use Rattle.ob_machine.specs.Shown.{shown, told, world_of}
+use Rattle.ob_machine.proofs.StepLemmas.{stored_on, stored_off}
 use Rattle.ob_machine.proofs.run.Run.store.Goals as goal
 
-pub returns : goal.returns
-returns c =
+pub returns-in-Ok : goal.returns-in-Ok
+returns-in-Ok c =
+    let m = c.args.self.now in
+    stored_on c.args.code.now c.args.field c.args.a m c.goes_on.new.self c.args.base.now.objects c.args.overlay.now c.store.new.overlay c.args.next
+    c.goes_on.result (c.in-Ok.ensures m.guard m.units) c.goes_on.ensures.goes c.goes_on.ensures.at c.requires
+
+pub returns-in-Err : goal.returns-in-Err
+returns-in-Err c =
     let m = c.args.self.now in
     let base = c.args.base.now.objects in
-    stored c.args.code.now c.args.field c.args.a (shown m base c.args.overlay.now) (value_of c.in_ok-value.value) (object_of c.in_ok-find.field-0.now)
-    c.in_ok-is_storable.field-0 c.in_ok-value.ensures c.in_ok-find.ensures.object c.in_ok-is_storable.ensures c.if-not-branch.false
-    ∙ on_with m c.goes_on.new.self base c.args.overlay.now c.set_field.new.overlay c.args.next c.goes_on.result
-    (edit_object (with_field c.args.field.0 (value_of c.in_ok-value.value)) m.top.this.0 (world_of m base c.args.overlay.now))
-    c.goes_on.ensures.goes c.goes_on.ensures.at c.requires (c.in_ok-set_field.ensures m)
+    stored_off c.in-Err.off c.args.code.now c.args.field c.args.a (shown m base c.args.overlay.now) (world_of m base c.store.new.overlay)
+    (told (shown m base c.store.new.overlay)) (c.in-Err.ensures m.guard m.units)

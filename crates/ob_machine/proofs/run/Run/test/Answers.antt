@@ -21,7 +21,7 @@ returns-then-a-eq0 c =
     (told_same c.tests_this.result (tests_this c.in_ok-id.id.0 c.args.target (with_world w s) c.is_in_state-holds.result)
     (tests_this c.in_ok-id.id.0 c.args.target (with_world (world_of m base c.note.new.overlay) s) c.is_in_state-holds.result)
     (shown c.tests_this.new.self base c.note.new.overlay)
-    (this_reads c.in_ok-id.id.0 c.args.target s w (world_of m base c.note.new.overlay) c.is_in_state-holds.result (c.in_ok-note.ensures.world m))
+    (this_reads c.in_ok-id.id.0 c.args.target s w (world_of m base c.note.new.overlay) c.is_in_state-holds.result (c.in_ok-note.ensures.world m.guard m.units))
     (c.tests_this.ensures base c.note.new.overlay))
 
 pub returns-else-a-eq0 : goal.returns-else-a-eq0
@@ -38,5 +38,5 @@ returns-else-a-eq0 c =
     (told_same c.tests_other.result (tests_other c.in_ok-id.id.0 o c.args.target (with_world w s) c.is_in_state-holds.result)
     (tests_other c.in_ok-id.id.0 o c.args.target (with_world (world_of m base c.note.new.overlay) s) c.is_in_state-holds.result)
     (shown c.tests_other.new.self base c.note.new.overlay)
-    (other_reads c.in_ok-id.id.0 c.args.target o s w (world_of m base c.note.new.overlay) c.is_in_state-holds.result (c.in_ok-note.ensures.world m))
+    (other_reads c.in_ok-id.id.0 c.args.target o s w (world_of m base c.note.new.overlay) c.is_in_state-holds.result (c.in_ok-note.ensures.world m.guard m.units))
     (c.tests_other.ensures base c.note.new.overlay o refl))

@@ -1,6 +1,6 @@
 use Rattle.std.proofs.Common.{◌∙◌, sym, subst}
 use Rattle.ob_heap_spec.specs.Marks.{is_among}
-use Rattle.ob_machine.specs.Giving.{Gives}
+use Rattle.ob_machine_parts.specs.Giving.{Gives}
 use Rattle.ob_machine.specs.Shown.{shown, told}
 use Rattle.ob_machine.proofs.TestLemmas.{unshared, unbarred, not_true}
 use Rattle.ob_machine.proofs.run.Run.tests_other.Goals as goal

@@ -1,5 +1,5 @@
 use Rattle.std.proofs.Common.{◌∙◌, sym, subst}
-use Rattle.ob_machine.specs.Giving.{Gives}
+use Rattle.ob_machine_parts.specs.Giving.{Gives}
 use Rattle.ob_machine.specs.Shown.{shown, told}
 use Rattle.ob_machine.proofs.TestLemmas.{locked_out, not_locked_out}
 use Rattle.ob_machine.proofs.run.Run.tests_this.Goals as goal

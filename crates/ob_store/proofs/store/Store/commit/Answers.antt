@@ -8,6 +8,7 @@ use Rattle.ob_store_laws.specs.Recorded.{content_with}
 use Rattle.ob_store.specs.Stores.{IsKeptIn}
 use Rattle.ob_store.proofs.Same.{same_by, same_parts, same_area, same_gate, same_serial}
 use Rattle.ob_store.proofs.Recording.{said_after}
+use Rattle.ob_store.proofs.Standing.{behind_area}
 use Rattle.ob_store.proofs.Committing.{state_by, kept_after, settles, leaves, no_record, area_appended, held}
 use Rattle.ob_store.proofs.store.Store.commit.Goals as goal
 
@@ -63,3 +64,9 @@ returns-clause-nothing g c = λ nothing. c.append_record.ensures.none (no_record
 
 pub returns-in_default-clause-nothing : goal.returns-in_default-clause-nothing
 returns-in_default-clause-nothing g c = λ nothing. c.append_record.ensures.none (no_record c.args.self.now.journal c.args.prepared.built c.requires.built nothing)
+
+pub returns-clause-behind : goal.returns-clause-behind
+returns-clause-behind g c = λ size area. behind_area c.args.self.now.journal _ _ size c.append_record.ensures.behind area
+
+pub returns-in_default-clause-behind : goal.returns-in_default-clause-behind
+returns-in_default-clause-behind g c = λ size area. behind_area c.args.self.now.journal _ _ size c.append_record.ensures.behind area

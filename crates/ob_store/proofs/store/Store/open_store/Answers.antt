@@ -1,4 +1,5 @@
 use Rattle.std.proofs.Common.{sym, subst, ℕ, Err, IfOk}
+use Rattle.ob_disk_spec.proofs.Behind.{behind_then}
 use Rattle.ob_code.specs.Images.{image}
 use Rattle.ob_code.specs.declared.image.Image.{Image}
 use Rattle.ob_disk_spec.specs.Durable.{During}
@@ -108,3 +109,15 @@ pub returns-in-Err-clause-cause : goal.returns-in-Err-clause-cause
 returns-in-Err-clause-cause g c =
     let P : OpenError → Type 0 = λ e. FaultsAs {T = Store} (Err e) (g.D.Disk.view c.args.disk.now).faults (g.D.Disk.view c.find.new.disk).faults in
     subst P (sym c.refused_by.ensures) (faults_as Found c.in-Err.error _ _ c.in-Err.ensures.cause)
+
+-- ---- what follows the area
+
+pub returns-in-Ok-Blank-clause-behind : goal.returns-in-Ok-Blank-clause-behind
+returns-in-Ok-Blank-clause-behind g c =
+    behind_then c.args.area (g.D.Disk.view c.args.disk.now) (g.D.Disk.view c.find.new.disk) (g.D.Disk.view c.begin_store.new.disk) (c.find.ensures.behind c.args.area) c.begin_store.ensures.behind
+
+pub returns-in-Ok-Current-clause-behind : goal.returns-in-Ok-Current-clause-behind
+returns-in-Ok-Current-clause-behind g c = c.find.ensures.behind c.args.area
+
+pub returns-in-Err-clause-behind : goal.returns-in-Err-clause-behind
+returns-in-Err-clause-behind g c = c.find.ensures.behind c.args.area

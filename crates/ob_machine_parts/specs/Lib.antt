@@ -1,0 +1,12 @@
+pub mod Guards
+pub mod Units
+pub mod Naming
+pub mod Giving
+pub mod Images
+pub mod Shown
+pub mod Operating
+pub mod Editing
+pub mod Guarding
+pub mod Changes
+pub mod Arguments
+pub mod Making

@@ -1,0 +1,145 @@
+#!/usr/bin/env bash
+# Looks at the calls of the system that the program makes for a real file, which no proof reaches.
+#
+#   docs/strace.sh [PROGRAM]
+#
+# It serves the vending machine on a new STORE by PROGRAM, the one that the gate has left if none is named, under strace. It wants this:
+#
+# - the file is made for its owner alone and locked, and its folder is synced, before anything of it is read or written;
+# - for each line that changes something there are a write, a sync, a write, a sync, and then its reply; for all others the reply alone;
+# - a second run on that STORE ends with 5, and has read and written nothing;
+# - a call that a signal interrupts is made again, and of a short write the rest is written;
+# - where a sync or a write fails, or the file ends before what is read, the run ends with 5, with no further call and no reply.
+#
+# Then it leaves out each of the calls that it saw, one at a time, and wants to be able to tell. Where strace isn't there or may trace nothing,
+# it says so and ends with 0. It tells each thing that isn't so, and ends with status 1 then.
+set -u
+
+top=$(cd "$(dirname "${BASH_SOURCE[0]}")/.." && pwd)
+program=$(realpath -- "${1:-$top/crates/obsidian/out/obsidian}")
+machine=$top/crates/obsidian/data/vending_machine.obs
+room=$(realpath -- "$(mktemp -d)")
+trap 'rm -rf "$room"' EXIT
+cd "$room" || exit 1
+failed=0
+
+# The lines that are served, with their replies. A handle that isn't there is refused, the machine that is full aborts, and a look changes nothing.
+cat >lines <<'LINES'
+{"op":"new","id":1,"who":"alice","contract":"Machine","into":"m"}
+{"op":"call","id":2,"who":"alice","on":"n","tx":"bake","into":"d"}
+{"op":"call","id":3,"who":"alice","on":"m","tx":"bake","into":"d"}
+{"op":"call","id":4,"who":"alice","on":"m","tx":"restock","args":[{"ref":"d"}]}
+{"op":"call","id":5,"who":"alice","on":"m","tx":"bake","into":"e"}
+{"op":"call","id":6,"who":"alice","on":"m","tx":"restock","args":[{"ref":"e"}]}
+{"op":"owner","id":7,"who":"alice","on":"d"}
+LINES
+cat >replies <<'REPLIES'
+{"id":1,"ok":{"object":0}}
+{"id":2,"refused":5}
+{"id":3,"ok":{"object":1}}
+{"id":4,"ok":null}
+{"id":5,"ok":{"object":2}}
+{"abort":"state","id":6,"object":0,"state":"Full"}
+{"id":7,"ok":{"field":[0,"candy"]}}
+REPLIES
+# The calls, a word for each.
+taken='open lock folder sync'
+begun="$taken write sync write sync write sync"
+stored='write sync write sync reply'
+served="$begun $stored reply $stored $stored $stored reply reply"
+
+# The words for the calls on a store, of what strace wrote: one that failed has a `!` behind its word.
+words() {
+    awk -v store="<$1>" -v folder="<${1%/*}>" '
+        function tell(word) { all = all (all == "" ? "" : " ") word ($0 ~ /\) += -1 / ? "!" : "") }
+        / = -1 EINTR / { next }
+        /^write\(1</ { tell("reply"); next }
+        /^fsync\(/ && index($0, folder) { tell("folder"); next }
+        !index($0, store) || /^(statx|newfstatat|close)\(/ { next }
+        /^openat\(.*O_RDWR\|O_CREAT.*, 0600\)/ { tell("open"); next }
+        /^flock\(.*, LOCK_EX\|LOCK_NB\)/ { tell("lock"); next }
+        /^fsync\(/ { tell("sync"); next }
+        /^pwrite64\(/ { tell("write"); next }
+        /^pread64\(/ { tell("read"); next }
+        { tell("other") }
+        END { print all }'
+}
+
+# Serves lines from standard input on a store of this name, under strace with these options.
+serve() {
+    local store=$room/$1/store
+    shift
+    mkdir -p "${store%/*}"
+    strace -y -qq -s 0 -o trace -P "$store" -P "${store%/*}" -P "$room/output" "$@" "$program" serve "$machine" "$store" >output 2>error
+    status=$?
+    calls=$(words "$store" <trace)
+}
+
+# Tells where a run didn't end with this status, these calls, and as many of the replies.
+want() {
+    local title=$1 wanted_status=$2 wanted_calls=$3 count=$4
+    if [ "$status" -ne "$wanted_status" ]; then
+        tell_wrong "$title" "status $wanted_status" "$status"
+    fi
+    if [ "$calls" != "$wanted_calls" ]; then
+        tell_wrong "$title" "$wanted_calls" "$calls"
+    fi
+    if ! head -n "$count" replies | cmp -s - output; then
+        tell_wrong "$title" "$count replies" "$(cat output)"
+    fi
+}
+
+tell_wrong() {
+    printf 'strace.sh: %s\n  wanted: %s\n  came:   %s\n' "$1" "$2" "$3"
+    failed=1
+}
+
+# A run whose call of this kind, by its number, goes as said: it ends with 5 after these calls and so many replies.
+want_fault() {
+    local title=$1 injected=$2
+    serve "$title" -e "inject=$injected" <lines
+    want "$title" 5 "$3" "$4"
+}
+
+if ! strace -o trace -e inject=fsync:error=EIO true 2>error; then
+    echo "strace.sh: nothing was traced: $(tail -n 1 error)"
+    exit 0
+fi
+
+serve new <lines
+want 'a new store' 0 "$served" 7
+cp trace whole
+for number in $(grep -nE '^(openat\(.*/new/store>|(flock|fsync|pwrite64)\(|write\(1<)' whole | cut -d: -f1); do
+    if [ "$(sed "${number}d" whole | words "$room/new/store")" = "$served" ]; then
+        tell_wrong 'a call that is left out' 'other words' "$(sed -n "${number}p" whole)"
+    fi
+done
+serve new </dev/null
+want 'a store that is there' 0 "$taken read" 0
+
+coproc first { exec "$program" serve "$machine" "$room/new/store" 2>/dev/null; }
+echo '{"op":"see","id":1,"who":"alice","on":"m"}' >&"${first[1]}"
+read -r _ <&"${first[0]}"
+serve new <lines
+want 'a second run' 5 'open lock!' 0
+exec {first[1]}>&-
+wait
+
+serve signals -e inject=flock,fsync,pwrite64,pread64:error=EINTR:when=1+2 <lines
+want 'signals' 0 "$served" 7
+serve short -e inject=pwrite64:retval=1:when=4 <lines
+want 'a short write' 0 "${served/$stored/write $stored}" 7
+read -r length offset rest next < <(grep -A 1 INJECTED trace | sed -nE 's/^pwrite64\(.*, ([0-9]+), ([0-9]+)\) += .*/\1 \2/p' | xargs)
+if [ "$rest at $next" != "$((length - 1)) at $((offset + 1))" ]; then
+    tell_wrong 'the rest of a short write' "$((length - 1)) bytes at $((offset + 1))" "$rest at $next"
+fi
+want_fault 'a folder that is not synced' fsync:error=EIO:when=1 'open lock folder!' 0
+want_fault 'the first sync of a line' fsync:error=EIO:when=6 "$begun write sync!" 0
+want_fault 'the second sync of a line' fsync:error=EIO:when=9 "$begun $stored reply write sync write sync!" 2
+want_fault 'a write without room' pwrite64:error=ENOSPC:when=5 "$begun write sync write!" 0
+want_fault 'a write of nothing' pwrite64:retval=0:when=5 "$begun write sync write" 0
+serve new -e inject=pread64:retval=0:when=1 <lines
+want 'a read that ends early' 5 "$taken read" 0
+
+[ "$failed" -eq 0 ] && echo 'strace.sh: the calls are as they should be'
+exit "$failed"
