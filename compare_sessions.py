@@ -104,12 +104,15 @@ def look(request):
     return json.dumps({"op": "see", "id": 0, "who": called[0], "on": called[1]}).encode() + b"\n" if called else b""
 
 
-def replies_of(command, requests):
-    """The replies of one run: for each request what `look` told before it, and its own; nothing where there is none."""
+def replies_of(command, store, requests):
+    """The replies of one run: for each request what `look` told before it, and its own; nothing where there is none. How each run
+    opens the store isn't passed on, unless the run fails."""
     given = b"".join(look(request) + request.text + b"\n" for request in requests)
-    ran = subprocess.run(command, input=given, stdout=subprocess.PIPE, check=False)
+    errors = subprocess.PIPE if store else None
+    ran = subprocess.run([*command, *store], input=given, stdout=subprocess.PIPE, stderr=errors, check=False)
     lines = ran.stdout.split(b"\n")
     if ran.returncode != 0:
+        sys.stderr.write((ran.stderr or b"").decode(errors="replace"))
         last = [line.decode(errors="replace") for line in lines if line][-1:]
         raise Stopped("\n  ".join([f"the program ended with status {ran.returncode}", *last]))
     told = iter(lines[:-1])
@@ -132,7 +135,7 @@ def served(command, requests):
     with tempfile.TemporaryDirectory() as folder:
         store = [os.path.join(folder, "store")] if len(runs) > 1 else []
         for run in runs:
-            yield from zip(run, replies_of([*command, *store], run))
+            yield from zip(run, replies_of(command, store, run))
 
 
 # ---- reports

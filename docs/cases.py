@@ -41,6 +41,8 @@ KINDS = {
     b"cuts": (b"text", b"answer", ()),
     b"run": (b"input", b"output", (b"text", b"words", b"status")),
     b"store": (b"runs", b"answer", (b"text", b"input", b"output")),
+    b"told": (b"words", b"answer", (b"text", b"input")),
+    b"told-of-store": (b"runs", b"answer", (b"text", b"input", b"output")),
 }
 # The parts that a table of each kind may have.
 OF_TABLES = (b"front", b"back", b"every", b"answer-front", b"answer-back")
@@ -274,6 +276,16 @@ def come_of_cuts(program, case):
     return next(others, b"one line each\n")
 
 
+def told(ended):
+    """What a run told on standard error; all that it comes to, where something else isn't as it is to be."""
+    return (ended.whole() if ended.remarks() else b"") + (ended.errors or b"nothing\n")
+
+
+def come_of_told(program, case):
+    with tempfile.TemporaryDirectory() as folder:
+        return told(Room(program, folder, case.part(b"text")).run(case.asked().split(), case.part(b"input")))
+
+
 def come_of_run(program, case):
     words = case.part(b"words")
     with tempfile.TemporaryDirectory() as folder:
@@ -297,6 +309,7 @@ class Shelf(Room):
     def __init__(self, program, folder, case):
         super().__init__(program, folder, case.part(b"text"))
         self.input, self.awaited = lines_of(case.part(b"input")), lines_of(case.part(b"output"))
+        self.ended = None
 
     def store(self):
         path = os.path.join(self.folder, "s")
@@ -318,19 +331,52 @@ class Shelf(Room):
         store = self.store().ljust(offset, b"\0")
         self.write("s", store[:offset] + data + store[offset + len(data):])
 
+    def put_record(self, objects, handles):
+        """Puts a record of these objects and handles behind the image, as the only one."""
+        parts = [b"".join([len(part).to_bytes(4, "big"), *part]) for part in (objects, handles)]
+        payload = b"".join(parts)
+        record = b"\1" + len(payload).to_bytes(4, "big") + payload + b"\0"
+        self.put(self.gate(), b"0x" + record.hex().encode())
+
+    def hold(self, count):
+        """A record with one object of the first contract, which is disowned, and so many Unowned handles on it."""
+        of_a = b"\0\0\0\1a\0\0\0\6"
+        self.put_record([bytes(8) + b"\xff\2"], [of_a + b"h%05d" % number + b"\1\0\0\0\0\2" for number in range(count)])
+
+    def fill(self, count, size):
+        """A record with so many objects of the first contract, whose only field is a string of so many bytes."""
+        string = b"\2" + size.to_bytes(4, "big") + size * b"a"
+        self.put_record([number.to_bytes(4, "big") + b"\0\0\0\0\xff\0" + string for number in range(count)], [])
+
     def serve(self, lines):
         """A run over the store, of these lines of the input: `2 to 5`, `none`, or all."""
         first, _, last = lines.partition(b" to ")
         begin, end = (0, None) if not lines else (0, 0) if lines == b"none" else (int(first) - 1, int(last))
-        ended = self.run([b"serve", b"p", b"s"], b"".join(self.input[begin:end]))
+        ended = self.ended = self.run([b"serve", b"p", b"s"], b"".join(self.input[begin:end]))
         awaited, written = self.awaited[begin:], lines_of(ended.output)
         if ended.output == b"".join(awaited[: len(written)]):
             return b" " + ended.end() + b", lines: %d" % len(written)
         return b" " + ended.end() + b"".join(b" " + line.rstrip(b"\n") for line in written)
 
+    def edit(self, old, new):
+        """Puts other words into the text, in place of some that stand there."""
+        path = os.path.join(self.folder, "p")
+        with open(path, "rb") as file:
+            text = file.read()
+        if old not in text:
+            raise Trouble("no such words in the text")
+        self.write("p", text.replace(old, new))
+
     def take(self, step):
         """What a step comes to; nothing, where it says nothing."""
         word, _, rest = step.partition(b" ")
+        if word == b"edit":
+            old, _, new = rest.partition(b" into ")
+            return self.edit(old, new)
+        if word == b"hold":
+            return self.hold(int(rest))
+        if word == b"fill":
+            return self.fill(*map(int, rest.split(b" of ")))
         if word in (b"disk", b"put"):
             return self.put(0 if word == b"disk" else self.gate(), rest)
         if word == b"serve":
@@ -347,6 +393,14 @@ def come_of_store(program, case):
     return b"; ".join(answer for answer in answers if answer is not None) + b"\n"
 
 
+def come_of_told_of_store(program, case):
+    with tempfile.TemporaryDirectory() as folder:
+        shelf = Shelf(program, folder, case)
+        for step in case.asked().split(b"; "):
+            shelf.take(step)
+        return told(shelf.ended)
+
+
 COMES = {
     b"check": come_of_check,
     b"serve": come_of_serve,
@@ -354,6 +408,8 @@ COMES = {
     b"cuts": come_of_cuts,
     b"run": come_of_run,
     b"store": come_of_store,
+    b"told": come_of_told,
+    b"told-of-store": come_of_told_of_store,
 }
 
 

@@ -9,7 +9,8 @@
 # - for each line that changes something there are a write, a sync, a write, a sync, and then its reply; for all others the reply alone;
 # - a second run on that STORE ends with 5, and has read and written nothing;
 # - a call that a signal interrupts is made again, and of a short write the rest is written;
-# - where a sync or a write fails, or the file ends before what is read, the run ends with 5, with no further call and no reply.
+# - where a sync or a write fails, or the file ends before what is read, the run ends with 5, with no further call and no reply;
+# - standard error tells how the store was opened, and which call failed, and how.
 #
 # Then it leaves out each of the calls that it saw, one at a time, and wants to be able to tell. Where strace isn't there or may trace nothing,
 # it says so and ends with 0. It tells each thing that isn't so, and ends with status 1 then.
@@ -89,16 +90,25 @@ want() {
     fi
 }
 
+# Tells where standard error hasn't this line about the store of this name.
+want_told() {
+    local title=$1 line=$room/$2/store:\ $3
+    if ! grep -qxF -- "$line" error; then
+        tell_wrong "$title" "$line" "$(cat error)"
+    fi
+}
+
 tell_wrong() {
     printf 'strace.sh: %s\n  wanted: %s\n  came:   %s\n' "$1" "$2" "$3"
     failed=1
 }
 
-# A run whose call of this kind, by its number, goes as said: it ends with 5 after these calls and so many replies.
+# A run whose call of this kind, by its number, goes as said: it ends with 5 after these calls and so many replies, and tells this.
 want_fault() {
     local title=$1 injected=$2
     serve "$title" -e "inject=$injected" <lines
     want "$title" 5 "$3" "$4"
+    want_told "$title" "$title" "$5"
 }
 
 if ! strace -o trace -e inject=fsync:error=EIO true 2>error; then
@@ -108,6 +118,7 @@ fi
 
 serve new <lines
 want 'a new store' 0 "$served" 7
+want_told 'a new store' new 'a new store, since there was no such file, or an empty one'
 cp trace whole
 for number in $(grep -nE '^(openat\(.*/new/store>|(flock|fsync|pwrite64)\(|write\(1<)' whole | cut -d: -f1); do
     if [ "$(sed "${number}d" whole | words "$room/new/store")" = "$served" ]; then
@@ -116,12 +127,14 @@ for number in $(grep -nE '^(openat\(.*/new/store>|(flock|fsync|pwrite64)\(|write
 done
 serve new </dev/null
 want 'a store that is there' 0 "$taken read" 0
+want_told 'a store that is there' new '3 objects, 3 handles, 4 records; 790 of 67108864 bytes used (0 %)'
 
 coproc first { exec "$program" serve "$machine" "$room/new/store" 2>/dev/null; }
 echo '{"op":"see","id":1,"who":"alice","on":"m"}' >&"${first[1]}"
 read -r _ <&"${first[0]}"
 serve new <lines
 want 'a second run' 5 'open lock!' 0
+want_told 'a second run' new "it couldn't be locked"
 exec {first[1]}>&-
 wait
 
@@ -133,13 +146,16 @@ read -r length offset rest next < <(grep -A 1 INJECTED trace | sed -nE 's/^pwrit
 if [ "$rest at $next" != "$((length - 1)) at $((offset + 1))" ]; then
     tell_wrong 'the rest of a short write' "$((length - 1)) bytes at $((offset + 1))" "$rest at $next"
 fi
-want_fault 'a folder that is not synced' fsync:error=EIO:when=1 'open lock folder!' 0
-want_fault 'the first sync of a line' fsync:error=EIO:when=6 "$begun write sync!" 0
-want_fault 'the second sync of a line' fsync:error=EIO:when=9 "$begun $stored reply write sync write sync!" 2
-want_fault 'a write without room' pwrite64:error=ENOSPC:when=5 "$begun write sync write!" 0
-want_fault 'a write of nothing' pwrite64:retval=0:when=5 "$begun write sync write" 0
+broken='Input/output error (os error 5)'
+want_fault 'a folder that is not synced' fsync:error=EIO:when=1 'open lock folder!' 0 "its folder couldn't be synced: $broken"
+want_fault 'the first sync of a line' fsync:error=EIO:when=6 "$begun write sync!" 0 "it couldn't be synced: $broken"
+want_fault 'the second sync of a line' fsync:error=EIO:when=9 "$begun $stored reply write sync write sync!" 2 "it couldn't be synced: $broken"
+want_fault 'a write without room' pwrite64:error=ENOSPC:when=5 "$begun write sync write!" 0 \
+    "it couldn't be written: No space left on device (os error 28)"
+want_fault 'a write of nothing' pwrite64:retval=0:when=5 "$begun write sync write" 0 "it couldn't be written: failed to write whole buffer"
 serve new -e inject=pread64:retval=0:when=1 <lines
 want 'a read that ends early' 5 "$taken read" 0
+want_told 'a read that ends early' new "it couldn't be read: failed to fill whole buffer"
 
 [ "$failed" -eq 0 ] && echo 'strace.sh: the calls are as they should be'
 exit "$failed"

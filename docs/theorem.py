@@ -1,6 +1,7 @@
 #!/usr/bin/env python3
-"""Writes docs/THEOREM.md: the contract of the top call, and below it the definitions of the run's own layer as they are written; and in
-README.md, between two marks, the list of the modules that the contract rests on.
+"""Writes docs/THEOREM.md: what docs/theorem.txt says, with the corollary's definitions in it; the contract of the top call; and below it the
+definitions of the run's own layer, all as they are written. And in README.md, between two marks, the list of the modules that the
+contract rests on.
 
 Only definitions on which the contract rests are shown, each with the comment above it, crate by crate from the top down and file by
 file, so that a name stands before what it is made of. What lies deeper is named at the end, with its place in docs/DEFINITIONS.md. What is
@@ -18,6 +19,8 @@ import definitions as names
 
 DOCUMENT = names.TOP / "docs" / "THEOREM.md"
 INTRODUCTION = names.TOP / "docs" / "theorem.txt"
+# The file of the corollary's definitions, and the line of the introduction in whose place they stand.
+COROLLARY, MARK = "ob_run/Corollary", "<!-- the corollary -->"
 README = names.TOP / "README.md"
 # Between these marks stands the list of modules, in lines of so many characters at most.
 BEGINS, ENDS, WIDTH = "<!-- docs/theorem.py writes this list -->", "<!-- to here -->", 140
@@ -141,8 +144,8 @@ def file_part(writer, place):
 
 
 def crate_part(writer, crate):
-    """A crate of the layer: the files from the top down."""
-    places = [place for place in writer.project.files if place.startswith(crate + "/")]
+    """A crate of the layer: the files from the top down, without the one that stands in the introduction."""
+    places = [place for place in writer.project.files if place.startswith(crate + "/") and place != COROLLARY]
     lines = [line for place in reversed(names.files_in_order(writer.project, places)) for line in file_part(writer, place)]
     return ["", f"## {LAYER[crate]} ({crate})"] + lines if lines else []
 
@@ -199,10 +202,18 @@ def deeper_part(writer):
     return lines
 
 
+def introduction(writer):
+    """What stands before the contract, with the corollary's definitions in their place."""
+    text = INTRODUCTION.read_text().strip()
+    if text.count(MARK) != 1:
+        sys.exit(f"theorem.py: theorem.txt doesn't have the mark {MARK} once")
+    return text.replace(MARK, "\n".join(file_part(writer, COROLLARY)).strip())
+
+
 def document(writer):
     """The whole text."""
     (_, contract), *_ = writer.contracts
-    lines = [INTRODUCTION.read_text().strip()] + contract_part(contract) + traits_part(writer)
+    lines = [introduction(writer)] + contract_part(contract) + traits_part(writer)
     for crate in LAYER:
         lines += crate_part(writer, crate)
     return "\n".join(lines + deeper_part(writer)).rstrip() + "\n"

@@ -1,8 +1,8 @@
-//! The faults of the permission rules of a program's bodies, and where an accepted one lets go of assets.
+//! The faults of the permission rules of a program's bodies.
 
-use ob_base::{Memory, ProgramFault, Span};
-use ob_explain_flow::{explain_body, say_letting};
-use ob_explain_page::{Explanation, Page, Words, put_excerpt, put_place};
+use ob_base::{Memory, ProgramFault};
+use ob_explain_flow::explain_body;
+use ob_explain_page::{Explanation, Page};
 use ob_flow::Trace;
 use ob_front::{AskedProgram, Seen, next_fault};
 use std::alloc::Global;
@@ -65,45 +65,4 @@ pub fn tell_bodies(
         told.tell(page, file, text, fault, fault.span)?;
     }
     tell_others(alloc, page, file, text, asked, number)
-}
-
-/// The most notes that are told.
-const MOST_NOTES: usize = 6;
-
-// Tells a note: the place, what is said, and the line.
-fn tell_note(
-    page: &mut Page,
-    file: &str,
-    text: &[u8],
-    span: Span,
-    words: &str,
-) -> Result<(), Memory> {
-    put_place(page, file, span)?;
-    page.put("note: ")?;
-    page.put(words)?;
-    page.end_line()?;
-    put_excerpt(page, text, span)
-}
-
-/// Tells where an accepted text lets go of assets without saying so.
-pub fn tell_notes(
-    alloc: Global,
-    page: &mut Page,
-    file: &str,
-    text: &[u8],
-    seen: &Seen,
-) -> Result<(), Memory> {
-    let Some(table) = &seen.table else {
-        return Ok(());
-    };
-    if seen.trace.lacks {
-        return Err(Memory);
-    }
-    for at in seen.trace.lettings.iter().take(MOST_NOTES) {
-        let mut words = Words::new(alloc);
-        say_letting(&mut words, text, table, *at);
-        let said = words.finish()?;
-        tell_note(page, file, text, at.span, said.as_str())?;
-    }
-    Ok(())
 }

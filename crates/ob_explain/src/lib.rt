@@ -3,6 +3,8 @@
 #![tactic(auto)]
 
 mod bodies;
+mod calling;
+mod noting;
 mod telling;
 
 pub use telling::{explain, notes};

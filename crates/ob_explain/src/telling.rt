@@ -2,7 +2,8 @@
 ghost use Rattle.std.specs.Prelude.{string_bytes, IfOk};
 ghost use Rattle.ob_explain_page.specs.Pages.{IsPage};
 
-use crate::bodies::{tell_bodies, tell_notes};
+use crate::bodies::tell_bodies;
+use crate::noting::tell_notes;
 use ob_base::{EXPECTED, Memory, NOT_BUILT, NOT_OWNING, ProgramFault, UNKNOWN_NAME};
 use ob_explain_grammar::{explain_grammar, explain_token};
 use ob_explain_names::explain_names;
@@ -84,9 +85,10 @@ pub fn explain(
     page.into_text()
 }
 
-/// Tells a person where an accepted text lets go of assets without saying so, by what the check saw of it: an asset that is given as
-/// Shared, a `disown` of an object whose fields may own some, a `new` of one that shares itself and is kept nowhere. Empty where it
-/// does so nowhere.
+/// Tells a person what is noted of an accepted text, by what the check saw of it: that it has no contract, or none that is `main`;
+/// transactions that call themselves on each way through them; and where it lets go of assets without saying so, as by an asset that
+/// is given as Shared, a `disown` of an object whose fields may own some, a `new` of one that shares itself and is kept nowhere. Empty
+/// where there is nothing to note.
 pub fn notes(alloc: Global, file: &str, text: &[u8], seen: &Seen) -> Result<String, Memory>
     ensures { IfOk result (λ page. IsPage (string_bytes page)) }
 {

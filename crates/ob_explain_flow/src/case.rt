@@ -1,19 +1,23 @@
 //! What is looked at where a premise fails.
 
 use crate::holding::{declared_at, name_of_body, name_of_field, name_of_kind, put_held, say};
-use ob_base::{FieldId, MOST_STATES, ProgramFault, Span, StateId};
+use ob_base::{FieldId, MOST_STATES, Perm, ProgramFault, Span, StateId};
 use ob_explain_page::{Words, shown_at, word_of};
 use ob_flow::{Stop, Trace};
 use ob_flow_context::{BodyFrame, Context, kind_of, permission_of_type};
 use ob_perm::contains;
-use ob_silica::{Form, Place};
+use ob_silica::{Form, Place, TermBody};
 use ob_table::{Kind, Param};
+
+// The longest statement that is shown in a help.
+const MOST_SHOWN: usize = 60;
 
 /// The text, the body, the fault, and what the check knew there.
 #[derive(Clone, Copy)]
 pub struct Case<'a> {
     pub text: &'a [u8],
     pub frame: &'a BodyFrame<'a>,
+    pub body: &'a TermBody,
     pub fault: ProgramFault,
     pub stop: &'a Stop,
     pub trace: &'a Trace,
@@ -35,6 +39,26 @@ impl<'a> Case<'a> {
         shown_at(self.text, self.fault.span)
     }
 
+    /// Whether the body is that of a constructor that isn't written: it ends at its contract's name.
+    pub fn is_default(&self) -> bool {
+        let name = shown_at(self.text, self.body.end);
+        self.frame.constructs() && name == name_of_body(self.frame)
+    }
+
+    /// The whole statement in which the premise is asked, if it is a call without a result that stands on one line.
+    pub fn call_shown(&self) -> Option<&'a str> {
+        let calls = matches!(
+            self.form(),
+            Form::Call { slot: None, .. } | Form::CallThis { slot: None, .. }
+        );
+        let shown = shown_at(self.text, self.stop.term.span);
+        if calls && shown.len() <= MOST_SHOWN && shown.as_bytes().last() == Some(&b';') {
+            Some(shown)
+        } else {
+            None
+        }
+    }
+
     /// The name of the contract of a place.
     pub fn contract_of(&self, place: Place) -> &'a str {
         name_of_kind(self.frame.table(), self.context().kind(place))
@@ -53,6 +77,20 @@ impl<'a> Case<'a> {
         match usize::from(slot).checked_sub(1) {
             Some(number) => self.frame.signature().params.get(number),
             None => None,
+        }
+    }
+
+    /// The permission with which a place comes in, unless it is a variable's.
+    pub fn entry_of(&self, place: Place) -> Option<Perm> {
+        match place {
+            Place::This => Some(self.frame.signature().entry),
+            Place::Slot(slot) => match self.param_of(slot) {
+                Some(param) => Some(permission_of_type(param.of)),
+                None => None,
+            },
+            Place::Field(field) => {
+                Some(self.frame.entry_of_field(self.frame.signature(), field))
+            }
         }
     }
 
@@ -77,6 +115,14 @@ impl<'a> Case<'a> {
         match self.set_at(slot) {
             Some(at) => declared_at(self.text, at),
             None => None,
+        }
+    }
+
+    /// Whether a place has a name in the text.
+    pub fn has_name(&self, place: Place) -> bool {
+        match place {
+            Place::Slot(slot) => self.name_of_slot(slot).is_some(),
+            _ => true,
         }
     }
 

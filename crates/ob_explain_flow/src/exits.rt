@@ -1,13 +1,20 @@
 //! Which place it is of which a premise speaks that stands for many: where a body ends, where branches join, and at a change of state.
 
 use crate::case::Case;
+use crate::forgetting::{forgetting, put_remembering, say_forgotten};
 use crate::holding::{
-    first_state, has_no_state, name_of_kind, put_held, put_permission, put_type, say,
+    first_of, has_no_state, name_of_kind, put_held, put_permission, put_type, say,
 };
+use crate::own::put_change;
+use crate::unreached::{help_to_change, help_to_move, hidden_field};
+use crate::uses::Role;
+use crate::ways::way_of;
 use ob_base::{FieldId, Mode, Perm, StateId};
 use ob_explain_page::{Explanation, Words, word_of};
-use ob_flow_context::Context;
+use ob_flow_context::{Context, kind_of, permission_of_type};
+use ob_perm::unowned;
 use ob_silica::{Form, Given, Place};
+use ob_table::Param;
 
 // Whether a place owns an asset that is let go where the body ends.
 fn is_lost(case: &Case<'_>, slot: u8) -> bool {
@@ -51,11 +58,12 @@ fn lost_in_change(case: &Case<'_>, state: StateId) -> Option<Place> {
     None
 }
 
-// The given field that still owns an asset.
+// The given field that may be there and still owns an asset.
 fn overwritten(case: &Case<'_>, given: &[Given]) -> Option<Place> {
     for one in given {
         let place = Place::Field(one.field);
-        if case.frame.owns_asset(case.context(), place) {
+        let owns = case.frame.owns_asset(case.context(), place);
+        if owns && case.frame.maybe_there(case.context(), one.field) {
             return Some(place);
         }
     }
@@ -95,10 +103,41 @@ fn say_lost(case: &Case<'_>, words: &mut Words) {
     }
 }
 
-// Puts that a place still owns what its contract is called.
+// Puts that a place still owns what its contract is called, or may own it.
 fn say_owner(case: &Case<'_>, words: &mut Words, place: Place) {
     case.put_place(words, place);
-    say(words, &[" still owns a `", case.contract_of(place), "`"]);
+    words.put(match hidden_field(case, place) {
+        Some(_) => " may own a `",
+        None => " still owns a `",
+    });
+    say(words, &[case.contract_of(place), "`"]);
+}
+
+// How `this` isn't lost at the end.
+fn help_with_lost_this(case: &Case<'_>, words: &mut Words) {
+    let own = case.contract_of(Place::This);
+    say(
+        words,
+        &[
+            "let `this` be owned at the end too, as by `",
+            own,
+            "@Owned this`; or give it up: `",
+            own,
+            " me = this; disown me;`.",
+        ],
+    );
+}
+
+// How what a place owns isn't lost.
+fn help_with_lost(case: &Case<'_>, words: &mut Words, place: Place) {
+    words.put(if case.has_name(place) {
+        "before this, "
+    } else {
+        "put it into a variable, and then "
+    });
+    words.put(
+        "give it to an owner, return it, put it into a field, or let it go on purpose by `disown`.",
+    );
 }
 
 /// An asset that would be lost.
@@ -110,17 +149,9 @@ pub fn explain_lost(case: &Case<'_>, told: &mut Explanation) {
     say_lost(case, &mut told.what);
     case.say_declared(&mut told.note, place);
     match place {
-        Place::This => say(
-            &mut told.help,
-            &[
-                "let `this` be owned at the end too, as by `",
-                case.contract_of(place),
-                "@Owned this`.",
-            ],
-        ),
-        _ => told.help.put(
-            "before this, give it to an owner, return it, put it into a field, or let it go on purpose by `disown`.",
-        ),
+        Place::This => help_with_lost_this(case, &mut told.help),
+        Place::Field(field) => help_to_move(case, field, told),
+        Place::Slot(_) => help_with_lost(case, &mut told.help, place),
     }
 }
 
@@ -132,6 +163,9 @@ pub fn explain_overwritten(case: &Case<'_>, told: &mut Explanation) {
     say_owner(case, &mut told.what, place);
     told.what
         .put(", which this would overwrite: the asset would be lost");
+    if let Some(field) = hidden_field(case, place) {
+        return help_to_change(case, field, told);
+    }
     told.help.put("move what ");
     case.put_place(&mut told.help, place);
     told.help.put(" holds elsewhere first, as into a variable that is given on or returned.");
@@ -182,7 +216,7 @@ pub fn explain_branches(case: &Case<'_>, told: &mut Explanation) {
         if let Some(place) = lost_by_branch(case, other) {
             say_branches(case, other, &mut told.what, place);
             return told.help.put(
-                "do with the asset the same in both branches (give it on, keep it, or `disown` it), or return in one of them; a missing `else` is a branch that does nothing.",
+                "do with the asset the same in both branches (give it on, keep it, or `disown` it), or `revert` in one of them; where there is no `else`, write `else { revert \"..\"; }`.",
             );
         }
     }
@@ -245,15 +279,41 @@ fn explain_given(case: &Case<'_>, exit: Perm, told: &mut Explanation) {
         case.put_held(&mut told.what, Place::This);
         told.what.put("` here");
     }
-    let state = first_state(case.frame.own(), case.frame.signature().exit.states);
-    say(
-        &mut told.help,
-        &[
-            "change to a state that it gives, as by `->",
-            state,
-            ";`, on each way to the end.",
-        ],
-    );
+    let Some(state) = first_of(case.frame.own(), case.frame.possible_under(exit)) else {
+        return;
+    };
+    if case.is_default() {
+        let own = word_of(case.frame.own().name.as_bytes());
+        let to = case.name_of_state(state);
+        let words = &mut told.help;
+        say(
+            words,
+            &[
+                "write a constructor, `",
+                own,
+                "@",
+                to,
+                "() { .. }`, which changes to a state, as by ",
+            ],
+        );
+        put_change(case, words, state, &[]);
+        return words.put(".");
+    }
+    told.help.put("change to a state that it gives, as by ");
+    put_change(case, &mut told.help, state, &[]);
+    told.help.put(", on each way to the end.");
+}
+
+// How `this` comes into a state that was promised, or another one is promised.
+fn help_with_change(case: &Case<'_>, exit: Perm, words: &mut Words) {
+    if let Some(state) = first_of(case.frame.own(), exit.states) {
+        words.put("change to that state before the end, as by ");
+        put_change(case, words, state, &[]);
+        words.put(", or ");
+    }
+    words.put("write `>> ");
+    put_last(case, words, Place::This);
+    words.put("` at `this`.");
 }
 
 // How to mend an exit of `this`.
@@ -263,13 +323,69 @@ fn help_with_this(case: &Case<'_>, exit: Perm, words: &mut Words) {
         put_last(case, words, Place::This);
         return words.put("` at `this`, if that is what is meant to be left of it.");
     }
-    let state = first_state(case.frame.own(), exit.states);
+    match forgetting(case, exit.states) {
+        Some(call) => {
+            put_remembering(case, call, words);
+            words.put(", or write `>> ");
+            put_last(case, words, Place::This);
+            words.put("` at `this`.");
+        }
+        None => help_with_change(case, exit, words),
+    }
+}
+
+// Says what is declared of a place, or which call let the state of `this` be forgotten.
+fn say_behind(case: &Case<'_>, place: Place, exit: Perm, words: &mut Words) {
+    let call = match place {
+        Place::This => forgetting(case, exit.states),
+        _ => None,
+    };
+    match call {
+        Some(call) => say_forgotten(case, call, words),
+        None => case.say_declared(words, place),
+    }
+}
+
+// The parameter of a transaction that shared what a place owned, with the name of that transaction.
+fn shared_by<'a>(case: &Case<'a>, place: Place) -> Option<(&'a str, &'a Param)> {
+    let loss = way_of(case, place).loss?;
+    let Role::Argument(param, signature, _) = loss.role else {
+        return None;
+    };
+    let name = word_of(signature.name.as_bytes());
+    if permission_of_type(param.of).mode == Mode::Shared && !name.is_empty() {
+        Some((name, param))
+    } else {
+        None
+    }
+}
+
+// How a transaction that shares what it is given leaves it to its owner; the sentence goes on.
+fn help_with_sharing(case: &Case<'_>, words: &mut Words, name: &str, param: &Param) {
+    let table = case.frame.table();
+    let taken = word_of(param.name.as_bytes());
+    say(words, &["`", name, "` takes `"]);
+    say(words, &[taken, "` as `"]);
+    put_type(words, table, param.of);
+    words.put("`, which shares it for good: let it take `");
+    put_held(words, table, kind_of(param.of), unowned());
+    say(words, &[" ", taken, "`; or, in "]);
+    case.put_body(words);
+    words.put(", ");
+}
+
+// How a parameter is declared as it is left.
+fn help_with_param(case: &Case<'_>, place: Place, param: &Param, words: &mut Words) {
+    words.put("declare it as `");
+    put_type(words, case.frame.table(), param.of);
+    words.put(" >> ");
+    put_last(case, words, place);
     say(
         words,
         &[
-            "change to that state before the end, as by `->",
-            state,
-            ";`, or write another permission after `>>` at `this`.",
+            " ",
+            word_of(param.name.as_bytes()),
+            "`, if that is what is meant to be left of it.",
         ],
     );
 }
@@ -283,18 +399,10 @@ fn help_with_exit(case: &Case<'_>, place: Place, exit: Perm, words: &mut Words) 
     let Some(param) = param else {
         return help_with_this(case, exit, words);
     };
-    words.put("declare it as `");
-    put_type(words, case.frame.table(), param.of);
-    words.put(" >> ");
-    put_last(case, words, place);
-    say(
-        words,
-        &[
-            " ",
-            word_of(param.name.as_bytes()),
-            "`, if that is what is meant to be left of it.",
-        ],
-    );
+    if let Some((name, sharing)) = shared_by(case, place) {
+        help_with_sharing(case, words, name, sharing);
+    }
+    help_with_param(case, place, param, words);
 }
 
 /// What is held at the end and isn't what was promised.
@@ -320,6 +428,6 @@ pub fn explain_exit(case: &Case<'_>, told: &mut Explanation) {
     told.what.put(" promises `");
     put_wanted(case, &mut told.what, place, exit);
     told.what.put("` of it");
-    case.say_declared(&mut told.note, place);
+    say_behind(case, place, exit, &mut told.note);
     help_with_exit(case, place, exit, &mut told.help);
 }

@@ -1,13 +1,16 @@
 //! Fields that aren't there, have no value, or aren't held as they are declared.
 
 use crate::case::Case;
+use crate::forgetting::{forgetting, put_remembering, say_forgotten};
 use crate::holding::{
-    first_state, name_of_body, name_of_field, put_held, put_states, put_type, say,
+    first_of, first_state, name_of_body, name_of_field, put_held, put_states, put_type, say,
 };
+use crate::own::{help_with_this, is_unowned_at_entry, put_change, put_declared, say_why_this};
 use crate::uses::use_at;
 use ob_base::{FieldId, Mode, Perm, StateId};
 use ob_explain_page::{Explanation, Words, word_of};
 use ob_flow_context::{Context, kind_of};
+use ob_perm::{meets, shared, subset};
 use ob_silica::{Form, Given, Place};
 use ob_table::Signature;
 
@@ -91,20 +94,116 @@ fn say_field(case: &Case<'_>, words: &mut Words, field: FieldId, context: &Conte
     words.put("`");
 }
 
+// The transaction whose list counts where a field has to be held as it says: that which ends, or that which is called on `this`.
+fn listing<'a>(case: &Case<'a>) -> Option<&'a Signature> {
+    match case.form() {
+        Form::Return { .. } => Some(case.frame.signature()),
+        Form::CallThis { tx, .. } => case.frame.own().signature(*tx),
+        _ => None,
+    }
+}
+
+// Whether the list of a transaction has a field.
+fn lists(signature: &Signature, field: FieldId) -> bool {
+    for one in signature.listed.as_slice() {
+        if one.field == field {
+            return true;
+        }
+    }
+    false
+}
+
+// Says by which declaration or list the field has to be so.
+fn say_declared(case: &Case<'_>, field: FieldId, words: &mut Words) {
+    let table = case.frame.table();
+    let name = name_of_field(case.frame, field);
+    let of = case.frame.type_of_field(field);
+    match listing(case) {
+        Some(signature) if lists(signature, field) => {
+            let entry = case.frame.entry_of_field(signature, field);
+            let exit = case.frame.exit_of_field(signature, field);
+            let lister = word_of(signature.name.as_bytes());
+            say(words, &["`", lister, "` lists it as `"]);
+            put_declared(case, words, kind_of(of), entry, exit, name);
+        }
+        _ => {
+            say(words, &["the field `", name, "` is declared as `"]);
+            put_type(words, table, of);
+        }
+    }
+    words.put("`.");
+}
+
+// How a field is emptied that has to be empty.
+fn help_to_empty(case: &Case<'_>, field: FieldId, words: &mut Words) {
+    words.put("give what it holds away before this, or `disown` it");
+    let entry = case.frame.entry_of_field(case.frame.signature(), field);
+    if let Form::Return { .. } = case.form() {
+        words.put(if entry.mode == Mode::Owned {
+            "; or leave the part from `>>` on out of the list"
+        } else {
+            "; or return what is to fill it, and fill it where this is called"
+        });
+    }
+    words.put(".");
+}
+
+// How a field is listed that a transaction finds otherwise than it is declared, or leaves so.
+fn help_with_list(case: &Case<'_>, field: FieldId, held: Perm, words: &mut Words) {
+    let Some(signature) = listing(case) else {
+        return;
+    };
+    if case.frame.constructs() || lists(signature, field) {
+        return;
+    }
+    let kind = kind_of(case.frame.type_of_field(field));
+    let name = name_of_field(case.frame, field);
+    words.put("; or list it, as `private (");
+    let before = match case.form() {
+        Form::CallThis { .. } => held,
+        _ => case.frame.entry_of_field(signature, field),
+    };
+    put_declared(case, words, kind, before, held, name);
+    let called = word_of(signature.name.as_bytes());
+    say(words, &[")` in front of the transaction `", called, "`"]);
+}
+
+// Whether a field is there in some states of `this` only.
+fn is_of_states(case: &Case<'_>, field: FieldId) -> bool {
+    let all = case.frame.possible_under(shared());
+    !subset(all, case.frame.available(field))
+}
+
+// How a field is held as it has to be.
+fn help_to_fill(case: &Case<'_>, field: FieldId, held: Perm, words: &mut Words) {
+    words.put("fill it again before this");
+    if is_of_states(case, field) {
+        words.put("; or change to a state that hasn't it");
+    }
+    help_with_list(case, field, held, words);
+    words.put(".");
+}
+
+// How to mend a field that isn't as it has to be.
+fn help_with_field(case: &Case<'_>, field: FieldId, held: Perm, words: &mut Words) {
+    if let Form::Change { .. } = case.form() {
+        words.put("give it an object that is held so, as by a test of its state before.");
+    } else if wanted_of_field(case, field).mode == Mode::Unowned {
+        help_to_empty(case, field, words);
+    } else {
+        help_to_fill(case, field, held, words);
+    }
+}
+
 /// A field that isn't as it is declared.
 pub fn explain_field(case: &Case<'_>, told: &mut Explanation) {
     let Some((field, context)) = differing_field(case) else {
         return told.what.put("a field isn't held as it is declared here");
     };
     say_field(case, &mut told.what, field, context);
-    let name = name_of_field(case.frame, field);
-    say(&mut told.note, &["the field `", name, "` is declared as `"]);
-    let of = case.frame.type_of_field(field);
-    put_type(&mut told.note, case.frame.table(), of);
-    told.note.put("`.");
-    told.help.put(
-        "fill it again before this, change to a state that hasn't the field, or list it in a `private (..)` transaction.",
-    );
+    say_declared(case, field, &mut told.note);
+    let held = context.permission(Place::Field(field));
+    help_with_field(case, field, held, &mut told.help);
 }
 
 // The given field at the fault's place.
@@ -174,30 +273,66 @@ fn explain_foreign(case: &Case<'_>, field: FieldId, to: &str, told: &mut Explana
         .put("leave it out, or declare the field in that state too.");
 }
 
-// How to come to a state in which a field is there.
-fn help_with_access(case: &Case<'_>, field: FieldId, words: &mut Words) {
+// Puts a test of `this` for a state in which a field is there.
+fn put_test_of(case: &Case<'_>, field: FieldId, words: &mut Words) {
+    let state = first_state(case.frame.own(), case.frame.available(field));
+    say(words, &["`if (this in ", state, ") { .. }`"]);
+}
+
+// Puts how `this` is declared in a state in which a field is there.
+fn put_asked(case: &Case<'_>, field: FieldId, words: &mut Words) {
     let own = case.frame.own();
     let state = first_state(own, case.frame.available(field));
-    if case.frame.constructs() {
-        words.put("change to that state first: its fields get their values with it, as by `->");
-        let name = name_of_field(case.frame, field);
-        return say(words, &[state, "(", name, " = ..);`."]);
-    }
     let contract = word_of(own.name.as_bytes());
     say(
         words,
-        &["test it first, as in `if (this in ", state, ") { .. }`"],
+        &["ask for the state by `", contract, "@", state, " this`"],
     );
-    say(
-        words,
-        &[
-            ", or ask for the state by `",
-            contract,
-            "@",
-            state,
-            " this`.",
-        ],
-    );
+}
+
+// Puts a change to a state in which a field is there.
+fn put_change_for(case: &Case<'_>, field: FieldId, words: &mut Words) {
+    if let Some(state) = first_of(case.frame.own(), case.frame.available(field)) {
+        put_change(case, words, state, &[]);
+    }
+}
+
+// How a field is accessible that isn't there in any state in which `this` may be.
+fn help_with_known(case: &Case<'_>, field: FieldId, words: &mut Words) {
+    words.put("change to it before this, as by ");
+    put_change_for(case, field, words);
+    words.put("; or ");
+    put_asked(case, field, words);
+    words.put(".");
+}
+
+// How to come to a state in which a field is there.
+fn help_with_access(case: &Case<'_>, field: FieldId, this: Perm, words: &mut Words) {
+    if case.frame.constructs() {
+        words.put("change to that state first: its fields get their values with it, as by ");
+        put_change_for(case, field, words);
+        return words.put(".");
+    }
+    let may = case.frame.possible_under(this);
+    if !meets(may, case.frame.available(field)) {
+        return help_with_known(case, field, words);
+    }
+    if this.mode == Mode::Unowned {
+        help_with_this(case, words, shared(), shared());
+        if !is_unowned_at_entry(case) {
+            return words.put(".");
+        }
+        words.put(", and test it: ");
+    } else {
+        words.put("test it first: ");
+    }
+    put_test_of(case, field, words);
+    words.put("; or ");
+    match forgetting(case, case.frame.available(field)) {
+        Some(call) => put_remembering(case, call, words),
+        None => put_asked(case, field, words),
+    }
+    words.put(".");
 }
 
 /// A field that may not be there.
@@ -218,12 +353,19 @@ pub fn explain_accessible(case: &Case<'_>, told: &mut Explanation) {
     let may = case.frame.possible_under(this);
     put_states(&mut told.what, case.frame.own(), may);
     told.what.put("` here");
-    told.note.put(match this.mode {
-        Mode::Owned => "",
-        Mode::Shared => "`this` is Shared here, so it may be in any of its states.",
-        Mode::Unowned => "`this` is Unowned here, so it may be in any of its states.",
-    });
-    help_with_access(case, field, &mut told.help);
+    match this.mode {
+        Mode::Owned => {
+            if let Some(call) = forgetting(case, case.frame.available(field)) {
+                say_forgotten(case, call, &mut told.note);
+            }
+        }
+        Mode::Shared => told.note.put("`this` is Shared here, so it may be in any of its states."),
+        Mode::Unowned => {
+            say_why_this(case, &mut told.note);
+            told.note.put(" Then it may be in any of its states.");
+        }
+    }
+    help_with_access(case, field, this, &mut told.help);
 }
 
 // The first field that has no value and needs one.
@@ -259,19 +401,23 @@ fn name_of_some<'a>(case: &Case<'a>, field: Option<FieldId>) -> &'a str {
     }
 }
 
-// What has no value where it needs one, if it isn't an operand.
+// What has no value at a change of state.
+fn explain_missing(case: &Case<'_>, state: StateId, given: &[Given], told: &mut Explanation) {
+    let to = case.name_of_state(state);
+    let name = name_of_some(case, missing_field(case, state, given));
+    say(
+        &mut told.what,
+        &["the state `", to, "` has the field `", name],
+    );
+    told.what
+        .put("`, which has no value yet and isn't given here");
+    told.help.put("write ");
+    put_change(case, &mut told.help, state, given);
+    told.help.put(".");
+}
+
+// What has no value where a constructor ends.
 fn explain_unset(case: &Case<'_>, told: &mut Explanation) {
-    if let Form::Change { state, given } = case.form() {
-        let to = case.name_of_state(*state);
-        let name = name_of_some(case, missing_field(case, *state, given.as_slice()));
-        say(
-            &mut told.what,
-            &["the state `", to, "` has the field `", name],
-        );
-        told.what
-            .put("`, which has no value yet and isn't given here");
-        return say(&mut told.help, &["write `->", to, "(", name, " = ..);`."]);
-    }
     let body = name_of_body(case.frame);
     let name = name_of_some(case, unset_field(case));
     say(&mut told.what, &["the constructor of `", body, "` ends"]);
@@ -279,6 +425,19 @@ fn explain_unset(case: &Case<'_>, told: &mut Explanation) {
         &mut told.what,
         &[", and the field `", name, "` has no value yet"],
     );
+    if case.is_default() {
+        let words = &mut told.help;
+        return say(
+            words,
+            &[
+                "write a constructor, as `",
+                body,
+                "@Owned() { ",
+                name,
+                " = ..; }`.",
+            ],
+        );
+    }
     say(
         &mut told.help,
         &["write `", name, " = ..;` on each way to the end."],
@@ -295,6 +454,11 @@ pub fn explain_no_value(case: &Case<'_>, told: &mut Explanation) {
             );
             told.help.put("a constructor gives each field a value before it reads it.");
         }
-        None => explain_unset(case, told),
+        None => match case.form() {
+            Form::Change { state, given } => {
+                explain_missing(case, *state, given.as_slice(), told);
+            }
+            _ => explain_unset(case, told),
+        },
     }
 }

@@ -1,68 +1,21 @@
 //! Premises that are told by their number alone.
 
 use crate::case::Case;
-use crate::holding::{name_of_body, name_of_field, name_of_kind, put_held, say};
+use crate::holding::{
+    first_state, has_state_among, name_of_body, name_of_field, name_of_kind, put_held,
+    put_permission, say,
+};
+use crate::own::{is_unowned_at_entry, say_why_this};
+use crate::permissions::put_test;
+use crate::tested::{explain_tested, explain_under_test, explain_unowned};
 use crate::uses::{Role, put_role, taking, use_at};
 use ob_base::{
-    ASSERT_FAILS, BAD_TRANSITION, FieldId, TEST_TWICE, TEST_UNOWNED, THIS_IN_CONSTRUCTOR,
-    UNDER_TEST, USED_TWICE, VIEW_CHANGES,
+    ASSERT_FAILS, BAD_TRANSITION, FieldId, Mode, Perm, TEST_TWICE, TEST_UNOWNED,
+    THIS_IN_CONSTRUCTOR, UNDER_TEST, USED_TWICE, VIEW_CHANGES,
 };
 use ob_explain_page::{Explanation, Words, word_of};
-use ob_flow_context::is_tested;
 use ob_silica::{Form, Place};
 use ob_table::Kind;
-
-// A place of which no owner and none that shares tests the state.
-fn explain_unowned(case: &Case<'_>, told: &mut Explanation) {
-    let place = match case.form() {
-        Form::Test { place, .. } => place.place,
-        _ => Place::This,
-    };
-    say(&mut told.what, &["`", case.shown(), "` is held as `"]);
-    case.put_held(&mut told.what, place);
-    told.what.put("` here, and only an owner or one that shares can test a state");
-    told.help.put(
-        "hold it as `Shared` or as its owner: what is Unowned may change while one looks.",
-    );
-}
-
-// A test inside a test of the same place.
-fn explain_tested(case: &Case<'_>, told: &mut Explanation) {
-    say(&mut told.what, &["`", case.shown()]);
-    told.what
-        .put("` is under test already, by an `if` around this one");
-    told.help
-        .put("its state is known here: leave this test out.");
-}
-
-// Whether the operand at the fault's place is under test; where none is, `this` or a field is.
-fn is_under_test(case: &Case<'_>) -> bool {
-    match use_at(case.frame, case.form(), case.fault.span) {
-        Some(one) => is_tested(case.stop.tested.as_slice(), one.operand.place),
-        None => true,
-    }
-}
-
-// Something under test that would be handed on or changed.
-fn explain_under_test(case: &Case<'_>, told: &mut Explanation) {
-    say(&mut told.what, &["`", case.shown()]);
-    match case.form() {
-        Form::Test { .. } => told.what.put(
-            "` is under test in this branch, and isn't owned any more at its end",
-        ),
-        _ => told.what.put(
-            "` can't stand here: what the `if` around tests stays as it is until that branch ends",
-        ),
-    }
-    if is_under_test(case) {
-        told.note.put(
-            "a shared object whose state is tested is lent to the branch: it stays there, and comes back at the branch's end.",
-        );
-    }
-    told.help.put(
-        "in the branch, call only those of its transactions that ask for a state, as `A@S this`; hand it on after the branch.",
-    );
-}
 
 // A transaction that doesn't hold `this` and changes it.
 fn explain_view(case: &Case<'_>, told: &mut Explanation) {
@@ -76,8 +29,10 @@ fn explain_view(case: &Case<'_>, told: &mut Explanation) {
             .what
             .put("`this` is Unowned here, and a field of it is set"),
     }
-    say(&mut told.note, &["`", body, "` holds `this` as Unowned"]);
-    told.note.put(" where it says nothing else, or after `this` was given away.");
+    say_why_this(case, &mut told.note);
+    if !is_unowned_at_entry(case) {
+        return told.help.put("do it before that.");
+    }
     say(&mut told.help, &["write `", own, "@Owned this`, `", own]);
     told.help
         .put("@Shared this` or a state as the first parameter of `");
@@ -89,8 +44,13 @@ fn explain_lent(case: &Case<'_>, field: FieldId, told: &mut Explanation) {
     let name = name_of_field(case.frame, field);
     say(&mut told.what, &["the field `", name]);
     told.what.put("` is lent to a call on `this`, which might use it by its name too");
-    told.help.put(
-        "the transaction called can name the field itself: list it there by `private (..)`.",
+    say(
+        &mut told.help,
+        &[
+            "leave the argument out, and use `",
+            name,
+            "` in the transaction called.",
+        ],
     );
 }
 
@@ -124,9 +84,30 @@ fn explain_twice(case: &Case<'_>, told: &mut Explanation) {
             put_taking(case, &mut told.what, place);
             told.what
                 .put(" takes it: after that there is nothing to use");
-            told.help
-                .put("hand over another object, or make two statements of it.");
+            told.help.put("hand over another object.");
         }
+    }
+}
+
+// How more is known of the state of what is asserted, if a test of it can tell.
+fn help_with_test(case: &Case<'_>, place: Place, asserted: Perm, words: &mut Words) {
+    let held = case.context().counted(place);
+    let Kind::Reference(id) = case.context().kind(place) else {
+        return;
+    };
+    let Some(contract) = case.frame.table().contract(id) else {
+        return;
+    };
+    let states = match held.mode {
+        Mode::Owned => held.states & asserted.states,
+        Mode::Shared => asserted.states,
+        Mode::Unowned => 0,
+    };
+    if has_state_among(contract, states) {
+        let state = first_state(contract, states);
+        say(words, &[" For more, test the state before it: "]);
+        put_test(case, words, case.shown(), state);
+        words.put(".");
     }
 }
 
@@ -134,14 +115,16 @@ fn explain_twice(case: &Case<'_>, told: &mut Explanation) {
 fn explain_assertion(case: &Case<'_>, told: &mut Explanation) {
     if let Form::Assert { place, perm } = case.form() {
         let kind = case.context().kind(place.place);
+        let held = case.context().counted(place.place);
         say(&mut told.what, &["`", case.shown(), "` is held as `"]);
         case.put_held(&mut told.what, place.place);
         told.what.put("` here, and `");
         put_held(&mut told.what, case.frame.table(), kind, *perm);
         told.what.put("` is asserted");
-        told.help.put(
-            "an assertion only says what is known here: test the state before it, or leave it out.",
-        );
+        say(&mut told.help, &["`[", case.shown(), " @ "]);
+        put_permission(&mut told.help, case.frame.table(), kind, held);
+        told.help.put("];` holds here.");
+        help_with_test(case, place.place, *perm, &mut told.help);
     }
 }
 

@@ -1,6 +1,8 @@
 //! What is held of places, in the language's own words.
 
-use ob_base::{FieldId, Mode, NO_STATE_BIT, OTHER_STATE_BIT, Perm, Span, is_letter_or_digit};
+use ob_base::{
+    FieldId, Mode, NO_STATE_BIT, OTHER_STATE_BIT, Perm, Span, StateId, is_letter_or_digit,
+};
 use ob_explain_page::{Words, shown_at, word_of};
 use ob_flow_context::{BodyFrame, kind_of, permission_of_type};
 use ob_perm::subset;
@@ -38,14 +40,19 @@ fn is_among(states: u64, number: usize) -> bool {
     number < 32 && has_bit(states, number as u8)
 }
 
-// The number of the first state of a contract among some.
-fn first_of(contract: &Contract, states: u64) -> Option<usize> {
+/// The first state of a contract among some.
+pub fn first_of(contract: &Contract, states: u64) -> Option<StateId> {
     for number in 0..contract.states.len() {
-        if is_among(states, number) {
-            return Some(number);
+        if number < 32 && has_bit(states, number as u8) {
+            return Some(StateId(number as u8));
         }
     }
     None
+}
+
+/// Whether a contract has some of these states.
+pub fn has_state_among(contract: &Contract, states: u64) -> bool {
+    first_of(contract, states).is_some()
 }
 
 // Whether no state yet is one of those that are put.
@@ -202,7 +209,7 @@ pub fn name_of_field<'a>(frame: &BodyFrame<'a>, field: FieldId) -> &'a str {
 /// The first state of a set of states of a contract, or `S`.
 pub fn first_state<'a>(contract: &'a Contract, states: u64) -> &'a str {
     let name = match first_of(contract, states) {
-        Some(number) => contract.states.get(number),
+        Some(state) => contract.states.get(usize::from(state.0)),
         None => None,
     };
     match name {

@@ -5,12 +5,18 @@
 mod case;
 mod exits;
 mod fields;
+mod forgetting;
 mod forms;
 mod holding;
+mod known;
 mod letting;
+mod own;
 mod permissions;
 mod telling;
+mod tested;
+mod unreached;
 mod uses;
+mod ways;
 
 pub use letting::say_letting;
 pub use telling::explain_body;

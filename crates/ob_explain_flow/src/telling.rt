@@ -54,6 +54,7 @@ pub fn explain_body(
         let case = Case {
             text,
             frame: &frame,
+            body,
             fault,
             stop,
             trace,

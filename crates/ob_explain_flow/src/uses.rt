@@ -1,9 +1,10 @@
 //! The operands of a form, with what each use wants and by which declaration.
 
 use crate::holding::{name_of_body, name_of_field, name_of_kind, say};
-use ob_base::{ContractId, Mode, Span, TxId};
+use ob_base::{ContractId, Mode, Perm, Span, TxId};
 use ob_explain_page::{Words, word_of};
 use ob_flow_context::BodyFrame;
+use ob_perm::{shared, unowned};
 use ob_silica::{Form, Given, Operand, Place};
 use ob_table::{Kind, Param, ResolvedType, Signature, Table};
 
@@ -18,7 +19,11 @@ pub enum Role<'a> {
     Field(&'a str),
     /// It is returned.
     Result,
-    /// It is moved, tested, disowned or read.
+    /// It moves into this slot.
+    Slot(Place),
+    /// It is disowned.
+    Disowned,
+    /// It is tested or read.
     Other,
 }
 
@@ -31,12 +36,50 @@ pub struct Use<'a> {
     pub wanted: Option<ResolvedType>,
 }
 
+// What is given back of what was wanted of an owner.
+fn exit_of(role: Role<'_>) -> Perm {
+    match role {
+        Role::Receiver(signature, _) => signature.exit,
+        Role::Argument(param, _, _) => param.exit,
+        _ => unowned(),
+    }
+}
+
 impl<'a> Use<'a> {
+    /// The permission that is wanted, of a reference.
+    pub fn permission(&self) -> Option<Perm> {
+        match self.wanted {
+            Some(ResolvedType::Reference(_, perm)) => Some(perm),
+            _ => None,
+        }
+    }
+
     // Whether it takes a reference from its owner.
     fn takes(&self) -> bool {
-        match self.wanted {
-            Some(ResolvedType::Reference(_, perm)) => perm.mode == Mode::Owned,
-            _ => false,
+        match self.permission() {
+            Some(perm) => perm.mode == Mode::Owned,
+            None => false,
+        }
+    }
+
+    /// What an owner holds of the operand after this use; None where it holds what it held.
+    pub fn left(&self) -> Option<Perm> {
+        if matches!(self.role, Role::Slot(_) | Role::Disowned) {
+            return Some(unowned());
+        }
+        let wanted = self.permission()?;
+        match wanted.mode {
+            Mode::Owned => Some(exit_of(self.role)),
+            Mode::Shared => Some(shared()),
+            Mode::Unowned => None,
+        }
+    }
+
+    // Whether an owner isn't one any more after this use.
+    fn loses(&self) -> bool {
+        match self.left() {
+            Some(perm) => perm.mode != Mode::Owned,
+            None => false,
         }
     }
 }
@@ -91,7 +134,11 @@ fn of_move<'a>(frame: &BodyFrame<'a>, to: Place, from: Operand) -> Use<'a> {
             role: Role::Field(name_of_field(frame, field)),
             wanted: Some(frame.type_of_field(field)),
         },
-        _ => other(from),
+        _ => Use {
+            operand: from,
+            role: Role::Slot(to),
+            wanted: None,
+        },
     }
 }
 
@@ -147,7 +194,11 @@ fn only_use<'a>(frame: &BodyFrame<'a>, form: &Form) -> Option<Use<'a>> {
         Form::Test { place, .. } => Some(other(*place)),
         Form::If { a, .. } => Some(other(*a)),
         Form::Assert { place, .. } => Some(other(*place)),
-        Form::Disown { place } => Some(other(*place)),
+        Form::Disown { place } => Some(Use {
+            operand: *place,
+            role: Role::Disowned,
+            wanted: None,
+        }),
         Form::Return { place: Some(place) } => Some(Use {
             operand: *place,
             role: Role::Result,
@@ -209,6 +260,38 @@ pub fn taking<'a>(frame: &BodyFrame<'a>, form: &Form, place: Place) -> Option<Us
     None
 }
 
+/// The use of `this` by a call on it; the form stands at this place of the text.
+pub fn use_of_this<'a>(frame: &BodyFrame<'a>, form: &Form, at: Span) -> Option<Use<'a>> {
+    let Form::CallThis { tx, .. } = form else {
+        return None;
+    };
+    let signature = frame.own().signature(*tx)?;
+    let operand = Operand {
+        place: Place::This,
+        span: at,
+    };
+    Some(Use {
+        operand,
+        role: Role::Receiver(signature, Kind::Reference(frame.here())),
+        wanted: Some(ResolvedType::Reference(frame.here(), signature.entry)),
+    })
+}
+
+/// The first use after which an owner of a place isn't one any more; the form stands at this place of the text.
+pub fn losing<'a>(frame: &BodyFrame<'a>, form: &Form, at: Span, place: Place) -> Option<Use<'a>> {
+    for number in 0..end_of_uses(form) {
+        if let Some(one) = use_of(frame, form, number) {
+            if one.loses() && one.operand.place == place {
+                return Some(one);
+            }
+        }
+    }
+    match use_of_this(frame, form, at) {
+        Some(one) if one.loses() && place == Place::This => Some(one),
+        _ => None,
+    }
+}
+
 // What a transaction or constructor is called.
 fn name_of<'a>(table: &'a Table, signature: &'a Signature, of: Kind) -> &'a str {
     let name = word_of(signature.name.as_bytes());
@@ -251,6 +334,6 @@ pub fn put_role(words: &mut Words, frame: &BodyFrame<'_>, role: Role<'_>) {
         }
         Role::Field(name) => say(words, &["the field `", name, "`"]),
         Role::Result => say(words, &["the result of `", name_of_body(frame), "`"]),
-        Role::Other => words.put("this statement"),
+        Role::Slot(_) | Role::Disowned | Role::Other => words.put("this statement"),
     }
 }

@@ -4,76 +4,11 @@ use crate::fronts::Front;
 use crate::helping::put_help_at;
 use crate::parts::{ARGUMENT, PARTS, Part};
 use crate::spots::Spot;
-use ob_base::{Duplicate, EXPECTED, Items, Memory, ProgramFault, Span, TextError};
+use crate::trying::{tokens_at, words_after};
+use ob_base::{EXPECTED, Memory, ProgramFault, Span};
 use ob_explain_page::{Explanation, Words};
-use ob_lexer::{LexError, Lexed, Token, TokenKind, lex};
-use ob_parser::parse;
+use ob_lexer::{Lexed, Token};
 use std::alloc::Global;
-
-/// Each word and sign, and one token each of the kinds that have many.
-const SPELLINGS: [&str; 61] = [
-    "contract",
-    "asset",
-    "main",
-    "interface",
-    "implements",
-    "state",
-    "transaction",
-    "private",
-    "returns",
-    "available",
-    "in",
-    "if",
-    "else",
-    "while",
-    "return",
-    "revert",
-    "disown",
-    "new",
-    "this",
-    "true",
-    "false",
-    "int",
-    "bool",
-    "string",
-    "Owned",
-    "Unowned",
-    "Shared",
-    "where",
-    "is",
-    "{",
-    "}",
-    "(",
-    ")",
-    "[",
-    "]",
-    ";",
-    ",",
-    ".",
-    "@",
-    "|",
-    "::",
-    "->",
-    ">>",
-    "=",
-    "==",
-    "!=",
-    "<",
-    "<=",
-    ">",
-    ">=",
-    "+",
-    "-",
-    "*",
-    "/",
-    "%",
-    "!",
-    "&&",
-    "||",
-    "x",
-    "1",
-    "\"\"",
-];
 
 /// How many tokens may be open before a place of which it is asked what could follow.
 const MOST_OPEN_TOKENS: usize = 600;
@@ -82,7 +17,7 @@ const MOST_OPEN_TOKENS: usize = 600;
 #[derive(Drop)]
 pub struct Expected {
     /// The spellings of the tokens.
-    words: Vec<&'static str>,
+    pub words: Vec<&'static str>,
     /// The parts of the grammar that stand for tokens which were taken out of them, in words.
     parts: Vec<&'static str>,
 }
@@ -146,85 +81,6 @@ impl Expected {
     }
 }
 
-/// The place of the token that is tried, and of the end after it.
-const TRIED: Span = Span {
-    start: 0,
-    end: 0,
-    line: 0,
-    column: 1,
-};
-
-const END: Span = Span {
-    start: 0,
-    end: 0,
-    line: 0,
-    column: 2,
-};
-
-// Whether tokens begin a program: nothing is wrong with them but that they may want more.
-fn begin_program(alloc: Global, tokens: &[Token]) -> Result<bool, Memory> {
-    match parse(alloc, tokens, END) {
-        Ok(_) => Ok(true),
-        Err(TextError::Fault(fault)) => Ok(fault.span.column == END.column && fault.span.line == 0),
-        Err(TextError::Memory) => Err(Memory),
-    }
-}
-
-// Copies of the tokens of these numbers.
-fn tokens_at(alloc: Global, tokens: &[Token], numbers: &[usize]) -> Result<Items<Token>, Memory> {
-    let mut copies = Items::new(alloc);
-    for number in numbers {
-        if let Some(token) = tokens.get(*number) {
-            copies.push(token.copy(alloc)?)?;
-        }
-    }
-    Ok(copies)
-}
-
-// Whether a token may follow these.
-fn token_may_follow(
-    alloc: Global,
-    front: &mut Items<Token>,
-    kind: TokenKind,
-) -> Result<bool, Memory> {
-    front.push(Token { kind, span: TRIED })?;
-    let follows = begin_program(alloc, front.as_slice());
-    front.pop();
-    follows
-}
-
-// Whether the first token of what was read may.
-fn first_may_follow(
-    alloc: Global,
-    front: &mut Items<Token>,
-    mut lexed: Lexed,
-) -> Result<bool, Memory> {
-    match lexed.tokens.pop() {
-        Some(token) => token_may_follow(alloc, front, token.kind),
-        None => Ok(false),
-    }
-}
-
-// Tries one spelling after these tokens.
-fn may_follow(alloc: Global, front: &mut Items<Token>, spelling: &str) -> Result<bool, Memory> {
-    match lex(alloc, spelling.as_bytes()) {
-        Ok(lexed) => first_may_follow(alloc, front, lexed),
-        Err(LexError::Fault(_)) => Ok(false),
-        Err(LexError::Memory) => Err(Memory),
-    }
-}
-
-// The spellings of what may follow these tokens.
-fn words_after(alloc: Global, front: &mut Items<Token>) -> Result<Vec<&'static str>, Memory> {
-    let mut words = Vec::new(alloc);
-    for spelling in &SPELLINGS {
-        if may_follow(alloc, front, spelling)? {
-            words.push(*spelling)?;
-        }
-    }
-    Ok(words)
-}
-
 // What could stand after these tokens, of which those of these numbers are open. Nothing is said of very many.
 fn expected_after(alloc: Global, tokens: &[Token], open: &[usize]) -> Result<Expected, Memory> {
     let words = if open.len() > MOST_OPEN_TOKENS {
@@ -285,20 +141,20 @@ fn put_wrong(words: &mut Words, spot: &Spot<'_>, expected: &Expected) {
     }
 }
 
-// An unexpected token, where the tokens of these numbers are open before it.
+// An unexpected token, where the tokens of these numbers are open before it: with the place that the mark is put under.
 fn explain_spot(
     alloc: Global,
     told: &mut Explanation,
     spot: &Spot<'_>,
-    read: &[Token],
     open: &[usize],
-) -> Result<bool, Memory> {
-    let mut expected = expected_after(alloc, read, open)?;
-    let lacks_semicolon = spot.lacks_semicolon(&expected);
-    put_help_at(&mut told.help, spot, &expected);
-    expected.take_parts()?;
-    put_wrong(&mut told.what, spot, &expected);
-    Ok(lacks_semicolon)
+) -> Result<Span, Memory> {
+    let mut expected = expected_after(alloc, spot.tokens, open)?;
+    let mark = put_help_at(alloc, told, spot, &expected, open)?;
+    if told.what.is_empty() {
+        expected.take_parts()?;
+        put_wrong(&mut told.what, spot, &expected);
+    }
+    Ok(mark)
 }
 
 // An unexpected token, with the place that the mark is put under.
@@ -313,14 +169,9 @@ fn explain_expected(
         .iter()
         .take_while(|token| token.span.start < fault.span.start)
         .count();
-    let (read, rest) = tokens.split_at(before.min(tokens.len()));
-    let front = Front::of(alloc, read)?;
-    let spot = Spot::of(text, read, rest, &front);
-    if explain_spot(alloc, told, &spot, read, &front.kept)? {
-        Ok(spot.end_before)
-    } else {
-        Ok(fault.span)
-    }
+    let front = Front::of(alloc, &tokens[..before.min(tokens.len())])?;
+    let spot = Spot::of(text, tokens, before, &front, fault.span);
+    explain_spot(alloc, told, &spot, &front.kept)
 }
 
 // More that is open at once than may be.

@@ -66,6 +66,31 @@ impl Front {
         }
     }
 
+    // The number of the token at a place of those that are kept.
+    fn kept_at(&self, place: usize) -> Option<usize> {
+        match self.kept.get(place) {
+            Some(number) => Some(*number),
+            None => None,
+        }
+    }
+
+    /// The number of the token that begins the member or statement that isn't over at the end, if there is one.
+    pub fn beginning(&self) -> Option<usize> {
+        if self.over {
+            None
+        } else {
+            self.kept_at(self.innermost())
+        }
+    }
+
+    /// The number of the token that begins the member, directly in a contract, that isn't over.
+    pub fn member(&self) -> Option<usize> {
+        match self.begins.first() {
+            Some(begin) => self.kept_at(*begin),
+            None => None,
+        }
+    }
+
     /// What of these tokens is open after them.
     pub fn of(alloc: Global, tokens: &[Token]) -> Result<Front, Memory> {
         let mut front = Front {

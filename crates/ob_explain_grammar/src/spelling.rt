@@ -2,7 +2,7 @@
 
 use ob_base::{
     BAD_CHARACTER, BAD_ESCAPE, BIG_NUMBER, LONG_NAME, LONG_PROGRAM, LONG_STRING, Memory, NOT_UTF8,
-    OPEN_COMMENT, OPEN_STRING, ProgramFault, is_letter_or_digit,
+    OPEN_COMMENT, OPEN_STRING, ProgramFault, is_letter, is_letter_or_digit,
 };
 use ob_explain_page::{Explanation, Hint, hint_for, shown_at};
 use std::alloc::Global;
@@ -23,7 +23,7 @@ const CHARACTERS: [Hint; 6] = [
     },
     Hint {
         of: &[":"],
-        help: "a permission stands after `@`, as in `C@Owned c`; `S::f = v;` sets a field before a change of state.",
+        help: "a type stands before its name, as in `int n` or `C@Owned c`; `S::f = v;` sets a field before a change of state.",
     },
     Hint {
         of: &["?"],
@@ -34,6 +34,10 @@ const CHARACTERS: [Hint; 6] = [
         help: "the signs are { } ( ) [ ] ; , . @ | :: -> >> = == != < <= > >= + - * / % ! && ||.",
     },
 ];
+
+/// Of a sign of references in front of a name.
+const REFERENCE: &str =
+    "a reference has no sign: its type says what is held, as in `C@Owned c`, or in a contract A `A@Owned this`.";
 
 /// Of all others.
 const LETTERS: &str =
@@ -62,7 +66,7 @@ const SPELLINGS: [Spelling; 6] = [
     Spelling {
         number: BIG_NUMBER,
         wrong: "this number is above 9223372036854775807, the greatest `int`",
-        help: "an `int` is between -9223372036854775808 and 9223372036854775807.",
+        help: "the greatest is 9223372036854775807, and the least is written `-9223372036854775807 - 1`: count in a larger unit.",
     },
     Spelling {
         number: LONG_STRING,
@@ -115,10 +119,22 @@ fn help_with(sign: &str) -> &'static str {
     if help.is_empty() { LETTERS } else { help }
 }
 
+// Whether a character stands in front of a name, and behind none.
+fn is_in_front(text: &[u8], place: u32) -> bool {
+    let before = byte_at(text, place.saturating_sub(1));
+    is_letter(byte_at(text, place.saturating_add(1)))
+        && !is_letter_or_digit(before)
+        && before != b')'
+}
+
 // A character that begins no token.
-fn explain_character(told: &mut Explanation, sign: &str) {
+fn explain_character(told: &mut Explanation, sign: &str, in_front: bool) {
     told.what.put_with("no word, number, string or sign begins with `{}`", &[sign]);
-    told.help.put(help_with(sign));
+    told.help.put(if in_front && sign == "&" {
+        REFERENCE
+    } else {
+        help_with(sign)
+    });
 }
 
 // A name with too many bytes.
@@ -142,7 +158,9 @@ fn explain(told: &mut Explanation, text: &[u8], fault: ProgramFault) {
     let place = fault.span.start;
     match fault.number {
         NOT_UTF8 => explain_byte(told, byte_at(text, place)),
-        BAD_CHARACTER => explain_character(told, shown_at(text, fault.span)),
+        BAD_CHARACTER => {
+            explain_character(told, shown_at(text, fault.span), is_in_front(text, place));
+        }
         LONG_NAME => explain_long_name(told, name_length(text, place)),
         number => explain_spelling(told, number),
     }

@@ -2,39 +2,51 @@
 
 use crate::expected::Expected;
 use crate::fronts::Front;
+use crate::rules::{BODY, MEMBER, PROGRAM, STATE};
 use ob_base::Span;
 use ob_explain_page::shown_at;
-use ob_lexer::Token;
+use ob_lexer::{Token, TokenKind, Word};
 
 /// The tokens around a place as they are written; a missing one is empty.
 #[derive(Clone, Copy)]
 pub struct Spot<'a> {
+    /// The text and its tokens.
+    pub text: &'a [u8],
+    pub tokens: &'a [Token],
+    /// How many of the tokens stand before the place.
+    pub before: usize,
+    /// The place.
+    pub place: Span,
     /// The third, second and first before the place.
     pub third: &'a str,
     pub second: &'a str,
     pub first: &'a str,
-    /// The token at the place, and the one after it.
+    /// The token at the place, and the two after it.
     pub found: &'a str,
     pub next: &'a str,
+    pub after: &'a str,
+    /// The token that begins the member or statement which the place is in. Empty where the place begins one, and of a name that is
+    /// assigned or called upon.
+    pub begin: &'a str,
+    /// The name of the contract or interface around.
+    pub own: &'a str,
+    /// The word by which the text declares the first name before the place.
+    pub named: &'a str,
+    /// Where the place is: `PROGRAM`, `MEMBER`, `STATE` or `BODY`.
+    pub level: &'a str,
     /// Just after the token before the place.
     pub end_before: Span,
-    /// Whether the place is on a later line than the token before it.
-    pub on_new_line: bool,
     /// The line of the innermost brace that is open, or 0.
     pub open_line: u32,
 }
 
-// The token so many before the last one, as it is written.
-fn back<'a>(text: &'a [u8], read: &[Token], count: usize) -> &'a str {
-    match read.iter().rev().nth(count) {
-        Some(token) => shown_at(text, token.span),
-        None => "",
-    }
-}
-
-fn at<'a>(text: &'a [u8], rest: &[Token], number: usize) -> &'a str {
-    match rest.get(number) {
-        Some(token) => shown_at(text, token.span),
+// The token of a number, as it is written.
+fn word_at<'a>(text: &'a [u8], tokens: &[Token], number: Option<usize>) -> &'a str {
+    match number {
+        Some(number) => match tokens.get(number) {
+            Some(token) => shown_at(text, token.span),
+            None => "",
+        },
         None => "",
     }
 }
@@ -58,9 +70,9 @@ fn end_of(read: &[Token]) -> Span {
 }
 
 // The line of the innermost brace that is open.
-fn open_line(read: &[Token], front: &Front) -> u32 {
+fn open_line(tokens: &[Token], front: &Front) -> u32 {
     match front.open.last() {
-        Some(number) => match read.get(*number) {
+        Some(number) => match tokens.get(*number) {
             Some(token) => token.span.line,
             None => 0,
         },
@@ -68,41 +80,133 @@ fn open_line(read: &[Token], front: &Front) -> u32 {
     }
 }
 
-impl<'a> Spot<'a> {
-    /// Around the place between what is read and the rest.
-    pub fn of(text: &'a [u8], read: &[Token], rest: &[Token], front: &Front) -> Spot<'a> {
-        let end_before = end_of(read);
-        let on_new_line = match rest.first() {
-            Some(token) => token.span.line > end_before.line,
-            None => true,
-        };
-        Spot {
-            third: back(text, read, 2),
-            second: back(text, read, 1),
-            first: back(text, read, 0),
-            found: at(text, rest, 0),
-            next: at(text, rest, 1),
-            end_before,
-            on_new_line,
-            open_line: open_line(read, front),
+// Whether a token begins the head of a contract.
+fn begins_contract(token: &Token) -> bool {
+    matches!(
+        token.kind,
+        TokenKind::Word(Word::Contract) | TokenKind::Word(Word::Interface)
+    )
+}
+
+// The name behind the last word that begins a contract.
+fn name_in_head<'a>(text: &'a [u8], head: &[Token]) -> &'a str {
+    match head.iter().rposition(|token| begins_contract(token)) {
+        Some(number) => word_at(text, head, Some(number.saturating_add(1))),
+        None => "",
+    }
+}
+
+// The name of the contract around.
+fn own_name<'a>(text: &'a [u8], tokens: &[Token], front: &Front) -> &'a str {
+    match front.open.first() {
+        Some(number) => name_in_head(text, &tokens[..(*number).min(tokens.len())]),
+        None => "",
+    }
+}
+
+/// The words by which names are declared that a place may be about.
+const DECLARED_BY: [&str; 4] = ["contract", "interface", "state", "transaction"];
+
+/// The word by which a text first declares a name, or nothing.
+pub fn declaring<'a>(text: &'a [u8], tokens: &[Token], name: &str) -> &'a str {
+    let mut before = "";
+    for token in tokens {
+        let word = shown_at(text, token.span);
+        if word == name && DECLARED_BY.contains(&before) {
+            return before;
         }
+        before = word;
+    }
+    ""
+}
+
+/// Signs behind a name that is assigned or called upon.
+const BEHIND_USED: [&str; 3] = ["=", ".", "::"];
+
+// The token that begins a member or statement, unless it is used as a name.
+fn begin_of<'a>(text: &'a [u8], tokens: &[Token], front: &Front) -> &'a str {
+    let Some(number) = front.beginning() else {
+        return "";
+    };
+    let behind = word_at(text, tokens, Some(number.saturating_add(1)));
+    if BEHIND_USED.contains(&behind) {
+        ""
+    } else {
+        word_at(text, tokens, Some(number))
+    }
+}
+
+// Where a place is at which so many braces are open, in a member that begins with this.
+fn level_of(open: usize, member: &str) -> &'static str {
+    match open {
+        0 => PROGRAM,
+        1 => MEMBER,
+        _ => { if member == "state" { STATE } else { BODY } }
+    }
+}
+
+/// The tokens that begin or end something else than an expression.
+const BEGINNING: [&str; 10] = [
+    "}",
+    "return",
+    "if",
+    "int",
+    "bool",
+    "string",
+    "->",
+    "disown",
+    "transaction",
+    "state",
+];
+
+impl<'a> Spot<'a> {
+    /// Around a place before which so many of the tokens stand.
+    pub fn of(
+        text: &'a [u8],
+        tokens: &'a [Token],
+        before: usize,
+        front: &Front,
+        place: Span,
+    ) -> Spot<'a> {
+        let first = word_at(text, tokens, before.checked_sub(1));
+        let member = word_at(text, tokens, front.member());
+        Spot {
+            text,
+            tokens,
+            before,
+            place,
+            third: word_at(text, tokens, before.checked_sub(3)),
+            second: word_at(text, tokens, before.checked_sub(2)),
+            first,
+            found: word_at(text, tokens, Some(before)),
+            next: word_at(text, tokens, before.checked_add(1)),
+            after: word_at(text, tokens, before.checked_add(2)),
+            begin: begin_of(text, tokens, front),
+            own: own_name(text, tokens, front),
+            named: declaring(text, tokens, first),
+            level: level_of(front.open.len(), member),
+            end_before: end_of(&tokens[..before.min(tokens.len())]),
+            open_line: open_line(tokens, front),
+        }
+    }
+
+    /// Whether the text declares a name as that of a contract, an interface, a state or a transaction.
+    pub fn declares(&self, name: &str) -> bool {
+        !declaring(self.text, self.tokens, name).is_empty()
+    }
+
+    /// Whether nothing stands between the token before the place and the one there.
+    pub fn is_joined(&self) -> bool {
+        self.end_before.start == self.place.start
+    }
+
+    // Whether the place is on a later line than the token before it.
+    fn on_new_line(&self) -> bool {
+        self.found.is_empty() || self.place.line > self.end_before.line
     }
 
     /// Whether a `;` could stand here, and the token is one that begins or ends something else.
     pub fn lacks_semicolon(&self, expected: &Expected) -> bool {
-        let begins = matches!(
-            self.found,
-            "}" | "return"
-                | "if"
-                | "int"
-                | "bool"
-                | "string"
-                | "->"
-                | "disown"
-                | "transaction"
-                | "state"
-                | "revert"
-        );
-        expected.has(";") && (self.on_new_line || begins)
+        expected.has(";") && (self.on_new_line() || BEGINNING.contains(&self.found))
     }
 }

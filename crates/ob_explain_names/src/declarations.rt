@@ -1,129 +1,13 @@
-//! Declarations: second ones of a name, states and fields that there aren't, exits, limits.
+//! Declarations: states and fields that there aren't, exits, owners, limits.
 
 use crate::kinds::name_of_contract;
 use crate::naming::{put_meant, see_names};
 use crate::near::Near;
 use crate::sites::Site;
-use ob_base::Span;
 use ob_explain_page::{Explanation, Nearest, Words, word_of};
 use ob_resolve_scope::{Names, kind_of_variable};
 use ob_resolve_spec::InferredKind;
-use ob_tree::{ContractNode, FieldNode, Member, NamePart};
-
-/// The first thing of a name that stands before a place.
-#[derive(Drop)]
-struct Earlier<'a> {
-    name: &'a str,
-    place: u32,
-    found: Option<(&'static str, Span)>,
-}
-
-impl Earlier<'_> {
-    fn see(&mut self, thing: &'static str, name: &[u8], span: Span) {
-        if self.found.is_none() && span.start < self.place && word_of(name) == self.name {
-            self.found = Some((thing, span));
-        }
-    }
-
-    fn see_part(&mut self, thing: &'static str, part: &NamePart) {
-        self.see(thing, part.name.as_bytes(), part.span);
-    }
-
-    fn see_fields(&mut self, fields: &[FieldNode]) {
-        for field in fields {
-            self.see_part("a field", &field.name);
-        }
-    }
-
-    fn see_member(&mut self, member: &Member) {
-        match member {
-            Member::State { name, fields, .. } => {
-                self.see_part("a state", name);
-                self.see_fields(fields.as_slice());
-            }
-            Member::Field(field) => self.see_part("a field", &field.name),
-            Member::Transaction { name, .. } => self.see_part("a transaction", name),
-            Member::Constructor { of, .. } => self.see(
-                "a constructor",
-                of.name.as_bytes(),
-                of.span,
-            ),
-        }
-    }
-
-    fn see_members(&mut self, members: &[Member]) {
-        for member in members {
-            self.see_member(member);
-        }
-    }
-
-    fn see_variables(&mut self, variables: &[&NamePart]) {
-        for part in variables {
-            self.see_part("a parameter or variable", part);
-        }
-    }
-
-    fn see_contracts(&mut self, nodes: &[ContractNode]) {
-        for node in nodes {
-            self.see("a contract or interface", node.name.as_bytes(), node.span);
-        }
-    }
-}
-
-// The first of two things of one name.
-fn first_of_name(site: &Site<'_>, name: &str, place: u32) -> Option<(&'static str, Span)> {
-    let mut first = Earlier {
-        name,
-        place,
-        found: None,
-    };
-    first.see_variables(site.variables.as_slice());
-    first.see_members(site.around.node().members.as_slice());
-    first.see_contracts(site.types().nodes());
-    first.found
-}
-
-// A field that is set twice in one change of state.
-fn explain_set_twice(told: &mut Explanation, name: &str) {
-    told.what.put_with(
-        "the field `{}` is set a second time in one change of state",
-        &[name],
-    );
-    told.help.put("leave one of the two out.");
-}
-
-// A name that is a thing's already, which stands at a place.
-fn put_already(words: &mut Words, name: &str, thing: &str, span: Span) {
-    words.put_with("`{}` is {} already, on line ", &[name, thing]);
-    words.put_number(u64::from(span.line));
-}
-
-// A name that is given twice.
-fn explain_given_twice(told: &mut Explanation, site: &Site<'_>, name: &str, place: u32) {
-    match first_of_name(site, name, place) {
-        Some((thing, span)) => put_already(&mut told.what, name, thing, span),
-        None => told.what.put_with("`{}` is given a second time", &[name]),
-    }
-    told.help
-        .put("give one of the two another name: none hides another.");
-}
-
-// Whether the name at a place is that of a field in a change of state.
-fn is_set(site: &Site<'_>) -> bool {
-    site.statement.is_some()
-        && site.near.ahead(1) == "="
-        && ["(", ",", "::"].contains(&site.near.back(1))
-}
-
-/// A second thing of one name.
-pub fn explain_duplicate(told: &mut Explanation, site: &Site<'_>, place: u32) {
-    let name = site.near.word();
-    if is_set(site) {
-        explain_set_twice(told, name);
-    } else {
-        explain_given_twice(told, site, name, place);
-    }
-}
+use ob_tree::ContractNode;
 
 // The contract whose state is named at a place.
 fn contract_of_state(site: &Site<'_>) -> usize {
@@ -171,8 +55,27 @@ fn put_nearest(words: &mut Words, name: &str, names: &Names) {
     put_meant(words, nearest.found());
 }
 
+/// The words that may stand in the place of states.
+const HELD: [&str; 3] = ["Owned", "Shared", "Unowned"];
+
+// The same of states, or of what is held.
+fn put_nearest_held(words: &mut Words, name: &str, states: &Names) {
+    let mut nearest = Nearest::to(name.as_bytes());
+    see_names(&mut nearest, states);
+    for word in &HELD {
+        let held = *word;
+        nearest.see(held.as_bytes());
+    }
+    put_meant(words, nearest.found());
+}
+
+// Whether the state at a place is tested or changed to, and isn't held.
+fn is_asked(near: &Near<'_>) -> bool {
+    ["->", "in"].contains(&near.back(1)) || near.ahead(1) == "::"
+}
+
 // The states that there are.
-fn explain_states(told: &mut Explanation, name: &str, of: &str, states: &Names) {
+fn explain_states(told: &mut Explanation, near: &Near<'_>, of: &str, states: &Names) {
     put_listed(
         &mut told.note,
         "the states of `{}`: ",
@@ -180,7 +83,11 @@ fn explain_states(told: &mut Explanation, name: &str, of: &str, states: &Names) 
         of,
         states,
     );
-    put_nearest(&mut told.help, name, states);
+    if is_asked(near) {
+        put_nearest(&mut told.help, near.word(), states);
+    } else {
+        put_nearest_held(&mut told.help, near.word(), states);
+    }
 }
 
 /// A state that a contract doesn't have.
@@ -190,7 +97,7 @@ pub fn explain_state(told: &mut Explanation, site: &Site<'_>) {
     let of = name_of_contract(site.types(), number);
     told.what.put_with("`{}` has no state `{}`", &[of, name]);
     if let Some(states) = site.types().states(number) {
-        explain_states(told, name, of, states);
+        explain_states(told, &site.near, of, states);
     }
 }
 

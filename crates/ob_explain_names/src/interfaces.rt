@@ -78,8 +78,8 @@ fn same_named(one: &NamedNode, other: &NamedNode) -> bool {
     one.name.as_bytes() == other.name.as_bytes()
 }
 
-// Whether two types are written with the same words; the contract's own type stands for its interface's.
-fn same_type(one: &TypeNode, other: &TypeNode, is_this: bool) -> bool {
+/// Whether two types are written with the same words; the contract's own type stands for its interface's.
+pub fn same_type(one: &TypeNode, other: &TypeNode, is_this: bool) -> bool {
     match (one, other) {
         (TypeNode::Int(_), TypeNode::Int(_)) => true,
         (TypeNode::Bool(_), TypeNode::Bool(_)) => true,
@@ -109,6 +109,16 @@ fn same_exit(one: &FormalNode, other: &FormalNode) -> bool {
 
 fn is_this(formal: &FormalNode) -> bool {
     matches!(formal.name, Subject::This(_))
+}
+
+// Whether `this` is a parameter of a transaction.
+fn has_this(member: &Member) -> bool {
+    for param in params_of(Some(member)) {
+        if is_this(param) {
+            return true;
+        }
+    }
+    false
 }
 
 fn same_param(one: &FormalNode, other: &FormalNode) -> bool {
@@ -205,6 +215,14 @@ fn put_difference(words: &mut Words, difference: Difference<'_>) {
     }
 }
 
+// How to mend it, where the same is said of all transactions.
+fn help_with(difference: Difference<'_>) -> &'static str {
+    match difference {
+        Difference::Private => "leave `private` out.",
+        _ => "",
+    }
+}
+
 // What of a text stands before its first brace.
 fn before_brace(text: &str) -> &str {
     match text.split_once('{') {
@@ -263,9 +281,16 @@ impl<'a> Answering<'a> {
             &[self.asking(), head_of(&self.near, asked)],
         );
         told.help.put_with(
-            "declare it in `{}` with these parameters and this result.",
+            "declare it in `{}` with these parameters and this result",
             &[self.name()],
         );
+        if has_this(asked) {
+            told.help.put_with(
+                ", and with `{}` in the place of `{}` at `this`",
+                &[self.name(), self.asking()],
+            );
+        }
+        told.help.put(".");
     }
 
     // A transaction that isn't as the interface asks.
@@ -289,6 +314,7 @@ impl<'a> Answering<'a> {
                 head_of(&self.near, has),
             ],
         );
+        told.help.put(help_with(difference));
     }
 
     // What is wrong with a transaction that the interface asks and the contract has, if something is.

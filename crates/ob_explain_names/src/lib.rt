@@ -4,6 +4,8 @@
 
 mod calls;
 mod declarations;
+mod duplicates;
+mod hints;
 mod interfaces;
 mod kinds;
 mod mismatches;

@@ -1,6 +1,7 @@
 //! Values of another type than is needed.
 
-use crate::kinds::put_kind;
+use crate::hints::{NO_NULL, NULLS};
+use crate::kinds::{name_of_contract, put_kind};
 use crate::sites::Site;
 use ob_base::{Items, Operator};
 use ob_explain_page::{Explanation, Words, word_of};
@@ -372,6 +373,11 @@ fn help_with_value(has: InferredKind) -> &'static str {
     }
 }
 
+// Whether the name at the place is compared with a reference to nothing.
+fn is_compared_with_null(site: &Site<'_>) -> bool {
+    ["==", "!="].contains(&site.near.ahead(1)) && NULLS.contains(&site.near.ahead(2))
+}
+
 fn is_nothing(kind: InferredKind) -> bool {
     matches!(kind, InferredKind::Nothing)
 }
@@ -403,15 +409,39 @@ pub fn put_returns(words: &mut Words, site: &Site<'_>) {
     put_kind(words, site.types(), site.around.result());
 }
 
+// The word of a type of values; that of ints where the type is another one.
+fn type_of_values(kind: InferredKind) -> &'static str {
+    match kind {
+        InferredKind::Bool => "bool",
+        InferredKind::Text => "string",
+        _ => "int",
+    }
+}
+
+// How to return a value where there is no result.
+fn put_result_help(words: &mut Words, site: &Site<'_>, has: InferredKind) {
+    words.put("write the result's type after the parameters, as in `returns ");
+    match has {
+        InferredKind::Reference(contract) => {
+            words.put_with("{}@Owned", &[name_of_contract(site.types(), contract)]);
+        }
+        kind => words.put(type_of_values(kind)),
+    }
+    words.put("`, or `return;` here.");
+}
+
 // A value that is returned where there is no result.
 fn explain_resultless(told: &mut Explanation, site: &Site<'_>, has: InferredKind) {
     told.what
         .put_with("`{}` has no result, and ", &[name_around(site)]);
     put_kind(&mut told.what, site.types(), has);
     told.what.put(" is returned here");
-    told.help.put(
-        "write the result's type after the parameters, as in `returns int`, or `return;` here.",
-    );
+    if matches!(site.member, Some(Member::Constructor { .. })) {
+        told.help
+            .put("a constructor returns nothing: write `return;`.");
+    } else {
+        put_result_help(&mut told.help, site, has);
+    }
 }
 
 // A `return` without a value.
@@ -447,7 +477,11 @@ fn explain_wanted(told: &mut Explanation, site: &Site<'_>, mismatch: Mismatch) {
     put_wanted(&mut told.what, site, mismatch.wanted);
     told.what.put(" is needed here, and this is ");
     put_kind(&mut told.what, site.types(), mismatch.has);
-    told.help.put(help_with(mismatch.wanted, mismatch.has));
+    told.help.put(if is_compared_with_null(site) {
+        NO_NULL
+    } else {
+        help_with(mismatch.wanted, mismatch.has)
+    });
 }
 
 fn explain_found(told: &mut Explanation, site: &Site<'_>, mismatch: Mismatch) {

@@ -1,11 +1,14 @@
 //! Names that stand for nothing, or for something else than is needed.
 
+use crate::hints::FOREIGN;
 use crate::kinds::name_of_contract;
+use crate::near::Near;
 use crate::sites::Site;
 use ob_base::is_letter;
-use ob_explain_page::{Explanation, Hint, Nearest, Words, hint_for, word_of};
+use ob_explain_page::{Explanation, Nearest, Words, hint_for, word_of};
 use ob_resolve_scope::{Names, kind_of_variable};
 use ob_resolve_spec::InferredKind;
+use ob_tree::Member;
 
 /// What a name has to stand for.
 #[derive(Clone, Copy)]
@@ -110,6 +113,28 @@ fn see_transactions<'a>(nearest: &mut Nearest<'a>, site: &'a Site<'_>, contract:
     }
 }
 
+// Whether a contract's transaction of this name is private.
+fn is_private(site: &Site<'_>, contract: usize, name: &[u8]) -> bool {
+    match site.around.declared().heading(contract, name) {
+        Some(heading) => heading.private,
+        None => false,
+    }
+}
+
+// Looks at the names of the transactions of a contract that others may call.
+fn see_callable<'a>(nearest: &mut Nearest<'a>, site: &'a Site<'_>, contract: usize) {
+    let Some(members) = site.around.declared().members(contract) else {
+        return;
+    };
+    for place in 0..members.transactions.len() {
+        if let Some(name) = members.transactions.name(place) {
+            if !is_private(site, contract, name) {
+                nearest.see(name);
+            }
+        }
+    }
+}
+
 // Looks at the names of the variables and fields that are visible.
 fn see_variables<'a>(nearest: &mut Nearest<'a>, site: &'a Site<'_>) {
     for name in &site.variables {
@@ -126,7 +151,7 @@ fn nearest_to<'a>(site: &'a Site<'_>, name: &'a str, need: Need) -> Option<&'a s
     match need {
         Need::Contract | Need::Interface | Need::Object => see_contracts(&mut nearest, site, need),
         Need::Transaction => see_transactions(&mut nearest, site, site.around.number()),
-        Need::TransactionOf(contract) => see_transactions(&mut nearest, site, contract),
+        Need::TransactionOf(contract) => see_callable(&mut nearest, site, contract),
         Need::Variable => see_variables(&mut nearest, site),
     }
     nearest.found()
@@ -138,38 +163,6 @@ pub fn put_meant(words: &mut Words, found: Option<&str>) {
         words.put_with("did you mean `{}`?", &[other]);
     }
 }
-
-/// Of words of other languages.
-const FOREIGN: [Hint; 7] = [
-    Hint {
-        of: &["Int", "integer", "Integer", "uint", "uint256", "number"],
-        help: "a whole number's type is `int`.",
-    },
-    Hint {
-        of: &["String", "str", "text"],
-        help: "a text's type is `string`.",
-    },
-    Hint {
-        of: &["Bool", "boolean", "Boolean"],
-        help: "the type of `true` and `false` is `bool`.",
-    },
-    Hint {
-        of: &["self", "me"],
-        help: "the contract's own object is `this`.",
-    },
-    Hint {
-        of: &["null", "nil", "None"],
-        help: "there is no empty reference: a state tells whether a field is there.",
-    },
-    Hint {
-        of: &["var", "let", "const", "auto"],
-        help: "a local variable begins with its type, as in `int x = 0;`.",
-    },
-    Hint {
-        of: &["require", "assert"],
-        help: "`revert \"why\";` ends the request and undoes it.",
-    },
-];
 
 // Puts that a contract has nothing of a name.
 fn put_unknown_in(words: &mut Words, of: &str, name: &str) {
@@ -300,11 +293,20 @@ fn thing_where(site: &Site<'_>, name: &str, need: Need) -> Thing {
     }
 }
 
-// How to mend a name that stands for another thing, where the same is said of all names.
-fn help_with_thing(thing: Thing, need: Need) -> &'static str {
+// How to mend a call of a private transaction of a contract, where another one is around.
+fn help_with_private(contract: usize, own: usize) -> &'static str {
+    if contract == own {
+        "a private transaction is called on `this` alone: leave the receiver out, or `private` where it is declared."
+    } else {
+        "a private transaction is called in its own contract alone: leave `private` out where it is declared, or call one that calls it."
+    }
+}
+
+// How to mend a name that stands for another thing in a contract, where the same is said of all names.
+fn help_with_thing(thing: Thing, need: Need, own: usize) -> &'static str {
     match (thing, need) {
-        (Thing::PrivateTransaction, _) => {
-            "a private transaction is called on `this` alone: leave the receiver out, or `private` where it is declared."
+        (Thing::PrivateTransaction, Need::TransactionOf(contract)) => {
+            help_with_private(contract, own)
         }
         (Thing::Field, Need::TransactionOf(_)) => {
             "another object's fields aren't visible: write a transaction there that returns the value."
@@ -319,7 +321,7 @@ fn help_with_thing(thing: Thing, need: Need) -> &'static str {
 
 // How to mend a name that stands for another thing.
 fn put_help(words: &mut Words, site: &Site<'_>, name: &str, thing: Thing, need: Need) {
-    let help = help_with_thing(thing, need);
+    let help = help_with_thing(thing, need, site.around.number());
     if help.is_empty() {
         put_nearest(words, site, name, need);
     } else {
@@ -345,13 +347,22 @@ fn explain_other(told: &mut Explanation, site: &Site<'_>, name: &str) {
     put_help(&mut told.help, site, name, thing, need);
 }
 
+// Whether the place is in a constructor.
+fn is_in_constructor(site: &Site<'_>) -> bool {
+    matches!(site.member, Some(Member::Constructor { .. }))
+}
+
 // Where `this` is a parameter.
-fn explain_this(told: &mut Explanation, own: &str) {
+fn explain_this(told: &mut Explanation, in_constructor: bool, own: &str) {
     told.what.put(
         "`this` can't be a parameter here: it is the first one of a transaction alone, and a reference",
     );
     told.help.put_with(
-        "write it first, with the contract's own type, as `{}@Owned this`; a constructor has none.",
+        if in_constructor {
+            "a constructor has no `this`: leave it out."
+        } else {
+            "write it first, with the contract's own type, as `{}@Owned this`."
+        },
         &[own],
     );
 }
@@ -371,7 +382,8 @@ fn explain_value(told: &mut Explanation, name: &str) {
         "`{}` is a value, which has no permission after `>>`",
         &[name],
     );
-    told.help.put("leave `>>` and what follows it out.");
+    told.help
+        .put("leave `>>` and the permission behind it out.");
 }
 
 // Another contract, or an interface, where the contract around is needed.
@@ -381,9 +393,23 @@ fn explain_foreign(told: &mut Explanation, name: &str, thing: &str, own: &str) {
     told.help.put("`this` and a constructor have the type of the contract that they stand in.");
 }
 
+// Whether a permission behind `>>` stands before the place.
+fn is_behind_exit(near: &Near<'_>) -> bool {
+    for count in 1..128 {
+        let token = near.back(count);
+        if token == ">>" {
+            return count > 1;
+        }
+        if token != "|" && !is_name(token) {
+            return false;
+        }
+    }
+    false
+}
+
 // Whether the name is a value's, after which a permission stands.
 fn is_held_value(site: &Site<'_>) -> bool {
-    if site.near.back(2) == ">>" {
+    if is_behind_exit(&site.near) {
         return true;
     }
     ["Owned", "Shared", "Unowned"].contains(&site.near.back(1))
@@ -428,7 +454,7 @@ pub fn explain_kind(told: &mut Explanation, site: &Site<'_>) {
     let name = site.near.word();
     let own = word_of(site.around.node().name.as_bytes());
     if name == "this" {
-        explain_this(told, own);
+        explain_this(told, is_in_constructor(site), own);
     } else if site.near.ahead(1) == "available" {
         explain_available(told, name);
     } else if is_held_value(site) {

@@ -2,9 +2,9 @@
 
 use crate::calls::explain_count;
 use crate::declarations::{
-    explain_duplicate, explain_exit, explain_field, explain_limit, explain_main, explain_owner,
-    explain_state,
+    explain_exit, explain_field, explain_limit, explain_main, explain_owner, explain_state,
 };
+use crate::duplicates::explain_duplicate;
 use crate::interfaces::explain_interface;
 use crate::mismatches::{explain_mismatch, put_returns};
 use crate::naming::{explain_kind, explain_unknown};

@@ -4,10 +4,12 @@
 
 mod excerpt;
 mod explanation;
+mod lacking;
 mod page;
 mod words;
 
 pub use excerpt::{put_excerpt, shown_at};
 pub use explanation::{Explanation, Words, put_place};
+pub use lacking::{CALLER, EVENTS, FRACTIONS, REQUIRED, TIME, VARIABLE};
 pub use page::{MOST_COLUMNS, MOST_LINES, Page};
 pub use words::{Hint, Nearest, hint_for, word_of};

@@ -64,7 +64,11 @@ pub struct Nearest<'a> {
 impl<'a> Nearest<'a> {
     /// No name was looked at yet. One that differs by more than a third of its letters, and by more than two, isn't near.
     pub fn to(wanted: &'a [u8]) -> Nearest<'a> {
-        let far = (wanted.len() / 3).max(2).min(wanted.len());
+        Nearest::within(wanted, (wanted.len() / 3).max(2).min(wanted.len()))
+    }
+
+    /// The same, where one isn't near that differs by more than so many letters.
+    pub fn within(wanted: &'a [u8], far: usize) -> Nearest<'a> {
         Nearest {
             wanted,
             found: None,

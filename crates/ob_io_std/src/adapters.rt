@@ -4,6 +4,7 @@ ghost use Rattle.std.specs.Io.KnownBytes.{ReadConsumes, WriteAppends};
 ghost use Rattle.ob_io.specs.Causes.{HasCause};
 ghost use Rattle.ob_io.specs.Told.{ReadTakes, WriteGives};
 
+use crate::failure::{Failure, SystemCall};
 use ob_base::Failed;
 use ob_io::{Asks, FileError, Files, Sink, Source};
 use std::alloc::Global;
@@ -115,7 +116,12 @@ impl<W: Write> Sink for StdSink<W> {
 const PIECE: usize = 4096;
 
 // Appends the bytes of a reader up to its end, cut after `limit` bytes, in pieces.
-fn append_pieces<R: Read>(reader: &mut R, limit: usize, into: &mut Vec<u8>) -> Result<(), FileError>
+fn append_pieces<R: Read>(
+    reader: &mut R,
+    limit: usize,
+    into: &mut Vec<u8>,
+    failure: &mut Option<Failure>,
+) -> Result<(), FileError>
     ensures appends { (bytes : List ℕ)
         × (length bytes ≤ limit) × (into.new.items ≡ into.old.items ++ bytes) }
 {
@@ -123,8 +129,13 @@ fn append_pieces<R: Read>(reader: &mut R, limit: usize, into: &mut Vec<u8>) -> R
     let mut room = limit;
     'pieces: while room > 0 {
         let most = room.min(PIECE);
-        let Ok(count) = reader.read(&mut piece[..most]) else {
-            return Err(FileError::Failed);
+        let count = match reader.read(&mut piece[..most]) {
+            Ok(count) => count,
+            Err(error) => {
+                let call = SystemCall::Read;
+                *failure = Some(Failure { call, error });
+                return Err(FileError::Failed);
+            }
         };
         if count == 0 {
             return Ok(());
@@ -141,14 +152,20 @@ fn append_file<R: fs::Files>(
     name: &str,
     limit: usize,
     into: &mut Vec<u8>,
+    failure: &mut Option<Failure>,
 ) -> Result<(), FileError>
     ensures appends { (bytes : List ℕ)
         × (length bytes ≤ limit) × (into.new.items ≡ into.old.items ++ bytes) }
 {
-    let Ok(mut file) = fs::open(host, name) else {
-        return Err(FileError::Failed);
+    let mut file = match fs::open(host, name) {
+        Ok(file) => file,
+        Err(error) => {
+            let call = SystemCall::Open;
+            *failure = Some(Failure { call, error });
+            return Err(FileError::Failed);
+        }
     };
-    append_pieces(&mut file, limit, into)
+    append_pieces(&mut file, limit, into, failure)
 }
 
 /// The files of std. What they contain isn't observable.
@@ -157,6 +174,7 @@ pub struct StdFiles<R> {
     host: R,
     asks: Asks,
     faults: u64,
+    failure: Option<Failure>,
 }
 
 impl<R: fs::Files> StdFiles<R> {
@@ -171,7 +189,13 @@ impl<R: fs::Files> StdFiles<R> {
             host,
             asks: Asks::new(alloc),
             faults: 0,
+            failure: None,
         }
+    }
+
+    /// The last call of the system that failed; `None` where none did.
+    pub fn failure(&self) -> Option<Failure> {
+        self.failure
     }
 
     /// How often a call failed.
@@ -190,7 +214,7 @@ impl<R: fs::Files> Files for StdFiles<R> {
     fn read(&mut self, name: &str, limit: usize, into: &mut Vec<u8>) -> Result<(), FileError> {
         self.asks.note(name, limit)?;
         let start = into.len();
-        let result = append_file(&self.host, name, limit, into);
+        let result = append_file(&self.host, name, limit, into, &mut self.failure);
         if result.is_err() {
             into.truncate(start);
         }

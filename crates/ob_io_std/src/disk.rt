@@ -2,6 +2,7 @@
 ghost use Rattle.std.specs.Prelude.{◌≡◌, [], Some};
 ghost use Rattle.ob_io.specs.Causes.{HasCause};
 
+use crate::failure::{Failure, SystemCall, asked};
 use ob_base::Failed;
 use ob_disk::{Calls, Disk};
 use std::alloc::Global;
@@ -16,6 +17,7 @@ pub struct FileDisk<R> {
     file: Option<fs::File>,
     faults: u64,
     calls: Calls,
+    failure: Option<Failure>,
 }
 
 // The rights of a file that is made: its owner reads and writes it, and nobody else.
@@ -24,6 +26,14 @@ const OWNER_ALONE: u32 = 0o600;
 // What a call answers of a disk that isn't attached.
 fn lacking() -> io::Error {
     io::Error::from(io::ErrorKind::NotFound)
+}
+
+// What is told where there is no memory for the name of a disk.
+fn lacking_memory() -> Failure {
+    Failure {
+        call: SystemCall::Note,
+        error: io::Error::from(io::ErrorKind::OutOfMemory),
+    }
 }
 
 // Opens the file of this name, and makes it where it is missing.
@@ -36,13 +46,24 @@ fn open<R: fs::Files<File = fs::File>>(host: &R, name: &str) -> io::Result<fs::F
         .open(host, name)
 }
 
-// Locks a regular file for this run alone, as long as it is open. A device may have no byte that is seen, and would look blank.
-fn claim(file: &fs::File) -> io::Result<()> {
+// Whether it is a regular file. A device may have no byte that is seen, and would look blank.
+fn regular(file: &fs::File) -> io::Result<()> {
     if !file.metadata()?.is_file() {
         return Err(io::Error::from(io::ErrorKind::InvalidInput));
     }
+    Ok(())
+}
+
+// Locks a file for this run alone, as long as it is open.
+fn lock(file: &fs::File) -> io::Result<()> {
     file.try_lock()?;
     Ok(())
+}
+
+// Locks a regular file.
+fn claim(file: &fs::File) -> Result<(), Failure> {
+    asked(SystemCall::Kind, regular(file))?;
+    asked(SystemCall::Lock, lock(file))
 }
 
 // Brings the names in the file's own folder to the disk for good. A file whose name isn't there is lost with all that was synced to it.
@@ -64,10 +85,10 @@ fn take<R: fs::Files<File = fs::File>>(
     alloc: Global,
     host: &R,
     name: &str,
-) -> io::Result<fs::File> {
-    let file = open(host, name)?;
+) -> Result<fs::File, Failure> {
+    let file = asked(SystemCall::Open, open(host, name))?;
     claim(&file)?;
-    sync_folder(alloc, host, name)?;
+    asked(SystemCall::Folder, sync_folder(alloc, host, name))?;
     Ok(file)
 }
 
@@ -118,6 +139,7 @@ impl<R> FileDisk<R> {
             file: None,
             faults: 0,
             calls: Calls::new(alloc),
+            failure: None,
         }
     }
 
@@ -128,14 +150,29 @@ impl<R> FileDisk<R> {
         self.faults
     }
 
-    // Counts a fault, where a call of std failed.
-    fn counted<T: Drop>(&mut self, told: io::Result<T>) -> Result<T, Failed>
+    /// The last call of the system that failed; `None` where none did.
+    pub fn failure(&self) -> Option<Failure> {
+        self.failure
+    }
+
+    /// The first bytes of the file that is attached, so many at most, as they stand. It is for who tells a person of a store, is
+    /// no call of the disk, and counts as none.
+    pub fn front(&self, most: u64) -> io::Result<Vec<u8>> {
+        let count = measure(&self.file)?.min(most);
+        let mut bytes = vec![in self.alloc; 0; count as usize]?;
+        read(&self.file, 0, &mut bytes)?;
+        Ok(bytes)
+    }
+
+    // Counts a fault, where a call of std failed, and keeps what it was.
+    fn counted<T: Drop>(&mut self, told: Result<T, Failure>) -> Result<T, Failed>
         ensures cause { HasCause self.old.faults self.new.faults result }
         ensures calls { self.new.calls ≡ self.old.calls }
     {
         match told {
             Ok(value) => Ok(value),
-            Err(_) => {
+            Err(failure) => {
+                self.failure = Some(failure);
                 self.faults = self.faults.saturating_add(1);
                 Err(Failed)
             }
@@ -157,6 +194,7 @@ impl<R: fs::Files<File = fs::File>> Disk for FileDisk<R> {
 
     fn attach(&mut self, name: &str) -> Result<(), Failed> {
         if self.calls.attach(name).is_err() {
+            self.failure = Some(lacking_memory());
             self.faults = self.faults.saturating_add(1);
             return Err(Failed);
         }
@@ -168,25 +206,25 @@ impl<R: fs::Files<File = fs::File>> Disk for FileDisk<R> {
 
     fn len(&mut self) -> Result<u64, Failed> {
         self.calls.count();
-        let measured = measure(&self.file);
+        let measured = asked(SystemCall::Length, measure(&self.file));
         self.counted(measured)
     }
 
     fn read(&mut self, at: u64, into: &mut [u8]) -> Result<(), Failed> {
         self.calls.count();
-        let done = read(&self.file, at, into);
+        let done = asked(SystemCall::Read, read(&self.file, at, into));
         self.counted(done)
     }
 
     fn write(&mut self, at: u64, bytes: &[u8]) -> Result<(), Failed> {
         self.calls.count();
-        let done = write(&self.file, at, bytes);
+        let done = asked(SystemCall::Write, write(&self.file, at, bytes));
         self.counted(done)
     }
 
     fn sync(&mut self) -> Result<(), Failed> {
         self.calls.count();
-        let done = sync(&self.file);
+        let done = asked(SystemCall::Sync, sync(&self.file));
         self.counted(done)
     }
 }

@@ -3,9 +3,11 @@
 
 mod adapters;
 mod disk;
+mod failure;
 
 pub use adapters::{StdFiles, StdSink, StdSource};
 pub use disk::FileDisk;
+pub use failure::{Failure, SystemCall};
 
 #[cfg(test)]
 mod tests;

@@ -1,5 +1,5 @@
 //! The adapters over std, where no case reaches: the bytes of files, which no contract tells, and faults.
-use crate::{FileDisk, StdFiles, StdSource};
+use crate::{Failure, FileDisk, StdFiles, StdSource, SystemCall};
 use ob_base::Failed;
 use ob_disk::Disk;
 use ob_io::{FileError, Files, Source};
@@ -49,12 +49,30 @@ fn files_cut_after_the_limit(rt: HostRuntime) -> Result<(), Fail> {
     Ok(())
 }
 
+// Whether this is what failed: this call, by an error of this kind.
+fn is_failure(failure: Option<Failure>, call: SystemCall, kind: io::ErrorKind) -> bool {
+    match failure {
+        Some(failure) => failure.call == call && failure.error.kind() == kind,
+        None => false,
+    }
+}
+
 #[test]
-fn files_count_a_fault(rt: HostRuntime) -> Result<(), Fail> {
+fn files_count_a_fault_and_keep_it(rt: HostRuntime) -> Result<(), Fail> {
     let mut files = StdFiles::new(rt.alloc(), &rt);
     let result = files.read("ob_std_lacking", 9, &mut Vec::new(rt.alloc()));
     assert_eq!(rt; result, Err(FileError::Failed));
     assert_eq!(rt; files.faults(), 1);
+    assert!(rt; is_failure(files.failure(), SystemCall::Open, io::ErrorKind::NotFound));
+    let result = files.read(".", 9, &mut Vec::new(rt.alloc()));
+    assert_eq!(rt; result, Err(FileError::Failed));
+    assert!(rt;
+        is_failure(
+            files.failure(),
+            SystemCall::Read,
+            io::ErrorKind::IsADirectory
+        )
+    );
     Ok(())
 }
 
@@ -74,6 +92,14 @@ fn disk_keeps_what_is_written(rt: HostRuntime) -> Result<(), Fail> {
     assert_eq!(rt; bytes, *b"\0\0ab");
     assert_eq!(rt; disk.read(1, &mut bytes), Err(Failed));
     assert_eq!(rt; disk.faults(), 2);
+    assert!(rt;
+        is_failure(
+            disk.failure(),
+            SystemCall::Read,
+            io::ErrorKind::UnexpectedEof
+        )
+    );
+    assert!(rt; matches!(disk.front(3)?.as_slice(), [0, 0, b'a']));
     fs::remove_file(&rt, "ob_std_disk")?;
     Ok(())
 }
@@ -81,6 +107,12 @@ fn disk_keeps_what_is_written(rt: HostRuntime) -> Result<(), Fail> {
 // Whether a disk of its own takes the file of this name. It lets go of it again.
 fn is_free(rt: &HostRuntime, name: &str) -> bool {
     FileDisk::new(rt.alloc(), rt).attach(name).is_ok()
+}
+
+// Whether a disk of its own doesn't take the file of this name, by this call and an error of this kind.
+fn is_refused(rt: &HostRuntime, name: &str, call: SystemCall, kind: io::ErrorKind) -> bool {
+    let mut disk = FileDisk::new(rt.alloc(), rt);
+    disk.attach(name).is_err() && is_failure(disk.failure(), call, kind)
 }
 
 #[test]
@@ -103,19 +135,22 @@ fn disk_makes_a_file_for_its_owner_alone(rt: HostRuntime) -> Result<(), Fail> {
 
 #[test]
 fn disk_takes_no_device(rt: HostRuntime) {
-    assert!(rt; !is_free(&rt, "/dev/null"));
+    let kind = io::ErrorKind::InvalidInput;
+    assert!(rt; is_refused(&rt, "/dev/null", SystemCall::Kind, kind));
 }
 
 #[test]
 fn disk_takes_nothing_in_a_folder_that_is_missing(rt: HostRuntime) {
-    assert!(rt; !is_free(&rt, "ob_std_nowhere/disk"));
+    let kind = io::ErrorKind::NotFound;
+    assert!(rt; is_refused(&rt, "ob_std_nowhere/disk", SystemCall::Open, kind));
 }
 
 #[test]
 fn disk_is_locked_while_it_is_attached(rt: HostRuntime) -> Result<(), Fail> {
     let mut disk = FileDisk::new(rt.alloc(), &rt);
     assert_eq!(rt; disk.attach("ob_std_locked"), Ok(()));
-    assert!(rt; !is_free(&rt, "ob_std_locked"));
+    let kind = io::ErrorKind::WouldBlock;
+    assert!(rt; is_refused(&rt, "ob_std_locked", SystemCall::Lock, kind));
     assert_eq!(rt; disk.attach("ob_std_locked"), Ok(()));
     drop(disk);
     assert!(rt; is_free(&rt, "ob_std_locked"));

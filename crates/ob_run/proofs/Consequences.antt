@@ -1,5 +1,5 @@
--- What follows from what a run says: which of three ways a command went, what a crash leaves whatever the status, and what each kind of
--- command needs to be Done.
+-- What follows from what a run says: which of three ways a command went, what a crash leaves whatever the status, what each kind of
+-- command needs to be Done, and the corollary.
 use Rattle.std.specs.Prelude.{⊤}
 use Rattle.std.proofs.Common.{◌≡◌, ◌⊎◌, inl, inr, ℕ, List, Option, Some, subst}
 use Rattle.ob_disk_spec.specs.Disk.{DiskView}
@@ -17,9 +17,11 @@ use Rattle.ob_serve.specs.declared.serving.Served.{Served}
 use Rattle.ob_serve.specs.declared.serving.Served.TheVariants as ended
 use Rattle.ob_words.specs.Asked.{Command, check, serve, serve_stored, trial, Asked}
 use Rattle.ob_run.specs.Commands.{file_of, text_in}
+use Rattle.ob_run.specs.Corollary.{ServesObservable}
 use Rattle.ob_run.specs.Openings.{RefusesStore, OpensNot}
 use Rattle.ob_run.specs.Outside.{OutsideView, devices}
 use Rattle.ob_run.specs.Reasons.{HasInput, HasInputFor, HasStoreFor}
+use Rattle.ob_run.specs.Runs.{IsRun}
 use Rattle.ob_run.specs.Sessions.{program_with, BeginsAt, StandsOnDisk, source_item, ServesProgram}
 use Rattle.ob_run.specs.Statuses.{Treats, TreatsText, MeetsStatus}
 use Rattle.ob_run.specs.Survival.{Survives}
@@ -27,10 +29,11 @@ use Rattle.ob_run.specs.TextRead.{Tells}
 use Rattle.ob_run.specs.Writes.{WritesWhole, WritesFront, OnOutput}
 use Rattle.ob_run.specs.declared.exit.Exit.{Exit}
 use Rattle.ob_run.specs.declared.exit.Exit.TheVariants.{Done, Refused, Usage, ReadFault, WriteFault, DiskFault, StoreRefused, FileFault, Memory, Long}
+use Rattle.ob_run.proofs.CorollaryLemmas.{serves_observable}
 
 -- ---- the ways of a command
 
--- it told something of the text alone
+-- it wrote something of the text alone
 abbrev pub TellsAlone : Asked → List ℕ → Devices → Devices → Exit → Type 0
 TellsAlone asked text old new exit = OnOutput (λ before after. Tells asked.command text before after exit) old new
 
@@ -185,3 +188,9 @@ findings_need_no_store (check name) text disk finds = tt
 findings_need_no_store (serve name) text disk finds = tt
 findings_need_no_store (serve_stored name store) text disk finds = absurd finds
 findings_need_no_store (trial length) text disk finds = tt
+
+-- ---- the corollary
+
+-- it follows from the theorem alone
+pub corollary : (words : Option Asked) (old new : OutsideView) (exit : Exit) → IsRun words old new exit → ServesObservable words old new exit
+corollary words old new exit run = serves_observable words old new exit run.status

@@ -139,7 +139,7 @@ module _ (table : ClassTable) (bodies : List SilicaBody) (code : Image) (compile
     output = output;
   }
 
-  -- what is told of a store that is refused
+  -- what is said of a store that is refused
   pub refused_by_store : (cause : StoreRefusal) (exit : Exit) → TellsRefusal cause old.output new.output exit
       → ((c : List ℕ) → Reads old.disk c → IsRefused (program_of code) (area_of area_bytes c) cause) → During old.disk new.disk (May old.disk) → new.input ≡ old.input
       → (fuel lanes slice : ℕ) → Treats (asked_with (serve_stored name file) fuel lanes slice) text old new exit

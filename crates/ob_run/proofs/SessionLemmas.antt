@@ -155,7 +155,7 @@ module _ (table : ClassTable) (bodies : List SilicaBody) (code : Image) (compile
             (subst (λ (s : StoreState). Ends (item_of (by_source table fuel None)) (StandsForStore (source_program table code) None) s old new served) begins
             (subst (λ (area : Option ℕ). Ends (item_of (by_source table fuel area)) (StandsForStore (source_program table code) area) (state_of store) old new served) memory ends))
 
-    -- an area that stands for a store of the code stands for one of the program
+    -- an area that represents a store of the code represents one of the program
     pub by_program : (c : List ℕ) (s : StoreState) → IsStoreOf (program_of code) (area_of area_bytes c) s → IsStoreOf (program_with table bodies) (area_of area_bytes c) s
     by_program c s is =
         subst (λ (p : StoreProgram). IsStoreOf p (area_of area_bytes c) s) same_program (stands_by_source program code is_sound_for (image.bytes code) (area_of area_bytes c) s is)

@@ -104,7 +104,7 @@ treated_whole asked content old new exit h = elim (cases_lt longest_program (len
   | inr short ↦ subst (λ (l : List ℕ). Treats asked l old new exit) (whole content short) h
 ]
 
--- what a command does with what it read is what it does with all that is told
+-- what a command does with what it read is what it does with all that is observable
 pub record TreatsAll (asked : Asked) (content : Option (List ℕ)) (old new : Devices) (exit : Exit) : Type 0 where
   pub text : List ℕ
   pub told : IsToldAs content text

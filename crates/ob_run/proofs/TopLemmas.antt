@@ -13,11 +13,14 @@ use Rattle.ob_serve.specs.Served.{Devices, IsToldAs}
 use Rattle.ob_serve.specs.declared.serving.Served.{Served}
 use Rattle.ob_serve.specs.declared.serving.Served.TheVariants as ended
 use Rattle.ob_words.specs.Asked.{Command, check, serve, serve_stored, trial, Asked}
-use Rattle.ob_run.specs.FileAsks.{AsksOnce, AsksAtMostOnce}
+use Rattle.ob_run.specs.Attaching.{UsesDisk, store_asked}
+use Rattle.ob_run.specs.Faults.{EndsAtFault}
+use Rattle.ob_run.specs.FileAsks.{AsksOnce, AsksAtMostOnce, AsksFor}
 use Rattle.ob_run.specs.Commands.{file_of, text_in}
 use Rattle.ob_run.specs.Openings.{RefusesStore}
 use Rattle.ob_run.specs.Outside.{OutsideView, devices}
 use Rattle.ob_run.specs.Reasons.{HasInput, HasInputFor, HasStoreFor, IsSmooth, HasReason}
+use Rattle.ob_run.specs.Runs.{IsRun}
 use Rattle.ob_run.specs.Sessions.{area_bytes, program_with, BeginsAt, ServesProgram}
 use Rattle.ob_run.specs.Statuses.{IsFinding, Treats, TreatsText, MeetsStatus}
 use Rattle.ob_run.specs.TextRead.{IsReadOf}
@@ -25,6 +28,7 @@ use Rattle.ob_run.specs.VendingMachine.{vending_machine}
 use Rattle.ob_run.specs.Writes.{WritesWhole}
 use Rattle.ob_run.specs.declared.exit.Exit.{Exit}
 use Rattle.ob_run.specs.declared.exit.Exit.TheVariants.{Done, Refused, Usage, ReadFault, WriteFault, DiskFault, StoreRefused, FileFault, Memory, Long}
+use Rattle.ob_run.proofs.AnsweringLemmas.{answers}
 use Rattle.ob_run.proofs.TextLemmas.{TreatsAll, treated_all}
 
 -- nothing is at most one ask
@@ -75,12 +79,12 @@ module _ (words : Option Asked) (old new : OutsideView) where
 
 -- ---- nothing is refused without reason
 
--- the text that is told is all of it
+-- the text that is observable is all of it
 same_text : (content : Option (List ℕ)) (text whole : List ℕ) → content ≡ Some whole → IsToldAs content text → text ≡ whole
 same_text content text whole told all = subst (λ (o : Option (List ℕ)). IsToldAs o text) told all
 
--- what a run says of what the words ask for, and of the text that is told
-treated_told : (words : Option Asked) (old new : OutsideView) (asked : Asked) (whole : List ℕ) (exit : Exit) → words ≡ Some asked → text_in old.files (file_of asked.command) ≡ Some whole → TreatsText words old new exit → Treats asked whole (devices old) (devices new) exit
+-- what a run says of what the words ask for, and of the observable text
+pub treated_told : (words : Option Asked) (old new : OutsideView) (asked : Asked) (whole : List ℕ) (exit : Exit) → words ≡ Some asked → text_in old.files (file_of asked.command) ≡ Some whole → TreatsText words old new exit → Treats asked whole (devices old) (devices new) exit
 treated_told words old new asked whole exit is told h =
     let same : h.asked ≡ asked = cc (h.is, is) in
     let all = subst (λ (a : Asked). TreatsAll a (text_in old.files (file_of a.command)) (devices old) (devices new) exit) same (record { text = h.text; told = h.told; treats = h.treats }) in
@@ -132,7 +136,7 @@ module _ (words : Option Asked) (old new : OutsideView) (smooth : IsSmooth words
       let input = served_input ended.Long h in
       too_many old.input.left new.input.left input.input h.ends.of_input.taken input.told input.few h.ends.of_input.took.told h.ends.of_input.many
 
-  -- a disk that stands for a store isn't refused
+  -- a disk that represents a store isn't refused
   has_store : (command : Command) → HasStoreFor command smooth.text old.disk → RefusesStore command smooth.text WritesWhole (devices old) (devices new) → ⊥
   has_store (serve name) has h = cc h.of.is
   has_store (serve_stored name store) has h =
@@ -144,7 +148,7 @@ module _ (words : Option Asked) (old new : OutsideView) (smooth : IsSmooth words
   no_fault : IsAccepted smooth.text → Treats smooth.asked smooth.text (devices old) (devices new) Refused → ⊥
   no_fault accepted h = never_accepted_and_faulty_lem smooth.text h.output.said.fault h.output.said.told accepted
 
-  -- a text that is accepted is served, or what is found of it is told
+  -- a text that is accepted is served, or what is found of it is written
   accepted : (e : Exit) → MeetsStatus words old new e → IsAccepted smooth.text → HasStoreFor smooth.asked.command smooth.text old.disk → (e ≡ Done) ⊎ (e ≡ Memory)
   accepted Done h accepts has = inl refl
   accepted Memory h accepts has = inr refl
@@ -203,4 +207,16 @@ has_reason words old new e h = record {
   unknown = unknown words old new e h;
   accepted = λ smooth. accepted words old new smooth e h;
   faulty = λ smooth. refused words old new smooth e h;
+}
+
+-- what is said of the words, the files, the streams and the disk is what a run promises
+pub is_run : (words : Option Asked) (old new : OutsideView) (e : Exit) → MeetsStatus words old new e → AsksFor words old.files.asks new.files.asks → UsesDisk (store_asked words) old.disk new.disk
+    → EndsAtFault old new e → IsRun words old new e
+is_run words old new e status asks disk faults = record {
+  status = status;
+  reason = has_reason words old new e status;
+  answers = answers words old new e status;
+  asks = asks;
+  disk = disk;
+  faults = faults;
 }

@@ -22,7 +22,7 @@ pub record EndsAtFault (before after : OutsideView) (exit : Exit) : Type 0 where
   pub input : before.input.faults ≤ after.input.faults
   pub output : before.output.faults ≤ after.output.faults
   pub disk : before.disk.faults ≤ after.disk.faults
-  -- all together rise by one at most, and each is as it was where the status tells no fault of a call
+  -- all together rise by one at most, and each is as it was where the status names no fault of a call
   pub once : faults_of after ≤ faults_of before + 1
   pub calm : exit ≢ ReadFault → exit ≢ WriteFault → exit ≢ DiskFault → exit ≢ FileFault → IsCalm before after
 

@@ -13,6 +13,8 @@ pub mod Openings
 pub mod TrialLines
 pub mod Statuses
 pub mod Reasons
+pub mod Answering
 pub mod Runs
+pub mod Corollary
 pub mod ExitStatus
 pub mod TextRead

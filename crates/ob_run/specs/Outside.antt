@@ -7,14 +7,14 @@ use Rattle.ob_io.specs.Views.{SourceView, SinkView, FilesView}
 use Rattle.ob_serve.specs.Served.{Devices}
 use Rattle.ob_run.specs.declared.outside.Outside.{Outside}
 
--- what the files, the input, the output and the disk tell at a moment
+-- what is observable of the files, the input, the output and the disk at a moment
 pub record OutsideView : Type 1 where
   pub files : FilesView
   pub input : SourceView
   pub output : SinkView
   pub disk : DiskView
 
--- what they tell, each by its own view
+-- that, each by its own view
 abbrev pub told : {F S K D : Type 0} → (F → FilesView) → (S → SourceView) → (K → SinkView) → (D → DiskView) → Outside F S K D → OutsideView
 told files input output disk o = record { files = files o.files; input = input o.input; output = output o.output; disk = disk o.disk }
 

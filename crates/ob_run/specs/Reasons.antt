@@ -16,7 +16,7 @@ use Rattle.ob_run.specs.Sessions.{area_bytes, program_with}
 use Rattle.ob_run.specs.declared.exit.Exit.{Exit}
 use Rattle.ob_run.specs.declared.exit.Exit.TheVariants.{Done, Refused, Usage, Memory}
 
--- The input is told and has fewer than `most_taken` bytes, and neither its count of faults rises nor that of the disk.
+-- The input is observable and has fewer than `most_taken` bytes, and neither its count of faults rises nor that of the disk.
 pub record HasInput (before after : Devices) : Type 0 where
   pub input : List ℕ
   pub told : before.input.left ≡ Some input
@@ -31,7 +31,7 @@ HasInputFor (serve name) before after = HasInput before after
 HasInputFor (serve_stored name store) before after = HasInput before after
 HasInputFor (trial length) before after = ⊤
 
--- where a store is kept on a disk, what that reads is told, and stands for a store of each program of a text
+-- where a store is kept on a disk, what that reads is observable, and represents a store of each program of a text
 abbrev pub HasStoreFor : Command → List ℕ → DiskView → Type 0
 HasStoreFor (check name) text disk = ⊤
 HasStoreFor (serve name) text disk = ⊤
@@ -40,7 +40,7 @@ HasStoreFor (serve_stored name store) text disk =
     → (s : StoreState) × IsStoreOf (program_with table bodies) (area_of area_bytes c) s)
 HasStoreFor (trial length) text disk = ⊤
 
--- The words ask for a command, whose text is told. Neither the count of faults of the files rises nor that of the output. Where the command
+-- The words ask for a command, whose text is observable. Neither the count of faults of the files rises nor that of the output. Where the command
 -- serves lines, it has them.
 pub record IsSmooth (words : Option Asked) (before after : OutsideView) : Type 0 where
   pub asked : Asked

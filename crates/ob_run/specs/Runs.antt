@@ -1,6 +1,7 @@
 -- What a run promises.
 use Rattle.std.specs.Prelude.{Option}
 use Rattle.ob_words.specs.Asked.{Asked}
+use Rattle.ob_run.specs.Answering.{AnswersWhatItTook}
 use Rattle.ob_run.specs.Attaching.{UsesDisk, store_asked}
 use Rattle.ob_run.specs.FileAsks.{AsksFor}
 use Rattle.ob_run.specs.Faults.{EndsAtFault}
@@ -15,6 +16,8 @@ pub record IsRun (words : Option Asked) (before after : OutsideView) (exit : Exi
   pub status : MeetsStatus words before after exit
   -- nothing is refused without reason
   pub reason : HasReason words before after exit
+  -- each line is answered before more of the input is read
+  pub answers : AnswersWhatItTook words before after exit
   -- P is asked once at most, for `most_read` bytes, and no other file is
   pub asks : AsksFor words before.files.asks after.files.asks
   -- by `serve P STORE` the disk of the name STORE is taken, once at most, before any other call of it, and what follows its first 64 MiB

@@ -72,7 +72,7 @@ pub record ServesProgram (asked : Asked) (text : List ℕ) (before after : Devic
   -- the store at which it began
   pub start : StoreState
   pub begins : BeginsAt asked.command (program_with table bodies) before.disk start
-  -- of which lines the end speaks, how many were answered, what was written, and for what the disk stands
+  -- of which lines the end speaks, how many were answered, what was written, and what the disk represents
   pub ends : Ends (source_item asked table) (StandsOnDisk asked.command table bodies) start before after served
   -- of the same lines and the same bytes: a crash loses no line of whose reply a byte was written
   pub crash : Survives (source_item asked table) (StandsOnDisk asked.command table bodies) start (requests_in ends.lines) ends.given before.disk after.disk

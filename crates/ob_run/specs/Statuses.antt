@@ -97,7 +97,7 @@ pub record IsFileFault (words : Option Asked) (before after : OutsideView) : Typ
   pub cause : Rose before.files.faults after.files.faults
   pub kept : KeepsDevices (devices before) (devices after)
 
--- What each status says of the words, and of what files, streams and disk tell before the run and after it.
+-- What each status says of the words, and of what is observable of files, streams and disk before the run and after it.
 abbrev pub MeetsStatus : Option Asked → OutsideView → OutsideView → Exit → Type 0
 -- The words are no command.
 MeetsStatus words before after Usage = IsUsage words before after

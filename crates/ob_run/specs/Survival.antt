@@ -5,13 +5,13 @@ use Rattle.ob_disk_spec.specs.Durable.{May, Throughout}
 use Rattle.ob_serve.specs.Crash.{AfterFirst, AfterSome}
 use Rattle.ob_serve.specs.Session.{SessionItem, session, replies}
 
--- the replies to so many first requests hold all that was written
+-- the replies to a prefix of the requests, of this length, hold all that was written
 abbrev pub HoldsGiven : {S : Type 0} → (S → List ℕ → SessionItem S) → S → List (List ℕ) → List ℕ → ℕ → Type 0
 HoldsGiven item start requests given j = (rest : List ℕ) × (replies (take j (session item start requests)) ≡ given ++ rest)
 
 -- A crash at any moment loses no line of whose reply a byte was written. The disk as it reads, and each image that a crash now may leave,
--- stands for the store after some first requests, whose replies hold all that was written. Each image that a crash might have left since the
--- run began is one that the disk was handed in with, or stands for the store after some number of requests.
+-- represents the store after a prefix of the requests, whose replies hold all that was written. Each image that a crash might have left since
+-- the run began is one that the disk was handed in with, or represents the store after a prefix of the requests.
 pub record Survives {S : Type 0} (item : S → List ℕ → SessionItem S) (stands : S → List ℕ → Type 0) (start : S) (requests : List (List ℕ)) (given : List ℕ) (before after : DiskView) : Type 0 where
   pub now : Throughout after (AfterFirst item stands start requests (HoldsGiven item start requests given))
   pub since : LeavesOnly before after (λ c. May before c ⊎ AfterSome item stands start requests c)

@@ -12,7 +12,7 @@ pub record WritesWhole (says : List ℕ → Type 0) (before after : SinkView) : 
   pub said : says bytes
   pub written : Gives before.written after.written bytes
 
--- A write failed within bytes of which this is said: a front of them was written.
+-- A write failed within bytes of which this is said: a prefix of them was written.
 pub record WritesFront (says : List ℕ → Type 0) (before after : SinkView) : Type 0 where
   pub bytes : List ℕ
   pub said : says bytes

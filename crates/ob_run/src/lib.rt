@@ -12,9 +12,10 @@ mod telling;
 mod top;
 mod trying;
 
-pub use examined::Examined;
+pub use examined::{Examined, Opened};
 pub use exit::Exit;
 pub use fault::fault_line;
 pub use outside::Outside;
 pub use refusal::{StoreRefusal, store_line};
+pub use serving::AREA;
 pub use top::run;

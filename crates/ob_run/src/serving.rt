@@ -28,7 +28,7 @@ use ob_verify::Verified;
 use std::alloc::Global;
 
 /// How many bytes a store may take on a disk.
-pub(crate) const AREA: u64 = 67_108_864;
+pub const AREA: u64 = 67_108_864;
 
 // How the run ends whose session ended so.
 fn exit_of(served: Served) -> Exit
@@ -107,7 +107,7 @@ pub fn serve_text<F: Files, S: Source, K: Sink, D: Disk>(
     text: &[u8],
     fuel: u32,
     outside: &mut Outside<F, S, K, D>,
-    examined: &mut Examined,
+    examined: &mut Examined<'_>,
 ) -> Exit
     ensures treats { (name : List ℕ) (lanes slice : ℕ) → Treats (asked_with (serve name) fuel lanes slice) text.now
         (devices (told F.view S.view K.view D.view outside.old))
@@ -142,7 +142,7 @@ pub fn serve_text_stored<F: Files, S: Source, K: Sink, D: Disk>(
     name: &str,
     fuel: u32,
     outside: &mut Outside<F, S, K, D>,
-    examined: &mut Examined,
+    examined: &mut Examined<'_>,
 ) -> Exit
     ensures treats { (file : List ℕ) (lanes slice : ℕ) → Treats (asked_with (serve_stored file name.now) fuel lanes slice) text.now
         (devices (told F.view S.view K.view D.view outside.old))
@@ -160,11 +160,13 @@ pub fn serve_text_stored<F: Files, S: Source, K: Sink, D: Disk>(
     let mut store = match open_named(alloc, &mut outside.disk, name, &program.code) {
         Ok(store) => store,
         Err(Unopened::Refused(refusal)) => {
+            examined.refusal = Some(refusal);
             return refuse_store(alloc, refusal, &mut outside.output);
         }
         Err(Unopened::DiskFault) => return Exit::DiskFault,
         Err(Unopened::Memory) => return Exit::Memory,
     };
+    examined.note_opened(&store);
     let served = serve(
         alloc,
         &program.code,

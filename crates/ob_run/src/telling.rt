@@ -57,7 +57,7 @@ pub fn check_text<K: Sink>(
     alloc: Global,
     text: &[u8],
     output: &mut K,
-    examined: &mut Examined,
+    examined: &mut Examined<'_>,
 ) -> Exit
     ensures tells { (name : List ℕ) → Tells (check name) text.now (K.view output.old) (K.view output.new) result }
     ensures faults { CountsFault (result ≡ Exit.WriteFault) (K.view output.old).faults (K.view output.new).faults }

@@ -6,6 +6,7 @@ ghost use Rattle.ob_words.specs.Asked.{asked_of};
 ghost use Rattle.ob_words.specs.AskedView.{asked_view, command_view};
 ghost use Rattle.ob_run.specs.Attaching.{UsesDisk, store_of, store_asked};
 ghost use Rattle.ob_run.specs.Commands.{file_of};
+ghost use Rattle.ob_run.specs.Corollary.{ServesObservable};
 ghost use Rattle.ob_run.specs.Faults.{CountsFault, EndsAtFault};
 ghost use Rattle.ob_run.specs.FileAsks.{AsksFor, program_ask};
 ghost use Rattle.ob_run.specs.Outside.{told, devices};
@@ -57,7 +58,7 @@ fn treat<F: Files, S: Source, K: Sink, D: Disk>(
     asked: Asked<'_>,
     text: &[u8],
     outside: &mut Outside<F, S, K, D>,
-    examined: &mut Examined,
+    examined: &mut Examined<'_>,
 ) -> Exit
     ensures treats { Treats (asked_view asked.entry) text.now
         (devices (told F.view S.view K.view D.view outside.old))
@@ -84,7 +85,7 @@ fn run_words<F: Files, S: Source, K: Sink, D: Disk>(
     alloc: Global,
     words: &[String],
     outside: &mut Outside<F, S, K, D>,
-    examined: &mut Examined,
+    examined: &mut Examined<'_>,
 ) -> Exit
     ensures status { MeetsStatus (asked_of (map string_bytes words.now))
         (told F.view S.view K.view D.view outside.old)
@@ -122,17 +123,21 @@ fn run_words<F: Files, S: Source, K: Sink, D: Disk>(
     }
 }
 
-/// Does what the words say, and answers how it ended. The words leave out the program's own name. What is promised is `IsRun`: it speaks of
-/// what the files, the input, the output and the disk tell, before the run and after it. Of `examined`, which serves to explain a text to a
-/// person, nothing is said.
-#[tactic(auto, using(crate::proofs::TopLemmas::has_reason))]
+/// Does what the words say, and answers how it ended. The words leave out the program's own name. The theorem is `IsRun`: it speaks of
+/// what is observable of the files, the input, the output and the disk, before the run and after it. Its corollary says what follows for
+/// `serve P STORE` where all bytes are observable. Of `examined`, which serves to explain a text and a store to a person, nothing is
+/// said.
+#[tactic(auto, using(crate::proofs::TopLemmas::is_run, crate::proofs::CorollaryLemmas::serves_observable))]
 pub fn run<F: Files, S: Source, K: Sink, D: Disk>(
     alloc: Global,
     words: &[String],
     outside: &mut Outside<F, S, K, D>,
-    examined: &mut Examined,
+    examined: &mut Examined<'_>,
 ) -> Exit
-    ensures { IsRun (asked_of (map string_bytes words.now))
+    ensures theorem { IsRun (asked_of (map string_bytes words.now))
+        (told F.view S.view K.view D.view outside.old)
+        (told F.view S.view K.view D.view outside.new) result }
+    ensures corollary { ServesObservable (asked_of (map string_bytes words.now))
         (told F.view S.view K.view D.view outside.old)
         (told F.view S.view K.view D.view outside.new) result }
 {

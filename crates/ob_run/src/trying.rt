@@ -1,4 +1,4 @@
-//! A trial is held, and told.
+//! A trial is held, and its numbers are written.
 ghost use Rattle.std.specs.Prelude.{◌≡◌, ◌++◌, ℕ, List, IfOk, OnOk, string_bytes};
 ghost use Rattle.ob_words.specs.Asked.{trial};
 ghost use Rattle.ob_run.specs.Faults.{CountsFault};
@@ -55,13 +55,13 @@ fn tell_trial<K: Sink>(alloc: Global, counts: Counts, output: &mut K) -> Exit
     }
 }
 
-/// Holds the trial of a length with the program of a text, and tells its numbers, or refuses the text.
+/// Holds the trial of a length with the program of a text, and writes its numbers, or refuses the text.
 pub fn try_text<K: Sink>(
     alloc: Global,
     text: &[u8],
     length: u32,
     output: &mut K,
-    examined: &mut Examined,
+    examined: &mut Examined<'_>,
 ) -> Exit
     ensures tells { Tells (trial length) text.now (K.view output.old) (K.view output.new) result }
     ensures faults { CountsFault (result ≡ Exit.WriteFault) (K.view output.old).faults (K.view output.new).faults }

@@ -20,7 +20,7 @@ use Rattle.ob_serve.proofs.Keeping.{same_items, same_state}
 use Rattle.ob_serve.proofs.Tables.{stands_by_source}
 
 module _ (program : SilicaProgram) (code : Image) (fuel : ℕ) (area : Option ℕ) (sound : IsSoundFor program code) where
-  -- bytes that stand for a store by the class table of the code stand for it by that of the program
+  -- bytes that represent a store by the class table of the code represent it by that of the program
   stands : (s : StoreState) (c : List ℕ) → (at : Option ℕ) → StandsForStore (program_of code) at s c → StandsForStore (source_program program.table code) at s c
   stands s c None is = tt
   stands s c (Some size) is = stands_by_source program code sound (image.bytes code) (area_of size c) s is

@@ -28,7 +28,7 @@ use Rattle.ob_serve.specs.Stops.{LineReader, IsStop, CommitsTo, LeadsOn}
 use Rattle.ob_serve.specs.declared.serving.Served.{Served}
 use Rattle.ob_serve.specs.declared.serving.Served.TheVariants as ended
 
--- a store stands on its disk and on each image of it
+-- a disk and each image of it represent the store
 pub stands_through : (program : StoreProgram) (store : Store) (v : DiskView) → StandsOn program store v → IsStoreAtRest program.table (content_of (kept_of store))
     → Throughout v (StandsForStore program (area_of_store store) (state_of store))
 stands_through program store v stands rests = by_area (area_of_store store) refl
@@ -89,7 +89,7 @@ module _ (program : StoreProgram) (after : StoreState) (store same : Store) (p :
       by_area None is = during_to old new _ _ (untouched_during old new (none (area ∙ is))) (λ c may. inl tt)
       by_area (Some size) is = during_to old new _ _ (some size (area ∙ is)) (λ c stood. to_after size c is stood)
 
--- a store stands, said of its place and of what it is
+-- a disk represents a store, said of its place and of what it is
 pub stands_now : (program : StoreProgram) (store : Store) (v : DiskView) (area : Option ℕ) (s : StoreState) → area_of_store store ≡ area → state_of store ≡ s → StandsOn program store v
     → IsStoreAtRest program.table (content_of (kept_of store)) → Throughout v (StandsForStore program area s)
 stands_now program store v area s in_area is stands rests =

@@ -99,7 +99,7 @@ pub within_limits : (table : ClassTable) (i : Invocation) → KeepsStoreAtRest t
 within_limits table (invoked i) rests = rests.few_objects
 within_limits table goes_wrong rests = absurd rests
 
--- a reply tells whether its request was done
+-- a reply says whether its request was done
 told_done : (reply : told.Reply) → says_done (answer_of reply) ≡ is_ok reply
 told_done told.ok_nothing = refl
 told_done (told.ok_value value) = refl

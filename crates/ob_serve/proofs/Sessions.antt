@@ -37,12 +37,12 @@ module _ {S : Type 0} (item : S → List ℕ → SessionItem S) where
   length-session s [] = refl
   length-session s (x ∷ xs) = omega (arith, length-session (item s x).after xs)
 
-  -- the items of the first lines
+  -- the items of a prefix of the lines
   pub front_items : (s : S) (xs ys : List (List ℕ)) → take (length xs) (session item s (xs ++ ys)) ≡ session item s xs
   front_items s xs ys =
       ap (λ (is : List (SessionItem S)). take (length xs) is) (session-append s xs ys) ∙ take_at (session item s xs) (session item (state_after item s xs) ys) (length xs) (length-session s xs)
 
-  -- the replies to some first lines, and to one more
+  -- the replies to a prefix of the lines, and to one more
   pub front_replies : (s : S) (xs ys : List (List ℕ)) → replies (take (length xs) (session item s (xs ++ ys))) ≡ replies (session item s xs)
   front_replies s xs ys = ap replies (front_items s xs ys)
 
@@ -58,7 +58,7 @@ module _ {S : Type 0} (item : S → List ℕ → SessionItem S) where
       ap (λ (n : ℕ). replies (take n (session item s ((xs ++ x ∷ []) ++ ys)))) more ∙ front_replies s (xs ++ x ∷ []) ys ∙ one_reply s xs x
 
   module _ (stands : S → List ℕ → Type 0) where
-    -- the store after all of the first lines
+    -- the store after a prefix of the lines
     pub after_front : (s : S) (xs ys : List (List ℕ)) (c : List ℕ) → stands (state_after item s xs) c → AfterAll item stands s (take (length xs) (xs ++ ys)) c
     after_front s xs ys c is = subst (λ (ls : List (List ℕ)). stands (state_after item s ls) c) (sym (take_at xs ys (length xs) refl)) is
 

@@ -43,7 +43,7 @@ module _ (program : SilicaProgram) (image : Image) (sound : IsSoundFor program i
       refusal_follows (without_names program.table) program.table (named program.table) (unnamed program.table) bytes area r
       (subst (λ (t : ClassTable). IsRefused (record { table = t; image = bytes }) area r) (table_of program image sound) refused)
 
-  -- payloads can tell its contracts and states apart
+  -- payloads can distinguish its contracts and states
   pub storable : IsStorable (table_of_image image)
   storable = subst IsStorable (sym (table_of program image sound)) (record {
     contracts = few_contracts;

@@ -46,7 +46,7 @@ KeepsSessions table fuel =
     (area : Option ℕ) (start : StoreState) (lines : List (List ℕ)) → IsStoreAtRest table start.content
     → AreKept table start (items_of (by_source table fuel area) start lines)
 
--- code may be served: its image is sound, and payloads can tell its contracts and states apart
+-- code may be served: its image is sound, and payloads can distinguish its contracts and states
 pub record IsServable (image : Image) : Type 0 where
   pub sound : IsSoundImage image
   pub storable : IsStorable (table_of_image image)

@@ -19,7 +19,7 @@ pub record Devices : Type 1 where
   pub output : SinkView
   pub disk : DiskView
 
--- the bytes are what is told; where nothing is told, nothing is said
+-- the bytes are what is observable; where nothing is observable, nothing is said
 abbrev pub IsToldAs : Option (List ℕ) → List ℕ → Type 0
 IsToldAs None bytes = ⊤
 IsToldAs (Some all) bytes = bytes ≡ all

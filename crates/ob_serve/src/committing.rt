@@ -23,7 +23,7 @@ pub enum KeepError {
 }
 
 /// Commits what was made ready, if there is anything. All memory is taken before the disk is touched. Where the disk fails, it and each
-/// image of it stand for the store before or after. Over a store in memory no call of the disk is made. What follows the area stays.
+/// image of it represent the store before or after. Over a store in memory no call of the disk is made. What follows the area stays.
 pub fn keep<D: Disk>(
     store: &mut Store,
     disk: &mut D,

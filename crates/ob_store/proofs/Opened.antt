@@ -1,4 +1,4 @@
--- A store is opened: what is read of its journal, and what its area stands for.
+-- A store is opened: what is read of its journal, and what its area represents.
 use Rattle.std.proofs.Common.{◌≡◌, inl, inr, ◌⊎◌, ℕ, suc, ◌+◌, ◌<◌, ◌≤◌, List, [], ◌∷◌, ◌++◌, length, take, drop, get_or, map, All, Option, Some, option_map, Result, Ok, Err, IfOk, Vec, sym, ◌∙◌, ap, subst, arith, take-append-drop, drop-cons, add-one}
 use Rattle.std.proofs.lemmas.List.{map_more, map-append}
 use Rattle.std.specs.declared.alloc.Global.{Global}

@@ -1,4 +1,4 @@
--- A disk stands for a store.
+-- A disk represents a store.
 use Rattle.std.proofs.Common.{◌≡◌, ℕ, inr, List, Option, Some, None, option_map, refl, subst}
 use Rattle.ob_disk_spec.specs.Disk.{DiskView}
 use Rattle.ob_disk_spec.specs.Durable.{Throughout, KeepsBehind}
@@ -15,7 +15,7 @@ use Rattle.ob_store.specs.Stores.{gate_of, serial_of, state_of, area_of_store, I
 use Rattle.ob_store.specs.Committing.{KeepsBehindIn}
 use Rattle.ob_store.specs.declared.store.Store.{Store}
 
--- an area that stands for what is kept of a store stands for the store
+-- an area that represents what is kept of a store represents the store
 pub open_store_of : (program : StoreProgram) (content : Content) (j : Journaled) (area : List ℕ) → IsKeptAs program content j → IsAtRest program.table content → StandsFor j area
     → IsStoreOf program area (record { content = content; gate = next_gate j; serial = j.serial })
 open_store_of program content j area kept rest stands = inr (record {
@@ -38,7 +38,7 @@ stands_by program content (Some j) size v is kept rest =
     subst (λ (n : ℕ). IsStoreOf program (area_of n c) (record { content = content; gate = next_gate (journaled j); serial = (journaled j).serial }))
     (unsome_number (area_size j) size is) (open_store_of program content (journaled j) (area_of (area_size j) c) kept.kept rest stands))
 
--- a disk that stands for a store at rest is one, as it reads and in each image
+-- a disk that represents a store at rest is one, as it reads and in each image
 pub stores_stand : (program : StoreProgram) (store : Store) (size : ℕ) (v : DiskView) → area_of_store store ≡ Some size → StandsOn program store v
     → IsStoreAtRest program.table (content_of store.content) → Throughout v (λ c. IsStoreOf program (area_of size c) (state_of store))
 stores_stand program store size v area stands rest = stands_by program (content_of store.content) store.journal size v area stands rest.at_rest

@@ -23,7 +23,7 @@ pub record IsReady (program : StoreProgram) (store : Store) (prepared : Prepared
   pub after : IsStoreAtRest program.table (content_with store.content prepared.delta)
   pub is_prepared : IsPrepared program.table store prepared
 
--- the disk stands for a store, or for what becomes of it with another content
+-- the disk represents a store, or what becomes of it with another content
 abbrev pub StandsBeforeOrAfter : StoreProgram → ℕ → StoreState → Content → List ℕ → Type 0
 StandsBeforeOrAfter program size s content c =
     IsStoreOf program (area_of size c) s
@@ -47,7 +47,7 @@ IsAppendedTo (Some before) (Some built) None = ⊥
 IsAppendedTo (Some before) (Some built) (Some after) =
     (journaled after ≡ with_payload (journaled before) (payload_built built)) × (area_size after ≡ area_size before)
 
--- the area of a disk stands for a journal, with the record or without it, where one was built
+-- the area of a disk represents a journal, with the record or without it, where one was built
 abbrev pub StandsIn : Option Journal → Option Built → List ℕ → Type 0
 StandsIn None built c = ⊤
 StandsIn (Some journal) None c = StandsFor (journaled journal) (area_of (area_size journal) c)

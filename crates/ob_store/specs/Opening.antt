@@ -26,7 +26,7 @@ use Rattle.ob_store.specs.declared.store.Store.{Store}
 use Rattle.ob_store.specs.declared.error.OpenError.{OpenError}
 use Rattle.ob_store.specs.declared.error.OpenError.TheVariants.{NotStore, Damaged, OtherProgram, NotAtRest, Room, DiskFault, Memory}
 
--- The answer is the store for which an area stands, or why it stands for none. `Room` comes where a blank area is too small to be begun.
+-- The answer is the store that an area represents, or why it represents none. `Room` comes where a blank area is too small to be begun.
 abbrev pub Opens : StoreProgram → ℕ → Result Store OpenError → List ℕ → Type 0
 Opens program size (Ok store) area = IsStoreOf program area (state_of store)
 Opens program size (Err NotStore) area = IsRefused program area not_store
@@ -133,7 +133,7 @@ abbrev pub LacksArea : StoreProgram → ℕ → Result Store OpenError → Type 
 LacksArea program size (Err (Room need limit)) = (need ≡ 18 + length program.image) × (limit ≡ size) × (size < need)
 LacksArea program size answer = ⊤
 
--- a store is the one for which a blank area stands
+-- a store is the one that a blank area represents
 pub record IsBlankStart (program : StoreProgram) (s : StoreState) : Type 0 where
   pub content : s.content ≡ empty_content
   pub gate : s.gate ≡ next_gate (begun program.image)

@@ -1,4 +1,4 @@
--- A store as it is kept, and when a disk stands for it (this project's own).
+-- A store as it is kept, and when a disk represents it (this project's own).
 use Rattle.std.specs.Prelude.{ℕ, ℤ, pos, ◌≡◌, ⊤, Option, Some, None, option_map}
 use Rattle.ob_code.specs.Images.{image}
 use Rattle.ob_code.specs.declared.image.Image.{Image}
@@ -54,7 +54,7 @@ abbrev pub IsKeptIn : StoreProgram → Content → Option Journal → DiskView �
 IsKeptIn program content None v = ⊤
 IsKeptIn program content (Some journal) v = IsKeptBy program content journal v
 
--- the disk and each image of it stand for a store; one in memory has no disk
+-- the disk and each image of it represent a store; one in memory has no disk
 abbrev pub StandsOn : StoreProgram → Store → DiskView → Type 0
 StandsOn program store v = IsKeptIn program (content_of store.content) store.journal v
 

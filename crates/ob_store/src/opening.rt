@@ -94,7 +94,7 @@ fn replay(
     Ok(content)
 }
 
-/// The store for which a journal stands, if it is one of this program and at rest.
+/// The store that a journal represents, if it is one of this program and at rest.
 pub fn rebuilt(alloc: Global, code: &Image, journal: Journal) -> Result<Store, OpenError>
     requires { image.fits code.now }
     ensures { Rebuilds (program_of code.now) journal result }

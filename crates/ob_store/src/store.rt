@@ -121,7 +121,7 @@ impl Store {
         }
     }
 
-    /// Opens the store that an area of so many bytes at the front of a disk stands for. It writes on a blank disk alone, where it
+    /// Opens the store that an area of so many bytes at the start of a disk represents. It writes on a blank disk alone, where it
     /// begins an area. What follows the area stays.
     ///
     /// # Errors
@@ -215,7 +215,7 @@ impl Store {
     ///
     /// # Errors
     ///
-    /// `DiskFault` where a call of the disk failed: the store is then as it was, and the disk and each image of it stand for the store
+    /// `DiskFault` where a call of the disk failed: the store is then as it was, and the disk and each image of it represent the store
     /// before or after. What follows the area stays. Where there is nothing to write, as in memory, no call of the disk is made.
     pub fn commit<D: Disk>(&mut self, disk: &mut D, prepared: Prepared) -> Result<(), DiskFault>
         requires delta { IsDelta (kept_of self.old) (delta_prepared prepared) }

@@ -39,7 +39,7 @@ adds_one (answer.Ok o) counts = record { lines = refl; ok = refl; aborted = omeg
 adds_one (answer.Abort c) counts = record { lines = refl; ok = omega arith; aborted = refl; refused = omega arith }
 adds_one (answer.Refused r) counts = record { lines = refl; ok = omega arith; aborted = omega arith; refused = refl }
 
--- at the front all are left
+-- at the start all are left
 pub none_so_far : (rs : List Reply) (all : List ℕ) (counts : Counts) → all ≡ lines_of_replies rs → counts.lines ≡ 0 → counts.ok ≡ 0 → counts.aborted ≡ 0 → counts.refused ≡ 0
     → IsCountedSoFar rs all counts
 none_so_far rs all counts is lines ok aborted refused = record {

@@ -72,7 +72,7 @@ pub refused_line : (id : Option ℤ) (r : Refusal) → HasKey (line_of (record {
 unfolding escape_byte
 refused_line id r = has_key id 34 114 (101 ∷ 102 ∷ 117 ∷ 115 ∷ 101 ∷ 100 ∷ 34 ∷ 58 ∷ (compact_text (number (unsigned (number_of r))) ++ 125 ∷ [])) _ refl
 
--- ---- the kind is told
+-- ---- the kind of a line
 
 same_place : (m n : ℕ) (o : Option ℕ) → o ≡ Some m → o ≡ Some n → m ≡ n
 same_place m n o hm hn = cc

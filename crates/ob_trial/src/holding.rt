@@ -92,7 +92,7 @@ fn counts_with_store(replies: &[u8], store: &Store) -> Counts
 }
 
 /// Holds the trial of this length: serves its lines by sound code, with so many units of fuel for each, on a blank store in an area of so
-/// many bytes on a disk in memory. The store after the last line is the one for which the disk then stands.
+/// many bytes on a disk in memory. The store after the last line is the one that the disk then represents.
 ///
 /// # Errors
 ///

@@ -2,7 +2,7 @@ use Rattle.std.proofs.Common.{inr, refl}
 use Rattle.ob_run.specs.Statuses.{accepted_line}
 use Rattle.ob_run.proofs.telling.accept.Goals as goal
 
--- the front that was written is one of the line
+-- the prefix that was written is one of the line
 pub returns-in-Err-clause-tells : goal.returns-in-Err-clause-tells
 returns-in-Err-clause-tells g c = λ name text accepted. record {
   bytes = accepted_line;

@@ -2,7 +2,7 @@ use Rattle.std.proofs.Common.{inl, refl}
 use Rattle.ob_run.specs.FaultLine.{fault_line}
 use Rattle.ob_run.proofs.telling.refuse.Goals as goal
 
--- the front that was written is one of the refusal
+-- the prefix that was written is one of the refusal
 pub returns-clause-tells : goal.returns-clause-tells
 returns-clause-tells g c = λ command text told. record {
   bytes = fault_line c.in-Fault.fault;

@@ -2,7 +2,7 @@ use Rattle.std.proofs.Common.{refl}
 use Rattle.ob_run.specs.StoreLine.{store_line, refusal_view}
 use Rattle.ob_run.proofs.telling.refuse_store.Goals as goal
 
--- the front that was written is one of the refusal
+-- the prefix that was written is one of the refusal
 pub returns-clause-tells : goal.returns-clause-tells
 returns-clause-tells g c = record {
   bytes = store_line (refusal_view c.args.refusal);

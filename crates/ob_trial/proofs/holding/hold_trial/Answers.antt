@@ -19,7 +19,7 @@ end_of-requires c =
     let ends = c.serve-served.ensures.by_code in
     ends_unless_memory c.args.trial_length old new left ends.lines c.serve-served.result c.ranges.trial_length.fits ends.of_input ends.cause refl refl refl refl refl refl
 
--- the disk stands for the store after the session
+-- the disk represents the store after the session
 pub open_told-requires-2-clause-unrefused : goal.open_told-requires-2-clause-unrefused
 open_told-requires-2-clause-unrefused c =
     let old : Devices = record { input = sure_source_view c.new-input.result; output = sure_sink_view c.new-output.result; disk = sure_disk_view c.open_told.new.disk } in

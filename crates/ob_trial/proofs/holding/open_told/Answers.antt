@@ -3,7 +3,7 @@ use Rattle.ob_store.specs.Stores.{program_of}
 use Rattle.ob_trial.proofs.HoldingLemmas.{opens_unless_memory}
 use Rattle.ob_trial.proofs.holding.open_told.Goals as goal
 
--- the disk told its bytes
+-- the disk's bytes are observable
 pub out_of_memory-requires : goal.out_of_memory-requires
 out_of_memory-requires c =
     let bytes = c.in-Some._told.now in

@@ -1,0 +1,215 @@
+//! Notes on an accepted text: that a client can make nothing of it, transactions that always call themselves, and where it lets go of
+//! assets.
+
+use crate::calling::endless_call;
+use ob_base::{Memory, Span};
+use ob_explain_flow::say_letting;
+use ob_explain_page::{Page, Words, put_excerpt, put_place, word_of};
+use ob_front::Seen;
+use ob_lexer::{LexError, Token, TokenKind, Word, lex};
+use ob_table::{Body, Table};
+use std::alloc::Global;
+
+/// The most notes that are told, as many as have room on a page.
+const MOST_NOTES: usize = 6;
+
+/// The place of a text's first character.
+const START: Span = Span {
+    start: 0,
+    end: 0,
+    line: 1,
+    column: 1,
+};
+
+// Tells a note without a line of the text.
+fn tell_words(page: &mut Page, file: &str, span: Span, words: &str) -> Result<(), Memory> {
+    put_place(page, file, span)?;
+    page.put("note: ")?;
+    page.put(words)?;
+    page.end_line()
+}
+
+// Tells a note: the place, what is said, and the line.
+fn tell_note(
+    page: &mut Page,
+    file: &str,
+    text: &[u8],
+    span: Span,
+    words: &str,
+) -> Result<(), Memory> {
+    tell_words(page, file, span, words)?;
+    put_excerpt(page, text, span)
+}
+
+// Whether a token begins the head of a contract or an interface.
+fn begins_contract(token: &Token) -> bool {
+    matches!(
+        token.kind,
+        TokenKind::Word(Word::Contract) | TokenKind::Word(Word::Interface)
+    )
+}
+
+// The place of the first name of a contract or an interface among tokens.
+fn first_name(tokens: &[Token]) -> Span {
+    let mut is_name = false;
+    for token in tokens {
+        if is_name {
+            return token.span;
+        }
+        is_name = begins_contract(token);
+    }
+    START
+}
+
+// The same in a text.
+fn first_contract(alloc: Global, text: &[u8]) -> Result<Span, Memory> {
+    match lex(alloc, text) {
+        Ok(lexed) => Ok(first_name(lexed.tokens.as_slice())),
+        Err(LexError::Fault(_)) => Ok(START),
+        Err(LexError::Memory) => Err(Memory),
+    }
+}
+
+// Whether a contract is one that clients make objects of.
+fn has_main(table: &Table) -> bool {
+    for contract in table.contracts() {
+        if contract.main {
+            return true;
+        }
+    }
+    false
+}
+
+// Tells of a text that a client can make nothing of, and how many notes that takes.
+fn tell_nothing_made(
+    alloc: Global,
+    page: &mut Page,
+    file: &str,
+    text: &[u8],
+    table: &Table,
+) -> Result<usize, Memory> {
+    if has_main(table) {
+        return Ok(0);
+    }
+    if table.count() == 0 {
+        tell_words(
+            page,
+            file,
+            START,
+            "the text has no contract: a client can make no object of it",
+        )?;
+    } else {
+        let place = first_contract(alloc, text)?;
+        tell_note(
+            page,
+            file,
+            text,
+            place,
+            "no contract is `main`: a client can make no object of this text",
+        )?;
+    }
+    Ok(1)
+}
+
+// The name of the transaction of a body.
+fn name_of<'a>(table: &'a Table, body: &Body) -> &'a str {
+    match table.contract(body.contract) {
+        Some(contract) => match contract.signature(body.tx) {
+            Some(signature) => word_of(signature.name.as_bytes()),
+            None => "?",
+        },
+        None => "?",
+    }
+}
+
+// Tells of a transaction that always calls itself.
+fn tell_endless(
+    alloc: Global,
+    page: &mut Page,
+    file: &str,
+    text: &[u8],
+    name: &str,
+    span: Span,
+) -> Result<(), Memory> {
+    let mut words = Words::new(alloc);
+    words.put_with(
+        "`{}` calls itself on each way through it: no call of it comes to an end",
+        &[name],
+    );
+    let said = words.finish()?;
+    tell_note(page, file, text, span, said.as_str())
+}
+
+// Tells of the first transactions that always call themselves, so many at most, and of how many.
+fn tell_all_endless(
+    alloc: Global,
+    page: &mut Page,
+    file: &str,
+    text: &[u8],
+    table: &Table,
+    most: usize,
+) -> Result<usize, Memory> {
+    let mut told: usize = 0;
+    for body in table.bodies() {
+        if told >= most {
+            return Ok(told);
+        }
+        if let Some(span) = endless_call(body) {
+            tell_endless(alloc, page, file, text, name_of(table, body), span)?;
+            told = told.saturating_add(1);
+        }
+    }
+    Ok(told)
+}
+
+// Tells where assets are let go, of so many places at most.
+fn tell_lettings(
+    alloc: Global,
+    page: &mut Page,
+    file: &str,
+    text: &[u8],
+    table: &Table,
+    seen: &Seen,
+    most: usize,
+) -> Result<(), Memory> {
+    for at in seen.trace.lettings.iter().take(most) {
+        let mut words = Words::new(alloc);
+        say_letting(&mut words, text, table, *at);
+        let said = words.finish()?;
+        tell_note(page, file, text, at.span, said.as_str())?;
+    }
+    Ok(())
+}
+
+// Tells all of a text with this class table.
+fn tell_all(
+    alloc: Global,
+    page: &mut Page,
+    file: &str,
+    text: &[u8],
+    table: &Table,
+    seen: &Seen,
+) -> Result<(), Memory> {
+    let nothing = tell_nothing_made(alloc, page, file, text, table)?;
+    let most = MOST_NOTES.saturating_sub(nothing);
+    let endless = tell_all_endless(alloc, page, file, text, table, most)?;
+    let rest = most.saturating_sub(endless);
+    tell_lettings(alloc, page, file, text, table, seen, rest)
+}
+
+/// Tells what is noted of an accepted text.
+pub fn tell_notes(
+    alloc: Global,
+    page: &mut Page,
+    file: &str,
+    text: &[u8],
+    seen: &Seen,
+) -> Result<(), Memory> {
+    let Some(table) = &seen.table else {
+        return Ok(());
+    };
+    if seen.trace.lacks {
+        return Err(Memory);
+    }
+    tell_all(alloc, page, file, text, table, seen)
+}

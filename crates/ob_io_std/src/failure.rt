@@ -1,0 +1,42 @@
+//! What the system answered where a call failed. No clause speaks of it: a person is told of the fault by it.
+use std::io;
+
+/// What was asked of the system.
+#[derive(Clone, Copy, PartialEq, Eq)]
+pub enum SystemCall {
+    /// Memory, to note the name of a disk.
+    Note,
+    /// To open a file, or to make it.
+    Open,
+    /// Which kind of file it is; only a regular one is taken.
+    Kind,
+    /// To lock a file.
+    Lock,
+    /// To bring the names in a file's folder to the disk.
+    Folder,
+    /// How long a file is.
+    Length,
+    /// To read.
+    Read,
+    /// To write.
+    Write,
+    /// To bring what was written to the disk.
+    Sync,
+}
+
+/// A call that failed.
+#[derive(Clone, Copy)]
+pub struct Failure {
+    /// What was asked.
+    pub call: SystemCall,
+    /// What was answered.
+    pub error: io::Error,
+}
+
+/// What a call came to, with what was asked where it failed.
+pub fn asked<T>(call: SystemCall, told: io::Result<T>) -> Result<T, Failure> {
+    match told {
+        Ok(value) => Ok(value),
+        Err(error) => Err(Failure { call, error }),
+    }
+}

@@ -1,0 +1,5 @@
+pub mod Lexing
+pub mod Testing
+pub mod Sampled
+pub mod Answered
+pub mod Stored
