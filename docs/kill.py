@@ -25,7 +25,6 @@ import time
 
 TOP = os.path.dirname(os.path.dirname(os.path.abspath(__file__)))
 MONEY = os.path.join(TOP, "crates", "ob_conformance", "data", "money.obs")
-MINT = "main contract Mint { transaction mint(int amount) returns Money@Owned { return new Money(amount); } }\n"
 # How much money there is.
 MINTED = 1_000_000_000
 # The most that is split off by one line.
@@ -182,10 +181,8 @@ def main():
     parser.add_argument("--program", default=os.path.join(TOP, "obsidian"))
     given = parser.parse_args()
     with tempfile.TemporaryDirectory() as folder:
-        text, store = os.path.join(folder, "mint.obs"), os.path.join(folder, "store")
-        with open(MONEY, encoding="utf-8") as money, open(text, "w", encoding="utf-8") as file:
-            file.write(money.read() + MINT)
-        trial = Trial(os.path.abspath(given.program), text, store, random.Random(given.seed))
+        store = os.path.join(folder, "store")
+        trial = Trial(os.path.abspath(given.program), MONEY, store, random.Random(given.seed))
         begun = time.monotonic()
         trial.ask([request(0, "new", contract="Mint", into="mint"),
                    request(1, "call", on="mint", tx="mint", args=[MINTED], into="purse")])
