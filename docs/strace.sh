@@ -10,7 +10,7 @@
 # - a second run on that STORE ends with 5, and has read and written nothing;
 # - a call that a signal interrupts is made again, and of a short write the rest is written;
 # - where a sync or a write fails, or the file ends before what is read, the run ends with 5, with no further call and no reply;
-# - standard error tells how the store was opened, and which call failed, and how.
+# - standard error tells how the store was opened, and which call failed, how, and what to do.
 #
 # Then it leaves out each of the calls that it saw, one at a time, and wants to be able to tell. Where strace isn't there or may trace nothing,
 # it says so and ends with 0. It tells each thing that isn't so, and ends with status 1 then.
@@ -98,6 +98,13 @@ want_told() {
     fi
 }
 
+# Tells where standard error hasn't these words of what to do.
+want_help() {
+    if ! tr -s ' \n' ' ' <error | grep -qF -- "help: $2"; then
+        tell_wrong "$1" "help: $2" "$(cat error)"
+    fi
+}
+
 tell_wrong() {
     printf 'strace.sh: %s\n  wanted: %s\n  came:   %s\n' "$1" "$2" "$3"
     failed=1
@@ -135,6 +142,7 @@ read -r _ <&"${first[0]}"
 serve new <lines
 want 'a second run' 5 'open lock!' 0
 want_told 'a second run' new "it couldn't be locked"
+want_help 'a second run' 'another process has it: a run that serves it, or `flock`. Let that one end; two never serve one store.'
 exec {first[1]}>&-
 wait
 
@@ -147,15 +155,31 @@ if [ "$rest at $next" != "$((length - 1)) at $((offset + 1))" ]; then
     tell_wrong 'the rest of a short write' "$((length - 1)) bytes at $((offset + 1))" "$rest at $next"
 fi
 broken='Input/output error (os error 5)'
+forgets='Then let the system forget what it keeps of the file in memory, before the next run'
+want_fault 'no right' openat:error=EACCES:when=1 '' 0 "it couldn't be opened: Permission denied (os error 13)"
+want_help 'no right' 'see whose run this is, and which rights it has'
+want_fault 'a file system that is read only' openat:error=EROFS:when=1 '' 0 "it couldn't be opened: Read-only file system (os error 30)"
+want_help 'a file system that is read only' 'its file system can only be read: mount it so that it can be written'
+want_fault 'a name that is too long' openat:error=ENAMETOOLONG:when=1 '' 0 "it couldn't be opened: File name too long (os error 36)"
+want_help 'a name that is too long' 'see how the name is written.'
 want_fault 'a folder that is not synced' fsync:error=EIO:when=1 'open lock folder!' 0 "its folder couldn't be synced: $broken"
 want_fault 'the first sync of a line' fsync:error=EIO:when=6 "$begun write sync!" 0 "it couldn't be synced: $broken"
+want_help 'the first sync of a line' "look into the log of the system, as by \`dmesg\`: the disk may be broken. $forgets"
 want_fault 'the second sync of a line' fsync:error=EIO:when=9 "$begun $stored reply write sync write sync!" 2 "it couldn't be synced: $broken"
 want_fault 'a write without room' pwrite64:error=ENOSPC:when=5 "$begun write sync write!" 0 \
     "it couldn't be written: No space left on device (os error 28)"
+want_help 'a write without room' "the disk is full: make room on its file system. $forgets"
+want_fault 'a write past the quota' pwrite64:error=EDQUOT:when=5 "$begun write sync write!" 0 \
+    "it couldn't be written: Disk quota exceeded (os error 122)"
+want_help 'a write past the quota' "the user of this run may keep no more there: make room, or raise the quota. $forgets"
+want_fault 'a write past the limit of files' pwrite64:error=EFBIG:when=5 "$begun write sync write!" 0 \
+    "it couldn't be written: File too large (os error 27)"
+want_help 'a write past the limit of files' 'the file may not grow so far: raise the limit of the run'
 want_fault 'a write of nothing' pwrite64:retval=0:when=5 "$begun write sync write" 0 "it couldn't be written: failed to write whole buffer"
 serve new -e inject=pread64:retval=0:when=1 <lines
 want 'a read that ends early' 5 "$taken read" 0
 want_told 'a read that ends early' new "it couldn't be read: failed to fill whole buffer"
+want_help 'a read that ends early' "the file became shorter while it was served: find out which process did that. $forgets"
 
 [ "$failed" -eq 0 ] && echo 'strace.sh: the calls are as they should be'
 exit "$failed"
