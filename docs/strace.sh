@@ -10,6 +10,7 @@
 # - a second run on that STORE ends with 5, and has read and written nothing;
 # - a call that a signal interrupts is made again, and of a short write the rest is written;
 # - where a sync or a write fails, or the file ends before what is read, the run ends with 5, with no further call and no reply;
+# - a file that is refused is looked at once more behind the line that refuses it, and not written;
 # - standard error tells how the store was opened, and which call failed, how, and what to do.
 #
 # Then it leaves out each of the calls that it saw, one at a time, and wants to be able to tell. Where strace isn't there or may trace nothing,
@@ -180,6 +181,14 @@ serve new -e inject=pread64:retval=0:when=1 <lines
 want 'a read that ends early' 5 "$taken read" 0
 want_told 'a read that ends early' new "it couldn't be read: failed to fill whole buffer"
 want_help 'a read that ends early' "the file became shorter while it was served: find out which process did that. $forgets"
+
+mkdir refused
+echo 'no store' >refused/store
+cp refused/store no_store
+serve refused <lines
+if [ "$status $calls" != "6 $taken read reply read" ] || ! cmp -s refused/store no_store; then
+    tell_wrong 'a file that is no store' "6 $taken read reply read" "$status $calls"
+fi
 
 [ "$failed" -eq 0 ] && echo 'strace.sh: the calls are as they should be'
 exit "$failed"
