@@ -1,5 +1,5 @@
 -- The ends of runs that don't go wrong.
-use Rattle.std.proofs.Common.{◌≡◌, ◌≤◌, ℕ, zero, suc, List, [], ◌∷◌, Bool, true, false, Option, Some, None, refl, sym, subst, ◌∙◌, arith}
+use Rattle.std.proofs.Common.{◌≡◌, ◌≤◌, ℕ, zero, suc, List, [], ◌∷◌, length, Bool, true, false, Option, Some, None, refl, sym, subst, ◌∙◌, arith}
 use Rattle.std.specs.Prelude.{option_map, is_some, IsTrue, if◌then◌else◌}
 use Rattle.ob_base.specs.declared.id.ContractId.{ContractId}
 use Rattle.ob_table.specs.declared.contract.ResolvedType.{ResolvedType}
@@ -8,7 +8,7 @@ use Rattle.ob_perm.specs.Permissions.{is_shared}
 use Rattle.ob_perm.specs.Masks.{permission_of}
 use Rattle.ob_heap_spec.specs.Values.{Value, int_value, bool_value, text_value, reference}
 use Rattle.ob_heap_spec.specs.Objects as plain
-use Rattle.ob_heap_spec.specs.Worlds.{World, first_world, Spent, spent}
+use Rattle.ob_heap_spec.specs.Worlds.{World, first_world, Spent, spent, ReadSame}
 use Rattle.ob_heap_spec.specs.Marks.{comes_into, mark_shared, lock}
 use Rattle.ob_heap.specs.declared.object.Object.{Object}
 use Rattle.ob_heap.specs.declared.value.Value as told
@@ -28,15 +28,17 @@ use Rattle.ob_machine_laws.specs.Laws.{IsSoundRun, SameStop, SameEnd}
 use Rattle.ob_machine_laws.proofs.Ending.{slices_end}
 use Rattle.ob_machine_laws.proofs.Fuel.{shared_fuel}
 use Rattle.ob_machine_laws.proofs.Slicing.{none_paused, over_paused, paused_same}
-use Rattle.ob_machine.specs.Phases.{phase_of}
-use Rattle.ob_machine.specs.Shown.{cause_of, world_of}
+use Rattle.ob_machine_parts.specs.Shown.{reads_of}
+use Rattle.ob_machine.specs.Phases.{phase_of, phase_at}
+use Rattle.ob_machine.specs.Shown.{cause_of, world_of, shown}
 use Rattle.ob_machine.specs.Slicing.{StopsSo, stop_told}
+use Rattle.ob_machine.specs.declared.entry.Entry.{Entry}
 use Rattle.ob_machine.specs.declared.machine.Machine.{Machine}
 use Rattle.ob_machine.specs.declared.progress.Cause.{Cause}
 use Rattle.ob_machine.specs.declared.progress.Progress.{Progress}
 use Rattle.ob_machine.specs.declared.progress.Progress.TheVariants.{Finished, Aborted, Going}
 use Rattle.ob_machine.proofs.AlikeLemmas.{whole_over}
-use Rattle.ob_exec.specs.Ending.{IsRight, EndsSo}
+use Rattle.ob_exec.specs.Ending.{IsRight, EndsSo, HasSpent}
 
 -- A run that doesn't go wrong always has a next step.
 
@@ -153,3 +155,39 @@ ends_so image p units m base o (Aborted cause) ahead h s =
     let e : EndsAs image p (aborted (cause_of cause) (spent (world_of m.run base o))) =
     ends_as image p units (aborted (cause_of cause) (spent (world_of m.run base o))) s.stop ahead s.by s.same in
     subst (λ x. EndsSo x (Aborted cause) base o) (sym e.is) (aborted_so e.end cause (spent (world_of m.run base o)) base o e.same)
+
+-- The units that it has taken and what it has read are those of the run.
+
+-- the units of a machine
+pub units_taken : (m : Machine) (base : List Object) (o : Changes) → (world_of_phase (phase_of m base o)).taken ≡ (world_of m.run base o).taken
+units_taken m base o = by m.entry
+  where
+    by : (e : Option Entry) → (world_of_phase (phase_at e (shown m.run base o))).taken ≡ (world_of m.run base o).taken
+    by None = refl
+    by (Some e) = refl
+
+finished_spent : (x : End) (given : Option told.Value) (w : World) (o : Changes) → w.made ≡ length o.made → w.reads ≡ reads_of o
+    → SameEnd x (ended (option_map value_of given) w) → HasSpent (outcome_of x) w.taken o
+finished_spent (ended result u) given w o made reads same =
+    (sym same.1.taken, sym same.1.made ∙ made, subst (ReadSame u.reads) reads same.1.reads)
+finished_spent (aborted cause s) given w o made reads same = absurd same
+
+aborted_spent : (x : End) (cause : Cause) (s : Spent) (o : Changes) → s.reads ≡ reads_of o → SameEnd x (aborted (cause_of cause) s)
+    → HasSpent (outcome_of x) s.taken o
+aborted_spent (ended result u) cause s o reads same = absurd same
+aborted_spent (aborted other t) cause s o reads same = (sym same.1.taken, subst (ReadSame t.reads) reads same.1.reads)
+
+pub has_spent : (image : Image) (p : Phase) (units : ℕ) (m : Machine) (base : List Object) (o : Changes) (progress : Progress) (taken : ℕ) → LeadsAhead image
+    → (world_of_phase p).fuel ≤ units → StopsSo image units p (stop_told m base o progress) → taken ≡ (world_of_phase (phase_of m base o)).taken
+    → HasSpent (outcome image p) taken o
+has_spent image p units m base o Going taken ahead h s t = absurd (whole_over image units p (phase_of m base o) h s)
+has_spent image p units m base o (Finished given) taken ahead h s t =
+    let e : EndsAs image p (ended (option_map value_of given) (world_of m.run base o)) =
+    ends_as image p units (ended (option_map value_of given) (world_of m.run base o)) s.stop ahead s.by s.same in
+    subst (λ n. HasSpent (outcome image p) n o) (sym (t ∙ units_taken m base o))
+    (subst (λ x. HasSpent x (world_of m.run base o).taken o) (sym e.is) (finished_spent e.end given (world_of m.run base o) o refl refl e.same))
+has_spent image p units m base o (Aborted cause) taken ahead h s t =
+    let e : EndsAs image p (aborted (cause_of cause) (spent (world_of m.run base o))) =
+    ends_as image p units (aborted (cause_of cause) (spent (world_of m.run base o))) s.stop ahead s.by s.same in
+    subst (λ n. HasSpent (outcome image p) n o) (sym (t ∙ units_taken m base o))
+    (subst (λ x. HasSpent x (world_of m.run base o).taken o) (sym e.is) (aborted_spent e.end cause (spent (world_of m.run base o)) o refl e.same))

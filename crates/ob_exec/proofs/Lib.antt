@@ -5,3 +5,5 @@ pub mod StartLemmas
 pub mod ComingLemmas
 pub mod RunLemmas
 pub mod UseLemmas
+pub mod ReadingLemmas
+pub mod SpendingLemmas

@@ -73,12 +73,12 @@ comes_of_end image content fuel who into entered i number k h =
 
 -- The entry test.
 
-same_first : (image : Image) (content : Content) (who : List ℕ) (into : Option (List ℕ)) (entered : Entered) (i : Invocation) (fuel : ℕ)
+pub same_first : (image : Image) (content : Content) (who : List ℕ) (into : Option (List ℕ)) (entered : Entered) (i : Invocation) (fuel : ℕ)
     → (k : ComesBy (entering image content fuel) content who into entered i)
     → first_outside_use (table_of_image image) content k.entry ≡ find (is_outside_use (table_of_image image) content.objects) (map (use_of who) entered.uses)
 same_first image content who into entered i fuel k = ap (find (is_outside_use (table_of_image image) content.objects)) (sym k.stands.uses)
 
-none_found : (f : HandleUse → AbortCause) (found : Option HandleUse) → option_map cause_of None ≡ option_map f found → found ≡ None
+pub none_found : (f : HandleUse → AbortCause) (found : Option HandleUse) → option_map cause_of None ≡ option_map f found → found ≡ None
 none_found f None h = refl
 none_found f (Some u) h = absurd (none_some h)
 

@@ -1,5 +1,5 @@
 -- The handles of the uses of what is entered stand under their names.
-use Rattle.std.proofs.Common.{◌≡◌, ℕ, ◌<◌, List, [], ◌∷◌, length, map, get_or, Option, Some, None, refl, sym, subst}
+use Rattle.std.proofs.Common.{◌≡◌, ℕ, ◌<◌, List, [], ◌∷◌, length, map, get_or, Option, Some, None, refl, sym, ap, subst}
 use Rattle.std.specs.Prelude.{not, zip, filter_map, option_to_list, IfSome}
 use Rattle.std.specs.List.{AllByRecursion, cons_option}
 use Rattle.std.proofs.lemmas.List.{get_or-map, length-map}
@@ -76,7 +76,7 @@ entry_stands content e h =
 
 -- a `new` has no receiver
 
-abbrev made : List ℕ → NewRequest → ContractId → Signature → Entry
+abbrev pub made : List ℕ → NewRequest → ContractId → Signature → Entry
 made who r contract s = record {
   who = who;
   contract = contract;
@@ -95,9 +95,17 @@ new_stands table content who r e is =
     let s = bind_some (constructor_at table contract.0) (λ s. Some (made who r contract.0 s)) e contract.2 in
     entry_stands content e (subst (λ (x : Entry). IfSome x.receiver (Stands content)) (some_same s.2) tt)
 
+-- it is the client's, with its name for the handle on what is made
+pub new_of : (table : ClassTable) (who : List ℕ) (r : NewRequest) (e : Entry) → entry_of_new table who r ≡ Some e → (e.who ≡ who) × (e.into ≡ r.into)
+new_of table who r e is =
+    let contract = bind_some (contract_named table.contracts r.contract) (λ (id : ContractId). constructor_at table id >>= λ s. Some (made who r id s)) e is in
+    let s = bind_some (constructor_at table contract.0) (λ s. Some (made who r contract.0 s)) e contract.2 in
+    let same : made who r contract.0 s.0 ≡ e = some_same s.2 in
+    (sym (ap (λ (x : Entry). x.who) same), sym (ap (λ (x : Entry). x.into) same))
+
 -- the receiver of a `call` is found by its name
 
-abbrev called : List ℕ → CallRequest → Handle → Object → TxId → Signature → Entry
+abbrev pub called : List ℕ → CallRequest → Handle → Object → TxId → Signature → Entry
 called who r h o tx s = record {
   who = who;
   contract = o.contract;
@@ -109,19 +117,19 @@ called who r h o tx s = record {
   into = r.into;
 }
 
-abbrev by_signature : List ℕ → CallRequest → Handle → Object → TxId → Signature → Option Entry
+abbrev pub by_signature : List ℕ → CallRequest → Handle → Object → TxId → Signature → Option Entry
 by_signature who r h o tx s = where_true (not s.private) (called who r h o tx s)
 
-abbrev by_transaction : List ℕ → CallRequest → Handle → Object → Contract → TxId → Option Entry
+abbrev pub by_transaction : List ℕ → CallRequest → Handle → Object → Contract → TxId → Option Entry
 by_transaction who r h o own tx = signature_at own tx >>= by_signature who r h o tx
 
-abbrev by_contract : List ℕ → CallRequest → Handle → Object → Contract → Option Entry
+abbrev pub by_contract : List ℕ → CallRequest → Handle → Object → Contract → Option Entry
 by_contract who r h o own = transaction_named own r.tx >>= by_transaction who r h o own
 
-abbrev by_object : ClassTable → List ℕ → CallRequest → Handle → Object → Option Entry
+abbrev pub by_object : ClassTable → List ℕ → CallRequest → Handle → Object → Option Entry
 by_object table who r h o = contract_at table o.contract >>= by_contract who r h o
 
-abbrev by_handle : ClassTable → Content → List ℕ → CallRequest → Handle → Option Entry
+abbrev pub by_handle : ClassTable → Content → List ℕ → CallRequest → Handle → Option Entry
 by_handle table content who r h = object_at content.objects h.object >>= by_object table who r h
 
 pub call_stands : (table : ClassTable) (content : Content) (who : List ℕ) (r : CallRequest) (e : Entry) → entry_of_call table content who r ≡ Some e
@@ -134,6 +142,17 @@ call_stands table content who r e is =
     let s = bind_some (signature_at own.0 tx.0) (by_signature who r h.0 o.0 tx.0) e tx.2 in
     let same = where_some (not s.0.private) (called who r h.0 o.0 tx.0 s.0) e s.2 in
     entry_stands content e (subst (λ (x : Entry). IfSome x.receiver (Stands content)) same.1 h.1)
+
+pub call_of : (table : ClassTable) (content : Content) (who : List ℕ) (r : CallRequest) (e : Entry) → entry_of_call table content who r ≡ Some e
+    → (e.who ≡ who) × (e.into ≡ r.into)
+call_of table content who r e is =
+    let h = bind_some (handle_at content (handle_name who r.on)) (by_handle table content who r) e is in
+    let o = bind_some (object_at content.objects h.0.object) (by_object table who r h.0) e h.2 in
+    let own = bind_some (contract_at table o.0.contract) (by_contract who r h.0 o.0) e o.2 in
+    let tx = bind_some (transaction_named own.0 r.tx) (by_transaction who r h.0 o.0 own.0) e own.2 in
+    let s = bind_some (signature_at own.0 tx.0) (by_signature who r h.0 o.0 tx.0) e tx.2 in
+    let same = where_some (not s.0.private) (called who r h.0 o.0 tx.0 s.0) e s.2 in
+    (sym (ap (λ (x : Entry). x.who) same.1), sym (ap (λ (x : Entry). x.into) same.1))
 
 -- The same of the uses as the code keeps them, place by place.
 pub stands_at : {A : Type 0} (content : Content) (f : A → HandleUse) (xs : List A) (i : ℕ) (x : A) → AllStand content (map f xs) → i < length xs

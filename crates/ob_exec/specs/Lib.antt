@@ -1,4 +1,5 @@
 pub mod Putting
 pub mod Bodies
 pub mod Ending
+pub mod Reading
 pub mod Standing

@@ -1,8 +1,9 @@
 -- For what the thing stands that a request enters, as the code keeps it (this project's own).
-use Rattle.std.specs.Prelude.{◌≡◌, ℕ, List, map, Option}
+use Rattle.std.specs.Prelude.{◌≡◌, ℕ, List, map, Contains, Option}
+use Rattle.std.specs.List.{AllByRecursion}
 use Rattle.ob_heap_spec.specs.Contents.{Content}
-use Rattle.ob_heap_spec.specs.Worlds.{ReadItem}
-use Rattle.ob_invocation_spec.specs.Entries.{Entry, handle_uses}
+use Rattle.ob_heap_spec.specs.Worlds.{ReadItem, object_item}
+use Rattle.ob_invocation_spec.specs.Entries.{HandleUse, Entry, handle_uses}
 use Rattle.ob_invocation_spec.specs.Entering.{run_entry}
 use Rattle.ob_invocation_spec.specs.Invocation.{ended, enter_entry}
 use Rattle.ob_invocation_spec.specs.Replies.{Invocation}
@@ -39,3 +40,16 @@ pub record ComesBy (way : Way) (content : Content) (who : List ℕ) (into : Opti
   pub reads : List ReadItem
   pub stands : StandsFor content who into entered entry
   pub is : i ≡ way reads entry
+
+-- the object of each use was read
+abbrev pub AreUsesRead : List ReadItem → List HandleUse → Type 0
+AreUsesRead reads uses = AllByRecursion (λ (u : HandleUse). Contains reads (object_item u.handle.object)) uses
+
+-- The same of an invocation before which just these items were read, the object of each use among them.
+pub record ComesAfter (way : Way) (content : Content) (who : List ℕ) (into : Option (List ℕ)) (entered : Entered) (items : List ReadItem) (i : Invocation) : Type 0 where
+  pub entry : Entry
+  pub reads : List ReadItem
+  pub stands : StandsFor content who into entered entry
+  pub is : i ≡ way reads entry
+  pub told : items ≡ reads
+  pub uses : AreUsesRead reads (handle_uses content entry)

@@ -4,8 +4,12 @@
 mod answering;
 mod ending;
 mod entering;
+mod invoked;
 mod outside;
 mod puts;
+mod reading;
 mod running;
+mod spending;
+mod still;
 
 pub use answering::answer;

@@ -7,7 +7,7 @@ ghost use Rattle.ob_machine_steps.specs.Images.{constructor_of};
 ghost use Rattle.ob_machine_steps.specs.Meanings.{outcome};
 ghost use Rattle.ob_machine.specs.Phases.{entry_of};
 ghost use Rattle.ob_machine_parts.specs.Shown.{number_of};
-ghost use Rattle.ob_exec.specs.Ending.{IsRight, EndsSo};
+ghost use Rattle.ob_exec.specs.Ending.{IsRight, EndsSo, HasSpent};
 ghost use Rattle.ob_exec.specs.Bodies.{body_number};
 
 use ob_base::{ContractId, Memory, ObjectId, TxId};
@@ -16,6 +16,15 @@ use ob_heap::{Content, Overlay};
 use ob_machine::{Entry, Machine, Progress};
 use ob_verify::Verified;
 use std::alloc::Global;
+
+/// How a run ends.
+#[derive(Drop)]
+pub struct RunEnd {
+    /// How far it has come.
+    pub progress: Progress,
+    /// How many units it has taken.
+    pub taken: u32,
+}
 
 // The number of a contract's constructor. There are always fewer than 2^32 bodies, of which memory has so many.
 fn constructor_of(code: &Image, contract: ContractId) -> Result<Option<TxId>, Memory>
@@ -58,12 +67,15 @@ pub fn run_to_end(
     overlay: &mut Overlay,
     entry: Entry,
     fuel: u32,
-) -> Result<Progress, Memory>
+) -> Result<RunEnd, Memory>
     requires fresh { overlay.old ≡ no_changes }
     requires right { IsRight (outcome code.now (started code.now (entry_of entry) (map object_of content.now.objects) fuel)) }
-    ensures { IfOk result (λ progress. EndsSo (outcome code.now (started code.now (entry_of entry) (map object_of content.now.objects) fuel)) progress content.now.objects overlay.new) }
+    ensures ended { IfOk result (λ end. EndsSo (outcome code.now (started code.now (entry_of entry) (map object_of content.now.objects) fuel)) end.progress content.now.objects overlay.new) }
+    ensures spent { IfOk result (λ end. HasSpent (outcome code.now (started code.now (entry_of entry) (map object_of content.now.objects) fuel)) end.taken overlay.new) }
 {
     let _image = code.image();
     let mut machine = Machine::enter(alloc, code, content, overlay, entry, fuel)?;
-    machine.run_slice(code, content, overlay, fuel)
+    let progress = machine.run_slice(code, content, overlay, fuel)?;
+    let taken = machine.used();
+    Ok(RunEnd { progress, taken })
 }

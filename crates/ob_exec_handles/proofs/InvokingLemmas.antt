@@ -64,7 +64,7 @@ plain_at n (h ∷ hs) =
     by true e = refl
     by false e = e
 
-found_at : (base : Stored) (n : HandleName) (r : Option Handle) → handle_at n base.handles ≡ r → asked.handle_at (content_of base) n ≡ option_map handle_of r
+pub found_at : (base : Stored) (n : HandleName) (r : Option Handle) → handle_at n base.handles ≡ r → asked.handle_at (content_of base) n ≡ option_map handle_of r
 found_at base n r at = plain_at n base.handles ∙ ap (option_map handle_of) at
 
 -- what a request comes to that needs a handle, by whether it is there

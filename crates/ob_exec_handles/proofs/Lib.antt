@@ -5,3 +5,4 @@ pub mod DeltaLemmas
 pub mod ChangingLemmas
 pub mod InvokingLemmas
 pub mod ShowingLemmas
+pub mod SpendingLemmas

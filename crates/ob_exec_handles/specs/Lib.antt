@@ -3,3 +3,4 @@ pub mod Parts
 pub mod Marking
 pub mod Putting
 pub mod Giving
+pub mod Spending

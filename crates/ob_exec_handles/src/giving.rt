@@ -55,8 +55,14 @@ fn are_handles_full(base: &Content) -> bool
     base.count_handles() >= MOST_HANDLES
 }
 
-// Why a handle that is there isn't given, if it isn't.
-fn refusal(base: &Content, handle: Handle, to: &Label, into: &Label, mode: Mode) -> Option<Refusal>
+/// Why a handle that is there isn't given, if it isn't.
+pub fn refusal(
+    base: &Content,
+    handle: Handle,
+    to: &Label,
+    into: &Label,
+    mode: Mode,
+) -> Option<Refusal>
     ensures { (on : List ℕ) → result ≡ option_map refusal_told (refusal_of (left_checks (content_of base.now) (handle_of handle) (record { on = on; to = to.now; into = into.now; mode = mode }))) }
 {
     if !serves(handle.mode, mode) {

@@ -10,6 +10,8 @@ mod marking;
 mod owning;
 mod putting;
 mod seeing;
+mod spending;
+mod spent;
 mod states;
 
 pub use answered::{Answered, refused, unchanged};
@@ -18,4 +20,6 @@ pub use disowning::disown;
 pub use giving::give;
 pub use owning::owner;
 pub use seeing::see;
+pub use spending::{spent_on_disown, spent_on_give, spent_on_owner, spent_on_see};
+pub use spent::{ReadItem, Spent, read_handle, read_item, read_new_name};
 pub use states::state_told;

@@ -1,5 +1,6 @@
 pub mod FieldsLemmas
 pub mod OverlaysLemmas
+pub mod UnreadLemmas
 pub mod SameLemmas
 pub mod DifferencesLemmas
 pub mod PlainLemmas

@@ -1,6 +1,6 @@
 -- What a run has changed of the objects of a store, and what it has read (this project's own).
 use Rattle.std.specs.List.{list_any}
-use Rattle.std.specs.Prelude.{◌≡◌, ℕ, suc, Bool, false, nat_eq, nat_lt, length, map, slice_get, List, [], ◌∷◌, ◌++◌, Option, Some, None, if◌then◌else◌}
+use Rattle.std.specs.Prelude.{◌≡◌, ◌≢◌, ◌<◌, ◌≤◌, ◌⊎◌, ℕ, suc, ◌+◌, Bool, true, false, nat_eq, nat_lt, length, map, slice_get, List, [], ◌∷◌, ◌++◌, Option, Some, None, if◌then◌else◌}
 use Rattle.std.specs.Option.{unwrap_or}
 use Rattle.ob_heap.specs.declared.object.Object.{Object}
 use Rattle.ob_heap.specs.declared.edit.Edit.{Edit}
@@ -54,6 +54,34 @@ with_number n ns = if list_any (nat_eq n) ns then ns else ns ++ n ∷ []
 -- an object of a base of so many objects is read; one that the run has made counts for nothing
 abbrev pub noted : ℕ → ℕ → Changes → Changes
 noted count n c = if nat_lt n count then record c { reads = with_number n c.reads } else c
+
+-- The entries of all numbers but one are as they were, over a base of so many objects: of the base what was changed is changed to
+-- the same, and what wasn't isn't; those that were made are the same.
+pub record KeepsOthers (count n : ℕ) (old new : Changes) : Type 0 where
+  pub changed : (m : ℕ) → (m ≢ n) ⊎ (count ≤ m) → changed_at m new.changed ≡ changed_at m old.changed
+  pub made : (m : ℕ) → count + m ≢ n → slice_get new.made m ≡ slice_get old.made m
+
+-- whether the object of a number was read
+abbrev pub is_read : ℕ → Changes → Bool
+is_read n c = list_any (nat_eq n) c.reads
+
+-- What was read stays read, and the entry of each object of the base that isn't read in the end is as it was, but for the objects that
+-- are exempt.
+pub record KeepsUnread (exempt : ℕ → Type 0) (old new : Changes) : Type 0 where
+  pub reads : (m : ℕ) → is_read m old ≡ true → is_read m new ≡ true
+  pub entries : (m : ℕ) → (exempt m → ⊥) → is_read m new ≡ false → changed_at m new.changed ≡ changed_at m old.changed
+
+-- no object is exempt
+abbrev pub no_object : ℕ → Type 0
+no_object n = ⊥
+
+-- this object alone is exempt, if it is of a base of so many objects
+abbrev pub only : ℕ → ℕ → ℕ → Type 0
+only count n m = (m ≡ n) × (m < count)
+
+-- each object of the base that was changed was read
+abbrev pub AreChangesRead : Changes → Type 0
+AreChangesRead c = (n : ℕ) → is_read n c ≡ false → changed_at n c.changed ≡ None
 
 -- as many objects were made, and the same was read
 pub record IsSameBeside (old new : Changes) : Type 0 where

@@ -25,7 +25,7 @@ pub use edit::Edit;
 pub use fields::Fields;
 pub use laws::{
     handles_are_changed, plain_fields_follow, plain_handles_follow, plain_objects_follow,
-    same_objects_are_equal,
+    same_objects_are_equal, unread_entries_stay,
 };
 pub use object::{Handle, Object};
 pub use ordered::add_handle;

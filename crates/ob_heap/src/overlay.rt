@@ -6,7 +6,7 @@ ghost use Rattle.ob_heap.specs.declared.object.Object.{Object};
 ghost use Rattle.ob_heap.specs.Ascending.{IsAscending};
 ghost use Rattle.ob_heap.specs.Differences.{differing, numbered_from, with_objects};
 ghost use Rattle.ob_heap.specs.Edits.{IsEdited};
-ghost use Rattle.ob_heap.specs.Overlays.{no_changes, laid_over, noted, IsSameBeside};
+ghost use Rattle.ob_heap.specs.Overlays.{no_changes, laid_over, noted, IsSameBeside, KeepsOthers};
 
 use crate::changed::Changed;
 use crate::content::Content;
@@ -137,6 +137,7 @@ impl Overlay {
         requires { id.0 < length (laid_over base.now.objects self.old) }
         ensures objects { OnOk result (IsEdited id.0 edit (laid_over base.now.objects self.old) (laid_over base.now.objects self.new)) }
         ensures same { OnOk result (IsSameBeside self.old self.new) }
+        ensures others { OnOk result (KeepsOthers (length base.now.objects) id.0 self.old self.new) }
     {
         let objects = base.objects();
         let number = id.0 as usize;

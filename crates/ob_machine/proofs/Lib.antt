@@ -7,4 +7,5 @@ pub mod CallLemmas
 pub mod SliceLemmas
 pub mod AlikeLemmas
 pub mod StretchLemmas
+pub mod UnreadLemmas
 pub mod MarkingLemmas

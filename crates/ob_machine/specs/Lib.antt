@@ -5,3 +5,4 @@ pub mod Calls
 pub mod Phases
 pub mod Slicing
 pub mod Stretching
+pub mod Unread

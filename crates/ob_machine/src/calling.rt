@@ -1,6 +1,6 @@
 //! Instructions that call a transaction or make an object.
-ghost use Rattle.std.specs.Prelude.{◌≡◌, ◌+◌, true, List};
-ghost use Rattle.ob_heap.specs.Overlays.{Changes};
+ghost use Rattle.std.specs.Prelude.{◌≡◌, ◌+◌, true, List, OnOk};
+ghost use Rattle.ob_heap.specs.Overlays.{Changes, KeepsUnread, no_object};
 ghost use Rattle.ob_heap.specs.declared.object.Object.{Object};
 ghost use Rattle.ob_machine_steps.specs.Calling.{call_step, self_step, new_step};
 ghost use Rattle.ob_machine_parts.specs.Arguments.{are_set};
@@ -37,7 +37,8 @@ impl Run {
     ) -> Result<Progress, Off>
         requires next { next ≡ self.old.top.at + 1 }
         requires set { are_set (slots_of self.old.top.slots) args.now ≡ true }
-        ensures { Tells result (calls_with code.now slot contract tx id.0 args.now (shown self.old base.now.objects overlay.old)) (shown self.new base.now.objects overlay.new) }
+        ensures told { Tells result (calls_with code.now slot contract tx id.0 args.now (shown self.old base.now.objects overlay.old)) (shown self.new base.now.objects overlay.new) }
+        ensures unread { OnOk result (KeepsUnread no_object overlay.old overlay.new) }
     {
         if !enter(base, overlay, &mut self.guard, id)? {
             return Ok(Progress::Aborted(Cause::Reentry(id)));
@@ -68,7 +69,8 @@ impl Run {
         next: usize,
     ) -> Result<Progress, Off>
         requires { next ≡ self.old.top.at + 1 }
-        ensures { Tells result (call_step code.now slot a contract tx args.now (shown self.old base.now.objects overlay.old)) (shown self.new base.now.objects overlay.new) }
+        ensures told { Tells result (call_step code.now slot a contract tx args.now (shown self.old base.now.objects overlay.old)) (shown self.new base.now.objects overlay.new) }
+        ensures unread { OnOk result (KeepsUnread no_object overlay.old overlay.new) }
     {
         let id = reference(&self.top.slots, a)?;
         if !are_set(&self.top.slots, args) {
@@ -132,7 +134,8 @@ impl Run {
     ) -> Result<Progress, Off>
         requires next { next ≡ self.old.top.at + 1 }
         requires set { are_set (slots_of self.old.top.slots) args.now ≡ true }
-        ensures { Tells result (makes_with code.now slot contract args.now (shown self.old base.now.objects overlay.old)) (shown self.new base.now.objects overlay.new) }
+        ensures told { Tells result (makes_with code.now slot contract args.now (shown self.old base.now.objects overlay.old)) (shown self.new base.now.objects overlay.new) }
+        ensures unread { OnOk result (KeepsUnread no_object overlay.old overlay.new) }
     {
         match make(self.alloc, base, overlay, contract)? {
             Some(id) => self.constructs(code, slot, id, contract, args, next),
@@ -151,7 +154,8 @@ impl Run {
         next: usize,
     ) -> Result<Progress, Off>
         requires { next ≡ self.old.top.at + 1 }
-        ensures { Tells result (new_step code.now slot contract args.now (shown self.old base.now.objects overlay.old)) (shown self.new base.now.objects overlay.new) }
+        ensures told { Tells result (new_step code.now slot contract args.now (shown self.old base.now.objects overlay.old)) (shown self.new base.now.objects overlay.new) }
+        ensures unread { OnOk result (KeepsUnread no_object overlay.old overlay.new) }
     {
         if !are_set(&self.top.slots, args) {
             return Err(Off::NoStep);

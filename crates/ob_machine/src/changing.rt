@@ -1,6 +1,6 @@
 //! Instructions that read or change `this`.
-ghost use Rattle.std.specs.Prelude.{◌≡◌, ◌+◌, List};
-ghost use Rattle.ob_heap.specs.Overlays.{Changes};
+ghost use Rattle.std.specs.Prelude.{◌≡◌, ◌+◌, List, length, OnOk};
+ghost use Rattle.ob_heap.specs.Overlays.{Changes, KeepsUnread, no_object, only};
 ghost use Rattle.ob_heap.specs.declared.object.Object.{Object};
 ghost use Rattle.ob_machine_steps.specs.Straight.{load_step, share_step, disown_step};
 ghost use Rattle.ob_machine_steps.specs.Changing.{store_step, change_step, is_locked_out};
@@ -45,7 +45,8 @@ impl Run {
         next: usize,
     ) -> Result<Progress, Off>
         requires { next ≡ self.old.top.at + 1 }
-        ensures { Gives result (store_step code.now field a (shown self.old base.now.objects overlay.old)) (told (shown self.new base.now.objects overlay.new)) }
+        ensures told { Gives result (store_step code.now field a (shown self.old base.now.objects overlay.old)) (told (shown self.new base.now.objects overlay.new)) }
+        ensures unread { OnOk result (KeepsUnread (only (length base.now.objects) self.old.top.this.0) overlay.old overlay.new) }
     {
         match store(
             self.alloc,
@@ -79,7 +80,8 @@ impl Run {
         next: usize,
     ) -> Result<Progress, Off>
         requires { next ≡ self.old.top.at + 1 }
-        ensures { Gives result (change_step code.now state given.now (shown self.old base.now.objects overlay.old)) (told (shown self.new base.now.objects overlay.new)) }
+        ensures told { Gives result (change_step code.now state given.now (shown self.old base.now.objects overlay.old)) (told (shown self.new base.now.objects overlay.new)) }
+        ensures unread { OnOk result (KeepsUnread (only (length base.now.objects) self.old.top.this.0) overlay.old overlay.new) }
     {
         let own = contract_at(code, self.top.contract)?;
         if !are_given(&self.top.slots, given) {
@@ -102,7 +104,8 @@ impl Run {
         next: usize,
     ) -> Result<Progress, Off>
         requires { next ≡ self.old.top.at + 1 }
-        ensures { Gives result (changed_to own.now state given.now (shown self.old base.now.objects overlay.old)) (told (shown self.new base.now.objects overlay.new)) }
+        ensures told { Gives result (changed_to own.now state given.now (shown self.old base.now.objects overlay.old)) (told (shown self.new base.now.objects overlay.new)) }
+        ensures unread { OnOk result (KeepsUnread (only (length base.now.objects) self.old.top.this.0) overlay.old overlay.new) }
     {
         let object = find(base, overlay, self.top.this)?;
         if !are_available(own, state, given) {
@@ -122,7 +125,8 @@ impl Run {
         next: usize,
     ) -> Result<Progress, Off>
         requires { next ≡ self.old.top.at + 1 }
-        ensures { Tells result (share_step a (shown self.old base.now.objects overlay.old)) (shown self.new base.now.objects overlay.new) }
+        ensures told { Tells result (share_step a (shown self.old base.now.objects overlay.old)) (shown self.new base.now.objects overlay.new) }
+        ensures unread { OnOk result (KeepsUnread no_object overlay.old overlay.new) }
     {
         let id = reference(&self.top.slots, a)?;
         let _there = find(base, overlay, id)?;
@@ -138,7 +142,8 @@ impl Run {
         next: usize,
     ) -> Result<Progress, Off>
         requires { next ≡ self.old.top.at + 1 }
-        ensures { Tells result (disown_step a (shown self.old base.now.objects overlay.old)) (shown self.new base.now.objects overlay.new) }
+        ensures told { Tells result (disown_step a (shown self.old base.now.objects overlay.old)) (shown self.new base.now.objects overlay.new) }
+        ensures unread { OnOk result (KeepsUnread no_object overlay.old overlay.new) }
     {
         let id = reference(&self.top.slots, a)?;
         let _there = find(base, overlay, id)?;

@@ -1,6 +1,6 @@
 //! The first step of a run: it enters its body.
-ghost use Rattle.std.specs.Prelude.{List, Some, map};
-ghost use Rattle.ob_heap.specs.Overlays.{Changes};
+ghost use Rattle.std.specs.Prelude.{List, Some, map, OnOk};
+ghost use Rattle.ob_heap.specs.Overlays.{Changes, KeepsUnread, no_object};
 ghost use Rattle.ob_heap.specs.Plain.{value_of};
 ghost use Rattle.ob_heap.specs.declared.object.Object.{Object};
 ghost use Rattle.ob_machine_steps.specs.Calling.{calls_object, makes_object};
@@ -64,7 +64,8 @@ impl Run {
         id: ObjectId,
         entry: &Entry,
     ) -> Result<Progress, Off>
-        ensures { Tells result (calls_object code.now nobody entry.now.contract entry.now.tx id.0 (map value_of entry.now.args) (world_of self.old base.now.objects overlay.old)) (shown self.new base.now.objects overlay.new) }
+        ensures told { Tells result (calls_object code.now nobody entry.now.contract entry.now.tx id.0 (map value_of entry.now.args) (world_of self.old base.now.objects overlay.old)) (shown self.new base.now.objects overlay.new) }
+        ensures unread { OnOk result (KeepsUnread no_object overlay.old overlay.new) }
     {
         if !enter(base, overlay, &mut self.guard, id)? {
             return Ok(Progress::Aborted(Cause::Reentry(id)));
@@ -87,7 +88,8 @@ impl Run {
         overlay: &mut Overlay,
         entry: &Entry,
     ) -> Result<Progress, Off>
-        ensures { Tells result (makes_object code.now nobody entry.now.contract (Some entry.now.tx) (map value_of entry.now.args) (world_of self.old base.now.objects overlay.old)) (shown self.new base.now.objects overlay.new) }
+        ensures told { Tells result (makes_object code.now nobody entry.now.contract (Some entry.now.tx) (map value_of entry.now.args) (world_of self.old base.now.objects overlay.old)) (shown self.new base.now.objects overlay.new) }
+        ensures unread { OnOk result (KeepsUnread no_object overlay.old overlay.new) }
     {
         match make(self.alloc, base, overlay, entry.contract)? {
             Some(id) => self.enters_body(
@@ -103,6 +105,7 @@ impl Run {
     }
 
     // Takes the unit of the entry, and enters its body.
+    #[tactic(auto, using(crate::proofs::UnreadLemmas::leaving))]
     pub fn begin(
         &mut self,
         code: &Image,
@@ -110,7 +113,8 @@ impl Run {
         overlay: &mut Overlay,
         entry: &Entry,
     ) -> Result<Progress, Off>
-        ensures { Tells result (next_step code.now (starting (entry_of entry.now) (world_of self.old base.now.objects overlay.old))) (shown self.new base.now.objects overlay.new) }
+        ensures told { Tells result (next_step code.now (starting (entry_of entry.now) (world_of self.old base.now.objects overlay.old))) (shown self.new base.now.objects overlay.new) }
+        ensures unread { OnOk result (KeepsUnread no_object overlay.old overlay.new) }
     {
         if !self.units.take() {
             return Ok(Progress::Aborted(Cause::Fuel));

@@ -1,15 +1,16 @@
 //! The machine.
-ghost use Rattle.std.specs.Prelude.{◌≡◌, [], List, Some, map, option_map, IsSome, IfOk, OnOk};
-ghost use Rattle.ob_heap.specs.Overlays.{Changes, no_changes};
+ghost use Rattle.std.specs.Prelude.{◌≡◌, [], List, Some, map, option_map, IsSome, IfSome, IfOk, OnOk};
+ghost use Rattle.ob_heap.specs.Overlays.{Changes, no_changes, KeepsUnread, no_object};
 ghost use Rattle.ob_heap.specs.Plain.{object_of};
 ghost use Rattle.ob_heap.specs.declared.object.Object.{Object};
 ghost use Rattle.ob_machine_steps.specs.Entries.{starting, marked_world, started, next_step, HasStep};
 ghost use Rattle.ob_machine_steps.specs.Runs.{world_of};
-ghost use Rattle.ob_machine_laws.specs.Laws.{SamePhase, SameNext};
+ghost use Rattle.ob_machine_laws.specs.Laws.{SamePhase, SameNext, HasToldFrames};
 ghost use Rattle.ob_machine_parts.specs.Guarding.{locked_at_entry};
 ghost use Rattle.ob_machine.specs.Phases.{phase_of, entry_of, HasBegun, world_at_start};
 ghost use Rattle.ob_machine_parts.specs.Shown.{number_of};
 ghost use Rattle.ob_machine.specs.Shown.{shown, told, Tells};
+ghost use Rattle.ob_machine.specs.Unread.{Leaves};
 
 use crate::entry::Entry;
 use crate::frame::Frame;
@@ -80,7 +81,8 @@ impl Machine {
     }
 
     /// The machine before the first step of a run from an entry, with so many units of fuel, once what comes into its body was
-    /// marked through the overlay: the receiver and the arguments that are declared Shared there.
+    /// marked through the overlay: the receiver and the arguments that are declared Shared there. Of what isn't read the entries in the
+    /// overlay stay.
     pub fn enter(
         alloc: Global,
         code: &Verified,
@@ -90,6 +92,7 @@ impl Machine {
         fuel: u32,
     ) -> Result<Machine, Memory>
         ensures marked { IfOk result (λ m. SamePhase (starting (entry_of entry) (marked_world code.now (entry_of entry) (world_at_start entry base.now.objects overlay.old fuel))) (phase_of m base.now.objects overlay.new)) }
+        ensures unread { IfOk result (λ m. KeepsUnread no_object overlay.old overlay.new × HasToldFrames (phase_of m base.now.objects overlay.new)) }
         ensures started { overlay.old ≡ no_changes → IfOk result (λ m. SamePhase (started code.now (entry_of entry) (map object_of base.now.objects) fuel) (phase_of m base.now.objects overlay.new)) }
     {
         mark(alloc, code.image(), base, overlay, &entry)?;
@@ -112,6 +115,7 @@ impl Machine {
     ) -> Result<Progress, Off>
         ensures told { Tells result (next_step code.now (phase_of self.old base.now.objects overlay.old)) (shown self.new.run base.now.objects overlay.new) }
         ensures begun { OnOk result (HasBegun self.new) }
+        ensures unread { HasToldFrames (phase_of self.old base.now.objects overlay.old) → OnOk result (KeepsUnread no_object overlay.old overlay.new) }
     {
         match &self.entry {
             Some(entry) => {
@@ -124,7 +128,7 @@ impl Machine {
     }
 
     /// Makes the next step of the run, if it has one; else the answer is `None`. The order of what was read, and how often, isn't
-    /// told.
+    /// told; of what isn't read the entries in the overlay stay.
     pub fn try_step(
         &mut self,
         code: &Verified,
@@ -133,6 +137,7 @@ impl Machine {
     ) -> Result<Option<Progress>, Memory>
         ensures step { IfOk result (λ found. SameNext (next_step code.now (phase_of self.old base.now.objects overlay.old)) (option_map (told (shown self.new.run base.now.objects overlay.new)) found)) }
         ensures begun { IfOk result (λ found. IsSome found → HasBegun self.new) }
+        ensures unread { HasToldFrames (phase_of self.old base.now.objects overlay.old) → IfOk result (λ found. IfSome found (λ progress. Leaves progress overlay.old overlay.new (phase_of self.new base.now.objects overlay.new))) }
     {
         match self.advance(code.image(), base, overlay) {
             Ok(progress) => Ok(Some(progress)),
@@ -141,7 +146,8 @@ impl Machine {
         }
     }
 
-    /// Makes the next step of the run, which must have one. The order of what was read, and how often, isn't told.
+    /// Makes the next step of the run, which must have one. The order of what was read, and how often, isn't told; of what isn't
+    /// read the entries in the overlay stay.
     pub fn step(
         &mut self,
         code: &Verified,
@@ -151,6 +157,7 @@ impl Machine {
         requires { HasStep code.now (phase_of self.old base.now.objects overlay.old) }
         ensures step { IfOk result (λ progress. SameNext (next_step code.now (phase_of self.old base.now.objects overlay.old)) (Some (told (shown self.new.run base.now.objects overlay.new) progress))) }
         ensures begun { OnOk result (HasBegun self.new) }
+        ensures unread { HasToldFrames (phase_of self.old base.now.objects overlay.old) → IfOk result (λ progress. Leaves progress overlay.old overlay.new (phase_of self.new base.now.objects overlay.new)) }
     {
         match self.try_step(code, base, overlay)? {
             Some(progress) => Ok(progress),

@@ -1,6 +1,7 @@
 //! What comes into the body of an entry is marked, where it is declared Shared there.
 ghost use Rattle.std.specs.Prelude.{◌≡◌, map, option_map, OnOk};
 ghost use Rattle.ob_base.specs.declared.id.ContractId.{ContractId as ContractNumber};
+ghost use Rattle.ob_heap.specs.Overlays.{KeepsUnread, no_object};
 ghost use Rattle.ob_heap.specs.Plain.{value_of};
 ghost use Rattle.ob_heap_spec.specs.Marks.{comes_into};
 ghost use Rattle.ob_heap_spec.specs.Values.{reference};
@@ -42,7 +43,8 @@ fn come_in(
     perm: PermCode,
     id: ObjectId,
 ) -> Result<(), Memory>
-    ensures { OnOk result ((of : ContractNumber) (m : Run) → SameWorld (comes_into (Reference of (perm_of_code perm)) (reference id.0) (world_of m base.now.objects overlay.old)) (world_of m base.now.objects overlay.new)) }
+    ensures world { OnOk result ((of : ContractNumber) (m : Run) → SameWorld (comes_into (Reference of (perm_of_code perm)) (reference id.0) (world_of m base.now.objects overlay.old)) (world_of m base.now.objects overlay.new)) }
+    ensures unread { OnOk result (KeepsUnread no_object overlay.old overlay.new) }
 {
     if !is_shared(perm) {
         return Ok(());
@@ -58,7 +60,8 @@ fn arg_comes_in(
     param: &ParamCode,
     arg: &Value,
 ) -> Result<(), Memory>
-    ensures { OnOk result ((m : Run) → SameWorld (comes_into (type_of_param param.now) (value_of arg.now) (world_of m base.now.objects overlay.old)) (world_of m base.now.objects overlay.new)) }
+    ensures world { OnOk result ((m : Run) → SameWorld (comes_into (type_of_param param.now) (value_of arg.now) (world_of m base.now.objects overlay.old)) (world_of m base.now.objects overlay.new)) }
+    ensures unread { OnOk result (KeepsUnread no_object overlay.old overlay.new) }
 {
     match (param, arg) {
         (ParamCode::Reference(_, entry, _), Value::Object(id)) => {
@@ -76,7 +79,8 @@ fn args_come_in(
     params: &[ParamCode],
     args: &[Value],
 ) -> Result<(), Memory>
-    ensures { OnOk result ((m : Run) → SameWorld (args_come_in params.now (map value_of args.now) (world_of m base.now.objects overlay.old)) (world_of m base.now.objects overlay.new)) }
+    ensures world { OnOk result ((m : Run) → SameWorld (args_come_in params.now (map value_of args.now) (world_of m base.now.objects overlay.old)) (world_of m base.now.objects overlay.new)) }
+    ensures unread { OnOk result (KeepsUnread no_object overlay.old overlay.new) }
 {
     for (param, arg) in params.iter().zip(args) {
         arg_comes_in(alloc, base, overlay, param, arg)?;
@@ -92,7 +96,8 @@ fn receiver_comes_in(
     body: &BodyCode,
     receiver: Option<ObjectId>,
 ) -> Result<(), Memory>
-    ensures { OnOk result ((of : ContractNumber) (m : Run) → SameWorld (receiver_comes_in of body.now (option_map number_of receiver) (world_of m base.now.objects overlay.old)) (world_of m base.now.objects overlay.new)) }
+    ensures world { OnOk result ((of : ContractNumber) (m : Run) → SameWorld (receiver_comes_in of body.now (option_map number_of receiver) (world_of m base.now.objects overlay.old)) (world_of m base.now.objects overlay.new)) }
+    ensures unread { OnOk result (KeepsUnread no_object overlay.old overlay.new) }
 {
     match receiver {
         Some(id) => come_in(alloc, base, overlay, body.entry, id),
@@ -108,7 +113,8 @@ fn comes_into_body(
     body: &BodyCode,
     entry: &Entry,
 ) -> Result<(), Memory>
-    ensures { OnOk result ((m : Run) → SameWorld (args_come_in body.now.params (map value_of entry.now.args) (receiver_comes_in entry.now.contract body.now (option_map number_of entry.now.receiver) (world_of m base.now.objects overlay.old))) (world_of m base.now.objects overlay.new)) }
+    ensures world { OnOk result ((m : Run) → SameWorld (args_come_in body.now.params (map value_of entry.now.args) (receiver_comes_in entry.now.contract body.now (option_map number_of entry.now.receiver) (world_of m base.now.objects overlay.old))) (world_of m base.now.objects overlay.new)) }
+    ensures unread { OnOk result (KeepsUnread no_object overlay.old overlay.new) }
 {
     receiver_comes_in(alloc, base, overlay, body, entry.receiver)?;
     args_come_in(
@@ -128,7 +134,8 @@ pub fn mark(
     overlay: &mut Overlay,
     entry: &Entry,
 ) -> Result<(), Memory>
-    ensures { OnOk result ((m : Run) → SameWorld (marked_world code.now (entry_of entry.now) (world_of m base.now.objects overlay.old)) (world_of m base.now.objects overlay.new)) }
+    ensures world { OnOk result ((m : Run) → SameWorld (marked_world code.now (entry_of entry.now) (world_of m base.now.objects overlay.old)) (world_of m base.now.objects overlay.new)) }
+    ensures unread { OnOk result (KeepsUnread no_object overlay.old overlay.new) }
 {
     match body_at(code, entry.contract, entry.tx) {
         Ok(body) => comes_into_body(alloc, base, overlay, body, entry),

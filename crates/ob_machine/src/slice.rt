@@ -1,9 +1,12 @@
 //! Slices of a run.
-ghost use Rattle.std.specs.Prelude.{◌≡◌, option_map, IsSome, IfOk};
+ghost use Rattle.std.specs.Prelude.{◌≡◌, option_map, IsSome, IfOk, IfSome, OnOk};
+ghost use Rattle.ob_heap.specs.Overlays.{KeepsUnread, no_object};
+ghost use Rattle.ob_machine_laws.specs.Laws.{HasToldFrames};
 ghost use Rattle.ob_machine_steps.specs.Runs.{IsSoundIn};
 ghost use Rattle.ob_machine.specs.Phases.{phase_of, HasBegun};
 ghost use Rattle.ob_machine.specs.Slicing.{Pays, Tries, StopsSo, ComesTo, stop_told};
 ghost use Rattle.ob_machine.specs.Stretching.{Turns};
+ghost use Rattle.ob_machine.specs.Unread.{Leaves, TurnLeaves};
 ghost use Rattle.ob_machine_steps.specs.Measures.{LeadsAhead};
 
 use crate::machine::Machine;
@@ -47,7 +50,8 @@ impl Machine {
         left: u32,
     ) -> Result<Turn, Off>
         requires { IsSome self.old.entry }
-        ensures { Tries result code.now left (phase_of self.old base.now.objects overlay.old) self.new base.now.objects overlay.new }
+        ensures told { Tries result code.now left (phase_of self.old base.now.objects overlay.old) self.new base.now.objects overlay.new }
+        ensures unread { HasToldFrames (phase_of self.old base.now.objects overlay.old) → OnOk result (KeepsUnread no_object overlay.old overlay.new) }
     {
         match left_after(self.run.units.has_unit(), left) {
             None => Ok(Turn::Waits),
@@ -67,7 +71,8 @@ impl Machine {
         left: u32,
     ) -> Result<Turn, Off>
         requires { HasBegun self.old }
-        ensures { Tries result code.now left (phase_of self.old base.now.objects overlay.old) self.new base.now.objects overlay.new }
+        ensures told { Tries result code.now left (phase_of self.old base.now.objects overlay.old) self.new base.now.objects overlay.new }
+        ensures unread { HasToldFrames (phase_of self.old base.now.objects overlay.old) → OnOk result (KeepsUnread no_object overlay.old overlay.new) }
     {
         let top = &self.run.top;
         let instruction = fetch(code, top.contract, top.tx, top.at)?;
@@ -91,7 +96,8 @@ impl Machine {
         left: u32,
     ) -> Result<Turn, Off>
         requires { LeadsAhead code.now }
-        ensures { Turns result code.now left (phase_of self.old base.now.objects overlay.old) self.new base.now.objects overlay.new }
+        ensures told { Turns result code.now left (phase_of self.old base.now.objects overlay.old) self.new base.now.objects overlay.new }
+        ensures unread { HasToldFrames (phase_of self.old base.now.objects overlay.old) → IfOk result (λ turn. TurnLeaves turn overlay.old overlay.new (phase_of self.new base.now.objects overlay.new)) }
     {
         if self.entry.is_some() {
             return self.first_turn(code, base, overlay, left);
@@ -103,7 +109,8 @@ impl Machine {
     }
 
     /// Runs on until the run is over, needs a unit that it has and these don't, or has no next step: then the answer is `None`.
-    /// It is for verified code of which nothing else is known.
+    /// It is for verified code of which nothing else is known. Of what isn't read the entries in the overlay stay, but where there is no
+    /// next step.
     pub fn try_slice(
         &mut self,
         code: &Verified,
@@ -111,7 +118,8 @@ impl Machine {
         overlay: &mut Overlay,
         units: u32,
     ) -> Result<Option<Progress>, Memory>
-        ensures { IfOk result (λ found. ComesTo code.now units (phase_of self.old base.now.objects overlay.old) (option_map (stop_told self.new base.now.objects overlay.new) found)) }
+        ensures comes { IfOk result (λ found. ComesTo code.now units (phase_of self.old base.now.objects overlay.old) (option_map (stop_told self.new base.now.objects overlay.new) found)) }
+        ensures unread { HasToldFrames (phase_of self.old base.now.objects overlay.old) → IfOk result (λ found. IfSome found (λ progress. Leaves progress overlay.old overlay.new (phase_of self.new base.now.objects overlay.new))) }
     {
         let image = code.image();
         let mut left = units;
@@ -132,7 +140,7 @@ impl Machine {
     }
 
     /// Runs on until the run is over, or needs a unit that it has and these don't. Wherever the slice goes on the run must have a
-    /// next step.
+    /// next step. Of what isn't read the entries in the overlay stay.
     pub fn run_slice(
         &mut self,
         code: &Verified,
@@ -141,7 +149,8 @@ impl Machine {
         units: u32,
     ) -> Result<Progress, Memory>
         requires { IsSoundIn code.now units (phase_of self.old base.now.objects overlay.old) }
-        ensures { IfOk result (λ progress. StopsSo code.now units (phase_of self.old base.now.objects overlay.old) (stop_told self.new base.now.objects overlay.new progress)) }
+        ensures stops { IfOk result (λ progress. StopsSo code.now units (phase_of self.old base.now.objects overlay.old) (stop_told self.new base.now.objects overlay.new progress)) }
+        ensures unread { HasToldFrames (phase_of self.old base.now.objects overlay.old) → IfOk result (λ progress. Leaves progress overlay.old overlay.new (phase_of self.new base.now.objects overlay.new)) }
     {
         match self.try_slice(code, base, overlay, units)? {
             Some(progress) => Ok(progress),

@@ -1,5 +1,6 @@
 //! The step of a run.
-ghost use Rattle.std.specs.Prelude.{◌≡◌, ◌+◌};
+ghost use Rattle.std.specs.Prelude.{◌≡◌, ◌+◌, length, OnOk};
+ghost use Rattle.ob_heap.specs.Overlays.{KeepsUnread, only};
 ghost use Rattle.ob_machine_steps.specs.Steps.{act, step_of};
 ghost use Rattle.ob_machine.specs.Shown.{shown, Tells};
 
@@ -11,7 +12,7 @@ use ob_machine_parts::lookups::fetch;
 use ob_machine_parts::off::Off;
 
 impl Run {
-    #[tactic(auto, using(crate::proofs::TestLemmas::telling))]
+    #[tactic(auto, using(crate::proofs::TestLemmas::telling, crate::proofs::UnreadLemmas::leaving))]
     pub fn act(
         &mut self,
         code: &Image,
@@ -21,7 +22,8 @@ impl Run {
         next: usize,
     ) -> Result<Progress, Off>
         requires { next ≡ self.old.top.at + 1 }
-        ensures { Tells result (act code.now instruction.now (shown self.old base.now.objects overlay.old)) (shown self.new base.now.objects overlay.new) }
+        ensures told { Tells result (act code.now instruction.now (shown self.old base.now.objects overlay.old)) (shown self.new base.now.objects overlay.new) }
+        ensures unread { OnOk result (KeepsUnread (only (length base.now.objects) self.old.top.this.0) overlay.old overlay.new) }
     {
         match instruction {
             Instruction::Unit => Ok(self.unit(next)),
@@ -99,7 +101,8 @@ impl Run {
         base: &Content,
         overlay: &mut Overlay,
     ) -> Result<Progress, Off>
-        ensures { Tells result (step_of code.now (shown self.old base.now.objects overlay.old)) (shown self.new base.now.objects overlay.new) }
+        ensures told { Tells result (step_of code.now (shown self.old base.now.objects overlay.old)) (shown self.new base.now.objects overlay.new) }
+        ensures unread { OnOk result (KeepsUnread (only (length base.now.objects) self.old.top.this.0) overlay.old overlay.new) }
     {
         let instruction = fetch(code, self.top.contract, self.top.tx, self.top.at)?;
         let next = self.top.at + 1;

@@ -1,9 +1,11 @@
 //! A stretch of a run: steps inside one body that neither call nor test nor end. Its instructions are looked up once.
-ghost use Rattle.std.specs.Prelude.{◌≡◌, ◌+◌, List, Some, Ok};
-ghost use Rattle.ob_heap.specs.Overlays.{Changes};
+ghost use Rattle.std.specs.Prelude.{◌≡◌, ◌+◌, List, length, Some, Ok, OnOk};
+ghost use Rattle.ob_heap.specs.Overlays.{Changes, KeepsUnread, no_object, only};
 ghost use Rattle.ob_heap.specs.Plain.{value_of};
 ghost use Rattle.ob_heap.specs.declared.object.Object.{Object};
+ghost use Rattle.ob_machine_laws.specs.Laws.{HasToldFrames};
 ghost use Rattle.ob_machine_steps.specs.Changing.{store_step};
+ghost use Rattle.ob_machine_steps.specs.Entries.{running};
 ghost use Rattle.ob_machine_steps.specs.Measures.{LeadsAhead};
 ghost use Rattle.ob_machine_steps.specs.Parts.{sets, goes_to};
 ghost use Rattle.ob_machine_steps.specs.Steps.{act};
@@ -83,7 +85,8 @@ impl Run {
         next: usize,
     ) -> Result<bool, Off>
         requires { next ≡ self.old.top.at + 1 }
-        ensures { Acts result (store_step code.now field a (shown self.old base.now.objects overlay.old)) (shown self.old base.now.objects overlay.old) (shown self.new base.now.objects overlay.new) }
+        ensures told { Acts result (store_step code.now field a (shown self.old base.now.objects overlay.old)) (shown self.old base.now.objects overlay.old) (shown self.new base.now.objects overlay.new) }
+        ensures unread { OnOk result (KeepsUnread (only (length base.now.objects) self.old.top.this.0) overlay.old overlay.new) }
     {
         match store(
             self.alloc,
@@ -145,6 +148,7 @@ impl Run {
 
     // Makes a step inside the body, if the instruction has one.
     #[inline(always)]
+    #[tactic(auto, using(crate::proofs::UnreadLemmas::leaving))]
     fn acts(
         &mut self,
         code: &Image,
@@ -154,7 +158,8 @@ impl Run {
         next: usize,
     ) -> Result<bool, Off>
         requires { next ≡ self.old.top.at + 1 }
-        ensures { Acts result (act code.now instruction.now (shown self.old base.now.objects overlay.old)) (shown self.old base.now.objects overlay.old) (shown self.new base.now.objects overlay.new) }
+        ensures told { Acts result (act code.now instruction.now (shown self.old base.now.objects overlay.old)) (shown self.old base.now.objects overlay.old) (shown self.new base.now.objects overlay.new) }
+        ensures unread { OnOk result (KeepsUnread (only (length base.now.objects) self.old.top.this.0) overlay.old overlay.new) }
     {
         match instruction {
             Instruction::Unit => Ok(self.pays(next)),
@@ -178,6 +183,7 @@ impl Run {
 
     // The same, with the instruction at its place and the units of a slice.
     #[inline(always)]
+    #[tactic(auto, using(crate::proofs::UnreadLemmas::leaving))]
     fn stride(
         &mut self,
         code: &Image,
@@ -187,7 +193,8 @@ impl Run {
         left: u32,
     ) -> Result<Option<u32>, Off>
         requires { AreInstructionsOf code.now self.old.top.contract self.old.top.tx instructions.now }
-        ensures { Strides result code.now left (shown self.old base.now.objects overlay.old) (shown self.new base.now.objects overlay.new) }
+        ensures told { Strides result code.now left (shown self.old base.now.objects overlay.old) (shown self.new base.now.objects overlay.new) }
+        ensures unread { OnOk result (KeepsUnread (only (length base.now.objects) self.old.top.this.0) overlay.old overlay.new) }
     {
         let _length = instructions.len();
         match instructions.get(self.top.at) {
@@ -217,7 +224,8 @@ impl Run {
         units: u32,
     ) -> Result<u32, Off>
         requires { LeadsAhead code.now }
-        ensures { Stretches result code.now units (shown self.old base.now.objects overlay.old) (shown self.new base.now.objects overlay.new) }
+        ensures told { Stretches result code.now units (shown self.old base.now.objects overlay.old) (shown self.new base.now.objects overlay.new) }
+        ensures unread { HasToldFrames (running (shown self.old base.now.objects overlay.old)) → OnOk result (KeepsUnread no_object overlay.old overlay.new × HasToldFrames (running (shown self.new base.now.objects overlay.new))) }
     {
         let instructions = match code_of(code, self.top.contract, self.top.tx) {
             Ok(instructions) => instructions,

@@ -1,6 +1,6 @@
 //! Instructions that test the state of an object, and that end a test.
-ghost use Rattle.std.specs.Prelude.{◌≡◌, ◌+◌, false, List, option_map};
-ghost use Rattle.ob_heap.specs.Overlays.{Changes};
+ghost use Rattle.std.specs.Prelude.{◌≡◌, ◌+◌, false, List, option_map, OnOk};
+ghost use Rattle.ob_heap.specs.Overlays.{Changes, KeepsUnread, no_object};
 ghost use Rattle.ob_heap.specs.declared.object.Object.{Object};
 ghost use Rattle.ob_heap_spec.specs.Objects.{Object as PlainObject};
 ghost use Rattle.ob_machine_steps.specs.Testing.{branches, tests_this, tests_other, test_step, end_test_step};
@@ -89,7 +89,8 @@ impl Run {
         next: usize,
     ) -> Result<Progress, Off>
         requires { next ≡ self.old.top.at + 1 }
-        ensures { Tells result (test_step code.now a contract state target (shown self.old base.now.objects overlay.old)) (shown self.new base.now.objects overlay.new) }
+        ensures told { Tells result (test_step code.now a contract state target (shown self.old base.now.objects overlay.old)) (shown self.new base.now.objects overlay.new) }
+        ensures unread { OnOk result (KeepsUnread no_object overlay.old overlay.new) }
     {
         let id = reference(&self.top.slots, a)?;
         let object = find(base, overlay, id)?;

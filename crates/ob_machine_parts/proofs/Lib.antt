@@ -2,6 +2,7 @@ pub mod NewestLemmas
 pub mod NamesLemmas
 pub mod SlotsLemmas
 pub mod WorldLemmas
+pub mod UnreadLemmas
 pub mod FieldLemmas
 pub mod LocksLemmas
 pub mod KeptLemmas

@@ -3,7 +3,7 @@ ghost use Rattle.std.specs.Prelude.{◌≡◌, not, IfOk, OnOk};
 ghost use Rattle.ob_heap_spec.specs.Contents.{object_at};
 ghost use Rattle.ob_heap_spec.specs.Marks.{is_among};
 ghost use Rattle.ob_heap_spec.specs.Worlds.{read_object, SameWorld};
-ghost use Rattle.ob_heap.specs.Overlays.{objects_over};
+ghost use Rattle.ob_heap.specs.Overlays.{objects_over, KeepsUnread, no_object};
 ghost use Rattle.ob_machine_parts.specs.Giving.{Gives};
 ghost use Rattle.ob_machine_parts.specs.Guards.{Guarded, with_entry};
 ghost use Rattle.ob_machine_parts.specs.Images.{called_on};
@@ -26,6 +26,7 @@ pub fn enter(
     id: ObjectId,
 ) -> Result<bool, Memory>
     ensures entered { IfOk result (λ entered. (entered ≡ not (is_among id.0 guard.old.progress)) × (guard.new ≡ with_entry id.0 guard.old)) }
+    ensures unread { OnOk result (KeepsUnread no_object overlay.old overlay.new) }
     ensures world { OnOk result ((g : Guarded) (u : Metered) → SameWorld (read_object (world_with g u base.now.objects overlay.old) id.0) (world_with g u base.now.objects overlay.new)) }
 {
     note(base, overlay, id)?;

@@ -1,5 +1,6 @@
 //! Fields: which may be set, what an object keeps of them in a state, and what is given to it.
-ghost use Rattle.std.specs.Prelude.{◌≡◌, IfOk};
+ghost use Rattle.std.specs.Prelude.{◌≡◌, length, IfOk, OnOk};
+ghost use Rattle.ob_heap.specs.Overlays.{KeepsUnread, only};
 ghost use Rattle.ob_heap.specs.Plain.{object_of, fields_of};
 ghost use Rattle.ob_machine_steps.specs.Changing.{given_values, are_available};
 ghost use Rattle.ob_machine_parts.specs.Changes.{is_storable, stored, are_given, kept_in};
@@ -37,7 +38,8 @@ pub fn store(
     field: FieldId,
     a: u8,
 ) -> Result<(), Off>
-    ensures { (g : Guarded) (u : Metered) → Gives result (stored code.now field a this.0 (slots_of slots.now) (world_with g u base.now.objects overlay.old)) (λ _. world_with g u base.now.objects overlay.new) }
+    ensures told { (g : Guarded) (u : Metered) → Gives result (stored code.now field a this.0 (slots_of slots.now) (world_with g u base.now.objects overlay.old)) (λ _. world_with g u base.now.objects overlay.new) }
+    ensures unread { OnOk result (KeepsUnread (only (length base.now.objects) this.0) overlay.old overlay.new) }
 {
     if !is_storable(code, find(base, overlay, this)?, field)? {
         return Err(Off::NoStep);

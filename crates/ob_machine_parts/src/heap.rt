@@ -5,7 +5,7 @@ ghost use Rattle.ob_heap_spec.specs.Contents.{object_at};
 ghost use Rattle.ob_heap_spec.specs.Objects.{with_field, unfinished, Object as PlainObject};
 ghost use Rattle.ob_heap_spec.specs.Worlds.{read_object, edit_object, SameWorld};
 ghost use Rattle.ob_heap_spec.specs.Marks.{mark_shared, mark_disowned};
-ghost use Rattle.ob_heap.specs.Overlays.{laid_over, objects_over};
+ghost use Rattle.ob_heap.specs.Overlays.{laid_over, objects_over, is_read, KeepsUnread, no_object, only};
 ghost use Rattle.ob_heap.specs.Plain.{object_of, value_of, fields_of};
 ghost use Rattle.ob_machine_parts.specs.Editing.{with_state, shared_now, disowned_now};
 ghost use Rattle.ob_machine_parts.specs.Making.{Makes};
@@ -45,6 +45,8 @@ pub fn field_value(alloc: Global, object: &Object, field: FieldId) -> Result<Val
 pub fn note(base: &Content, overlay: &mut Overlay, id: ObjectId) -> Result<(), Memory>
     ensures world { OnOk result ((g : Guarded) (u : Metered) → SameWorld (read_object (world_with g u base.now.objects overlay.old) id.0) (world_with g u base.now.objects overlay.new)) }
     ensures objects { OnOk result (laid_over base.now.objects overlay.new ≡ laid_over base.now.objects overlay.old) }
+    ensures unread { OnOk result (KeepsUnread no_object overlay.old overlay.new) }
+    ensures read { OnOk result (id.0 < length base.now.objects → is_read id.0 overlay.new ≡ true) }
 {
     overlay.note(base, id)
 }
@@ -59,7 +61,8 @@ pub fn set_field(
     value: Value,
 ) -> Result<(), Memory>
     requires { id.0 < length (laid_over base.now.objects overlay.old) }
-    ensures { OnOk result ((g : Guarded) (u : Metered) → world_with g u base.now.objects overlay.new ≡ edit_object (with_field field.0 (value_of value)) id.0 (world_with g u base.now.objects overlay.old)) }
+    ensures world { OnOk result ((g : Guarded) (u : Metered) → world_with g u base.now.objects overlay.new ≡ edit_object (with_field field.0 (value_of value)) id.0 (world_with g u base.now.objects overlay.old)) }
+    ensures unread { OnOk result (KeepsUnread (only (length base.now.objects) id.0) overlay.old overlay.new) }
 {
     overlay.edit(alloc, base, id, Edit::Field(field, value))
 }
@@ -74,7 +77,8 @@ pub fn set_state(
     fields: Fields,
 ) -> Result<(), Memory>
     requires { id.0 < length (laid_over base.now.objects overlay.old) }
-    ensures { OnOk result ((g : Guarded) (u : Metered) → world_with g u base.now.objects overlay.new ≡ edit_object (with_state state (fields_of fields)) id.0 (world_with g u base.now.objects overlay.old)) }
+    ensures world { OnOk result ((g : Guarded) (u : Metered) → world_with g u base.now.objects overlay.new ≡ edit_object (with_state state (fields_of fields)) id.0 (world_with g u base.now.objects overlay.old)) }
+    ensures unread { OnOk result (KeepsUnread (only (length base.now.objects) id.0) overlay.old overlay.new) }
 {
     overlay.edit(alloc, base, id, Edit::State(state, fields))
 }
@@ -86,7 +90,8 @@ fn set_shared(
     id: ObjectId,
 ) -> Result<(), Memory>
     requires { id.0 < length (laid_over base.now.objects overlay.old) }
-    ensures { OnOk result ((g : Guarded) (u : Metered) → world_with g u base.now.objects overlay.new ≡ edit_object shared_now id.0 (world_with g u base.now.objects overlay.old)) }
+    ensures world { OnOk result ((g : Guarded) (u : Metered) → world_with g u base.now.objects overlay.new ≡ edit_object shared_now id.0 (world_with g u base.now.objects overlay.old)) }
+    ensures unread { OnOk result ((id.0 < length base.now.objects → is_read id.0 overlay.old ≡ true) → KeepsUnread no_object overlay.old overlay.new) }
 {
     overlay.edit(alloc, base, id, Edit::Shared)
 }
@@ -98,7 +103,8 @@ fn set_disowned(
     id: ObjectId,
 ) -> Result<(), Memory>
     requires { id.0 < length (laid_over base.now.objects overlay.old) }
-    ensures { OnOk result ((g : Guarded) (u : Metered) → world_with g u base.now.objects overlay.new ≡ edit_object disowned_now id.0 (world_with g u base.now.objects overlay.old)) }
+    ensures world { OnOk result ((g : Guarded) (u : Metered) → world_with g u base.now.objects overlay.new ≡ edit_object disowned_now id.0 (world_with g u base.now.objects overlay.old)) }
+    ensures unread { OnOk result ((id.0 < length base.now.objects → is_read id.0 overlay.old ≡ true) → KeepsUnread no_object overlay.old overlay.new) }
 {
     overlay.edit(alloc, base, id, Edit::Disowned)
 }
@@ -128,7 +134,8 @@ pub fn mark_shared(
     overlay: &mut Overlay,
     id: ObjectId,
 ) -> Result<(), Memory>
-    ensures { OnOk result ((g : Guarded) (u : Metered) → SameWorld (mark_shared id.0 (world_with g u base.now.objects overlay.old)) (world_with g u base.now.objects overlay.new)) }
+    ensures world { OnOk result ((g : Guarded) (u : Metered) → SameWorld (mark_shared id.0 (world_with g u base.now.objects overlay.old)) (world_with g u base.now.objects overlay.new)) }
+    ensures unread { OnOk result (KeepsUnread no_object overlay.old overlay.new) }
 {
     note(base, overlay, id)?;
     if is_shared(base, overlay, id) {
@@ -145,7 +152,8 @@ pub fn mark_disowned(
     id: ObjectId,
 ) -> Result<(), Memory>
     requires { id.0 < length (laid_over base.now.objects overlay.old) }
-    ensures { OnOk result ((g : Guarded) (u : Metered) → SameWorld (mark_disowned id.0 (world_with g u base.now.objects overlay.old)) (world_with g u base.now.objects overlay.new)) }
+    ensures world { OnOk result ((g : Guarded) (u : Metered) → SameWorld (mark_disowned id.0 (world_with g u base.now.objects overlay.old)) (world_with g u base.now.objects overlay.new)) }
+    ensures unread { OnOk result (KeepsUnread no_object overlay.old overlay.new) }
 {
     note(base, overlay, id)?;
     if is_disowned(base, overlay, id) {
@@ -174,7 +182,8 @@ pub fn make(
     overlay: &mut Overlay,
     contract: ContractId,
 ) -> Result<Option<ObjectId>, Memory>
-    ensures { IfOk result (λ id. Makes base.now.objects contract overlay.old overlay.new id) }
+    ensures made { IfOk result (λ id. Makes base.now.objects contract overlay.old overlay.new id) }
+    ensures unread { OnOk result (KeepsUnread no_object overlay.old overlay.new) }
 {
     match overlay.make(base, unfinished(alloc, contract)) {
         Ok(id) => Ok(Some(id)),

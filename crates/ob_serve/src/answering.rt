@@ -108,7 +108,8 @@ fn find_answer(
         code: code.image(),
         content,
     };
-    answer(alloc, code, names, content, &owners, request, fuel)
+    let (reply, delta, _spent) = answer(alloc, code, names, content, &owners, request, fuel)?;
+    Ok((reply, delta))
 }
 
 // What is made ready for a request.

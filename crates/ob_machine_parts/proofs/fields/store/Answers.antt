@@ -21,9 +21,9 @@ stored_so image field a n slots w o b v e f g h =
     ∙ ap (λ (r : Option Bool). r >>= λ may. if may then (value_at slots a >>= λ v. Some (edit_object (with_field field.0 v) n w)) else None) (f ∙ ap Some g)
     ∙ ap (λ (r : Option Value). r >>= λ v. Some (edit_object (with_field field.0 v) n w)) h
 
-pub returns : goal.returns
-returns c = λ g u.
+pub returns-clause-told : goal.returns-clause-told
+returns-clause-told c = λ g u.
     stored_so c.args.code.now c.args.field c.args.a c.args.this.0 (slots_of c.args.slots.now) (world_with g u c.args.base.now.objects c.args.overlay.now)
     (object_of c.in_ok-find.field-0.now) c.in_ok-is_storable.field-0 (value_of c.in_ok-value.value) c.in_ok-find.ensures.object
     c.in_ok-is_storable.ensures c.if-not-branch.false c.in_ok-value.ensures
-    ∙ ap Some (sym (c.in_ok-set_field.ensures g u))
+    ∙ ap Some (sym (c.in_ok-set_field.ensures.world g u))

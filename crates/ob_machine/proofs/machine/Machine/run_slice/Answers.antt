@@ -11,4 +11,4 @@ unreachable-requires c =
     let start = phase_of c.args.self.now base c.args.overlay.now in
     never_stuck c.args.code.now c.args.units start c.requires
     (subst (λ found. ComesTo c.args.code.now c.args.units start (option_map (stop_told c.try_slice.new.self base c.try_slice.new.overlay) found)) c.in-None.is
-    c.in_ok-progress.ensures)
+    c.in_ok-progress.ensures.comes)

@@ -10,8 +10,8 @@ use Rattle.ob_machine.proofs.StepLemmas.{on_with}
 use Rattle.ob_machine.proofs.ChangeLemmas.{changed}
 use Rattle.ob_machine.proofs.run.Run.changes_to.Goals as goal
 
-pub returns : goal.returns
-returns c =
+pub returns-clause-told : goal.returns-clause-told
+returns-clause-told c =
     let m = c.args.self.now in
     let base = c.args.base.now.objects in
     let kept : fields_of c.in_ok-kept.kept ≡ kept_in c.args.own.now c.args.state (fields_of c.in_ok-object.object.now.fields) =
@@ -21,4 +21,4 @@ returns c =
     (ap (given_values (slots_of m.top.slots) c.args.given.now) (sym kept) ∙ c.in_ok-fields.ensures)
     ∙ on_with m c.goes_on.new.self base c.args.overlay.now c.set_state.new.overlay c.args.next c.goes_on.result
     (edit_object (with_state c.args.state (fields_of c.in_ok-fields.fields)) m.top.this.0 (world_of m base c.args.overlay.now))
-    c.goes_on.ensures.goes c.goes_on.ensures.at c.requires (c.in_ok-set_state.ensures m.guard m.units)
+    c.goes_on.ensures.goes c.goes_on.ensures.at c.requires (c.in_ok-set_state.ensures.world m.guard m.units)

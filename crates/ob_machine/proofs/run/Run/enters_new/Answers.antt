@@ -12,10 +12,11 @@ use Rattle.ob_machine.specs.Shown.{shown, told, world_of}
 use Rattle.ob_machine.proofs.CallLemmas.{entry_made, entry_full}
 use Rattle.ob_machine.proofs.TestLemmas.{told_same}
 use Rattle.ob_machine_parts.proofs.WorldLemmas.{below_most, from_most}
+use Rattle.ob_machine.proofs.UnreadLemmas.{on_ok_so}
 use Rattle.ob_machine.proofs.run.Run.enters_new.Goals as goal
 
-pub returns-in-Some : goal.returns-in-Some
-returns-in-Some c =
+pub returns-in-Some-clause-told : goal.returns-in-Some-clause-told
+returns-in-Some-clause-told c =
     let m = c.args.self.now in
     let base = c.args.base.now.objects in
     let e = c.args.entry.now in
@@ -23,7 +24,7 @@ returns-in-Some c =
     let w = world_of m base c.args.overlay.now in
     let v = world_of m base c.make.new.overlay in
     let made : Makes base e.contract c.args.overlay.now c.make.new.overlay (Some c.in-Some.id) =
-    subst (Makes base e.contract c.args.overlay.now c.make.new.overlay) c.in-Some.is c.in_ok-id.ensures in
+    subst (Makes base e.contract c.args.overlay.now c.make.new.overlay) c.in-Some.is c.in_ok-id.ensures.made in
     told_same c.enters_body.result (makes_object c.args.code.now nobody e.contract (Some e.tx) vs w)
     (enters_body c.args.code.now (e.contract, e.tx) c.in-Some.id.0 on_new vs v) (shown c.enters_body.new.self base c.make.new.overlay)
     (entry_made c.args.code.now nobody e.contract e.tx vs w v c.in-Some.id.0
@@ -31,12 +32,15 @@ returns-in-Some c =
     (subst (λ xs. Gives c.enters_body.result (enters_body c.args.code.now (e.contract, e.tx) c.in-Some.id.0 on_new (map value_of xs) v) (told (shown c.enters_body.new.self base c.make.new.overlay)))
     c.as_slice.ensures (c.enters_body.ensures base c.make.new.overlay))
 
-pub returns-in-None : goal.returns-in-None
-returns-in-None c =
+pub returns-in-None-clause-told : goal.returns-in-None-clause-told
+returns-in-None-clause-told c =
     let m = c.args.self.now in
     let base = c.args.base.now.objects in
     let e = c.args.entry.now in
     let made : Makes base e.contract c.args.overlay.now c.make.new.overlay None =
-    subst (Makes base e.contract c.args.overlay.now c.make.new.overlay) c.in-None.is c.in_ok-id.ensures in
+    subst (Makes base e.contract c.args.overlay.now c.make.new.overlay) c.in-None.is c.in_ok-id.ensures.made in
     entry_full c.args.code.now nobody e.contract e.tx (map value_of e.args) (world_of m base c.args.overlay.now) (world_of m base c.make.new.overlay)
     (from_most (length (objects_over base c.args.overlay.now)) most_objects made.0) (made.1 m.guard m.units)
+
+pub returns-in-Some-clause-unread : goal.returns-in-Some-clause-unread
+returns-in-Some-clause-unread c = on_ok_so c.enters_body.result c.in_ok-id.ensures.unread

@@ -9,18 +9,19 @@ use Rattle.ob_machine.specs.Phases.{enters_body}
 use Rattle.ob_machine.specs.Shown.{shown, told, world_of}
 use Rattle.ob_machine.proofs.CallLemmas.{entry_reentered, entry_called, entry_shown, not_false, not_true}
 use Rattle.ob_machine.proofs.TestLemmas.{told_same}
+use Rattle.ob_machine.proofs.UnreadLemmas.{on_ok_so}
 use Rattle.ob_machine.proofs.run.Run.enters_object.Goals as goal
 
-pub returns-then-not-branch : goal.returns-then-not-branch
-returns-then-not-branch c =
+pub returns-then-not-branch-clause-told : goal.returns-then-not-branch-clause-told
+returns-then-not-branch-clause-told c =
     let m = c.args.self.now in
     let base = c.args.base.now.objects in
     entry_reentered c.args.code.now nobody c.args.entry.now.contract c.args.entry.now.tx c.args.id.0 (map value_of c.args.entry.now.args) (world_of m base c.args.overlay.now)
     (world_of m base c.enter.new.overlay) (c.in_ok-enter.ensures.world m.guard m.units)
     (not_false (is_among c.args.id.0 m.guard.progress) (sym c.in_ok-enter.ensures.entered.0 ∙ c.if-not-branch.true))
 
-pub returns : goal.returns
-returns c =
+pub returns-clause-told : goal.returns-clause-told
+returns-clause-told c =
     let m = c.args.self.now in
     let base = c.args.base.now.objects in
     let n = c.args.id.0 in
@@ -36,3 +37,6 @@ returns c =
     (entry_shown m base c.enter.new.overlay n c.enter.new.guard c.in_ok-enter.ensures.entered.1 free)
     (subst (λ xs. Gives c.enters_body.result (enters_body c.args.code.now c.in_ok-answer.answer n on_receiver (map value_of xs) (world_of (record m { guard = c.enter.new.guard }) base c.enter.new.overlay))
     (told (shown c.enters_body.new.self base c.enter.new.overlay))) c.as_slice.ensures (c.enters_body.ensures base c.enter.new.overlay)))
+
+pub returns-clause-unread : goal.returns-clause-unread
+returns-clause-unread c = on_ok_so c.enters_body.result c.in_ok-enter.ensures.unread

@@ -8,15 +8,17 @@ use Rattle.ob_machine_parts.specs.Shown.{slots_of}
 use Rattle.ob_machine.specs.Shown.{shown, world_of, Tells}
 use Rattle.ob_machine.proofs.BeginningLemmas.{Held, all_held, none_held}
 use Rattle.ob_machine.proofs.CallLemmas.{new_unset, new_unpaid, new_called, no_unit, unit_taken, with_units_of, same_abort}
+use Rattle.ob_heap.specs.Overlays.{no_object}
+use Rattle.ob_heap.proofs.UnreadLemmas.{unread_itself}
 use Rattle.ob_machine.proofs.run.Run.new_object.Goals as goal
 
-pub returns-then-not-are_set : goal.returns-then-not-are_set
-returns-then-not-are_set c =
+pub returns-then-not-are_set-clause-told : goal.returns-then-not-are_set-clause-told
+returns-then-not-are_set-clause-told c =
     new_unset c.args.code.now c.args.slot c.args.contract c.args.args.now (shown c.args.self.now c.args.base.now.objects c.args.overlay.now)
     (none_held (slots_of c.args.self.now.top.slots) c.args.args.now (sym c.are_set.ensures ∙ c.if-not-are_set.true))
 
-pub returns-then-not-take : goal.returns-then-not-take
-returns-then-not-take c =
+pub returns-then-not-take-clause-told : goal.returns-then-not-take-clause-told
+returns-then-not-take-clause-told c =
     let m = c.args.self.now in
     let base = c.args.base.now.objects in
     let s = shown m base c.args.overlay.now in
@@ -28,8 +30,8 @@ returns-then-not-take c =
     (no_unit m base c.args.overlay.now u (makes_object c.args.code.now (caller s c.args.slot) c.args.contract (constructor_of c.args.code.now c.args.contract) held.values) c.if-not-take.ensures)))
     (same_abort by_fuel (world_of (with_units_of m u) base c.args.overlay.now))
 
-pub returns : goal.returns
-returns c =
+pub returns-clause-told : goal.returns-clause-told
+returns-clause-told c =
     let m = c.args.self.now in
     let base = c.args.base.now.objects in
     let s = shown m base c.args.overlay.now in
@@ -39,4 +41,7 @@ returns c =
     (sym (new_called c.args.code.now c.args.slot c.args.contract c.args.args.now s held.values (world_of (with_units_of m u) base c.args.overlay.now)
     held.is
     (unit_taken m base c.args.overlay.now u (makes_object c.args.code.now (caller s c.args.slot) c.args.contract (constructor_of c.args.code.now c.args.contract) held.values) c.if-not-take.ensures)))
-    c.makes.ensures
+    c.makes.ensures.told
+
+pub returns-then-not-take-clause-unread : goal.returns-then-not-take-clause-unread
+returns-then-not-take-clause-unread c = unread_itself no_object c.args.overlay.now

@@ -6,10 +6,11 @@ use Rattle.ob_machine.specs.Shown.{shown, world_of, Tells}
 use Rattle.ob_machine_steps.specs.Parts.{with_world}
 use Rattle.ob_machine_steps.specs.Testing.{tests_this, tests_other}
 use Rattle.ob_machine.proofs.TestLemmas.{tested, told_same, this_reads, other_reads}
+use Rattle.ob_machine.proofs.UnreadLemmas.{on_ok_so}
 use Rattle.ob_machine.proofs.run.Run.test.Goals as goal
 
-pub returns-then-a-eq0 : goal.returns-then-a-eq0
-returns-then-a-eq0 c =
+pub returns-then-a-eq0-clause-told : goal.returns-then-a-eq0-clause-told
+returns-then-a-eq0-clause-told c =
     let m = c.args.self.now in
     let base = c.args.base.now.objects in
     let s = shown m base c.args.overlay.now in
@@ -24,8 +25,8 @@ returns-then-a-eq0 c =
     (this_reads c.in_ok-id.id.0 c.args.target s w (world_of m base c.note.new.overlay) c.is_in_state-holds.result (c.in_ok-note.ensures.world m.guard m.units))
     (c.tests_this.ensures base c.note.new.overlay))
 
-pub returns-else-a-eq0 : goal.returns-else-a-eq0
-returns-else-a-eq0 c =
+pub returns-else-a-eq0-clause-told : goal.returns-else-a-eq0-clause-told
+returns-else-a-eq0-clause-told c =
     let m = c.args.self.now in
     let base = c.args.base.now.objects in
     let s = shown m base c.args.overlay.now in
@@ -40,3 +41,9 @@ returns-else-a-eq0 c =
     (shown c.tests_other.new.self base c.note.new.overlay)
     (other_reads c.in_ok-id.id.0 c.args.target o s w (world_of m base c.note.new.overlay) c.is_in_state-holds.result (c.in_ok-note.ensures.world m.guard m.units))
     (c.tests_other.ensures base c.note.new.overlay o refl))
+
+pub returns-then-a-eq0-clause-unread : goal.returns-then-a-eq0-clause-unread
+returns-then-a-eq0-clause-unread c = on_ok_so c.tests_this.result c.in_ok-note.ensures.unread
+
+pub returns-else-a-eq0-clause-unread : goal.returns-else-a-eq0-clause-unread
+returns-else-a-eq0-clause-unread c = on_ok_so c.tests_other.result c.in_ok-note.ensures.unread

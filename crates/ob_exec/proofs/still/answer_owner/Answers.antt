@@ -1,0 +1,22 @@
+use Rattle.ob_heap.specs.Contents.{content_of}
+use Rattle.ob_invocation_spec.specs.Handles.{handle_name}
+use Rattle.ob_invocation_spec.specs.Invocation.{invoke_owner}
+use Rattle.ob_machine_steps.specs.ImageTables.{table_of_image}
+use Rattle.ob_exec_handles.specs.Coming.{ComesTo}
+use Rattle.ob_exec_handles.specs.Spending.{SpendsSo}
+use Rattle.ob_exec.proofs.SpendingLemmas.{comes_so, spent_so}
+use Rattle.ob_exec.proofs.still.answer_owner.Goals as goal
+
+pub returns-clause-comes : goal.returns-clause-comes
+returns-clause-comes g c =
+    let content = content_of c.args.content.now in
+    let name = handle_name c.args.who.now c.args.on.now in
+    comes_so (λ answer delta. ComesTo (invoke_owner (table_of_image c.args.code.now) content name) c.args.content.now answer delta) c.with_spent.result c.owner.result c.in_ok-spent.spent c.with_spent.ensures
+    c.owner.ensures
+
+pub returns-clause-spent : goal.returns-clause-spent
+returns-clause-spent g c =
+    let content = content_of c.args.content.now in
+    let name = handle_name c.args.who.now c.args.on.now in
+    spent_so (λ s. SpendsSo (invoke_owner (table_of_image c.args.code.now) content name) s) c.with_spent.result c.owner.result c.in_ok-spent.spent c.with_spent.ensures
+    (c.in_ok-spent.ensures (table_of_image c.args.code.now) c.requires.index c.requires.limits)

@@ -1,0 +1,9 @@
+use Rattle.std.proofs.lemmas.Result.{IfOk-weaker}
+use Rattle.ob_invocation_spec.specs.Handles.{handle_name}
+use Rattle.ob_exec_handles.proofs.SpendingLemmas.{see_spends}
+use Rattle.ob_exec_handles.proofs.spending.spent_on_see.Goals as goal
+
+pub returns : goal.returns
+returns c = λ table limits.
+    IfOk-weaker c.spent_on_handle.result _ _
+    (λ s h. see_spends table c.args.base.now (handle_name c.args.who.now c.args.on.now) s h limits) c.spent_on_handle.ensures

@@ -1,0 +1,9 @@
+use Rattle.ob_heap.specs.Overlays.{no_object}
+use Rattle.ob_heap.proofs.UnreadLemmas.{unread_itself}
+use Rattle.ob_machine.proofs.machine.Machine.first_turn.Goals as goal
+
+pub returns-in-None-clause-unread : goal.returns-in-None-clause-unread
+returns-in-None-clause-unread c = λ known. unread_itself no_object c.args.overlay.now
+
+pub returns-in_ok-progress-in-Some-clause-unread : goal.returns-in_ok-progress-in-Some-clause-unread
+returns-in_ok-progress-in-Some-clause-unread c = λ known. c.in_ok-progress-in-Some.ensures.unread known
