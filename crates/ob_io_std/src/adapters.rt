@@ -33,13 +33,6 @@ impl<R: Read> StdSource<R> {
             faults: 0,
         }
     }
-
-    /// How often a call failed.
-    pub fn faults(&self) -> u64
-        ensures { result ≡ (std_source_view self.now).faults }
-    {
-        self.faults
-    }
 }
 
 impl<R: Read> Source for StdSource<R> {
@@ -80,13 +73,6 @@ impl<W: Write> StdSink<W> {
         ensures { (std_sink_view result).faults ≡ 0 }
     {
         StdSink { inner, faults: 0 }
-    }
-
-    /// How often a call failed.
-    pub fn faults(&self) -> u64
-        ensures { result ≡ (std_sink_view self.now).faults }
-    {
-        self.faults
     }
 }
 
@@ -196,13 +182,6 @@ impl<R: fs::Files> StdFiles<R> {
     /// The last call of the system that failed; `None` where none did.
     pub fn failure(&self) -> Option<Failure> {
         self.failure
-    }
-
-    /// How often a call failed.
-    pub fn faults(&self) -> u64
-        ensures { result ≡ (std_files_view self.now).faults }
-    {
-        self.faults
     }
 }
 

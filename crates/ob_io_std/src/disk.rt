@@ -143,13 +143,6 @@ impl<R> FileDisk<R> {
         }
     }
 
-    /// How often a call failed.
-    pub fn faults(&self) -> u64
-        ensures { result ≡ (file_disk_view self.now).faults }
-    {
-        self.faults
-    }
-
     /// The last call of the system that failed; `None` where none did.
     pub fn failure(&self) -> Option<Failure> {
         self.failure

@@ -8,6 +8,3 @@ mod failure;
 pub use adapters::{StdFiles, StdSink, StdSource};
 pub use disk::FileDisk;
 pub use failure::{Failure, SystemCall};
-
-#[cfg(test)]
-mod tests;

@@ -1,0 +1,153 @@
+#!/usr/bin/env python3
+"""Looks at what the program does with real streams and files of which no sheet of cases can tell.
+
+  python3 docs/files.py [--program PROGRAM]
+
+It runs PROGRAM, the one that the gate has left if none is named, and wants this:
+
+- where a read of the input fails, at once or behind whole lines, the run ends with 3: each whole line has its reply, and nothing else is written;
+- where a write of the output fails, the run ends with 4;
+- of a text that is too long no more is read than tells that it is;
+- where the run has no right to the text, it ends with 8, and standard error tells which call failed and how;
+- a STORE that is there, and is longer than 64 MiB, keeps its mode, its length and what stands behind them, and is served from run to run.
+
+It tells each thing that isn't so, and ends with status 1 then.
+"""
+import argparse
+import ctypes
+import fcntl
+import os
+import socket
+import subprocess
+import sys
+import tempfile
+import threading
+
+TOP = os.path.dirname(os.path.dirname(os.path.abspath(__file__)))
+PROGRAM = os.path.join(TOP, "crates", "obsidian", "out", "obsidian")
+TALLY = os.path.join(TOP, "crates", "ob_conformance", "data", "tally.obs")
+# Lines to a tally, and their replies.
+NEW = b'{"op":"new","id":1,"who":"a","contract":"Tally","into":"t"}\n'
+ADD = b'{"op":"call","id":2,"who":"a","on":"t","tx":"add","args":[5]}\n'
+REPLIES = b'{"id":1,"ok":{"object":0}}\n', b'{"id":2,"ok":5}\n'
+# The most bytes of a text, and how many of a longer one are written at a time.
+LONGEST, PIECE = 1 << 20, 4096
+# How many bytes of a STORE are the program's, and what stands behind them.
+AREA, BEHIND = 1 << 26, bytes(range(256)) * 64
+# After how many seconds a run is cut.
+PATIENCE = 60
+
+
+class Looks:
+    """One program in a folder of its own, and what wasn't as it is to be."""
+
+    def __init__(self, program, folder):
+        self.program, self.folder, self.failed = program, folder, False
+
+    def path(self, name):
+        return os.path.join(self.folder, name)
+
+    def begin(self, *words, **how):
+        """A run of these words, without input if none is given."""
+        pipes = {"stdin": subprocess.DEVNULL, "stdout": subprocess.PIPE, "stderr": subprocess.PIPE, **how}
+        return subprocess.Popen([self.program, *words], cwd=self.folder, **pipes)
+
+    def end(self, run, given=None, lines=1):
+        """The status of a run, its output, and so many lines of what it tells."""
+        try:
+            output, told = run.communicate(given, PATIENCE)
+        except subprocess.TimeoutExpired:
+            run.kill()
+            run.communicate()
+            return f"cut after {PATIENCE} seconds"
+        return run.returncode, output, told.splitlines()[:lines]
+
+    def want(self, title, wanted, came):
+        if came != wanted:
+            print(f"files.py: {title}\n  wanted: {wanted}\n  came:   {came}")
+            self.failed = True
+
+    def reads_that_fail(self):
+        """A folder can be opened as the input, and not be read. A peer that ends before it has read everything breaks what it sent off."""
+        folder = os.open(self.folder, os.O_RDONLY)
+        self.want("the first read fails", (3, b"", [b"ReadFault"]), self.end(self.begin("serve", TALLY, stdin=folder)))
+        os.close(folder)
+        peer, end = socket.socketpair()
+        peer.sendall(NEW + ADD + b'{"op"')
+        end.sendall(b"unread")
+        peer.close()
+        wanted = 3, b"".join(REPLIES), [b"ReadFault"]
+        self.want("a read behind two lines fails", wanted, self.end(self.begin("serve", TALLY, stdin=end)))
+        end.close()
+
+    def writes_that_fail(self):
+        with open("/dev/full", "wb") as full:
+            came = self.end(self.begin("serve", TALLY, stdin=subprocess.PIPE, stdout=full), NEW + ADD)
+        self.want("a write fails", (4, None, [b"WriteFault"]), came)
+
+    def long_text(self):
+        """The text comes through a pipe, so that it is seen how much of it was taken, but for what the pipe holds."""
+        from_pipe, into_pipe = os.pipe()
+        most = LONGEST + fcntl.fcntl(into_pipe, fcntl.F_GETPIPE_SZ)
+        run = self.begin("check", "/dev/stdin", stdin=from_pipe)
+        os.close(from_pipe)
+        timer = threading.Timer(PATIENCE, run.kill)
+        timer.start()
+        taken = 0
+        try:
+            while taken < 4 * LONGEST:
+                taken += os.write(into_pipe, bytes(PIECE))
+        except BrokenPipeError:
+            pass
+        timer.cancel()
+        os.close(into_pipe)
+        self.want("a text that is too long", (1, b"1:1: 109 LongProgram\n", [b"/dev/stdin:1:1: 109 LongProgram"]), self.end(run))
+        self.want("how much of it is taken", f"{most} bytes at most", f"{max(most, taken)} bytes at most")
+
+    def text_without_right(self):
+        with open(self.path("p"), "wb") as file:
+            os.fchmod(file.fileno(), 0)
+        told = [b"FileFault", b"p: it couldn't be opened: Permission denied (os error 13)"]
+        came = self.end(self.begin("check", "p", preexec_fn=obey_rights), lines=2)
+        self.want("a text to which the run has no right", (8, b"", told), came)
+
+    def long_store(self):
+        with open(self.path("s"), "wb") as file:
+            os.fchmod(file.fileno(), 0o640)
+            file.seek(AREA)
+            file.write(BEHIND)
+        for line, reply in zip((NEW, ADD), REPLIES):
+            ended = self.end(self.begin("serve", TALLY, "s", stdin=subprocess.PIPE), line, 0)
+            self.want("a line to a long store", (0, reply, []), ended)
+        with open(self.path("s"), "rb") as file:
+            mode = os.fstat(file.fileno()).st_mode & 0o777
+            file.seek(AREA)
+            behind = file.read()
+        self.want("the mode of a store that is there", 0o640, mode)
+        self.want("what stands behind the 64 MiB of a store stays", True, behind == BEHIND)
+
+
+def obey_rights():
+    """Lets root have no more rights to a file than its mode gives: CAP_DAC_OVERRIDE and CAP_DAC_READ_SEARCH go from PR_CAPBSET_DROP on."""
+    for capability in (1, 2):
+        ctypes.CDLL(None).prctl(24, capability, 0, 0, 0)
+
+
+def main():
+    parser = argparse.ArgumentParser(usage=__doc__.split("\n\n")[1].strip())
+    parser.add_argument("--program", default=PROGRAM)
+    given = parser.parse_args()
+    with tempfile.TemporaryDirectory() as folder:
+        looks = Looks(os.path.abspath(given.program), folder)
+        looks.reads_that_fail()
+        looks.writes_that_fail()
+        looks.long_text()
+        looks.text_without_right()
+        looks.long_store()
+    if not looks.failed:
+        print("files.py: streams and files are as they should be")
+    sys.exit(1 if looks.failed else 0)
+
+
+if __name__ == "__main__":
+    main()
