@@ -6,8 +6,9 @@
 
 How a session is written says docs/GUIDE.md, under "Tests of your own". Each is served from an empty store; one with a line `restart` over a
 store in a file, which is gone at the end. Of each session the first reply that differs is shown, with its place, and how many agree; at the end
-stands which transactions no session has answered by `ok`. The status is 0 where all replies agree, 1 where one doesn't, where the text of P is
-refused or the program ended otherwise, and 2 where the words are wrong, or a session can't be read.
+stands which transactions no session has answered by `ok`, of the contracts of which a client can have an object. The status is 0 where all
+replies agree, 1 where one doesn't, where the text of P is refused, the program ended otherwise or nobody reads what is told, and 2 where the
+words are wrong, or a session can't be read.
 """
 import argparse
 import json
@@ -183,26 +184,51 @@ def compare(command, path):
     return first is None, done
 
 
-def transactions_of(text):
-    """The transactions of a program that a client can call, under their contracts."""
-    found, contract, depth, is_private, before = {}, None, 0, False, ""
+@dataclass
+class Contract:
+    """A contract: its transactions that aren't private, and of which contracts and interfaces they return objects."""
+    is_main: bool = False
+    implements: str = ""
+    transactions: list = field(default_factory=list)
+    returned: set = field(default_factory=set)
+
+
+def contracts_of(text):
+    """The contracts of a program by their names."""
+    found, contract, depth, is_main, is_private, before = {}, Contract(), 0, False, False, ""
     for token in TOKENS.findall(text):
         if depth == 0 and before in ("contract", "interface"):
-            contract = found.setdefault(token, []) if before == "contract" else []
+            contract = found.setdefault(token, Contract(is_main)) if before == "contract" else Contract()
+        elif depth == 0 and before == "implements":
+            contract.implements = token
         elif depth == 1 and before == "transaction" and not is_private:
-            contract.append(token)
-        is_private = token == "private" or is_private and before != "transaction"
+            contract.transactions.append(token)
+        elif depth == 1 and before == "returns" and not is_private:
+            contract.returned.add(token)
+        is_main = token == "main" or is_main and token != "{"
+        is_private = token == "private" or is_private and token != "{"
         depth += (token == "{") - (token == "}")
         before = token
     return found
 
 
+def reached(contracts):
+    """The contracts of which a client can have an object: he makes it, or gets it from a transaction that he can call."""
+    names, more = set(), {name for name, contract in contracts.items() if contract.is_main}
+    while more:
+        names |= more
+        returned = set().union(*(contracts[name].returned for name in names))
+        more = {name for name, contract in contracts.items() if returned & {name, contract.implements}} - names
+    return names
+
+
 def tell_missing(program, done):
-    """Says which transactions no session has answered by `ok`."""
+    """Says which transactions that a client can call no session has answered by `ok`."""
     with open(program, encoding="utf-8") as file:
-        found = transactions_of(file.read())
-    missing = {contract: [name for name in names if (contract, name) not in done] for contract, names in found.items()}
-    lines = [f"  {contract}: {', '.join(names)}" for contract, names in missing.items() if names]
+        contracts = contracts_of(file.read())
+    missing = {name: [called for called in contracts[name].transactions if (name, called) not in done] for name in contracts}
+    names = reached(contracts)
+    lines = [f"  {name}: {', '.join(called)}" for name, called in missing.items() if called and name in names]
     print("\n".join(["never answered by ok:", *lines] if lines else ["each transaction was answered by ok"]))
 
 
@@ -227,6 +253,8 @@ def main():
         except Trouble as trouble:
             print(trouble, file=sys.stderr)
             return 2
+        except BrokenPipeError:
+            raise
         except (Stopped, OSError) as stopped:
             print(f"{path}: {stopped}")
             return 1
@@ -235,5 +263,16 @@ def main():
     return 0 if is_well else 1
 
 
+def status():
+    """The status of a run. It ends quietly where nobody reads what it tells, as behind `| head`."""
+    try:
+        given = main()
+        sys.stdout.flush()
+        return given
+    except BrokenPipeError:
+        os.dup2(os.open(os.devnull, os.O_WRONLY), sys.stdout.fileno())
+        return 1
+
+
 if __name__ == "__main__":
-    sys.exit(main())
+    sys.exit(status())

@@ -37,6 +37,9 @@ TOLD = [
     ("# nothing\n", 2, "s: no request stands in it\n"),
     (f"> {NEW}\n< {MADE}\n{ADD[1:]}\n", 2,
      "s:3: no line of a session: each is a request behind `> `, a reply, `restart`, a comment behind `#`, or empty\n"),
+    # Of marks, which no client has, nothing is told.
+    (f'> {NEW.replace("Tally", "Mint")}\n< {MADE}\n', 0,
+     "s: 1 of 1 replies agree\nnever answered by ok:\n  Money: worth, fits, merge, split\n  Mint: mint, is_mine\n", "money.obs"),
     (f"> {NEW}\n< 4:24: 406 BranchLoses\n", 1, "s: the program ended with status 1\n  4:24: 406 BranchLoses\n", "payment.obs"),
 ]
 
@@ -64,6 +67,19 @@ def is_told(program, session, status, told, name="tally.obs"):
     return False
 
 
+def ends_quietly(program):
+    """Whether nothing is told on standard error where nobody reads what is told."""
+    reader, writer = os.pipe()
+    os.close(reader)
+    session = os.path.join(SESSIONS, "money.txt")
+    ran = compare(program, TOP, os.path.join(DATA, "money.obs"), session, stdout=writer, stderr=subprocess.PIPE, text=True)
+    os.close(writer)
+    if ran.returncode == 1 and not ran.stderr:
+        return True
+    print(f"where nobody reads, with status {ran.returncode} in place of 1, came\n{ran.stderr}")
+    return False
+
+
 def main():
     words = sys.argv[1:]
     if words and (words[0] != "--program" or len(words) != 2):
@@ -72,7 +88,8 @@ def main():
     agree = samples_agree(program)
     told = [is_told(program, *row) for row in TOLD]
     print(f"{sum(told)} of {len(told)} wrong sessions are reported as they have to be")
-    sys.exit(0 if agree and all(told) else 1)
+    quiet = ends_quietly(program)
+    sys.exit(0 if agree and all(told) and quiet else 1)
 
 
 if __name__ == "__main__":

@@ -2,7 +2,7 @@
 
 use crate::fronts::Front;
 use crate::helping::put_help_at;
-use crate::parts::{ARGUMENT, PARTS, Part};
+use crate::parts::{ARGUMENT, PARTS, Part, has_word};
 use crate::spots::Spot;
 use crate::trying::{tokens_at, words_after};
 use ob_base::{EXPECTED, Memory, ProgramFault, Span};
@@ -25,12 +25,17 @@ pub struct Expected {
 impl Expected {
     /// Whether a token of this spelling could stand there.
     pub fn has(&self, word: &str) -> bool {
-        self.words.iter().any(|other| *other == word)
+        for other in &self.words {
+            if *other == word {
+                return true;
+            }
+        }
+        false
     }
 
     /// Whether each of these could.
-    pub fn has_all(&self, words: &[&str]) -> bool {
-        for word in words {
+    pub fn has_all(&self, words: &str) -> bool {
+        for word in words.split(' ') {
             if !self.has(word) {
                 return false;
             }
@@ -39,8 +44,8 @@ impl Expected {
     }
 
     /// Whether one of these could.
-    pub fn has_any(&self, words: &[&str]) -> bool {
-        for word in words {
+    pub fn has_any(&self, words: &str) -> bool {
+        for word in words.split(' ') {
             if self.has(word) {
                 return true;
             }
@@ -58,8 +63,8 @@ impl Expected {
     }
 
     // Takes these tokens out.
-    fn take_out(&mut self, words: &[&str]) {
-        self.words.retain(|word| !words.contains(word));
+    fn take_out(&mut self, words: &str) {
+        self.words.retain(|word| !has_word(words, word));
     }
 
     // Has a part stand for its tokens, if it could stand there.
@@ -73,7 +78,7 @@ impl Expected {
 
     // Has the parts that could stand there stand for their tokens.
     fn take_parts(&mut self) -> Result<(), Memory> {
-        self.take_out(&ARGUMENT);
+        self.take_out(ARGUMENT);
         for part in &PARTS {
             self.take_part(part)?;
         }

@@ -3,12 +3,12 @@
 use crate::brackets::{BRACKETS, QUESTIONS};
 use crate::expected::Expected;
 use crate::forms::{IN_BODIES, IN_MEMBERS};
-use crate::hints::FOREIGN;
+use crate::hints::hint_for;
 use crate::rules::{help_by, put_help};
 use crate::slips::tell_slip;
 use crate::spots::Spot;
 use ob_base::{Memory, Span};
-use ob_explain_page::{Explanation, hint_for};
+use ob_explain_page::Explanation;
 use std::alloc::Global;
 
 // The first text of two.
@@ -18,7 +18,7 @@ fn or_else(first: &'static str, second: &'static str) -> &'static str {
 
 // Whether a token is a word of another language, which the text doesn't declare.
 fn is_foreign(spot: &Spot<'_>, token: &str) -> bool {
-    !hint_for(&FOREIGN, token).is_empty() && !spot.declares(token)
+    !hint_for(token).is_empty() && !spot.declares(token)
 }
 
 // The word of another language at the place, at the beginning of the statement, or before the place; empty where none stands there.
@@ -35,16 +35,16 @@ fn foreign_word<'a>(spot: &Spot<'a>) -> &'a str {
 // How to mend it by what is asked before words are looked at.
 fn help_before(spot: &Spot<'_>, expected: &Expected) -> &'static str {
     or_else(
-        help_by(&BRACKETS, spot, expected),
-        help_by(&QUESTIONS, spot, expected),
+        help_by(BRACKETS, spot, expected),
+        help_by(QUESTIONS, spot, expected),
     )
 }
 
 // How to mend it where no other word was meant.
 fn help_behind(spot: &Spot<'_>, expected: &Expected) -> &'static str {
     or_else(
-        help_by(&IN_BODIES, spot, expected),
-        help_by(&IN_MEMBERS, spot, expected),
+        help_by(IN_BODIES, spot, expected),
+        help_by(IN_MEMBERS, spot, expected),
     )
 }
 
@@ -63,7 +63,7 @@ fn put_other_help(
         return Ok(spot.place);
     }
     if !word.is_empty() {
-        told.help.put_with(hint_for(&FOREIGN, word), &[word]);
+        told.help.put_with(hint_for(word), &[word]);
         return Ok(spot.place);
     }
     if let Some(mark) = tell_slip(alloc, told, spot, expected, open)? {

@@ -1,6 +1,7 @@
 //! What is said of words of other languages, and of what the language doesn't have.
 
-use ob_explain_page::{CALLER, EVENTS, FRACTIONS, Hint, REQUIRED, VARIABLE};
+use crate::parts::has_word;
+use ob_explain_page::{CALLER, EVENTS, FRACTIONS, REQUIRED, VARIABLE};
 
 /// Of loops.
 pub const LOOPS: &str =
@@ -22,120 +23,125 @@ pub const SENT: &str =
 pub const TWO_RESULTS: &str =
     "a transaction gives one result: give an object that has both, as of `contract Pair { int a; int b; Pair@Owned(int x, int y) { a = x; b = y; } }` by `returns Pair@Owned`.";
 
+/// What is said of some words.
+#[derive(Clone, Copy)]
+struct Foreign {
+    /// The words, with a blank between.
+    of: &'static str,
+    /// What is said of each.
+    help: &'static str,
+}
+
 /// Of words of other languages, which stand for `{}`.
-pub const FOREIGN: [Hint; 25] = [
-    Hint {
-        of: &["for", "do", "loop", "foreach", "break", "continue"],
+const FOREIGN: [Foreign; 25] = [
+    Foreign {
+        of: "for do loop foreach break continue",
         help: LOOPS,
     },
-    Hint {
-        of: &["mapping", "map", "dict", "Map", "HashMap"],
+    Foreign {
+        of: "mapping map dict Map HashMap",
         help: MAPS,
     },
-    Hint {
-        of: &["array", "vector", "Array", "Vec", "ArrayList"],
+    Foreign {
+        of: "array vector Array Vec ArrayList",
         help: ARRAYS,
     },
-    Hint {
-        of: &["address", "msg"],
+    Foreign {
+        of: "address msg",
         help: CALLER,
     },
-    Hint {
-        of: &["emit", "event"],
+    Foreign {
+        of: "emit event",
         help: EVENTS,
     },
-    Hint {
-        of: &[
-            "public",
-            "external",
-            "internal",
-            "protected",
-            "payable",
-            "view",
-            "pure",
-            "virtual",
-            "override",
-            "async",
-        ],
+    Foreign {
+        of: "public external internal protected payable view pure virtual override async",
         help: "each transaction that isn't `private` may be called by all: leave `{}` out.",
     },
-    Hint {
-        of: &["function", "fn", "def", "func", "fun", "void"],
+    Foreign {
+        of: "function fn def func fun void",
         help: "a transaction begins with `transaction`, and its result stands after `returns`.",
     },
-    Hint {
-        of: &["modifier"],
+    Foreign {
+        of: "modifier",
         help: "there are no modifiers: begin each transaction with its own test, as `if (!b) { revert \"why\"; }`.",
     },
-    Hint {
-        of: &["var", "let", "const", "auto"],
+    Foreign {
+        of: "var let const auto",
         help: VARIABLE,
     },
-    Hint {
-        of: &["mut", "final", "static", "readonly", "immutable"],
+    Foreign {
+        of: "mut final static readonly immutable",
         help: "leave `{}` out: fields and local variables can be assigned, and parameters can't.",
     },
-    Hint {
-        of: &[
-            "uint", "uint8", "uint64", "uint256", "int8", "int64", "int256", "u8", "u32", "u64",
-            "i32", "i64", "integer", "Int", "number", "long",
-        ],
+    Foreign {
+        of: "uint uint8 uint64 uint256 int8 int64 int256 u8 u32 u64 i32 i64 integer Int number long",
         help: "the type of whole numbers is `int`.",
     },
-    Hint {
-        of: &["float", "double", "decimal", "f32", "f64"],
+    Foreign {
+        of: "float double decimal f32 f64",
         help: FRACTIONS,
     },
-    Hint {
-        of: &["boolean", "Bool", "Boolean"],
+    Foreign {
+        of: "boolean Bool Boolean",
         help: "the type of `true` and `false` is `bool`.",
     },
-    Hint {
-        of: &["String", "str", "char", "bytes", "bytes32"],
+    Foreign {
+        of: "String str char bytes bytes32",
         help: "the type of texts is `string`.",
     },
-    Hint {
-        of: &["import", "pragma", "library", "using"],
+    Foreign {
+        of: "import pragma library using",
         help: "a program stands in one file, and begins with its contracts.",
     },
-    Hint {
-        of: &["enum", "struct", "class", "resource"],
+    Foreign {
+        of: "enum struct class resource",
         help: "there are contracts and interfaces; a contract's states are written `state S;`.",
     },
-    Hint {
-        of: &["switch", "match", "case"],
+    Foreign {
+        of: "switch match case",
         help: "a choice is an `if` with an `else`: by a state `if (x in S) { .. } else { .. }`, by a value `if (n == 1) { .. } else if (n == 2) { .. }`.",
     },
-    Hint {
-        of: &["require", "assert"],
+    Foreign {
+        of: "require assert",
         help: REQUIRED,
     },
-    Hint {
-        of: &["throw", "raise", "panic"],
+    Foreign {
+        of: "throw raise panic",
         help: "`revert \"why\";` ends the request and undoes it.",
     },
-    Hint {
-        of: &["try", "catch", "finally"],
+    Foreign {
+        of: "try catch finally",
         help: "a `revert` undoes the whole request, and nothing catches it: leave this out.",
     },
-    Hint {
-        of: &["delete"],
+    Foreign {
+        of: "delete",
         help: "an object is let go by `disown x;`.",
     },
-    Hint {
-        of: &["elif", "elsif", "elseif"],
+    Foreign {
+        of: "elif elsif elseif",
         help: "a second condition is written `else if (..) { .. }`.",
     },
-    Hint {
-        of: &["and"],
+    Foreign {
+        of: "and",
         help: "'and' is written `&&`.",
     },
-    Hint {
-        of: &["or"],
+    Foreign {
+        of: "or",
         help: "'or' is written `||`.",
     },
-    Hint {
-        of: &["not"],
+    Foreign {
+        of: "not",
         help: "'not' is written `!`.",
     },
 ];
+
+/// What is said of a word of another language; empty where nothing is.
+pub fn hint_for(word: &str) -> &'static str {
+    for hint in &FOREIGN {
+        if has_word(hint.of, word) {
+            return hint.help;
+        }
+    }
+    ""
+}

@@ -1,24 +1,27 @@
-//! Rules of what is said of an unexpected token.
+//! Rules of what is said of an unexpected token, one on each line.
+//!
+//! A rule is what has to fit, ` => `, and the text that is said. What has to fit are parts with ` & ` between, each of them
+//!
+//! - `could`, `could_not` or one of the names below, and tokens: those that could all stand at the place, those of which none could, or those
+//!   of which one stands there; or
+//! - `alone`, where no other token could, or `joined`, where nothing stands between the first token before the place and the place.
+//!
+//! The names are `third`, `second` and `first` for the tokens before the place, `found` for the one there, and `next` and `after` for those
+//! behind it; `begin` for the token that begins the member or statement; `named` for the word by which the first token is declared, as
+//! `state`; `level` for where the place is; and `own` for the name of the contract around. Among tokens `#name` stands for each that is written
+//! like a name, `#other` for all else, `#number` for each number, `#string` for each string, `#own` for the name of the contract around, and
+//! `#none` for a token that isn't there, as at the end of the text.
+//!
+//! In the text stands a name between two `#` for its token, `#line#` for the line of the innermost brace that is open, `#decimal#` for
+//! the number at the place in decimal digits, and `#loops#` and so on for what several rules say.
 
 use crate::expected::Expected;
+use crate::hints::{ARRAYS, LOOPS, SENT, TWO_RESULTS};
 use crate::numbers::put_decimal;
+use crate::parts::has_word;
 use crate::spots::Spot;
 use ob_base::is_letter;
-use ob_explain_page::Words;
-
-/// Stands among the tokens of a rule for each that is written like a name, and for each that isn't.
-pub const A_NAME: &str = "a name";
-
-pub const NO_NAME: &str = "no name";
-
-/// For each number, for each string, and for the name of the contract around.
-pub const A_NUMBER: &str = "a number";
-
-pub const A_STRING: &str = "a string";
-
-const NO_VALUE: &str = "no value";
-
-pub const OWN_NAME: &str = "own name";
+use ob_explain_page::{CALLER, FRACTIONS, TIME, Words};
 
 /// Where a place is: in no contract, directly in one, in the fields of a state, or in a body.
 pub const PROGRAM: &str = "program";
@@ -28,53 +31,6 @@ pub const MEMBER: &str = "member";
 pub const STATE: &str = "state";
 
 pub const BODY: &str = "body";
-
-/// What is said where all of this fits. Of tokens one has to fit, and none in the list are all.
-#[derive(Clone, Copy)]
-pub struct Rule {
-    /// The tokens that could all stand at the place.
-    pub could: &'static [&'static str],
-    /// Those of which none could.
-    pub could_not: &'static [&'static str],
-    /// Whether no other token could.
-    pub alone: bool,
-    /// Where the place is.
-    pub level: &'static [&'static str],
-    /// The token that begins the member or statement there.
-    pub begin: &'static [&'static str],
-    /// The word by which the name before the place is declared, as that of a state.
-    pub named: &'static [&'static str],
-    /// The third, second and first token before the place.
-    pub third: &'static [&'static str],
-    pub second: &'static [&'static str],
-    pub first: &'static [&'static str],
-    /// Whether nothing stands between the first of them and the place.
-    pub joined: bool,
-    /// The token at the place, which is empty at the end of the text, and the one after it.
-    pub found: &'static [&'static str],
-    pub next: &'static [&'static str],
-    /// The text, in which `#first#` stands for the first token before the place, and so on for `#third#`, `#second#`, `#found#`,
-    /// `#next#`, `#after#` (the token behind that) and `#begin#`; `#own#` for the name of the contract around, `#line#` for the line
-    /// of the innermost brace that is open, and `#decimal#` for the number at the place in decimal digits.
-    pub help: &'static str,
-}
-
-/// A rule that fits everywhere.
-pub const ANYWHERE: Rule = Rule {
-    could: &[],
-    could_not: &[],
-    alone: false,
-    level: &[],
-    begin: &[],
-    named: &[],
-    third: &[],
-    second: &[],
-    first: &[],
-    joined: false,
-    found: &[],
-    next: &[],
-    help: "",
-};
 
 // The first byte of a token; 0 where there is none.
 fn first_byte(token: &str) -> u8 {
@@ -87,103 +43,101 @@ fn first_byte(token: &str) -> u8 {
 // Whether a token begins with a letter, or doesn't.
 fn class_of(token: &str) -> &'static str {
     if is_letter(first_byte(token)) {
-        A_NAME
+        "#name"
     } else {
-        NO_NAME
+        "#other"
     }
 }
 
-// Whether it is a number, a string or none of both.
+// Whether it is a number, a string, none of both, or isn't there.
 fn value_class(token: &str) -> &'static str {
     match first_byte(token) {
-        b'0'..=b'9' => A_NUMBER,
-        b'"' => A_STRING,
-        _ => NO_VALUE,
+        b'0'..=b'9' => "#number",
+        b'"' => "#string",
+        0 => "#none",
+        _ => "#no_value",
     }
-}
-
-fn is_among(tokens: &[&str], token: &str) -> bool {
-    tokens.contains(&token)
 }
 
 // Whether a token is of a class of a list.
-fn fits_class(tokens: &[&str], token: &str) -> bool {
-    is_among(tokens, class_of(token)) || is_among(tokens, value_class(token))
+fn fits_class(tokens: &str, token: &str) -> bool {
+    has_word(tokens, class_of(token)) || has_word(tokens, value_class(token))
 }
 
-// Whether a token fits a list, where this is the name of the contract around.
-fn fits(tokens: &[&str], token: &str, own: &str) -> bool {
-    tokens.is_empty()
-        || is_among(tokens, token)
+// Whether a token is of a list, where this is the name of the contract around.
+fn fits_token(tokens: &str, token: &str, own: &str) -> bool {
+    has_word(tokens, token)
         || fits_class(tokens, token)
-        || (token == own && is_among(tokens, OWN_NAME))
+        || (token == own && has_word(tokens, "#own"))
 }
 
-impl Rule {
-    fn fits_expected(&self, expected: &Expected) -> bool {
-        expected.has_all(self.could)
-            && !expected.has_any(self.could_not)
-            && (!self.alone || expected.is_one())
+// What a name between two `#` stands for; another text stands for itself.
+fn text_for<'a>(spot: &Spot<'a>, name: &'a str) -> &'a str {
+    match name {
+        "third" => spot.third,
+        "second" => spot.second,
+        "first" => spot.first,
+        "found" => spot.found,
+        "next" => spot.next,
+        "after" => spot.after,
+        "begin" => spot.begin,
+        "named" => spot.named,
+        "level" => spot.level,
+        "own" => spot.own,
+        "loops" => LOOPS,
+        "arrays" => ARRAYS,
+        "results" => TWO_RESULTS,
+        "sent" => SENT,
+        "fractions" => FRACTIONS,
+        "caller" => CALLER,
+        "time" => TIME,
+        _ => name,
     }
+}
 
-    // Where the place is.
-    fn fits_around(&self, spot: &Spot<'_>) -> bool {
-        fits(self.level, spot.level, spot.own)
-            && fits(self.begin, spot.begin, spot.own)
-            && fits(self.named, spot.named, spot.own)
+// Whether a part of a rule with tokens fits.
+fn fits_tokens(spot: &Spot<'_>, expected: &Expected, name: &str, tokens: &str) -> bool {
+    if name == "could" {
+        expected.has_all(tokens)
+    } else if name == "could_not" {
+        !expected.has_any(tokens)
+    } else {
+        fits_token(tokens, text_for(spot, name), spot.own)
     }
+}
 
-    // What stands before it.
-    fn fits_before(&self, spot: &Spot<'_>) -> bool {
-        fits(self.third, spot.third, spot.own)
-            && fits(self.second, spot.second, spot.own)
-            && fits(self.first, spot.first, spot.own)
-            && (!self.joined || spot.is_joined())
+// Whether a part of a rule fits.
+fn fits_part(spot: &Spot<'_>, expected: &Expected, part: &str) -> bool {
+    match part.split_once(' ') {
+        Some((name, tokens)) => fits_tokens(spot, expected, name, tokens),
+        None => if part == "alone" {
+            expected.is_one()
+        } else {
+            spot.is_joined()
+        },
     }
+}
 
-    // What stands there.
-    fn fits_found(&self, spot: &Spot<'_>) -> bool {
-        fits(self.found, spot.found, spot.own) && fits(self.next, spot.next, spot.own)
+// Whether all of its parts do.
+fn fits(spot: &Spot<'_>, expected: &Expected, parts: &str) -> bool {
+    for part in parts.split(" & ") {
+        if !fits_part(spot, expected, part) {
+            return false;
+        }
     }
-
-    fn fits_spot(&self, spot: &Spot<'_>) -> bool {
-        self.fits_found(spot) && self.fits_before(spot) && self.fits_around(spot)
-    }
+    true
 }
 
 /// The text of the first rule that fits; empty where none does.
-pub fn help_by(rules: &[Rule], spot: &Spot<'_>, expected: &Expected) -> &'static str {
-    for rule in rules {
-        if rule.fits_spot(spot) && rule.fits_expected(expected) {
-            return rule.help;
+pub fn help_by(rules: &'static str, spot: &Spot<'_>, expected: &Expected) -> &'static str {
+    for rule in rules.split('\n') {
+        if let Some((parts, help)) = rule.split_once(" => ") {
+            if fits(spot, expected, parts) {
+                return help;
+            }
         }
     }
     ""
-}
-
-/// The names of tokens in a text.
-const NAMES: [&str; 8] = [
-    "third", "second", "first", "found", "next", "after", "begin", "own",
-];
-
-// A piece of a text between two `#` that names a token, or is a part of it.
-fn put_token(words: &mut Words, spot: &Spot<'_>, piece: &str) {
-    let tokens = [
-        spot.third,
-        spot.second,
-        spot.first,
-        spot.found,
-        spot.next,
-        spot.after,
-        spot.begin,
-        spot.own,
-    ];
-    for number in 0..8 {
-        if NAMES[number] == piece {
-            return words.put(tokens[number]);
-        }
-    }
-    words.put(piece);
 }
 
 // A piece of a text between two `#`.
@@ -193,7 +147,7 @@ fn put_piece(words: &mut Words, spot: &Spot<'_>, piece: &str) {
     } else if piece == "decimal" {
         put_decimal(words, spot.first, spot.found);
     } else {
-        put_token(words, spot, piece);
+        words.put(text_for(spot, piece));
     }
 }
 

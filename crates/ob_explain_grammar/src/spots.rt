@@ -2,6 +2,7 @@
 
 use crate::expected::Expected;
 use crate::fronts::Front;
+use crate::parts::has_word;
 use crate::rules::{BODY, MEMBER, PROGRAM, STATE};
 use ob_base::Span;
 use ob_explain_page::shown_at;
@@ -105,14 +106,14 @@ fn own_name<'a>(text: &'a [u8], tokens: &[Token], front: &Front) -> &'a str {
 }
 
 /// The words by which names are declared that a place may be about.
-const DECLARED_BY: [&str; 4] = ["contract", "interface", "state", "transaction"];
+const DECLARED_BY: &str = "contract interface state transaction";
 
 /// The word by which a text first declares a name, or nothing.
 pub fn declaring<'a>(text: &'a [u8], tokens: &[Token], name: &str) -> &'a str {
     let mut before = "";
     for token in tokens {
         let word = shown_at(text, token.span);
-        if word == name && DECLARED_BY.contains(&before) {
+        if word == name && has_word(DECLARED_BY, before) {
             return before;
         }
         before = word;
@@ -121,7 +122,7 @@ pub fn declaring<'a>(text: &'a [u8], tokens: &[Token], name: &str) -> &'a str {
 }
 
 /// Signs behind a name that is assigned or called upon.
-const BEHIND_USED: [&str; 3] = ["=", ".", "::"];
+const BEHIND_USED: &str = "= . ::";
 
 // The token that begins a member or statement, unless it is used as a name.
 fn begin_of<'a>(text: &'a [u8], tokens: &[Token], front: &Front) -> &'a str {
@@ -129,7 +130,7 @@ fn begin_of<'a>(text: &'a [u8], tokens: &[Token], front: &Front) -> &'a str {
         return "";
     };
     let behind = word_at(text, tokens, Some(number.saturating_add(1)));
-    if BEHIND_USED.contains(&behind) {
+    if has_word(BEHIND_USED, behind) {
         ""
     } else {
         word_at(text, tokens, Some(number))
@@ -146,18 +147,7 @@ fn level_of(open: usize, member: &str) -> &'static str {
 }
 
 /// The tokens that begin or end something else than an expression.
-const BEGINNING: [&str; 10] = [
-    "}",
-    "return",
-    "if",
-    "int",
-    "bool",
-    "string",
-    "->",
-    "disown",
-    "transaction",
-    "state",
-];
+const BEGINNING: &str = "} return if int bool string -> disown transaction state";
 
 impl<'a> Spot<'a> {
     /// Around a place before which so many of the tokens stand.
@@ -207,6 +197,6 @@ impl<'a> Spot<'a> {
 
     /// Whether a `;` could stand here, and the token is one that begins or ends something else.
     pub fn lacks_semicolon(&self, expected: &Expected) -> bool {
-        expected.has(";") && (self.on_new_line() || BEGINNING.contains(&self.found))
+        expected.has(";") && (self.on_new_line() || has_word(BEGINNING, self.found))
     }
 }

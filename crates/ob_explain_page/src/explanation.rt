@@ -44,6 +44,16 @@ impl Words {
         self.put(rest);
     }
 
+    /// Puts a name with its article. A `u` is taken for one that is spoken as in `unit`.
+    pub fn put_a(&mut self, name: &str) {
+        self.put(match name.as_bytes().first() {
+            Some(letter) if b"AEIOaeio".contains(letter) => "an `",
+            _ => "a `",
+        });
+        self.put(name);
+        self.put("`");
+    }
+
     /// Puts a number in digits.
     pub fn put_number(&mut self, number: u64) {
         match format!(in self.alloc; "{number}") {
