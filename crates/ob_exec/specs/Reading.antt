@@ -74,5 +74,6 @@ abbrev pub result_read : ℕ → Progress → List ReadItem
 result_read count (Finished value) = value_read count (option_map value_of value)
 result_read count progress = []
 
+-- what the end of a run reads: the object that it gives, where that is put into a Shared handle
 abbrev pub end_read : ℕ → Option (List ℕ) → Option Mode → Progress → List ReadItem
 end_read count into given progress = if is_shared_given into given then result_read count progress else []

@@ -107,10 +107,10 @@ fn say_lost(case: &Case<'_>, words: &mut Words) {
 fn say_owner(case: &Case<'_>, words: &mut Words, place: Place) {
     case.put_place(words, place);
     words.put(match hidden_field(case, place) {
-        Some(_) => " may own a `",
-        None => " still owns a `",
+        Some(_) => " may own ",
+        None => " still owns ",
     });
-    say(words, &[case.contract_of(place), "`"]);
+    words.put_a(case.contract_of(place));
 }
 
 // How `this` isn't lost at the end.
@@ -203,11 +203,17 @@ fn say_branches(case: &Case<'_>, other: &Context, words: &mut Words, place: Plac
         ("if the condition doesn't hold", "if it does")
     };
     case.put_place(words, place);
+    words.put(" still owns ");
+    words.put_a(of);
     say(
         words,
-        &[" still owns a `", of, "` at the end of this `if` "],
+        &[
+            " at the end of this `if` ",
+            keeps,
+            ", and no longer ",
+            loses,
+        ],
     );
-    say(words, &[keeps, ", and no longer ", loses]);
 }
 
 /// An asset that one branch keeps and the other doesn't.
@@ -238,7 +244,12 @@ pub fn explain_this(case: &Case<'_>, told: &mut Explanation) {
     let perm = other.counted(this);
     put_held(&mut told.what, case.frame.table(), other.kind(this), perm);
     told.what.put("` if it doesn't");
-    told.help.put("hand `this` on in both branches or in none, or return in one of them.");
+    told.help.put(match case.frame.signature().exit.mode {
+        Mode::Owned => "hand `this` on in none of the branches, or `revert` where you do.",
+        _ => {
+            "hand `this` on in the same way in both branches, or `revert` in the one that doesn't; where there is no `else`, write `else { revert \"..\"; }`."
+        }
+    });
 }
 
 // The place that isn't left as was promised, with what was: a parameter, or `this`.

@@ -134,7 +134,7 @@ fn explain_constructor(case: &Case<'_>, told: &mut Explanation) {
     say(&mut told.what, &["the constructor of `", own]);
     told.what.put("` uses `this`, which isn't whole before the constructor ends");
     told.help.put(
-        "set fields by their names and change the state; call a transaction once the object is made.",
+        "set fields by their names and change the state, without a test; what needs `this` is done once the object is made.",
     );
 }
 
@@ -143,13 +143,9 @@ fn explain_staged(shown: &str, told: &mut Explanation) {
     say(&mut told.what, &["the field that is set here by `", shown]);
     told.what
         .put("::` isn't followed by the change to that state");
-    say(
-        &mut told.help,
-        &["write `->", shown, ";` directly after it"],
-    );
-    say(
-        &mut told.help,
-        &[", or after the other fields of `", shown, "`."],
+    told.help.put_with(
+        "write `->{};` directly after it; where other fields of `{}` have no value yet, set these before it.",
+        &[shown, shown],
     );
 }
 

@@ -9,16 +9,13 @@ use ob_table::Table;
 pub fn say_letting(words: &mut Words, text: &[u8], table: &Table, at: LettingAt) {
     let shown = shown_at(text, at.span);
     match at.letting {
-        Letting::Shared(kind) => say(
-            words,
-            &[
-                "`",
-                shown,
-                "` owns a `",
-                name_of_kind(table, kind),
-                "` and is shared from here on: nobody owns that asset again, and it may be lost",
-            ],
-        ),
+        Letting::Shared(kind) => {
+            say(words, &["`", shown, "` owns "]);
+            words.put_a(name_of_kind(table, kind));
+            words.put(
+                " and is shared from here on: nobody owns that asset again, and it may be lost",
+            );
+        }
         Letting::Disowned(kind) => say(
             words,
             &[

@@ -38,11 +38,20 @@ pub fn explain_unowned(case: &Case<'_>, told: &mut Explanation) {
 
 /// A test inside a test of the same place.
 pub fn explain_tested(case: &Case<'_>, told: &mut Explanation) {
-    say(&mut told.what, &["`", case.shown()]);
-    told.what
-        .put("` is under test already, by an `if` around this one");
-    told.help
-        .put("its state is known here: leave this test out.");
+    let Form::Test { place, .. } = case.form() else {
+        return;
+    };
+    say(
+        &mut told.what,
+        &[
+            "`",
+            case.shown(),
+            "` is under test already, by an `if` around this one, and held as `",
+        ],
+    );
+    case.put_held(&mut told.what, place.place);
+    told.what.put("` here");
+    told.help.put("leave this test out, or test it in the `else` of that `if`, or after it.");
 }
 
 // The field under test that a change of state ends or gives.

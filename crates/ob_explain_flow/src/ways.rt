@@ -273,27 +273,22 @@ fn shared_again<'a>(before: Way<'a>, after: Way<'a>) -> Way<'a> {
     }
 }
 
-// Whether a term is a part of what the `return` gives of which the premise is asked: that is done before it.
-fn is_returned(case: &Case<'_>, term: &Term) -> bool {
-    match case.form() {
-        Form::Return { .. } => term.span.start < case.stop.term.span.end,
+// Whether a form is a call on `this`, and the premise is asked of the same call.
+fn is_call_asked(case: &Case<'_>, form: &Form) -> bool {
+    match (form, case.form()) {
+        (Form::CallThis { tx, .. }, Form::CallThis { tx: asked, .. }) => tx.0 == asked.0,
         _ => false,
     }
 }
 
-// Whether a term is the one of which the premise is asked, or stands behind it.
+// Whether a term is the one of which the premise is asked, or stands behind it. The terms of one statement have the same place.
 fn is_past(case: &Case<'_>, term: &Term) -> bool {
-    let until = case.stop.term.span.start;
-    if term.span.start > until {
-        return !is_returned(case, term);
+    let until = case.stop.term.span;
+    if term.span.start != until.start {
+        return term.span.start > until.start;
     }
-    if term.span.start < until {
-        return false;
-    }
-    match &term.form {
-        Form::CallThis { .. } if term.span == case.fault.span => true,
-        form => use_at(case.frame, form, case.fault.span).is_some(),
-    }
+    use_at(case.frame, &term.form, case.fault.span).is_some()
+        || case.fault.span == until && is_call_asked(case, &term.form)
 }
 
 // Whether the premise is asked inside of a branch, up to this place of the text.

@@ -23,6 +23,7 @@ could :: & found - & next - => write `#first# = #first# - 1;`: there is no `--`.
 joined & second #name & first + & found + => write `#second# = #second# + 1;` as a statement of its own: there is no `++`.
 third #name & second - & first - & found ; , ) => write `#third# = #third# - 1;` as a statement of its own: there is no `--`.
 could :: & found @ => leave the permission out: what a local variable holds follows from its use. Write `#first# x = ..;`.
+second new & found @ => leave the permission out: the constructor says what is held of a new object. Write `new #first#(..)`.
 could :: & named state & found ; } => a change of state is written `->#first#;`.
 could :: & named transaction & found ; } => a call has parentheses: `#first#();`.
 could :: & found ; } => a name alone is no statement: assign to it, as in `#first# = ..;`.

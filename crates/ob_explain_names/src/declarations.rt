@@ -158,9 +158,11 @@ pub fn explain_owner(told: &mut Explanation, site: &Site<'_>) {
     let name = site.near.word();
     let own = word_of(site.around.node().name.as_bytes());
     let of = site.near.held_name();
+    told.what.put_with("the field `{}` owns ", &[name]);
+    told.what.put_a(of);
     told.what.put_with(
-        "the field `{}` owns a `{}`, which is an asset, and `{}` is none: with it the asset could be lost",
-        &[name, of, own],
+        ", which is an asset, and `{}` is none: with it the asset could be lost",
+        &[own],
     );
     told.help.put_with(
         "write `asset contract {}`, or hold the field as `{}@Shared` or `{}@Unowned`.",

@@ -10,7 +10,7 @@ pub const NO_NULL: &str =
 pub const NULLS: [&str; 6] = ["null", "nil", "None", "nullptr", "undefined", "NULL"];
 
 /// Of words of other languages.
-pub const FOREIGN: [Hint; 13] = [
+pub const FOREIGN: [Hint; 14] = [
     Hint {
         of: &[
             "Int", "integer", "Integer", "uint", "uint8", "uint64", "uint256", "int64", "int256",
@@ -61,6 +61,10 @@ pub const FOREIGN: [Hint; 13] = [
     Hint {
         of: &["now", "block", "timestamp"],
         help: TIME,
+    },
+    Hint {
+        of: &["random", "rand", "randint"],
+        help: "there is no chance: a call gives each number by a parameter, as in `transaction draw(int n)`, and may choose it.",
     },
     Hint {
         of: &["emit", "log", "print", "println", "printf", "console"],

@@ -367,7 +367,7 @@ fn help_with_result(wanted: InferredKind, has: InferredKind) -> &'static str {
 fn help_with_value(has: InferredKind) -> &'static str {
     match has {
         InferredKind::Reference(_) => {
-            "`==` and `!=` compare values; two references aren't compared."
+            "`==` and `!=` compare values. Objects that belong together share a mark: see 'A mark, in the place of comparing references' in docs/GUIDE.md."
         }
         _ => "",
     }
