@@ -1,11 +1,12 @@
 #!/usr/bin/env python3
-"""Runs cases against the proved program: real processes, with real files, of whose output each byte counts.
+"""Runs cases against the proved programs: real processes, with real files, of whose output each byte counts.
 
-  python3 docs/cases.py [--program PROGRAM] [SHEET | SHEET:WORDS]..
-  python3 docs/cases.py [--program PROGRAM] --answer < SHEET
+  python3 docs/cases.py [--program PROGRAM] [--asked CASE_PROGRAM] [SHEET | SHEET:WORDS]..
+  python3 docs/cases.py [--program PROGRAM] [--asked CASE_PROGRAM] --answer < SHEET
 
-It runs the sheets that `crates/ob_conformance/data/index.txt` gives to `cases.py`, or those that are named alone; with `SHEET:WORDS` the cases
-of that sheet whose title has these words. The program is the one that the gate has left in `crates/obsidian/out`, if none is named.
+It runs the sheets of `crates/ob_conformance/data/index.txt`, or those that are named alone; with `SHEET:WORDS` the cases of that sheet whose
+title has these words. The program is the one that the gate has left in `crates/obsidian/out`, if none is named. What it doesn't show is asked
+of the case program, which the gate has left in `crates/ob_conformance/out`; if none is named, it is the one that the same compiler has made.
 It says of each sheet how many cases agree, shows those that don't, and ends with how many agree of all. The status is 1 where one
 doesn't agree, where a sheet can't be read, or where a sheet of the folder isn't in the index just once. With `--answer` it reads a sheet
 from standard input, and writes what comes of each case in place of comparing it.
@@ -24,17 +25,24 @@ import tempfile
 from concurrent.futures import ThreadPoolExecutor
 from dataclasses import dataclass, field
 
+import images
+import questions
+
 TOP = os.path.dirname(os.path.dirname(os.path.abspath(__file__)))
 DATA = os.path.join(TOP, "crates", "ob_conformance", "data")
 PROGRAM = os.path.join(TOP, "crates", "obsidian", "out", "obsidian")
-# What stands before a sheet's name in the index.
-RUNNERS = (b"cases.py ", b"ob_conformance ")
+CASE_PROGRAM = os.path.join(TOP, "crates", "ob_conformance", "out", "ob_conformance")
+# How the name of what Rattle's own compiler makes ends.
+BY_RATTLE = ".by-rattle"
+# What stands before a sheet's name in the index: the program that is asked what its cases ask.
+PROGRAMS = (b"obsidian ", b"ob_conformance ")
 # How many bytes are shown of what was wanted and of what came.
 MOST_SHOWN = 4000
-# After how many seconds a process is cut.
+# After how many seconds a process is cut, and the case program, which is asked many questions at once.
 PATIENCE = 60
-# The kinds that this file runs: the parts that hold what is asked and what is wanted, and the others that such a case may have.
-KINDS = {
+PATIENCE_OF_MANY = 600
+# The kinds that are asked of the program: the parts that hold what is asked and what is wanted, and the others that such a case may have.
+OF_PROGRAM = {
     b"check": (b"text", b"answer", ()),
     b"serve": (b"text", b"answer", ()),
     b"explain": (b"text", b"answer", ()),
@@ -43,7 +51,14 @@ KINDS = {
     b"store": (b"runs", b"answer", (b"text", b"input", b"output")),
     b"told": (b"words", b"answer", (b"text", b"input")),
     b"told-of-store": (b"runs", b"answer", (b"text", b"input", b"output")),
+    b"whole": (b"text", b"answer", ()),
+    b"fronts": (b"text", b"answer", ()),
+    b"code": (b"text", b"answer", ()),
+    b"compiled": (b"text", b"answer", ()),
 }
+# Those of which the case program is asked. The code of what `calls` runs is taken from a store of the program.
+OF_CASE_PROGRAM = {kind: parts[:3] for kind, parts in questions.KINDS.items()} | {b"calls": (b"runs", b"answer", (b"text", b"objects"))}
+KINDS = OF_PROGRAM | OF_CASE_PROGRAM
 # The parts that a table of each kind may have.
 OF_TABLES = (b"front", b"back", b"every", b"answer-front", b"answer-back")
 # What the first marks of a line stand for.
@@ -78,7 +93,7 @@ class Case:
         return self.part(KINDS[self.kind][0])
 
     def wanted(self):
-        status = self.parts.get(b"status", b"0 Done") + b"\n" if self.kind == b"run" else b""
+        status = self.parts.get(b"status", b"0 Done") + b"\n" if self.kind in (b"run", b"failing-run") else b""
         return status + self.part(KINDS[self.kind][1])
 
     def add(self, name, more):
@@ -173,12 +188,12 @@ class Sheet:
 
 
 def sheets_of_index():
-    """The names of the sheets of each runner, as the index has them; each sheet of the folder stands there once."""
+    """The names of the sheets of each program, as the index has them; each sheet of the folder stands there once."""
     lines = read("index.txt").split(b"\n")
-    found = {runner: [line[len(runner):].decode() for line in lines if line.startswith(runner)] for runner in RUNNERS}
+    found = {program: [line[len(program):].decode() for line in lines if line.startswith(program)] for program in PROGRAMS}
     there = sorted(name for name in os.listdir(DATA) if name.endswith(".txt") and name != "index.txt")
     if sorted(name for names in found.values() for name in names) != there:
-        raise Trouble("the index doesn't name each sheet of the folder once, behind who runs it")
+        raise Trouble("the index doesn't name each sheet of the folder once, behind the program that is asked")
     return found
 
 
@@ -274,6 +289,77 @@ def come_of_cuts(program, case):
         lines = pool.map(lambda end: check(program, text[:end]), range(1, len(text) + 1))
     others = (line for line in lines if line.count(b"\n") != 1 or not line.endswith(b"\n"))
     return next(others, b"one line each\n")
+
+
+# ---- tokens left out and changed, and code
+
+TOKEN = re.compile(rb'[A-Za-z_][A-Za-z0-9_]*|[0-9]+|"(?:\\.|[^"\\])*"|->|>>|::|==|!=|<=|>=|&&|\|\||[^\s]')
+
+
+def place_of(text, at):
+    """The line and the column of an offset."""
+    front = text[:at]
+    return b"%d:%d" % (front.count(b"\n") + 1, len(front[front.rfind(b"\n") + 1:].decode()) + 1)
+
+
+def is_expected_at(program, text, place):
+    """Whether the first fault of a text is that another token is expected at this place."""
+    return check(program, text) == place + b": 201 Expected\n"
+
+
+def counts(program, text, token):
+    """Whether a token counts: with `while`, which stands nowhere, in its place that is refused, and the tokens before it are at their end."""
+    begin, end = token.span()
+    changed = text[:begin] + b" while " + text[end:]
+    is_cut = begin == TOKEN.search(text).start() or is_expected_at(program, text[:begin], place_of(text, begin))
+    return is_cut and is_expected_at(program, changed, place_of(changed, begin + 1))
+
+
+def come_of_whole(program, case):
+    text = case.asked()
+    if re.search(rb": (10[0-9]|20[12]) ", check(program, text)):
+        return b"refused\n"
+    others = [b"%d " % number for number, token in enumerate(TOKEN.finditer(text)) if not counts(program, text, token)]
+    return b"".join(others) + (b"do not count\n" if others else b"each token counts\n")
+
+
+def come_of_fronts(program, case):
+    text = case.asked()
+    ends = [token.start() for token in TOKEN.finditer(text)] + [len(text)]
+    found = [b"%d" % number for number, end in enumerate(ends) if not is_expected_at(program, text[:end], place_of(text, end))]
+    return b" ".join(found) + b"\n"
+
+
+def image_of(program, text):
+    """The image of a text's code, from the store that the program begins for it; or nothing, and what it writes where it begins none."""
+    with tempfile.TemporaryDirectory() as folder:
+        room = Room(program, folder, text)
+        ended = room.run([b"serve", b"p", b"s"], b"")
+        line = said(ended, b"")
+        if line:
+            return b"", line
+        with open(os.path.join(folder, "s"), "rb") as file:
+            store = file.read()
+    image = store[17:-1]
+    # An open area of the first serial number, the length of the image, and behind it the closed gate of the first record.
+    if store != b"\1OBSA" + (1).to_bytes(8, "big") + len(image).to_bytes(4, "big") + image + b"\0":
+        raise Trouble("no store without a record")
+    return image, b""
+
+
+def come_of_code(program, case):
+    image, line = image_of(program, case.asked())
+    return line or images.code_of(image)
+
+
+def come_of_compiled(program, case):
+    image, line = image_of(program, case.asked())
+    return line or image.hex().encode() + b"\n"
+
+
+def come_of_calls(program, case):
+    image, line = image_of(program, case.part(b"text"))
+    return line or (yield from questions.runs_of(image, case.part(b"objects"), case.asked()))
 
 
 def told(ended):
@@ -410,20 +496,73 @@ COMES = {
     b"store": come_of_store,
     b"told": come_of_told,
     b"told-of-store": come_of_told_of_store,
+    b"whole": come_of_whole,
+    b"fronts": come_of_fronts,
+    b"code": come_of_code,
+    b"compiled": come_of_compiled,
+    b"calls": come_of_calls,
 }
 
 
-# ---- reports
+# ---- questions
 
-def come_of(program, case):
-    """What comes of a case."""
+@dataclass
+class Asking:
+    """A case that isn't answered yet: how it goes on, and the question that it asks."""
+    steps: object
+    question: str = ""
+
+
+def go_on(how):
+    """What comes of a case, or how it asks on; or why it can't be run."""
     try:
-        return COMES[case.kind](program, case)
+        return how()
     except subprocess.TimeoutExpired:
         return f"cut after {PATIENCE} seconds\n".encode()
-    except (Trouble, ValueError, OSError) as error:
+    except (Trouble, ValueError, LookupError, OSError) as error:
         return f"not run: {error}\n".encode()
 
+
+def asked_on(steps, answer=None):
+    try:
+        return Asking(steps, steps.send(answer))
+    except StopIteration as end:
+        return end.value
+
+
+def begin(program, case):
+    """What comes of a case, or how it asks the case program."""
+    if case.kind in questions.KINDS:
+        return go_on(lambda: asked_on(questions.KINDS[case.kind][3](case)))
+    if case.kind in OF_CASE_PROGRAM:
+        return go_on(lambda: asked_on(COMES[case.kind](program, case)))
+    return go_on(lambda: COMES[case.kind](program, case))
+
+
+def answers_to(case_program, lines):
+    """An answer to each question: `!` where the case program ends before it."""
+    given = "".join(line + "\n" for line in lines).encode()
+    try:
+        ran = subprocess.run([case_program], input=given, stdout=subprocess.PIPE, timeout=PATIENCE_OF_MANY)
+    except subprocess.TimeoutExpired:
+        return ["!"] * len(lines)
+    answers = ran.stdout.decode().split("\n")[:-1]
+    return (answers + ["!"] * len(lines))[: len(lines)]
+
+
+def come_of_all(case_program, pool, begun):
+    """What comes of cases that were begun: the case program is asked all their questions at once, as often as they ask on."""
+    come = list(begun)
+    while asking := [at for at, it in enumerate(come) if isinstance(it, Asking)]:
+        parts = [asking[at::os.cpu_count()] for at in range(os.cpu_count())]
+        answers = pool.map(lambda part: answers_to(case_program, [come[at].question for at in part]), filter(None, parts))
+        for part, answered in zip(filter(None, parts), list(answers)):
+            for at, answer in zip(part, answered):
+                come[at] = go_on(lambda: asked_on(come[at].steps, answer))
+    return come
+
+
+# ---- reports
 
 def marked(mark, data):
     """The bytes as lines that each begin with a mark."""
@@ -447,41 +586,45 @@ def report(topic, cases, come):
 
 def chosen(names):
     """The sheets that are asked for, each with its cases."""
-    sheets = sheets_of_index()[RUNNERS[0]]
-    asked = names or [name[: -len(".txt")] for name in sheets]
+    sheets = sheets_of_index()
+    asked = names or [name[: -len(".txt")] for program in PROGRAMS for name in sheets[program]]
     found = []
     for name in asked:
-        topic, _, words = name.partition(":")
-        if topic + ".txt" not in sheets:
-            raise Trouble(f"{topic}: the index gives no such sheet to cases.py")
+        topic, _, words = name.removesuffix(".txt").partition(":")
+        kinds = [kinds for kinds, program in zip((OF_PROGRAM, KINDS), PROGRAMS) if topic + ".txt" in sheets[program]]
+        if not kinds:
+            raise Trouble(f"{topic}: the index has no such sheet")
         try:
             cases = [case for case in Sheet(read(topic + ".txt")).cases if words.encode() in case.title]
         except Trouble as trouble:
             raise Trouble(f"{topic}: {trouble}") from trouble
         if not cases:
             raise Trouble(f"{name}: no case")
+        if any(case.kind not in kinds[0] for case in cases):
+            raise Trouble(f"{topic}: the program that the index names isn't asked this")
         found.append((topic, cases))
     return found
 
 
-def compare(program, names):
+def compare(program, case_program, names):
     """Runs the sheets of these names, and says of each how many cases agree. Returns whether all do."""
     sheets = chosen(names)
     agreeing = total = 0
-    with ThreadPoolExecutor(os.cpu_count()) as pool:
-        begun = [(topic, cases, [pool.submit(come_of, program, case) for case in cases]) for topic, cases in sheets]
+    with ThreadPoolExecutor(os.cpu_count()) as pool, ThreadPoolExecutor(os.cpu_count()) as asking:
+        begun = [(topic, cases, [pool.submit(begin, program, case) for case in cases]) for topic, cases in sheets]
         for topic, cases, futures in begun:
-            agreeing += report(topic, cases, [future.result() for future in futures])
+            agreeing += report(topic, cases, come_of_all(case_program, asking, [future.result() for future in futures]))
             total += len(cases)
     print(f"{agreeing} of {total} cases agree")
     return agreeing == total
 
 
-def answer(program):
+def answer(program, case_program):
     """Writes what comes of each case of the sheet on standard input."""
     cases = Sheet(sys.stdin.buffer.read(), compares=False).cases
     with ThreadPoolExecutor(os.cpu_count()) as pool:
-        for case, came in zip(cases, pool.map(lambda case: come_of(program, case), cases)):
+        begun = list(pool.map(lambda case: begin(program, case), cases))
+        for case, came in zip(cases, come_of_all(case_program, pool, begun)):
             sys.stdout.buffer.write(b"= " + case.title + b"\n" + marked(b"| ", came))
     return True
 
@@ -489,14 +632,17 @@ def answer(program):
 def main():
     parser = argparse.ArgumentParser(usage=__doc__.split("\n\n")[1].strip())
     parser.add_argument("--program", default=PROGRAM)
+    parser.add_argument("--asked")
     parser.add_argument("--answer", action="store_true")
     parser.add_argument("sheets", nargs="*")
     given = parser.parse_args()
     program = os.path.abspath(given.program)
-    if not os.access(program, os.X_OK):
-        sys.exit(f"{program} isn't there: .ci/run makes it")
+    case_program = os.path.abspath(given.asked or CASE_PROGRAM + BY_RATTLE * program.endswith(BY_RATTLE))
+    for it in (program, case_program):
+        if not os.access(it, os.X_OK):
+            sys.exit(f"{it} isn't there: .ci/run makes it")
     try:
-        is_well = answer(program) if given.answer else compare(program, given.sheets)
+        is_well = answer(program, case_program) if given.answer else compare(program, case_program, given.sheets)
     except Trouble as trouble:
         sys.exit(f"cases.py: {trouble}")
     sys.exit(0 if is_well else 1)

@@ -1,12 +1,13 @@
 //! What a store in an area of some size answers.
-ghost use Rattle.std.specs.Prelude.{◌≤◌, ◌^◌};
+ghost use Rattle.std.specs.Prelude.{◌≤◌, ◌^◌, IfSome};
 ghost use Rattle.ob_code.specs.Images.{image};
 ghost use Rattle.ob_serve.specs.Kept.{IsServable};
 
-use crate::front::program_of;
-use ob_conformance_lines::{Lines, Trouble};
+use crate::desk::area_in;
+use crate::page::Page;
+use crate::question::Question;
 use ob_disk::SureDisk;
-use ob_front::Seen;
+use ob_front::{Compiled, Seen, compile};
 use ob_io::{SureSink, SureSource};
 use ob_serve::{Served, serve};
 use ob_store::{OpenError, Store};
@@ -15,38 +16,32 @@ use std::alloc::Global;
 
 /// The units of fuel that each request has.
 const FUEL: u32 = 100_000;
-/// How many bytes the disk and the output hold.
+/// How many bytes the disk holds.
 const ROOM: u64 = 1 << 32;
-/// The largest area that a case may ask for.
-const MOST_AREA: u64 = 1 << 31;
 
-// The size that these digits are. Where they are none, it is noted.
-fn size_of(digits: &str, lines: &mut Lines) -> u64
-    ensures some { 1 ≤ result }
-    ensures small { result ≤ 2 ^ 31 }
+fn program_of(alloc: Global, text: &[u8], seen: &mut Seen) -> Option<Compiled>
+    ensures fits { IfSome result (λ program. image.fits program.code) }
+    ensures servable { IfSome result (λ program. IsServable program.code) }
 {
-    let size = lines.number_in(digits);
-    if size == 0 || size > MOST_AREA {
-        lines.fail(Trouble::Line("no size of an area"));
-        return MOST_AREA;
+    match compile(alloc, text, seen) {
+        Ok(program) => Some(program),
+        Err(_) => None,
     }
-    size
 }
 
 // Puts how many bytes an area would have to have that has no room.
-fn put_need(error: OpenError, lines: &mut Lines) {
+fn put_need(error: OpenError, page: &mut Page) {
     match error {
         OpenError::Room(need, _) => {
-            lines.put("needs ");
-            lines.show(&need);
-            lines.end();
+            page.word("needs");
+            page.number(need);
         }
-        _ => lines.fail(Trouble::Memory),
+        _ => page.fail(),
     }
 }
 
 // The replies to lines over a blank store in an area of this size, or how many bytes it would have to have.
-fn put_replies(alloc: Global, code: &Verified, size: u64, input: &mut SureSource, lines: &mut Lines)
+fn put_replies(alloc: Global, code: &Verified, size: u64, input: Vec<u8>, page: &mut Page)
     requires servable { IsServable code.now }
     requires fits { image.fits code.now }
     requires some { 1 ≤ size }
@@ -55,25 +50,33 @@ fn put_replies(alloc: Global, code: &Verified, size: u64, input: &mut SureSource
     let mut disk = SureDisk::new(alloc, ROOM);
     let mut store = match Store::open_store(alloc, &mut disk, code, size) {
         Ok(store) => store,
-        Err(error) => return put_need(error, lines),
+        Err(error) => return put_need(error, page),
     };
+    let mut input = SureSource::new(input);
     let mut output = SureSink::new(alloc, usize::MAX);
-    let served = serve(alloc, code, &mut store, FUEL, input, &mut output, &mut disk);
+    let served = serve(
+        alloc,
+        code,
+        &mut store,
+        FUEL,
+        &mut input,
+        &mut output,
+        &mut disk,
+    );
     match (served, output.bytes()) {
-        (Served::Done, Some(replies)) => lines.put_text(replies),
-        _ => lines.fail(Trouble::Memory),
+        (Served::Done, Some(replies)) => page.bytes(replies),
+        _ => page.fail(),
     }
 }
 
-/// What the lines of a text are answered over a blank store of a program in an area of the size that its first line says.
-pub fn area(alloc: Global, text: &[u8], asked: &[u8], seen: &mut Seen, lines: &mut Lines) {
-    let (size, input) = lines.text_in(asked).split_once('\n').unwrap_or(("", ""));
-    let size = size_of(size, lines);
-    let Some(input) = lines.made(input.as_bytes().to_vec(alloc)) else {
-        return;
-    };
-    let mut input = SureSource::new(input);
-    if let Some(program) = program_of(alloc, text, seen, lines) {
-        put_replies(alloc, &program.code, size, &mut input, lines);
+/// What lines are answered over a blank store of a program in an area of some size: `TEXT SIZE LINES`.
+pub fn area(alloc: Global, asked: &mut Question<'_>, page: &mut Page) {
+    let text = asked.bytes(alloc, page);
+    let size = area_in(asked, page);
+    let input = asked.bytes(alloc, page);
+    let mut seen = Seen::new(alloc);
+    match program_of(alloc, &text, &mut seen) {
+        Some(program) => put_replies(alloc, &program.code, size, input, page),
+        None => page.fail(),
     }
 }

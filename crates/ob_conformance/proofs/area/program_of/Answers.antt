@@ -1,7 +1,7 @@
 use Rattle.std.proofs.Common.{map}
 use Rattle.ob_silica.specs.TermsView.{silica_body_of}
 use Rattle.ob_run.proofs.SessionLemmas.{is_servable}
-use Rattle.ob_conformance.proofs.front.program_of.Goals as goal
+use Rattle.ob_conformance.proofs.area.program_of.Goals as goal
 
 pub returns-in-Ok-clause-servable : goal.returns-in-Ok-clause-servable
 returns-in-Ok-clause-servable c =

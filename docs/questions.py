@@ -1,0 +1,938 @@
+"""What the case program is asked, and how its answers are told. crates/ob_conformance/data/README.md says which questions there are, and what
+cases of each kind expect. Each kind is a generator: it is handed what a case asks, yields questions, and returns the answer as cases have it.
+"""
+import json
+import re
+
+import images
+
+# The room of an output, and the size of an area, where none is named.
+AMPLE = 1 << 30
+AREA = 1 << 26
+# How many calls fail, where all from one on do: more than a run of a case has.
+LATER = 100
+# How many units of fuel a run has that doesn't say it.
+FUEL = 1000
+NO_STATE, OTHER_STATE, BITS = 32, 33, 34
+
+
+class Unasked(ValueError):
+    """Why a case can't be asked."""
+
+
+def told(data):
+    """Bytes as a word of a question."""
+    return data.hex() or "-"
+
+
+class Answer:
+    """The words of an answer, which are read one after another."""
+
+    def __init__(self, line):
+        if line == "!":
+            raise Unasked("the case program has no answer")
+        self.words, self.at = line.split(), 0
+
+    def word(self):
+        self.at += 1
+        if self.at > len(self.words):
+            raise Unasked("the answer is cut")
+        return self.words[self.at - 1]
+
+    def next_is(self, word):
+        """Whether the next word is this one, which is read then."""
+        is_next = self.at < len(self.words) and self.words[self.at] == word
+        self.at += is_next
+        return is_next
+
+    def is_read(self):
+        return self.at == len(self.words)
+
+    def number(self):
+        return int(self.word())
+
+    def bytes(self):
+        word = self.word()
+        return b"" if word == "-" else bytes.fromhex(word)
+
+    def text(self):
+        return self.bytes().decode()
+
+    def place(self):
+        return f"{self.number()}:{self.number()}"
+
+    def end(self, answer):
+        """The answer, once all words are read."""
+        if not self.is_read():
+            raise Unasked(f"words are left: {' '.join(self.words[self.at:])[:200]}")
+        return answer
+
+    def fault(self):
+        """The line of a fault, if it is one."""
+        if not self.next_is("fault"):
+            return None
+        place = self.place()
+        return self.end(f"{place}: {self.number()} {self.word()}\n".encode())
+
+
+def quoted(text):
+    """A text in quotes, with escapes in place of what can't be printed."""
+    names = {"\0": "\\0", "\t": "\\t", "\n": "\\n", "\r": "\\r", '"': '\\"', "\\": "\\\\"}
+    return '"' + "".join(names.get(it) or (it if it.isprintable() else f"\\u{{{ord(it):x}}}") for it in text) + '"'
+
+
+# ---- texts
+
+def tokens(case):
+    answer = Answer((yield f"tokens {told(case.asked())}"))
+    fault = answer.fault()
+    if fault:
+        return fault
+    parts = []
+    while True:
+        stretch = f"{answer.place()} {answer.number()}..{answer.number()}"
+        if answer.is_read():
+            return "; ".join([*parts, stretch + " end\n"]).encode()
+        kind = answer.word()
+        value = quoted(answer.text()) if kind == "Text" else answer.text() if kind == "Name" else answer.word()
+        parts.append(f"{stretch} {kind} {value}")
+
+
+def layout_of(text):
+    answer = Answer((yield f"layout {told(text)}"))
+    fault = answer.fault()
+    return fault or answer.end(answer.bytes())
+
+
+def layout(case):
+    return (yield from layout_of(case.asked()))
+
+
+def again(case):
+    once = yield from layout_of(case.asked())
+    twice = yield from layout_of(once)
+    return b"the same\n" if once == twice else twice
+
+
+def tree(case):
+    line = yield f"tree {told(case.part(b'text'))}"
+    fault = Answer(line).fault()
+    shown = line.removeprefix(" ").encode()
+    return fault or (b"shown" if case.asked() and case.asked() in shown else shown) + b"\n"
+
+
+# ---- class tables
+
+def states(bits, count=BITS):
+    """A set of states: the bits of the first ones, so many, and that of no state."""
+    names = {NO_STATE: "none", OTHER_STATE: "other"}
+    shown = [names.get(bit, str(bit)) for bit in range(BITS) if bits >> bit & 1 and (bit < count or bit == NO_STATE)]
+    return "{" + ",".join(shown) + "}"
+
+
+def perm(answer):
+    mode, bits = answer.word(), answer.number()
+    return mode + (states(bits) if mode == "Owned" else "")
+
+
+def kind(answer, has_perm=True):
+    of = answer.word()
+    if of != "Reference":
+        return of
+    return f"Reference {answer.number()}" + (" " + perm(answer) if has_perm else "")
+
+
+def many(answer, part):
+    return [part(answer) for _ in range(answer.number())]
+
+
+class Tables:
+    """Tells a class table, or terms, line by line from an answer."""
+
+    def __init__(self, answer):
+        self.answer, self.lines, self.level = answer, [], 0
+
+    def line(self, *parts):
+        self.lines.append("  " * self.level + " ".join(str(part) for part in parts))
+
+    def under(self, *parts):
+        """What these functions tell stands one level deeper."""
+        self.level += 1
+        for part in parts:
+            part()
+        self.level -= 1
+
+    def times(self, part):
+        for _ in range(self.answer.number()):
+            part()
+
+    def name(self):
+        return self.answer.text() or "-"
+
+    def seen(self):
+        what = self.answer.word()
+        if what != "this":
+            what += self.answer.word()
+        return f"{what}@{self.answer.place()}"
+
+    # class tables
+
+    def states(self):
+        names = many(self.answer, lambda answer: answer.text())
+        for number, name in enumerate(names):
+            self.line("state", number, name)
+        return len(names)
+
+    def fields(self, count):
+        for number in range(self.answer.number()):
+            name, of = self.name(), kind(self.answer)
+            self.line("field", number, name, of, "available", states(self.answer.number(), count))
+
+    def param(self, number):
+        name, of, exit = self.name(), kind(self.answer), perm(self.answer)
+        self.line("param", number, name, of, "exit", exit if of.startswith("Reference") else "-")
+
+    def listed(self):
+        self.line("listed", self.answer.number(), "entry", perm(self.answer), "exit", perm(self.answer))
+
+    def signature(self, number, is_constructor):
+        answer = self.answer
+        name, private, entry, exit = self.name(), answer.word(), perm(answer), perm(answer)
+        result = kind(answer)
+        self.line("transaction", number, name, "private", private, "entry", "-" if is_constructor else entry, "exit", exit, "result", result)
+        self.under(lambda: [self.param(at + 1) for at in range(answer.number())], lambda: self.times(self.listed))
+
+    def members(self, constructor):
+        self.fields(self.states())
+        for number in range(self.answer.number()):
+            self.signature(number, str(number) == constructor)
+
+    def contract(self, number):
+        answer = self.answer
+        name, asset, main, interface, implements, constructor = self.name(), *[answer.word() for _ in range(5)]
+        marks = ("asset", asset, "main", main, "interface", interface)
+        self.line("contract", number, name, *marks, "implements", implements, "constructor", constructor)
+        self.under(lambda: self.members(constructor))
+
+    def expr(self):
+        answer = self.answer
+        word = answer.word()
+        at = f"{word}@{answer.place()}"
+        if word in ("Number", "Bool"):
+            return self.line(at, answer.word())
+        if word == "Text":
+            return self.line(at, answer.bytes().hex() or "-")
+        if word == "Seen":
+            return self.line(at, self.seen())
+        if word in ("Unary", "Binary"):
+            self.line(at, f"{answer.word()}@{answer.place()}")
+            return self.under(*[self.expr] * (1 if word == "Unary" else 2))
+        if word == "New":
+            self.line(at, "contract", answer.number())
+        elif word == "Call":
+            receiver = "none" if answer.next_is("none") else self.seen()
+            contract, tx = answer.number(), answer.number()
+            self.line(at, "receiver", receiver, "contract", contract, f"t{tx}@{answer.place()}")
+        else:
+            raise Unasked(f"no expression: {word}")
+        return self.under(lambda: self.times(self.expr))
+
+    def value(self):
+        if not self.answer.next_is("none"):
+            self.under(self.expr)
+
+    def given(self):
+        field = self.answer.number()
+        self.line(f"Given@{self.answer.place()} f{field}")
+        self.value()
+
+    def block(self, word):
+        self.line(word, "end", self.answer.place())
+        self.under(lambda: self.times(self.statement))
+
+    def otherwise(self):
+        if self.answer.next_is("otherwise"):
+            self.block("otherwise")
+        elif not self.answer.next_is("none"):
+            raise Unasked("no other branch")
+
+    def branches(self):
+        self.under(lambda: self.block("then"), self.otherwise)
+
+    def statement(self):
+        answer = self.answer
+        word = answer.word()
+        at = f"{word}@{answer.place()}"
+        if word == "Declare":
+            local, place = answer.number(), answer.place()
+            self.line(at, f"l{local}@{place}", kind(answer, has_perm=False))
+            self.value()
+        elif word == "Assign":
+            self.line(at, self.seen())
+            self.value()
+        elif word in ("Stage", "Change"):
+            self.line(at, "state", answer.number())
+            self.under(lambda: self.times(self.given))
+        elif word in ("Call", "Return", "Revert"):
+            self.line(at)
+            self.value()
+        elif word == "Test":
+            self.line(at, self.seen(), "state", answer.number())
+            self.branches()
+        elif word == "If":
+            self.line(at)
+            self.value()
+            self.branches()
+        elif word == "Disown":
+            self.line(at, self.seen())
+        elif word == "Assert":
+            self.line(at, self.seen(), perm(answer))
+        else:
+            raise Unasked(f"no statement: {word}")
+
+    def body(self):
+        answer = self.answer
+        self.line("body", answer.number(), answer.number(), "end", answer.place())
+        self.under(lambda: self.times(self.statement))
+
+    def table(self):
+        for number in range(self.answer.number()):
+            self.contract(number)
+        self.times(self.body)
+
+    # terms
+
+    def named(self):
+        what = self.answer.word()
+        return what if what == "this" else what + self.answer.word()
+
+    def operand(self):
+        what = self.named()
+        return f"{what}@{self.answer.place()}"
+
+    def slot(self):
+        word = self.answer.word()
+        return word if word == "none" else "s" + word
+
+    def operands(self):
+        return ["args", *[self.operand() for _ in range(self.answer.number())]]
+
+    def given_fields(self):
+        for _ in range(self.answer.number()):
+            field = self.answer.number()
+            yield f"f{field}@{self.answer.place()}"
+            yield self.operand()
+
+    def parts(self, word):
+        """What stands behind the word and the place of a term."""
+        answer = self.answer
+        if word == "Const":
+            slot, of = self.slot(), answer.word()
+            return [slot, of, answer.bytes().hex() or "-" if of == "Text" else answer.word()]
+        if word == "Op":
+            return [self.slot(), answer.word(), self.operand(), self.operand(), "line", answer.number()]
+        if word == "Copy":
+            return [self.named(), self.operand()]
+        if word == "Move":
+            return [self.named(), self.operand(), "contract", answer.word()]
+        if word == "New":
+            return [self.slot(), "contract", answer.number(), *self.operands()]
+        if word == "Call":
+            return [self.slot(), "receiver", self.operand(), "contract", answer.number(), f"t{answer.number()}", *self.operands()]
+        if word == "CallThis":
+            return [self.slot(), f"t{answer.number()}", *self.operands()]
+        if word == "Change":
+            return ["state", answer.number(), "given", *self.given_fields()]
+        if word == "Test":
+            return [self.operand(), "state", answer.number(), f"join@{answer.place()}"]
+        if word == "If":
+            return [self.operand(), f"join@{answer.place()}"]
+        if word == "Assert":
+            return [self.operand(), perm(answer)]
+        if word in ("Disown", "Revert"):
+            return [self.operand()]
+        if word == "Return":
+            return ["none" if answer.next_is("none") else self.operand()]
+        if word == "Drop":
+            return [self.slot()]
+        if word in ("Unit", "BadRow"):
+            return []
+        raise Unasked(f"no term: {word}")
+
+    def branch(self, word):
+        self.line(word)
+        self.under(lambda: self.times(self.term))
+
+    def term(self):
+        word = self.answer.word()
+        place = self.answer.place()
+        self.line(f"{word}@{place}", *self.parts(word))
+        if word in ("Test", "If"):
+            self.under(lambda: self.branch("then"), lambda: self.branch("otherwise"))
+
+    def terms_of_body(self):
+        answer = self.answer
+        self.line("body", answer.number(), answer.number(), "slots", answer.number(), "end", answer.place())
+        self.under(lambda: self.times(self.term))
+
+    def told(self, part):
+        part(self)
+        return self.answer.end("".join(line + "\n" for line in self.lines).encode())
+
+
+def table(case):
+    answer = Answer((yield f"table {told(case.asked())}"))
+    return answer.fault() or Tables(answer).told(Tables.table)
+
+
+def terms(case):
+    answer = Answer((yield f"terms {told(case.asked())}"))
+    return answer.fault() or Tables(answer).told(lambda tables: tables.times(tables.terms_of_body))
+
+
+# ---- code and its runs
+
+def verdict(answer):
+    """What the verifier says of code, or where its bytes are no image's; `None` where runs are told."""
+    if answer.next_is("verified"):
+        return b"verified"
+    if answer.next_is("bad"):
+        return f"BadImage {answer.number()}".encode()
+    if answer.next_is("fault"):
+        return f"{answer.number()} {answer.word()} {answer.number()}:{answer.number()}".encode()
+    return None
+
+
+def image(case):
+    data = images.bytes_of_words(case.asked())
+    answer = Answer((yield f"image {told(data)}"))
+    bad = verdict(answer)
+    if bad:
+        return answer.end(bad + b"\n")
+    is_same = answer.bytes() == data
+    return answer.end(verdict(answer) + (b"\n" if is_same else b", encoded as others\n"))
+
+
+def encoded(case):
+    answer = Answer((yield f"image {told(images.bytes_of_words(case.asked()))}"))
+    return (verdict(answer) or answer.bytes().hex().encode()) + b"\n"
+
+
+def value_told(word):
+    """A value, as questions tell it."""
+    if word in ("true", "false"):
+        return "b1" if word == "true" else "b0"
+    if re.fullmatch(r"i-?\d+|o\d+", word):
+        return word
+    if len(word) > 1 and word.startswith('"') and word.endswith('"'):
+        return "x" + told(word[1:-1].encode())
+    raise Unasked(f"no value: {word}")
+
+
+def object_told(words):
+    """An object, as questions tell it."""
+    parts, words = [], iter(words)
+    for word in words:
+        found = re.fullmatch(r"(c|state|f)(\d+)", word)
+        if found and found[1] == "f":
+            parts.append(f"f{found[2]}={value_told(next(words, ''))}")
+        elif found:
+            parts.append({"c": "c", "state": "q"}[found[1]] + found[2])
+        elif word in ("shared", "disowned"):
+            parts.append(word[0])
+        else:
+            raise Unasked(f"no part of an object: {word}")
+    return " ".join(parts)
+
+
+def run_told(words):
+    """A run, as questions tell it."""
+    marks = {"on": "r", "c": "c", "t": "t", "fuel": "u", "slice": "z"}
+    parts, units = [], {"u": FUEL, "z": None}
+    for word in words:
+        found = re.fullmatch(r"(on|c|t|fuel|slice)(\d+)", word)
+        if found and marks[found[1]] in units:
+            units[marks[found[1]]] = int(found[2])
+        elif found:
+            parts.append(marks[found[1]] + found[2])
+        else:
+            parts.append("l" if word == "locked" else value_told(word))
+    slice_units = units["u"] if units["z"] is None else units["z"]
+    return " ".join([*parts, f"u{units['u']}", f"z{slice_units}"])
+
+
+def value_shown(answer):
+    of = answer.word()
+    if of == "Text":
+        return quoted(answer.text())
+    return {"Int": "i", "Object": "o", "Bool": ""}[of] + answer.word()
+
+
+def progress_shown(answer):
+    how = answer.word()
+    if how == "gives":
+        return f"ended {value_shown(answer)}"
+    if how == "revert":
+        return f"revert {quoted(answer.text())}"
+    if how == "state":
+        number, state = answer.number(), answer.word()
+        return f"state o{number}" + ("" if state == "none" else f" state{state}")
+    if how == "reentry":
+        return f"reentry o{answer.number()}"
+    if how == "overflow":
+        return f"overflow line{answer.number()}"
+    return {"stuck": "no step"}.get(how, how)
+
+
+def object_shown(answer):
+    number, contract, state, shared, disowned = (answer.word() for _ in range(5))
+    fields = many(answer, lambda answer: f"f{answer.number()} {value_shown(answer)}")
+    marks = [f"state{state}" * (state != "none"), "shared" * (shared == "true"), "disowned" * (disowned == "true")]
+    return " ".join([f"o{number} is c{contract}", *filter(None, marks), *fields])
+
+
+def run_shown(answer):
+    how = progress_shown(answer)
+    parts = [how, f"units {answer.number()}"]
+    slices = answer.number()
+    if slices > 1:
+        parts.append(f"slices {slices}")
+    reads = [f"o{number}" for number in sorted(many(answer, Answer.number))]
+    if answer.word() == "true":
+        reads.append("next")
+    if reads:
+        parts.append("reads " + " ".join(reads))
+    if how.startswith("ended"):
+        parts += many(answer, object_shown)
+    return "; ".join(parts)
+
+
+def runs_of(data, objects, runs):
+    """What runs of the code of an image come to, on objects."""
+    on = ";".join(object_told(item.split()) for item in objects.decode().split(";") if item.split())
+    each = [[]]
+    for word in runs.decode().split():
+        if word == "then":
+            each.append([])
+        else:
+            each[-1].append(word)
+    answer = Answer((yield f"runs {told(data)} {' | '.join([on, *map(run_told, each)])}"))
+    said = verdict(answer)
+    if said:
+        return answer.end(said + b"\n")
+    return answer.end((" then ".join([run_shown(answer) for _ in each]) + "\n").encode())
+
+
+def steps(case):
+    return (yield from runs_of(images.bytes_of_words(case.asked()), case.part(b"objects"), case.part(b"runs")))
+
+
+def entries(case):
+    return (yield from runs_of(images.bytes_of_words(case.part(b"text")), case.part(b"objects"), case.asked()))
+
+
+# ---- disks
+
+def asked_steps(steps):
+    """The answers to steps on a disk, each as its words, from the steps as questions."""
+    line = yield f"desk {';'.join(steps)}"
+    answers = [Answer(answer) for answer in line.removesuffix(";").split(" ;")] if line != "!" else [Answer(line)]
+    return answers[: len(steps)]
+
+
+def journal_shown(answer):
+    """What a journal says; or the word that stands in its place."""
+    if not answer.next_is("serial"):
+        return " ".join({"none": "no journal"}.get(word, word) for word in answer.words)
+    parts = [f"serial {answer.number()} image {answer.word()} gate {answer.number()}"]
+    return answer.end(" ".join(parts + many(answer, lambda answer: f"payload {answer.word()}")))
+
+
+def disk(case):
+    fails, asked, words = [], [f"area {AREA}"], [None]
+    for step in case.asked().decode().split("; "):
+        word, _, rest = step.partition(" ")
+        data = told(images.bytes_of_words(rest.encode())) if word in ("disk", "begin", "append") else ""
+        if word == "fails":
+            # The disk's bytes are put there by a call before the others.
+            fails.append(str(int(rest) + 1))
+        elif word == "disk":
+            asked += [f"clear {','.join(fails) or '-'}", f"write 0 {data}"]
+            words += [None, None]
+        elif word in ("area", "stop"):
+            asked.append(f"{word} {int(rest)}")
+            words.append(None)
+        elif word in ("find", "begin", "append", "show", "faults"):
+            asked.append(f"{word} {data}".strip())
+            words.append(word)
+        else:
+            raise Unasked(f"no step on a disk: {word}")
+    answers = yield from asked_steps(asked)
+    return "; ".join(f"{word} {journal_shown(answer)}" for word, answer in zip(words, answers) if word).encode() + b"\n"
+
+
+# ---- runs over an outside that fails
+
+class Outside:
+    """What the outside of a run does: `files 0`, `input 1`, `output from 2`, `room 8`, `sure`, with `, ` between."""
+
+    def __init__(self, text=b""):
+        self.is_sure, self.room, self.calls = False, AMPLE, {"files": [], "input": [], "output": []}
+        for part in filter(None, text.decode().split(", ")):
+            word, _, rest = part.partition(" ")
+            if word == "sure":
+                self.is_sure = True
+            elif word == "room":
+                self.room = int(rest)
+            elif word in self.calls:
+                first, count = int(rest.removeprefix("from ")), LATER if rest.startswith("from ") else 1
+                self.calls[word] += range(first, first + count)
+            else:
+                raise Unasked(f"no such outside: {part}")
+
+    def numbers(self):
+        return " ".join(",".join(map(str, calls)) or "-" for calls in self.calls.values())
+
+
+class Ended:
+    """How a run ended, and what it left."""
+
+    def __init__(self, answer, given, words, is_sure, of_disk=0):
+        self.status, self.name = answer.number(), answer.word()
+        self.output = None if answer.next_is("untold") else answer.bytes()
+        self.faults = of_disk + (0 if is_sure else sum(answer.number() for _ in range(3)))
+        left = answer.word()
+        self.left = None if left == "none" else int(left)
+        self.length, self.serves = len(given), b"serve" in words
+        answer.end(None)
+
+    def is_well(self):
+        """Whether as many calls failed as the end says, and as many bytes of the input are left."""
+        faults = self.name in ("FileFault", "ReadFault", "WriteFault", "DiskFault")
+        unread = {"Done": 0 if self.serves else self.length}.get(self.name)
+        if self.name in ("Refused", "StoreRefused", "Usage", "FileFault"):
+            unread = self.length
+        return self.faults == faults and (unread is None or self.left is None or self.left == unread)
+
+    def end(self):
+        remark = "" if self.is_well() else f", calls that failed: {self.faults}, bytes that weren't read: {self.left or 0}"
+        return f"{self.status} {self.name}{remark}".encode()
+
+    def first_lines(self, whole):
+        """How many lines were written, where they are the first ones of these."""
+        output = self.output or b""
+        is_cut = output and not output.endswith(b"\n")
+        return None if is_cut or not whole.startswith(output) else output.count(b"\n")
+
+
+def handed(words, text, given):
+    line = b"".join(b"|" + word for word in words)
+    return f"{told(line)} {told(text)} {told(given)}"
+
+
+def words_of(case):
+    return case.part(b"words").split(b" ") if case.part(b"words") else []
+
+
+def ended_sure(case, given, room):
+    words = words_of(case)
+    answer = Answer((yield f"sure {handed(words, case.part(b'text'), given)} {room}"))
+    return Ended(answer, given, words, is_sure=True)
+
+
+def ended_of(case, given, outside):
+    """How the run of a case ends over an input, where the outside does this, and the disk has no byte and doesn't fail."""
+    if outside.is_sure:
+        return (yield from ended_sure(case, given, outside.room))
+    words = words_of(case)
+    run = f"run {handed(words, case.part(b'text'), given)} {outside.numbers()} {outside.room}"
+    answer, faults = yield from asked_steps([run, "faults"])
+    return Ended(answer, given, words, is_sure=False, of_disk=faults.number())
+
+
+def run_given(case):
+    ended = yield from ended_of(case, case.asked(), Outside(case.part(b"given")))
+    return ended.end() + b"\n" + (b"untold\n" if ended.output is None else ended.output)
+
+
+def outside(case):
+    given = case.part(b"input")
+    ended = yield from ended_of(case, given, Outside(case.asked()))
+    whole = yield from ended_sure(case, given, AMPLE)
+    if ended.output is None or whole.output is None:
+        return ended.end() + b", untold\n"
+    count = ended.first_lines(whole.output)
+    return ended.end() + (b", other lines\n" if count is None else b", lines: %d\n" % count)
+
+
+def lines_of(data):
+    return re.findall(rb"[^\n]*\n|[^\n]+", data)
+
+
+class Shelf:
+    """A case's program and lines, and the steps of its runs over one disk, each as a question and with how its answer is told."""
+
+    def __init__(self, case):
+        self.case, self.input, self.awaited = case, lines_of(case.part(b"input")), lines_of(case.part(b"output"))
+        self.fails, self.given, self.steps, self.faults = [], Outside(), [], 0
+
+    def add(self, question, shown=None):
+        self.steps.append((question, shown))
+
+    def serve(self, lines):
+        first, _, last = lines.partition(" to ")
+        begin, end = (0, None) if not lines else (0, 0) if lines == "none" else (int(first) - 1, int(last))
+        given, words = b"".join(self.input[begin:end]), [b"serve", b"p", b"s"]
+        awaited = b"".join(self.awaited[begin:])
+        run, self.given = f"run {handed(words, self.case.part(b'text'), given)} {self.given.numbers()} {self.given.room}", Outside()
+        # The faults of the disk are those of all runs: what this one adds to them is its own.
+        self.add("faults", lambda answer: setattr(self, "faults", answer.number()))
+        self.add(run, lambda answer: setattr(self, "run", answer))
+        self.add("faults", lambda answer: self.told(Ended(self.run, given, words, False, answer.number() - self.faults), awaited))
+
+    def told(self, ended, awaited):
+        count = ended.first_lines(awaited)
+        lines = b", lines: %d" % count if count is not None else b"".join(b" " + line for line in ended.output.splitlines())
+        return b"serve " + ended.end() + lines
+
+    def take(self, step):
+        word, _, rest = step.partition(" ")
+        if word == "fails":
+            self.fails.append(str(int(rest)))
+            self.add(f"clear {','.join(self.fails)}")
+        elif word == "disk":
+            self.add(f"write 0 {told(images.bytes_of_words(rest.encode()))}")
+        elif word == "stop":
+            self.add(f"stop {int(rest)}")
+        elif word == "given":
+            self.given = Outside(rest.encode())
+        elif word == "serve":
+            self.serve(rest)
+        elif word == "show":
+            self.add("show", lambda answer: b"show " + told(answer.bytes()).encode())
+        elif word == "records":
+            self.add("show", lambda answer: b"records " + told(records_in(answer.bytes())).encode())
+        else:
+            raise Unasked(f"no step on a store: {word}")
+
+
+def records_in(store):
+    """The bytes from the gate of the first record on: it stands behind the image, and the four bytes before that tell how many it has."""
+    return store[17 + int.from_bytes(store[13:17], "big"):]
+
+
+def memory_store(case):
+    shelf = Shelf(case)
+    for step in case.asked().decode().split("; "):
+        shelf.take(step)
+    answers = yield from asked_steps([question for question, _ in shelf.steps])
+    shown = [how(answer) for (_, how), answer in zip(shelf.steps, answers) if how]
+    return b"; ".join(part for part in shown if part is not None) + b"\n"
+
+
+def area(case):
+    size, _, lines = case.asked().partition(b"\n")
+    answer = Answer((yield f"area {told(case.part(b'text'))} {int(size)} {told(lines)}"))
+    if answer.next_is("needs"):
+        return answer.end(f"needs {answer.number()}\n".encode())
+    return answer.end(answer.bytes())
+
+
+# ---- requests and replies
+
+def why(answer, shape):
+    """What is said of a line that asks or tells nothing; `None` where it does."""
+    return b"no JSON\n" if answer.next_is("json") else shape if answer.next_is("shape") else None
+
+
+def argument_shown(value):
+    if value is None:
+        return "other"
+    if isinstance(value, bool):
+        return "true" if value else "false"
+    if isinstance(value, dict):
+        return f"ref {value['ref']}"
+    return f"text {quoted(value)}" if isinstance(value, str) else str(value)
+
+
+def request_shown(line):
+    """The request that a line asks, from the line by which it is sent."""
+    asked = json.loads(line)
+    arguments = "(" + ", ".join(map(argument_shown, asked.get("args", []))) + ")"
+    into = f" into {asked['into']}" if "into" in asked else ""
+    what = {
+        "new": lambda: f"new {asked['contract']}{arguments}{into}",
+        "call": lambda: f"{asked['on']}.{asked['tx']}{arguments}{into}",
+        "give": lambda: f"give {asked['on']} to {asked['to']}{into} as {asked['as']}",
+    }.get(asked["op"], lambda: f"{asked['op']} {asked['on']}")
+    return f"{asked['id']} {asked['who']}: {what()}\n".encode()
+
+
+def request(case):
+    answer = Answer((yield f"request {told(case.asked())}"))
+    return why(answer, b"no request\n") or request_shown(answer.end(answer.bytes()))
+
+
+def sent(case):
+    answer = Answer((yield f"request {told(case.asked())}"))
+    said = why(answer, b"no request\n")
+    if said:
+        return said
+    line = answer.end(answer.bytes())
+    answer = Answer((yield f"request {told(line)}"))
+    return line + (why(answer, b" is no request\n") or (b"\n" if answer.bytes() == line else b" isn't read back\n"))
+
+
+def answered(case):
+    answer = Answer((yield f"reply {told(case.asked())}"))
+    return why(answer, b"no reply\n") or answer.end(answer.bytes())
+
+
+def shown_told(text):
+    """An object that is shown: `NUMBER CONTRACT STATE`, and marks and fields."""
+    number, contract, state, *rest = text.split(" ")
+    shown = {"object": int(number), "contract": contract, "state": None if state == "none" else state}
+    shown |= {mark: mark in rest for mark in ("shared", "disowned")}
+    return shown | {"fields": dict(field_told(word) for word in rest if word not in ("shared", "disowned"))}
+
+
+def field_told(word):
+    name, value = word.split("=")
+    if value in ("true", "false"):
+        return name, value == "true"
+    if value.startswith('"'):
+        return name, value[1:-1]
+    return name, int(value[1:]) if value.startswith("i") else {"object": int(value[1:])}
+
+
+REFUSALS = {
+    "LongLine": 1, "Json": 2, "Shape": 3, "NoHandle": 5, "NoContract": 6, "NotMain": 7, "NoTransaction": 8, "ArgCount": 9, "ArgKind": 10,
+    "Permission": 11, "Repeated": 12, "IntoMissing": 13, "IntoNeedless": 14, "IntoTaken": 15, "HandlesFull": 16,
+}
+
+
+def two(text):
+    """The two parts of a text at its first blank."""
+    first, _, rest = text.partition(" ")
+    return first, rest
+
+
+def aborts(form, text):
+    """What a reply has of an abort, beside its word and its number."""
+    if form == "revert":
+        return {"text": text}
+    if form == "overflow":
+        return {"line": int(text)}
+    if form == "room":
+        return dict(zip(("need", "size"), map(int, two(text))))
+    number, state = two(text)
+    return ({"object": int(number)} if number else {}) | ({"state": state} if state else {})
+
+
+def ok(form, text):
+    """What is given of this form."""
+    first, rest = two(text)
+    how = {
+        "nothing": lambda: None,
+        "int": lambda: int(text),
+        "bool": lambda: text == "true",
+        "text": lambda: text,
+        "object": lambda: {"object": int(text)},
+        "see": lambda: shown_told(text),
+        "handle": lambda: {"handle": [first, rest]},
+        "field": lambda: {"field": [int(first), rest]},
+    }
+    if form not in how:
+        raise Unasked(f"no reply: {form}")
+    return how[form]()
+
+
+def reply_told(text):
+    """A line with the reply that is told: with blanks, and its keys in an order of its own, so that it isn't the line that is expected."""
+    number, rest = two(text)
+    form, told_of = two(rest)
+    reply = {"id": None if number == "none" else int(number)}
+    if form in ("revert", "state", "reentry", "overflow", "fuel", "full", "room"):
+        reply |= aborts(form, told_of) | {"abort": form}
+    elif form == "refused":
+        reply |= {"refused": REFUSALS[told_of]}
+    else:
+        reply |= {"ok": ok(form, told_of)}
+    return json.dumps(dict(reversed(reply.items()))).encode()
+
+
+def reply(case):
+    answer = Answer((yield f"reply {told(reply_told(case.asked().decode()))}"))
+    said = why(answer, b"no reply\n")
+    return said or answer.end(answer.bytes())
+
+
+# ---- words, names and bytes
+
+def asked(case):
+    answer = Answer((yield f"words {told(case.asked())}"))
+    if answer.next_is("Usage"):
+        return answer.end(b"Usage\n")
+    fuel, lanes, slice_units, word = (answer.word() for _ in range(4))
+    names = [word] if word == "trial" else ["serve" if word == "store" else word]
+    while not answer.is_read():
+        names.append(answer.word() if word == "trial" else quoted(answer.text()))
+    return f"{' '.join(names)}, fuel {fuel}, lanes {lanes}, slice {slice_units}\n".encode()
+
+
+def trial(case):
+    answer = Answer((yield f"trial {int(case.asked())}"))
+    return answer.end(answer.bytes())
+
+
+def form(case):
+    line = yield f"form {told(case.asked())}"
+    forms = {"true true true": b"name label text", "false true true": b"label text", "false false true": b"text", "false false false": b"none"}
+    return forms.get(" ".join(Answer(line).words), b"another mix") + b"\n"
+
+
+def field_bytes(case):
+    """The bytes of a field, which stands among four: a whole number in one, four and eight bytes, and a text."""
+    word, _, value = case.asked().decode().partition(" ")
+    number, text = (0, value.encode()) if word == "text" else (int(value), b"")
+    answer = Answer((yield f"fields {number} {told(text)}"))
+    data = answer.bytes()
+    begin, end = {"u8": (0, 1), "u32": (1, 5), "i64": (5, 13), "text": (13, len(data))}[word]
+    read = {"u8": answer.word(), "u32": answer.word(), "i64": answer.word(), "text": answer.text()}[word]
+    return answer.end(told(data[begin:end]).encode() + (b"\n" if read == value else b", read as another\n"))
+
+
+def message(case):
+    line = yield f"message {case.asked().decode()}"
+    Answer(line)
+    return line.removeprefix(" ").encode() + b"\n"
+
+
+# The kinds that ask the case program: the parts that hold what is asked and what is wanted, the others that such a case may have, and what is
+# asked.
+KINDS = {
+    b"tokens": (b"text", b"answer", (), tokens),
+    b"layout": (b"text", b"answer", (), layout),
+    b"again": (b"text", b"answer", (), again),
+    b"tree": (b"part", b"answer", (b"text",), tree),
+    b"table": (b"text", b"answer", (), table),
+    b"terms": (b"text", b"answer", (), terms),
+    b"image": (b"text", b"answer", (), image),
+    b"encoded": (b"text", b"answer", (), encoded),
+    b"steps": (b"text", b"answer", (b"objects", b"runs"), steps),
+    b"entries": (b"runs", b"answer", (b"text", b"objects"), entries),
+    b"disk": (b"text", b"answer", (), disk),
+    b"outside": (b"given", b"answer", (b"text", b"words", b"input"), outside),
+    b"failing-run": (b"input", b"output", (b"text", b"words", b"given", b"status"), run_given),
+    b"failing-store": (b"runs", b"answer", (b"text", b"input", b"output"), memory_store),
+    b"area": (b"runs", b"answer", (b"text",), area),
+    b"request": (b"text", b"answer", (), request),
+    b"reply": (b"text", b"answer", (), reply),
+    b"sent": (b"text", b"answer", (), sent),
+    b"answered": (b"text", b"answer", (), answered),
+    b"asked": (b"text", b"answer", (), asked),
+    b"trial": (b"text", b"answer", (), trial),
+    b"form": (b"text", b"answer", (), form),
+    b"bytes": (b"text", b"answer", (), field_bytes),
+    b"message": (b"text", b"answer", (), message),
+}
