@@ -1,0 +1,15 @@
+pub mod Laid
+pub mod Steps
+pub mod Standing
+pub mod Whole
+pub mod Causes
+pub mod Found
+pub mod Checks
+pub mod There
+pub mod Stopping
+pub mod Owning
+pub mod Opening
+pub mod Requests
+pub mod Changed
+pub mod Differing
+pub mod Enough

@@ -1,0 +1,4 @@
+pub mod Blind
+pub mod Runs
+pub mod Requests
+pub mod Unowned
