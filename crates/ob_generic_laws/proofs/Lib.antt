@@ -1,0 +1,14 @@
+pub mod Lists
+pub mod Prefixes
+pub mod Rounds
+pub mod Clean
+pub mod Closed
+pub mod Short
+pub mod Bare
+pub mod Shapes
+pub mod MetTypes
+pub mod Same
+pub mod Untyped
+pub mod Least
+pub mod Texts
+pub mod Fits

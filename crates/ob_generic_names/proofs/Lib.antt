@@ -1,0 +1,3 @@
+pub mod HeadsLemmas
+pub mod BoundsLemmas
+pub mod Turns

@@ -1,0 +1,11 @@
+pub mod Heads
+pub mod Substitution
+pub mod Arguments
+pub mod Uses
+pub mod Instances
+pub mod TypeSites
+pub mod TypeFaults
+pub mod InstanceTypes
+pub mod InstanceBodies
+pub mod InstanceTrees
+pub mod TextNames

@@ -1,0 +1,11 @@
+pub mod Turns
+pub mod KnownLemmas
+pub mod DeclaringTurns
+pub mod SeenLemmas
+pub mod HeadTurns
+pub mod NoteTurns
+pub mod VisitTurns
+pub mod WalkTurns
+pub mod ContractTurns
+pub mod StageLemmas
+pub mod Steps

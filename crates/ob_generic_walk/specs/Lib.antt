@@ -1,0 +1,4 @@
+pub mod Noted
+pub mod HeadNotes
+pub mod Seen
+pub mod Stages
