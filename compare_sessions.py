@@ -150,9 +150,9 @@ def fields(reply):
 
 
 def answered(request, told, reply):
-    """The contract and the transaction that a reply has answered by `ok`."""
+    """The contract and the transaction that a reply has answered by `ok`; of an instance its generic contract."""
     called, seen = request.called(), fields(told).get("ok")
-    return {(seen["contract"], called[2])} if called and seen and "ok" in fields(reply) else set()
+    return {(seen["contract"].partition("[")[0], called[2])} if called and seen and "ok" in fields(reply) else set()
 
 
 def differences(request, reply):

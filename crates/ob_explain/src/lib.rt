@@ -7,4 +7,4 @@ mod calling;
 mod noting;
 mod telling;
 
-pub use telling::{explain, notes};
+pub use telling::{explain, explain_memory, notes};

@@ -5,6 +5,7 @@ use crate::calling::endless_call;
 use ob_base::{Memory, Span};
 use ob_explain_flow::say_letting;
 use ob_explain_page::{Page, Words, put_excerpt, put_place, word_of};
+use ob_flow::LettingAt;
 use ob_front::Seen;
 use ob_lexer::{LexError, Token, TokenKind, Word, lex};
 use ob_table::{Body, Table};
@@ -91,7 +92,8 @@ fn tell_nothing_made(
     if has_main(table) {
         return Ok(0);
     }
-    if table.count() == 0 {
+    let place = first_contract(alloc, text)?;
+    if place.end == 0 {
         tell_words(
             page,
             file,
@@ -99,7 +101,6 @@ fn tell_nothing_made(
             "the text has no contract: a client can make no object of it",
         )?;
     } else {
-        let place = first_contract(alloc, text)?;
         tell_note(
             page,
             file,
@@ -140,6 +141,11 @@ fn tell_endless(
     tell_note(page, file, text, span, said.as_str())
 }
 
+// Whether a place was told already: instances of a generic contract have the same places.
+fn is_among(places: &[u32], span: Span) -> bool {
+    places.contains(&span.start)
+}
+
 // Tells of the first transactions that always call themselves, so many at most, and of how many.
 fn tell_all_endless(
     alloc: Global,
@@ -149,20 +155,37 @@ fn tell_all_endless(
     table: &Table,
     most: usize,
 ) -> Result<usize, Memory> {
-    let mut told: usize = 0;
+    let mut told = Vec::new(alloc);
     for body in table.bodies() {
-        if told >= most {
-            return Ok(told);
+        if told.len() >= most {
+            return Ok(told.len());
         }
         if let Some(span) = endless_call(body) {
-            tell_endless(alloc, page, file, text, name_of(table, body), span)?;
-            told = told.saturating_add(1);
+            if !is_among(told.as_slice(), span) {
+                tell_endless(alloc, page, file, text, name_of(table, body), span)?;
+                told.push(span.start)?;
+            }
         }
     }
-    Ok(told)
+    Ok(told.len())
 }
 
-// Tells where assets are let go, of so many places at most.
+// Tells where assets are let go.
+fn tell_letting(
+    alloc: Global,
+    page: &mut Page,
+    file: &str,
+    text: &[u8],
+    table: &Table,
+    at: LettingAt,
+) -> Result<(), Memory> {
+    let mut words = Words::new(alloc);
+    say_letting(&mut words, text, table, at);
+    let said = words.finish()?;
+    tell_note(page, file, text, at.span, said.as_str())
+}
+
+// The same of all places, of so many at most.
 fn tell_lettings(
     alloc: Global,
     page: &mut Page,
@@ -172,11 +195,12 @@ fn tell_lettings(
     seen: &Seen,
     most: usize,
 ) -> Result<(), Memory> {
-    for at in seen.trace.lettings.iter().take(most) {
-        let mut words = Words::new(alloc);
-        say_letting(&mut words, text, table, *at);
-        let said = words.finish()?;
-        tell_note(page, file, text, at.span, said.as_str())?;
+    let mut told = Vec::new(alloc);
+    for at in &seen.trace.lettings {
+        if told.len() < most && !is_among(told.as_slice(), at.span) {
+            tell_letting(alloc, page, file, text, table, *at)?;
+            told.push(at.span.start)?;
+        }
     }
     Ok(())
 }

@@ -4,11 +4,16 @@ ghost use Rattle.ob_explain_page.specs.Pages.{IsPage};
 
 use crate::bodies::tell_bodies;
 use crate::noting::tell_notes;
-use ob_base::{EXPECTED, Memory, NOT_BUILT, NOT_OWNING, ProgramFault, UNKNOWN_NAME};
+use ob_base::{
+    EXPECTED, Memory, NOT_BUILT, NOT_OWNING, ProgramFault, TOO_MANY_INSTANCES, UNKNOWN_NAME,
+};
 use ob_explain_grammar::{explain_grammar, explain_token};
-use ob_explain_names::explain_names;
-use ob_explain_page::Page;
+use ob_explain_names::{explain_names, explain_too_many, explain_types};
+use ob_explain_page::{Explanation, Page, word_of};
 use ob_front::Seen;
+use ob_generic::{InstanceOfFault, instance_of_fault};
+use ob_lexer::Token;
+use ob_tree::Tree;
 use std::alloc::Global;
 
 // Whether a fault is of the permission rules.
@@ -44,6 +49,44 @@ fn tell_grammar(
     explanation.tell(page, file, text, fault, mark)
 }
 
+// A fault of type parameters and type arguments, in this instance.
+fn explain_instance(
+    alloc: Global,
+    text: &[u8],
+    tokens: &[Token],
+    written: &Tree,
+    around: &InstanceOfFault,
+    fault: ProgramFault,
+) -> Result<Explanation, Memory> {
+    let name = match &around.name {
+        Some(name) => Some(word_of(name.as_slice())),
+        None => None,
+    };
+    if fault.number == TOO_MANY_INSTANCES {
+        Ok(explain_too_many(alloc, written, name, around.is_long))
+    } else {
+        explain_types(alloc, text, tokens, written, name, fault)
+    }
+}
+
+// A fault of names and types, which is one of type parameters and type arguments where there is no tree of instances.
+fn explain_tree(
+    alloc: Global,
+    text: &[u8],
+    tokens: &[Token],
+    written: &Tree,
+    made: &Option<Tree>,
+    fault: ProgramFault,
+) -> Result<Explanation, Memory> {
+    match made {
+        Some(made) => explain_names(alloc, text, tokens, written, made, fault),
+        None => {
+            let around = instance_of_fault(alloc, written, fault)?;
+            explain_instance(alloc, text, tokens, written, &around, fault)
+        }
+    }
+}
+
 // A fault of names and types.
 fn tell_names(
     alloc: Global,
@@ -56,7 +99,8 @@ fn tell_names(
     let (Some(lexed), Some(tree)) = (&seen.lexed, &seen.tree) else {
         return Ok(());
     };
-    let explanation = explain_names(alloc, text, lexed.tokens.as_slice(), tree, fault)?;
+    let tokens = lexed.tokens.as_slice();
+    let explanation = explain_tree(alloc, text, tokens, tree, &seen.instances, fault)?;
     explanation.tell(page, file, text, fault, fault.span)
 }
 
@@ -94,5 +138,28 @@ pub fn notes(alloc: Global, file: &str, text: &[u8], seen: &Seen) -> Result<Stri
 {
     let mut page = Page::new(alloc);
     tell_notes(alloc, &mut page, file, text, seen)?;
+    page.into_text()
+}
+
+// Tells that the instances of a text's generic contracts are too large.
+fn tell_too_large(page: &mut Page, file: &str) -> Result<(), Memory> {
+    page.put_cut(file, 120)?;
+    page.put(": the instances of its generic contracts want too much memory")?;
+    page.end_line()?;
+    page.put_words(
+        "  help: ",
+        "let it need fewer instances, or write smaller generic contracts or shorter names: see 'Limits' in docs/GUIDE.md.",
+    )
+}
+
+/// Tells a person for what of a program's text memory lacked, by what the stages saw of it: for the instances of its generic contracts.
+/// Empty where it lacked for something else.
+pub fn explain_memory(alloc: Global, file: &str, seen: &Seen) -> Result<String, Memory>
+    ensures { IfOk result (λ page. IsPage (string_bytes page)) }
+{
+    let mut page = Page::new(alloc);
+    if seen.tree.is_some() && seen.instances.is_none() {
+        tell_too_large(&mut page, file)?;
+    }
     page.into_text()
 }

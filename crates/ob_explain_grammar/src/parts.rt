@@ -21,7 +21,7 @@ pub struct Part {
     pub begins: &'static str,
 }
 
-/// What begins a type argument, which isn't built: it isn't told of.
+/// What begins a type parameter or a type argument: few types have one, so it isn't told of.
 pub const ARGUMENT: &str = "[";
 
 /// Between two expressions.

@@ -7,10 +7,10 @@
 //! - `alone`, where no other token could, or `joined`, where nothing stands between the first token before the place and the place.
 //!
 //! The names are `third`, `second` and `first` for the tokens before the place, `found` for the one there, and `next` and `after` for those
-//! behind it; `begin` for the token that begins the member or statement; `named` for the word by which the first token is declared, as
-//! `state`; `level` for where the place is; and `own` for the name of the contract around. Among tokens `#name` stands for each that is written
-//! like a name, `#other` for all else, `#number` for each number, `#string` for each string, `#own` for the name of the contract around, and
-//! `#none` for a token that isn't there, as at the end of the text.
+//! behind it; `begin` for the token that begins the member or statement; `named` and `typed` for the words by which the first token and the
+//! third are declared, as `state`; `level` for where the place is; and `own` for the name of the contract around. Among tokens `#name` stands
+//! for each that is written like a name, `#other` for all else, `#number` for each number, `#string` for each string, `#own` for the name of
+//! the contract around, and `#none` for a token that isn't there, as at the end of the text.
 //!
 //! In the text stands a name between two `#` for its token, `#line#` for the line of the innermost brace that is open, `#decimal#` for
 //! the number at the place in decimal digits, and `#loops#` and so on for what several rules say.
@@ -82,6 +82,7 @@ fn text_for<'a>(spot: &Spot<'a>, name: &'a str) -> &'a str {
         "after" => spot.after,
         "begin" => spot.begin,
         "named" => spot.named,
+        "typed" => spot.typed,
         "level" => spot.level,
         "own" => spot.own,
         "loops" => LOOPS,

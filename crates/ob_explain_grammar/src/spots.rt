@@ -31,8 +31,9 @@ pub struct Spot<'a> {
     pub begin: &'a str,
     /// The name of the contract or interface around.
     pub own: &'a str,
-    /// The word by which the text declares the first name before the place.
+    /// The words by which the text declares the first and the third name before the place.
     pub named: &'a str,
+    pub typed: &'a str,
     /// Where the place is: `PROGRAM`, `MEMBER`, `STATE` or `BODY`.
     pub level: &'a str,
     /// Just after the token before the place.
@@ -159,13 +160,14 @@ impl<'a> Spot<'a> {
         place: Span,
     ) -> Spot<'a> {
         let first = word_at(text, tokens, before.checked_sub(1));
+        let third = word_at(text, tokens, before.checked_sub(3));
         let member = word_at(text, tokens, front.member());
         Spot {
             text,
             tokens,
             before,
             place,
-            third: word_at(text, tokens, before.checked_sub(3)),
+            third,
             second: word_at(text, tokens, before.checked_sub(2)),
             first,
             found: word_at(text, tokens, Some(before)),
@@ -174,6 +176,7 @@ impl<'a> Spot<'a> {
             begin: begin_of(text, tokens, front),
             own: own_name(text, tokens, front),
             named: declaring(text, tokens, first),
+            typed: declaring(text, tokens, third),
             level: level_of(front.open.len(), member),
             end_before: end_of(&tokens[..before.min(tokens.len())]),
             open_line: open_line(tokens, front),

@@ -18,7 +18,7 @@ fn contract_of_state(site: &Site<'_>) -> usize {
         "in" => near.back(2),
         _ => near.held_name(),
     };
-    if let Some(number) = site.types().find(named.as_bytes()) {
+    if let Some(number) = site.contract_named(named) {
         return number;
     }
     match kind_of_variable(&site.around, &site.scope, named.as_bytes()) {
@@ -58,13 +58,16 @@ fn put_nearest(words: &mut Words, name: &str, names: &Names) {
 /// The words that may stand in the place of states.
 const HELD: [&str; 3] = ["Owned", "Shared", "Unowned"];
 
-// The same of states, or of what is held.
-fn put_nearest_held(words: &mut Words, name: &str, states: &Names) {
+// The same of states, or of what is held, or of the permission parameter.
+fn put_nearest_held(words: &mut Words, site: &Site<'_>, name: &str, states: &Names) {
     let mut nearest = Nearest::to(name.as_bytes());
     see_names(&mut nearest, states);
     for word in &HELD {
         let held = *word;
         nearest.see(held.as_bytes());
+    }
+    if let Some(within) = &site.within {
+        nearest.see(within.perm_param().as_bytes());
     }
     put_meant(words, nearest.found());
 }
@@ -75,7 +78,7 @@ fn is_asked(near: &Near<'_>) -> bool {
 }
 
 // The states that there are.
-fn explain_states(told: &mut Explanation, near: &Near<'_>, of: &str, states: &Names) {
+fn explain_states(told: &mut Explanation, site: &Site<'_>, of: &str, states: &Names) {
     put_listed(
         &mut told.note,
         "the states of `{}`: ",
@@ -83,10 +86,11 @@ fn explain_states(told: &mut Explanation, near: &Near<'_>, of: &str, states: &Na
         of,
         states,
     );
-    if is_asked(near) {
-        put_nearest(&mut told.help, near.word(), states);
+    let name = site.near.word();
+    if is_asked(&site.near) {
+        put_nearest(&mut told.help, name, states);
     } else {
-        put_nearest_held(&mut told.help, near.word(), states);
+        put_nearest_held(&mut told.help, site, name, states);
     }
 }
 
@@ -97,7 +101,7 @@ pub fn explain_state(told: &mut Explanation, site: &Site<'_>) {
     let of = name_of_contract(site.types(), number);
     told.what.put_with("`{}` has no state `{}`", &[of, name]);
     if let Some(states) = site.types().states(number) {
-        explain_states(told, &site.near, of, states);
+        explain_states(told, site, of, states);
     }
 }
 
@@ -116,7 +120,7 @@ fn explain_fields(told: &mut Explanation, name: &str, own: &str, fields: &Names)
 /// A field that the contract doesn't have.
 pub fn explain_field(told: &mut Explanation, site: &Site<'_>) {
     let name = site.near.word();
-    let own = word_of(site.around.node().name.as_bytes());
+    let own = site.own_name();
     told.what.put_with("`{}` has no field `{}`", &[own, name]);
     if let Some(members) = site.around.members() {
         explain_fields(told, name, own, &members.fields);
@@ -157,7 +161,7 @@ pub fn explain_exit(told: &mut Explanation, near: &Near<'_>) {
 pub fn explain_owner(told: &mut Explanation, site: &Site<'_>) {
     let name = site.near.word();
     let own = word_of(site.around.node().name.as_bytes());
-    let of = site.near.held_name();
+    let of = site.near.held_type();
     told.what.put_with("the field `{}` owns ", &[name]);
     told.what.put_a(of);
     told.what.put_with(
@@ -166,7 +170,7 @@ pub fn explain_owner(told: &mut Explanation, site: &Site<'_>) {
     );
     told.help.put_with(
         "write `asset contract {}`, or hold the field as `{}@Shared` or `{}@Unowned`.",
-        &[own, of, of],
+        &[site.own_name(), of, of],
     );
 }
 

@@ -3,9 +3,10 @@
 use crate::interfaces::same_type;
 use crate::near::Near;
 use crate::sites::Site;
-use ob_base::{Mode, Span};
+use crate::within::base_of;
+use ob_base::Span;
 use ob_explain_page::{Explanation, Words, word_of};
-use ob_tree::{ContractNode, FieldNode, Member, NamePart, PermNode, RefNode, TypeNode};
+use ob_tree::{ContractNode, FieldNode, Member, NamePart, TypeNode};
 
 /// The first thing of a name that stands before a place.
 #[derive(Drop)]
@@ -40,11 +41,10 @@ impl Earlier<'_> {
             }
             Member::Field(field) => self.see_part("a field", &field.name),
             Member::Transaction { name, .. } => self.see_part("a transaction", name),
-            Member::Constructor { of, .. } => self.see(
-                "a constructor",
-                of.name.as_bytes(),
-                of.span,
-            ),
+            Member::Constructor { of, .. } => {
+                let name = base_of(word_of(of.name.as_bytes()));
+                self.see("a constructor", name.as_bytes(), of.span);
+            }
         }
     }
 
@@ -80,39 +80,18 @@ fn first_of_name(site: &Site<'_>, name: &str, place: u32) -> Option<(&'static st
     first.found
 }
 
-// A mode as it is written.
-fn word_of_mode(mode: Mode) -> &'static str {
-    match mode {
-        Mode::Owned => "Owned",
-        Mode::Shared => "Shared",
-        Mode::Unowned => "Unowned",
-    }
-}
-
-// Puts states as a permission.
-fn put_states(words: &mut Words, states: &[NamePart]) {
-    for number in 0..states.len() {
-        words.put(if number == 0 { "" } else { "|" });
-        words.put(word_of(states[number].name.as_bytes()));
-    }
-}
-
-fn put_reference(words: &mut Words, of: &RefNode) {
-    words.put_with("{}@", &[word_of(of.of.name.as_bytes())]);
-    match &of.perm {
-        PermNode::Mode(mode, _) => words.put(word_of_mode(*mode)),
-        PermNode::States(states) => put_states(words, states.as_slice()),
-    }
-}
-
-// Puts a type as it is written.
-fn put_type(words: &mut Words, of: &TypeNode) {
+// The place of a type.
+fn span_of_type(of: &TypeNode) -> Span {
     match of {
-        TypeNode::Int(_) => words.put("int"),
-        TypeNode::Bool(_) => words.put("bool"),
-        TypeNode::Text(_) => words.put("string"),
-        TypeNode::Reference(of) => put_reference(words, of),
+        TypeNode::Int(span) | TypeNode::Bool(span) | TypeNode::Text(span) => *span,
+        TypeNode::Reference(of) => of.of.span,
     }
+}
+
+// The type of a field as it is written.
+fn type_of<'a>(near: &Near<'a>, field: &FieldNode) -> &'a str {
+    near.between(span_of_type(&field.of), field.name.span.start)
+        .trim_end()
 }
 
 fn has_name(field: &FieldNode, name: &str) -> bool {
@@ -208,10 +187,11 @@ fn put_states_with(words: &mut Words, members: &[Member], name: &str) {
 }
 
 // A field that stands in several states.
-fn put_available(words: &mut Words, members: &[Member], name: &str, of: &TypeNode) {
-    words.put("declare it once, outside of the states: `");
-    put_type(words, of);
-    words.put_with(" {} available in ", &[name]);
+fn put_available(words: &mut Words, members: &[Member], name: &str, of: &str) {
+    words.put_with(
+        "declare it once, outside of the states: `{} {} available in ",
+        &[of, name],
+    );
     put_states_with(words, members, name);
     words.put(";`.");
 }
@@ -220,19 +200,19 @@ fn put_available(words: &mut Words, members: &[Member], name: &str, of: &TypeNod
 const OTHER_NAME: &str = "give one of the two another name: none hides another.";
 
 // A second field of a name, in a state.
-fn put_field_help(words: &mut Words, members: &[Member], name: &str, of: &TypeNode) {
-    if are_alike(members, name, of) {
-        put_available(words, members, name, of);
+fn put_field_help(words: &mut Words, site: &Site<'_>, name: &str, field: &FieldNode) {
+    let members = site.around.node().members.as_slice();
+    if are_alike(members, name, &field.of) {
+        put_available(words, members, name, type_of(&site.near, field));
     } else {
         words.put(OTHER_NAME);
     }
 }
 
 // A second thing of a name at a place.
-fn put_help_at(words: &mut Words, node: &ContractNode, name: &str, place: u32) {
-    let members = node.members.as_slice();
-    match field_at(members, place) {
-        Some(field) => put_field_help(words, members, name, &field.of),
+fn put_help_at(words: &mut Words, site: &Site<'_>, name: &str, place: u32) {
+    match field_at(site.around.node().members.as_slice(), place) {
+        Some(field) => put_field_help(words, site, name, field),
         None => words.put(OTHER_NAME),
     }
 }
@@ -278,10 +258,11 @@ fn explain_given_twice(told: &mut Explanation, site: &Site<'_>, name: &str, plac
         Some((thing, span)) => put_already(&mut told.what, name, thing, span),
         None => told.what.put_with("`{}` is given a second time", &[name]),
     }
-    if is_constructor_at(site.around.node(), place) {
-        put_constructor_help(&mut told.help, name);
+    let node = site.around.node();
+    if is_constructor_at(node, place) {
+        put_constructor_help(&mut told.help, word_of(node.name.as_bytes()));
     } else {
-        put_help_at(&mut told.help, site.around.node(), name, place);
+        put_help_at(&mut told.help, site, name, place);
     }
 }
 

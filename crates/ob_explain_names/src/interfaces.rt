@@ -2,6 +2,7 @@
 
 use crate::near::Near;
 use crate::sites::{Site, params_of};
+use crate::within::{Within, base_of};
 use ob_explain_page::{Explanation, Words, word_of};
 use ob_tree::{ContractNode, FormalNode, Member, NamePart, NamedNode, PermNode, Subject, TypeNode};
 
@@ -257,6 +258,8 @@ struct Answering<'a> {
     near: Near<'a>,
     own: &'a ContractNode,
     interface: &'a ContractNode,
+    /// The instance that the interface is, if it is one.
+    within: Option<Within<'a>>,
 }
 
 impl<'a> Answering<'a> {
@@ -270,24 +273,34 @@ impl<'a> Answering<'a> {
         word_of(self.interface.name.as_bytes())
     }
 
+    // Puts a transaction that the interface asks, as it is written.
+    fn put_asked(&self, words: &mut Words, asked: &Member) {
+        words.put_with(
+            "`{}` asks `{}`",
+            &[self.asking(), head_of(&self.near, asked)],
+        );
+        if let Some(within) = &self.within {
+            words.put(", ");
+            within.put_argument(words);
+        }
+    }
+
     // A transaction that the interface asks and the contract doesn't have.
     fn explain_absent(&self, told: &mut Explanation, asked: &Member) {
         told.what.put_with(
             "`{}` implements `{}` and has no transaction `{}`",
             &[self.name(), self.asking(), name_in_words(asked)],
         );
-        told.note.put_with(
-            "`{}` asks `{}`.",
-            &[self.asking(), head_of(&self.near, asked)],
-        );
+        self.put_asked(&mut told.note, asked);
+        told.note.put(".");
         told.help.put_with(
             "declare it in `{}` with these parameters and this result",
-            &[self.name()],
+            &[base_of(self.name())],
         );
         if has_this(asked) {
             told.help.put_with(
                 ", and with `{}` in the place of `{}` at `this`",
-                &[self.name(), self.asking()],
+                &[base_of(self.name()), base_of(self.asking())],
             );
         }
         told.help.put(".");
@@ -306,14 +319,9 @@ impl<'a> Answering<'a> {
             &[name_in_words(asked), self.name(), self.asking()],
         );
         put_difference(&mut told.what, difference);
-        told.note.put_with(
-            "`{}` asks `{}`, and here is `{}`.",
-            &[
-                self.asking(),
-                head_of(&self.near, asked),
-                head_of(&self.near, has),
-            ],
-        );
+        self.put_asked(&mut told.note, asked);
+        told.note
+            .put_with(", and here is `{}`.", &[head_of(&self.near, has)]);
         told.help.put(help_with(difference));
     }
 
@@ -362,7 +370,7 @@ impl<'a> Answering<'a> {
             &[self.name(), self.asking()],
         );
         told.help
-            .put_with("write `asset interface {}`.", &[self.asking()]);
+            .put_with("write `asset interface {}`.", &[base_of(self.asking())]);
     }
 
     // A state that the interface names and the contract doesn't have.
@@ -371,8 +379,7 @@ impl<'a> Answering<'a> {
             "`{}` implements `{}` and has no state `{}`, which `{}` names",
             &[self.name(), self.asking(), state, self.asking()],
         );
-        told.help
-            .put_with("write `state {};` in `{}`.", &[state, self.name()]);
+        told.help.put_with("write `state {};` in `{}`.", &[state, base_of(self.name())]);
     }
 
     // What is wrong where no asset is.
@@ -412,6 +419,7 @@ pub fn explain_interface(told: &mut Explanation, site: &Site<'_>) {
             near: site.near,
             own,
             interface,
+            within: site.instance_named(word_of(interface.name.as_bytes())),
         }
         .explain(told),
         None => told.what.put_with(

@@ -1,5 +1,5 @@
-//! Faults of names and types in words: what a name stands for, which name is near, which types differ, and what a declaration
-//! says.
+//! Faults of names and types in words: what a name stands for, which name is near, which types differ, what a declaration says, and
+//! in which instance of a generic contract it is so.
 #![tactic(auto)]
 
 mod calls;
@@ -13,5 +13,8 @@ mod naming;
 mod near;
 mod sites;
 mod telling;
+mod types;
+mod within;
 
-pub use telling::explain_names;
+pub use telling::{explain_names, explain_too_many, explain_types};
+pub use within::Within;

@@ -399,7 +399,7 @@ fn help_with(wanted: Wanted, has: InferredKind) -> &'static str {
 pub fn name_around<'a>(site: &Site<'a>) -> &'a str {
     match site.member {
         Some(Member::Transaction { name, .. }) => word_of(name.name.as_bytes()),
-        _ => word_of(site.around.node().name.as_bytes()),
+        _ => site.own_name(),
     }
 }
 

@@ -5,7 +5,7 @@ use crate::kinds::name_of_contract;
 use crate::near::Near;
 use crate::sites::Site;
 use ob_base::is_letter;
-use ob_explain_page::{Explanation, Nearest, Words, hint_for, word_of};
+use ob_explain_page::{Explanation, Nearest, Words, hint_for};
 use ob_resolve_scope::{Names, kind_of_variable};
 use ob_resolve_spec::InferredKind;
 use ob_tree::Member;
@@ -43,11 +43,12 @@ fn need_after_dot(site: &Site<'_>) -> Need {
 
 // Whether the name at a place is a type's, by the tokens after it.
 fn is_type(site: &Site<'_>) -> bool {
-    let next = site.near.ahead(1);
-    if next == "@" {
-        return site.near.back(1) != "[";
+    match site.near.ahead(1) {
+        // An assertion begins with a bracket too, and no name stands before that.
+        "@" => site.near.back(1) != "[" || is_name(site.near.back(2)),
+        "[" => true,
+        next => is_name(next) && site.near.ahead(2) == "=",
     }
-    is_name(next) && site.near.ahead(2) == "="
 }
 
 // What the name at a place has to stand for, by the tokens after it.
@@ -92,9 +93,9 @@ pub fn see_names<'a>(nearest: &mut Nearest<'a>, names: &'a Names) {
     }
 }
 
-// Looks at the names of contracts.
+// Looks at the names of contracts, and at that of the type parameter.
 fn see_contracts<'a>(nearest: &mut Nearest<'a>, site: &'a Site<'_>, need: Need) {
-    for node in site.types().nodes() {
+    for node in site.written.contracts.as_slice() {
         let fits = match need {
             Need::Interface => node.interface,
             Need::Object => !node.interface,
@@ -103,6 +104,9 @@ fn see_contracts<'a>(nearest: &mut Nearest<'a>, site: &'a Site<'_>, need: Need) 
         if fits {
             nearest.see(node.name.as_bytes());
         }
+    }
+    if let Some(within) = &site.within {
+        nearest.see(within.param().as_bytes());
     }
 }
 
@@ -275,18 +279,18 @@ fn thing_at(site: &Site<'_>, contract: usize) -> Thing {
 }
 
 // What a visible name stands for.
-fn thing_of(site: &Site<'_>, name: &str) -> Thing {
+fn thing_of<'a>(site: &Site<'a>, name: &'a str) -> Thing {
     if site.scope.variable(name.as_bytes()).is_some() {
         return Thing::Variable;
     }
-    match site.types().find(name.as_bytes()) {
+    match site.contract_named(name) {
         Some(number) => thing_at(site, number),
         None => thing_in(site, site.around.number(), name),
     }
 }
 
 // What a name stands for where this is needed.
-fn thing_where(site: &Site<'_>, name: &str, need: Need) -> Thing {
+fn thing_where<'a>(site: &Site<'a>, name: &'a str, need: Need) -> Thing {
     match need {
         Need::TransactionOf(contract) => thing_in(site, contract, name),
         _ => thing_of(site, name),
@@ -335,7 +339,7 @@ fn put_other(words: &mut Words, name: &str, thing: &str, wanted: &str) {
 }
 
 // A name that stands for another thing.
-fn explain_other(told: &mut Explanation, site: &Site<'_>, name: &str) {
+fn explain_other<'a>(told: &mut Explanation, site: &Site<'a>, name: &'a str) {
     let need = need_at(site);
     let thing = thing_where(site, name, need);
     put_other(
@@ -417,12 +421,13 @@ fn is_held_value(site: &Site<'_>) -> bool {
 }
 
 // Whether another name than that of the contract around stands in a head where a type does.
-fn is_in_head(site: &Site<'_>, name: &str, own: &str) -> bool {
-    site.member.is_some() && site.statement.is_none() && site.near.ahead(1) == "@" && name != own
+fn is_in_head(site: &Site<'_>, name: &str) -> bool {
+    let is_type = ["@", "["].contains(&site.near.ahead(1));
+    site.member.is_some() && site.statement.is_none() && is_type && name != site.own_name()
 }
 
 // What a contract's name stands for where the contract around is needed; empty of other names.
-fn foreign_thing(site: &Site<'_>, name: &str) -> &'static str {
+fn foreign_thing<'a>(site: &Site<'a>, name: &'a str) -> &'static str {
     match thing_of(site, name) {
         Thing::Contract => "another contract",
         Thing::Interface => "an interface",
@@ -431,8 +436,8 @@ fn foreign_thing(site: &Site<'_>, name: &str) -> &'static str {
 }
 
 // The same, in a head.
-fn foreign_in_head(site: &Site<'_>, name: &str, own: &str) -> &'static str {
-    if is_in_head(site, name, own) {
+fn foreign_in_head<'a>(site: &Site<'a>, name: &'a str) -> &'static str {
+    if is_in_head(site, name) {
         foreign_thing(site, name)
     } else {
         ""
@@ -440,26 +445,25 @@ fn foreign_in_head(site: &Site<'_>, name: &str, own: &str) -> &'static str {
 }
 
 // A name that is something else than is needed.
-fn explain_thing(told: &mut Explanation, site: &Site<'_>, name: &str, own: &str) {
-    let foreign = foreign_in_head(site, name, own);
+fn explain_thing<'a>(told: &mut Explanation, site: &Site<'a>, name: &'a str) {
+    let foreign = foreign_in_head(site, name);
     if foreign.is_empty() {
         explain_other(told, site, name);
     } else {
-        explain_foreign(told, name, foreign, own);
+        explain_foreign(told, name, foreign, site.own_name());
     }
 }
 
 /// A name that is something else than is needed, or a part that can't stand with it.
 pub fn explain_kind(told: &mut Explanation, site: &Site<'_>) {
     let name = site.near.word();
-    let own = word_of(site.around.node().name.as_bytes());
     if name == "this" {
-        explain_this(told, is_in_constructor(site), own);
+        explain_this(told, is_in_constructor(site), site.own_name());
     } else if site.near.ahead(1) == "available" {
         explain_available(told, name);
     } else if is_held_value(site) {
         explain_value(told, name);
     } else {
-        explain_thing(told, site, name, own);
+        explain_thing(told, site, name);
     }
 }

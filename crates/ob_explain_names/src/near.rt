@@ -56,17 +56,71 @@ impl<'a> Near<'a> {
         }
     }
 
-    /// What stands before the permission in which the name at the place is a state: the token before the nearest `@` with
-    /// nothing but names, `|`, modes and `>>` between; or nothing.
-    pub fn held_name(&self) -> &'a str {
+    // How many tokens back the argument begins that ends so many tokens back.
+    fn begin_of_argument(&self, end: usize) -> usize {
+        let mut open: u32 = 0;
+        for count in end..2000 {
+            match self.back(count) {
+                "]" => open = open.saturating_add(1),
+                "[" => open = open.saturating_sub(1),
+                _ => {}
+            }
+            if open == 0 {
+                return count;
+            }
+        }
+        end
+    }
+
+    // How many tokens back the type begins that ends so many tokens back.
+    fn begin_of_type(&self, end: usize) -> usize {
+        if self.back(end) == "]" {
+            self.begin_of_argument(end).saturating_add(1)
+        } else {
+            end
+        }
+    }
+
+    // How many tokens back the `@` stands of the permission in which the name at the place is a state: the nearest one with nothing
+    // but names, `|`, modes and `>>` between.
+    fn sign_before(&self) -> Option<usize> {
         for count in 1..200 {
             match self.back(count) {
-                "@" => return self.back(count + 1),
-                ";" | "{" | "}" | "(" | ")" | "," | "" => return "",
+                "@" => return Some(count),
+                ";" | "{" | "}" | "(" | ")" | "," | "" => return None,
                 _ => {}
             }
         }
-        ""
+        None
+    }
+
+    /// The name of the type before that permission, without its argument; or nothing.
+    pub fn held_name(&self) -> &'a str {
+        match self.sign_before() {
+            Some(count) => self.back(self.begin_of_type(count.saturating_add(1))),
+            None => "",
+        }
+    }
+
+    // The place of the token so many before.
+    fn span_back(&self, count: usize) -> Option<Span> {
+        Some(self.tokens.get(self.at.checked_sub(count)?)?.span)
+    }
+
+    // The text from one token before to another one.
+    fn text_back(&self, from: usize, to: usize) -> Option<&'a str> {
+        Some(self.between(self.span_back(from)?, self.span_back(to)?.start))
+    }
+
+    /// The type before that permission as it is written; or nothing.
+    pub fn held_type(&self) -> &'a str {
+        let Some(count) = self.sign_before() else {
+            return "";
+        };
+        match self.text_back(self.begin_of_type(count.saturating_add(1)), count) {
+            Some(text) => text.trim_end(),
+            None => "",
+        }
     }
 
     /// The written text from one place to another.

@@ -1,11 +1,25 @@
 //! Where in a program a place is: in which contract, member and statement, and which variables are visible there.
 
 use crate::near::Near;
-use ob_base::{Memory, Span};
+use crate::within::{Within, base_of};
+use ob_base::{LIMIT, MOST_CONTRACTS, Memory, ProgramFault, Span};
+use ob_explain_page::word_of;
+use ob_resolve::fault_of_contract;
 use ob_resolve_scope::{AroundBody, Declared, Scope, Types, scope_of_params};
 use ob_resolve_spec::InferredKind;
-use ob_tree::{Block, ContractNode, FormalNode, Member, NamePart, Stmt, Subject};
+use ob_tree::{Block, ContractNode, FormalNode, Member, NamePart, Stmt, Subject, Tree};
 use std::alloc::Global;
+
+/// What is looked at of a program at a place.
+#[derive(Clone, Copy)]
+pub struct View<'a> {
+    /// The tokens.
+    pub near: Near<'a>,
+    /// The program as it is written.
+    pub written: &'a Tree,
+    /// The instance in which the place is looked at, if it is in one.
+    pub within: Option<Within<'a>>,
+}
 
 /// What stands around a place.
 #[derive(Drop)]
@@ -14,6 +28,10 @@ pub struct Site<'a> {
     pub near: Near<'a>,
     /// The contract.
     pub around: AroundBody<'a>,
+    /// The program as it is written.
+    pub written: &'a Tree,
+    /// The instance that the contract is, if it is one.
+    pub within: Option<Within<'a>>,
     /// The transaction or constructor.
     pub member: Option<&'a Member>,
     /// The innermost statement.
@@ -85,13 +103,83 @@ fn result_of(types: &Types<'_>, member: Option<&Member>) -> InferredKind {
     }
 }
 
-// The number of the contract around a place: the last one whose name stands there or before.
-fn number_at(nodes: &[ContractNode], place: u32) -> usize {
+/// The number of the contract around a place, as it is written: the last one whose name stands there or before.
+pub fn number_at(nodes: &[ContractNode], place: u32) -> usize {
     let before = nodes
         .iter()
         .take_while(|node| node.span.start <= place)
         .count();
     before.saturating_sub(1)
+}
+
+// Whether a contract stands around a place: from its name to its closing brace.
+fn is_around(node: &ContractNode, place: u32) -> bool {
+    node.span.start <= place && place < node.end.end
+}
+
+// Whether a fault is that of this place and number.
+fn is_same(found: Option<ProgramFault>, fault: ProgramFault) -> bool {
+    match found {
+        Some(other) => other.number == fault.number && other.span.start == fault.span.start,
+        None => false,
+    }
+}
+
+// Whether a fault is that of the first contract past the limit.
+fn is_past_limit(nodes: &[ContractNode], fault: ProgramFault) -> bool {
+    match nodes.get(MOST_CONTRACTS) {
+        Some(node) => fault.number == LIMIT && node.span.start == fault.span.start,
+        None => false,
+    }
+}
+
+// The first contract around a place that has a fault by itself.
+fn first_with_fault(
+    alloc: Global,
+    declared: &Declared<'_>,
+    fault: ProgramFault,
+) -> Result<Option<usize>, Memory> {
+    let nodes = declared.types().nodes();
+    for number in 0..nodes.len() {
+        if is_around(&nodes[number], fault.span.start)
+            && is_same(fault_of_contract(alloc, declared, number)?, fault)
+        {
+            return Ok(Some(number));
+        }
+    }
+    Ok(None)
+}
+
+// The first contract around a place, or the last one whose name stands before it.
+fn first_around(nodes: &[ContractNode], place: u32) -> usize {
+    match nodes.iter().position(|node| is_around(node, place)) {
+        Some(number) => number,
+        None => number_at(nodes, place),
+    }
+}
+
+/// The number of the contract in which a fault of a tree of instances is: instances of one contract have the same places, and of these it is
+/// the first that has the fault by itself.
+pub fn number_of_fault(
+    alloc: Global,
+    declared: &Declared<'_>,
+    fault: ProgramFault,
+) -> Result<usize, Memory> {
+    let nodes = declared.types().nodes();
+    if is_past_limit(nodes, fault) {
+        return Ok(MOST_CONTRACTS);
+    }
+    match first_with_fault(alloc, declared, fault)? {
+        Some(number) => Ok(number),
+        None => Ok(first_around(nodes, fault.span.start)),
+    }
+}
+
+// The first instance of the generic contract or interface of a name.
+fn first_instance(nodes: &[ContractNode], base: &str) -> Option<usize> {
+    nodes
+        .iter()
+        .position(|node| base_of(word_of(node.name.as_bytes())) == base)
 }
 
 // Whether a statement of a block stands around a place.
@@ -139,10 +227,9 @@ fn block_at(stmt: &Stmt, place: u32) -> Option<&Block> {
     }
 }
 
-/// The contract around a place, with the kind of the result there.
-pub fn around_at<'a>(declared: &'a Declared<'a>, place: u32) -> Option<AroundBody<'a>> {
+/// The contract of this number around a place, with the kind of the result there.
+pub fn around_at<'a>(declared: &'a Declared<'a>, own: usize, place: u32) -> Option<AroundBody<'a>> {
     let types = declared.types();
-    let own = number_at(types.nodes(), place);
     let Some(node) = types.node(own) else {
         return None;
     };
@@ -154,13 +241,15 @@ impl<'a> Site<'a> {
     // In a member of the contract around, whose parameters are visible.
     fn begin(
         alloc: Global,
-        near: Near<'a>,
+        view: View<'a>,
         around: AroundBody<'a>,
         member: Option<&'a Member>,
     ) -> Result<Site<'a>, Memory> {
         let scope = scope_of_params(alloc, around.declared().types(), params_of(member))?;
         Ok(Site {
-            near,
+            near: view.near,
+            written: view.written,
+            within: view.within,
             around,
             member,
             statement: None,
@@ -233,12 +322,12 @@ impl<'a> Site<'a> {
     /// What stands around a place of this contract.
     pub fn at(
         alloc: Global,
-        near: Near<'a>,
+        view: View<'a>,
         around: AroundBody<'a>,
         place: u32,
     ) -> Result<Site<'a>, Memory> {
         let member = member_at(around.node().members.as_slice(), place);
-        let mut site = Site::begin(alloc, near, around, member)?;
+        let mut site = Site::begin(alloc, view, around, member)?;
         site.go_to(alloc, place)?;
         Ok(site)
     }
@@ -246,5 +335,40 @@ impl<'a> Site<'a> {
     /// The contracts of the program.
     pub fn types(&self) -> &'a Types<'a> {
         self.around.declared().types()
+    }
+
+    /// The instance of this printed name.
+    pub fn instance_named(&self, name: &'a str) -> Option<Within<'a>> {
+        Within::new(self.written, name)
+    }
+
+    /// The contract or interface that a name stands for here, without an argument: the type parameter stands for that of the argument.
+    pub fn base(&self, name: &'a str) -> &'a str {
+        match &self.within {
+            Some(within) => within.base(name),
+            None => name,
+        }
+    }
+
+    /// Whether a name is that of the type parameter here.
+    pub fn is_param(&self, name: &str) -> bool {
+        match &self.within {
+            Some(within) => within.param() == name,
+            None => false,
+        }
+    }
+
+    /// The name of the contract around, as it is written.
+    pub fn own_name(&self) -> &'a str {
+        base_of(word_of(self.around.node().name.as_bytes()))
+    }
+
+    /// The number of the contract or interface of a name here, or of its first instance.
+    pub fn contract_named(&self, name: &'a str) -> Option<usize> {
+        let base = self.base(name);
+        match self.types().find(base.as_bytes()) {
+            Some(number) => Some(number),
+            None => first_instance(self.types().nodes(), base),
+        }
     }
 }

@@ -9,16 +9,20 @@ use crate::interfaces::explain_interface;
 use crate::mismatches::{explain_mismatch, put_returns};
 use crate::naming::{explain_kind, explain_unknown};
 use crate::near::Near;
-use crate::sites::{Site, around_at};
-use ob_base::{
-    ARG_COUNT, ASSIGN_PARAMETER, BAD_EXIT, DUPLICATE, INTERFACE_MISMATCH, LIMIT, MISSING_RETURN,
-    Memory, NO_STATE, NON_ASSET_OWNER, NOT_BUILT, NOT_FIELD, ProgramFault, TWO_MAINS,
-    TYPE_MISMATCH, UNKNOWN_NAME, UNREACHABLE, WRONG_KIND,
+use crate::sites::{Site, View, around_at, number_at, number_of_fault};
+use crate::types::{
+    explain_argument_count, explain_bound, explain_bound_name, explain_instances, is_bound,
 };
-use ob_explain_page::Explanation;
+use crate::within::Within;
+use ob_base::{
+    ARG_COUNT, ASSIGN_PARAMETER, BAD_EXIT, BOUND, DUPLICATE, INTERFACE_MISMATCH, LIMIT,
+    MISSING_RETURN, Memory, NO_STATE, NON_ASSET_OWNER, NOT_FIELD, PARAM_COUNT, ProgramFault,
+    TWO_MAINS, TYPE_MISMATCH, UNKNOWN_NAME, UNREACHABLE, WRONG_KIND,
+};
+use ob_explain_page::{Explanation, word_of};
 use ob_lexer::Token;
-use ob_resolve_scope::{AroundBody, Declared};
-use ob_tree::Tree;
+use ob_resolve_scope::Declared;
+use ob_tree::{ContractNode, Tree};
 use std::alloc::Global;
 
 // The end of a body with a result.
@@ -48,20 +52,30 @@ fn explain_assigned(told: &mut Explanation, name: &str) {
     told.help.put("declare a local variable with its value, and assign that.");
 }
 
-// A form of the language that isn't built.
-fn explain_unbuilt(told: &mut Explanation) {
-    told.what
-        .put("type parameters and type arguments aren't built yet");
-    told.help.put("write a contract for each type.");
-}
-
-// A fault of the order of statements, or of a form that isn't there.
+// A fault of the order of statements.
 fn explain_statement(told: &mut Explanation, site: &Site<'_>, number: u16) {
     match number {
         MISSING_RETURN => explain_end(told, site),
         UNREACHABLE => explain_unreachable(told),
         ASSIGN_PARAMETER => explain_assigned(told, site.near.word()),
-        NOT_BUILT => explain_unbuilt(told),
+        _ => {}
+    }
+}
+
+// A name that is nothing visible, or a bound of another name.
+fn explain_name(told: &mut Explanation, site: &Site<'_>) {
+    if is_bound(&site.near) {
+        explain_bound_name(told, site);
+    } else {
+        explain_unknown(told, site);
+    }
+}
+
+// A fault that only type parameters and type arguments have.
+fn explain_generic(told: &mut Explanation, site: &Site<'_>, number: u16) {
+    match number {
+        BOUND => explain_bound(told, site),
+        PARAM_COUNT => explain_argument_count(told, site),
         _ => {}
     }
 }
@@ -69,7 +83,7 @@ fn explain_statement(told: &mut Explanation, site: &Site<'_>, number: u16) {
 fn explain_at(told: &mut Explanation, site: &Site<'_>, fault: ProgramFault) {
     let place = fault.span.start;
     match fault.number {
-        UNKNOWN_NAME => explain_unknown(told, site),
+        UNKNOWN_NAME => explain_name(told, site),
         DUPLICATE => explain_duplicate(told, site, place),
         WRONG_KIND => explain_kind(told, site),
         NO_STATE => explain_state(told, site),
@@ -85,41 +99,108 @@ fn explain_at(told: &mut Explanation, site: &Site<'_>, fault: ProgramFault) {
     }
 }
 
-// A fault in this contract.
-fn explain_around(
-    alloc: Global,
-    near: Near<'_>,
-    around: AroundBody<'_>,
-    fault: ProgramFault,
-) -> Result<Explanation, Memory> {
-    let site = Site::at(alloc, near, around, fault.span.start)?;
+// What is said at a site.
+fn explain_site(alloc: Global, site: &Site<'_>, fault: ProgramFault) -> Explanation {
     let mut told = Explanation::new(alloc);
-    explain_at(&mut told, &site, fault);
-    Ok(told)
+    if fault.number < BOUND {
+        explain_at(&mut told, site, fault);
+    } else {
+        explain_generic(&mut told, site, fault.number);
+    }
+    if let Some(within) = &site.within {
+        within.put_around(alloc, &mut told);
+    }
+    told
 }
 
-// A fault of a program that declares this.
-fn explain_declared(
+// A fault in the contract of this number.
+fn explain_within(
     alloc: Global,
-    near: Near<'_>,
+    view: View<'_>,
     declared: &Declared<'_>,
+    own: usize,
     fault: ProgramFault,
 ) -> Result<Explanation, Memory> {
-    match around_at(declared, fault.span.start) {
-        Some(around) => explain_around(alloc, near, around, fault),
+    match around_at(declared, own, fault.span.start) {
+        Some(around) => {
+            let site = Site::at(alloc, view, around, fault.span.start)?;
+            Ok(explain_site(alloc, &site, fault))
+        }
         None => Ok(Explanation::new(alloc)),
     }
 }
 
-/// Explains a fault of names and types.
+// The instance of this printed name.
+fn instance_named<'a>(written: &'a Tree, name: Option<&'a str>) -> Option<Within<'a>> {
+    Within::new(written, name?)
+}
+
+// The printed name of the contract of this number.
+fn name_at(nodes: &[ContractNode], own: usize) -> Option<&str> {
+    Some(word_of(nodes.get(own)?.name.as_bytes()))
+}
+
+// A fault of a tree of instances whose contracts declare this.
+fn explain_declared(
+    alloc: Global,
+    near: Near<'_>,
+    written: &Tree,
+    declared: &Declared<'_>,
+    fault: ProgramFault,
+) -> Result<Explanation, Memory> {
+    let own = number_of_fault(alloc, declared, fault)?;
+    let view = View {
+        near,
+        written,
+        within: instance_named(written, name_at(declared.types().nodes(), own)),
+    };
+    explain_within(alloc, view, declared, own, fault)
+}
+
+/// Explains a fault of names and types in the tree of the instances of a program, with the tree as it is written.
 pub fn explain_names(
     alloc: Global,
     text: &[u8],
     tokens: &[Token],
-    tree: &Tree,
+    written: &Tree,
+    made: &Tree,
     fault: ProgramFault,
 ) -> Result<Explanation, Memory> {
     let near = Near::new(text, tokens, fault.span.start);
-    let declared = Declared::new(alloc, tree.contracts.as_slice())?;
-    explain_declared(alloc, near, &declared, fault)
+    let declared = Declared::new(alloc, made.contracts.as_slice())?;
+    explain_declared(alloc, near, written, &declared, fault)
+}
+
+/// Explains a fault of type parameters and type arguments, in the instance of this printed name, if it is in one.
+pub fn explain_types(
+    alloc: Global,
+    text: &[u8],
+    tokens: &[Token],
+    written: &Tree,
+    instance: Option<&str>,
+    fault: ProgramFault,
+) -> Result<Explanation, Memory> {
+    let view = View {
+        near: Near::new(text, tokens, fault.span.start),
+        written,
+        within: instance_named(written, instance),
+    };
+    let declared = Declared::new(alloc, written.contracts.as_slice())?;
+    let own = number_at(written.contracts.as_slice(), fault.span.start);
+    explain_within(alloc, view, &declared, own, fault)
+}
+
+/// Explains an instance too many, or one with a name too long, that is needed in the instance of this printed name, if in one.
+pub fn explain_too_many(
+    alloc: Global,
+    written: &Tree,
+    instance: Option<&str>,
+    is_long: bool,
+) -> Explanation {
+    let mut told = Explanation::new(alloc);
+    if let Some(within) = &instance_named(written, instance) {
+        within.put(&mut told.within);
+    }
+    explain_instances(&mut told, is_long);
+    told
 }

@@ -67,6 +67,11 @@ impl Words {
         self.lacks = true;
     }
 
+    /// Whether something was left out.
+    pub fn lacks(&self) -> bool {
+        self.lacks
+    }
+
     /// The words.
     pub fn as_str(&self) -> &str {
         self.text.as_str()
@@ -84,11 +89,14 @@ impl Words {
     }
 }
 
-/// What is said of a fault: what is wrong, what is behind it, and how to mend it. A part without words isn't told.
+/// What is said of a fault: what is wrong, in which instance of a generic contract, what is behind it, and how to mend it. A part
+/// without words isn't told.
 #[derive(Drop)]
 pub struct Explanation {
     /// What is wrong.
     pub what: Words,
+    /// In which instance it is, where the text around is a generic contract's.
+    pub within: Words,
     /// What it rests on, as a declaration.
     pub note: Words,
     /// How to mend it.
@@ -100,6 +108,7 @@ impl Explanation {
     pub fn new(alloc: Global) -> Explanation {
         Explanation {
             what: Words::new(alloc),
+            within: Words::new(alloc),
             note: Words::new(alloc),
             help: Words::new(alloc),
         }
@@ -107,11 +116,11 @@ impl Explanation {
 
     // Whether memory lacked for something that is said.
     fn lacks(&self) -> bool {
-        self.what.lacks || self.note.lacks || self.help.lacks
+        self.what.lacks() || self.within.lacks() || self.note.lacks() || self.help.lacks()
     }
 
-    /// Tells it on a page: the file and the place, the number and name of the fault and what is wrong; the line of the text with
-    /// a mark; the note and the help.
+    /// Tells it on a page: the file and the place, the number and name of the fault and what is wrong; in which instance; the line of
+    /// the text with a mark; the note and the help.
     pub fn tell(
         &self,
         page: &mut Page,
@@ -123,19 +132,16 @@ impl Explanation {
         if self.lacks() {
             return Err(Memory);
         }
-        let name = fault_name(fault.number);
-        put_place(page, file, fault.span)?;
-        page.put_number(u64::from(fault.number))?;
-        page.put(" ")?;
-        page.put(name)?;
+        put_fault(page, file, fault)?;
         page.end_line()?;
         page.put_words("  ", self.what.as_str())?;
+        put_part(page, "  ", self.within.as_str())?;
         put_excerpt(page, text, mark)?;
         put_part(page, "  note: ", self.note.as_str())?;
         put_part(page, "  help: ", self.help.as_str())
     }
 
-    /// Tells it on one line: the place, the number and name of the fault, and what is wrong.
+    /// Tells it on one line: the place, the number and name of the fault, what is wrong, and in which instance.
     pub fn tell_shortly(
         &self,
         page: &mut Page,
@@ -145,12 +151,10 @@ impl Explanation {
         if self.lacks() {
             return Err(Memory);
         }
-        put_place(page, file, fault.span)?;
-        page.put_number(u64::from(fault.number))?;
-        page.put(" ")?;
-        page.put(fault_name(fault.number))?;
+        put_fault(page, file, fault)?;
         page.put(": ")?;
         page.put(self.what.as_str())?;
+        put_behind(page, self.within.as_str())?;
         page.end_line()
     }
 }
@@ -163,6 +167,23 @@ pub fn put_place(page: &mut Page, file: &str, span: Span) -> Result<(), Memory> 
     page.put(":")?;
     page.put_number(u64::from(span.column))?;
     page.put(": ")
+}
+
+// The place of a fault, its number and its name.
+fn put_fault(page: &mut Page, file: &str, fault: ProgramFault) -> Result<(), Memory> {
+    put_place(page, file, fault.span)?;
+    page.put_number(u64::from(fault.number))?;
+    page.put(" ")?;
+    page.put(fault_name(fault.number))
+}
+
+// Words behind others, if there are some.
+fn put_behind(page: &mut Page, words: &str) -> Result<(), Memory> {
+    if words.is_empty() {
+        return Ok(());
+    }
+    page.put(", ")?;
+    page.put(words)
 }
 
 // A part, if it has words.

@@ -29,7 +29,12 @@ pub fn put_part(page: &mut Page, lead: &str, words: Words) -> Result<(), Memory>
 
 /// The parts of an explanation.
 pub fn put_parts(page: &mut Page, told: Explanation) -> Result<(), Memory> {
-    let Explanation { what, note, help } = told;
+    let Explanation {
+        what,
+        note,
+        help,
+        ..
+    } = told;
     put_part(page, "  ", what)?;
     put_part(page, "  note: ", note)?;
     put_part(page, "  help: ", help)

@@ -1,4 +1,3 @@
-pub mod BracketsLoop
 pub mod StagesLaws
 pub mod ProgramsLaws
 pub mod MiddleLaws

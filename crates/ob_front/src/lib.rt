@@ -1,7 +1,6 @@
 //! From a program's text to the program, stage by stage, or to its first fault.
 #![tactic(auto)]
 
-mod brackets;
 mod checking;
 mod lowering;
 mod programs;
@@ -15,4 +14,4 @@ pub use programs::{
     lowered, never_accepted_and_faulty, one_text_fault,
 };
 pub use seen::{AskedProgram, Seen};
-pub use stages::{CompileError, class_table, syntax_tree};
+pub use stages::{CompileError, class_table, one_class_table, syntax_tree, table_or_table_fault};

@@ -70,8 +70,10 @@ impl AskedProgram {
 pub struct Seen {
     /// Its tokens, if it has a fault behind them.
     pub lexed: Option<Lexed>,
-    /// Its tree, if it has a fault behind it.
+    /// Its tree as it is written, if it has a fault behind it.
     pub tree: Option<Tree>,
+    /// The tree of its instances, if it has a fault behind that.
+    pub instances: Option<Tree>,
     /// Its class table, if it is accepted and was only checked.
     pub table: Option<Table>,
     /// Its program, if a premise of the permission rules fails.
@@ -86,6 +88,7 @@ impl Seen {
         Seen {
             lexed: None,
             tree: None,
+            instances: None,
             table: None,
             asked: None,
             trace: Trace::new(alloc, false),
@@ -96,5 +99,6 @@ impl Seen {
     pub(crate) fn accept(&mut self) {
         self.lexed = None;
         self.tree = None;
+        self.instances = None;
     }
 }

@@ -1,13 +1,16 @@
 //! The stages from a program's text to its class table.
-ghost use Rattle.std.specs.Prelude.{IfOk, IfErr};
+ghost use Rattle.std.specs.Prelude.{◌≡◌, ◌⊎◌, ℕ, List, IfOk, IfErr};
+ghost use Rattle.ob_base.specs.declared.fault.ProgramFault.{ProgramFault};
+ghost use Rattle.ob_tree.specs.Members.{Contract};
 ghost use Rattle.ob_tree.specs.MembersView.{tree_of};
+ghost use Rattle.ob_table.specs.Tables.{ClassTable};
 ghost use Rattle.ob_parser_spec.specs.Grammar.{HasTree, HasSyntaxFault};
-ghost use Rattle.ob_front.specs.Stages.{IsTreeOf, IsPlainTreeOf, HasTable, IsWellFormedTable, HasTreeFault, HasTableFault};
+ghost use Rattle.ob_front.specs.Stages.{IsTreeOf, IsInstanceTreeOf, HasTable, IsWellFormedTable, HasTreeFault, HasTableFault};
 ghost use Rattle.ob_base.specs.TextErrors.{OnFault};
 
-use crate::brackets::first_bracket;
 use crate::seen::Seen;
-use ob_base::{NOT_BUILT, ProgramFault, TextError};
+use ob_base::TextError;
+use ob_generic::instances;
 use ob_lexer::{Lexed, lex};
 use ob_parser::parse;
 use ob_resolve::resolve;
@@ -15,7 +18,7 @@ use ob_table::Table;
 use ob_tree::Tree;
 use std::alloc::Global;
 
-/// Why a text has no program: what is told of it is its first fault, or that its form isn't built.
+/// Why a text has no program: what is told of it is its first fault.
 pub type CompileError = TextError;
 
 /// The tree of a text, or the first fault of its tokens or of the grammar.
@@ -37,36 +40,41 @@ fn tree_of_tokens(alloc: Global, lexed: Lexed, seen: &mut Seen) -> Result<Tree, 
     parsed
 }
 
-// The tree of a text without type parameters and type arguments. The tokens stay in what was seen, and a
-// tree with some too.
-fn plain_tree(alloc: Global, text: &[u8], seen: &mut Seen) -> Result<Tree, CompileError>
-    ensures tree { IfOk result (λ tree. IsPlainTreeOf text.now (tree_of tree)) }
+// The tree of the instances of a text. The tokens and the tree as it is written stay in what was seen.
+fn instance_tree(alloc: Global, text: &[u8], seen: &mut Seen) -> Result<Tree, CompileError>
+    ensures tree { IfOk result (λ made. IsInstanceTreeOf text.now (tree_of made)) }
     ensures fault { IfErr result (λ e. OnFault e (HasTableFault text.now)) }
 {
     let lexed = lex(alloc, text)?;
-    let bracket = first_bracket(lexed.tokens.as_slice());
     let tree = tree_of_tokens(alloc, lexed, seen)?;
-    match bracket {
-        Some(span) => {
-            seen.tree = Some(tree);
-            Err(CompileError::Fault(ProgramFault {
-                number: NOT_BUILT,
-                span,
-            }))
-        }
-        None => Ok(tree),
-    }
+    let made = instances(alloc, &tree);
+    seen.tree = Some(tree);
+    made
 }
 
-/// The class table of a text, or its first fault: of its tokens, of the grammar, `NOT_BUILT` at the first type parameter
-/// or type argument, or of names and types. The tokens and the tree stay in what was seen.
+/// The class table of a text, or its first fault: of its tokens, of the grammar, of type parameters and type arguments, or of names
+/// and types. The tokens, the tree and the tree of its instances stay in what was seen.
 pub fn class_table(alloc: Global, text: &[u8], seen: &mut Seen) -> Result<Table, CompileError>
     ensures table { IfOk result (HasTable text.now) }
     ensures well_formed { IfOk result IsWellFormedTable }
     ensures fault { IfErr result (λ e. OnFault e (HasTableFault text.now)) }
 {
-    let tree = plain_tree(alloc, text, seen)?;
-    let resolved = resolve(alloc, &tree);
-    seen.tree = Some(tree);
+    let made = instance_tree(alloc, text, seen)?;
+    let resolved = resolve(alloc, &made);
+    seen.instances = Some(made);
     resolved
 }
+
+/// A text with a tree has a class table, that of the tree of its instances, or a first fault of type parameters and type arguments, or
+/// of names and types, and never both.
+pub fn table_or_table_fault()
+    ensures either { (text : List ℕ) (tree : List Contract) → IsTreeOf text tree
+        → ((table : ClassTable) × HasTable text table) ⊎ ((fault : ProgramFault) × HasTableFault text fault) }
+    ensures never_both { (text : List ℕ) (table : ClassTable) (fault : ProgramFault)
+        → HasTable text table → ¬ (HasTableFault text fault) }
+{}
+
+/// A text has one class table at most.
+pub fn one_class_table()
+    ensures { (text : List ℕ) (a b : ClassTable) → HasTable text a → HasTable text b → a ≡ b }
+{}

@@ -51,7 +51,7 @@ enclosed_says : {Holds : Type 0} (n : ℕ) (row : Row) → Says row Holds → Sa
 enclosed_says zero row a = a
 enclosed_says (suc n) row a = counted_says (enclosed_says n row a)
 
-placed_says : {Holds : Type 0} (place : ℕ) (e : Expr) (reads : Reads) → ((n : ℕ) → Says (reads n) Holds) → (n : ℕ)
+pub placed_says : {Holds : Type 0} (place : ℕ) (e : Expr) (reads : Reads) → ((n : ℕ) → Says (reads n) Holds) → (n : ℕ)
     → Says (placed place e reads n) Holds
 placed_says {Holds} place e reads a n = record { says = λ read ranges is. by read ranges is.1 }
   where
@@ -62,10 +62,10 @@ placed_says {Holds} place e reads a n = record { says = λ read ranges is. by re
     by read ranges (inl is) = (a n).says read ranges is.1
     by read ranges (inr is) = (enclosed_says (suc is.1) (reads is.2) (a is.2)).says read ranges is.3
 
-any_says : {Holds : Type 0} (e : Expr) (reads : Reads) → ((n : ℕ) → Says (reads n) Holds) → Says (any e reads) Holds
+pub any_says : {Holds : Type 0} (e : Expr) (reads : Reads) → ((n : ℕ) → Says (reads n) Holds) → Says (any e reads) Holds
 any_says e reads a = record { says = λ read ranges is. (placed_says 1 e reads a is.0).says read ranges is.1 }
 
-operation_says : {One Other : Type 0} (o : Operator) (place : Span) (left right : Reads) → ((n : ℕ) → Says (left n) One)
+pub operation_says : {One Other : Type 0} (o : Operator) (place : Span) (left right : Reads) → ((n : ℕ) → Says (left n) One)
     → ((n : ℕ) → Says (right n) Other) → (n : ℕ) → Says (operation o place left right n) (One × Other)
 operation_says o place left right a b n =
     record {

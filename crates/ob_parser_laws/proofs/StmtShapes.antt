@@ -21,7 +21,7 @@ maybe_says None = holds tt
 maybe_says (Some e) = expr_says e
 
 -- what stands between braces
-braced_says : {end : Span} {row : Row} {Holds : Type 0} → Says row Holds → Says (braced end row) Holds
+pub braced_says : {end : Span} {row : Row} {Holds : Type 0} → Says row Holds → Says (braced end row) Holds
 braced_says a = then_says (first_says (raised_says 1 a))
 
 given_says : (g : GivenExpr) → Says (given g) (HasExprShape g.value)

@@ -7,4 +7,5 @@ mod names;
 mod program;
 mod resolving;
 
+pub use program::fault_of_contract;
 pub use resolving::resolve;

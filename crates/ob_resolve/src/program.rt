@@ -9,7 +9,7 @@ ghost use Rattle.ob_resolve_sites.specs.Noted.{noted_if, noted};
 
 use crate::contract::walk_contract;
 use crate::names::contract_names;
-use ob_base::{MOST_CONTRACTS, Memory, TWO_MAINS};
+use ob_base::{MOST_CONTRACTS, Memory, ProgramFault, TWO_MAINS};
 use ob_resolve_members::note_names_within;
 use ob_resolve_scope::{AroundBody, Declared};
 use ob_resolve_sites::{Least, note_if};
@@ -54,6 +54,20 @@ fn walk_contract_at(
         None => Ok(()),
         Some(around) => walk_contract(alloc, &around, least),
     }
+}
+
+/// The first fault of the contract or interface of this number among those that don't hang on which others there are: not that of its
+/// name, of a second `main`, or of a limit on contracts.
+pub fn fault_of_contract(
+    alloc: Global,
+    declared: &Declared<'_>,
+    number: usize,
+) -> Result<Option<ProgramFault>, Memory>
+    ensures { IfOk result (λ least. least ≡ noted None (option_map_or (contract_sites (program_of declared.now)) (declared_contract (program_of declared.now) number) [])) }
+{
+    let mut least = None;
+    walk_contract_at(alloc, declared, number, &mut least)?;
+    Ok(least)
 }
 
 #[tactic(auto, using(crate::proofs::ProgramLemmas::programs))]

@@ -7,7 +7,7 @@ use Rattle.ob_base.specs.declared.fault.ProgramFault.{ProgramFault}
 use Rattle.ob_table.specs.Tables.{ClassTable}
 use Rattle.ob_silica.specs.Terms.{SilicaBody}
 use Rattle.ob_lexer.specs.Flaws.{HasFault, too_long, no_utf8, flawed}
-use Rattle.ob_front.specs.Stages.{at_token, at_row, HasTableFault, at_tree, at_bracket, at_site}
+use Rattle.ob_front.specs.Stages.{at_token, at_row, HasTableFault, at_tree, at_type, at_site}
 use Rattle.ob_front.specs.Programs.{HasTermsFault, at_table, at_slot, IsProgram, HasTextFault, at_terms, at_premise, at_weight}
 use Rattle.ob_serve.specs.Served.{Devices, IsToldAs}
 use Rattle.ob_serve.specs.declared.serving.Served.{Served}
@@ -34,8 +34,8 @@ module _ (content : List ℕ) (long : longest_program < length (take most_read c
   too_long_table : (fault : ProgramFault) → HasTableFault (take most_read content) fault → HasTableFault content fault
   too_long_table fault (at_tree (at_token has)) = at_tree (at_token (too_long_tokens fault has))
   too_long_table fault (at_tree (at_row lexed spelled has)) = absurd (long_and_short (take most_read content) long spelled.short)
-  too_long_table fault (at_bracket has number) = absurd (long_and_short (take most_read content) long has.of.spelled.short)
-  too_long_table fault (at_site tree is has) = absurd (long_and_short (take most_read content) long is.of.spelled.short)
+  too_long_table fault (at_type tree of has) = absurd (long_and_short (take most_read content) long of.spelled.short)
+  too_long_table fault (at_site made is has) = absurd (long_and_short (take most_read content) long is.of.spelled.short)
 
   too_long_terms : (fault : ProgramFault) → HasTermsFault (take most_read content) fault → HasTermsFault content fault
   too_long_terms fault (at_table has) = at_table (too_long_table fault has)

@@ -1,6 +1,6 @@
 -- A text is accepted where the test of each stage, computed, says yes.
 use Rattle.std.proofs.Common.{ℕ, ◌≡◌, Bool, true, false, ◌&&◌, nat_le, List, [], ◌∷◌, length, Result, Ok, Err, refl, sym, subst, arith}
-use Rattle.std.specs.Prelude.{All, IsOk, is_ok}
+use Rattle.std.specs.Prelude.{All, IsOk, is_ok, Option, None, Some, is_none, flat_map}
 use Rattle.std.specs.Str.{is_utf8}
 use Rattle.std.proofs.lemmas.Bool.{true≢false, and_parts, leb-true}
 use Rattle.std.proofs.lemmas.List.Elements.{All-cons}
@@ -13,10 +13,11 @@ use Rattle.ob_parser_spec.specs.Grammar.{HasTree}
 use Rattle.ob_parser_spec.specs.Readers.{Read, done, stop, deep}
 use Rattle.ob_parser.specs.Parsing.{whole}
 use Rattle.ob_parser.proofs.Whole.{tree_there}
-use Rattle.ob_parser_laws.specs.Brackets.{brackets}
-use Rattle.ob_parser_laws.proofs.BracketContracts.{no_bracket_lem}
 use Rattle.ob_resolve_spec.specs.Faults.{faults_of}
+use Rattle.ob_resolve_spec.specs.Generics.{HasNoGenerics, arguments_in_contract}
 use Rattle.ob_resolve_spec.specs.TableOf.{table_of}
+use Rattle.ob_generic_laws.proofs.Same.{same_tree}
+use Rattle.ob_generic_laws.proofs.Untyped.{no_type_fault}
 use Rattle.ob_store_spec.specs.Settling.{is_empty}
 use Rattle.ob_table.specs.Statements.{ResolvedBody}
 use Rattle.ob_table.specs.Tables.{ClassTable}
@@ -56,6 +57,21 @@ all_read (done tree []) is = refl
 all_read (done tree (t ∷ ts)) is = absurd (never is)
 all_read (stop rest) is = absurd (never is)
 all_read (deep rest) is = absurd (never is)
+
+-- whether no contract has a type parameter
+abbrev pub are_plain : List Contract → Bool
+are_plain [] = true
+are_plain (c ∷ cs) = is_none c.param && are_plain cs
+
+has_none : {A : Type 0} (o : Option A) → is_none o ≡ true → o ≡ None
+has_none None is = refl
+has_none (Some x) is = absurd (never is)
+
+all_plain : (cs : List Contract) → are_plain cs ≡ true → All (λ (c : Contract). c.param ≡ None) cs
+all_plain [] is = λ k d less. absurd (omega (arith, less))
+all_plain (c ∷ cs) is =
+    let parts = and_parts (is_none c.param) (are_plain cs) is in
+    All-cons (λ (x : Contract). x.param ≡ None) c cs (has_none c.param parts.0) (all_plain cs parts.1)
 
 -- ---- the bodies
 
@@ -126,7 +142,8 @@ pub record Passes (n : ℕ) (text : List ℕ) : Type 0 where
   pub utf8 : is_utf8 text ≡ true
   pub to_end : is_empty (reading n text).rest ≡ true
   pub read : is_read (all_programs most_open (tokens n text)) ≡ true
-  pub plain : is_empty (brackets (tokens n text)) ≡ true
+  pub plain : are_plain (tree n text) ≡ true
+  pub unapplied : is_empty (flat_map arguments_in_contract (tree n text)) ≡ true
   pub clean : is_empty (faults_of (tree n text)) ≡ true
   pub lowered : are_lowered (table n text) (table n text).bodies ≡ true
   pub derive : do_derive (table n text) (bodies n text) ≡ true
@@ -137,18 +154,26 @@ module _ (n : ℕ) (text : List ℕ) (passes : Passes n text) where
   unfolding tree
   has_tree = tree_there (tokens n text) (tree n text) (all_read (all_programs most_open (tokens n text)) passes.read)
 
+  has_no_generics : HasNoGenerics (tree n text)
+  has_no_generics = record {
+    no_parameter = all_plain (tree n text) passes.plain;
+    no_argument = nothing (flat_map arguments_in_contract (tree n text)) passes.unapplied;
+  }
+
   has_table : HasTable text (table n text)
   unfolding tokens table
   has_table = record {
     resolved = record {
-      tree = tree n text;
+      made = tree n text;
       is = record {
+        tree = tree n text;
         of = record {
           lexed = lexed n text;
           spelled = has_tokens n text (leb-true (length text) longest_program passes.short) (IsUtf8-from_is_utf8 text passes.utf8) (nothing (reading n text).rest passes.to_end);
           parsed = has_tree;
         };
-        plain = no_bracket_lem (tokens n text) (tree n text) has_tree (nothing (brackets (tokens n text)) passes.plain);
+        right = no_type_fault (tree n text) has_no_generics;
+        is = sym (same_tree (tree n text) has_no_generics);
       };
       clean = nothing (faults_of (tree n text)) passes.clean;
     };

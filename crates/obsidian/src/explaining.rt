@@ -1,6 +1,6 @@
 //! What a person is told beside what the run wrote.
 use ob_base::Memory;
-use ob_explain::{explain, notes};
+use ob_explain::{explain, explain_memory, notes};
 use ob_explain_store::{
     explain_damaged, explain_disk, explain_file, explain_not_at_rest, explain_not_store,
     explain_other_program,
@@ -35,7 +35,7 @@ fn file_of(command: Command<'_>) -> &str {
     }
 }
 
-// Why a text is refused; or, of one that is checked and accepted, what is noted of it.
+// Why a text is refused, or for what of it memory lacked; or, of one that is checked and accepted, what is noted of it.
 fn explain_text(
     alloc: Global,
     command: Command<'_>,
@@ -48,6 +48,7 @@ fn explain_text(
     let (file, seen) = (file_of(command), &examined.seen);
     match (command, examined.fault) {
         (_, Some(fault)) => explain(alloc, file, text, fault, seen),
+        (_, None) if exit == Exit::Memory => explain_memory(alloc, file, seen),
         (Command::Check(_), None) if exit == Exit::Done => notes(alloc, file, text, seen),
         _ => Ok(String::new(alloc)),
     }
