@@ -1,13 +1,12 @@
 #!/usr/bin/env python3
 """Writes docs/THEOREM.md: what docs/theorem.txt says, with the corollary's definitions in it; the contract of the top call; and below it the
-definitions of the run's own layer, all as they are written. And in README.md, between two marks, the list of the modules that the
-contract rests on.
+definitions of the run's own layer, all as they are written; and in the end the list of all modules on which the contract rests.
 
 Only definitions on which the contract rests are shown, each with the comment above it, crate by crate from the top down and file by
 file, so that a name stands before what it is made of. What lies deeper is named at the end, with its place in docs/DEFINITIONS.md. What is
 longer than a screen is cut where a clause or a definition begins, under a heading that names what it has.
 
-With `--check` nothing is written: it says whether both are up to date, and ends with 1 if not.
+With `--check` nothing is written: it says whether the document is up to date, and ends with 1 if not.
 """
 import pathlib
 import re
@@ -21,9 +20,8 @@ DOCUMENT = names.TOP / "docs" / "THEOREM.md"
 INTRODUCTION = names.TOP / "docs" / "theorem.txt"
 # The file of the corollary's definitions, and the line of the introduction in whose place they stand.
 COROLLARY, MARK = "ob_run/Corollary", "<!-- the corollary -->"
-README = names.TOP / "README.md"
-# Between these marks stands the list of modules, in lines of so many characters at most.
-BEGINS, ENDS, WIDTH = "<!-- docs/theorem.py writes this list -->", "<!-- to here -->", 140
+# Lines of prose have so many characters at most.
+WIDTH = 140
 # The call whose clauses promise more of an accepted program than the top call's, and the clauses.
 PROMISE_FILE, PROMISE_CALL, PROMISES = "ob_front/src/programs.rt", "compile", ("sound", "sound_code")
 # The most lines of code under one heading.
@@ -216,10 +214,10 @@ def document(writer):
     lines = [introduction(writer)] + contract_part(contract) + traits_part(writer)
     for crate in LAYER:
         lines += crate_part(writer, crate)
-    return "\n".join(lines + deeper_part(writer)).rstrip() + "\n"
+    return "\n".join(lines + deeper_part(writer) + modules_part(writer)).rstrip() + "\n"
 
 
-# ---- the list of modules in README
+# ---- the list of modules
 
 def groups_of_crates():
     """The groups of crates.txt from the top down: what each is about, and its crates from the top down."""
@@ -274,37 +272,27 @@ def promised(writer):
     return project.reachable(keys)
 
 
-def modules(writer):
+def modules_part(writer):
     """The list of modules."""
     groups, first = groups_of_crates(), files_of(writer.reached)
     more = files_of(promised(writer)) - first
-    lines = ["", f"The contract of `{names.TOP_CALL}` rests on {len(first)} modules of `crates/CRATE/specs/`:", ""]
+    lines = ["", "## The modules on which it rests", ""]
+    lines += [f"Whoever believes the theorem has read these. The contract of `{names.TOP_CALL}` rests on {len(first)} modules of"]
+    lines += ["`crates/CRATE/specs/`, by the groups of crates.txt from the top down:", ""]
     for group, crates in groups:
         text = listed(writer.project, crates, first)
         lines += wrapped(f"**{group}**: {text}") if text else []
     lines += ["", f"The clauses `{'` and `'.join(PROMISES)}` of `{PROMISE_CALL}` rest on {len(more)} more:", ""]
-    lines += wrapped(listed(writer.project, [crate for _, crates in groups for crate in crates], more))
-    return "\n".join(lines) + "\n\n"
-
-
-def readme(writer):
-    """README with the list of modules between its marks."""
-    text = README.read_text()
-    if text.count(BEGINS) != 1 or text.count(ENDS) != 1:
-        sys.exit(f"theorem.py: README.md doesn't have the marks {BEGINS} and {ENDS} once each")
-    front, rest = text.split(BEGINS)
-    return front + BEGINS + "\n" + modules(writer) + ENDS + rest.split(ENDS)[1]
+    return lines + wrapped(listed(writer.project, [crate for _, crates in groups for crate in crates], more))
 
 
 def main():
-    writer = names.Writer()
-    made = [(DOCUMENT, document(writer)), (README, readme(writer))]
-    stale = [path.name for path, text in made if not path.exists() or path.read_text() != text]
+    text = document(names.Writer())
     if "--check" in sys.argv[1:]:
-        print(f"not up to date: {', '.join(stale)}" if stale else "up to date")
-        return 1 if stale else 0
-    for path, text in made:
-        path.write_text(text)
+        is_fresh = DOCUMENT.exists() and DOCUMENT.read_text() == text
+        print("up to date" if is_fresh else f"not up to date: {DOCUMENT.name}")
+        return 0 if is_fresh else 1
+    DOCUMENT.write_text(text)
     return 0
 
 
