@@ -13,7 +13,7 @@ use Rattle.ob_code.specs.declared.image.BodyCode.{BodyCode}
 use Rattle.ob_code.specs.declared.image.ContractCode.{ContractCode}
 use Rattle.ob_code.specs.declared.image.Image.{Image}
 use Rattle.ob_code.specs.declared.instruction.Instruction.{Instruction}
-use Rattle.ob_machine_steps.specs.Images.{CalleeId}
+use Rattle.ob_code_table.specs.Images.{CalleeId}
 use Rattle.ob_machine_steps.specs.Slots.{Slots, value_at, values_at}
 use Rattle.ob_machine_steps.specs.Configurations.{Entered}
 use Rattle.ob_machine_steps.specs.Calling.{Caller, begun}

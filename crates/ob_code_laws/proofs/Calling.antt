@@ -23,7 +23,7 @@ use Rattle.ob_code.specs.declared.image.TypeCode.{TypeCode}
 use Rattle.ob_code.specs.declared.instruction.Instruction.{Instruction}
 use Rattle.ob_code.specs.declared.instruction.Instruction.TheVariants as is
 use Rattle.ob_code.specs.Code.{contract_code, body_code, is_shared_at_entry, is_interface, is_private, is_constructor, no_result, is_transaction_named}
-use Rattle.ob_machine_steps.specs.Images.{constructor_number, transaction_number, CalleeId, answer_of, callee}
+use Rattle.ob_code_table.specs.Images.{constructor_number, transaction_number, CalleeId, answer_of, callee}
 use Rattle.ob_machine_steps.specs.Slots.{Slots, reference_at, values_at}
 use Rattle.ob_machine_steps.specs.Configurations.{on_receiver, on_this, on_new, Configuration}
 use Rattle.ob_machine_steps.specs.Parts.{waiting}

@@ -16,7 +16,7 @@ use Rattle.ob_code.specs.declared.image.Image.{Image}
 use Rattle.ob_code.specs.declared.instruction.Instruction.{Instruction}
 use Rattle.ob_code.specs.declared.instruction.Instruction.TheVariants as is
 use Rattle.ob_code.specs.Code.{contract_code}
-use Rattle.ob_machine_steps.specs.Images.{has_field_code}
+use Rattle.ob_code_table.specs.Images.{has_field_code}
 use Rattle.ob_machine_steps.specs.Slots.{Slots, value_at}
 use Rattle.ob_machine_steps.specs.Configurations.{Configuration}
 use Rattle.ob_machine_steps.specs.Parts.{this_object}

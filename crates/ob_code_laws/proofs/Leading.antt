@@ -11,7 +11,7 @@ use Rattle.ob_code.specs.declared.image.Image.{Image}
 use Rattle.ob_code.specs.declared.instruction.Instruction.{Instruction}
 use Rattle.ob_code.specs.declared.instruction.Instruction.TheVariants as is
 use Rattle.ob_code.specs.Code.{is_interface, contract_code}
-use Rattle.ob_machine_steps.specs.Images.{instruction_of, instruction_at}
+use Rattle.ob_code_table.specs.Images.{instruction_of, instruction_at}
 use Rattle.ob_machine_steps.specs.Measures.{LeadsAhead}
 use Rattle.ob_verify_spec.specs.Verified.{IsVerified}
 use Rattle.ob_verify_spec.specs.Instructions.{leads}

@@ -22,7 +22,7 @@ use Rattle.ob_code.specs.declared.image.Image.{Image}
 use Rattle.ob_code.specs.declared.image.TypeCode.{TypeCode}
 use Rattle.ob_code.specs.declared.image.TypeCode.TheVariants as type
 use Rattle.ob_code.specs.Code.{body_code, is_interface, contract_code}
-use Rattle.ob_machine_steps.specs.ImageTables.{type_of_code, field_of_code, contract_of_code, table_of_image}
+use Rattle.ob_code_table.specs.ImageTables.{type_of_code, field_of_code, contract_of_code, table_of_image}
 use Rattle.ob_machine_steps.specs.Parts.{with_unit}
 use Rattle.ob_machine_steps.specs.Entries.{MachineEntry, lock_receiver, entry_world, nobody, enters}
 use Rattle.ob_verify_spec.specs.Kinds.{kind_of_type}

@@ -24,7 +24,7 @@ use Rattle.ob_code.specs.declared.image.Image.{Image}
 use Rattle.ob_code.specs.declared.instruction.Instruction.{Instruction}
 use Rattle.ob_code.specs.declared.instruction.Instruction.TheVariants as is
 use Rattle.ob_code.specs.Code.{contract_code, body_code, no_result, is_interface, is_constructor, is_transaction_named}
-use Rattle.ob_machine_steps.specs.Images.{constructor_number, transaction_number, CalleeId, answer_of, callee, has_field_code}
+use Rattle.ob_code_table.specs.Images.{constructor_number, transaction_number, CalleeId, answer_of, callee, has_field_code}
 use Rattle.ob_machine_steps.specs.Slots.{Slots, value_at, truth_of, text_of, truth_at, text_at, reference_at, values_at, with_value_at}
 use Rattle.ob_machine_steps.specs.Configurations.{MachineFrame, Configuration, Next}
 use Rattle.ob_machine_steps.specs.Parts.{with_world, sets, this_object, with_units, with_unit}

@@ -18,7 +18,7 @@ use Rattle.ob_code.specs.declared.image.ContractCode.{ContractCode}
 use Rattle.ob_code.specs.declared.image.Image.{Image}
 use Rattle.ob_code.specs.declared.image.ParamCode.{ParamCode}
 use Rattle.ob_code.specs.Code.{is_interface, contract_code}
-use Rattle.ob_machine_steps.specs.ImageTables.{perm_of_code, type_of_param}
+use Rattle.ob_code_table.specs.ImageTables.{perm_of_code, type_of_param}
 use Rattle.ob_machine_steps.specs.Configurations.{Entered, on_receiver, on_this, on_new, MachineFrame}
 use Rattle.ob_machine_steps.specs.Testing.{with_lock, without_lock, without_locks}
 use Rattle.ob_machine_steps.specs.Returning.{without_progress, world_left}

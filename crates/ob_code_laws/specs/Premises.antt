@@ -11,7 +11,7 @@ use Rattle.ob_code.specs.declared.image.BodyCode.{BodyCode}
 use Rattle.ob_code.specs.declared.image.ContractCode.{ContractCode}
 use Rattle.ob_code.specs.declared.image.FieldCode.{FieldCode}
 use Rattle.ob_code.specs.declared.image.Image.{Image}
-use Rattle.ob_machine_steps.specs.ImageTables.{table_of_image}
+use Rattle.ob_code_table.specs.ImageTables.{table_of_image}
 use Rattle.ob_machine_steps.specs.Entries.{MachineEntry}
 use Rattle.ob_code.specs.Code.{is_interface, is_constructor, contract_code, body_code}
 use Rattle.ob_verify_spec.specs.Kinds.{kind_of_type}

@@ -9,7 +9,7 @@ use Rattle.ob_code.specs.declared.image.Image.{Image}
 use Rattle.ob_code.specs.declared.instruction.Instruction.{Instruction}
 use Rattle.ob_code.specs.declared.instruction.Instruction.TheVariants as is
 use Rattle.ob_code.specs.Code.{contract_code}
-use Rattle.ob_machine_steps.specs.Images.{has_field_code}
+use Rattle.ob_code_table.specs.Images.{has_field_code}
 use Rattle.ob_machine_steps.specs.Configurations.{Configuration}
 use Rattle.ob_machine_steps.specs.Parts.{this_object}
 use Rattle.ob_machine_steps.specs.Changing.{GivenSlots, are_available}

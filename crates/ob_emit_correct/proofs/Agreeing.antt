@@ -28,7 +28,7 @@ use Rattle.ob_code.specs.declared.image.BodyCode.{BodyCode}
 use Rattle.ob_code.specs.declared.image.ContractCode.{ContractCode}
 use Rattle.ob_code.specs.declared.instruction.Instruction.{Instruction}
 use Rattle.ob_code.specs.Code.{is_interface, is_transaction_named, contract_code, body_code}
-use Rattle.ob_machine_steps.specs.Images.{instruction_of, instruction_at, constructor_number, constructor_of, transaction_number, is_available_in, has_field_code, named_between, state_seen_by, is_in_state_of, CalleeId, answer_of, callee}
+use Rattle.ob_code_table.specs.Images.{instruction_of, instruction_at, constructor_number, constructor_of, transaction_number, is_available_in, has_field_code, named_between, state_seen_by, is_in_state_of, CalleeId, answer_of, callee}
 use Rattle.ob_emit_spec.specs.EmittedImages.{field_code, emitted_body, tx_id, emitted_bodies, emitted_contract}
 use Rattle.ob_emit_spec.proofs.Contracts as emitted
 use Rattle.ob_emit_spec.proofs.Contracts.{emitted_at, body_same, bodies_length, all_at, constructor_first, constructor_parts, constructor_there}

@@ -23,7 +23,7 @@ use Rattle.ob_lower_correct.proofs.Changes.{permission_alike}
 use Rattle.ob_code.specs.declared.instruction.Instruction.{Instruction}
 use Rattle.ob_code.specs.declared.instruction.Instruction.TheVariants as instruction
 use Rattle.ob_machine_steps.specs.Configurations as machine
-use Rattle.ob_machine_steps.specs.Images.{instruction_at}
+use Rattle.ob_code_table.specs.Images.{instruction_at}
 use Rattle.ob_machine_steps.specs.Parts.{goes_on as next_place, goes_to as jumped}
 use Rattle.ob_machine_steps.specs.Slots.{Slots, truth_of}
 use Rattle.ob_machine_steps.specs.Testing.{without_lock}

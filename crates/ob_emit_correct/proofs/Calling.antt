@@ -35,7 +35,7 @@ use Rattle.ob_machine_steps.specs.Calling as machine_calls
 use Rattle.ob_machine_steps.specs.Calling.{caller}
 use Rattle.ob_machine_steps.specs.Configurations as machine
 use Rattle.ob_machine_steps.specs.Entries.{running}
-use Rattle.ob_machine_steps.specs.Images.{constructor_of}
+use Rattle.ob_code_table.specs.Images.{constructor_of}
 use Rattle.ob_machine_steps.specs.Parts as parts
 use Rattle.ob_machine_steps.specs.Slots.{values_at}
 use Rattle.ob_machine_steps.specs.Steps as machine_steps

@@ -41,7 +41,7 @@ use Rattle.ob_code.specs.declared.instruction.Instruction.TheVariants as instruc
 use Rattle.ob_machine_steps.specs.Changing as machine_changing
 use Rattle.ob_machine_steps.specs.Changing.{edits_this, GivenSlots, given_values, are_available, value_given, object_changed, changes_to}
 use Rattle.ob_machine_steps.specs.Configurations as machine
-use Rattle.ob_machine_steps.specs.Images.{has_field_code}
+use Rattle.ob_code_table.specs.Images.{has_field_code}
 use Rattle.ob_machine_steps.specs.Slots.{Slots, value_at}
 use Rattle.ob_machine_steps.specs.Steps as machine_steps
 use Rattle.ob_emit_spec.specs.Emission.{share_in_field, given_slots, shares_of_given}

@@ -39,7 +39,7 @@ use Rattle.ob_machine_steps.specs.Calling.{Caller, caller, begun}
 use Rattle.ob_machine_steps.specs.Configurations as machine
 use Rattle.ob_machine_steps.specs.Configurations.{Next}
 use Rattle.ob_machine_steps.specs.Entries.{Phase, next_step}
-use Rattle.ob_machine_steps.specs.Images.{CalleeId, callee}
+use Rattle.ob_code_table.specs.Images.{CalleeId, callee}
 use Rattle.ob_machine_steps.specs.Parts.{with_units}
 use Rattle.ob_machine_steps.specs.Parts as parts
 use Rattle.ob_machine_steps.specs.Runs.{after_step, after_steps}

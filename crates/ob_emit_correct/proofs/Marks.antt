@@ -15,7 +15,7 @@ use Rattle.ob_silica_places.specs.Parameters.{Parameter}
 use Rattle.ob_silica_steps.specs.Configurations.{SilicaProgram}
 use Rattle.ob_code.specs.declared.instruction.Instruction.{Instruction}
 use Rattle.ob_code.specs.declared.instruction.Instruction.TheVariants as instruction
-use Rattle.ob_machine_steps.specs.Images.{instruction_at}
+use Rattle.ob_code_table.specs.Images.{instruction_at}
 use Rattle.ob_machine_steps.specs.Slots.{Slots, value_at, values_at}
 use Rattle.ob_machine_steps.specs.Configurations.{Configuration, goes}
 use Rattle.ob_machine_steps.specs.Parts.{with_world, goes_on}

@@ -14,7 +14,7 @@ use Rattle.ob_coherent_spec.specs.Coherent.{Beginning, Holds, IsRunning, IsCoher
 use Rattle.ob_coherent_spec.specs.Remaining.{IsWellFormedForm, IsCheckedProgram}
 use Rattle.ob_code.specs.declared.instruction.Instruction.{Instruction}
 use Rattle.ob_machine_steps.specs.Configurations as machine
-use Rattle.ob_machine_steps.specs.Images.{instruction_at}
+use Rattle.ob_code_table.specs.Images.{instruction_at}
 use Rattle.ob_machine_steps.specs.Slots.{Slots}
 use Rattle.ob_machine_steps.specs.Steps.{act, next_instruction}
 use Rattle.ob_emit_spec.specs.Emission.{EmissionFrame, form_code, terms_code}

@@ -11,7 +11,7 @@ use Rattle.ob_coherent_spec.specs.Coherent.{Beginning, IsCoherent, StepsSo}
 use Rattle.ob_coherent_spec.specs.Remaining.{IsCheckedProgram}
 use Rattle.ob_machine_steps.specs.Configurations as machine
 use Rattle.ob_machine_steps.specs.Entries.{Phase, starting, running, marked_world}
-use Rattle.ob_machine_steps.specs.Meanings.{entry_of_constructor, entry_of_transaction}
+use Rattle.ob_machine_steps.specs.Outcomes.{entry_of_constructor, entry_of_transaction}
 use Rattle.ob_machine_steps.specs.Runs.{paused, after_steps}
 use Rattle.ob_emit_correct.specs.Law.{code_of, EndsAlike, CallsEndAlike, NewsEndAlike}
 use Rattle.ob_emit_correct.proofs.Branching.{if_does, pop_does}

@@ -27,8 +27,8 @@ use Rattle.ob_coherent_spec.specs.Coherent.{Beginning, IsCoherent, running, leav
 use Rattle.ob_coherent_spec.specs.Remaining.{IsCheckedProgram}
 use Rattle.ob_machine_steps.specs.Entries.{MachineEntry, starting, args_come_in, comes_into_body, marked_world, nobody, next_step}
 use Rattle.ob_machine_steps.specs.Entries as entries
-use Rattle.ob_machine_steps.specs.ImageTables.{type_of_param}
-use Rattle.ob_machine_steps.specs.Meanings.{entry_of_constructor, entry_of_transaction}
+use Rattle.ob_machine_steps.specs.Outcomes.{entry_of_constructor, entry_of_transaction}
+use Rattle.ob_code_table.specs.ImageTables.{type_of_param}
 use Rattle.ob_emit_spec.specs.EmittedImages.{param_code, param_type_code, emitted_body}
 use Rattle.ob_lower_correct.proofs.Binding.{come_all, bound_slots}
 use Rattle.ob_lower_correct.proofs.CallsThis.{parameters_length}

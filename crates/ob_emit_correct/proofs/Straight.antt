@@ -56,7 +56,7 @@ use Rattle.ob_code.specs.declared.image.Image.{Image}
 use Rattle.ob_code.specs.declared.instruction.Instruction.{Instruction}
 use Rattle.ob_code.specs.declared.instruction.Instruction.TheVariants as instruction
 use Rattle.ob_machine_steps.specs.Configurations as machine
-use Rattle.ob_machine_steps.specs.Images.{has_field_code}
+use Rattle.ob_code_table.specs.Images.{has_field_code}
 use Rattle.ob_machine_steps.specs.Changing.{edits_this}
 use Rattle.ob_machine_steps.specs.Parts.{with_world, with_units, goes_on as next_place, sets}
 use Rattle.ob_machine_steps.specs.Slots.{Slots, value_at, text_of}

@@ -34,7 +34,7 @@ use Rattle.ob_code.specs.declared.instruction.Instruction.{Instruction}
 use Rattle.ob_code.specs.declared.instruction.Instruction.TheVariants as instruction
 use Rattle.ob_machine_steps.specs.Configurations as machine
 use Rattle.ob_machine_steps.specs.Configurations.{Next}
-use Rattle.ob_machine_steps.specs.Images.{is_in_state_of}
+use Rattle.ob_code_table.specs.Images.{is_in_state_of}
 use Rattle.ob_machine_steps.specs.Parts.{with_world}
 use Rattle.ob_machine_steps.specs.Steps as machine_steps
 use Rattle.ob_machine_steps.specs.Testing.{with_lock, branches, tests_this, tests_other, lock_of}

@@ -10,7 +10,7 @@ use Rattle.ob_base.specs.declared.id.TxId.{TxId}
 use Rattle.ob_code.specs.declared.image.Image.{Image}
 use Rattle.ob_machine_steps.specs.Configurations.{ended as run_ended, aborted as run_aborted}
 use Rattle.ob_machine_steps.specs.Entries.{Phase, starting}
-use Rattle.ob_machine_steps.specs.Meanings.{entry_of_constructor, entry_of_transaction}
+use Rattle.ob_machine_steps.specs.Outcomes.{entry_of_constructor, entry_of_transaction}
 use Rattle.ob_machine_steps.specs.Runs.{over, after_steps}
 use Rattle.ob_machine_steps.specs.Entries.{marked_world}
 use Rattle.ob_coherent_spec.specs.Coherent.{Beginning, StepsSo}

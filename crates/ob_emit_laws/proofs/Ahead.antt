@@ -33,7 +33,7 @@ use Rattle.ob_code.specs.declared.image.ContractCode.{ContractCode}
 use Rattle.ob_code.specs.declared.instruction.Instruction.{Instruction}
 use Rattle.ob_code.specs.declared.instruction.Instruction.TheVariants as instruction
 use Rattle.ob_code.specs.Code.{is_interface}
-use Rattle.ob_machine_steps.specs.Images.{instruction_of, instruction_at}
+use Rattle.ob_code_table.specs.Images.{instruction_of, instruction_at}
 use Rattle.ob_emit_spec.specs.Operands.{slot_read, load, slots_read, loads, values_given, share, shares}
 use Rattle.ob_emit_spec.specs.Emission.{EmissionFrame, constant_code, operation_code, fetch_code, share_in_field, copy_code, move_code, shares_of_call, shares_of_new, given_slots, shares_of_given, jumps_over, after_branch, choice_code, end_test, contract_referred, share_result, return_code, after_load, choose_code, form_code, terms_code}
 use Rattle.ob_emit_spec.specs.EmittedImages.{frame_of_body, emitted_body, emitted_contract, image_of}

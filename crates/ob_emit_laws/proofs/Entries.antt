@@ -20,9 +20,10 @@ use Rattle.ob_heap_spec.specs.Values.{Value, int_value, bool_value, text_value, 
 use Rattle.ob_heap_spec.specs.Objects.{Object}
 use Rattle.ob_heap_spec.specs.Contents.{Handle, Content, object_at}
 use Rattle.ob_heap_spec.specs.Dispatch.{transaction_named}
+use Rattle.ob_heap_spec.specs.Handles.{handle_at}
 use Rattle.ob_invocation_spec.specs.Requests.{Argument, int_argument, bool_argument, text_argument, handle_argument, other_argument, NewRequest, CallRequest}
 use Rattle.ob_invocation_spec.specs.Replies.{no_contract, not_main, no_transaction, arg_count, arg_kind, permission, repeated}
-use Rattle.ob_invocation_spec.specs.Handles.{handle_name, handle_at}
+use Rattle.ob_invocation_spec.specs.Handles.{handle_name}
 use Rattle.ob_invocation_spec.specs.Entries.{HandleUse, Entry, entry_of_new, entry_of_call, mode_of_result, used_as_receiver, value_of, use_of_argument, argument_uses, handle_uses}
 use Rattle.ob_invocation_spec.specs.Checks.{Check, check}
 use Rattle.ob_invocation_spec.specs.Refusals.{handle_check, argument_checks, is_no_contract, is_not_main, is_no_transaction, has_other_count, is_of_type, is_argument_for, use_serves, receiver_serves, lacks_permission, is_repeated, repeats_object, entry_checks, found_checks, new_checks, call_checks}

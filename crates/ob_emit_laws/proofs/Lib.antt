@@ -3,4 +3,3 @@ pub mod Unnamed
 pub mod Entries
 pub mod Invoking
 pub mod Ahead
-pub mod Whole

@@ -21,8 +21,8 @@ use Rattle.ob_silica.specs.Terms.{SilicaBody}
 use Rattle.ob_silica_steps.specs.Configurations.{is_terms_of}
 use Rattle.ob_code.specs.declared.instruction.Instruction.{Instruction}
 use Rattle.ob_code.specs.Code.{is_constructor}
-use Rattle.ob_machine_steps.specs.Images.{constructor_number}
-use Rattle.ob_machine_steps.specs.ImageTables.{type_of_code, type_of_param, exit_of_param, param_of_code, field_of_code, signature_of_code, interface_of, contract_of_code}
+use Rattle.ob_code_table.specs.Images.{constructor_number}
+use Rattle.ob_code_table.specs.ImageTables.{type_of_code, type_of_param, exit_of_param, param_of_code, field_of_code, signature_of_code, interface_of, contract_of_code}
 use Rattle.ob_emit_spec.specs.EmittedImages.{type_code, param_type_code, param_code, field_code, implements_code, signed_body, code_of_body, emitted_body, tx_id, emitted_bodies, emitted_contract, emitted_contracts}
 use Rattle.ob_emit_spec.specs.Emission.{scratch_of_terms}
 use Rattle.ob_emit_laws.specs.Names.{param_without_name, signature_without_names, contract_without_names}

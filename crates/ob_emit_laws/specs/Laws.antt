@@ -7,9 +7,8 @@ use Rattle.ob_invocation_spec.specs.Entering.{Meaning}
 use Rattle.ob_invocation_spec.specs.Invocation.{invoke}
 use Rattle.ob_invocation_spec.specs.Requests.{Request}
 use Rattle.ob_silica.specs.Terms.{SilicaBody}
-use Rattle.ob_machine_steps.specs.ImageTables.{table_of_image}
+use Rattle.ob_code_table.specs.ImageTables.{table_of_image}
 use Rattle.ob_machine_steps.specs.Measures.{LeadsAhead}
-use Rattle.ob_machine_steps.specs.Meanings.{machine_meaning, machine_invocation}
 use Rattle.ob_emit_spec.specs.EmittedImages.{image_of}
 use Rattle.ob_emit_laws.specs.Names.{without_names}
 
@@ -24,13 +23,6 @@ abbrev pub InvocationsIgnoreNames : Type 0
 InvocationsIgnoreNames =
     (meaning : Meaning) (table : ClassTable) (content : Content) (request : Request) (fuel : ℕ)
     → invoke meaning (without_names table) content request fuel ≡ invoke meaning table content request fuel
-
--- the invocation by emitted code is that by its program's class table, where a `new` and a `call` run the code
-abbrev pub InvocationsByEmittedCode : Type 0
-InvocationsByEmittedCode =
-    (table : ClassTable) (bodies : List SilicaBody) → IsClassTable table → (content : Content) (request : Request) (fuel : ℕ)
-    → machine_invocation (image_of table bodies) content request fuel
-    ≡ invoke (machine_meaning (image_of table bodies)) table content request fuel
 
 -- each jump of an emitted image leads ahead, whatever its terms
 abbrev pub EmittedJumpsLeadAhead : Type 0

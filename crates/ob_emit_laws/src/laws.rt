@@ -1,5 +1,5 @@
 //! The laws of emitted images.
-ghost use Rattle.ob_emit_laws.specs.Laws.{EmittedTablesAgree, InvocationsIgnoreNames, InvocationsByEmittedCode, EmittedJumpsLeadAhead};
+ghost use Rattle.ob_emit_laws.specs.Laws.{EmittedTablesAgree, InvocationsIgnoreNames, EmittedJumpsLeadAhead};
 
 /// The class table that an emitted image gives is that of the program, but for what no image has: names of parameters, the fields
 /// that transactions list, and bodies.
@@ -10,11 +10,6 @@ pub fn emitted_tables_agree()
 /// What a request comes to, whatever a `new` and a `call` do, doesn't depend on what no image has.
 pub fn invocations_ignore_names()
     ensures { InvocationsIgnoreNames }
-{}
-
-/// So the invocation by emitted code is the one by the program's own class table, with what a `new` and a `call` do by the code.
-pub fn invocations_by_emitted_code()
-    ensures { InvocationsByEmittedCode }
 {}
 
 /// Each jump of an emitted image leads ahead, so that no run of it lasts longer than its units and its longest body say.

@@ -3,7 +3,4 @@
 
 mod laws;
 
-pub use laws::{
-    emitted_jumps_lead_ahead, emitted_tables_agree, invocations_by_emitted_code,
-    invocations_ignore_names,
-};
+pub use laws::{emitted_jumps_lead_ahead, emitted_tables_agree, invocations_ignore_names};

@@ -10,6 +10,7 @@ use Rattle.ob_heap_spec.specs.Values as values
 use Rattle.ob_heap_spec.specs.Contents.{Content, object_at}
 use Rattle.ob_heap_spec.specs.Worlds.{World, ReadItem, RunOutcome, gives, aborts, wrong, is_made, with_read, object_item, read_object, set_object, edit_object}
 use Rattle.ob_heap_spec.specs.Marks.{has_mark, mark_shared}
+use Rattle.ob_heap_spec.specs.Handles.{NamedHandle, put_handles}
 use Rattle.ob_heap.specs.declared.delta.Delta.{Delta}
 use Rattle.ob_heap.specs.declared.object.Object.{Object}
 use Rattle.ob_heap.specs.declared.value.Value.{Value}
@@ -19,7 +20,7 @@ use Rattle.ob_heap.specs.Plain.{object_of, value_of}
 use Rattle.ob_rest_spec.specs.Modes.{is_shared}
 use Rattle.ob_invocation_spec.specs.Entries.{Entry}
 use Rattle.ob_invocation_spec.specs.Entering.{put_after_use, put_given, puts_after}
-use Rattle.ob_invocation_spec.specs.Handles.{NamedHandle, handle_name, put_handles, mark_put, mark_puts}
+use Rattle.ob_invocation_spec.specs.Handles.{handle_name, mark_put, mark_puts}
 use Rattle.ob_invocation_spec.specs.Invocation.{done_with, ended}
 use Rattle.ob_invocation_spec.specs.Replies.{Reply, invoked, aborted}
 use Rattle.ob_invocation_spec.specs.Showing.{told_state, reply_of_result}

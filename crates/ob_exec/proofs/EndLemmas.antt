@@ -20,9 +20,9 @@ use Rattle.ob_code.specs.declared.image.ParamCode.{ParamCode}
 use Rattle.ob_code.specs.Code.{body_code}
 use Rattle.ob_machine_steps.specs.Configurations.{End, ended, aborted, Next, goes, stops}
 use Rattle.ob_machine_steps.specs.Entries.{MachineEntry, Phase, running, lock_receiver, args_come_in, receiver_comes_in, comes_into_body, entry_world, started, next_step}
-use Rattle.ob_machine_steps.specs.ImageTables.{perm_of_code, type_of_param}
+use Rattle.ob_code_table.specs.ImageTables.{perm_of_code, type_of_param}
 use Rattle.ob_machine_steps.specs.Measures.{LeadsAhead, steps_left}
-use Rattle.ob_machine_steps.specs.Meanings.{outcome_of, outcome_at, outcome}
+use Rattle.ob_machine_steps.specs.Outcomes.{outcome_of, outcome_at, outcome}
 use Rattle.ob_machine_steps.specs.Runs.{world_of as world_of_phase, Stop, paused, over, after_step, after_steps, Slices}
 use Rattle.ob_machine_laws.specs.Laws.{IsSoundRun, SameStop, SameEnd}
 use Rattle.ob_machine_laws.proofs.Ending.{slices_end}

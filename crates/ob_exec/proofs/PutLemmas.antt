@@ -20,9 +20,9 @@ use Rattle.ob_heap.specs.Plain.{handle_of}
 use Rattle.ob_heap.proofs.HandlesLemmas.{names_total}
 use Rattle.ob_heap_spec.specs.Contents.{HandleName, Handle as PlainHandle, name_order, object_at}
 use Rattle.ob_heap_spec.specs.Objects.{Object}
+use Rattle.ob_heap_spec.specs.Handles.{NamedHandle, handle_at, put_handle, put_handles}
 use Rattle.ob_invocation_spec.specs.Entering.{handle_in}
 use Rattle.ob_invocation_spec.specs.Entries.{HandleUse}
-use Rattle.ob_invocation_spec.specs.Handles.{NamedHandle, handle_at, put_handle, put_handles}
 use Rattle.ob_exec_handles.specs.Marking.{marked, with_put_mark, with_put_marks}
 use Rattle.ob_exec_handles.specs.declared.marking.Mark.TheVariants.{Shared as SharedMark}
 use Rattle.ob_exec.specs.Putting.{stays_in, stays_as, LeaveTheSame}

@@ -17,16 +17,17 @@ use Rattle.ob_table_spec.specs.WellFormed.{constructor_at}
 use Rattle.ob_heap_spec.specs.Contents.{HandleName, Handle, Content, object_at}
 use Rattle.ob_heap_spec.specs.Dispatch.{transaction_named}
 use Rattle.ob_heap_spec.specs.Worlds.{ReadItem, object_item, handle_item, handles_full_item, AllRead}
+use Rattle.ob_heap_spec.specs.Handles.{handle_at}
 use Rattle.ob_invocation_spec.specs.Checks.{Check, check, refusal_of, reads_of, refused_or, unless_refused, with_found}
 use Rattle.ob_invocation_spec.specs.Entries.{HandleUse, Entry, used_for, use_of_argument, argument_uses, handle_uses, entry_of_new, entry_of_call}
-use Rattle.ob_invocation_spec.specs.Handles.{handle_name, handle_at, handle_reads, are_handles_full}
+use Rattle.ob_invocation_spec.specs.Handles.{handle_name, handle_reads, are_handles_full}
 use Rattle.ob_invocation_spec.specs.Invocation.{enter_entry, invoke_new, invoke_call}
 use Rattle.ob_invocation_spec.specs.Refusals.{is_no_handle, is_taken, argument_checks, is_no_contract, is_not_main, has_other_count, has_other_kind, lacks_permission, repeats_object, lacks_into, has_needless_into, making_checks, into_checks, entry_checks, found_checks, new_checks, call_checks}
 use Rattle.ob_invocation_spec.specs.Replies.{Refusal, Invocation, no_handle, no_contract, not_main, no_transaction, arg_count, arg_kind, permission, repeated, into_missing, into_needless, into_taken, handles_full}
 use Rattle.ob_invocation_spec.specs.Requests.{argument_name, Argument, int_argument, bool_argument, text_argument, handle_argument, other_argument, NewRequest, CallRequest}
 use Rattle.ob_code.specs.declared.image.Image.{Image}
-use Rattle.ob_machine_steps.specs.ImageTables.{table_of_image}
-use Rattle.ob_machine_steps.specs.Meanings.{machine_meaning}
+use Rattle.ob_code_table.specs.ImageTables.{table_of_image}
+use Rattle.ob_machine_meaning.specs.Meanings.{machine_meaning}
 use Rattle.ob_wire.specs.Meanings.{argument_meant}
 use Rattle.ob_wire.specs.Refusals.{refusal_told}
 use Rattle.ob_wire.specs.declared.refusal.Refusal.{Refusal as TheRefusal}

@@ -16,8 +16,9 @@ use Rattle.ob_invocation_spec.specs.Showing.{told_state}
 use Rattle.ob_code.specs.declared.image.Image.{Image}
 use Rattle.ob_table.specs.Tables.{ClassTable}
 use Rattle.ob_machine_steps.specs.Entries.{started}
-use Rattle.ob_machine_steps.specs.ImageTables.{table_of_image}
-use Rattle.ob_machine_steps.specs.Meanings.{outcome, machine_meaning}
+use Rattle.ob_machine_steps.specs.Outcomes.{outcome}
+use Rattle.ob_code_table.specs.ImageTables.{table_of_image}
+use Rattle.ob_machine_meaning.specs.Meanings.{machine_meaning}
 use Rattle.ob_machine.specs.Shown.{cause_of}
 use Rattle.ob_machine.specs.declared.progress.Cause.{Cause}
 use Rattle.ob_wire.specs.declared.reply.Answer.{Answer}

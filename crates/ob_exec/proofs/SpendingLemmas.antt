@@ -14,6 +14,7 @@ use Rattle.ob_heap_spec.specs.Contents.{Content}
 use Rattle.ob_heap_spec.specs.Marks.{mark_shared}
 use Rattle.ob_heap_spec.specs.Values as values
 use Rattle.ob_heap_spec.specs.Worlds.{World, Spent as WorldSpent, ReadItem, object_item, RunOutcome, gives, aborts, wrong, AllRead, ReadSame, is_made, with_read}
+use Rattle.ob_heap_spec.specs.Handles.{NamedHandle}
 use Rattle.ob_heap.specs.declared.delta.Delta.{Delta}
 use Rattle.ob_heap.specs.declared.value.Value.{Value}
 use Rattle.ob_heap.specs.Contents.{Stored, content_of}
@@ -21,15 +22,16 @@ use Rattle.ob_heap.specs.Overlays.{Changes, objects_over}
 use Rattle.ob_heap.specs.Plain.{value_of}
 use Rattle.ob_invocation_spec.specs.Entries.{HandleUse, Entry, handle_uses}
 use Rattle.ob_invocation_spec.specs.Entering.{Meaning, handle_in, put_after_use, put_given, put_into, puts_after, is_outside_use, first_outside_use, outside_cause}
-use Rattle.ob_invocation_spec.specs.Handles.{NamedHandle, handle_name, mark_put, mark_puts}
+use Rattle.ob_invocation_spec.specs.Handles.{handle_name, mark_put, mark_puts}
 use Rattle.ob_invocation_spec.specs.Invocation.{ended, after_entry_test}
 use Rattle.ob_invocation_spec.specs.Replies.{Invocation}
 use Rattle.ob_code.specs.declared.image.Image.{Image}
 use Rattle.ob_machine_parts.specs.Shown.{reads_of}
 use Rattle.ob_machine_parts.proofs.WorldLemmas.{count_over}
 use Rattle.ob_machine_steps.specs.Entries.{started}
-use Rattle.ob_machine_steps.specs.ImageTables.{table_of_image}
-use Rattle.ob_machine_steps.specs.Meanings.{outcome, machine_meaning}
+use Rattle.ob_machine_steps.specs.Outcomes.{outcome}
+use Rattle.ob_code_table.specs.ImageTables.{table_of_image}
+use Rattle.ob_machine_meaning.specs.Meanings.{machine_meaning}
 use Rattle.ob_machine.specs.Shown.{cause_of}
 use Rattle.ob_machine.specs.declared.progress.Cause.{Cause}
 use Rattle.ob_machine.specs.declared.progress.Progress.{Progress}

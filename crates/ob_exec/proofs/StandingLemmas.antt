@@ -20,8 +20,9 @@ use Rattle.ob_table.specs.declared.contract.ResolvedType.TheVariants.{Int, Bool,
 use Rattle.ob_heap_spec.specs.Contents.{Content, Handle, HandleName, object_at}
 use Rattle.ob_heap_spec.specs.Dispatch.{transaction_named}
 use Rattle.ob_heap_spec.specs.Objects.{Object}
+use Rattle.ob_heap_spec.specs.Handles.{handle_at}
 use Rattle.ob_invocation_spec.specs.Entries.{Entry, HandleUse, mode_of_result, used_as_receiver, used_for, use_of_argument, argument_uses, handle_uses, entry_of_new, entry_of_call}
-use Rattle.ob_invocation_spec.specs.Handles.{handle_at, handle_name}
+use Rattle.ob_invocation_spec.specs.Handles.{handle_name}
 use Rattle.ob_invocation_spec.specs.Requests.{Argument, int_argument, bool_argument, text_argument, handle_argument, other_argument, NewRequest, CallRequest}
 use Rattle.ob_exec.specs.Putting.{AllStand}
 

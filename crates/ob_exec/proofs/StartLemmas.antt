@@ -11,9 +11,10 @@ use Rattle.ob_invocation_spec.specs.Entries.{HandleUse, Entry, values_of}
 use Rattle.ob_invocation_spec.specs.Entering.{run_entry}
 use Rattle.ob_code.specs.declared.image.Image.{Image}
 use Rattle.ob_machine_steps.specs.Entries.{MachineEntry, started}
-use Rattle.ob_machine_steps.specs.Images.{constructor_of}
-use Rattle.ob_machine_steps.specs.Meanings.{outcome, entry_outcome, entry_of_constructor, machine_meaning, entry_of_request}
-use Rattle.ob_machine_laws.proofs.Requests.{requests_run}
+use Rattle.ob_machine_steps.specs.Outcomes.{outcome, entry_outcome, entry_of_constructor}
+use Rattle.ob_code_table.specs.Images.{constructor_of}
+use Rattle.ob_machine_meaning.specs.Meanings.{machine_meaning, entry_of_request}
+use Rattle.ob_machine_meaning.proofs.Requests.{requests_run}
 use Rattle.ob_exec.specs.Ending.{IsRight}
 use Rattle.ob_exec.specs.Bodies.{body_number}
 

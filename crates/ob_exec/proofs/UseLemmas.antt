@@ -14,8 +14,8 @@ use Rattle.ob_heap.specs.declared.object.Object.{Object}
 use Rattle.ob_heap.specs.Plain.{object_of}
 use Rattle.ob_invocation_spec.specs.Entering.{is_outside_use}
 use Rattle.ob_code.specs.declared.image.Image.{Image}
-use Rattle.ob_machine_steps.specs.Images.{bits_of, state_seen_by}
-use Rattle.ob_machine_steps.specs.ImageTables.{table_of_image}
+use Rattle.ob_code_table.specs.Images.{bits_of, state_seen_by}
+use Rattle.ob_code_table.specs.ImageTables.{table_of_image}
 use Rattle.ob_machine_laws.proofs.Tables.{state_same}
 use Rattle.ob_exec_entries.specs.Entering.{use_of}
 use Rattle.ob_exec_entries.specs.declared.entered.HandleUse.{HandleUse}

@@ -3,7 +3,7 @@ use Rattle.std.specs.Prelude.{ℕ, Option, Some, None}
 use Rattle.ob_base.specs.declared.id.ContractId.{ContractId}
 use Rattle.ob_base.specs.declared.id.TxId.{TxId}
 use Rattle.ob_code.specs.declared.image.Image.{Image}
-use Rattle.ob_machine_steps.specs.Images.{constructor_of}
+use Rattle.ob_code_table.specs.Images.{constructor_of}
 
 -- the number of the body that runs: on an object, that of its transaction; else that of the image's constructor
 abbrev pub body_number : Image → Option ℕ → ContractId → TxId → Option TxId

@@ -7,9 +7,9 @@ use Rattle.ob_heap.specs.Overlays.{Changes, objects_over}
 use Rattle.ob_heap.specs.declared.object.Handle.{Handle}
 use Rattle.ob_heap_spec.specs.Contents.{Content, HandleName}
 use Rattle.ob_heap_spec.specs.Objects.{Object}
+use Rattle.ob_heap_spec.specs.Handles.{NamedHandle, handle_at, put_handles}
 use Rattle.ob_invocation_spec.specs.Entering.{handle_in}
 use Rattle.ob_invocation_spec.specs.Entries.{HandleUse}
-use Rattle.ob_invocation_spec.specs.Handles.{NamedHandle, handle_at, put_handles}
 use Rattle.ob_exec_handles.specs.Marking.{is_marked, with_put_marks}
 use Rattle.ob_exec_handles.specs.declared.marking.Mark.TheVariants.{Shared as SharedMark}
 

@@ -8,8 +8,8 @@ use Rattle.ob_invocation_spec.specs.Entering.{run_entry}
 use Rattle.ob_invocation_spec.specs.Invocation.{ended, enter_entry}
 use Rattle.ob_invocation_spec.specs.Replies.{Invocation}
 use Rattle.ob_code.specs.declared.image.Image.{Image}
-use Rattle.ob_machine_steps.specs.ImageTables.{table_of_image}
-use Rattle.ob_machine_steps.specs.Meanings.{machine_meaning, entry_of_request}
+use Rattle.ob_code_table.specs.ImageTables.{table_of_image}
+use Rattle.ob_machine_meaning.specs.Meanings.{machine_meaning, entry_of_request}
 use Rattle.ob_exec_entries.specs.Entering.{use_of, machine_entry}
 use Rattle.ob_exec_entries.specs.declared.entered.Entered.{Entered}
 

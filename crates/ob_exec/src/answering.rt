@@ -1,8 +1,8 @@
 //! The answer to a request.
 ghost use Rattle.std.specs.Prelude.{◌≡◌, ℕ, Some, map, IfOk};
 ghost use Rattle.ob_heap.specs.Contents.{content_of};
-ghost use Rattle.ob_machine_steps.specs.ImageTables.{table_of_image};
-ghost use Rattle.ob_machine_steps.specs.Meanings.{machine_meaning, machine_invocation};
+ghost use Rattle.ob_code_table.specs.ImageTables.{table_of_image};
+ghost use Rattle.ob_machine_meaning.specs.Meanings.{machine_meaning, machine_invocation};
 ghost use Rattle.ob_invocation_spec.specs.Invocation.{invoke_new, invoke_call, invoke_operation};
 ghost use Rattle.ob_wire.specs.Meanings.{argument_meant, operation_of, request_of};
 ghost use Rattle.ob_owners.specs.Spots.{owner_place};

@@ -5,7 +5,7 @@ ghost use Rattle.ob_heap_spec.specs.Worlds.{World, ReadItem};
 ghost use Rattle.ob_heap.specs.Contents.{content_of, named_of};
 ghost use Rattle.ob_heap.specs.Overlays.{laid_over, objects_over};
 ghost use Rattle.ob_heap.specs.Plain.{value_of};
-ghost use Rattle.ob_machine_steps.specs.ImageTables.{table_of_image};
+ghost use Rattle.ob_code_table.specs.ImageTables.{table_of_image};
 ghost use Rattle.ob_machine.specs.Shown.{cause_of};
 ghost use Rattle.ob_invocation_spec.specs.Invocation.{done_with};
 ghost use Rattle.ob_invocation_spec.specs.Replies.{aborted, invoked};

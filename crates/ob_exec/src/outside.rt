@@ -3,9 +3,9 @@ ghost use Rattle.std.specs.Prelude.{◌≡◌, ℕ, List, map, false, not, find,
 ghost use Rattle.std.specs.Option.{option_map_or};
 ghost use Rattle.ob_perm.specs.Masks.{states_of};
 ghost use Rattle.ob_heap.specs.Plain.{object_of};
-ghost use Rattle.ob_machine_steps.specs.Images.{bits_of, state_seen_by};
+ghost use Rattle.ob_code_table.specs.Images.{bits_of, state_seen_by};
 ghost use Rattle.ob_heap.specs.Contents.{content_of};
-ghost use Rattle.ob_machine_steps.specs.ImageTables.{table_of_image};
+ghost use Rattle.ob_code_table.specs.ImageTables.{table_of_image};
 ghost use Rattle.ob_machine.specs.Shown.{cause_of};
 ghost use Rattle.ob_invocation_spec.specs.Entering.{is_outside_use, outside_cause};
 ghost use Rattle.ob_exec_entries.specs.Entering.{use_of};

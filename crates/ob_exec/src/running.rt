@@ -3,8 +3,8 @@ ghost use Rattle.std.specs.Prelude.{◌≡◌, Some, map, option_map, IsSome, If
 ghost use Rattle.ob_heap.specs.Overlays.{no_changes};
 ghost use Rattle.ob_heap.specs.Plain.{object_of};
 ghost use Rattle.ob_machine_steps.specs.Entries.{started};
-ghost use Rattle.ob_machine_steps.specs.Images.{constructor_of};
-ghost use Rattle.ob_machine_steps.specs.Meanings.{outcome};
+ghost use Rattle.ob_machine_steps.specs.Outcomes.{outcome};
+ghost use Rattle.ob_code_table.specs.Images.{constructor_of};
 ghost use Rattle.ob_machine.specs.Phases.{entry_of};
 ghost use Rattle.ob_machine_parts.specs.Shown.{number_of};
 ghost use Rattle.ob_exec.specs.Ending.{IsRight, EndsSo, HasSpent};

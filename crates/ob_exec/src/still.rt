@@ -3,7 +3,7 @@ ghost use Rattle.std.specs.Prelude.{◌≡◌, ℕ, IfOk};
 ghost use Rattle.ob_heap.specs.Contents.{content_of};
 ghost use Rattle.ob_invocation_spec.specs.Handles.{handle_name};
 ghost use Rattle.ob_invocation_spec.specs.Invocation.{invoke_disown, invoke_give, invoke_see, invoke_owner};
-ghost use Rattle.ob_machine_steps.specs.ImageTables.{table_of_image};
+ghost use Rattle.ob_code_table.specs.ImageTables.{table_of_image};
 ghost use Rattle.ob_owners.specs.Spots.{owner_place};
 ghost use Rattle.ob_exec_handles.specs.Coming.{ComesTo, IsInLimits};
 ghost use Rattle.ob_exec_handles.specs.Spending.{SpendsSo};

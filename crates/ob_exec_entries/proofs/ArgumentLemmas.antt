@@ -6,7 +6,7 @@ use Rattle.std.proofs.lemmas.List.{map-append, drop_all}
 use Rattle.ob_code.specs.declared.image.ParamCode.{ParamCode}
 use Rattle.ob_heap_spec.specs.Contents.{Content}
 use Rattle.ob_invocation_spec.specs.Entries.{use_of_argument}
-use Rattle.ob_machine_steps.specs.ImageTables.{param_of_code}
+use Rattle.ob_code_table.specs.ImageTables.{param_of_code}
 use Rattle.ob_wire.specs.Meanings.{argument_meant}
 use Rattle.ob_wire.specs.declared.request.Arg.{Arg}
 use Rattle.ob_exec_entries.specs.Arguments.{uses_of}

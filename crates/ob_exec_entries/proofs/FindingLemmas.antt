@@ -13,9 +13,10 @@ use Rattle.ob_code.specs.declared.image.Image.{Image}
 use Rattle.ob_heap_spec.specs.Contents.{Content, Handle, object_at}
 use Rattle.ob_heap_spec.specs.Dispatch.{transaction_named}
 use Rattle.ob_heap_spec.specs.Objects.{Object}
+use Rattle.ob_heap_spec.specs.Handles.{handle_at}
 use Rattle.ob_invocation_spec.specs.Entries.{Entry, entry_of_new, entry_of_call}
-use Rattle.ob_invocation_spec.specs.Handles.{handle_name, handle_at}
-use Rattle.ob_machine_steps.specs.ImageTables.{table_of_image}
+use Rattle.ob_invocation_spec.specs.Handles.{handle_name}
+use Rattle.ob_code_table.specs.ImageTables.{table_of_image}
 use Rattle.ob_wire.specs.Meanings.{argument_meant}
 use Rattle.ob_wire.specs.declared.request.Arg.{Arg}
 use Rattle.ob_exec_entries.specs.Naming.{IsNamesOf, contract_in, transaction_in}

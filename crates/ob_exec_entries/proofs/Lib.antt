@@ -3,7 +3,6 @@ pub mod CheckLemmas
 pub mod EnteringLemmas
 pub mod FindingLemmas
 pub mod HandleLemmas
-pub mod ImageLemmas
 pub mod NamingLemmas
 pub mod NumberedLemmas
 pub mod ResultLemmas

@@ -9,7 +9,7 @@ use Rattle.ob_heap_spec.specs.Dispatch.{transaction_named}
 use Rattle.ob_code.specs.declared.image.BodyCode.{BodyCode}
 use Rattle.ob_code.specs.declared.image.ContractCode.{ContractCode}
 use Rattle.ob_code.specs.declared.image.Image.{Image}
-use Rattle.ob_machine_steps.specs.ImageTables.{signature_of_code, contract_of_code}
+use Rattle.ob_code_table.specs.ImageTables.{signature_of_code, contract_of_code}
 use Rattle.ob_exec_entries.specs.Naming.{IsNamesOf, contract_names, body_names, AreNumbered, tx_id}
 use Rattle.ob_exec_entries.specs.Numbered.{number_in, IsNumbering}
 use Rattle.ob_exec_entries.specs.declared.names.Names.{Names}

@@ -11,7 +11,7 @@ use Rattle.ob_heap.specs.declared.object.Handle.{Handle}
 use Rattle.ob_heap_spec.specs.Contents.{Content}
 use Rattle.ob_invocation_spec.specs.Entries.{Entry, HandleUse as Use, use_of_argument, argument_uses, handle_uses}
 use Rattle.ob_invocation_spec.specs.Refusals.{is_argument_for, has_other_kind, use_serves, receiver_serves, lacks_permission, is_repeated, repeats_object}
-use Rattle.ob_machine_steps.specs.ImageTables.{param_of_code}
+use Rattle.ob_code_table.specs.ImageTables.{param_of_code}
 use Rattle.ob_rest_spec.specs.Modes.{is_owned}
 use Rattle.ob_table.specs.Tables.{ClassTable}
 use Rattle.ob_wire.specs.Meanings.{argument_meant}

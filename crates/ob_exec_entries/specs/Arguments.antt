@@ -7,7 +7,7 @@ use Rattle.ob_invocation_spec.specs.Entries.{HandleUse, use_of_argument}
 use Rattle.ob_invocation_spec.specs.Handles.{handle_name}
 use Rattle.ob_invocation_spec.specs.Refusals.{is_no_handle}
 use Rattle.ob_invocation_spec.specs.Requests.{argument_name}
-use Rattle.ob_machine_steps.specs.ImageTables.{param_of_code}
+use Rattle.ob_code_table.specs.ImageTables.{param_of_code}
 use Rattle.ob_wire.specs.Meanings.{argument_meant}
 use Rattle.ob_wire.specs.declared.request.Arg.{Arg}
 

@@ -7,8 +7,8 @@ use Rattle.ob_invocation_spec.specs.Entries.{Entry, handle_uses}
 use Rattle.ob_invocation_spec.specs.Entries as invocation
 use Rattle.ob_invocation_spec.specs.Handles.{handle_name}
 use Rattle.ob_machine_steps.specs.Entries.{MachineEntry}
-use Rattle.ob_machine_steps.specs.ImageTables.{perm_of_code}
-use Rattle.ob_machine_steps.specs.Meanings.{entry_of_request}
+use Rattle.ob_code_table.specs.ImageTables.{perm_of_code}
+use Rattle.ob_machine_meaning.specs.Meanings.{entry_of_request}
 use Rattle.ob_wire.specs.Refusals.{refusal_told}
 use Rattle.ob_exec_entries.specs.declared.entered.HandleUse.{HandleUse}
 use Rattle.ob_exec_entries.specs.declared.entered.Entered.{Entered}

@@ -10,7 +10,7 @@ use Rattle.ob_heap.specs.declared.object.Handle.{Handle}
 use Rattle.ob_heap_spec.specs.Contents.{Handle as PlainHandle}
 use Rattle.ob_invocation_spec.specs.Entries.{Entry, HandleUse, used_as_receiver, mode_of_result}
 use Rattle.ob_invocation_spec.specs.Handles.{handle_name}
-use Rattle.ob_machine_steps.specs.ImageTables.{signature_of_code}
+use Rattle.ob_code_table.specs.ImageTables.{signature_of_code}
 use Rattle.ob_table.specs.Tables.{ClassTable, signature_of}
 use Rattle.ob_table.specs.declared.contract.Signature.{Signature}
 use Rattle.ob_table_spec.specs.WellFormed.{constructor_at}

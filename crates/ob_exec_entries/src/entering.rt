@@ -6,7 +6,7 @@ ghost use Rattle.ob_invocation_spec.specs.Entries.{entry_of_new, entry_of_call};
 ghost use Rattle.ob_invocation_spec.specs.Handles.{handle_name};
 ghost use Rattle.ob_invocation_spec.specs.Requests.{NewRequest, CallRequest};
 ghost use Rattle.ob_invocation_spec.specs.Refusals.{is_no_handle, new_checks, call_checks};
-ghost use Rattle.ob_machine_steps.specs.ImageTables.{table_of_image};
+ghost use Rattle.ob_code_table.specs.ImageTables.{table_of_image};
 ghost use Rattle.ob_wire.specs.Meanings.{argument_meant};
 ghost use Rattle.ob_exec_entries.specs.Arguments.{names_no_handle};
 ghost use Rattle.ob_exec_entries.specs.Entering.{EntersSo, IsRefusedBy};

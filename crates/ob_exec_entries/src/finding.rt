@@ -3,7 +3,7 @@ ghost use Rattle.std.specs.Prelude.{◌≡◌, map, option_map, IfSome};
 ghost use Rattle.ob_heap.specs.Contents.{content_of};
 ghost use Rattle.ob_heap.specs.Plain.{handle_of};
 ghost use Rattle.ob_invocation_spec.specs.Entries.{entry_of_call};
-ghost use Rattle.ob_machine_steps.specs.ImageTables.{table_of_image};
+ghost use Rattle.ob_code_table.specs.ImageTables.{table_of_image};
 ghost use Rattle.ob_heap_spec.specs.Contents.{object_at};
 ghost use Rattle.ob_heap_spec.specs.Objects.{Object as PlainObject};
 ghost use Rattle.ob_wire.specs.Meanings.{argument_meant};
@@ -11,11 +11,12 @@ ghost use Rattle.ob_exec_entries.specs.Naming.{IsNamesOf};
 ghost use Rattle.ob_exec_entries.specs.Targets.{made_by, called_by};
 
 use crate::arguments::find_handle;
-use crate::lookups::{body_code, constructor_code, mode_of_result};
+use crate::lookups::mode_of_result;
 use crate::names::Names;
 use crate::target::Target;
 use ob_base::{ContractId, Items, Label, ObjectId, TxId};
 use ob_code::{Image, is_private};
+use ob_code_table::{body_code, constructor_code};
 use ob_heap::{Content, Handle};
 use ob_wire::Arg;
 

@@ -1,47 +1,19 @@
 //! What an image says of its contracts, constructors and transactions, as its class table has it.
 ghost use Rattle.std.specs.Prelude.{◌≡◌, ◌<◌, Bool, false, not, nat_eq, option_map, slice_get};
-ghost use Rattle.std.specs.Option.{option_copied, option_map_or};
-ghost use Rattle.ob_table.specs.Tables.{contract_at, signature_of};
+ghost use Rattle.std.specs.Option.{option_map_or};
+ghost use Rattle.ob_table.specs.Tables.{contract_at};
 ghost use Rattle.ob_table.specs.declared.contract.Contract.{Contract};
 ghost use Rattle.ob_table.specs.declared.seen.Kind.TheVariants.{Reference};
-ghost use Rattle.ob_table_spec.specs.WellFormed.{constructor_at, is_implemented, serves_as};
-ghost use Rattle.ob_code.specs.Code.{is_marked, is_interface, contract_code, body_code};
+ghost use Rattle.ob_table_spec.specs.WellFormed.{is_implemented, serves_as};
+ghost use Rattle.ob_code.specs.Code.{is_marked, contract_code};
 ghost use Rattle.ob_invocation_spec.specs.Entries.{mode_of_result};
-ghost use Rattle.ob_machine_steps.specs.ImageTables.{type_of_code, signature_of_code, interface_of, table_of_image};
+ghost use Rattle.ob_code_table.specs.ImageTables.{type_of_code, interface_of, table_of_image};
 
-use ob_base::{ContractId, Mode, TxId};
-use ob_code::{BodyCode, ContractCode, Image, TypeCode, contract_code, is_interface, is_main};
-
-// The constructor or transaction of a number.
-#[tactic(auto, using(crate::proofs::ImageLemmas::signatures))]
-pub fn body_code(code: &Image, contract: ContractId, tx: TxId) -> Option<&BodyCode>
-    ensures { option_map signature_of_code (option_copied result) ≡ signature_of (table_of_image code.now) contract tx }
-{
-    match contract_code(code, contract) {
-        Some(contract) => contract.bodies.get(tx.0 as usize),
-        None => None,
-    }
-}
-
-// The constructor of a contract that isn't an interface.
-#[tactic(auto, using(crate::proofs::ImageLemmas::signatures))]
-pub fn constructor_code(code: &Image, contract: ContractId) -> Option<&BodyCode>
-    ensures { option_map signature_of_code (option_copied result) ≡ constructor_at (table_of_image code.now) contract }
-{
-    match contract_code(code, contract) {
-        Some(contract) => {
-            if is_interface(contract) {
-                None
-            } else {
-                contract.bodies.get(0)
-            }
-        }
-        None => None,
-    }
-}
+use ob_base::{ContractId, Mode};
+use ob_code::{ContractCode, Image, TypeCode, contract_code, is_main};
 
 // Whether a contract is there, and isn't the main contract.
-#[tactic(auto, using(crate::proofs::ImageLemmas::signatures))]
+#[tactic(auto, using(ob_code_table::proofs::ImageLemmas::signatures))]
 pub fn is_other_contract(code: &Image, contract: ContractId) -> bool
     ensures { result ≡ option_map_or (λ (c : Contract). not c.main) (contract_at (table_of_image code.now) contract) false }
 {
@@ -51,14 +23,14 @@ pub fn is_other_contract(code: &Image, contract: ContractId) -> bool
     }
 }
 
-#[tactic(auto, using(crate::proofs::ImageLemmas::signatures))]
+#[tactic(auto, using(ob_code_table::proofs::ImageLemmas::signatures))]
 fn implements(contract: &ContractCode, declared: ContractId) -> bool
     ensures { result ≡ option_map_or (λ k. nat_eq declared.0 k.0) (interface_of contract.now.implements) false }
 {
     contract.implements > 0 && contract.implements - 1 == declared.0
 }
 
-#[tactic(auto, using(crate::proofs::ImageLemmas::signatures))]
+#[tactic(auto, using(ob_code_table::proofs::ImageLemmas::signatures))]
 fn is_implemented(code: &Image, own: ContractId, declared: ContractId) -> bool
     ensures { result ≡ is_implemented (table_of_image code.now) own declared }
 {

@@ -3,7 +3,8 @@ use Rattle.std.proofs.Common.{◌≡◌, List, map, Option, sym, ap, subst, ◌�
 use Rattle.ob_base.specs.declared.id.ObjectId.{ObjectId}
 use Rattle.ob_base.specs.declared.name.Label.{Label}
 use Rattle.ob_heap_spec.specs.Worlds.{World}
-use Rattle.ob_invocation_spec.specs.Handles.{put_handles, mark_puts}
+use Rattle.ob_heap_spec.specs.Handles.{put_handles}
+use Rattle.ob_invocation_spec.specs.Handles.{mark_puts}
 use Rattle.ob_heap.specs.declared.object.Object.{Object}
 use Rattle.ob_heap.specs.declared.object.Handle.{Handle}
 use Rattle.ob_heap.specs.Contents.{Stored, content_of, named_of}

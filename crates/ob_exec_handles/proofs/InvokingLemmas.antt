@@ -16,11 +16,12 @@ use Rattle.ob_base.specs.declared.permission.Mode.TheVariants.{Owned, Shared, Un
 use Rattle.ob_heap_spec.specs.Contents.{HandleName, Handle as PlainHandle, Content, name_order}
 use Rattle.ob_heap_spec.specs.Worlds.{ReadItem}
 use Rattle.ob_heap_spec.specs.Marks.{mark_disowned}
+use Rattle.ob_heap_spec.specs.Handles.{NamedHandle, put_handles}
+use Rattle.ob_heap_spec.specs.Handles as stored
 use Rattle.ob_rest_spec.specs.Modes.{is_owned, is_shared}
 use Rattle.ob_invocation_spec.specs.Checks.{refusal_of, reads_of, left_as_it_was, refused_or, with_found}
 use Rattle.ob_invocation_spec.specs.Entering.{handle_in}
-use Rattle.ob_invocation_spec.specs.Handles.{NamedHandle, handle_name, serves, put_handles, mark_puts, are_handles_full}
-use Rattle.ob_invocation_spec.specs.Handles as asked
+use Rattle.ob_invocation_spec.specs.Handles.{handle_name, serves, mark_puts, are_handles_full}
 use Rattle.ob_invocation_spec.specs.Invocation.{still_world, with_handle, disowned_world, disown_handle, giver_after, puts_of_give, give_from, invoke_give}
 use Rattle.ob_invocation_spec.specs.Refusals.{handle_check, making_checks, give_checks, is_taken}
 use Rattle.ob_invocation_spec.specs.Replies.{Refusal, Invocation, refused, no_handle, permission}
@@ -64,7 +65,7 @@ plain_at n (h ∷ hs) =
     by true e = refl
     by false e = e
 
-pub found_at : (base : Stored) (n : HandleName) (r : Option Handle) → handle_at n base.handles ≡ r → asked.handle_at (content_of base) n ≡ option_map handle_of r
+pub found_at : (base : Stored) (n : HandleName) (r : Option Handle) → handle_at n base.handles ≡ r → stored.handle_at (content_of base) n ≡ option_map handle_of r
 found_at base n r at = plain_at n base.handles ∙ ap (option_map handle_of) at
 
 -- what a request comes to that needs a handle, by whether it is there
@@ -110,7 +111,7 @@ disowned_other base h changes e none =
     (no_objects base.objects))
 
 pub removed_lead : (n : Label × Label) (base : List ((Label × Label) × Handle)) (h : Handle) → handle_at (name_of n) base ≡ Some h
-    → HandlesLead base ((n, None) ∷ []) (asked.without_handle (map named_of base) (name_of n))
+    → HandlesLead base ((n, None) ∷ []) (stored.without_handle (map named_of base) (name_of n))
 removed_lead n base h at = record {
   order = λ i j d l k. absurd (omega arith);
   is = plain_without n base;
@@ -127,9 +128,9 @@ disowns base n h objects handles reads at o e = (
   leads base (record { objects = objects; handles = handles })
       (record {
         objects = (disowned_world (content_of base) (handle_of h)).objects;
-        handles = asked.without_handle (map named_of base.handles) (name_of n);
+        handles = stored.without_handle (map named_of base.handles) (name_of n);
       }) o
-      (subst (λ cs. HandlesLead base.handles cs (asked.without_handle (map named_of base.handles) (name_of n))) (sym e)
+      (subst (λ cs. HandlesLead base.handles cs (stored.without_handle (map named_of base.handles) (name_of n))) (sym e)
       (removed_lead n base.handles h at)),
 )
 

@@ -8,8 +8,9 @@ use Rattle.ob_heap_spec.specs.Objects.{Object as PlainObject}
 use Rattle.ob_heap_spec.specs.Contents.{object_at}
 use Rattle.ob_heap_spec.specs.Marks.{has_mark as has_mark_in, mark_shared, mark_disowned}
 use Rattle.ob_heap_spec.specs.Worlds.{World, object_item, is_made, with_read, set_object, read_object, edit_object}
+use Rattle.ob_heap_spec.specs.Handles.{NamedHandle}
 use Rattle.ob_rest_spec.specs.Modes.{is_shared}
-use Rattle.ob_invocation_spec.specs.Handles.{NamedHandle, mark_put, mark_puts}
+use Rattle.ob_invocation_spec.specs.Handles.{mark_put, mark_puts}
 use Rattle.ob_heap.specs.declared.object.Object.{Object}
 use Rattle.ob_heap.specs.Overlays.{Changes, laid_over, objects_over}
 use Rattle.ob_heap.specs.declared.edit.Edit.{Edit}

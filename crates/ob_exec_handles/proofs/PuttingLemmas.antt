@@ -23,7 +23,7 @@ use Rattle.ob_heap.specs.Deltas.{label_order, with_handle, with_handles}
 use Rattle.ob_heap.proofs.HandlesLemmas.{names_total, equal_is}
 use Rattle.ob_heap.proofs.DeltasLemmas.{with_handle_order}
 use Rattle.ob_heap.proofs.LookLemmas.{plain_with}
-use Rattle.ob_invocation_spec.specs.Handles.{put_handles}
+use Rattle.ob_heap_spec.specs.Handles.{put_handles}
 use Rattle.ob_exec_handles.specs.Parts.{HandlesLead}
 use Rattle.ob_exec_handles.specs.Putting.{same_mode, same_handle, stands_so, changes_by, other_puts}
 

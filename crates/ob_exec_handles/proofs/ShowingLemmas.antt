@@ -21,7 +21,7 @@ use Rattle.ob_heap.specs.declared.object.Object.{Object}
 use Rattle.ob_heap.specs.declared.object.Handle.{Handle}
 use Rattle.ob_heap.specs.Contents.{Stored, content_of, handle_at}
 use Rattle.ob_heap.specs.Plain.{object_of}
-use Rattle.ob_machine_steps.specs.ImageTables.{contract_of_code, field_of_code}
+use Rattle.ob_code_table.specs.ImageTables.{contract_of_code, field_of_code}
 use Rattle.ob_owners.specs.Spots.{owner_place}
 use Rattle.ob_wire.specs.Meanings.{field_shown, object_shown, place_told}
 use Rattle.ob_wire.specs.declared.reply.Answer.{Answer}

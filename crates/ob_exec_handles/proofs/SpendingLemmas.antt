@@ -11,12 +11,14 @@ use Rattle.ob_heap_spec.specs.Contents.{HandleName, Handle as PlainHandle, Conte
 use Rattle.ob_heap_spec.specs.Objects.{Object}
 use Rattle.ob_heap_spec.specs.Worlds.{World, ReadItem as Item, object_item, handle_item, handles_full_item, AllRead, ReadSame, is_made, with_read, read_object, set_object, edit_object}
 use Rattle.ob_heap_spec.specs.Marks.{has_mark, mark_shared, mark_disowned}
+use Rattle.ob_heap_spec.specs.Handles.{NamedHandle}
+use Rattle.ob_heap_spec.specs.Handles as stored
 use Rattle.ob_source_meaning.proofs.Same.{read_same}
 use Rattle.ob_rest_spec.specs.Incoming.{StorePlace, IncomingReference, owner_of}
 use Rattle.ob_rest_spec.specs.Modes.{is_owned, is_shared}
 use Rattle.ob_table.specs.Tables.{ClassTable}
 use Rattle.ob_invocation_spec.specs.Checks.{Check, refusal_of, reads_of, left_as_it_was, refused_or, with_found}
-use Rattle.ob_invocation_spec.specs.Handles.{NamedHandle, handle_name, handle_reads, serves, mark_put, mark_puts}
+use Rattle.ob_invocation_spec.specs.Handles.{handle_name, handle_reads, serves, mark_put, mark_puts}
 use Rattle.ob_invocation_spec.specs.Handles as asked
 use Rattle.ob_invocation_spec.specs.Invocation.{still_world, with_handle, disowned_world, disown_handle, invoke_disown, giver_after, puts_of_give, give_from, invoke_give, show_object, invoke_see, show_owner, show_owner_of, invoke_owner}
 use Rattle.ob_invocation_spec.specs.Entering.{handle_in}
@@ -376,7 +378,7 @@ give_reads : (content : Content) (who : List ℕ) (r : GiveRequest)
 give_reads content who r =
     ap (λ rs. handle_reads content (handle_name who r.on) ++ rs)
     (name_by (handle_name r.to r.into) (is_no_handle content (handle_name who r.on))
-    (option_map_or (λ (h : PlainHandle). not (serves h.mode r.mode)) (asked.handle_at content (handle_name who r.on)) false)
+    (option_map_or (λ (h : PlainHandle). not (serves h.mode r.mode)) (stored.handle_at content (handle_name who r.on)) false)
     (is_taken content (handle_name r.to r.into)) (asked.are_handles_full content))
 
 -- what is put is put for the object that is given

@@ -3,8 +3,8 @@ use Rattle.std.specs.Prelude.{ℕ, Bool, true, slice_set, List, fold, if◌then�
 use Rattle.std.specs.Option.{option_map_or}
 use Rattle.ob_heap_spec.specs.Objects.{Object}
 use Rattle.ob_heap_spec.specs.Contents.{object_at}
+use Rattle.ob_heap_spec.specs.Handles.{NamedHandle}
 use Rattle.ob_rest_spec.specs.Modes.{is_shared}
-use Rattle.ob_invocation_spec.specs.Handles.{NamedHandle}
 use Rattle.ob_exec_handles.specs.declared.marking.Mark.{Mark}
 use Rattle.ob_exec_handles.specs.declared.marking.Mark.TheVariants.{Shared, Disowned}
 

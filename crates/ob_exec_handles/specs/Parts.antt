@@ -4,6 +4,7 @@ use Rattle.std.specs.declared.cmp.Ordering.TheVariants.{Less}
 use Rattle.ob_base.specs.declared.id.ObjectId.{ObjectId}
 use Rattle.ob_base.specs.declared.name.Label.{Label}
 use Rattle.ob_heap_spec.specs.Objects.{Object as PlainObject}
+use Rattle.ob_heap_spec.specs.Handles.{NamedHandle}
 use Rattle.ob_heap.specs.declared.object.Object.{Object}
 use Rattle.ob_heap.specs.declared.object.Handle.{Handle}
 use Rattle.ob_heap.specs.Ascending.{IsAscending}
@@ -11,7 +12,6 @@ use Rattle.ob_heap.specs.Plain.{object_of}
 use Rattle.ob_heap.specs.Contents.{name_of, named_of, handle_at}
 use Rattle.ob_heap.specs.Deltas.{label_order, with_handles, AreNext}
 use Rattle.ob_heap.specs.Differences.{with_objects}
-use Rattle.ob_invocation_spec.specs.Handles.{NamedHandle}
 
 -- These objects lead from those of a base to the ones after it, and are just what differs.
 pub record ObjectsLead (base : List Object) (changes : List (ObjectId × Object)) (after : List PlainObject) : Type 0 where

@@ -4,7 +4,8 @@ ghost use Rattle.ob_base.specs.Limits.{most_objects};
 ghost use Rattle.ob_heap.specs.Contents.{named_of, content_of};
 ghost use Rattle.ob_heap.specs.Overlays.{laid_over, objects_over};
 ghost use Rattle.ob_heap_spec.specs.Worlds.{World};
-ghost use Rattle.ob_invocation_spec.specs.Handles.{put_handles, mark_puts};
+ghost use Rattle.ob_heap_spec.specs.Handles.{put_handles};
+ghost use Rattle.ob_invocation_spec.specs.Handles.{mark_puts};
 ghost use Rattle.ob_exec_handles.specs.Coming.{LeadsTo};
 
 use crate::changing::changed_objects;

@@ -5,7 +5,7 @@ ghost use Rattle.ob_heap.specs.Plain.{object_of};
 ghost use Rattle.ob_invocation_spec.specs.Handles.{handle_name};
 ghost use Rattle.ob_invocation_spec.specs.Invocation.{invoke_owner};
 ghost use Rattle.ob_invocation_spec.specs.Showing.{shown_place};
-ghost use Rattle.ob_machine_steps.specs.ImageTables.{table_of_image};
+ghost use Rattle.ob_code_table.specs.ImageTables.{table_of_image};
 ghost use Rattle.ob_owners.specs.Spots.{place_of, owner_place};
 ghost use Rattle.ob_rest_spec.specs.Incoming.{stored_field};
 ghost use Rattle.ob_wire.specs.Meanings.{place_told};

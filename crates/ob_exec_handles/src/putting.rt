@@ -2,7 +2,7 @@
 ghost use Rattle.std.specs.Prelude.{◌≡◌, [], ◌∷◌, ◌++◌, map, IfOk, OnOk};
 ghost use Rattle.ob_heap.specs.Contents.{named_of, IsInOrder};
 ghost use Rattle.ob_heap.specs.Deltas.{with_handles};
-ghost use Rattle.ob_invocation_spec.specs.Handles.{put_handles};
+ghost use Rattle.ob_heap_spec.specs.Handles.{put_handles};
 ghost use Rattle.ob_exec_handles.specs.Parts.{HandlesLead};
 ghost use Rattle.ob_exec_handles.specs.Putting.{same_mode, same_handle, stands_so, changes_by, other_puts};
 

@@ -6,15 +6,16 @@ ghost use Rattle.ob_heap_spec.specs.Values.{Value as PlainValue};
 ghost use Rattle.ob_invocation_spec.specs.Handles.{handle_name};
 ghost use Rattle.ob_invocation_spec.specs.Invocation.{invoke_see};
 ghost use Rattle.ob_invocation_spec.specs.Showing.{shown_fields, shown_object, shown_at};
-ghost use Rattle.ob_machine_steps.specs.ImageTables.{contract_of_code, table_of_image};
+ghost use Rattle.ob_code_table.specs.ImageTables.{contract_of_code, table_of_image};
 ghost use Rattle.ob_rest_spec.specs.References.{available_value};
 ghost use Rattle.ob_wire.specs.Meanings.{value_shown, field_shown, object_shown};
 ghost use Rattle.ob_exec_handles.specs.Coming.{ComesTo, IsInLimits};
 
 use crate::answered::{Answered, refused, unchanged};
-use crate::states::{contract_at, state_name, text_of};
+use crate::states::{state_name, text_of};
 use ob_base::{Duplicate, Items, Label, Memory, ObjectId};
 use ob_code::{ContractCode, FieldCode, Image};
+use ob_code_table::contract_at;
 use ob_heap::{Content, Object, Value};
 use ob_owners::available;
 use ob_wire::{Answer, Outcome, Refusal, Shown, ShownField, ShownValue};
@@ -110,7 +111,7 @@ fn shown_at(
     let Some(object) = base.object(id) else {
         return Ok(None);
     };
-    match contract_at(code, object) {
+    match contract_at(code, object.contract) {
         Some(contract) => Ok(Some(shown_object(alloc, contract, id, object)?)),
         None => Ok(None),
     }

@@ -5,11 +5,12 @@ ghost use Rattle.ob_heap.specs.Contents.{content_of};
 ghost use Rattle.ob_heap_spec.specs.Worlds.{by_state};
 ghost use Rattle.ob_invocation_spec.specs.Showing.{contract_of_object, state_name, told_state};
 ghost use Rattle.ob_table.specs.Tables.{contract_at};
-ghost use Rattle.ob_machine_steps.specs.ImageTables.{contract_of_code, table_of_image};
+ghost use Rattle.ob_code_table.specs.ImageTables.{contract_of_code, table_of_image};
 
 use ob_base::{Memory, ObjectId, StateId};
 use ob_code::{CodeText, ContractCode, Image};
-use ob_heap::{Content, Object, RcStr};
+use ob_code_table::contract_at;
+use ob_heap::{Content, RcStr};
 use std::alloc::Global;
 
 /// A text of an image.
@@ -22,19 +23,12 @@ pub fn text_of(alloc: Global, text: &CodeText) -> Result<RcStr, Memory>
     }
 }
 
-/// The contract of an object.
-pub fn contract_at<'a>(code: &'a Image, object: &Object) -> Option<&'a ContractCode>
-    ensures { option_map contract_of_code (option_copied result) ≡ contract_at (table_of_image code.now) object.now.contract }
-{
-    code.contracts.get(object.contract.0 as usize)
-}
-
 /// The contract of the object of a number.
 pub fn contract_of<'a>(code: &'a Image, base: &Content, id: ObjectId) -> Option<&'a ContractCode>
     ensures { option_map contract_of_code (option_copied result) ≡ contract_of_object (table_of_image code.now) (content_of base.now).objects id.0 }
 {
     match base.object(id) {
-        Some(object) => contract_at(code, object),
+        Some(object) => contract_at(code, object.contract),
         None => None,
     }
 }

@@ -1,7 +1,7 @@
 //! The content to which records lead, whether it is at rest or not: ob_store hands out none that isn't.
 ghost use Rattle.std.specs.Prelude.{OnOk};
 ghost use Rattle.ob_heap.specs.Contents.{content_of};
-ghost use Rattle.ob_machine_steps.specs.ImageTables.{table_of_image};
+ghost use Rattle.ob_code_table.specs.ImageTables.{table_of_image};
 ghost use Rattle.ob_store.specs.Opening.{IsKeptContent};
 
 use crate::records::Records;

@@ -1,6 +1,7 @@
 pub mod Values
 pub mod Objects
 pub mod Contents
+pub mod Handles
 pub mod Worlds
 pub mod Marks
 pub mod Operations

@@ -9,6 +9,7 @@ use Rattle.ob_heap_spec.specs.Objects.{Object}
 use Rattle.ob_heap_spec.specs.Contents.{HandleName, Handle, Content, object_at, name_order}
 use Rattle.ob_heap_spec.specs.Worlds.{World, object_item, with_read, is_made, read_object, set_object}
 use Rattle.ob_heap_spec.specs.Marks.{mark_disowned}
+use Rattle.ob_heap_spec.specs.Handles.{NamedHandle, handle_at, without_handle}
 use Rattle.ob_rest_spec.specs.Modes.{is_owned, is_shared}
 use Rattle.ob_rest_spec.specs.Incoming.{owners}
 use Rattle.ob_rest_spec.specs.Failing.{is_marked, many_owners}
@@ -17,7 +18,6 @@ use Rattle.ob_rest_laws.specs.Laws.{is_shared_by_handle, IsMarkedFrom, AreMarked
 use Rattle.ob_rest_laws.proofs.Ways.{fails_by_none}
 use Rattle.ob_rest_laws.proofs.Counting.{owners_add_up}
 use Rattle.ob_rest_laws.proofs.Changing.{same_fields, rests_after}
-use Rattle.ob_invocation_spec.specs.Handles.{NamedHandle, handle_at, without_handle}
 use Rattle.ob_invocation_spec.specs.Invocation.{still_world, disowned_world}
 use Rattle.ob_invocation_laws.specs.Laws.{AreHandles, owners_in}
 use Rattle.ob_invocation_laws.proofs.Owners.{gone_counts}

@@ -13,13 +13,16 @@ use Rattle.ob_heap_spec.specs.Values.{Value, reference}
 use Rattle.ob_heap_spec.specs.Objects.{Object}
 use Rattle.ob_heap_spec.specs.Contents.{HandleName, Handle, Content, IsHandle, IsObject, name_order}
 use Rattle.ob_heap_spec.specs.Worlds.{World}
+use Rattle.ob_heap_spec.specs.Handles.{NamedHandle, handle_at, put_handle, put_handles}
+use Rattle.ob_heap_spec.proofs.Names.{names_total}
+use Rattle.ob_heap_spec.proofs.Items.{item_of, all_of}
 use Rattle.ob_rest_spec.specs.AtRest.{IsAtRest, IsStoreAtRest}
-use Rattle.ob_invocation_spec.specs.Handles.{NamedHandle, handle_name, handle_at, put_handle, put_handles, mark_puts}
+use Rattle.ob_invocation_spec.specs.Handles.{handle_name, mark_puts}
 use Rattle.ob_invocation_spec.specs.Entries.{HandleUse, Entry, handle_uses}
 use Rattle.ob_invocation_spec.specs.Entering.{handle_in, put_into, puts_after}
 use Rattle.ob_invocation_laws.specs.Laws.{AreHandles, puts_of_uses}
-use Rattle.ob_invocation_laws.proofs.Handles.{names_total, Before, head_of, tail_of, puts_keep, put_in_order}
-use Rattle.ob_invocation_laws.proofs.Marking.{same_length, objects_stay, item_of, all_of, puts_share}
+use Rattle.ob_invocation_laws.proofs.Handles.{Before, head_of, tail_of, puts_keep, put_in_order}
+use Rattle.ob_invocation_laws.proofs.Marking.{same_length, objects_stay, puts_share}
 use Rattle.ob_invocation_laws.proofs.Kept.{one_name_tested}
 use Rattle.ob_invocation_laws.proofs.Still.{one_at_most, none_more}
 use Rattle.ob_invocation_laws.proofs.Entered.{MayEnter, AreFound}

@@ -17,9 +17,10 @@ use Rattle.ob_heap_spec.specs.Objects.{Object}
 use Rattle.ob_heap_spec.specs.Contents.{HandleName, Handle, Content, object_at}
 use Rattle.ob_heap_spec.specs.Dispatch.{transaction_named}
 use Rattle.ob_heap_spec.specs.Worlds.{handle_item, handles_full_item}
+use Rattle.ob_heap_spec.specs.Handles.{handle_at}
 use Rattle.ob_invocation_spec.specs.Requests.{Argument, int_argument, bool_argument, text_argument, handle_argument, other_argument, NewRequest, CallRequest}
 use Rattle.ob_invocation_spec.specs.Replies.{no_contract, not_main, no_transaction, arg_count, arg_kind, permission, repeated, into_missing, into_needless, into_taken, handles_full}
-use Rattle.ob_invocation_spec.specs.Handles.{handle_name, handle_at, are_handles_full}
+use Rattle.ob_invocation_spec.specs.Handles.{handle_name, are_handles_full}
 use Rattle.ob_invocation_spec.specs.Checks.{Check, check, refusal_of}
 use Rattle.ob_invocation_spec.specs.Entries.{HandleUse, Entry, mode_of_result, entry_of_new, used_as_receiver, entry_of_call, used_for, use_of_argument, handle_uses}
 use Rattle.ob_invocation_spec.specs.Refusals.{handle_check, argument_checks, is_no_contract, is_not_main, is_no_transaction, has_other_count, has_other_kind, lacks_permission, repeats_object, lacks_into, has_needless_into, is_taken, making_checks, into_checks, entry_checks, found_checks, new_checks, call_checks}

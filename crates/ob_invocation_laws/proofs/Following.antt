@@ -3,9 +3,10 @@ use Rattle.std.proofs.Common.{◌≡◌, ◌∙◌, ℕ, false, List, [], ◌∷
 use Rattle.ob_table.specs.Tables.{ClassTable}
 use Rattle.ob_heap_spec.specs.Contents.{HandleName, Handle, Content}
 use Rattle.ob_heap_spec.specs.Worlds.{ReadItem}
+use Rattle.ob_heap_spec.specs.Handles.{handle_at}
 use Rattle.ob_invocation_spec.specs.Requests.{NewRequest, CallRequest, GiveRequest, Operation, new_request, call_request, disown_request, give_request, see_request, owner_request}
 use Rattle.ob_invocation_spec.specs.Replies.{Refusal, permission, refused, Invocation, goes_wrong}
-use Rattle.ob_invocation_spec.specs.Handles.{handle_name, handle_at}
+use Rattle.ob_invocation_spec.specs.Handles.{handle_name}
 use Rattle.ob_invocation_spec.specs.Entries.{Entry, entry_of_new, entry_of_call}
 use Rattle.ob_invocation_spec.specs.Checks.{Check, check, refusal_of, reads_of, left_as_it_was, refused_or, unless_refused, with_found}
 use Rattle.ob_invocation_spec.specs.Refusals.{handle_check, making_checks, gives_too_much, new_checks, call_checks, give_checks}

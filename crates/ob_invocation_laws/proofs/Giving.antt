@@ -8,6 +8,7 @@ use Rattle.ob_table.specs.Tables.{ClassTable}
 use Rattle.ob_heap_spec.specs.Objects.{Object}
 use Rattle.ob_heap_spec.specs.Contents.{HandleName, Handle, Content, object_at, name_order}
 use Rattle.ob_heap_spec.specs.Worlds.{handle_item, handles_full_item}
+use Rattle.ob_heap_spec.specs.Handles.{NamedHandle, handle_at, put_handle, put_handles}
 use Rattle.ob_rest_spec.specs.Modes.{is_owned, is_shared}
 use Rattle.ob_rest_spec.specs.Incoming.{owners}
 use Rattle.ob_rest_spec.specs.Failing.{is_marked, many_owners, shared_unmarked}
@@ -16,7 +17,7 @@ use Rattle.ob_rest_laws.specs.Laws.{handle_owners, is_shared_by_handle, ChangesQ
 use Rattle.ob_rest_laws.proofs.Ways.{fails_by_none}
 use Rattle.ob_rest_laws.proofs.Changing.{rests_after, shared_places, is_shared_by_field}
 use Rattle.ob_invocation_spec.specs.Requests.{GiveRequest}
-use Rattle.ob_invocation_spec.specs.Handles.{NamedHandle, handle_name, handle_at, serves, are_handles_full, put_handle, put_handles, mark_puts}
+use Rattle.ob_invocation_spec.specs.Handles.{handle_name, serves, are_handles_full, mark_puts}
 use Rattle.ob_invocation_spec.specs.Replies.{permission, into_taken, handles_full}
 use Rattle.ob_invocation_spec.specs.Checks.{Check, check, refusal_of}
 use Rattle.ob_invocation_spec.specs.Refusals.{handle_check, making_checks, is_taken, gives_too_much, give_checks}

@@ -4,19 +4,15 @@ use Rattle.std.specs.Prelude.{T, cond, not, ◌&&◌, All, AllPairs}
 use Rattle.std.specs.Ordering.{is_lt, is_eq, eq_by_cmp}
 use Rattle.std.specs.declared.cmp.Ordering.{Ordering}
 use Rattle.std.specs.declared.cmp.Ordering.TheVariants.{Less, Equal, Greater}
-use Rattle.std.specs.Cmp.{IsTotalOrder, then_total, alike_right}
-use Rattle.std.specs.Cmp.Lexicographic.{on_texts}
+use Rattle.std.specs.Cmp.{alike_right}
 use Rattle.std.specs.FinMap.Entries.{below_all, is_sorted, is_sorted-put, find-put, find-where_key, by_order}
 use Rattle.std.proofs.lemmas.List.Elements.{All-cons, All-filter}
 use Rattle.std.proofs.lemmas.List.Kept.{AllPairs-cons, AllPairs-filter}
 use Rattle.ob_heap_spec.specs.Objects.{Object}
 use Rattle.ob_heap_spec.specs.Contents.{HandleName, Handle, Content, IsHandle, name_order}
-use Rattle.ob_invocation_spec.specs.Handles.{NamedHandle, handle_at, put_handle, put_handles, without_handle}
+use Rattle.ob_heap_spec.specs.Handles.{NamedHandle, handle_at, put_handle, put_handles, without_handle}
+use Rattle.ob_heap_spec.proofs.Names.{names_total}
 use Rattle.ob_invocation_laws.specs.Laws.{AreHandles, found_after_put, found_without}
-
--- names are in a total order
-pub names_total : IsTotalOrder name_order
-names_total = then_total (on_texts (λ (a : HandleName). a.who)) (on_texts (λ (a : HandleName). a.name))
 
 -- Order.
 

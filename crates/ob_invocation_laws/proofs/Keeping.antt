@@ -8,10 +8,11 @@ use Rattle.ob_table.specs.Tables.{ClassTable}
 use Rattle.ob_heap_spec.specs.Values.{Value}
 use Rattle.ob_heap_spec.specs.Contents.{HandleName, Handle, Content, name_order}
 use Rattle.ob_heap_spec.specs.Worlds.{ReadItem, RunOutcome, gives, aborts, wrong}
+use Rattle.ob_heap_spec.specs.Handles.{NamedHandle, handle_at, put_handle, put_handles}
 use Rattle.ob_rest_spec.specs.Incoming.{IncomingReference, owner_of}
 use Rattle.ob_invocation_spec.specs.Requests.{Request, GiveRequest}
 use Rattle.ob_invocation_spec.specs.Replies.{ok_shown, ok_place}
-use Rattle.ob_invocation_spec.specs.Handles.{NamedHandle, handle_name, handle_at, put_handle, put_handles}
+use Rattle.ob_invocation_spec.specs.Handles.{handle_name}
 use Rattle.ob_invocation_spec.specs.Checks.{refusal_of, reads_of, left_as_it_was}
 use Rattle.ob_invocation_spec.specs.Entries.{HandleUse, Entry, handle_uses}
 use Rattle.ob_invocation_spec.specs.Refusals.{new_checks, call_checks, give_checks}

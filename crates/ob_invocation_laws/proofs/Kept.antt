@@ -1,37 +1,20 @@
 -- How many owners handles carry where some are put: those that are kept, and the last that is put under each name.
 use Rattle.std.proofs.Common.{◌≡◌, ◌∙◌, ℕ, ◌+◌, Bool, true, false, List, [], ◌∷◌, Option, Some, None, refl, sym, ap, arith}
 use Rattle.std.specs.Prelude.{cond, not, ◌||◌, if◌then◌else◌, AllPairs}
-use Rattle.std.specs.Ordering.{is_eq, eq_by_cmp, nat_cmp, ordering_then}
-use Rattle.std.specs.Cmp.Lexicographic.{slice_cmp, bytes_decides}
+use Rattle.std.specs.Ordering.{is_eq, eq_by_cmp}
 use Rattle.std.specs.declared.cmp.Ordering.{Ordering}
 use Rattle.std.specs.declared.cmp.Ordering.TheVariants.{Less, Equal, Greater}
 use Rattle.std.specs.FinMap.Entries.{find as find_key, where_key, by_order, find-where_key}
 use Rattle.std.proofs.lemmas.List.Kept.{AllPairs-filter}
-use Rattle.std.proofs.lemmas.Map.Text.{is_eq-slice_cmp}
 use Rattle.ob_heap_spec.specs.Contents.{HandleName, Handle, name_order}
+use Rattle.ob_heap_spec.specs.Handles.{NamedHandle, put_handle, put_handles, without_handle}
+use Rattle.ob_heap_spec.proofs.Names.{one_name}
 use Rattle.ob_rest_laws.specs.Laws.{handle_owners}
-use Rattle.ob_invocation_spec.specs.Handles.{NamedHandle, put_handle, put_handles, without_handle}
 use Rattle.ob_invocation_laws.specs.Laws.{owners_in, is_put, kept_handles, put_owners}
 use Rattle.ob_invocation_laws.proofs.Handles.{Before, tail_pairs, put_in_order}
 use Rattle.ob_invocation_laws.proofs.Owners.{counted, not_found, before_others, gone_counts}
 
 -- Names.
-
-both_equal : (a b : Ordering) → ordering_then a b ≡ Equal → (a ≡ Equal) × (b ≡ Equal)
-both_equal Less b is = absurd cc
-both_equal Equal b is = (refl, is)
-both_equal Greater b is = absurd cc
-
-same_bytes : (a b : List ℕ) → slice_cmp nat_cmp a b ≡ Equal → a ≡ b
-same_bytes a b is = (bytes_decides a b).0 (sym (is_eq-slice_cmp a b) ∙ ap is_eq is)
-
--- names that are alike are one
-pub one_name : (a b : HandleName) → name_order a b ≡ Equal → a ≡ b
-one_name a b is =
-    let parts = both_equal (slice_cmp nat_cmp a.who b.who) (slice_cmp nat_cmp a.name b.name) is in
-    let who = same_bytes a.who b.who parts.0 in
-    let name = same_bytes a.name b.name parts.1 in
-    (λ i. record { who = who i; name = name i })
 
 is_equal : (o : Ordering) → is_eq o ≡ true → o ≡ Equal
 is_equal Less is = absurd cc

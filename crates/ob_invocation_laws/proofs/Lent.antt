@@ -13,17 +13,19 @@ use Rattle.ob_heap_spec.specs.Objects.{Object}
 use Rattle.ob_heap_spec.specs.Contents.{HandleName, Handle, Content, object_at, name_order}
 use Rattle.ob_heap_spec.specs.Worlds.{World, read_object, set_object}
 use Rattle.ob_heap_spec.specs.Marks.{mark_shared}
+use Rattle.ob_heap_spec.specs.Handles.{NamedHandle, handle_at}
+use Rattle.ob_heap_spec.proofs.Names.{names_total}
+use Rattle.ob_heap_spec.proofs.Items.{item_of}
 use Rattle.ob_rest_spec.specs.Modes.{is_owned, is_shared}
 use Rattle.ob_rest_laws.specs.Laws.{handle_owners, is_shared_by_handle}
-use Rattle.ob_invocation_spec.specs.Handles.{NamedHandle, handle_at, serves, mark_put, mark_puts}
+use Rattle.ob_invocation_spec.specs.Handles.{serves, mark_put, mark_puts}
 use Rattle.ob_invocation_spec.specs.Entries.{HandleUse, Entry, argument_uses}
 use Rattle.ob_invocation_spec.specs.Refusals.{use_serves, receiver_serves}
 use Rattle.ob_invocation_spec.specs.Entering.{handle_in, put_after_use}
 use Rattle.ob_invocation_laws.specs.Laws.{AreHandles, owners_in, is_put, kept_handles, put_owners, puts_of_uses}
 use Rattle.ob_invocation_laws.proofs.Disowning.{read_objects}
-use Rattle.ob_invocation_laws.proofs.Handles.{names_total, Before, head_before, tail_pairs}
+use Rattle.ob_invocation_laws.proofs.Handles.{Before, head_before, tail_pairs}
 use Rattle.ob_invocation_laws.proofs.Owners.{counted}
-use Rattle.ob_invocation_laws.proofs.Marking.{item_of}
 use Rattle.ob_invocation_laws.proofs.Kept.{one_name_tested}
 use Rattle.ob_invocation_laws.proofs.Entered.{MayEnter, AreFound}
 use Rattle.ob_invocation_laws.proofs.Used.{any_append}

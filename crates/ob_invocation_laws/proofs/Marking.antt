@@ -1,8 +1,7 @@
 -- What marks of sharing leave: objects are as they were but for their marks, and stay objects of their contracts.
-use Rattle.std.proofs.Common.{◌≡◌, ◌∙◌, ℕ, zero, suc, Bool, true, false, List, [], ◌∷◌, length, Option, Some, None, refl, sym, ap, subst, arith}
+use Rattle.std.proofs.Common.{◌≡◌, ◌∙◌, ℕ, suc, Bool, true, false, List, [], ◌∷◌, length, Option, Some, None, refl, sym, ap, subst, arith}
 use Rattle.std.specs.Prelude.{◌&&◌, ◌||◌, nat_eq, slice_get, slice_set, if◌then◌else◌, All, IsSomeAnd, IfSome}
 use Rattle.std.specs.Option.{option_map_or}
-use Rattle.std.proofs.lemmas.List.Elements.{All-cons}
 use Rattle.ob_table.specs.Tables.{ClassTable, contract_at}
 use Rattle.ob_table.specs.declared.contract.Contract.{Contract}
 use Rattle.ob_table.specs.declared.contract.Field.{Field}
@@ -13,10 +12,12 @@ use Rattle.ob_heap_spec.specs.Objects.{Object}
 use Rattle.ob_heap_spec.specs.Contents.{object_at, IsObjectOf, IsObject, IsValueOf}
 use Rattle.ob_heap_spec.specs.Worlds.{World, read_object, set_object}
 use Rattle.ob_heap_spec.specs.Marks.{mark_shared}
+use Rattle.ob_heap_spec.specs.Handles.{NamedHandle}
+use Rattle.ob_heap_spec.proofs.Items.{item_of, all_of}
 use Rattle.ob_rest_spec.specs.Modes.{is_shared}
 use Rattle.ob_rest_laws.specs.Laws.{is_shared_by_handle, IsMarkedFrom, AreMarkedFrom}
 use Rattle.ob_rest_laws.proofs.Changing.{was_there}
-use Rattle.ob_invocation_spec.specs.Handles.{NamedHandle, mark_put, mark_puts}
+use Rattle.ob_invocation_spec.specs.Handles.{mark_put, mark_puts}
 use Rattle.ob_invocation_laws.proofs.Disowning.{as_they_are, one_is_marked, set_there, set_elsewhere, read_objects}
 
 -- Marks, one after another.
@@ -221,16 +222,6 @@ object_stays table objects after same o p m is =
         → IsSomeAnd c (λ c. IsObjectOf after c p)
     at_contract None is = is
     at_contract (Some c) is = object_of_stays objects after same c o p m is
-
--- what holds of each item holds of the item at a number, and the other way round
-pub item_of : {X : Type 0} (P : X → Type 0) (xs : List X) → All P xs → (k : ℕ) (x : X) → slice_get xs k ≡ Some x → P x
-item_of P [] all k x there = absurd cc
-item_of P (y ∷ xs) all zero x there = let same : y ≡ x = cc in subst P same (all 0 y (omega arith))
-item_of P (y ∷ xs) all (suc k) x there = item_of P xs (λ j d inside. all (suc j) d (omega arith)) k x there
-
-pub all_of : {X : Type 0} (P : X → Type 0) (xs : List X) → ((k : ℕ) (x : X) → slice_get xs k ≡ Some x → P x) → All P xs
-all_of P [] each = λ k d inside. absurd (omega arith)
-all_of P (y ∷ xs) each = All-cons P y xs (each 0 y refl) (all_of P xs (λ k x there. each (suc k) x there))
 
 -- objects of a table stay such where they gain marks
 pub objects_stay : (table : ClassTable) (objects after : List Object) → AreMarkedFrom objects after

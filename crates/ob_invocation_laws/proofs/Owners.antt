@@ -8,9 +8,10 @@ use Rattle.std.specs.FinMap.Entries.{find as find_key, by_order}
 use Rattle.ob_heap_spec.specs.Contents.{HandleName, name_order}
 use Rattle.ob_rest_spec.specs.Modes.{is_owned}
 use Rattle.ob_rest_laws.specs.Laws.{handle_owners}
-use Rattle.ob_invocation_spec.specs.Handles.{NamedHandle, put_handle, without_handle}
+use Rattle.ob_heap_spec.specs.Handles.{NamedHandle, put_handle, without_handle}
+use Rattle.ob_heap_spec.proofs.Names.{names_total}
 use Rattle.ob_invocation_laws.specs.Laws.{owners_in}
-use Rattle.ob_invocation_laws.proofs.Handles.{names_total, Before, head_of, tail_of, head_before, tail_pairs}
+use Rattle.ob_invocation_laws.proofs.Handles.{Before, head_of, tail_of, head_before, tail_pairs}
 
 -- one more handle is one more owner, or none
 one_more : (h : NamedHandle) (handles : List NamedHandle) (b : Bool)

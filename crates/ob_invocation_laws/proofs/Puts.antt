@@ -13,8 +13,9 @@ use Rattle.ob_rest_spec.specs.Incoming.{owners}
 use Rattle.ob_rest_laws.specs.Laws.{handle_owners, is_shared_by_handle, AreMarkedFrom}
 use Rattle.ob_rest_laws.proofs.Counting.{owners_add_up}
 use Rattle.ob_rest_laws.proofs.Changing.{same_fields}
-use Rattle.ob_invocation_spec.specs.Handles.{NamedHandle, put_handle, put_handles}
-use Rattle.ob_invocation_laws.proofs.Handles.{names_total, Before, pairs_back}
+use Rattle.ob_heap_spec.specs.Handles.{NamedHandle, put_handle, put_handles}
+use Rattle.ob_heap_spec.proofs.Names.{names_total}
+use Rattle.ob_invocation_laws.proofs.Handles.{Before, pairs_back}
 
 -- How many handles there are.
 

@@ -16,11 +16,11 @@ use Rattle.ob_heap_spec.specs.Contents.{HandleName, Handle, Content, IsHandle, I
 use Rattle.ob_rest_spec.specs.Modes.{is_owned}
 use Rattle.ob_rest_spec.specs.References.{FieldReference, reference_of, available_value, references_of, field_references}
 use Rattle.ob_rest_spec.specs.Incoming.{IncomingReference, incoming_by_field, incoming_by_handle, fields_onto, handles_onto, owner_of}
-use Rattle.ob_invocation_spec.specs.Handles.{NamedHandle, handle_at}
 use Rattle.ob_invocation_spec.specs.Replies.{ShownPlace, shown_field, shown_handle}
 use Rattle.ob_invocation_spec.specs.Showing.{contract_of_object, shown_at, shown_place}
 use Rattle.ob_invocation_laws.proofs.Handles.{head_of, tail_of}
-use Rattle.ob_invocation_laws.proofs.Marking.{item_of}
+use Rattle.ob_heap_spec.proofs.Items.{item_of}
+use Rattle.ob_heap_spec.specs.Handles.{NamedHandle, handle_at}
 
 -- Objects.
 

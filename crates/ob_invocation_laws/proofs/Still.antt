@@ -14,13 +14,15 @@ use Rattle.ob_table.specs.Tables.{ClassTable}
 use Rattle.ob_heap_spec.specs.Objects.{Object}
 use Rattle.ob_heap_spec.specs.Contents.{HandleName, Handle, Content, IsContent, IsHandle, name_order}
 use Rattle.ob_heap_spec.specs.Worlds.{ReadItem}
+use Rattle.ob_heap_spec.specs.Handles.{NamedHandle, handle_at, put_handle, put_handles, without_handle}
+use Rattle.ob_heap_spec.proofs.Items.{item_of, all_of}
 use Rattle.ob_rest_spec.specs.Modes.{is_owned}
 use Rattle.ob_rest_spec.specs.Incoming.{IncomingReference, owner_of}
 use Rattle.ob_rest_spec.specs.AtRest.{IsAtRest, IsStoreAtRest}
 use Rattle.ob_rest_laws.specs.Laws.{AreMarkedFrom}
 use Rattle.ob_invocation_spec.specs.Requests.{Request, HasLabels, Operation, new_request, call_request, disown_request, give_request, see_request, owner_request, names_in, GiveRequest}
 use Rattle.ob_invocation_spec.specs.Replies.{ok_shown, ok_place}
-use Rattle.ob_invocation_spec.specs.Handles.{NamedHandle, handle_name, handle_at, put_handle, put_handles, without_handle, mark_puts}
+use Rattle.ob_invocation_spec.specs.Handles.{handle_name, mark_puts}
 use Rattle.ob_invocation_spec.specs.Checks.{refusal_of, left_as_it_was}
 use Rattle.ob_invocation_spec.specs.Refusals.{give_checks}
 use Rattle.ob_invocation_spec.specs.Entering.{Meaning, handle_in}
@@ -30,7 +32,7 @@ use Rattle.ob_invocation_laws.specs.Laws.{AreHandles, runs, KeepsStoreAtRest}
 use Rattle.ob_invocation_laws.proofs.Following.{of_found, of_handle, of_giver}
 use Rattle.ob_invocation_laws.proofs.Handles.{Before, puts_keep, put_in_order, without_keeps}
 use Rattle.ob_invocation_laws.proofs.Disowning.{by_mode, disown_rests}
-use Rattle.ob_invocation_laws.proofs.Marking.{same_length, objects_stay, item_of, all_of, puts_share}
+use Rattle.ob_invocation_laws.proofs.Marking.{same_length, objects_stay, puts_share}
 use Rattle.ob_invocation_laws.proofs.Puts.{length_put}
 use Rattle.ob_invocation_laws.proofs.Giving.{may_give, give_rests}
 use Rattle.ob_invocation_laws.proofs.Shown.{found_object, object_is_shown, owner_is_shown}

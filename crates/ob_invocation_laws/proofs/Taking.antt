@@ -8,11 +8,12 @@ use Rattle.ob_heap_spec.specs.Objects.{Object}
 use Rattle.ob_heap_spec.specs.Contents.{Handle, Content, object_at}
 use Rattle.ob_heap_spec.specs.Worlds.{World, object_item, ReadItem, RunOutcome, gives, aborts, wrong, with_read, is_made, read_object, set_object, edit_object}
 use Rattle.ob_heap_spec.specs.Marks.{has_mark, mark_shared, mark_disowned}
+use Rattle.ob_heap_spec.specs.Handles.{NamedHandle}
 use Rattle.ob_rest_spec.specs.Modes.{is_owned, is_shared}
 use Rattle.ob_rest_spec.specs.Incoming.{IncomingReference, owner_of}
 use Rattle.ob_invocation_spec.specs.Requests.{Request}
 use Rattle.ob_invocation_spec.specs.Replies.{ok_shown, ok_place, Invocation, invoked, goes_wrong}
-use Rattle.ob_invocation_spec.specs.Handles.{NamedHandle, mark_put, mark_puts}
+use Rattle.ob_invocation_spec.specs.Handles.{mark_put, mark_puts}
 use Rattle.ob_invocation_spec.specs.Checks.{reads_of, left_as_it_was}
 use Rattle.ob_invocation_spec.specs.Entries.{HandleUse, Entry}
 use Rattle.ob_invocation_spec.specs.Refusals.{new_checks, call_checks}

@@ -10,9 +10,10 @@ use Rattle.ob_base.specs.declared.permission.Mode.TheVariants.{Shared}
 use Rattle.ob_table.specs.Tables.{ClassTable}
 use Rattle.ob_heap_spec.specs.Values.{Value, int_value, bool_value, text_value, reference}
 use Rattle.ob_heap_spec.specs.Contents.{HandleName, Handle, Content, name_order}
+use Rattle.ob_heap_spec.specs.Handles.{NamedHandle, handle_at, put_handles}
 use Rattle.ob_rest_spec.specs.Modes.{is_owned, is_shared}
 use Rattle.ob_rest_laws.specs.Laws.{handle_owners}
-use Rattle.ob_invocation_spec.specs.Handles.{NamedHandle, handle_name, handle_at, put_handles}
+use Rattle.ob_invocation_spec.specs.Handles.{handle_name}
 use Rattle.ob_invocation_spec.specs.Entries.{HandleUse, Entry, handle_uses}
 use Rattle.ob_invocation_spec.specs.Refusals.{times_used, is_repeated}
 use Rattle.ob_invocation_spec.specs.Entering.{handle_in, put_after_use, put_given, put_into, puts_after}

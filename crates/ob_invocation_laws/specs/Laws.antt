@@ -8,9 +8,9 @@ use Rattle.ob_base.specs.Limits.{most_handles}
 use Rattle.ob_table.specs.Tables.{ClassTable}
 use Rattle.ob_heap_spec.specs.Objects.{Object}
 use Rattle.ob_heap_spec.specs.Contents.{HandleName, Handle, Content, IsHandle, name_order}
+use Rattle.ob_heap_spec.specs.Handles.{NamedHandle, handle_at}
 use Rattle.ob_rest_spec.specs.Modes.{is_owned}
 use Rattle.ob_rest_spec.specs.AtRest.{IsStoreAtRest}
-use Rattle.ob_invocation_spec.specs.Handles.{NamedHandle, handle_at}
 use Rattle.ob_invocation_spec.specs.Requests.{Operation, new_request, call_request}
 use Rattle.ob_invocation_spec.specs.Entries.{HandleUse}
 use Rattle.ob_invocation_spec.specs.Entering.{put_after_use}

@@ -3,10 +3,10 @@ ghost use Rattle.std.specs.Prelude.{◌≡◌, ℕ, ◌+◌, false, List, Some, 
 ghost use Rattle.ob_table.specs.Tables.{ClassTable};
 ghost use Rattle.ob_heap_spec.specs.Objects.{Object};
 ghost use Rattle.ob_heap_spec.specs.Contents.{HandleName, Content, IsHandle};
+ghost use Rattle.ob_heap_spec.specs.Handles.{NamedHandle, handle_at, put_handle, put_handles, without_handle};
 ghost use Rattle.ob_rest_spec.specs.AtRest.{IsStoreAtRest};
 ghost use Rattle.ob_rest_laws.specs.Laws.{handle_owners};
 ghost use Rattle.ob_invocation_spec.specs.Requests.{Request, HasLabels};
-ghost use Rattle.ob_invocation_spec.specs.Handles.{NamedHandle, handle_at, put_handle, put_handles, without_handle};
 ghost use Rattle.ob_invocation_spec.specs.Entering.{Meaning};
 ghost use Rattle.ob_invocation_spec.specs.Invocation.{invoke};
 ghost use Rattle.ob_invocation_laws.specs.Laws.{LeavesUnlessDone, TakesNothingIfRefused, TakesNothing, runs, AreHandles, found_after_put, found_without, owners_in, KeepsStoreAtRest, AreKeptInOrder, KeepsHandles};

@@ -13,8 +13,9 @@ use Rattle.ob_heap_spec.specs.Contents.{HandleName, Content, object_at}
 use Rattle.ob_heap_spec.specs.Worlds.{World, first_world, AbortCause, by_state, RunOutcome}
 use Rattle.ob_heap_spec.specs.Marks.{lock}
 use Rattle.ob_heap_spec.specs.GoingWrong.{is_held_within}
+use Rattle.ob_heap_spec.specs.Handles.{NamedHandle}
 use Rattle.ob_rest_spec.specs.Modes.{is_owned, is_shared}
-use Rattle.ob_invocation_spec.specs.Handles.{NamedHandle, handle_name}
+use Rattle.ob_invocation_spec.specs.Handles.{handle_name}
 use Rattle.ob_invocation_spec.specs.Entries.{HandleUse, Entry, values_of, handle_uses}
 
 -- What a `new` and a `call` from outside do in a world: the first with a contract and arguments, the second with the

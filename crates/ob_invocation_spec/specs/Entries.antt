@@ -15,8 +15,9 @@ use Rattle.ob_table_spec.specs.WellFormed.{constructor_at}
 use Rattle.ob_heap_spec.specs.Values.{Value, int_value, bool_value, text_value, reference}
 use Rattle.ob_heap_spec.specs.Contents.{HandleName, Handle, Content, object_at}
 use Rattle.ob_heap_spec.specs.Dispatch.{transaction_named}
+use Rattle.ob_heap_spec.specs.Handles.{handle_at}
 use Rattle.ob_invocation_spec.specs.Requests.{Argument, int_argument, bool_argument, text_argument, handle_argument, other_argument, NewRequest, CallRequest}
-use Rattle.ob_invocation_spec.specs.Handles.{handle_name, handle_at}
+use Rattle.ob_invocation_spec.specs.Handles.{handle_name}
 
 -- The use of a handle for a receiver or an argument: its name, the handle, the contract that is declared, and the
 -- permissions at the entry and at the exit.

@@ -7,11 +7,12 @@ use Rattle.ob_heap_spec.specs.Values.{Value}
 use Rattle.ob_heap_spec.specs.Contents.{HandleName, Handle, Content}
 use Rattle.ob_heap_spec.specs.Worlds.{World, first_world, ReadItem, RunOutcome, gives, aborts, wrong}
 use Rattle.ob_heap_spec.specs.Marks.{mark_disowned}
+use Rattle.ob_heap_spec.specs.Handles.{NamedHandle, handle_at, put_handles, without_handle}
 use Rattle.ob_rest_spec.specs.Modes.{is_owned}
 use Rattle.ob_rest_spec.specs.Incoming.{IncomingReference, owner_of}
 use Rattle.ob_invocation_spec.specs.Requests.{Operation, new_request, call_request, disown_request, give_request, see_request, owner_request, NewRequest, CallRequest, GiveRequest, Request}
 use Rattle.ob_invocation_spec.specs.Replies.{Reply, ok_nothing, ok_shown, ok_place, aborted, Invocation, invoked, goes_wrong}
-use Rattle.ob_invocation_spec.specs.Handles.{NamedHandle, handle_name, handle_at, put_handles, without_handle, mark_puts}
+use Rattle.ob_invocation_spec.specs.Handles.{handle_name, mark_puts}
 use Rattle.ob_invocation_spec.specs.Entries.{HandleUse, Entry, entry_of_new, entry_of_call}
 use Rattle.ob_invocation_spec.specs.Checks.{left_as_it_was, unless_refused, with_found}
 use Rattle.ob_invocation_spec.specs.Refusals.{handle_check, new_checks, call_checks, give_checks}

@@ -16,10 +16,11 @@ use Rattle.ob_heap_spec.specs.Values.{Value, int_value, bool_value, text_value, 
 use Rattle.ob_heap_spec.specs.Objects.{Object}
 use Rattle.ob_heap_spec.specs.Contents.{HandleName, Content, object_at}
 use Rattle.ob_heap_spec.specs.Worlds.{handle_item, handles_full_item}
+use Rattle.ob_heap_spec.specs.Handles.{handle_at}
 use Rattle.ob_rest_spec.specs.Modes.{is_owned, is_shared, is_unowned}
 use Rattle.ob_invocation_spec.specs.Requests.{Argument, argument_names, NewRequest, CallRequest, GiveRequest}
 use Rattle.ob_invocation_spec.specs.Replies.{no_handle, no_contract, not_main, no_transaction, arg_count, arg_kind, permission, repeated, into_missing, into_needless, into_taken, handles_full}
-use Rattle.ob_invocation_spec.specs.Handles.{handle_name, handle_at, handle_reads, are_handles_full, serves}
+use Rattle.ob_invocation_spec.specs.Handles.{handle_name, handle_reads, are_handles_full, serves}
 use Rattle.ob_invocation_spec.specs.Entries.{HandleUse, Entry, entry_of_new, entry_of_call, value_of, argument_uses, handle_uses}
 use Rattle.ob_invocation_spec.specs.Checks.{Check, check}
 

@@ -15,7 +15,7 @@ use Rattle.ob_code.specs.declared.image.BodyCode.{BodyCode}
 use Rattle.ob_code.specs.declared.image.Image.{Image}
 use Rattle.ob_code.specs.declared.image.ParamCode.{ParamCode}
 use Rattle.ob_code.specs.Code.{body_code}
-use Rattle.ob_machine_steps.specs.ImageTables.{perm_of_code, type_of_param}
+use Rattle.ob_code_table.specs.ImageTables.{perm_of_code, type_of_param}
 use Rattle.ob_machine_steps.specs.Entries.{MachineEntry, lock_receiver, args_come_in, receiver_comes_in, comes_into_body, marked_world, entry_world}
 use Rattle.ob_locality_laws.specs.Laws.{setting}
 use Rattle.ob_locality_laws.specs.Locality.{Agree, Setting, IsKnown, Alike, onto, IsGood, AreThere, IsReceiverThere, ComesThere}

@@ -16,7 +16,7 @@ use Rattle.ob_code.specs.declared.image.BodyCode.{BodyCode}
 use Rattle.ob_code.specs.declared.image.Image.{Image}
 use Rattle.ob_code.specs.declared.image.ParamCode.{ParamCode}
 use Rattle.ob_code.specs.Code.{body_code}
-use Rattle.ob_machine_steps.specs.ImageTables.{perm_of_code, type_of_param}
+use Rattle.ob_code_table.specs.ImageTables.{perm_of_code, type_of_param}
 use Rattle.ob_machine_steps.specs.Configurations.{ended, aborted, Next}
 use Rattle.ob_machine_steps.specs.Entries.{MachineEntry, lock_receiver, args_come_in, receiver_comes_in, comes_into_body, entry_world, Phase, starting, running, started, next_step}
 use Rattle.ob_machine_steps.specs.Runs.{Stop, paused, over, after_steps, run_in, world_of}

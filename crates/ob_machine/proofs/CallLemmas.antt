@@ -16,7 +16,7 @@ use Rattle.ob_code.specs.declared.image.Image.{Image}
 use Rattle.ob_heap.specs.declared.object.Object.{Object}
 use Rattle.ob_heap.specs.Overlays.{Changes}
 use Rattle.ob_code.specs.Code.{body_code, is_shared_at_entry}
-use Rattle.ob_machine_steps.specs.Images.{CalleeId, callee, constructor_of}
+use Rattle.ob_code_table.specs.Images.{CalleeId, callee, constructor_of}
 use Rattle.ob_machine_steps.specs.Slots.{values_at, reference_at}
 use Rattle.ob_machine_steps.specs.Configurations.{Configuration, Next, goes, abort, on_receiver, on_this, on_new}
 use Rattle.ob_machine_steps.specs.Parts.{with_world, with_unit, with_units}

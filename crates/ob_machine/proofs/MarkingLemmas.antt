@@ -26,7 +26,7 @@ use Rattle.ob_heap.specs.Overlays.{Changes, no_changes, laid_from, objects_over}
 use Rattle.ob_heap.specs.Plain.{object_of, value_of}
 use Rattle.ob_heap.specs.declared.value.Value.{Value as Argument}
 use Rattle.ob_heap.specs.declared.value.Value.TheVariants as argument
-use Rattle.ob_machine_steps.specs.ImageTables.{perm_of_code, type_of_param}
+use Rattle.ob_code_table.specs.ImageTables.{perm_of_code, type_of_param}
 use Rattle.ob_machine_steps.specs.Entries.{MachineEntry, lock_receiver, args_come_in, receiver_comes_in, comes_into_body, marked_world, starting, started}
 use Rattle.ob_machine_steps.specs.Runs.{world_of as world_of_phase}
 use Rattle.ob_machine_steps.specs.Configurations.{Configuration}

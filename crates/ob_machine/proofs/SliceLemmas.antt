@@ -5,7 +5,7 @@ use Rattle.std.specs.Option.{option_map_or}
 use Rattle.ob_heap_spec.specs.Worlds.{World, ReadItem, ReadSame, SameWorld}
 use Rattle.std.specs.Prelude.{List}
 use Rattle.ob_code.specs.declared.image.Image.{Image}
-use Rattle.ob_machine_steps.specs.Images.{instruction_at}
+use Rattle.ob_code_table.specs.Images.{instruction_at}
 use Rattle.ob_machine_steps.specs.Configurations.{Configuration, End, ended, aborted, Next, goes, stops}
 use Rattle.ob_machine_steps.specs.Entries.{Phase, starting, running, next_step}
 use Rattle.ob_machine_steps.specs.Measures.{steps_left, rest, rests, longest}

@@ -12,7 +12,7 @@ use Rattle.ob_code.specs.declared.image.Image.{Image}
 use Rattle.ob_heap.specs.declared.object.Object.{Object}
 use Rattle.ob_heap.specs.Overlays.{Changes}
 use Rattle.ob_code.specs.Code.{contract_code}
-use Rattle.ob_machine_steps.specs.Images.{has_field_code}
+use Rattle.ob_code_table.specs.Images.{has_field_code}
 use Rattle.ob_machine_steps.specs.Slots.{value_at}
 use Rattle.ob_machine_steps.specs.Configurations.{Entered, on_receiver, on_this, on_new, Configuration, Next, goes}
 use Rattle.ob_machine_steps.specs.Parts.{goes_on, with_world, this_object}

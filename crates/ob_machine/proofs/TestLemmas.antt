@@ -9,7 +9,7 @@ use Rattle.ob_heap_spec.specs.Marks.{is_locked, is_in_progress}
 use Rattle.ob_heap_spec.specs.Objects.{Object as PlainObject}
 use Rattle.ob_heap_spec.specs.Worlds.{World, ReadItem, read_object, SameWorld, ReadSame, by_state}
 use Rattle.ob_code.specs.declared.image.Image.{Image}
-use Rattle.ob_machine_steps.specs.Images.{is_in_state_of}
+use Rattle.ob_code_table.specs.Images.{is_in_state_of}
 use Rattle.ob_machine_steps.specs.Slots.{reference_at}
 use Rattle.ob_machine_steps.specs.Configurations.{Configuration, Next, goes, stops, ended, aborted, abort}
 use Rattle.ob_machine_steps.specs.Parts.{with_world}

@@ -4,7 +4,7 @@ use Rattle.ob_base.specs.Optional.{◌>>=◌}
 use Rattle.ob_code.specs.declared.image.BodyCode.{BodyCode}
 use Rattle.ob_code.specs.declared.image.Image.{Image}
 use Rattle.ob_code.specs.Code.{body_code}
-use Rattle.ob_machine_steps.specs.Images.{CalleeId}
+use Rattle.ob_code_table.specs.Images.{CalleeId}
 use Rattle.ob_machine_steps.specs.Slots.{values_at}
 use Rattle.ob_machine_steps.specs.Configurations.{Entered, MachineFrame, Configuration, Next, goes}
 use Rattle.ob_machine_steps.specs.Parts.{waiting}

@@ -4,7 +4,7 @@ use Rattle.ob_base.specs.Optional.{◌>>=◌}
 use Rattle.ob_base.specs.declared.id.ContractId.{ContractId}
 use Rattle.ob_base.specs.declared.id.TxId.{TxId}
 use Rattle.ob_code.specs.declared.image.Image.{Image}
-use Rattle.ob_machine_steps.specs.Images.{constructor_of}
+use Rattle.ob_code_table.specs.Images.{constructor_of}
 use Rattle.ob_machine_steps.specs.Slots.{values_at}
 use Rattle.ob_machine_steps.specs.Configurations.{on_new, Configuration, Next}
 use Rattle.ob_machine_steps.specs.Calling.{caller, calls_object, makes_object}

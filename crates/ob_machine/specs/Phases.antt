@@ -9,7 +9,7 @@ use Rattle.ob_heap.specs.Plain.{value_of}
 use Rattle.ob_code.specs.declared.image.BodyCode.{BodyCode}
 use Rattle.ob_code.specs.declared.image.Image.{Image}
 use Rattle.ob_code.specs.Code.{body_code}
-use Rattle.ob_machine_steps.specs.Images.{CalleeId}
+use Rattle.ob_code_table.specs.Images.{CalleeId}
 use Rattle.ob_machine_steps.specs.Configurations.{Entered, Configuration, Next, goes}
 use Rattle.ob_machine_steps.specs.Calling.{begun}
 use Rattle.ob_machine_steps.specs.Entries.{MachineEntry, Phase, starting, running, nobody, lock_receiver}

@@ -7,7 +7,7 @@ ghost use Rattle.ob_heap_spec.specs.Marks.{comes_into};
 ghost use Rattle.ob_heap_spec.specs.Values.{reference};
 ghost use Rattle.ob_heap_spec.specs.Worlds.{SameWorld};
 ghost use Rattle.ob_machine_steps.specs.Entries.{args_come_in, receiver_comes_in, marked_world};
-ghost use Rattle.ob_machine_steps.specs.ImageTables.{perm_of_code, type_of_param};
+ghost use Rattle.ob_code_table.specs.ImageTables.{perm_of_code, type_of_param};
 ghost use Rattle.ob_machine.specs.Phases.{entry_of};
 ghost use Rattle.ob_machine_parts.specs.Shown.{number_of};
 ghost use Rattle.ob_machine.specs.Shown.{world_of};

@@ -11,7 +11,7 @@ use Rattle.ob_machine_steps.specs.Steps.{act, next_instruction}
 use Rattle.ob_machine_steps.specs.Entries.{MachineEntry, Phase, starting, running, next_step, HasStep}
 use Rattle.ob_machine_steps.specs.Runs.{Stop, paused, over, after_step, after_steps, GoesNoFurther, pays, waits, left_after, run_in, Slices}
 use Rattle.ob_machine_steps.specs.Measures.{length_of, longest, steps_left, rests, LeadsAhead}
-use Rattle.ob_machine_steps.specs.Meanings.{outcome_of, outcome_at, outcome}
+use Rattle.ob_machine_steps.specs.Outcomes.{outcome_of, outcome_at, outcome}
 use Rattle.ob_machine_laws.specs.Laws.{IsSoundRun, IsOverAfter}
 use Rattle.ob_machine_laws.proofs.Fetching.{instruction_in_body}
 use Rattle.ob_machine_laws.proofs.Measuring.{lowers, within_body}

@@ -9,7 +9,7 @@ use Rattle.ob_code.specs.declared.image.ContractCode.{ContractCode}
 use Rattle.ob_code.specs.declared.image.Image.{Image}
 use Rattle.ob_code.specs.declared.instruction.Instruction.{Instruction}
 use Rattle.ob_code.specs.Code.{is_interface, contract_code, body_code}
-use Rattle.ob_machine_steps.specs.Images.{instruction_of, instruction_at}
+use Rattle.ob_code_table.specs.Images.{instruction_of, instruction_at}
 
 abbrev IsNone : {A : Type 0} → Option A → Type 0
 IsNone None = Unit {0}

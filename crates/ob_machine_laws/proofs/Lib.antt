@@ -9,7 +9,6 @@ pub mod SameReads
 pub mod Keeping
 pub mod Sound
 pub mod Tables
-pub mod Requests
 pub mod Once
 pub mod Unread
 pub mod Loops

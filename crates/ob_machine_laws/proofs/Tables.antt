@@ -17,8 +17,8 @@ use Rattle.ob_code.specs.declared.image.ContractCode.{ContractCode}
 use Rattle.ob_code.specs.declared.image.FieldCode.{FieldCode}
 use Rattle.ob_code.specs.declared.image.Image.{Image}
 use Rattle.ob_code.specs.Code.{is_constructor, contract_code, is_transaction_named}
-use Rattle.ob_machine_steps.specs.Images.{transaction_number, is_available_in, has_field_code, named_between, state_seen_by, is_in_state_of}
-use Rattle.ob_machine_steps.specs.ImageTables.{field_of_code, signature_of_code, contract_of_code, table_of_image}
+use Rattle.ob_code_table.specs.Images.{transaction_number, is_available_in, has_field_code, named_between, state_seen_by, is_in_state_of}
+use Rattle.ob_code_table.specs.ImageTables.{field_of_code, signature_of_code, contract_of_code, table_of_image}
 use Rattle.ob_machine_laws.specs.Laws.{IsUnnamed}
 
 pub contract_same : (image : Image) (id : ContractId) → contract_at (table_of_image image) id ≡ option_map contract_of_code (contract_code image id)

@@ -21,7 +21,7 @@ use Rattle.ob_code.specs.declared.image.Image.{Image}
 use Rattle.ob_code.specs.declared.instruction.Instruction.{Instruction}
 use Rattle.ob_code.specs.declared.instruction.Instruction.TheVariants as ins
 use Rattle.ob_code.specs.Code.{contract_code, body_code}
-use Rattle.ob_machine_steps.specs.Images.{constructor_of, callee, has_field_code}
+use Rattle.ob_code_table.specs.Images.{constructor_of, callee, has_field_code}
 use Rattle.ob_machine_steps.specs.Slots.{value_at, truth_at, text_at, reference_at, values_at, with_value_at}
 use Rattle.ob_machine_steps.specs.Configurations.{Entered, on_receiver, on_this, on_new, MachineFrame, Configuration, ended, aborted, Next, goes, stops}
 use Rattle.ob_machine_steps.specs.Parts.{with_world, sets, with_units, with_unit, this_object, waiting}

@@ -21,7 +21,7 @@ use Rattle.ob_machine_steps.specs.Configurations.{on_receiver, MachineFrame, Con
 use Rattle.ob_machine_steps.specs.Steps.{act}
 use Rattle.ob_machine_steps.specs.Entries.{MachineEntry, Phase, started}
 use Rattle.ob_machine_steps.specs.Runs.{paused, run_in}
-use Rattle.ob_machine_steps.specs.Meanings.{outcome}
+use Rattle.ob_machine_steps.specs.Outcomes.{outcome}
 
 -- An image of one contract. It has the states S and T, a field `n` in both of them and in no state, and a field `m` in S alone.
 

@@ -3,25 +3,22 @@ use Rattle.std.specs.Prelude.{◌≡◌, ℕ, suc, ◌+◌, ◌*◌, ◌<◌, �
 use Rattle.ob_base.specs.declared.id.ContractId.{ContractId}
 use Rattle.ob_base.specs.declared.id.StateId.{StateId}
 use Rattle.ob_table.specs.Tables.{contract_at}
-use Rattle.ob_heap_spec.specs.Contents.{Content}
 use Rattle.ob_heap_spec.specs.Dispatch.{transaction_named}
 use Rattle.ob_heap_spec.specs.Objects.{Object, has_field, is_in_state}
 use Rattle.ob_heap_spec.specs.Marks.{is_among, without_first}
 use Rattle.ob_heap_spec.specs.Worlds.{ReadItem, object_item, World, Spent, SameWorld, SameSpent}
 use Rattle.ob_source_laws.specs.Laws.{Grows, KeepsObjects, KeepsUnread}
-use Rattle.ob_invocation_spec.specs.Entries as invocation
-use Rattle.ob_invocation_spec.specs.Entering.{run_entry}
 use Rattle.ob_code.specs.declared.image.BodyCode.{BodyCode}
 use Rattle.ob_code.specs.declared.image.ContractCode.{ContractCode}
 use Rattle.ob_code.specs.declared.image.Image.{Image}
 use Rattle.ob_code.specs.Code.{is_constructor, contract_code}
-use Rattle.ob_machine_steps.specs.Images.{constructor_of, transaction_number, has_field_code, is_in_state_of}
-use Rattle.ob_machine_steps.specs.ImageTables.{contract_of_code, table_of_image}
+use Rattle.ob_code_table.specs.Images.{transaction_number, has_field_code, is_in_state_of}
+use Rattle.ob_code_table.specs.ImageTables.{contract_of_code, table_of_image}
 use Rattle.ob_machine_steps.specs.Configurations.{MachineFrame, Configuration, End, ended, aborted, Next, goes, stops}
-use Rattle.ob_machine_steps.specs.Entries.{MachineEntry, Phase, entry_world, starting, running, started, next_step, HasStep}
+use Rattle.ob_machine_steps.specs.Entries.{MachineEntry, Phase, entry_world, starting, running, next_step, HasStep}
 use Rattle.ob_machine_steps.specs.Runs.{Stop, paused, over, after_steps, GoesNoFurther, world_of, run_in, Slices, IsSoundIn}
 use Rattle.ob_machine_steps.specs.Measures.{longest, steps_left, LeadsAhead}
-use Rattle.ob_machine_steps.specs.Meanings.{outcome_of, outcome, machine_meaning, entry_of_request}
+use Rattle.ob_machine_steps.specs.Outcomes.{outcome_of, outcome}
 
 -- Slices.
 
@@ -264,16 +261,3 @@ abbrev pub NamesAgree : Type 0
 NamesAgree =
     (c : ContractCode) (name : List ℕ) → IsUnnamed c name
     → transaction_named (contract_of_code c) name ≡ transaction_number c name
-
--- Requests.
-
--- what a request enters without a receiver is the constructor of its contract
-pub record HasItsBody (image : Image) (e : invocation.Entry) : Type 0 where
-  pub constructor : e.receiver ≡ None → constructor_of image e.contract ≡ Some e.tx
-
--- What an invocation runs is what the machine's entry comes to, begun on the store's objects with the entry's lock.
-abbrev pub RequestsRun : Type 0
-RequestsRun =
-    (image : Image) (content : Content) (fuel : ℕ) (e : invocation.Entry) → HasItsBody image e
-    → run_entry (machine_meaning image) content fuel e
-    ≡ outcome image (started image (entry_of_request content e) content.objects fuel)

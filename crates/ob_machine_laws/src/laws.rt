@@ -2,7 +2,7 @@
 ghost use Rattle.ob_machine_laws.specs.Laws.{SlicesAddUp, SlicesEndAsRuns, WholeSlicesEnd, StepsLowerTheMeasure, RunsGoNoFurther, RunsEnd, EntriesEnd};
 ghost use Rattle.ob_machine_laws.specs.Laws.{UnitsAddUp, ReadsGrow, ObjectsStay, UnreadStay, FramesStayTold, LocksAreSets, EntriesLockOnce};
 ghost use Rattle.ob_machine_laws.specs.Laws.{SoundRunsAreSoundInSlices, PausedRunsAreSound};
-ghost use Rattle.ob_machine_laws.specs.Laws.{ContractsAgree, FieldsAgree, StatesAgree, NamesAgree, RequestsRun};
+ghost use Rattle.ob_machine_laws.specs.Laws.{ContractsAgree, FieldsAgree, StatesAgree, NamesAgree};
 ghost use Rattle.ob_machine_laws.specs.Laws.{StepsIgnoreReads, SlicesIgnoreReads, SameReadsSameSteps, SameReadsSameSlices};
 
 /// Two slices one after another are one slice of the sum, and where one stops with the run, that is what the run comes to. A slice
@@ -52,11 +52,6 @@ pub fn tables_agree()
     ensures fields { FieldsAgree }
     ensures states { StatesAgree }
     ensures names { NamesAgree }
-{}
-
-/// What an invocation by code runs is what the machine's entry for its request comes to.
-pub fn requests_run()
-    ensures { RequestsRun }
 {}
 
 /// No object is locked twice, and none has two transactions in progress.

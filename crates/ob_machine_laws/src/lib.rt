@@ -7,6 +7,6 @@ mod laws;
 
 pub use examples::{runs_worked_out, steps_worked_out};
 pub use laws::{
-    locks_are_sets, reads_dont_matter, requests_run, runs_end, slices_add_up, sound_runs,
-    steps_keep, steps_lower_the_measure, tables_agree, unread_stay,
+    locks_are_sets, reads_dont_matter, runs_end, slices_add_up, sound_runs, steps_keep,
+    steps_lower_the_measure, tables_agree, unread_stay,
 };

@@ -10,7 +10,7 @@ use Rattle.ob_code.specs.declared.image.ContractCode.{ContractCode}
 use Rattle.ob_heap.specs.declared.value.Value.{Value}
 use Rattle.ob_heap.specs.Fields.{with_value}
 use Rattle.ob_heap.specs.Plain.{value_of, fields_of}
-use Rattle.ob_machine_steps.specs.Images.{has_field_code}
+use Rattle.ob_code_table.specs.Images.{has_field_code}
 use Rattle.ob_machine_steps.specs.Slots.{Slots, value_at}
 use Rattle.ob_machine_steps.specs.Changing.{GivenSlots, given_values}
 use Rattle.ob_machine_parts.specs.Changes.{kept_in}

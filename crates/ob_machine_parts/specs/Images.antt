@@ -9,7 +9,7 @@ use Rattle.ob_code.specs.declared.image.Image.{Image}
 use Rattle.ob_code.specs.declared.instruction.Instruction.{Instruction}
 use Rattle.ob_code.specs.Code.{contract_code}
 use Rattle.ob_heap_spec.specs.Objects.{Object}
-use Rattle.ob_machine_steps.specs.Images.{instruction_at, transaction_number, CalleeId, callee}
+use Rattle.ob_code_table.specs.Images.{instruction_at, transaction_number, CalleeId, callee}
 
 -- the transaction of a contract that answers for one of an interface: its first one of that name
 abbrev pub answered_by : Image → ContractId → BodyCode → Option CalleeId

@@ -2,7 +2,6 @@
 #![tactic(auto)]
 
 pub mod arguments;
-pub mod available;
 pub mod calling;
 pub mod entered;
 pub mod fields;

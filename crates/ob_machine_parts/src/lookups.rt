@@ -2,19 +2,19 @@
 ghost use Rattle.std.specs.Prelude.{◌≡◌, ◌<◌, ◌+◌, ◌^◌, ℕ, IfOk, OnOk, position, slice_get, Some};
 ghost use Rattle.ob_heap.specs.Plain.{object_of};
 ghost use Rattle.ob_code.specs.Code.{contract_code, body_code, is_transaction_named};
-ghost use Rattle.ob_machine_steps.specs.Images.{instruction_of, instruction_at, constructor_number};
-ghost use Rattle.ob_machine_steps.specs.Images.{transaction_number, has_field_code, callee};
+ghost use Rattle.ob_code_table.specs.Images.{instruction_of, instruction_at, constructor_number};
+ghost use Rattle.ob_code_table.specs.Images.{transaction_number, has_field_code, callee};
 ghost use Rattle.ob_machine_parts.specs.Giving.{Gives};
 ghost use Rattle.ob_machine_parts.specs.Images.{answered_by};
 ghost use Rattle.ob_machine_parts.specs.Images.{AreInstructionsOf};
 
-use crate::available::is_available_in;
 use crate::off::Off;
 use ob_base::{ContractId, FieldId, Items, StateId, TxId};
 use ob_code::{
     BodyCode, ContractCode, Image, Instruction, body_code, constructor_place, contract_code,
     is_interface, is_transaction_named,
 };
+use ob_code_table::is_available_in;
 use ob_heap::Object;
 
 /// The contract or interface of a number.

@@ -2,14 +2,14 @@
 ghost use Rattle.std.specs.Prelude.{◌≡◌};
 ghost use Rattle.ob_code.specs.Code.{contract_code};
 ghost use Rattle.ob_heap.specs.Plain.{object_of};
-ghost use Rattle.ob_machine_steps.specs.Images.{bits_of, state_seen_by, is_in_state_of, named_between};
+ghost use Rattle.ob_code_table.specs.Images.{bits_of, state_seen_by, is_in_state_of, named_between};
 ghost use Rattle.ob_machine_parts.specs.Naming.{named_as};
 ghost use Rattle.ob_perm.specs.Masks.{states_of};
 ghost use Rattle.ob_table_spec.specs.Names.{number_of};
 
-use crate::available::{bits, has_bit, state_number};
 use ob_base::{ContractId, NO_STATE_BIT, OTHER_STATE_BIT, StateId};
 use ob_code::{CodeText, ContractCode, Image, contract_code};
+use ob_code_table::{bits, has_bit, state_number};
 use ob_heap::Object;
 
 // The place of the first of these names that is the same.

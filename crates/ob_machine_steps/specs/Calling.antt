@@ -13,7 +13,7 @@ use Rattle.ob_heap_spec.specs.Marks.{is_in_progress, enter}
 use Rattle.ob_code.specs.declared.image.BodyCode.{BodyCode}
 use Rattle.ob_code.specs.declared.image.Image.{Image}
 use Rattle.ob_code.specs.Code.{body_code, is_shared_at_entry}
-use Rattle.ob_machine_steps.specs.Images.{constructor_of, CalleeId, callee}
+use Rattle.ob_code_table.specs.Images.{constructor_of, CalleeId, callee}
 use Rattle.ob_machine_steps.specs.Slots.{reference_at, values_at, first_slots}
 use Rattle.ob_machine_steps.specs.Configurations.{Entered, on_receiver, on_this, on_new, MachineFrame, Configuration, Next, goes, abort}
 use Rattle.ob_machine_steps.specs.Parts.{with_unit, waiting}

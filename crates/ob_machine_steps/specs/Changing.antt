@@ -12,7 +12,7 @@ use Rattle.ob_heap_spec.specs.Marks.{is_locked}
 use Rattle.ob_code.specs.declared.image.ContractCode.{ContractCode}
 use Rattle.ob_code.specs.declared.image.Image.{Image}
 use Rattle.ob_code.specs.Code.{contract_code}
-use Rattle.ob_machine_steps.specs.Images.{has_field_code}
+use Rattle.ob_code_table.specs.Images.{has_field_code}
 use Rattle.ob_machine_steps.specs.Slots.{Slots, value_at}
 use Rattle.ob_machine_steps.specs.Configurations.{Configuration, Next, abort}
 use Rattle.ob_machine_steps.specs.Parts.{with_world, goes_on, this_object}

@@ -11,7 +11,7 @@ use Rattle.ob_code.specs.declared.image.BodyCode.{BodyCode}
 use Rattle.ob_code.specs.declared.image.Image.{Image}
 use Rattle.ob_code.specs.declared.image.ParamCode.{ParamCode}
 use Rattle.ob_code.specs.Code.{body_code, no_result}
-use Rattle.ob_machine_steps.specs.ImageTables.{perm_of_code, type_of_param}
+use Rattle.ob_code_table.specs.ImageTables.{perm_of_code, type_of_param}
 use Rattle.ob_machine_steps.specs.Configurations.{Configuration, Next}
 use Rattle.ob_machine_steps.specs.Parts.{with_unit}
 use Rattle.ob_machine_steps.specs.Calling.{Caller, calls_object, makes_object}

@@ -1,5 +1,3 @@
-pub mod Images
-pub mod ImageTables
 pub mod Slots
 pub mod Configurations
 pub mod Parts
@@ -12,4 +10,4 @@ pub mod Steps
 pub mod Entries
 pub mod Runs
 pub mod Measures
-pub mod Meanings
+pub mod Outcomes

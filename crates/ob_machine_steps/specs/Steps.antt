@@ -4,7 +4,7 @@ use Rattle.ob_base.specs.Optional.{◌>>=◌}
 use Rattle.ob_code.specs.declared.image.Image.{Image}
 use Rattle.ob_code.specs.declared.instruction.Instruction.{Instruction}
 use Rattle.ob_code.specs.declared.instruction.Instruction.TheVariants as instruction
-use Rattle.ob_machine_steps.specs.Images.{instruction_at}
+use Rattle.ob_code_table.specs.Images.{instruction_at}
 use Rattle.ob_machine_steps.specs.Configurations.{Configuration, Next}
 use Rattle.ob_machine_steps.specs.Straight.{unit_step, int_step, bool_step, text_step, copy_step, load_step, op_step, jump_step, unless_step, share_step, disown_step, revert_step}
 use Rattle.ob_machine_steps.specs.Changing.{store_step, change_step}

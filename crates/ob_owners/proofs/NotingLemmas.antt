@@ -16,7 +16,7 @@ use Rattle.ob_heap.specs.Blocks.{joined}
 use Rattle.ob_heap.specs.Contents.{Stored, content_of, named_of}
 use Rattle.ob_heap.specs.Plain.{object_of}
 use Rattle.ob_heap_spec.specs.Objects.{Object as PlainObject}
-use Rattle.ob_machine_steps.specs.ImageTables.{contract_of_code, field_of_code, table_of_image}
+use Rattle.ob_code_table.specs.ImageTables.{contract_of_code, field_of_code, table_of_image}
 use Rattle.ob_rest_spec.specs.References.{FieldReference, reference_of, references_of, field_references, available_value}
 use Rattle.ob_owners.specs.declared.tally.Holding.{Holding}
 use Rattle.ob_owners.specs.declared.tally.Tally.{Tally}

@@ -14,7 +14,7 @@ use Rattle.ob_heap.specs.Contents.{Stored, content_of}
 use Rattle.ob_heap.specs.Plain.{object_of}
 use Rattle.ob_heap_spec.specs.Contents.{object_at}
 use Rattle.ob_heap_spec.specs.Objects.{Object as PlainObject}
-use Rattle.ob_machine_steps.specs.ImageTables.{field_of_code, table_of_image}
+use Rattle.ob_code_table.specs.ImageTables.{field_of_code, table_of_image}
 use Rattle.ob_rest_spec.specs.AtRest.{fails, first_failing_object}
 use Rattle.ob_rest_spec.specs.References.{FieldReference, reference_of, available_value}
 use Rattle.ob_owners.specs.declared.tally.Tally.{Tally}

@@ -28,7 +28,7 @@ use Rattle.ob_heap.specs.Plain.{object_of, value_of}
 use Rattle.ob_heap_spec.specs.Contents.{Content}
 use Rattle.ob_heap_spec.specs.Objects.{Object as PlainObject}
 use Rattle.ob_heap_spec.specs.Values.{Value as PlainValue, int_value, bool_value, text_value, reference}
-use Rattle.ob_machine_steps.specs.ImageTables.{type_of_code, contract_of_code, field_of_code, table_of_image}
+use Rattle.ob_code_table.specs.ImageTables.{type_of_code, contract_of_code, field_of_code, table_of_image}
 use Rattle.ob_rest_spec.specs.Incoming.{StorePlace, stored_field, IncomingReference, incoming_by_field, incoming_by_handle, fields_onto, handles_onto}
 use Rattle.ob_rest_spec.specs.Modes.{is_owned}
 use Rattle.ob_rest_spec.specs.References.{reference_of, references_of, field_references, available_value}

@@ -20,7 +20,7 @@ use Rattle.ob_rest_spec.specs.Failing.{is_asset}
 use Rattle.ob_table.specs.Tables.{contract_at}
 use Rattle.ob_table.specs.declared.contract.Contract.{Contract}
 use Rattle.ob_table_spec.specs.Names.{Name, same, number_of}
-use Rattle.ob_machine_steps.specs.ImageTables.{contract_of_code, table_of_image}
+use Rattle.ob_code_table.specs.ImageTables.{contract_of_code, table_of_image}
 
 -- the contract of a number, by what the image says there
 pub contract_by : (code : Image) (id : ContractId) (r : Option ContractCode) → slice_get code.contracts id.0 ≡ r

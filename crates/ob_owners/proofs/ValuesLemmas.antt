@@ -13,8 +13,8 @@ use Rattle.ob_heap.specs.declared.value.Value.{Value}
 use Rattle.ob_heap.specs.Fields.{value_at}
 use Rattle.ob_heap.specs.Plain.{object_of, value_of, fields_of}
 use Rattle.ob_heap_spec.specs.Objects.{is_available}
-use Rattle.ob_machine_steps.specs.Images.{is_available_in}
-use Rattle.ob_machine_steps.specs.ImageTables.{contract_of_code, field_of_code}
+use Rattle.ob_code_table.specs.Images.{is_available_in}
+use Rattle.ob_code_table.specs.ImageTables.{contract_of_code, field_of_code}
 use Rattle.ob_rest_spec.specs.References.{available_value}
 use Rattle.ob_owners.specs.Scanning.{entry_at}
 

@@ -4,7 +4,7 @@ use Rattle.std.specs.List.{enumerate_from}
 use Rattle.ob_base.specs.declared.id.ObjectId.{ObjectId}
 use Rattle.ob_heap_spec.specs.Objects.{Object}
 use Rattle.ob_heap_spec.specs.Values.{Value, reference}
-use Rattle.ob_machine_steps.specs.ImageTables.{perm_of_code}
+use Rattle.ob_code_table.specs.ImageTables.{perm_of_code}
 use Rattle.ob_rest_spec.specs.References.{FieldReference, reference_of, available_value}
 use Rattle.ob_table.specs.declared.contract.Contract.{Contract}
 use Rattle.ob_owners.specs.declared.references.FieldReference.{FieldReference as ReferenceCode}

@@ -4,7 +4,7 @@ ghost use Rattle.std.specs.List.{enumerate_from};
 ghost use Rattle.ob_base.specs.Optional.{where_true};
 ghost use Rattle.ob_base.specs.declared.id.FieldId.{FieldId as FieldNumber};
 ghost use Rattle.ob_heap.specs.Plain.{object_of, value_of};
-ghost use Rattle.ob_machine_steps.specs.ImageTables.{contract_of_code, field_of_code, table_of_image};
+ghost use Rattle.ob_code_table.specs.ImageTables.{contract_of_code, field_of_code, table_of_image};
 ghost use Rattle.ob_rest_spec.specs.Incoming.{stored_field};
 ghost use Rattle.ob_rest_spec.specs.Modes.{is_owned};
 ghost use Rattle.ob_rest_spec.specs.References.{available_value};

@@ -2,7 +2,7 @@
 ghost use Rattle.std.specs.Prelude.{◌≡◌, ℕ, option_map};
 ghost use Rattle.std.specs.Option.{option_and_then};
 ghost use Rattle.ob_heap.specs.Plain.{object_of, value_of};
-ghost use Rattle.ob_machine_steps.specs.ImageTables.{contract_of_code, type_of_code};
+ghost use Rattle.ob_code_table.specs.ImageTables.{contract_of_code, type_of_code};
 ghost use Rattle.ob_rest_spec.specs.References.{reference_of, available_value};
 ghost use Rattle.ob_owners.specs.Referring.{object_referred, number_of_object, field_reference_of};
 

@@ -6,7 +6,7 @@ ghost use Rattle.ob_base.specs.Limits.{most_objects, most_handles};
 ghost use Rattle.ob_heap.specs.Contents.{content_of};
 ghost use Rattle.ob_heap.specs.Plain.{object_of};
 ghost use Rattle.ob_heap_spec.specs.Contents.{IsContent};
-ghost use Rattle.ob_machine_steps.specs.ImageTables.{contract_of_code, table_of_image};
+ghost use Rattle.ob_code_table.specs.ImageTables.{contract_of_code, table_of_image};
 ghost use Rattle.ob_rest_spec.specs.AtRest.{IsStoreAtRest, first_failing_object};
 ghost use Rattle.ob_rest_spec.specs.Failing.{refers_as_declared};
 ghost use Rattle.ob_owners.specs.Answers.{IsRestAnswer};

@@ -2,7 +2,7 @@
 ghost use Rattle.std.specs.Prelude.{◌≡◌, ◌&&◌, nat_eq, map, option_map, IfOk};
 ghost use Rattle.ob_heap.specs.Blocks.{joined};
 ghost use Rattle.ob_heap.specs.Contents.{content_of, named_of};
-ghost use Rattle.ob_machine_steps.specs.ImageTables.{table_of_image};
+ghost use Rattle.ob_code_table.specs.ImageTables.{table_of_image};
 ghost use Rattle.ob_rest_spec.specs.Modes.{is_owned};
 ghost use Rattle.ob_owners.specs.Scanning.{owning_in_handles};
 ghost use Rattle.ob_owners.specs.Spots.{place_of, owner_place};
@@ -86,7 +86,7 @@ pub struct Scan<'a> {
 
 impl<'a> Index for Scan<'a> {
     ghost use Rattle.ob_heap.specs.Contents.{content_of};
-    ghost use Rattle.ob_machine_steps.specs.ImageTables.{table_of_image};
+    ghost use Rattle.ob_code_table.specs.ImageTables.{table_of_image};
     ghost use Rattle.ob_owners.specs.Spots.{owner_place};
 
     ghost owner = { λ s n. owner_place (table_of_image s.code.now) (content_of s.content.now) n };

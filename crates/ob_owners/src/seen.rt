@@ -2,7 +2,7 @@
 ghost use Rattle.std.specs.Prelude.{◌≡◌, position};
 ghost use Rattle.ob_heap.specs.Plain.{object_of};
 ghost use Rattle.ob_heap_spec.specs.Objects.{seen_state, seen_between, is_in_states};
-ghost use Rattle.ob_machine_steps.specs.ImageTables.{contract_of_code, perm_of_code, table_of_image};
+ghost use Rattle.ob_code_table.specs.ImageTables.{contract_of_code, perm_of_code, table_of_image};
 ghost use Rattle.ob_perm.specs.Naming.{seen};
 ghost use Rattle.ob_rest_spec.specs.Failing.{is_asset};
 ghost use Rattle.ob_table.specs.Tables.{contract_at};
@@ -11,9 +11,9 @@ ghost use Rattle.ob_table_spec.specs.Conditions.{naming};
 ghost use Rattle.ob_table_spec.specs.Names.{same};
 ghost use Rattle.ob_table_spec.specs.WellFormed.{serves_as, is_implemented};
 
-use crate::values::{bits, has_bit, state_number};
 use ob_base::{ContractId, NO_STATE_BIT, OTHER_STATE_BIT};
 use ob_code::{CodeText, ContractCode, Image, PermCode};
+use ob_code_table::{bits, has_bit, state_number};
 use ob_heap::Object;
 
 // The number of the bit that marks an asset.

@@ -5,7 +5,7 @@ ghost use Rattle.ob_heap.specs.Blocks.{joined};
 ghost use Rattle.ob_heap.specs.Contents.{content_of, named_of};
 ghost use Rattle.ob_heap.specs.Plain.{object_of, handle_of};
 ghost use Rattle.ob_heap_spec.specs.Contents.{HandleName};
-ghost use Rattle.ob_machine_steps.specs.ImageTables.{contract_of_code, table_of_image};
+ghost use Rattle.ob_code_table.specs.ImageTables.{contract_of_code, table_of_image};
 ghost use Rattle.ob_rest_spec.specs.Modes.{is_shared};
 ghost use Rattle.ob_rest_spec.specs.References.{references_of, field_references};
 ghost use Rattle.ob_owners.specs.Referring.{field_reference_of, references_by};

@@ -3,54 +3,15 @@ ghost use Rattle.std.specs.Prelude.{◌≡◌, None, option_map, option_copied, 
 ghost use Rattle.ob_base.specs.declared.id.FieldId.{FieldId as FieldNumber};
 ghost use Rattle.ob_heap.specs.declared.value.Value.{Value as FieldValue};
 ghost use Rattle.ob_heap.specs.Plain.{object_of, value_of};
-ghost use Rattle.ob_heap_spec.specs.Objects.{state_number};
-ghost use Rattle.ob_machine_steps.specs.ImageTables.{contract_of_code};
-ghost use Rattle.ob_machine_steps.specs.Images.{bits_of, is_available_in};
-ghost use Rattle.ob_perm.specs.Masks.{states_of};
+ghost use Rattle.ob_code_table.specs.ImageTables.{contract_of_code};
+ghost use Rattle.ob_code_table.specs.Images.{is_available_in};
 ghost use Rattle.ob_rest_spec.specs.References.{available_value};
 ghost use Rattle.ob_owners.specs.Scanning.{entry_at};
 
-use ob_base::{FieldId, NO_STATE_BIT, StateId};
+use ob_base::FieldId;
 use ob_code::{ContractCode, FieldCode};
+use ob_code_table::is_available_in;
 use ob_heap::{Object, Value};
-
-// The number whose bits are those of a number with a sign.
-pub fn bits(number: i64) -> u64
-    ensures { result ≡ bits_of number }
-{
-    if number < 0 {
-        u64::MAX - (-(number + 1)) as u64
-    } else {
-        number as u64
-    }
-}
-
-// The number of a state, or that of no state.
-pub fn state_number(state: Option<StateId>) -> u8
-    ensures { result ≡ state_number state }
-{
-    match state {
-        Some(state) => state.0,
-        None => NO_STATE_BIT,
-    }
-}
-
-#[tactic(auto, unfolding(ob_perm::specs::Masks::states_of))]
-pub fn has_bit(set: u64, number: usize) -> bool
-    ensures { result ≡ states_of set number }
-{
-    if number >= 64 {
-        return false;
-    }
-    (set >> number) & 1 == 1
-}
-
-// Whether a field is available in a state.
-fn is_available(state: Option<StateId>, field: &FieldCode) -> bool
-    ensures { result ≡ is_available_in state field.now }
-{
-    has_bit(bits(field.available), state_number(state) as usize)
-}
 
 // The value of the field at a place, with the field's number.
 fn find(items: &[(FieldId, Value)], place: usize) -> Option<&(FieldId, Value)>
@@ -72,7 +33,7 @@ fn available_in<'a>(
 ) -> Option<&'a (FieldId, Value)>
     ensures { option_copied result ≡ (if is_available_in object.now.state field.now then entry_at place object.now.fields else None) }
 {
-    if is_available(object.state, field) {
+    if is_available_in(object.state, field) {
         return find(object.fields.as_slice(), place);
     }
     None

@@ -17,12 +17,13 @@ use Rattle.ob_heap_spec.specs.Values.{Value}
 use Rattle.ob_heap_spec.specs.Objects.{Object}
 use Rattle.ob_heap_spec.specs.Contents.{HandleName, Handle, Content, object_at}
 use Rattle.ob_heap_spec.specs.Worlds.{ReadItem, object_item, next_item, handle_item, World, AllRead}
+use Rattle.ob_heap_spec.specs.Handles.{NamedHandle, handle_at}
 use Rattle.ob_rest_spec.specs.Incoming.{IncomingReference, owner_of}
 use Rattle.ob_rest_spec.specs.Modes.{is_owned, is_shared}
 use Rattle.ob_invocation_spec.specs.Checks.{Check, check, refusal_of, reads_of}
 use Rattle.ob_invocation_spec.specs.Entering.{handle_in, put_after_use, put_into, puts_after, first_outside_use}
 use Rattle.ob_invocation_spec.specs.Entries.{HandleUse, Entry, entry_of_new, entry_of_call, used_for, use_of_argument, argument_uses, handle_uses}
-use Rattle.ob_invocation_spec.specs.Handles.{NamedHandle, handle_name, handle_at, mark_puts}
+use Rattle.ob_invocation_spec.specs.Handles.{handle_name, mark_puts}
 use Rattle.ob_invocation_spec.specs.Invocation.{still_world, disowned_world, giver_after, puts_of_give}
 use Rattle.ob_invocation_spec.specs.Refusals.{handle_check, is_no_contract, is_not_main, is_no_transaction, has_other_count, has_other_kind, lacks_permission, repeats_object, lacks_into, has_needless_into, making_checks, into_checks, found_checks, new_checks, call_checks, gives_too_much, give_checks}
 use Rattle.ob_invocation_spec.specs.Replies.{Refusal, no_contract, not_main, no_transaction, arg_count, arg_kind, permission, repeated, into_missing, into_needless, Reply, ok_nothing}
@@ -32,8 +33,8 @@ use Rattle.ob_invocation_laws.proofs.Used.{IntoPut, into_put}
 use Rattle.ob_code.specs.declared.image.Image.{Image}
 use Rattle.ob_machine_steps.specs.Configurations.{ended, aborted}
 use Rattle.ob_machine_steps.specs.Entries.{MachineEntry, Phase, started}
-use Rattle.ob_machine_steps.specs.ImageTables.{table_of_image}
-use Rattle.ob_machine_steps.specs.Meanings.{machine_invocation}
+use Rattle.ob_code_table.specs.ImageTables.{table_of_image}
+use Rattle.ob_machine_meaning.specs.Meanings.{machine_invocation}
 use Rattle.ob_machine_steps.specs.Measures.{steps_left, LeadsAhead}
 use Rattle.ob_machine_steps.specs.Runs.{Stop, over, run_in, after_steps, world_of}
 use Rattle.ob_machine_steps.specs.Runs as steps

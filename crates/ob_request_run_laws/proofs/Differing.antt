@@ -6,7 +6,7 @@ use Rattle.std.specs.Ordering.{eq_by_cmp}
 use Rattle.std.specs.FinMap.Entries.{find as find_key}
 use Rattle.ob_heap_spec.specs.Contents.{HandleName, Handle, Content, name_order}
 use Rattle.ob_heap_spec.specs.Worlds.{ReadItem, handle_item}
-use Rattle.ob_invocation_spec.specs.Handles.{NamedHandle}
+use Rattle.ob_heap_spec.specs.Handles.{NamedHandle}
 use Rattle.ob_invocation_laws.proofs.Handles.{found_put, found_gone}
 use Rattle.ob_invocation_laws.proofs.Kept.{one_name_tested}
 use Rattle.ob_request_run_spec.specs.Runs.{NameChange, Answer, changed_to, changed_by, content_after}

@@ -12,11 +12,12 @@ use Rattle.ob_heap_spec.specs.Objects.{Object}
 use Rattle.ob_heap_spec.specs.Contents.{Content}
 use Rattle.ob_heap_spec.specs.Worlds.{ReadItem, World, first_world}
 use Rattle.ob_heap_spec.specs.Marks.{mark_shared, comes_into}
+use Rattle.ob_heap_spec.specs.Handles.{handle_at}
 use Rattle.ob_rest_spec.specs.Incoming.{IncomingReference, owner_of}
 use Rattle.ob_invocation_spec.specs.Checks.{Check, refusal_of, reads_of}
 use Rattle.ob_invocation_spec.specs.Entering.{first_outside_use}
 use Rattle.ob_invocation_spec.specs.Entries.{HandleUse, Entry, entry_of_new, entry_of_call}
-use Rattle.ob_invocation_spec.specs.Handles.{handle_name, handle_at}
+use Rattle.ob_invocation_spec.specs.Handles.{handle_name}
 use Rattle.ob_invocation_spec.specs.Refusals.{handle_check, new_checks, call_checks, give_checks}
 use Rattle.ob_invocation_spec.specs.Replies.{Refusal}
 use Rattle.ob_invocation_spec.specs.Requests.{Operation, new_request, call_request, disown_request, give_request, see_request, owner_request, Request}
@@ -27,7 +28,7 @@ use Rattle.ob_code.specs.declared.image.ParamCode.{ParamCode}
 use Rattle.ob_code.specs.Code.{body_code}
 use Rattle.ob_machine_steps.specs.Configurations.{ended, aborted}
 use Rattle.ob_machine_steps.specs.Entries.{MachineEntry, lock_receiver, args_come_in, receiver_comes_in, comes_into_body, entry_world, Phase, started}
-use Rattle.ob_machine_steps.specs.ImageTables.{perm_of_code, type_of_param, table_of_image}
+use Rattle.ob_code_table.specs.ImageTables.{perm_of_code, type_of_param, table_of_image}
 use Rattle.ob_machine_steps.specs.Measures.{steps_left}
 use Rattle.ob_machine_steps.specs.Runs.{Stop, over, run_in}
 use Rattle.ob_machine_steps.specs.Runs as steps

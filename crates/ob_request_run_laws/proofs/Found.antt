@@ -18,9 +18,10 @@ use Rattle.ob_heap_spec.specs.Objects.{Object, is_in_states}
 use Rattle.ob_heap_spec.specs.Contents.{HandleName, Handle, Content, object_at}
 use Rattle.ob_heap_spec.specs.Dispatch.{transaction_named}
 use Rattle.ob_heap_spec.specs.Worlds.{ReadItem, object_item, handle_item, AllRead}
+use Rattle.ob_heap_spec.specs.Handles.{handle_at}
 use Rattle.ob_invocation_spec.specs.Entering.{is_outside_use, first_outside_use}
 use Rattle.ob_invocation_spec.specs.Entries.{HandleUse, Entry, mode_of_result, used_as_receiver, entry_of_new, entry_of_call, value_of, values_of, used_for, use_of_argument, argument_uses, handle_uses}
-use Rattle.ob_invocation_spec.specs.Handles.{handle_name, handle_at, handle_reads}
+use Rattle.ob_invocation_spec.specs.Handles.{handle_name, handle_reads}
 use Rattle.ob_invocation_spec.specs.Refusals.{is_of_type, is_argument_for, has_other_kind}
 use Rattle.ob_invocation_spec.specs.Requests.{Argument, int_argument, bool_argument, text_argument, handle_argument, other_argument, argument_names, NewRequest, CallRequest}
 use Rattle.ob_locality_laws.proofs.Lists.{none_is_some, some_is}

@@ -13,6 +13,7 @@ use Rattle.ob_heap_spec.specs.Objects.{Object}
 use Rattle.ob_heap_spec.specs.Contents.{HandleName, Handle, Content, object_at}
 use Rattle.ob_heap_spec.specs.Worlds.{ReadItem, World, AllRead, by_state, read_object}
 use Rattle.ob_heap_spec.specs.Marks.{mark_disowned}
+use Rattle.ob_heap_spec.specs.Handles.{NamedHandle, handle_at}
 use Rattle.ob_rest_spec.specs.AtRest.{IsStoreAtRest}
 use Rattle.ob_rest_spec.specs.Incoming.{StorePlace, stored_field, stored_handle, IncomingReference, owner_of}
 use Rattle.ob_rest_spec.specs.Modes.{is_owned}
@@ -20,7 +21,7 @@ use Rattle.ob_invocation_spec.specs.Checks.{Check, refusal_of, reads_of, with_fo
 use Rattle.ob_invocation_spec.specs.Checks as checks
 use Rattle.ob_invocation_spec.specs.Entering.{first_outside_use, handle_in, run_entry}
 use Rattle.ob_invocation_spec.specs.Entries.{HandleUse, Entry, entry_of_new, entry_of_call}
-use Rattle.ob_invocation_spec.specs.Handles.{NamedHandle, handle_name, handle_at, mark_puts}
+use Rattle.ob_invocation_spec.specs.Handles.{handle_name, mark_puts}
 use Rattle.ob_invocation_spec.specs.Invocation.{still_world, disowned_world, giver_after, puts_of_give, enter_entry}
 use Rattle.ob_invocation_spec.specs.Invocation as invocation
 use Rattle.ob_invocation_spec.specs.Refusals.{handle_check, new_checks, call_checks}
@@ -32,8 +33,9 @@ use Rattle.ob_invocation_laws.specs.Laws.{KeepsStoreAtRest}
 use Rattle.ob_code.specs.declared.image.Image.{Image}
 use Rattle.ob_machine_steps.specs.Configurations.{ended, aborted}
 use Rattle.ob_machine_steps.specs.Entries.{MachineEntry, Phase, starting, started}
-use Rattle.ob_machine_steps.specs.ImageTables.{table_of_image}
-use Rattle.ob_machine_steps.specs.Meanings.{outcome, machine_meaning, machine_invocation, entry_of_request}
+use Rattle.ob_code_table.specs.ImageTables.{table_of_image}
+use Rattle.ob_machine_meaning.specs.Meanings.{machine_meaning, machine_invocation, entry_of_request}
+use Rattle.ob_machine_steps.specs.Outcomes.{outcome}
 use Rattle.ob_machine_steps.specs.Measures.{steps_left, LeadsAhead}
 use Rattle.ob_machine_steps.specs.Runs.{Stop, over, run_in, after_steps}
 use Rattle.ob_machine_steps.specs.Runs as steps

@@ -22,9 +22,10 @@ use Rattle.ob_rest_spec.specs.Modes.{is_owned}
 use Rattle.ob_rest_spec.specs.References.{FieldReference, reference_of, available_value, references_of, field_references}
 use Rattle.ob_rest_spec.specs.Incoming.{IncomingReference, incoming_by_field, incoming_by_handle, fields_onto, handles_onto, incoming_references, owner_of}
 use Rattle.ob_rest_laws.proofs.Ways.{fails_by_none}
-use Rattle.ob_invocation_spec.specs.Handles.{NamedHandle}
+use Rattle.ob_heap_spec.specs.Handles.{NamedHandle}
+use Rattle.ob_heap_spec.proofs.Names.{names_total}
 use Rattle.ob_invocation_spec.specs.Showing.{place_item}
-use Rattle.ob_invocation_laws.proofs.Handles.{names_total, Before, head_of, tail_of, head_before, tail_pairs}
+use Rattle.ob_invocation_laws.proofs.Handles.{Before, head_of, tail_of, head_before, tail_pairs}
 use Rattle.ob_invocation_laws.proofs.Kept.{one_name_tested}
 use Rattle.ob_locality_laws.proofs.Lists.{none_is_some, some_is}
 use Rattle.ob_request_run_laws.specs.Laws.{AgreeOn}

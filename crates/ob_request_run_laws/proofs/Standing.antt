@@ -7,10 +7,11 @@ use Rattle.ob_heap_spec.specs.Values.{Value}
 use Rattle.ob_heap_spec.specs.Contents.{Handle, Content}
 use Rattle.ob_heap_spec.specs.Worlds.{ReadItem, World, first_world}
 use Rattle.ob_heap_spec.specs.Marks.{mark_shared, mark_disowned}
+use Rattle.ob_heap_spec.specs.Handles.{NamedHandle, put_handle, put_handles}
 use Rattle.ob_source_laws.proofs.Marking.{follows_mark_shared, follows_mark_disowned}
 use Rattle.ob_source_laws.proofs.Follows as source
 use Rattle.ob_rest_spec.specs.Modes.{is_shared, is_owned}
-use Rattle.ob_invocation_spec.specs.Handles.{NamedHandle, put_handle, put_handles, mark_put, mark_puts}
+use Rattle.ob_invocation_spec.specs.Handles.{mark_put, mark_puts}
 use Rattle.ob_invocation_spec.specs.Invocation.{done, done_with, still_world, disowned_world}
 use Rattle.ob_invocation_spec.specs.Replies.{Reply, invoked}
 use Rattle.ob_code.specs.declared.image.Image.{Image}

@@ -8,11 +8,12 @@ use Rattle.ob_heap_spec.specs.Values.{Value}
 use Rattle.ob_heap_spec.specs.Contents.{Content}
 use Rattle.ob_heap_spec.specs.Worlds.{ReadItem, World, AllRead, read_object}
 use Rattle.ob_heap_spec.specs.Marks.{mark_shared}
+use Rattle.ob_heap_spec.specs.Handles.{NamedHandle}
 use Rattle.ob_source_laws.proofs.Marking.{follows_mark_shared}
 use Rattle.ob_rest_spec.specs.Modes.{is_shared}
 use Rattle.ob_invocation_spec.specs.Entering.{put_after_use, put_into, puts_after}
 use Rattle.ob_invocation_spec.specs.Entries.{Entry}
-use Rattle.ob_invocation_spec.specs.Handles.{NamedHandle, mark_put, mark_puts}
+use Rattle.ob_invocation_spec.specs.Handles.{mark_put, mark_puts}
 use Rattle.ob_invocation_spec.specs.Replies.{Reply}
 use Rattle.ob_invocation_spec.specs.Replies as reply
 use Rattle.ob_invocation_spec.specs.Requests.{Request}
@@ -20,7 +21,7 @@ use Rattle.ob_invocation_spec.specs.Showing.{reply_of_result}
 use Rattle.ob_code.specs.declared.image.Image.{Image}
 use Rattle.ob_machine_steps.specs.Configurations.{ended, aborted}
 use Rattle.ob_machine_steps.specs.Entries.{Phase, starting, running}
-use Rattle.ob_machine_steps.specs.ImageTables.{table_of_image}
+use Rattle.ob_code_table.specs.ImageTables.{table_of_image}
 use Rattle.ob_machine_steps.specs.Measures.{steps_left}
 use Rattle.ob_machine_steps.specs.Runs.{Stop, over, run_in, world_of}
 use Rattle.ob_machine_steps.specs.Runs as steps

@@ -10,20 +10,22 @@ use Rattle.ob_heap_spec.specs.Values.{Value, reference}
 use Rattle.ob_heap_spec.specs.Objects.{Object}
 use Rattle.ob_heap_spec.specs.Contents.{HandleName, Handle, Content}
 use Rattle.ob_heap_spec.specs.Worlds.{ReadItem, World}
+use Rattle.ob_heap_spec.specs.Handles.{NamedHandle, handle_at, put_handle, put_handles}
+use Rattle.ob_heap_spec.proofs.Names.{names_total}
 use Rattle.ob_rest_spec.specs.AtRest.{IsStoreAtRest}
 use Rattle.ob_rest_spec.specs.Modes.{is_owned, is_shared}
 use Rattle.ob_invocation_spec.specs.Entering.{handle_in, put_after_use, put_into, puts_after}
 use Rattle.ob_invocation_spec.specs.Entries.{HandleUse, Entry, value_of, values_of, handle_uses}
-use Rattle.ob_invocation_spec.specs.Handles.{NamedHandle, handle_name, handle_at, put_handle, put_handles, mark_puts}
+use Rattle.ob_invocation_spec.specs.Handles.{handle_name, mark_puts}
 use Rattle.ob_invocation_spec.specs.Invocation.{done_with}
 use Rattle.ob_invocation_spec.specs.Replies.{Reply}
 use Rattle.ob_invocation_spec.specs.Requests.{Argument, int_argument, bool_argument, text_argument, handle_argument, other_argument}
 use Rattle.ob_invocation_laws.specs.Laws.{KeepsStoreAtRest}
-use Rattle.ob_invocation_laws.proofs.Handles.{names_total, found_put}
+use Rattle.ob_invocation_laws.proofs.Handles.{found_put}
 use Rattle.ob_invocation_laws.proofs.Marking.{same_length, puts_share}
 use Rattle.ob_invocation_laws.proofs.Shown.{found_object}
 use Rattle.ob_invocation_laws.proofs.Used.{IntoPut, into_put}
-use Rattle.ob_machine_steps.specs.Meanings.{entry_of_request}
+use Rattle.ob_machine_meaning.specs.Meanings.{entry_of_request}
 use Rattle.ob_locality_laws.specs.Locality.{AreThere, IsReceiverThere}
 use Rattle.ob_request_run_laws.proofs.Found.{AreUses, AreArgumentsOn, IsEntryOn, uses_on}
 

@@ -7,11 +7,12 @@ use Rattle.ob_table.specs.Tables.{ClassTable}
 use Rattle.ob_heap_spec.specs.Objects.{Object}
 use Rattle.ob_heap_spec.specs.Contents.{HandleName, Handle, Content}
 use Rattle.ob_heap_spec.specs.Worlds.{ReadItem, wrong, first_world}
+use Rattle.ob_heap_spec.specs.Handles.{handle_at, without_handle}
 use Rattle.ob_rest_spec.specs.Incoming.{IncomingReference, owner_of}
 use Rattle.ob_invocation_spec.specs.Checks.{Check, refusal_of, reads_of, unless_refused, refused_or, with_found}
 use Rattle.ob_invocation_spec.specs.Entering.{first_outside_use, run_entry, puts_after}
 use Rattle.ob_invocation_spec.specs.Entries.{HandleUse, Entry, values_of, entry_of_new, entry_of_call}
-use Rattle.ob_invocation_spec.specs.Handles.{handle_name, handle_at, without_handle}
+use Rattle.ob_invocation_spec.specs.Handles.{handle_name}
 use Rattle.ob_invocation_spec.specs.Invocation.{ended, after_entry_test, enter_entry, still_world, disowned_world, disown_handle, show_object, show_owner, show_owner_of, puts_of_give, give_from}
 use Rattle.ob_invocation_spec.specs.Invocation as invocation
 use Rattle.ob_invocation_spec.specs.Refusals.{handle_check, new_checks, call_checks, give_checks}
@@ -22,9 +23,10 @@ use Rattle.ob_code.specs.declared.image.Image.{Image}
 use Rattle.ob_machine_steps.specs.Configurations.{End}
 use Rattle.ob_machine_steps.specs.Configurations as machine
 use Rattle.ob_machine_steps.specs.Entries.{MachineEntry, Phase, starting, running, started}
-use Rattle.ob_machine_steps.specs.Images.{constructor_of}
-use Rattle.ob_machine_steps.specs.ImageTables.{table_of_image}
-use Rattle.ob_machine_steps.specs.Meanings.{outcome_of, outcome_at, outcome, entry_outcome, entry_of_constructor, machine_meaning, machine_invocation, entry_of_request}
+use Rattle.ob_code_table.specs.Images.{constructor_of}
+use Rattle.ob_code_table.specs.ImageTables.{table_of_image}
+use Rattle.ob_machine_meaning.specs.Meanings.{machine_meaning, machine_invocation, entry_of_request}
+use Rattle.ob_machine_steps.specs.Outcomes.{outcome_of, outcome_at, outcome, entry_outcome, entry_of_constructor}
 use Rattle.ob_machine_steps.specs.Measures.{steps_left, LeadsAhead}
 use Rattle.ob_machine_steps.specs.Runs.{Stop, over, after_steps, run_in, world_of}
 use Rattle.ob_machine_steps.specs.Runs as steps

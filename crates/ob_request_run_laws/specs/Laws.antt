@@ -5,16 +5,17 @@ use Rattle.ob_table.specs.Tables.{ClassTable}
 use Rattle.ob_heap_spec.specs.Contents.{HandleName, Handle, Content, object_at}
 use Rattle.ob_heap_spec.specs.Objects.{Object}
 use Rattle.ob_heap_spec.specs.Worlds.{ReadItem, object_item, next_item, handle_item, handles_full_item}
+use Rattle.ob_heap_spec.specs.Handles.{handle_at}
 use Rattle.ob_rest_spec.specs.AtRest.{IsStoreAtRest}
 use Rattle.ob_rest_spec.specs.Incoming.{owner_of}
-use Rattle.ob_invocation_spec.specs.Handles.{handle_name, handle_at, are_handles_full}
+use Rattle.ob_invocation_spec.specs.Handles.{handle_name, are_handles_full}
 use Rattle.ob_invocation_spec.specs.Replies.{Invocation, invoked, goes_wrong}
 use Rattle.ob_invocation_spec.specs.Requests.{Operation, owner_request, Request}
 use Rattle.ob_invocation_laws.specs.Laws.{KeepsStoreAtRest}
 use Rattle.ob_code.specs.declared.image.Image.{Image}
 use Rattle.ob_machine_steps.specs.Measures.{LeadsAhead}
-use Rattle.ob_machine_steps.specs.Meanings.{machine_invocation}
-use Rattle.ob_machine_steps.specs.ImageTables.{table_of_image}
+use Rattle.ob_machine_meaning.specs.Meanings.{machine_invocation}
+use Rattle.ob_code_table.specs.ImageTables.{table_of_image}
 use Rattle.ob_machine_steps.specs.Runs.{world_of}
 use Rattle.ob_locality_laws.specs.Locality.{Agree}
 use Rattle.ob_request_run_spec.specs.Held.{Held, found}

@@ -2,7 +2,8 @@
 use Rattle.std.specs.Prelude.{ℕ, List, [], ◌++◌, map, fold, Option, Some, None}
 use Rattle.ob_heap_spec.specs.Contents.{HandleName, Handle, Content}
 use Rattle.ob_heap_spec.specs.Worlds.{ReadItem, World}
-use Rattle.ob_invocation_spec.specs.Handles.{NamedHandle, put_handle, without_handle, mark_puts}
+use Rattle.ob_heap_spec.specs.Handles.{NamedHandle, put_handle, without_handle}
+use Rattle.ob_invocation_spec.specs.Handles.{mark_puts}
 use Rattle.ob_invocation_spec.specs.Replies.{Reply, Invoked}
 use Rattle.ob_invocation_spec.specs.Requests.{Request}
 use Rattle.ob_machine_steps.specs.Entries.{Phase}

@@ -5,11 +5,12 @@ use Rattle.ob_base.specs.declared.id.TxId.{TxId}
 use Rattle.ob_table.specs.Tables.{ClassTable}
 use Rattle.ob_heap_spec.specs.Contents.{HandleName, Handle, Content}
 use Rattle.ob_heap_spec.specs.Worlds.{ReadItem}
+use Rattle.ob_heap_spec.specs.Handles.{handle_at}
 use Rattle.ob_rest_spec.specs.Incoming.{IncomingReference, owner_of}
 use Rattle.ob_invocation_spec.specs.Checks.{Check, refusal_of, reads_of}
 use Rattle.ob_invocation_spec.specs.Entering.{first_outside_use, outside_cause, puts_after}
 use Rattle.ob_invocation_spec.specs.Entries.{HandleUse, Entry, entry_of_new, entry_of_call}
-use Rattle.ob_invocation_spec.specs.Handles.{handle_name, handle_at}
+use Rattle.ob_invocation_spec.specs.Handles.{handle_name}
 use Rattle.ob_invocation_spec.specs.Invocation.{still_world, disowned_world, puts_of_give}
 use Rattle.ob_invocation_spec.specs.Refusals.{handle_check, new_checks, call_checks, give_checks}
 use Rattle.ob_invocation_spec.specs.Replies.{Refusal, ok_nothing, ok_shown, ok_place, refused}
@@ -19,9 +20,9 @@ use Rattle.ob_invocation_spec.specs.Showing.{told_state, shown_at, shown_place, 
 use Rattle.ob_code.specs.declared.image.Image.{Image}
 use Rattle.ob_machine_steps.specs.Configurations.{End, ended, aborted}
 use Rattle.ob_machine_steps.specs.Entries.{MachineEntry, Phase, started}
-use Rattle.ob_machine_steps.specs.Images.{constructor_of}
-use Rattle.ob_machine_steps.specs.ImageTables.{table_of_image}
-use Rattle.ob_machine_steps.specs.Meanings.{entry_of_request}
+use Rattle.ob_code_table.specs.Images.{constructor_of}
+use Rattle.ob_code_table.specs.ImageTables.{table_of_image}
+use Rattle.ob_machine_meaning.specs.Meanings.{entry_of_request}
 use Rattle.ob_machine_steps.specs.Measures.{steps_left}
 use Rattle.ob_machine_steps.specs.Runs.{Stop, over, run_in, world_of}
 use Rattle.ob_machine_steps.specs.Runs as machine

@@ -1,6 +1,5 @@
 pub mod Ways
 pub mod OneOwner
-pub mod FirstFailing
 pub mod Owner
 pub mod Counting
 pub mod Changing

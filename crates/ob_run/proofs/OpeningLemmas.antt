@@ -12,7 +12,7 @@ use Rattle.ob_front.specs.Programs.{IsProgram}
 use Rattle.ob_heap.specs.Contents.{content_of}
 use Rattle.ob_io.specs.Causes.{Rose}
 use Rattle.ob_journal_spec.specs.Areas.{IsBlankOrBegun, area_of, begun}
-use Rattle.ob_machine_steps.specs.ImageTables.{table_of_image}
+use Rattle.ob_code_table.specs.ImageTables.{table_of_image}
 use Rattle.ob_rest_spec.specs.AtRest.{IsStoreAtRest}
 use Rattle.ob_silica.specs.Terms.{SilicaBody}
 use Rattle.ob_sound_code.specs.SoundCode.{IsSoundCode}

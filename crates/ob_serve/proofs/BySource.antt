@@ -4,7 +4,7 @@ use Rattle.ob_code.specs.Images.{image}
 use Rattle.ob_code.specs.declared.image.Image.{Image}
 use Rattle.ob_disk_spec.proofs.Moments.{weaker, throughout_to}
 use Rattle.ob_journal_spec.specs.Areas.{area_of}
-use Rattle.ob_machine_steps.specs.ImageTables.{table_of_image}
+use Rattle.ob_code_table.specs.ImageTables.{table_of_image}
 use Rattle.ob_rest_spec.specs.AtRest.{IsStoreAtRest}
 use Rattle.ob_silica_steps.specs.Configurations.{SilicaProgram}
 use Rattle.ob_store.specs.Stores.{program_of}

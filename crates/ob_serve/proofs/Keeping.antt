@@ -12,8 +12,8 @@ use Rattle.ob_invocation_spec.specs.Replies.{Invocation, invoked, goes_wrong, is
 use Rattle.ob_invocation_spec.specs.SourceInvocation.{source_invocation, source_meaning}
 use Rattle.ob_invocation_laws.specs.Laws.{LeavesUnlessDone, KeepsStoreAtRest}
 use Rattle.ob_invocation_laws.proofs.Leaving.{leaves}
-use Rattle.ob_machine_steps.specs.ImageTables.{table_of_image}
-use Rattle.ob_machine_steps.specs.Meanings.{machine_invocation}
+use Rattle.ob_code_table.specs.ImageTables.{table_of_image}
+use Rattle.ob_machine_meaning.specs.Meanings.{machine_invocation}
 use Rattle.ob_silica_steps.specs.Configurations.{SilicaProgram}
 use Rattle.ob_sound_code.specs.SoundCode.{SameInvocation, IsSoundImage, IsSoundCode}
 use Rattle.ob_exec_handles.specs.Coming.{IsInLimits}

@@ -16,7 +16,7 @@ use Rattle.ob_heap.specs.declared.delta.Delta.{Delta}
 use Rattle.ob_rest_spec.specs.AtRest.{IsStoreAtRest}
 use Rattle.ob_invocation_spec.specs.Replies.{Invoked, Invocation, invoked, goes_wrong}
 use Rattle.ob_invocation_laws.specs.Laws.{KeepsStoreAtRest}
-use Rattle.ob_machine_steps.specs.ImageTables.{table_of_image}
+use Rattle.ob_code_table.specs.ImageTables.{table_of_image}
 use Rattle.ob_exec_handles.specs.Coming.{ComesTo}
 use Rattle.ob_journal.specs.Journals.{area_size}
 use Rattle.ob_journal.specs.declared.journal.Journal.{Journal}

@@ -6,7 +6,7 @@ use Rattle.ob_table.specs.Tables.{ClassTable}
 use Rattle.ob_code.specs.declared.image.Image.{Image}
 use Rattle.ob_heap_spec.specs.Contents.{Content}
 use Rattle.ob_rest_spec.specs.AtRest.{IsStoreAtRest}
-use Rattle.ob_machine_steps.specs.ImageTables.{table_of_image}
+use Rattle.ob_code_table.specs.ImageTables.{table_of_image}
 use Rattle.ob_silica_steps.specs.Configurations.{SilicaProgram}
 use Rattle.ob_emit_laws.proofs.Tables.{tables_agree}
 use Rattle.ob_emit_laws.specs.Names.{contract_without_names, without_names}

@@ -8,7 +8,7 @@ use Rattle.std.specs.Str.{bytes_eq}
 use Rattle.ob_table.specs.Tables.{ClassTable}
 use Rattle.ob_heap_spec.specs.Objects.{Object}
 use Rattle.ob_heap_spec.specs.Contents.{HandleName, Handle, Content, object_at}
-use Rattle.ob_invocation_spec.specs.Handles.{NamedHandle, handle_at, put_handles}
+use Rattle.ob_heap_spec.specs.Handles.{NamedHandle, handle_at, put_handles}
 use Rattle.ob_store_spec.specs.Payloads.{StoredObject, object, held}
 use Rattle.ob_store_spec.specs.Between.{stored_object, stored_from, is_stored_so, is_held_so, changed_objects, changed_handles, changes_between}
 use Rattle.ob_store_spec.specs.Settling.{is_empty, say_nothing}

@@ -6,8 +6,8 @@ use Rattle.ob_heap_spec.specs.Contents.{Content}
 use Rattle.ob_invocation_spec.specs.Replies.{Invocation, invoked, goes_wrong}
 use Rattle.ob_invocation_spec.specs.Requests as asked
 use Rattle.ob_invocation_spec.specs.SourceInvocation.{source_invocation}
-use Rattle.ob_machine_steps.specs.ImageTables.{table_of_image}
-use Rattle.ob_machine_steps.specs.Meanings.{machine_invocation}
+use Rattle.ob_code_table.specs.ImageTables.{table_of_image}
+use Rattle.ob_machine_meaning.specs.Meanings.{machine_invocation}
 use Rattle.ob_store_spec.specs.Settling.{settled}
 use Rattle.ob_store_spec.specs.Stores.{StoreState}
 use Rattle.ob_wire.specs.Meanings.{request_of, answer_of}

@@ -3,7 +3,7 @@ use Rattle.std.specs.Prelude.{◌≡◌, ℕ, Bool, true, false, ⊤, List, [], 
 use Rattle.ob_table.specs.Tables.{ClassTable}
 use Rattle.ob_table_spec.specs.Conditions.{IsClassTable}
 use Rattle.ob_code.specs.declared.image.Image.{Image}
-use Rattle.ob_machine_steps.specs.ImageTables.{table_of_image}
+use Rattle.ob_code_table.specs.ImageTables.{table_of_image}
 use Rattle.ob_emit_spec.specs.EmittedImages.{image_of}
 use Rattle.ob_rest_spec.specs.AtRest.{IsStoreAtRest, EachAssetHasOneOwner}
 use Rattle.ob_silica_steps.specs.Configurations.{SilicaProgram}

@@ -1,3 +1,4 @@
+pub mod Emitted
 pub mod Marks
 pub mod Meanings
 pub mod Running

@@ -3,8 +3,9 @@ use Rattle.std.proofs.Common.{Bool, true, false, List, [], ◌∷◌}
 use Rattle.std.specs.Prelude.{if◌then◌else◌}
 use Rattle.ob_heap_spec.specs.Worlds.{World, SameWorld}
 use Rattle.ob_heap_spec.specs.Marks.{mark_shared}
+use Rattle.ob_heap_spec.specs.Handles.{NamedHandle}
 use Rattle.ob_rest_spec.specs.Modes.{is_shared}
-use Rattle.ob_invocation_spec.specs.Handles.{NamedHandle, mark_put, mark_puts}
+use Rattle.ob_invocation_spec.specs.Handles.{mark_put, mark_puts}
 use Rattle.ob_emit_correct.proofs.Worlds.{same_shared}
 
 marked_if : (b : Bool) (h : NamedHandle) (w v : World) → SameWorld w v

@@ -6,12 +6,12 @@ use Rattle.ob_table.specs.Tables.{ClassTable}
 use Rattle.ob_heap_spec.specs.Values.{Value}
 use Rattle.ob_heap_spec.specs.Contents.{Content}
 use Rattle.ob_heap_spec.specs.Worlds.{World, ReadItem, ReadSame, SameWorld, SameSpent, RunOutcome, gives, aborts, wrong}
+use Rattle.ob_heap_spec.specs.Handles.{put_handles}
 use Rattle.ob_source_meaning.proofs.Same.{read_same}
 use Rattle.ob_invocation_spec.specs.Requests.{Operation, Request, HasLabels, new_request, call_request, disown_request, give_request, see_request, owner_request}
 use Rattle.ob_invocation_spec.specs.Replies.{Invocation, invoked, goes_wrong, Refusal}
 use Rattle.ob_invocation_spec.specs.Entries.{HandleUse, Entry, entry_of_new, entry_of_call}
 use Rattle.ob_invocation_spec.specs.Checks.{refusal_of, reads_of, refused_or, with_found}
-use Rattle.ob_invocation_spec.specs.Handles.{put_handles}
 use Rattle.ob_invocation_spec.specs.Refusals.{new_checks, call_checks}
 use Rattle.ob_invocation_spec.specs.Entering.{Meaning, first_outside_use, run_entry, puts_after}
 use Rattle.ob_invocation_spec.specs.Invocation.{ended, after_entry_test, enter_entry, invoke, invoke_operation}

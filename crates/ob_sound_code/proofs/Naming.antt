@@ -12,7 +12,7 @@ use Rattle.ob_invocation_laws.specs.Laws.{KeepsStoreAtRest}
 use Rattle.ob_soundness_laws.specs.Requests.{IsEntered, by_request_new, by_request_call}
 use Rattle.ob_code.specs.declared.image.Image.{Image}
 use Rattle.ob_machine_steps.specs.Entries.{started}
-use Rattle.ob_machine_steps.specs.Meanings.{machine_invocation, entry_of_request}
+use Rattle.ob_machine_meaning.specs.Meanings.{machine_invocation, entry_of_request}
 use Rattle.ob_machine_laws.specs.Laws.{IsSoundRun}
 use Rattle.ob_emit_laws.specs.Names.{without_names}
 use Rattle.ob_emit_laws.proofs.Entries.{entry_without_names, entry_new_unnamed, entry_call_unnamed, new_checks_unnamed, call_checks_unnamed}

@@ -5,7 +5,7 @@ use Rattle.ob_code.specs.declared.image.Image.{Image}
 use Rattle.ob_machine_steps.specs.Configurations.{Configuration, Next, goes, stops, End}
 use Rattle.ob_machine_steps.specs.Entries.{Phase, running, next_step, HasStep}
 use Rattle.ob_machine_steps.specs.Measures.{LeadsAhead, steps_left}
-use Rattle.ob_machine_steps.specs.Meanings.{outcome, outcome_at, outcome_of}
+use Rattle.ob_machine_steps.specs.Outcomes.{outcome, outcome_at, outcome_of}
 use Rattle.ob_machine_steps.specs.Runs.{paused, over, after_step, after_steps}
 use Rattle.ob_machine_laws.specs.Laws.{IsSoundRun}
 use Rattle.ob_machine_laws.proofs.Ending.{run_ends}

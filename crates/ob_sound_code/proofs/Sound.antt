@@ -35,15 +35,17 @@ use Rattle.ob_soundness_laws.proofs.Whole.{ends_as}
 use Rattle.ob_code.specs.declared.image.Image.{Image}
 use Rattle.ob_machine_steps.specs.Configurations as machine
 use Rattle.ob_machine_steps.specs.Entries.{MachineEntry, Phase, starting, started, marked_world, lock_receiver}
-use Rattle.ob_machine_steps.specs.Images.{constructor_of}
+use Rattle.ob_code_table.specs.Images.{constructor_of}
 use Rattle.ob_base.specs.declared.id.TxId.{TxId}
 use Rattle.ob_heap_spec.specs.Objects.{Object}
 use Rattle.ob_silica_steps.specs.Starting.{first_notes}
 use Rattle.ob_machine_steps.specs.Measures.{LeadsAhead}
-use Rattle.ob_machine_steps.specs.Meanings.{outcome, machine_meaning, entry_of_request}
+use Rattle.ob_machine_meaning.specs.Meanings.{machine_meaning, entry_of_request}
+use Rattle.ob_machine_meaning.specs.Laws.{HasItsBody}
+use Rattle.ob_machine_meaning.proofs.Requests.{requests_run}
+use Rattle.ob_machine_steps.specs.Outcomes.{outcome}
 use Rattle.ob_machine_steps.specs.Runs.{over, after_steps}
-use Rattle.ob_machine_laws.specs.Laws.{IsSoundRun, HasItsBody}
-use Rattle.ob_machine_laws.proofs.Requests.{requests_run}
+use Rattle.ob_machine_laws.specs.Laws.{IsSoundRun}
 use Rattle.ob_silica_steps.specs.Calling.{constructor_id}
 use Rattle.ob_emit_correct.proofs.Agreeing.{constructor_found}
 use Rattle.ob_emit_correct.specs.Law.{code_of, EndsAlike}

@@ -9,7 +9,7 @@ use Rattle.ob_invocation_laws.specs.Laws.{KeepsStoreAtRest}
 use Rattle.ob_soundness_laws.proofs.remaining.Programs.{lowered_has_terms}
 use Rattle.ob_emit_spec.specs.EmittedImages.{image_of}
 use Rattle.ob_emit_laws.proofs.Tables.{tables_agree}
-use Rattle.ob_emit_laws.proofs.Whole.{by_emitted_code}
+use Rattle.ob_sound_code.proofs.Emitted.{by_emitted_code}
 use Rattle.ob_sound_code.specs.SoundCode.{SameInvocation, IsSoundBy, CheckedImagesAreSound, CheckedCodeIsSound, CompiledCodeIsSound}
 use Rattle.ob_sound_code.proofs.Naming.{sound_without_names}
 use Rattle.ob_sound_code.proofs.Sound.{runs_sound, requests_alike, requests_rest}

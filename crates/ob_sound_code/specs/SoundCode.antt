@@ -17,8 +17,8 @@ use Rattle.ob_coherent_spec.specs.Remaining.{IsCheckedBody, IsCheckedProgram}
 use Rattle.ob_soundness_laws.specs.Requests.{IsEntered}
 use Rattle.ob_code.specs.declared.image.Image.{Image}
 use Rattle.ob_machine_steps.specs.Entries.{started}
-use Rattle.ob_machine_steps.specs.ImageTables.{table_of_image}
-use Rattle.ob_machine_steps.specs.Meanings.{machine_invocation, entry_of_request}
+use Rattle.ob_code_table.specs.ImageTables.{table_of_image}
+use Rattle.ob_machine_meaning.specs.Meanings.{machine_invocation, entry_of_request}
 use Rattle.ob_machine_laws.specs.Laws.{IsSoundRun}
 use Rattle.ob_emit_spec.specs.EmittedImages.{image_of}
 

@@ -2,7 +2,13 @@
 //! end that the source meaning says.
 #![tactic(auto)]
 
+ghost use Rattle.ob_sound_code.specs.Emitted.{InvocationsByEmittedCode};
 ghost use Rattle.ob_sound_code.specs.SoundCode.{CheckedImagesAreSound, CheckedCodeIsSound, CompiledCodeIsSound};
+
+/// The invocation by emitted code is the one by the program's own class table, with what a `new` and a `call` do by the code.
+pub fn invocations_by_emitted_code()
+    ensures { InvocationsByEmittedCode }
+{}
 
 /// The image of a class table and of terms that are well-formed and derive is sound: the run of what a request enters in a store at rest
 /// always has a next step, and each request leaves the store at rest. No source is asked for.

@@ -14,6 +14,7 @@ use Rattle.ob_table_spec.specs.Conditions.{IsParam}
 use Rattle.ob_places_laws.proofs.Tables.{each_at}
 use Rattle.ob_heap_spec.specs.Values.{Value, reference, referred}
 use Rattle.ob_heap_spec.specs.Contents.{Content, IsHandle, object_at}
+use Rattle.ob_heap_spec.specs.Handles.{NamedHandle, handle_at, put_handles}
 use Rattle.ob_silica_steps.specs.Cells.{Cell, value_in, object_in, permission_in}
 use Rattle.ob_silica_steps.specs.Here.{self_of}
 use Rattle.ob_soundness_laws.proofs.counting.Cells.{cell_counted}
@@ -34,7 +35,7 @@ use Rattle.ob_rest_spec.specs.AtRest.{IsStoreAtRest}
 use Rattle.ob_rest_laws.specs.Laws.{handle_owners, is_shared_by_handle}
 use Rattle.ob_rest_laws.proofs.Ways.{fails_by_none}
 use Rattle.ob_rest_laws.proofs.Changing.{is_shared_by_field, shared_places}
-use Rattle.ob_invocation_spec.specs.Handles.{NamedHandle, handle_at, put_handles, serves}
+use Rattle.ob_invocation_spec.specs.Handles.{serves}
 use Rattle.ob_invocation_spec.specs.Entries.{HandleUse, Entry, mode_of_result, handle_uses, argument_uses, values_of, used_as_receiver}
 use Rattle.ob_invocation_spec.specs.Entering.{put_after_use, puts_after, put_into, is_locked_at_entry}
 use Rattle.ob_invocation_laws.specs.Laws.{returned_owners, put_owners, puts_of_uses, kept_handles}

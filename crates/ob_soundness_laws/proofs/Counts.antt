@@ -13,7 +13,7 @@ use Rattle.ob_rest_laws.specs.Laws.{handle_owners}
 use Rattle.ob_perm.specs.Masks.{held}
 use Rattle.ob_base.specs.declared.permission.Mode.{Mode}
 use Rattle.ob_base.specs.declared.permission.Mode.TheVariants.{Owned, Shared, Unowned}
-use Rattle.ob_invocation_spec.specs.Handles.{NamedHandle}
+use Rattle.ob_heap_spec.specs.Handles.{NamedHandle}
 use Rattle.ob_invocation_spec.specs.Entries.{HandleUse}
 use Rattle.ob_invocation_laws.specs.Laws.{is_put, kept_handles, returned_owners, owners_in}
 use Rattle.ob_soundness_laws.specs.Requests.{note_in_run, any_state}

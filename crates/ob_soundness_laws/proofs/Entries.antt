@@ -12,8 +12,9 @@ use Rattle.ob_table_spec.specs.WellFormed.{constructor_at}
 use Rattle.ob_heap_spec.specs.Values.{Value}
 use Rattle.ob_heap_spec.specs.Contents.{Content, object_at}
 use Rattle.ob_heap_spec.specs.Dispatch.{transaction_named}
+use Rattle.ob_heap_spec.specs.Handles.{handle_at}
 use Rattle.ob_invocation_spec.specs.Requests.{Argument, NewRequest, CallRequest, call_request, HasLabels}
-use Rattle.ob_invocation_spec.specs.Handles.{handle_name, handle_at}
+use Rattle.ob_invocation_spec.specs.Handles.{handle_name}
 use Rattle.ob_invocation_spec.specs.Entries.{Entry, entry_of_new, entry_of_call, value_of, values_of}
 use Rattle.ob_invocation_spec.specs.Checks.{Check, check, refusal_of}
 use Rattle.ob_invocation_spec.specs.Refusals.{argument_checks, is_of_type, is_argument_for, entry_checks, found_checks, new_checks, call_checks, is_no_contract, is_not_main, is_no_transaction}

@@ -18,6 +18,7 @@ use Rattle.ob_table.specs.declared.contract.ResolvedType.TheVariants.{Int, Bool 
 use Rattle.ob_table_spec.specs.Conditions.{IsParam, IsExitOf, MayLeave}
 use Rattle.ob_heap_spec.specs.Values.{Value, reference}
 use Rattle.ob_heap_spec.specs.Contents.{Handle, Content}
+use Rattle.ob_heap_spec.specs.Handles.{handle_at}
 use Rattle.ob_silica_steps.specs.Cells.{Cell}
 use Rattle.ob_silica_steps.specs.Configurations.{SlotCells, Configuration}
 use Rattle.ob_coherent_spec.specs.Counting.{in_cell}
@@ -26,7 +27,7 @@ use Rattle.ob_coherent_spec.specs.Coherent.{LeavesWith}
 use Rattle.ob_soundness_laws.proofs.counting.Cells.{cell_counted, counted_cell, cell_other, shared_none, cell_most}
 use Rattle.ob_rest_spec.specs.Modes.{is_owned}
 use Rattle.ob_invocation_spec.specs.Requests.{Argument, int_argument, bool_argument, text_argument, handle_argument, other_argument}
-use Rattle.ob_invocation_spec.specs.Handles.{handle_name, handle_at, serves}
+use Rattle.ob_invocation_spec.specs.Handles.{handle_name, serves}
 use Rattle.ob_invocation_spec.specs.Entries.{HandleUse, value_of, used_for, use_of_argument}
 use Rattle.ob_invocation_spec.specs.Entering.{put_after_use}
 use Rattle.ob_invocation_spec.specs.Refusals.{is_of_type}

@@ -16,6 +16,7 @@ use Rattle.ob_table.specs.declared.contract.ResolvedType.TheVariants.{Reference}
 use Rattle.ob_table_spec.specs.Conditions.{IsParam, IsExitOf, MayLeave}
 use Rattle.ob_heap_spec.specs.Values.{Value, reference}
 use Rattle.ob_heap_spec.specs.Contents.{Content}
+use Rattle.ob_heap_spec.specs.Handles.{NamedHandle}
 use Rattle.ob_silica_steps.specs.Cells.{Cell}
 use Rattle.ob_silica_steps.specs.Configurations.{Configuration}
 use Rattle.ob_coherent_spec.specs.Counting.{nth_object}
@@ -24,7 +25,6 @@ use Rattle.ob_coherent_spec.specs.Coherent.{LeavesWith}
 use Rattle.ob_rest_spec.specs.Modes.{is_owned, is_shared}
 use Rattle.ob_rest_laws.specs.Laws.{is_shared_by_handle}
 use Rattle.ob_invocation_spec.specs.Requests.{Argument}
-use Rattle.ob_invocation_spec.specs.Handles.{NamedHandle}
 use Rattle.ob_invocation_spec.specs.Entries.{HandleUse, use_of_argument}
 use Rattle.ob_invocation_spec.specs.Entering.{put_after_use}
 use Rattle.ob_invocation_laws.specs.Laws.{puts_of_uses}

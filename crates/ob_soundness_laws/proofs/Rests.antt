@@ -11,6 +11,8 @@ use Rattle.ob_heap_spec.specs.Values.{Value, reference}
 use Rattle.ob_heap_spec.specs.Objects.{Object}
 use Rattle.ob_heap_spec.specs.Contents.{Content, IsObject}
 use Rattle.ob_heap_spec.specs.Worlds.{World}
+use Rattle.ob_heap_spec.specs.Handles.{NamedHandle, put_handles}
+use Rattle.ob_heap_spec.proofs.Items.{all_of}
 use Rattle.ob_silica_steps.specs.Cells.{Cell, value_in}
 use Rattle.ob_silica_steps.specs.Configurations.{SilicaProgram, How, by_receiver, by_this, by_new, Configuration}
 use Rattle.ob_silica_steps.specs.Here.{self_of}
@@ -30,10 +32,9 @@ use Rattle.ob_soundness_laws.proofs.stores.Fields.{owning, in_run_fields}
 use Rattle.ob_soundness_laws.proofs.stores.Handles.{store_owners}
 use Rattle.ob_soundness_laws.proofs.stores.Ending.{HeldAsDeclared, ended_owning_less, ended_owning_same}
 use Rattle.ob_invocation_spec.specs.Requests.{argument_names}
-use Rattle.ob_invocation_spec.specs.Handles.{NamedHandle, put_handles, mark_puts}
+use Rattle.ob_invocation_spec.specs.Handles.{mark_puts}
 use Rattle.ob_invocation_spec.specs.Entries.{HandleUse, Entry}
 use Rattle.ob_invocation_spec.specs.Entering.{puts_after}
-use Rattle.ob_invocation_laws.proofs.Marking.{all_of}
 use Rattle.ob_invocation_laws.proofs.Entered.{of_new, of_call}
 use Rattle.ob_invocation_laws.proofs.Lent.{puts_marked}
 use Rattle.ob_invocation_laws.proofs.Puts.{puts_shared}

@@ -8,7 +8,7 @@ use Rattle.ob_heap_spec.specs.Contents.{Content, empty_content}
 use Rattle.ob_journal_spec.specs.Areas.{Journaled, next_gate}
 use Rattle.ob_journal.specs.Journals.{journaled, area_size, Holds}
 use Rattle.ob_journal.specs.declared.journal.Journal.{Journal}
-use Rattle.ob_machine_steps.specs.ImageTables.{table_of_image}
+use Rattle.ob_code_table.specs.ImageTables.{table_of_image}
 use Rattle.ob_store_spec.specs.Changes.{LeadFrom}
 use Rattle.ob_store_spec.specs.Stores.{StoreProgram, StoreState}
 use Rattle.ob_store.specs.declared.store.Store.{Store}

@@ -9,7 +9,7 @@ ghost use Rattle.ob_journal_spec.specs.Areas.{IsBlankOrBegun, area_of, size_of};
 ghost use Rattle.ob_journal_spec.specs.Differing.{DifferAt};
 ghost use Rattle.ob_journal.specs.Moments.{IsFresh};
 ghost use Rattle.ob_journal.specs.Surveys.{payload_of};
-ghost use Rattle.ob_machine_steps.specs.ImageTables.{table_of_image};
+ghost use Rattle.ob_code_table.specs.ImageTables.{table_of_image};
 ghost use Rattle.ob_store_spec.specs.Payloads.{Changes};
 ghost use Rattle.ob_store_spec.specs.Changes.{SaysChanges, with_changes};
 ghost use Rattle.ob_store.specs.Stores.{program_of, StandsOn};

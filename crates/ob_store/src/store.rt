@@ -9,7 +9,7 @@ ghost use Rattle.ob_heap_spec.specs.Contents.{IsContent, empty_content};
 ghost use Rattle.ob_io.specs.Causes.{HasCause};
 ghost use Rattle.ob_journal_spec.specs.Areas.{IsBlank, IsBlankOrBegun, area_of};
 ghost use Rattle.ob_code.specs.Images.{image};
-ghost use Rattle.ob_machine_steps.specs.ImageTables.{table_of_image};
+ghost use Rattle.ob_code_table.specs.ImageTables.{table_of_image};
 ghost use Rattle.ob_rest_spec.specs.AtRest.{IsStoreAtRest};
 ghost use Rattle.ob_store_laws.specs.Recorded.{content_with, IsStorable};
 ghost use Rattle.ob_store_spec.specs.Settling.{settled};

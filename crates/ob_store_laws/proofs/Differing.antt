@@ -11,9 +11,9 @@ use Rattle.std.proofs.lemmas.Slice.Eq.{bytes_eq-Decides}
 use Rattle.ob_table.specs.Tables.{ClassTable}
 use Rattle.ob_heap_spec.specs.Objects.{Object}
 use Rattle.ob_heap_spec.specs.Contents.{HandleName, Handle, Content, name_order}
-use Rattle.ob_invocation_spec.specs.Handles.{NamedHandle}
-use Rattle.ob_invocation_laws.proofs.Handles.{names_total}
-use Rattle.ob_invocation_laws.proofs.Kept.{one_name}
+use Rattle.ob_heap_spec.specs.Handles.{NamedHandle}
+use Rattle.ob_heap_spec.proofs.Names.{names_total}
+use Rattle.ob_heap_spec.proofs.Names.{one_name}
 use Rattle.ob_store_spec.specs.Payloads.{StoredObject, object, held}
 use Rattle.ob_store_spec.specs.Changes.{object_of, with_object, with_change, AreNext}
 use Rattle.ob_store_spec.specs.Between.{stored_object, stored_from, is_stored_so, is_held_so}

@@ -26,7 +26,7 @@ use Rattle.ob_code.specs.Images.{mode}
 use Rattle.ob_heap_spec.specs.Values.{Value, Numbered, int_value, bool_value, text_value, reference}
 use Rattle.ob_heap_spec.specs.Objects.{Object, is_available}
 use Rattle.ob_heap_spec.specs.Contents.{HandleName, Handle, IsValueOf, IsStateOf, IsObjectOf, IsObject}
-use Rattle.ob_invocation_laws.proofs.Marking.{item_of}
+use Rattle.ob_heap_spec.proofs.Items.{item_of}
 use Rattle.ob_store_spec.specs.Payloads.{state, marks, truth, value, object_head, object, hold, held, handle}
 use Rattle.ob_store_spec.specs.Between.{values_from, stored_object}
 use Rattle.ob_store_laws.specs.Recorded.{IsStorable}

@@ -14,9 +14,9 @@ use Rattle.ob_heap.specs.Deltas.{label_order, with_handles}
 use Rattle.ob_heap.specs.Deltas as kept
 use Rattle.ob_heap.proofs.LookLemmas.{plain_with, plain_without}
 use Rattle.ob_heap_spec.specs.Contents.{HandleName, Handle as PlainHandle, Content, name_order}
-use Rattle.ob_invocation_spec.specs.Handles.{NamedHandle, put_handle, put_handles}
-use Rattle.ob_invocation_laws.proofs.Handles.{names_total}
-use Rattle.ob_invocation_laws.proofs.Kept.{one_name}
+use Rattle.ob_heap_spec.specs.Handles.{NamedHandle, put_handle, put_handles}
+use Rattle.ob_heap_spec.proofs.Names.{names_total}
+use Rattle.ob_heap_spec.proofs.Names.{one_name}
 use Rattle.ob_store_spec.specs.Payloads.{held}
 use Rattle.ob_store_spec.specs.Changes.{with_change}
 use Rattle.ob_store_spec.specs.Between.{is_held_so}

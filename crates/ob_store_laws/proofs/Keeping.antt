@@ -14,8 +14,8 @@ use Rattle.ob_table.specs.declared.contract.ResolvedType.TheVariants.{Int, Bool 
 use Rattle.ob_heap_spec.specs.Values.{Value, int_value, bool_value, text_value, reference}
 use Rattle.ob_heap_spec.specs.Objects.{Object}
 use Rattle.ob_heap_spec.specs.Contents.{HandleName, Handle, Content, IsValueOf, IsObjectOf, IsObject, IsHandle, name_order}
-use Rattle.ob_invocation_spec.specs.Handles.{NamedHandle}
-use Rattle.ob_invocation_laws.proofs.Kept.{one_name}
+use Rattle.ob_heap_spec.specs.Handles.{NamedHandle}
+use Rattle.ob_heap_spec.proofs.Names.{one_name}
 use Rattle.ob_store_spec.specs.Payloads.{StoredObject}
 use Rattle.ob_store_spec.specs.Changes.{object_of, with_object, with_change, with_changes, IsHandleChange}
 use Rattle.ob_store_laws.specs.Laws.{ChangesKeepContents}

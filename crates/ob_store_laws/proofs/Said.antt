@@ -14,9 +14,9 @@ use Rattle.ob_table.specs.Tables.{ClassTable}
 use Rattle.ob_heap_spec.specs.Objects.{Object}
 use Rattle.ob_heap_spec.specs.Contents.{HandleName, Content, IsObject, IsHandle, name_order}
 use Rattle.ob_rest_spec.specs.AtRest.{IsStoreAtRest}
-use Rattle.ob_invocation_spec.specs.Handles.{NamedHandle, put_handle, put_handles}
-use Rattle.ob_invocation_laws.proofs.Handles.{names_total}
-use Rattle.ob_invocation_laws.proofs.Marking.{item_of}
+use Rattle.ob_heap_spec.specs.Handles.{NamedHandle, put_handle, put_handles}
+use Rattle.ob_heap_spec.proofs.Names.{names_total}
+use Rattle.ob_heap_spec.proofs.Items.{item_of}
 use Rattle.ob_store_spec.specs.Payloads.{Changes, object, held, handle, payload}
 use Rattle.ob_store_spec.specs.Changes.{object_of, with_changes, IsHandleChange, AreChangesOf}
 use Rattle.ob_store_spec.specs.Between.{stored_object, stored_from, changes_between}

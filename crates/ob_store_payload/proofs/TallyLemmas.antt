@@ -14,8 +14,8 @@ use Rattle.ob_heap.specs.Plain.{handle_of}
 use Rattle.ob_heap.specs.declared.object.Handle.{Handle}
 use Rattle.ob_heap.proofs.LookLemmas.{plain_order}
 use Rattle.ob_heap_spec.specs.Contents.{HandleName, Handle as PlainHandle, name_order}
-use Rattle.ob_invocation_spec.specs.Handles.{NamedHandle, without_handle}
-use Rattle.ob_invocation_laws.proofs.Handles.{names_total}
+use Rattle.ob_heap_spec.specs.Handles.{NamedHandle, without_handle}
+use Rattle.ob_heap_spec.proofs.Names.{names_total}
 use Rattle.ob_owners.proofs.ScanningLemmas.{rest_turn, rest_end}
 use Rattle.ob_store_laws.specs.Recorded.{handle_change}
 use Rattle.ob_store_laws.proofs.Entries.{sorted_of}

@@ -15,15 +15,15 @@ ghost use Rattle.ob_heap.specs.Plain.{object_of, value_of};
 ghost use Rattle.ob_heap.specs.declared.object.Object.{Object as StoredObject};
 ghost use Rattle.ob_heap.specs.declared.object.Handle.{Handle as StoredHandle};
 ghost use Rattle.ob_heap_spec.specs.Contents.{IsObject};
-ghost use Rattle.ob_machine_steps.specs.ImageTables.{contract_of_code, field_of_code, table_of_image, type_of_code};
+ghost use Rattle.ob_code_table.specs.ImageTables.{contract_of_code, field_of_code, table_of_image, type_of_code};
 ghost use Rattle.ob_store_laws.specs.Recorded.{changes_of, content_with, handle_change};
 ghost use Rattle.ob_store_payload.specs.Values.{HasItsValues};
 ghost use Rattle.ob_store_payload.specs.Conditions.{are_handles, are_in_order, counted_with, is_field_value, is_handle_change, is_object, is_state_of, is_value_of, may_be_said};
 ghost use Rattle.ob_store_spec.specs.Changes.{AreChangesOf};
 
-use crate::values::contract_at;
 use ob_base::{LONGEST_STRING, Label, MOST_HANDLES, MOST_OBJECTS, ObjectId, StateId};
 use ob_code::{ContractCode, FieldCode, Image, TypeCode, is_interface};
+use ob_code_table::contract_at;
 use ob_heap::{Content, Delta, Handle, Object, RcStr, Value};
 use ob_owners::available;
 use std::cmp::Ordering;

@@ -10,8 +10,8 @@ ghost use Rattle.ob_format.specs.Answering.{Answers};
 ghost use Rattle.ob_base.specs.Names.{is_label};
 ghost use Rattle.ob_heap.specs.Plain.{value_of, handle_of, object_of, fields_of};
 ghost use Rattle.ob_heap_spec.specs.Values.{int_value, bool_value, text_value, reference};
-ghost use Rattle.ob_machine_steps.specs.ImageTables.{contract_of_code, field_of_code, table_of_image};
-ghost use Rattle.ob_machine_steps.specs.Images.{is_available_in};
+ghost use Rattle.ob_code_table.specs.ImageTables.{contract_of_code, field_of_code, table_of_image};
+ghost use Rattle.ob_code_table.specs.Images.{is_available_in};
 ghost use Rattle.ob_code.specs.Images.{mode as mode_format};
 ghost use Rattle.ob_store_laws.specs.Recorded.{object_change, handle_change, changes_of};
 ghost use Rattle.ob_store_payload.specs.Answering.{AnswersAs, AnswersField, AnswersOnly, IsLabelled};
@@ -23,12 +23,11 @@ ghost use Rattle.ob_store_spec.specs.Payloads.{object as object_format, hold as 
 ghost use Rattle.ob_heap_spec.specs.Objects.{is_available, has_field};
 
 use crate::error::PayloadError;
-use crate::values::contract_at;
 use ob_base::{ContractId, FieldId, Label, Memory, Mode, ObjectId, StateId};
 use ob_code::{ContractCode, FieldCode, Image};
+use ob_code_table::{contract_at, is_available_in};
 use ob_format::{Halt, any_byte, integer, number, refused, text};
 use ob_heap::{Delta, Fields, Handle, Object, RcStr, Sequence, Value};
-use ob_machine_parts::available::is_available_in;
 use std::alloc::Global;
 
 // A text of its own with these bytes.

@@ -5,7 +5,7 @@ ghost use Rattle.ob_heap.specs.Contents.{content_of};
 ghost use Rattle.ob_heap.specs.Deltas.{IsDelta};
 ghost use Rattle.ob_heap.specs.Plain.{object_of};
 ghost use Rattle.ob_heap_spec.specs.Contents.{IsContent, IsObject};
-ghost use Rattle.ob_machine_steps.specs.ImageTables.{table_of_image};
+ghost use Rattle.ob_code_table.specs.ImageTables.{table_of_image};
 ghost use Rattle.ob_store_laws.specs.Recorded.{content_with, changes_of};
 ghost use Rattle.ob_store_payload.specs.declared.error.PayloadError.{PayloadError};
 ghost use Rattle.ob_store_spec.specs.Payloads.{Changes};

@@ -1,28 +1,22 @@
 //! Objects as bytes.
-ghost use Rattle.std.specs.Prelude.{◌≡◌, ◌++◌, option_map, option_copied, OnOk};
+ghost use Rattle.std.specs.Prelude.{◌≡◌, ◌++◌, OnOk};
 ghost use Rattle.std.specs.Option.{option_to_list};
 ghost use Rattle.ob_base.specs.Bytes.{u8_bytes};
 ghost use Rattle.ob_format_spec.specs.Combinators.{each_bytes};
 ghost use Rattle.ob_format_spec.specs.Texts.{text as text_format};
 ghost use Rattle.ob_heap.specs.Plain.{object_of, value_of};
-ghost use Rattle.ob_machine_steps.specs.ImageTables.{contract_of_code, table_of_image};
+ghost use Rattle.ob_code_table.specs.ImageTables.{contract_of_code, table_of_image};
 ghost use Rattle.ob_rest_spec.specs.References.{available_value};
 ghost use Rattle.ob_store_spec.specs.Between.{values_from, stored_object};
 ghost use Rattle.ob_store_spec.specs.Payloads.{byte_of_state, number_of_marks, number_of_truth, marks, truth, object_head, value as value_format, object as object_format};
 ghost use Rattle.ob_table.specs.Tables.{contract_at};
 
-use ob_base::{ContractId, Memory, ObjectId, StateId, put_i64, put_u8, put_u32};
+use ob_base::{Memory, ObjectId, StateId, put_i64, put_u8, put_u32};
 use ob_code::{ContractCode, Image};
+use ob_code_table::contract_at;
 use ob_format::put_text_bytes;
 use ob_heap::{Object, RcStr, Value};
 use ob_owners::available;
-
-/// The contract or interface of a number.
-pub fn contract_at(code: &Image, id: ContractId) -> Option<&ContractCode>
-    ensures { option_map contract_of_code (option_copied result) ≡ contract_at (table_of_image code.now) id }
-{
-    code.contracts.get(id.0 as usize)
-}
 
 // Appends the byte of a text's kind and the text. `Memory` also for a text whose length 32 bits don't say: no value of the language is one.
 fn put_text(out: &mut Vec<u8>, text: &RcStr) -> Result<(), Memory>

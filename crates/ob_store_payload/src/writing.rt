@@ -7,7 +7,7 @@ ghost use Rattle.ob_heap.specs.Contents.{content_of, name_of};
 ghost use Rattle.ob_heap.specs.Deltas.{IsDelta};
 ghost use Rattle.ob_heap.specs.Plain.{handle_of, object_of};
 ghost use Rattle.ob_heap_spec.specs.Contents.{IsContent, Handle as PlainHandle};
-ghost use Rattle.ob_machine_steps.specs.ImageTables.{table_of_image};
+ghost use Rattle.ob_code_table.specs.ImageTables.{table_of_image};
 ghost use Rattle.ob_store_laws.specs.Recorded.{content_with, object_change, handle_change};
 ghost use Rattle.ob_store_payload.specs.Rows.{AreRows, AreWithRow};
 ghost use Rattle.ob_store_payload.specs.Writing.{IsPayload};

@@ -5,7 +5,7 @@ use Rattle.ob_format_spec.specs.Lawful.{first}
 use Rattle.ob_table.specs.Tables.{ClassTable}
 use Rattle.ob_heap_spec.specs.Contents.{Content, empty_content}
 use Rattle.ob_rest_spec.specs.AtRest.{first_failing_object}
-use Rattle.ob_rest_laws.proofs.FirstFailing.{told}
+use Rattle.ob_rest_spec.proofs.FirstFailing.{told}
 use Rattle.ob_journal_spec.specs.Areas.{Journaled, StandsFor, size_of}
 use Rattle.ob_journal_spec.specs.Differing.{DifferAt}
 use Rattle.ob_journal_spec.proofs.Unique.{one_stands, one_damage, whole_or_damaged, blank_or_stands, blank_or_damaged, blank_or_no_store, no_store_or_stands, no_store_or_damaged}

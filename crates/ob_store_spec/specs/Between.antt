@@ -8,7 +8,7 @@ use Rattle.ob_table.specs.declared.contract.Field.{Field}
 use Rattle.ob_heap_spec.specs.Values.{Value, Numbered}
 use Rattle.ob_heap_spec.specs.Objects.{Object, is_available}
 use Rattle.ob_heap_spec.specs.Contents.{HandleName, Handle, Content, object_at}
-use Rattle.ob_invocation_spec.specs.Handles.{handle_at, put_handles}
+use Rattle.ob_heap_spec.specs.Handles.{handle_at, put_handles}
 use Rattle.ob_store_spec.specs.Payloads.{StoredObject, Changes, object, held}
 
 -- the values of the available fields among these, the first of which has this number

@@ -11,7 +11,7 @@ use Rattle.ob_format_spec.specs.Formats.{Spells}
 use Rattle.ob_heap_spec.specs.Values.{Value, Numbered, nothing, put}
 use Rattle.ob_heap_spec.specs.Objects.{Object, is_available}
 use Rattle.ob_heap_spec.specs.Contents.{HandleName, Handle, Content, IsObject, name_order}
-use Rattle.ob_invocation_spec.specs.Handles.{NamedHandle, put_handle, without_handle}
+use Rattle.ob_heap_spec.specs.Handles.{NamedHandle, put_handle, without_handle}
 use Rattle.ob_store_spec.specs.Payloads.{StoredObject, Changes, payload}
 
 -- the values of the available fields among these, the first of which has this number

@@ -12,7 +12,7 @@ use Rattle.ob_io.specs.Told.{Takes, IsEnd, Gives}
 use Rattle.ob_journal_spec.specs.Areas.{area_of, next_gate, begun}
 use Rattle.ob_heap.specs.Contents.{content_of}
 use Rattle.ob_heap_spec.specs.Contents.{empty_content}
-use Rattle.ob_machine_steps.specs.ImageTables.{table_of_image}
+use Rattle.ob_code_table.specs.ImageTables.{table_of_image}
 use Rattle.ob_rest_spec.specs.AtRest.{IsStoreAtRest}
 use Rattle.ob_silica_steps.specs.Configurations.{SilicaProgram}
 use Rattle.ob_store.specs.Opening.{Opens, LacksArea, FaultsAs}

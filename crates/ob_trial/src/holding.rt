@@ -5,7 +5,7 @@ ghost use Rattle.ob_disk.specs.Sure.{sure_disk_view};
 ghost use Rattle.ob_disk_spec.specs.Disk.{Reads};
 ghost use Rattle.ob_heap.specs.Contents.{content_of};
 ghost use Rattle.ob_journal_spec.specs.Areas.{area_of};
-ghost use Rattle.ob_machine_steps.specs.ImageTables.{table_of_image};
+ghost use Rattle.ob_code_table.specs.ImageTables.{table_of_image};
 ghost use Rattle.ob_rest_spec.specs.AtRest.{IsStoreAtRest};
 ghost use Rattle.ob_serve.specs.Kept.{IsServable, IsSoundFor};
 ghost use Rattle.ob_serve.specs.Standing.{source_program};

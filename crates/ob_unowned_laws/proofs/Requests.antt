@@ -23,6 +23,7 @@ use Rattle.ob_heap_spec.specs.Objects.{Object, is_in_states}
 use Rattle.ob_heap_spec.specs.Contents.{Handle, Content, object_at}
 use Rattle.ob_heap_spec.specs.Worlds.{ReadItem, World, RunOutcome, gives, aborts, wrong, first_world}
 use Rattle.ob_heap_spec.specs.Marks.{mark_shared, mark_disowned}
+use Rattle.ob_heap_spec.specs.Handles.{NamedHandle, handle_at, put_handles, without_handle}
 use Rattle.ob_source_laws.proofs.Marking.{follows_mark_disowned}
 use Rattle.ob_rest_spec.specs.Incoming.{StorePlace, stored_field, stored_handle, IncomingReference, incoming_by_field, incoming_by_handle, handles_onto, owner_of, owners}
 use Rattle.ob_rest_spec.specs.Modes.{is_owned, is_shared}
@@ -32,7 +33,7 @@ use Rattle.ob_rest_laws.proofs.Changing.{same_fields}
 use Rattle.ob_invocation_spec.specs.Checks.{Check, check, refusal_of, reads_of, refused_or, unless_refused, with_found, left_as_it_was}
 use Rattle.ob_invocation_spec.specs.Entering.{is_outside_use, first_outside_use, run_entry, puts_after}
 use Rattle.ob_invocation_spec.specs.Entries.{HandleUse, Entry, mode_of_result, used_as_receiver, entry_of_new, entry_of_call, value_of, values_of, handle_uses}
-use Rattle.ob_invocation_spec.specs.Handles.{NamedHandle, handle_name, handle_at, put_handles, without_handle, mark_put, mark_puts}
+use Rattle.ob_invocation_spec.specs.Handles.{handle_name, mark_put, mark_puts}
 use Rattle.ob_invocation_spec.specs.Invocation.{done, done_with, still_world, disowned_world, ended, after_entry_test, enter_entry, puts_of_give, show_object, show_owner, show_owner_of}
 use Rattle.ob_invocation_spec.specs.Refusals.{handle_check, argument_checks, is_no_contract, is_not_main, is_no_transaction, has_other_count, is_of_type, is_argument_for, lacks_permission, repeats_object, lacks_into, has_needless_into, into_checks, entry_checks, found_checks, new_checks, call_checks, give_checks}
 use Rattle.ob_invocation_spec.specs.Replies.{ShownPlace, shown_field, Refusal, no_contract, not_main, no_transaction, arg_count, arg_kind, permission, repeated, into_missing, into_needless, Reply, ok_nothing, ok_shown, ok_place, Invocation, invoked, goes_wrong}
@@ -41,9 +42,10 @@ use Rattle.ob_invocation_spec.specs.Showing.{shown_object, shown_place, place_it
 use Rattle.ob_invocation_laws.proofs.Disowning.{as_they_are}
 use Rattle.ob_invocation_laws.proofs.Marking.{same_length, puts_share}
 use Rattle.ob_code.specs.declared.image.Image.{Image}
-use Rattle.ob_machine_steps.specs.Images.{constructor_of}
-use Rattle.ob_machine_steps.specs.ImageTables.{table_of_image}
-use Rattle.ob_machine_steps.specs.Meanings.{entry_of_constructor, entry_outcome, machine_meaning, machine_invocation, entry_of_request}
+use Rattle.ob_code_table.specs.Images.{constructor_of}
+use Rattle.ob_code_table.specs.ImageTables.{table_of_image}
+use Rattle.ob_machine_meaning.specs.Meanings.{machine_meaning, machine_invocation, entry_of_request}
+use Rattle.ob_machine_steps.specs.Outcomes.{entry_of_constructor, entry_outcome}
 use Rattle.ob_unowned_laws.proofs.Blind.{is_same, mark_if, marked, marked_get, hold, if_world, shared_held, disowned_held}
 use Rattle.ob_unowned_laws.proofs.Runs.{outcome_held, IsThere, started_held, started_there}
 

@@ -16,8 +16,8 @@ use Rattle.ob_code.specs.declared.image.ParamCode.{ParamCode}
 use Rattle.ob_code.specs.Code.{body_code}
 use Rattle.ob_machine_steps.specs.Configurations.{Configuration, ended, aborted, Next, goes, stops}
 use Rattle.ob_machine_steps.specs.Entries.{MachineEntry, lock_receiver, args_come_in, receiver_comes_in, comes_into_body, entry_world, Phase, starting, running, started, next_step}
-use Rattle.ob_machine_steps.specs.ImageTables.{perm_of_code, type_of_param}
-use Rattle.ob_machine_steps.specs.Meanings.{outcome_at, outcome}
+use Rattle.ob_code_table.specs.ImageTables.{perm_of_code, type_of_param}
+use Rattle.ob_machine_steps.specs.Outcomes.{outcome_at, outcome}
 use Rattle.ob_machine_steps.specs.Measures.{steps_left}
 use Rattle.ob_machine_steps.specs.Runs.{Stop, paused, over, after_step, after_steps, world_of}
 use Rattle.ob_locality_laws.specs.Locality.{IsGoodPhase}

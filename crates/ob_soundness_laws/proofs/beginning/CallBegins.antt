@@ -19,6 +19,7 @@ use Rattle.ob_heap_spec.specs.Contents.{Handle, Content, IsObjectOf, IsObject, o
 use Rattle.ob_heap_spec.specs.Worlds.{World, first_world, with_unit_taken, read_object}
 use Rattle.ob_heap_spec.specs.Marks.{is_among, enter}
 use Rattle.ob_heap_spec.specs.Dispatch.{transaction_named, implements_it}
+use Rattle.ob_heap_spec.specs.Handles.{handle_at}
 use Rattle.ob_silica_places.specs.Parameters.{parameters, this_parameter}
 use Rattle.ob_silica_steps.specs.Configurations.{SilicaProgram, SlotCells, by_receiver, Notes, NextStep}
 use Rattle.ob_silica_steps.specs.Here.{if_there, with_fuel_left, with_unit}
@@ -36,7 +37,7 @@ use Rattle.ob_soundness_laws.proofs.counting.Passing.{passed_slots, passed_world
 use Rattle.ob_soundness_laws.proofs.calls.Stepping.{call_enters}
 use Rattle.ob_rest_spec.specs.AtRest.{IsStoreAtRest}
 use Rattle.ob_invocation_spec.specs.Requests.{CallRequest}
-use Rattle.ob_invocation_spec.specs.Handles.{handle_name, handle_at}
+use Rattle.ob_invocation_spec.specs.Handles.{handle_name}
 use Rattle.ob_invocation_spec.specs.Entries.{HandleUse, Entry, mode_of_result, entry_of_call, values_of, used_as_receiver, handle_uses}
 use Rattle.ob_invocation_spec.specs.Checks.{refusal_of}
 use Rattle.ob_invocation_spec.specs.Refusals.{entry_checks, use_serves, receiver_serves, is_repeated}

@@ -21,11 +21,12 @@ use Rattle.ob_table_spec.specs.WellFormed.{serves_as}
 use Rattle.ob_heap_spec.specs.Values.{Value, int_value, bool_value, text_value, reference, referred}
 use Rattle.ob_heap_spec.specs.Objects.{Object, is_in_states}
 use Rattle.ob_heap_spec.specs.Contents.{HandleName, Handle, Content, IsHandle, object_at, name_order}
+use Rattle.ob_heap_spec.specs.Handles.{NamedHandle, handle_at}
 use Rattle.ob_silica_places.specs.Parameters.{parameter_of}
 use Rattle.ob_rest_spec.specs.Modes.{is_owned, is_shared, is_unowned}
 use Rattle.ob_rest_spec.specs.AtRest.{IsStoreAtRest}
 use Rattle.ob_invocation_spec.specs.Requests.{Argument, int_argument, bool_argument, text_argument, handle_argument, other_argument}
-use Rattle.ob_invocation_spec.specs.Handles.{NamedHandle, handle_name, handle_at, serves}
+use Rattle.ob_invocation_spec.specs.Handles.{handle_name, serves}
 use Rattle.ob_invocation_spec.specs.Entries.{HandleUse, Entry, value_of, used_for, use_of_argument, argument_uses, handle_uses}
 use Rattle.ob_invocation_spec.specs.Checks.{Check, check, refusal_of}
 use Rattle.ob_invocation_spec.specs.Replies.{arg_count, arg_kind, permission, repeated, into_missing, into_needless}

@@ -10,11 +10,11 @@ use Rattle.ob_base.specs.declared.permission.Mode.TheVariants.{Owned, Shared, Un
 use Rattle.ob_perm.specs.Permissions.{unowned, owns}
 use Rattle.ob_table.specs.Tables.{ClassTable}
 use Rattle.ob_heap_spec.specs.Contents.{HandleName, Handle, Content}
+use Rattle.ob_heap_spec.specs.Handles.{handle_at}
 use Rattle.ob_rest_spec.specs.Modes.{is_owned, is_shared}
 use Rattle.ob_rest_spec.specs.Incoming.{owners}
 use Rattle.ob_rest_spec.specs.Failing.{is_asset}
 use Rattle.ob_rest_spec.specs.AtRest.{IsStoreAtRest}
-use Rattle.ob_invocation_spec.specs.Handles.{handle_at}
 use Rattle.ob_invocation_spec.specs.Entries.{HandleUse}
 use Rattle.ob_invocation_spec.specs.Refusals.{times_used, is_repeated}
 use Rattle.ob_invocation_laws.specs.Laws.{is_put, puts_of_uses}

@@ -11,6 +11,7 @@ use Rattle.ob_table.specs.Tables.{ClassTable}
 use Rattle.ob_table_spec.specs.Conditions.{IsClassTable}
 use Rattle.ob_heap_spec.specs.Objects.{Object}
 use Rattle.ob_heap_spec.specs.Contents.{Content, IsHandle, IsObject}
+use Rattle.ob_heap_spec.specs.Handles.{NamedHandle}
 use Rattle.ob_silica_steps.specs.Configurations.{HandleNote, Notes}
 use Rattle.ob_silica_steps.specs.Starting.{first_notes}
 use Rattle.ob_places_laws.proofs.Tables.{each_at}
@@ -22,7 +23,6 @@ use Rattle.ob_rest_spec.specs.Incoming.{owners}
 use Rattle.ob_rest_spec.specs.AtRest.{IsStoreAtRest}
 use Rattle.ob_soundness_laws.proofs.stores.Fields.{stored_fields, first_declared}
 use Rattle.ob_soundness_laws.proofs.stores.Handles.{owning_handles, store_owners_counted}
-use Rattle.ob_invocation_spec.specs.Handles.{NamedHandle}
 use Rattle.ob_invocation_spec.specs.Entries.{HandleUse}
 use Rattle.ob_invocation_spec.specs.Refusals.{is_repeated}
 use Rattle.ob_soundness_laws.specs.beginning.Uses.{owning_uses, sharing_uses, AreUses}

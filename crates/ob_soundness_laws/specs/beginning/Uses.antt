@@ -7,8 +7,8 @@ use Rattle.ob_perm.specs.Masks.{permission_of}
 use Rattle.ob_table.specs.Tables.{ClassTable}
 use Rattle.ob_heap_spec.specs.Objects.{is_in_states}
 use Rattle.ob_heap_spec.specs.Contents.{Content, name_order}
+use Rattle.ob_heap_spec.specs.Handles.{NamedHandle, handle_at}
 use Rattle.ob_rest_spec.specs.Modes.{is_owned, is_shared}
-use Rattle.ob_invocation_spec.specs.Handles.{NamedHandle, handle_at}
 use Rattle.ob_invocation_spec.specs.Entries.{HandleUse}
 use Rattle.ob_invocation_laws.specs.Laws.{is_put, puts_of_uses}
 use Rattle.ob_coherent_spec.specs.Counting.{nth_object, one_if}

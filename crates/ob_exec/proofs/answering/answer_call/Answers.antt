@@ -8,8 +8,8 @@ use Rattle.ob_invocation_spec.specs.Invocation.{enter_entry, invoke_call}
 use Rattle.ob_invocation_spec.specs.Refusals.{call_checks}
 use Rattle.ob_invocation_spec.specs.Replies.{Refusal}
 use Rattle.ob_invocation_spec.specs.Requests.{CallRequest}
-use Rattle.ob_machine_steps.specs.ImageTables.{table_of_image}
-use Rattle.ob_machine_steps.specs.Meanings.{machine_meaning}
+use Rattle.ob_code_table.specs.ImageTables.{table_of_image}
+use Rattle.ob_machine_meaning.specs.Meanings.{machine_meaning}
 use Rattle.ob_wire.specs.Meanings.{argument_meant}
 use Rattle.ob_wire.specs.Refusals.{refusal_told}
 use Rattle.ob_exec_entries.specs.Entering.{EntersSo, IsRefusedBy}

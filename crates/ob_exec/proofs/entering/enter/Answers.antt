@@ -3,7 +3,7 @@ use Rattle.std.specs.Prelude.{option_map, find}
 use Rattle.std.proofs.lemmas.Result.{IfOk-weaker}
 use Rattle.ob_heap.specs.Contents.{content_of}
 use Rattle.ob_invocation_spec.specs.Entering.{is_outside_use, outside_cause}
-use Rattle.ob_machine_steps.specs.ImageTables.{table_of_image}
+use Rattle.ob_code_table.specs.ImageTables.{table_of_image}
 use Rattle.ob_machine.specs.Shown.{cause_of}
 use Rattle.ob_exec_entries.specs.Entering.{use_of}
 use Rattle.ob_exec_handles.specs.Coming.{ComesTo}

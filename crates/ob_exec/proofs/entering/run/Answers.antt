@@ -4,8 +4,8 @@ use Rattle.std.proofs.lemmas.Result.{IfOk-weaker}
 use Rattle.ob_heap.specs.Contents.{content_of, named_of}
 use Rattle.ob_heap.specs.Plain.{value_of}
 use Rattle.ob_machine_steps.specs.Entries.{started}
-use Rattle.ob_machine_steps.specs.ImageTables.{table_of_image}
-use Rattle.ob_machine_steps.specs.Meanings.{outcome}
+use Rattle.ob_machine_steps.specs.Outcomes.{outcome}
+use Rattle.ob_code_table.specs.ImageTables.{table_of_image}
 use Rattle.ob_exec_entries.specs.Entering.{machine_entry}
 use Rattle.ob_exec_handles.specs.Coming.{ComesTo, IsInLimits}
 use Rattle.ob_exec_handles.specs.Spending.{item_of, SpendsSo}

@@ -2,7 +2,7 @@ use Rattle.std.proofs.Common.{◌≡◌, map, Some, sym, ap, ◌∙◌, rules}
 use Rattle.std.specs.Prelude.{find, option_map}
 use Rattle.ob_heap.specs.Plain.{object_of}
 use Rattle.ob_invocation_spec.specs.Entering.{is_outside_use, outside_cause}
-use Rattle.ob_machine_steps.specs.ImageTables.{table_of_image}
+use Rattle.ob_code_table.specs.ImageTables.{table_of_image}
 use Rattle.ob_exec_entries.specs.Entering.{use_of}
 use Rattle.ob_exec.proofs.UseLemmas.{finding_found, finding_passed}
 use Rattle.ob_exec.proofs.outside.find_outside.Goals as goal

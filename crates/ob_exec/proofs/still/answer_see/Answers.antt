@@ -1,7 +1,7 @@
 use Rattle.ob_heap.specs.Contents.{content_of}
 use Rattle.ob_invocation_spec.specs.Handles.{handle_name}
 use Rattle.ob_invocation_spec.specs.Invocation.{invoke_see}
-use Rattle.ob_machine_steps.specs.ImageTables.{table_of_image}
+use Rattle.ob_code_table.specs.ImageTables.{table_of_image}
 use Rattle.ob_exec_handles.specs.Coming.{ComesTo}
 use Rattle.ob_exec_handles.specs.Spending.{SpendsSo}
 use Rattle.ob_exec.proofs.SpendingLemmas.{comes_so, spent_so}

@@ -2,7 +2,7 @@ use Rattle.std.proofs.Common.{◌≡◌, ◌+◌, ◌++◌, List, [], ◌∷◌,
 use Rattle.std.proofs.lemmas.Slice.Zip.{zip_end, zip_turn}
 use Rattle.ob_heap.specs.Contents.{content_of}
 use Rattle.ob_invocation_spec.specs.Entries.{HandleUse as Use, use_of_argument}
-use Rattle.ob_machine_steps.specs.ImageTables.{param_of_code}
+use Rattle.ob_code_table.specs.ImageTables.{param_of_code}
 use Rattle.ob_wire.specs.Meanings.{argument_meant}
 use Rattle.ob_exec_entries.specs.Arguments.{uses_of}
 use Rattle.ob_exec_entries.specs.Entering.{use_of}

@@ -3,7 +3,7 @@ use Rattle.std.specs.Prelude.{option_map}
 use Rattle.ob_heap.specs.Contents.{content_of}
 use Rattle.ob_invocation_spec.specs.Entries.{entry_of_call}
 use Rattle.ob_invocation_spec.specs.Refusals.{call_checks, entry_checks}
-use Rattle.ob_machine_steps.specs.ImageTables.{table_of_image}
+use Rattle.ob_code_table.specs.ImageTables.{table_of_image}
 use Rattle.ob_wire.specs.Refusals.{refusal_told}
 use Rattle.ob_exec_entries.specs.Entering.{EntersSo, IsRefusedBy}
 use Rattle.ob_exec_entries.proofs.CheckLemmas.{enters_alike, refused_alike}

@@ -6,7 +6,7 @@ use Rattle.ob_base.specs.declared.id.ContractId.{ContractId}
 use Rattle.ob_heap.specs.Contents.{content_of}
 use Rattle.ob_invocation_spec.specs.Entries.{entry_of_new}
 use Rattle.ob_invocation_spec.specs.Refusals.{new_checks, entry_checks}
-use Rattle.ob_machine_steps.specs.ImageTables.{table_of_image}
+use Rattle.ob_code_table.specs.ImageTables.{table_of_image}
 use Rattle.ob_table.specs.Tables.{contract_named}
 use Rattle.ob_wire.specs.Refusals.{refusal_told}
 use Rattle.ob_exec_entries.specs.Arguments.{names_no_handle}

@@ -3,7 +3,7 @@ use Rattle.std.specs.Prelude.{option_map}
 use Rattle.ob_heap.specs.Contents.{content_of}
 use Rattle.ob_invocation_spec.specs.Handles.{handle_name}
 use Rattle.ob_invocation_spec.specs.Invocation.{show_owner_of}
-use Rattle.ob_machine_steps.specs.ImageTables.{table_of_image}
+use Rattle.ob_code_table.specs.ImageTables.{table_of_image}
 use Rattle.ob_owners.specs.Spots.{place_of}
 use Rattle.ob_exec_handles.proofs.InvokingLemmas.{comes_without}
 use Rattle.ob_exec_handles.proofs.ShowingLemmas.{owns, owns_nothing, owns_unshown}

@@ -2,7 +2,7 @@ use Rattle.std.proofs.Common.{◌∙◌, sym}
 use Rattle.ob_heap.specs.Contents.{content_of}
 use Rattle.ob_invocation_spec.specs.Handles.{handle_name}
 use Rattle.ob_invocation_spec.specs.Invocation.{show_object}
-use Rattle.ob_machine_steps.specs.ImageTables.{table_of_image}
+use Rattle.ob_code_table.specs.ImageTables.{table_of_image}
 use Rattle.ob_exec_handles.proofs.InvokingLemmas.{comes_without}
 use Rattle.ob_exec_handles.proofs.ShowingLemmas.{sees, sees_nothing}
 use Rattle.ob_exec_handles.proofs.seeing.see.Goals as goal

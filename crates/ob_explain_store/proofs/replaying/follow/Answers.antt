@@ -1,7 +1,7 @@
 use Rattle.std.proofs.Common.{◌∙◌, ap}
 use Rattle.ob_heap.specs.Deltas.{with_handles}
 use Rattle.ob_heap.specs.Differences.{with_objects}
-use Rattle.ob_machine_steps.specs.ImageTables.{table_of_image}
+use Rattle.ob_code_table.specs.ImageTables.{table_of_image}
 use Rattle.ob_store.proofs.Opened.{followed}
 use Rattle.ob_explain_store.proofs.replaying.follow.Goals as goal
 

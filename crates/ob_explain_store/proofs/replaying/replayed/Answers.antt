@@ -1,4 +1,4 @@
-use Rattle.ob_machine_steps.specs.ImageTables.{table_of_image}
+use Rattle.ob_code_table.specs.ImageTables.{table_of_image}
 use Rattle.ob_store.proofs.Opened.{empty_of, kept_empty}
 use Rattle.ob_explain_store.proofs.replaying.replayed.Goals as goal
 

@@ -1,5 +1,5 @@
 use Rattle.ob_heap.specs.Contents.{content_of}
-use Rattle.ob_machine_steps.specs.ImageTables.{table_of_image}
+use Rattle.ob_code_table.specs.ImageTables.{table_of_image}
 use Rattle.ob_store.specs.Opening.{IsKeptContent}
 use Rattle.ob_explain_store.proofs.replaying.replayed.Given as goal
 

@@ -1,7 +1,7 @@
 use Rattle.std.proofs.Common.{◌≡◌, ℕ, drop, Some}
 use Rattle.std.specs.List.{list_all}
 use Rattle.ob_base.specs.declared.id.FieldId.{FieldId}
-use Rattle.ob_machine_steps.specs.Images.{has_field_code}
+use Rattle.ob_code_table.specs.Images.{has_field_code}
 use Rattle.ob_machine_steps.specs.Changing.{are_available}
 use Rattle.ob_machine_parts.proofs.fields.are_available.Given as goal
 

@@ -1,6 +1,6 @@
 use Rattle.std.proofs.Common.{◌∙◌, ap}
 use Rattle.ob_heap.specs.Plain.{object_of}
-use Rattle.ob_machine_steps.specs.ImageTables.{contract_of_code}
+use Rattle.ob_code_table.specs.ImageTables.{contract_of_code}
 use Rattle.ob_owners.proofs.ScanningLemmas.{is_reference, field_owns, field_owns_nothing}
 use Rattle.ob_owners.proofs.fields.owning_field.Goals as goal
 

@@ -1,7 +1,7 @@
 use Rattle.std.proofs.Common.{◌≡◌, drop, map}
 use Rattle.std.specs.List.{enumerate_from}
 use Rattle.ob_heap.specs.Plain.{object_of}
-use Rattle.ob_machine_steps.specs.ImageTables.{table_of_image}
+use Rattle.ob_code_table.specs.ImageTables.{table_of_image}
 use Rattle.ob_owners.specs.Scanning.{first_of, owning_in_object, owning_in_fields}
 use Rattle.ob_owners.proofs.fields.owning_in_fields.Given as goal
 

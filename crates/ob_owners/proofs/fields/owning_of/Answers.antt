@@ -2,7 +2,7 @@ use Rattle.std.proofs.Common.{◌∙◌, ◌+◌, sym, drop, map}
 use Rattle.std.specs.List.{enumerate_from}
 use Rattle.ob_base.specs.declared.id.FieldId.{FieldId}
 use Rattle.ob_heap.specs.Plain.{object_of}
-use Rattle.ob_machine_steps.specs.ImageTables.{contract_of_code, field_of_code}
+use Rattle.ob_code_table.specs.ImageTables.{contract_of_code, field_of_code}
 use Rattle.ob_rest_spec.specs.Incoming.{stored_field}
 use Rattle.ob_owners.specs.Scanning.{first_of, owning_field}
 use Rattle.ob_owners.proofs.ScanningLemmas.{field_turn, fields_end, first_here, not_here}

@@ -4,7 +4,7 @@ use Rattle.std.specs.Option.{option_copied}
 use Rattle.ob_base.specs.declared.id.FieldId.{FieldId}
 use Rattle.ob_heap.specs.declared.value.Value.{Value}
 use Rattle.ob_heap.specs.Plain.{object_of, value_of}
-use Rattle.ob_machine_steps.specs.ImageTables.{contract_of_code}
+use Rattle.ob_code_table.specs.ImageTables.{contract_of_code}
 use Rattle.ob_rest_spec.specs.Incoming.{stored_field}
 use Rattle.ob_rest_spec.specs.References.{available_value}
 use Rattle.ob_owners.specs.Scanning.{owned_value}

@@ -2,8 +2,8 @@ use Rattle.std.proofs.Common.{sym, ◌∙◌, arith}
 use Rattle.std.proofs.lemmas.List.{length-map}
 use Rattle.ob_heap.specs.Contents.{content_of, named_of}
 use Rattle.ob_heap.specs.Plain.{object_of}
-use Rattle.ob_machine_steps.specs.ImageTables.{table_of_image}
-use Rattle.ob_rest_laws.proofs.FirstFailing.{told}
+use Rattle.ob_code_table.specs.ImageTables.{table_of_image}
+use Rattle.ob_rest_spec.proofs.FirstFailing.{told}
 use Rattle.ob_owners.proofs.RestLemmas.{failing_below}
 use Rattle.ob_owners.proofs.rest.check_at_rest.Goals as goal
 

@@ -4,7 +4,7 @@ use Rattle.std.specs.List.{range_with_len}
 use Rattle.std.proofs.lemmas.List.{length-map}
 use Rattle.ob_heap.specs.Contents.{content_of}
 use Rattle.ob_heap.specs.Plain.{object_of}
-use Rattle.ob_machine_steps.specs.ImageTables.{table_of_image}
+use Rattle.ob_code_table.specs.ImageTables.{table_of_image}
 use Rattle.ob_rest_spec.specs.AtRest.{fails}
 use Rattle.ob_owners.proofs.RestLemmas.{range_turn, fails_here}
 use Rattle.ob_owners.proofs.rest.first_failing.Goals as goal

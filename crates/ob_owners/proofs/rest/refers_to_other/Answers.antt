@@ -2,7 +2,7 @@ use Rattle.std.proofs.Common.{Some, None, not, sym, ap, ◌∙◌, map}
 use Rattle.std.specs.List.{list_any}
 use Rattle.std.specs.Option.{option_copied}
 use Rattle.ob_heap.specs.Plain.{object_of}
-use Rattle.ob_machine_steps.specs.ImageTables.{table_of_image}
+use Rattle.ob_code_table.specs.ImageTables.{table_of_image}
 use Rattle.ob_rest_spec.specs.Failing.{refers_as_declared}
 use Rattle.ob_rest_spec.specs.References.{FieldReference}
 use Rattle.ob_owners.proofs.NotingLemmas.{references_there}

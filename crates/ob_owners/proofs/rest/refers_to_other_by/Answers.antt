@@ -2,7 +2,7 @@ use Rattle.std.proofs.Common.{true, false, not, sym, ap, ◌∙◌, map}
 use Rattle.std.specs.Prelude.{option_map}
 use Rattle.std.specs.List.{list_any}
 use Rattle.ob_heap.specs.Plain.{object_of}
-use Rattle.ob_machine_steps.specs.ImageTables.{contract_of_code, table_of_image}
+use Rattle.ob_code_table.specs.ImageTables.{contract_of_code, table_of_image}
 use Rattle.ob_rest_spec.specs.Failing.{refers_as_declared}
 use Rattle.ob_rest_spec.specs.References.{FieldReference}
 use Rattle.ob_owners.specs.Referring.{field_reference_of}

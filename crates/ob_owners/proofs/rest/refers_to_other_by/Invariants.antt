@@ -1,7 +1,7 @@
 use Rattle.std.proofs.Common.{◌≡◌, ℕ, not, drop, map}
 use Rattle.std.specs.List.{list_any}
 use Rattle.ob_heap.specs.Plain.{object_of}
-use Rattle.ob_machine_steps.specs.ImageTables.{contract_of_code, table_of_image}
+use Rattle.ob_code_table.specs.ImageTables.{contract_of_code, table_of_image}
 use Rattle.ob_rest_spec.specs.Failing.{refers_as_declared}
 use Rattle.ob_owners.specs.Referring.{references_by}
 use Rattle.ob_owners.proofs.NotingLemmas.{references_from}

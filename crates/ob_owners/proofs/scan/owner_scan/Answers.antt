@@ -3,7 +3,7 @@ use Rattle.std.specs.Prelude.{option_map}
 use Rattle.std.proofs.lemmas.Result.{IfOk-weaker}
 use Rattle.ob_heap.specs.Contents.{content_of, named_of}
 use Rattle.ob_heap.specs.Plain.{object_of}
-use Rattle.ob_machine_steps.specs.ImageTables.{table_of_image}
+use Rattle.ob_code_table.specs.ImageTables.{table_of_image}
 use Rattle.ob_owners.specs.Scanning.{owning_in_fields, owning_in_handles}
 use Rattle.ob_owners.specs.Spots.{place_of}
 use Rattle.ob_owners.proofs.ScanningLemmas.{scan_field, scan_handle}

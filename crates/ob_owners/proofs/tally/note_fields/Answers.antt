@@ -1,7 +1,7 @@
 use Rattle.std.proofs.Common.{ap, sym, ◌∙◌, map}
 use Rattle.std.specs.Prelude.{option_map}
 use Rattle.ob_heap.specs.Plain.{object_of}
-use Rattle.ob_machine_steps.specs.ImageTables.{contract_of_code, table_of_image}
+use Rattle.ob_code_table.specs.ImageTables.{contract_of_code, table_of_image}
 use Rattle.ob_owners.specs.Noting.{holding_of_field, after_holdings}
 use Rattle.ob_owners.specs.Referring.{field_reference_of}
 use Rattle.ob_owners.proofs.NotingLemmas.{references_from, fields_noted}

@@ -1,6 +1,6 @@
 use Rattle.std.proofs.Common.{◌≡◌, ℕ, drop, map}
 use Rattle.ob_heap.specs.Plain.{object_of}
-use Rattle.ob_machine_steps.specs.ImageTables.{contract_of_code, table_of_image}
+use Rattle.ob_code_table.specs.ImageTables.{contract_of_code, table_of_image}
 use Rattle.ob_owners.specs.Noting.{holding_of_field, after_holdings}
 use Rattle.ob_owners.specs.Referring.{references_by}
 use Rattle.ob_owners.proofs.NotingLemmas.{references_from}

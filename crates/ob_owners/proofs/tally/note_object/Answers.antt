@@ -1,7 +1,7 @@
 use Rattle.std.proofs.Common.{Some, None, ap, sym, ◌∙◌, map}
 use Rattle.std.specs.Option.{option_copied}
 use Rattle.ob_heap.specs.Plain.{object_of}
-use Rattle.ob_machine_steps.specs.ImageTables.{table_of_image}
+use Rattle.ob_code_table.specs.ImageTables.{table_of_image}
 use Rattle.ob_owners.specs.Noting.{holding_of_field, after_holdings}
 use Rattle.ob_owners.proofs.NotingLemmas.{references_there}
 use Rattle.ob_owners.proofs.tally.note_object.Goals as goal

@@ -1,6 +1,6 @@
 use Rattle.std.proofs.Common.{◌∙◌, map}
 use Rattle.ob_heap.specs.Plain.{object_of}
-use Rattle.ob_machine_steps.specs.ImageTables.{table_of_image}
+use Rattle.ob_code_table.specs.ImageTables.{table_of_image}
 use Rattle.ob_owners.specs.Noting.{holding_of_field}
 use Rattle.ob_owners.proofs.NotingLemmas.{objects_noted}
 use Rattle.ob_owners.proofs.tally.note_objects.Goals as goal

@@ -1,6 +1,6 @@
 use Rattle.std.proofs.Common.{◌≡◌, drop, map}
 use Rattle.ob_heap.specs.Plain.{object_of}
-use Rattle.ob_machine_steps.specs.ImageTables.{table_of_image}
+use Rattle.ob_code_table.specs.ImageTables.{table_of_image}
 use Rattle.ob_rest_spec.specs.References.{field_references}
 use Rattle.ob_owners.specs.Noting.{holding_of_field, after_holdings}
 use Rattle.ob_owners.proofs.NotingLemmas.{references_after}

@@ -3,7 +3,7 @@ use Rattle.std.specs.Prelude.{slice_get}
 use Rattle.std.proofs.lemmas.List.{take_at, length-map}
 use Rattle.ob_heap.specs.Contents.{content_of}
 use Rattle.ob_heap.specs.Plain.{object_of}
-use Rattle.ob_machine_steps.specs.ImageTables.{table_of_image}
+use Rattle.ob_code_table.specs.ImageTables.{table_of_image}
 use Rattle.ob_owners.specs.declared.tally.Tally.{Tally}
 use Rattle.ob_owners.specs.Noting.{after_holdings, holdings}
 use Rattle.ob_owners.proofs.TallyLaws.{noted_all}

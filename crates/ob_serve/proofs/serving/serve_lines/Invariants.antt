@@ -3,7 +3,7 @@ use Rattle.ob_disk_spec.specs.Calls.{IsUntouched}
 use Rattle.ob_disk_spec.specs.Durable.{KeepsBehind}
 use Rattle.ob_heap.specs.Contents.{content_of}
 use Rattle.ob_io.specs.Lines.{EndIsTold, pending, taken, handed, has_ended}
-use Rattle.ob_machine_steps.specs.ImageTables.{table_of_image}
+use Rattle.ob_code_table.specs.ImageTables.{table_of_image}
 use Rattle.ob_rest_spec.specs.AtRest.{IsStoreAtRest}
 use Rattle.ob_store.specs.Stores.{program_of, area_of_store, kept_of, state_of, StandsOn}
 use Rattle.ob_serve.specs.Items.{by_machine, item_of}

@@ -3,7 +3,7 @@ use Rattle.std.proofs.lemmas.Result.{err_from_is_err_and}
 use Rattle.ob_heap.specs.Contents.{content_of}
 use Rattle.ob_heap.specs.Deltas.{with_handles}
 use Rattle.ob_heap.specs.Differences.{with_objects}
-use Rattle.ob_machine_steps.specs.ImageTables.{table_of_image}
+use Rattle.ob_code_table.specs.ImageTables.{table_of_image}
 use Rattle.ob_store.proofs.Opened.{followed, not_followed}
 use Rattle.ob_store.proofs.opening.follow.Goals as goal
 

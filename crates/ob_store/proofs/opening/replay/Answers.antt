@@ -1,6 +1,6 @@
 use Rattle.std.proofs.Common.{sym, subst, arith, List, ℕ}
 use Rattle.ob_heap.specs.Contents.{content_of}
-use Rattle.ob_machine_steps.specs.ImageTables.{table_of_image}
+use Rattle.ob_code_table.specs.ImageTables.{table_of_image}
 use Rattle.ob_store_spec.specs.Payloads.{Changes}
 use Rattle.ob_store_spec.specs.Changes.{SaysChanges}
 use Rattle.ob_store.specs.Opening.{IsFollowed}

@@ -3,7 +3,7 @@ use Rattle.ob_heap.specs.Contents.{content_of}
 use Rattle.ob_heap_spec.specs.Contents.{empty_content}
 use Rattle.ob_journal_spec.specs.Areas.{size_of}
 use Rattle.ob_journal.specs.Surveys.{payload_of}
-use Rattle.ob_machine_steps.specs.ImageTables.{table_of_image}
+use Rattle.ob_code_table.specs.ImageTables.{table_of_image}
 use Rattle.ob_store_spec.specs.Changes.{LeadFrom}
 use Rattle.ob_store.specs.Opening.{IsKeptContent}
 use Rattle.ob_store.proofs.opening.replay.Given as goal

@@ -1,7 +1,7 @@
 use Rattle.std.proofs.Common.{◌∙◌, length, sym, ap, subst, true≢false}
 use Rattle.ob_heap.specs.Deltas.{AreNext}
 use Rattle.ob_heap.specs.Differences.{with_objects}
-use Rattle.ob_machine_steps.specs.ImageTables.{table_of_image}
+use Rattle.ob_code_table.specs.ImageTables.{table_of_image}
 use Rattle.ob_store_laws.proofs.Deltas.{deltas_say_changes}
 use Rattle.ob_store_payload.proofs.ConditionLemmas.{Ascend}
 use Rattle.ob_store_payload.proofs.ChangesLemmas.{is_delta_of, they_follow, they_may_be_said}

@@ -1,7 +1,7 @@
 use Rattle.std.proofs.Common.{◌≡◌, drop, map}
 use Rattle.std.specs.List.{list_all, enumerate_from}
 use Rattle.ob_heap.specs.Plain.{object_of}
-use Rattle.ob_machine_steps.specs.ImageTables.{contract_of_code, field_of_code}
+use Rattle.ob_code_table.specs.ImageTables.{contract_of_code, field_of_code}
 use Rattle.ob_store_payload.specs.Conditions.{is_field_value}
 use Rattle.ob_store_payload.proofs.conditions.are_field_values.Given as goal
 

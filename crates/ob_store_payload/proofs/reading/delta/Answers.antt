@@ -1,7 +1,7 @@
 use Rattle.std.proofs.Common.{rules, List, map, All, Option, Err}
 use Rattle.ob_format_spec.specs.Combinators.{counted}
 use Rattle.ob_heap_spec.specs.Contents.{HandleName, Handle}
-use Rattle.ob_machine_steps.specs.ImageTables.{table_of_image}
+use Rattle.ob_code_table.specs.ImageTables.{table_of_image}
 use Rattle.ob_store_laws.specs.Recorded.{object_change, handle_change, changes_of}
 use Rattle.ob_store_spec.specs.Payloads.{StoredObject, Changes, object, handle, payload}
 use Rattle.ob_store_payload.specs.Answering.{AnswersOnly, IsLabelled}

@@ -3,8 +3,8 @@ use Rattle.std.proofs.lemmas.List.{length-map}
 use Rattle.ob_format_spec.specs.Combinators.{read_times}
 use Rattle.ob_format.specs.Answering.{Halts}
 use Rattle.ob_format.specs.declared.halt.Halt.{Halt}
-use Rattle.ob_machine_steps.specs.ImageTables.{contract_of_code, field_of_code}
-use Rattle.ob_machine_steps.specs.Images.{is_available_in}
+use Rattle.ob_code_table.specs.ImageTables.{contract_of_code, field_of_code}
+use Rattle.ob_code_table.specs.Images.{is_available_in}
 use Rattle.ob_store_spec.specs.Payloads.{value}
 use Rattle.ob_store_payload.specs.Answering.{AnswersField}
 use Rattle.ob_store_payload.proofs.FieldsRead.{left, nothing_read, field_read, field_halts, all_read, all_have, map_at}

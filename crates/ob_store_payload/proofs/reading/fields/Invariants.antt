@@ -1,5 +1,5 @@
 use Rattle.ob_format_spec.specs.Combinators.{read_times}
-use Rattle.ob_machine_steps.specs.ImageTables.{contract_of_code}
+use Rattle.ob_code_table.specs.ImageTables.{contract_of_code}
 use Rattle.ob_store_spec.specs.Payloads.{value}
 use Rattle.ob_store_payload.proofs.FieldsRead.{left, AreRead}
 use Rattle.ob_store_payload.proofs.reading.fields.Given as goal

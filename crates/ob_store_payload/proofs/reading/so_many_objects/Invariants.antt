@@ -2,7 +2,7 @@ use Rattle.std.proofs.Common.{◌≡◌, ◌-◌, map, All}
 use Rattle.ob_format_spec.specs.Combinators.{read_times}
 use Rattle.ob_format.proofs.Loops.{prefixed}
 use Rattle.ob_heap.specs.Plain.{object_of}
-use Rattle.ob_machine_steps.specs.ImageTables.{table_of_image}
+use Rattle.ob_code_table.specs.ImageTables.{table_of_image}
 use Rattle.ob_store_laws.specs.Recorded.{object_change}
 use Rattle.ob_store_spec.specs.Payloads.{object}
 use Rattle.ob_store_payload.specs.Values.{HasItsValues}

@@ -5,7 +5,7 @@ use Rattle.std.proofs.lemmas.Result.{err_from_is_err_and}
 use Rattle.ob_heap.specs.declared.delta.Delta.{Delta}
 use Rattle.ob_format_spec.proofs.Failing.{are_bytes}
 use Rattle.ob_heap.specs.Contents.{content_of}
-use Rattle.ob_machine_steps.specs.ImageTables.{table_of_image}
+use Rattle.ob_code_table.specs.ImageTables.{table_of_image}
 use Rattle.ob_store_laws.specs.Recorded.{changes_of}
 use Rattle.ob_store_payload.specs.declared.error.PayloadError.TheVariants.{Bad}
 use Rattle.ob_store_payload.proofs.ReadingLemmas.{says, none_with_more, none_unsaid, none_read}

@@ -2,7 +2,7 @@ use Rattle.std.proofs.Common.{◌∙◌, ◌++◌, ◌<◌, ◌≤◌, length, a
 use Rattle.std.proofs.lemmas.List.{length-map, take_all}
 use Rattle.ob_format_spec.specs.Combinators.{each_bytes}
 use Rattle.ob_heap.specs.Plain.{object_of}
-use Rattle.ob_machine_steps.specs.ImageTables.{contract_of_code, field_of_code}
+use Rattle.ob_code_table.specs.ImageTables.{contract_of_code, field_of_code}
 use Rattle.ob_store_spec.specs.Payloads.{value}
 use Rattle.ob_store_spec.specs.Between.{values_from}
 use Rattle.ob_store_payload.proofs.ValueLemmas.{values_put}

@@ -1,7 +1,7 @@
 use Rattle.std.proofs.Common.{◌∙◌, sym, ap, refl}
 use Rattle.std.specs.Prelude.{not}
 use Rattle.ob_heap.specs.Contents.{content_of}
-use Rattle.ob_machine_steps.specs.ImageTables.{table_of_image}
+use Rattle.ob_code_table.specs.ImageTables.{table_of_image}
 use Rattle.ob_store_laws.specs.Recorded.{object_change}
 use Rattle.ob_store_spec.specs.Payloads.{StoredObject, object}
 use Rattle.ob_store_spec.specs.Between.{is_stored_so}

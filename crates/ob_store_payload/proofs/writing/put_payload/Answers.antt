@@ -1,7 +1,7 @@
 use Rattle.std.proofs.Common.{◌≡◌, ◌∙◌, map, Some, None, sym, subst}
 use Rattle.std.specs.Prelude.{not, filter}
 use Rattle.ob_heap.specs.Contents.{content_of}
-use Rattle.ob_machine_steps.specs.ImageTables.{table_of_image}
+use Rattle.ob_code_table.specs.ImageTables.{table_of_image}
 use Rattle.ob_store_laws.specs.Recorded.{object_change, handle_change, news_of, content_with}
 use Rattle.ob_store_spec.specs.Payloads.{object, handle}
 use Rattle.ob_store_spec.specs.Between.{is_stored_so, is_held_so, changes_between}

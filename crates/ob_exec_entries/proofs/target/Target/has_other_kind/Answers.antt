@@ -4,7 +4,7 @@ use Rattle.std.specs.List.{list_any}
 use Rattle.ob_code.specs.declared.image.ParamCode.{ParamCode}
 use Rattle.ob_heap.specs.Contents.{content_of}
 use Rattle.ob_invocation_spec.specs.Refusals.{has_other_kind}
-use Rattle.ob_machine_steps.specs.ImageTables.{table_of_image}
+use Rattle.ob_code_table.specs.ImageTables.{table_of_image}
 use Rattle.ob_wire.specs.declared.request.Arg.{Arg}
 use Rattle.ob_exec_entries.proofs.TargetLemmas.{is_other_kind, other_kind_seen}
 use Rattle.ob_exec_entries.proofs.target.Target.has_other_kind.Goals as goal

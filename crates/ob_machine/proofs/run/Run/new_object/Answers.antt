@@ -2,7 +2,7 @@ use Rattle.std.proofs.Common.{◌∙◌, sym, subst, Some}
 use Rattle.ob_heap_spec.specs.Worlds.{by_fuel}
 use Rattle.ob_machine_steps.specs.Configurations.{abort}
 use Rattle.ob_machine_steps.specs.Calling.{caller, makes_object}
-use Rattle.ob_machine_steps.specs.Images.{constructor_of}
+use Rattle.ob_code_table.specs.Images.{constructor_of}
 use Rattle.ob_machine_laws.specs.Laws.{SameNext}
 use Rattle.ob_machine_parts.specs.Shown.{slots_of}
 use Rattle.ob_machine.specs.Shown.{shown, world_of, Tells}

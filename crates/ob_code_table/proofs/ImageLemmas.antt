@@ -12,7 +12,7 @@ use Rattle.ob_code.specs.Code.{contract_code, is_interface}
 use Rattle.ob_code.specs.declared.image.BodyCode.{BodyCode}
 use Rattle.ob_code.specs.declared.image.ContractCode.{ContractCode}
 use Rattle.ob_code.specs.declared.image.Image.{Image}
-use Rattle.ob_machine_steps.specs.ImageTables.{signature_of_code, contract_of_code, interface_of, table_of_image}
+use Rattle.ob_code_table.specs.ImageTables.{signature_of_code, contract_of_code, interface_of, table_of_image}
 
 pub contract_same : (image : Image) (id : ContractId) → contract_at (table_of_image image) id ≡ option_map contract_of_code (contract_code image id)
 contract_same image id = slice_get-map contract_of_code image.contracts id.0

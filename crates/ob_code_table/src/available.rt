@@ -1,14 +1,14 @@
 //! The states in which a field is available.
 ghost use Rattle.std.specs.Prelude.{◌≡◌};
 ghost use Rattle.ob_heap_spec.specs.Objects.{state_number};
-ghost use Rattle.ob_machine_steps.specs.Images.{bits_of, is_available_in};
+ghost use Rattle.ob_code_table.specs.Images.{bits_of, is_available_in};
 ghost use Rattle.ob_perm.specs.Masks.{states_of};
 
 use ob_base::{NO_STATE_BIT, StateId};
 use ob_code::FieldCode;
 
-// The number whose bits are those of a number with a sign.
-pub(crate) fn bits(number: i64) -> u64
+/// The number whose bits are those of a number with a sign.
+pub fn bits(number: i64) -> u64
     ensures { result ≡ bits_of number }
 {
     if number < 0 {
@@ -18,9 +18,9 @@ pub(crate) fn bits(number: i64) -> u64
     }
 }
 
-// Whether a bit is in a set of states, which is a word of 64 bits.
+/// Whether a bit is in a set of states, which is a word of 64 bits.
 #[tactic(auto, unfolding(ob_perm::specs::Masks::states_of))]
-pub(crate) fn has_bit(set: u64, number: usize) -> bool
+pub fn has_bit(set: u64, number: usize) -> bool
     ensures { result ≡ states_of set number }
 {
     if number >= 64 {
@@ -29,8 +29,8 @@ pub(crate) fn has_bit(set: u64, number: usize) -> bool
     (set >> number) & 1 == 1
 }
 
-// The number of a state, or that of no state.
-pub(crate) fn state_number(state: Option<StateId>) -> u8
+/// The number of a state, or that of no state.
+pub fn state_number(state: Option<StateId>) -> u8
     ensures { result ≡ state_number state }
 {
     match state {

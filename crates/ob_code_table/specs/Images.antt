@@ -18,8 +18,6 @@ use Rattle.ob_code.specs.declared.image.Image.{Image}
 use Rattle.ob_code.specs.declared.instruction.Instruction.{Instruction}
 use Rattle.ob_code.specs.Code.{is_interface, is_constructor, contract_code, is_transaction_named}
 
--- Marks.
-
 -- What stands at a number.
 
 -- the instruction at a place of a contract's body; an interface's bodies have none that are run

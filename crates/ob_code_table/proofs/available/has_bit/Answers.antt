@@ -1,7 +1,7 @@
 use Rattle.std.proofs.Common.{◌==◌, sym, ap}
 use Rattle.std.proofs.lemmas.Nat.Bits.{bit_at_above}
 use Rattle.ob_perm.specs.Masks.{states_of}
-use Rattle.ob_machine_parts.proofs.available.has_bit.Goals as goal
+use Rattle.ob_code_table.proofs.available.has_bit.Goals as goal
 
 pub returns-then-number-ge64 : goal.returns-then-number-ge64
 unfolding states_of

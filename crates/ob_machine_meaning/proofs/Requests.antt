@@ -8,8 +8,9 @@ use Rattle.ob_invocation_spec.specs.Entries.{HandleUse, Entry, values_of}
 use Rattle.ob_invocation_spec.specs.Entering.{run_entry}
 use Rattle.ob_code.specs.declared.image.Image.{Image}
 use Rattle.ob_machine_steps.specs.Entries.{started}
-use Rattle.ob_machine_steps.specs.Meanings.{outcome, entry_outcome, entry_of_constructor, machine_meaning, entry_of_request}
-use Rattle.ob_machine_laws.specs.Laws.{HasItsBody}
+use Rattle.ob_machine_steps.specs.Outcomes.{outcome, entry_outcome, entry_of_constructor}
+use Rattle.ob_machine_meaning.specs.Meanings.{machine_meaning, entry_of_request}
+use Rattle.ob_machine_meaning.specs.Laws.{HasItsBody}
 
 -- the same of a request with this receiver
 runs_on : (image : Image) (content : Content) (fuel : ℕ) (e : Entry) (receiver : Option HandleUse) → HasItsBody image (record e { receiver = receiver })

@@ -21,7 +21,7 @@ use Rattle.ob_code.specs.declared.image.PermCode.{PermCode}
 use Rattle.ob_code.specs.declared.image.TypeCode.{TypeCode}
 use Rattle.ob_code.specs.declared.image.TypeCode.TheVariants as type
 use Rattle.ob_code.specs.Code.{is_marked, is_interface, is_private}
-use Rattle.ob_machine_steps.specs.Images.{constructor_number, bits_of}
+use Rattle.ob_code_table.specs.Images.{constructor_number, bits_of}
 
 -- a permission of an image
 abbrev pub perm_of_code : PermCode → Perm
