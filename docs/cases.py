@@ -414,8 +414,11 @@ class Shelf(Room):
         if not all(word.startswith(b"0x") for word in words.split()):
             raise Trouble("no bytes of a store")
         data = b"".join(bytes.fromhex(word[2:].decode()) for word in words.split())
-        store = self.store().ljust(offset, b"\0")
-        self.write("s", store[:offset] + data + store[offset + len(data):])
+        with open(os.path.join(self.folder, "s"), "ab"):
+            pass
+        with open(os.path.join(self.folder, "s"), "rb+") as file:
+            file.seek(offset)
+            file.write(data)
 
     def put_record(self, objects, handles):
         """Puts a record of these objects and handles behind the image, as the only one."""
@@ -463,12 +466,14 @@ class Shelf(Room):
             return self.hold(int(rest))
         if word == b"fill":
             return self.fill(*map(int, rest.split(b" of ")))
-        if word in (b"disk", b"put"):
-            return self.put(0 if word == b"disk" else self.gate(), rest)
+        if word in (b"disk", b"put", b"second"):
+            return self.put({b"disk": 0, b"put": self.gate(), b"second": questions.AREA}[word], rest)
         if word == b"serve":
             return word + self.serve(rest)
         if word in (b"show", b"records"):
             return word + digits(self.store()[0 if word == b"show" else self.gate():])
+        if word == b"areas":
+            return questions.areas_shown(self.store(), questions.AREA)
         raise Trouble("no step on a real file")
 
 

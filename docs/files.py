@@ -9,7 +9,7 @@ It runs PROGRAM, the one that the gate has left if none is named, and wants this
 - where a write of the output fails, the run ends with 4;
 - of a text that is too long no more is read than tells that it is;
 - where the run has no right to the text, it ends with 8, and standard error tells which call failed and how;
-- a STORE that is there, and is longer than 64 MiB, keeps its mode, its length and what stands behind them, and is served from run to run.
+- a STORE that is there, and is longer than 128 MiB, keeps its mode, its length and what stands behind them, and is served from run to run.
 
 It tells each thing that isn't so, and ends with status 1 then.
 """
@@ -33,7 +33,7 @@ REPLIES = b'{"id":1,"ok":{"object":0}}\n', b'{"id":2,"ok":5}\n'
 # The most bytes of a text, and how many of a longer one are written at a time.
 LONGEST, PIECE = 1 << 20, 4096
 # How many bytes of a STORE are the program's, and what stands behind them.
-AREA, BEHIND = 1 << 26, bytes(range(256)) * 64
+AREAS, BEHIND = 1 << 27, bytes(range(256)) * 64
 # After how many seconds a run is cut.
 PATIENCE = 60
 
@@ -114,17 +114,17 @@ class Looks:
     def long_store(self):
         with open(self.path("s"), "wb") as file:
             os.fchmod(file.fileno(), 0o640)
-            file.seek(AREA)
+            file.seek(AREAS)
             file.write(BEHIND)
         for line, reply in zip((NEW, ADD), REPLIES):
             ended = self.end(self.begin("serve", TALLY, "s", stdin=subprocess.PIPE), line, 0)
             self.want("a line to a long store", (0, reply, []), ended)
         with open(self.path("s"), "rb") as file:
             mode = os.fstat(file.fileno()).st_mode & 0o777
-            file.seek(AREA)
+            file.seek(AREAS)
             behind = file.read()
         self.want("the mode of a store that is there", 0o640, mode)
-        self.want("what stands behind the 64 MiB of a store stays", True, behind == BEHIND)
+        self.want("what stands behind the 128 MiB of a store stays", True, behind == BEHIND)
 
 
 def obey_rights():

@@ -1,7 +1,7 @@
 #!/usr/bin/env python3
 """Kills the program while it serves over a store, and looks whether each line that it answered is there, and all money.
 
-  python3 docs/kill.py [--times N] [--seed N] [--program PROGRAM]
+  python3 docs/kill.py [--times N] [--seed N] [--full] [--program PROGRAM]
 
 Each time it starts `PROGRAM serve P STORE` (`./obsidian` at the top of the repository, if none is named) over one store, hands it lines
 that each split a part from a purse or merge one into it, and kills it by SIGKILL: half the times after a number of replies, half after a
@@ -10,6 +10,9 @@ error where the store isn't opened, where a line isn't there of whose reply a by
 its reply names, where a line is there and one before it isn't, where more is there than the line in hand, or where the amounts of all
 money don't add up to what was minted. It tells the first error and ends with status 1; else it tells how many lines were handed over,
 answered and kept.
+
+With `--full` it fills the area in which the store stands before each time, but for a few records, so that the runs that are killed move into the
+other one. It fills it with records that take away handles which aren't there.
 
 What it tries is that a process may end at any moment. The system goes on, so bytes that were written and not yet synced aren't lost.
 """
@@ -31,6 +34,8 @@ MINTED = 1_000_000_000
 PART = 1000
 # The most splits of one run: the bytes of its lines and those of their replies fit into a pipe.
 SPLITS = 75
+# How many bytes an area has, how many of them are left at most where it is filled, and how long a record is that fills it.
+AREA, LEFT, LONG = 1 << 26, 4000, 13 + 74 * 10_000
 
 
 def request(number, operation, **parts):
@@ -58,12 +63,42 @@ class Line:
         return reply.get("ok", "") == (None if self.merges else {"object": seen[self.name]["object"]})
 
 
+def record_of(size):
+    """A record of about so many bytes that changes nothing: it takes away handles that aren't there, in the order of their names."""
+    count = max(0, size - 13) // 74
+    handles = b"".join(b"\0\0\0\1-\0\0\0\x40%064d\0" % number for number in range(count))
+    payload = bytes(4) + count.to_bytes(4, "big") + handles
+    return b"\1" + len(payload).to_bytes(4, "big") + payload if count else b""
+
+
+def serial_of(area):
+    return int.from_bytes(area[5:13], "big") if area[:5] == b"\1OBSA" else 0
+
+
+def fill(store, left):
+    """Fills the area in which a store stands with records that change nothing, but for about so many bytes."""
+    with open(store, "rb+") as file:
+        file.seek(0)
+        heads = [file.read(17)]
+        file.seek(AREA)
+        heads.append(file.read(17))
+        start = AREA if serial_of(heads[1]) > serial_of(heads[0]) else 0
+        file.seek(start)
+        area = file.read(AREA)
+        gate = 17 + int.from_bytes(area[13:17], "big")
+        while area[gate]:
+            gate += 5 + int.from_bytes(area[gate + 1:gate + 5], "big")
+        file.seek(start + gate)
+        whole, rest = divmod(AREA - gate - left, LONG)
+        file.write(whole * record_of(LONG) + record_of(rest) + b"\0")
+
+
 class Trial:
     """One program over one store."""
 
-    def __init__(self, program, text, store, draw):
+    def __init__(self, program, text, store, draw, is_filled):
         self.words = [program, "serve", text, store]
-        self.draw = draw
+        self.draw, self.is_filled = draw, is_filled
         # How long it took to answer all lines of a run.
         self.whole = 0.0
         self.handed = self.answered = self.kept = 0
@@ -148,6 +183,8 @@ class Trial:
 
     def time(self, number):
         """Kills two runs in a row, and then looks for their lines and for the money."""
+        if self.is_filled:
+            fill(self.words[-1], self.draw.randrange(1, LEFT))
         runs = []
         for letter in "ab":
             lines = self.drawn(f"c{number}{letter}")
@@ -178,11 +215,12 @@ def main():
     parser = argparse.ArgumentParser(description="Kills the program while it serves over a store.")
     parser.add_argument("--times", type=int, default=200)
     parser.add_argument("--seed", type=int, default=1)
+    parser.add_argument("--full", action="store_true")
     parser.add_argument("--program", default=os.path.join(TOP, "obsidian"))
     given = parser.parse_args()
     with tempfile.TemporaryDirectory() as folder:
         store = os.path.join(folder, "store")
-        trial = Trial(os.path.abspath(given.program), MONEY, store, random.Random(given.seed))
+        trial = Trial(os.path.abspath(given.program), MONEY, store, random.Random(given.seed), given.full)
         begun = time.monotonic()
         trial.ask([request(0, "new", contract="Mint", into="mint"),
                    request(1, "call", on="mint", tx="mint", args=[MINTED], into="purse")])

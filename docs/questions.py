@@ -545,14 +545,16 @@ def journal_shown(answer):
     if not answer.next_is("serial"):
         return " ".join({"none": "no journal"}.get(word, word) for word in answer.words)
     parts = [f"serial {answer.number()} image {answer.word()} gate {answer.number()}"]
-    return answer.end(" ".join(parts + many(answer, lambda answer: f"payload {answer.word()}")))
+    while not answer.is_read():
+        parts.append(f"payload {answer.word()}")
+    return " ".join(parts)
 
 
 def disk(case):
     fails, asked, words = [], [f"area {AREA}"], [None]
     for step in case.asked().decode().split("; "):
         word, _, rest = step.partition(" ")
-        data = told(images.bytes_of_words(rest.encode())) if word in ("disk", "begin", "append") else ""
+        data = told(images.bytes_of_words(rest.encode())) if word in ("disk", "begin", "append", "move") else ""
         if word == "fails":
             # The disk's bytes are put there by a call before the others.
             fails.append(str(int(rest) + 1))
@@ -562,7 +564,7 @@ def disk(case):
         elif word in ("area", "stop"):
             asked.append(f"{word} {int(rest)}")
             words.append(None)
-        elif word in ("find", "begin", "append", "show", "faults"):
+        elif word in ("find", "begin", "append", "move", "show", "faults"):
             asked.append(f"{word} {data}".strip())
             words.append(word)
         else:
@@ -669,12 +671,32 @@ def lines_of(data):
     return re.findall(rb"[^\n]*\n|[^\n]+", data)
 
 
+def lines_shown(output, count):
+    """How many of the awaited lines were written, or the lines themselves."""
+    return b", lines: %d" % count if count is not None else b"".join(b" " + line for line in output.splitlines())
+
+
+# How an opening ends that finds no store, by its number.
+UNOPENED = {"NotStore": 611, "Damaged": 612, "Room": 613, "OtherProgram": 615, "NotAtRest": 601}
+
+
+def served_shown(answer, awaited, faults):
+    """How lines were served over a store in areas of some size, or why none was opened."""
+    word = answer.word()
+    if word in UNOPENED:
+        line = " ".join([f"serve 6 StoreRefused store: {UNOPENED[word]} {word}", *answer.words[answer.at:]])
+        return f"{line}, calls that failed: {faults}".encode() if faults else line.encode()
+    output, number = answer.end(answer.bytes()), {"Done": 0, "DiskFault": 5}[word]
+    remark = "" if faults == (number == 5) else f", calls that failed: {faults}"
+    return f"serve {number} {word}{remark}".encode() + lines_shown(output, output.count(b"\n") if awaited.startswith(output) else None)
+
+
 class Shelf:
     """A case's program and lines, and the steps of its runs over one disk, each as a question and with how its answer is told."""
 
     def __init__(self, case):
         self.case, self.input, self.awaited = case, lines_of(case.part(b"input")), lines_of(case.part(b"output"))
-        self.fails, self.given, self.steps, self.faults = [], Outside(), [], 0
+        self.fails, self.given, self.steps, self.faults, self.size = [], Outside(), [], 0, None
 
     def add(self, question, shown=None):
         self.steps.append((question, shown))
@@ -682,18 +704,27 @@ class Shelf:
     def serve(self, lines):
         first, _, last = lines.partition(" to ")
         begin, end = (0, None) if not lines else (0, 0) if lines == "none" else (int(first) - 1, int(last))
-        given, words = b"".join(self.input[begin:end]), [b"serve", b"p", b"s"]
-        awaited = b"".join(self.awaited[begin:])
-        run, self.given = f"run {handed(words, self.case.part(b'text'), given)} {self.given.numbers()} {self.given.room}", Outside()
+        given, awaited = b"".join(self.input[begin:end]), b"".join(self.awaited[begin:])
         # The faults of the disk are those of all runs: what this one adds to them is its own.
         self.add("faults", lambda answer: setattr(self, "faults", answer.number()))
+        if self.size:
+            self.serve_in_areas(given, awaited)
+        else:
+            self.run_words(given, awaited)
+
+    def serve_in_areas(self, given, awaited):
+        """Only opens the store and serves the lines, in areas of the size that was told."""
+        self.add(f"serve {told(self.case.part(b'text'))} {told(given)}", lambda answer: setattr(self, "run", answer))
+        self.add("faults", lambda answer: served_shown(self.run, awaited, answer.number() - self.faults))
+
+    def run_words(self, given, awaited):
+        words = [b"serve", b"p", b"s"]
+        run, self.given = f"run {handed(words, self.case.part(b'text'), given)} {self.given.numbers()} {self.given.room}", Outside()
         self.add(run, lambda answer: setattr(self, "run", answer))
         self.add("faults", lambda answer: self.told(Ended(self.run, given, words, False, answer.number() - self.faults), awaited))
 
     def told(self, ended, awaited):
-        count = ended.first_lines(awaited)
-        lines = b", lines: %d" % count if count is not None else b"".join(b" " + line for line in ended.output.splitlines())
-        return b"serve " + ended.end() + lines
+        return b"serve " + ended.end() + lines_shown(ended.output, ended.first_lines(awaited))
 
     def take(self, step):
         word, _, rest = step.partition(" ")
@@ -704,6 +735,9 @@ class Shelf:
             self.add(f"write 0 {told(images.bytes_of_words(rest.encode()))}")
         elif word == "stop":
             self.add(f"stop {int(rest)}")
+        elif word == "area":
+            self.size = int(rest)
+            self.add(f"area {self.size}")
         elif word == "given":
             self.given = Outside(rest.encode())
         elif word == "serve":
@@ -712,6 +746,8 @@ class Shelf:
             self.add("show", lambda answer: b"show " + told(answer.bytes()).encode())
         elif word == "records":
             self.add("show", lambda answer: b"records " + told(records_in(answer.bytes())).encode())
+        elif word == "areas":
+            self.add("show", lambda answer, size=self.size: areas_shown(answer.bytes(), size))
         else:
             raise Unasked(f"no step on a store: {word}")
 
@@ -719,6 +755,23 @@ class Shelf:
 def records_in(store):
     """The bytes from the gate of the first record on: it stands behind the image, and the four bytes before that tell how many it has."""
     return store[17 + int.from_bytes(store[13:17], "big"):]
+
+
+def area_shown(area):
+    """What an area says of itself: its serial, where the gate behind its records is, and how many those are."""
+    if len(area) < 2 or area[0] == 0:
+        return "closed"
+    gate, count = 17 + int.from_bytes(area[13:17], "big"), 0
+    if area[1:5] != b"OBSA" or gate >= len(area):
+        return "no store"
+    while gate < len(area) and area[gate]:
+        gate, count = gate + 5 + int.from_bytes(area[gate + 1:gate + 5], "big"), count + 1
+    return f"serial {int.from_bytes(area[5:13], 'big', signed=True)} gate {gate} records {count}" if gate < len(area) else "damaged"
+
+
+def areas_shown(store, size):
+    """What each of the two areas of a disk says of itself."""
+    return f"areas {area_shown(store[:size])} and {area_shown(store[size:2 * size])}".encode()
 
 
 def memory_store(case):
@@ -732,9 +785,11 @@ def memory_store(case):
 
 def area(case):
     size, _, lines = case.asked().partition(b"\n")
-    answer = Answer((yield f"area {told(case.part(b'text'))} {int(size)} {told(lines)}"))
-    if answer.next_is("needs"):
-        return answer.end(f"needs {answer.number()}\n".encode())
+    _, answer = yield from asked_steps([f"area {int(size)}", f"serve {told(case.part(b'text'))} {told(lines)}"])
+    if answer.next_is("Room"):
+        return f"needs {answer.number()}\n".encode()
+    if not answer.next_is("Done"):
+        raise Unasked(f"not served: {' '.join(answer.words)}")
     return answer.end(answer.bytes())
 
 

@@ -134,7 +134,7 @@ for number in $(grep -nE '^(openat\(.*/new/store>|(flock|fsync|pwrite64)\(|write
     fi
 done
 serve new </dev/null
-want 'a store that is there' 0 "$taken read" 0
+want 'a store that is there' 0 "$taken read read" 0
 want_told 'a store that is there' new '3 objects, 3 handles, 4 records; 790 of 67108864 bytes used (0 %)'
 
 coproc first { exec "$program" serve "$machine" "$room/new/store" 2>/dev/null; }

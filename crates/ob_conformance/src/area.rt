@@ -1,12 +1,11 @@
-//! What a store in an area of some size answers.
+//! A store in areas of some size, and what it answers.
 ghost use Rattle.std.specs.Prelude.{◌≤◌, ◌^◌, IfSome};
 ghost use Rattle.ob_code.specs.Images.{image};
 ghost use Rattle.ob_serve.specs.Kept.{IsServable};
 
-use crate::desk::area_in;
 use crate::page::Page;
 use crate::question::Question;
-use ob_disk::SureDisk;
+use ob_disk::MemoryDisk;
 use ob_front::{Compiled, Seen, compile};
 use ob_io::{SureSink, SureSource};
 use ob_serve::{Served, serve};
@@ -16,8 +15,6 @@ use std::alloc::Global;
 
 /// The units of fuel that each request has.
 const FUEL: u32 = 100_000;
-/// How many bytes the disk holds.
-const ROOM: u64 = 1 << 32;
 
 fn program_of(alloc: Global, text: &[u8], seen: &mut Seen) -> Option<Compiled>
     ensures fits { IfSome result (λ program. image.fits program.code) }
@@ -29,54 +26,90 @@ fn program_of(alloc: Global, text: &[u8], seen: &mut Seen) -> Option<Compiled>
     }
 }
 
-// Puts how many bytes an area would have to have that has no room.
-fn put_need(error: OpenError, page: &mut Page) {
+// Puts a word and a number.
+fn put_numbered(word: &str, number: u64, page: &mut Page) {
+    page.word(word);
+    page.number(number);
+}
+
+// Puts that an area is too small, how many bytes are needed, and how many it has.
+fn put_room(need: u64, size: u64, page: &mut Page) {
+    put_numbered("Room", need, page);
+    page.number(size);
+}
+
+// Puts how a session ended that answered nothing, as its disk failed.
+fn put_unanswered(page: &mut Page) {
+    page.word("DiskFault");
+    page.bytes(&[]);
+}
+
+// Puts why no store was opened.
+fn put_refused(error: OpenError, page: &mut Page) {
     match error {
-        OpenError::Room(need, _) => {
-            page.word("needs");
-            page.number(need);
-        }
+        OpenError::NotStore => page.word("NotStore"),
+        OpenError::Damaged(offset) => put_numbered("Damaged", offset, page),
+        OpenError::OtherProgram(offset) => put_numbered("OtherProgram", offset, page),
+        OpenError::NotAtRest(object) => put_numbered("NotAtRest", u64::from(object.0), page),
+        OpenError::Room(need, size) => put_room(need, size, page),
+        OpenError::DiskFault => put_unanswered(page),
+        OpenError::Memory => page.fail(),
+    }
+}
+
+// Puts how a session ended.
+fn put_served(served: Served, page: &mut Page) {
+    match served {
+        Served::Done => page.word("Done"),
+        Served::DiskFault => page.word("DiskFault"),
         _ => page.fail(),
     }
 }
 
-// The replies to lines over a blank store in an area of this size, or how many bytes it would have to have.
-fn put_replies(alloc: Global, code: &Verified, size: u64, input: Vec<u8>, page: &mut Page)
+// Serves lines over a store of a program on a disk with areas of this size. Puts how that ended, and the replies; or why no store was opened.
+fn put_replies(
+    alloc: Global,
+    code: &Verified,
+    size: u64,
+    disk: &mut MemoryDisk,
+    input: Vec<u8>,
+    page: &mut Page,
+)
     requires servable { IsServable code.now }
     requires fits { image.fits code.now }
     requires some { 1 ≤ size }
     requires small { size ≤ 2 ^ 31 }
 {
-    let mut disk = SureDisk::new(alloc, ROOM);
-    let mut store = match Store::open_store(alloc, &mut disk, code, size) {
+    let mut store = match Store::open_store(alloc, disk, code, size) {
         Ok(store) => store,
-        Err(error) => return put_need(error, page),
+        Err(error) => return put_refused(error, page),
     };
     let mut input = SureSource::new(input);
     let mut output = SureSink::new(alloc, usize::MAX);
-    let served = serve(
-        alloc,
-        code,
-        &mut store,
-        FUEL,
-        &mut input,
-        &mut output,
-        &mut disk,
-    );
-    match (served, output.bytes()) {
-        (Served::Done, Some(replies)) => page.bytes(replies),
-        _ => page.fail(),
+    let served = serve(alloc, code, &mut store, FUEL, &mut input, &mut output, disk);
+    put_served(served, page);
+    match output.bytes() {
+        Some(replies) => page.bytes(replies),
+        None => page.fail(),
     }
 }
 
-/// What lines are answered over a blank store of a program in an area of some size: `TEXT SIZE LINES`.
-pub fn area(alloc: Global, asked: &mut Question<'_>, page: &mut Page) {
+/// Serves lines over a store on a disk with areas of some size: `TEXT LINES`.
+pub fn serve_on(
+    alloc: Global,
+    asked: &mut Question<'_>,
+    disk: &mut MemoryDisk,
+    size: u64,
+    page: &mut Page,
+)
+    requires some { 1 ≤ size }
+    requires small { size ≤ 2 ^ 31 }
+{
     let text = asked.bytes(alloc, page);
-    let size = area_in(asked, page);
     let input = asked.bytes(alloc, page);
     let mut seen = Seen::new(alloc);
     match program_of(alloc, &text, &mut seen) {
-        Some(program) => put_replies(alloc, &program.code, size, input, page),
+        Some(program) => put_replies(alloc, &program.code, size, disk, input, page),
         None => page.fail(),
     }
 }

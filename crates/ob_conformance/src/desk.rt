@@ -1,20 +1,21 @@
 //! What steps on a disk in memory come to: of a journal on it, and of whole runs over it.
 ghost use Rattle.std.specs.Prelude.{◌≤◌, ◌^◌};
 
+use crate::area::serve_on;
 use crate::page::Page;
 use crate::question::Question;
 use crate::whole::run_over;
 use ob_disk::{Disk, MemoryDisk};
-use ob_journal::{BuildError, Found, Journal, JournalError};
+use ob_journal::{BuildError, DiskFault, Found, Journal, JournalError, Recorded, first_record};
 use std::alloc::Global;
 
 /// The most bytes that an area may have.
 const MOST_AREA: u64 = 1 << 31;
 /// How many bytes a disk holds.
-const ROOM: u64 = 1 << 32;
+const ROOM: u64 = 1 << 33;
 
-/// The size of an area that the next word tells.
-pub fn area_in(asked: &mut Question<'_>, page: &mut Page) -> u64
+// The size of an area that the next word tells.
+fn area_in(asked: &mut Question<'_>, page: &mut Page) -> u64
     ensures some { 1 ≤ result }
     ensures small { result ≤ 2 ^ 31 }
 {
@@ -32,9 +33,14 @@ fn put_journal(journal: &Journal, page: &mut Page) {
     page.show(&journal.serial());
     page.bytes(journal.image());
     page.number(journal.gate());
-    page.number(journal.payloads().len() as u64);
-    for payload in journal.payloads() {
-        page.bytes(payload.as_slice());
+}
+
+// Puts the payloads of the records that were read.
+fn put_payloads(recorded: &Recorded, page: &mut Page) {
+    let mut records = recorded.records();
+    'records: while let Some((payload, behind)) = first_record(records) {
+        page.bytes(payload);
+        records = behind;
     }
 }
 
@@ -46,7 +52,23 @@ fn put_error(error: JournalError, page: &mut Page) {
     }
 }
 
-// Appends a record to a journal, and puts what the journal says, or why there is none.
+// Puts why nothing was built.
+fn put_unbuilt(error: BuildError, page: &mut Page) {
+    match error {
+        BuildError::Memory => page.fail(),
+        _ => page.name(&error),
+    }
+}
+
+// Puts what a journal says once it is written to, or why it isn't.
+fn put_written(written: Result<(), DiskFault>, journal: &Journal, page: &mut Page) {
+    match written {
+        Ok(()) => put_journal(journal, page),
+        Err(error) => page.name(&error),
+    }
+}
+
+// Appends a record to a journal.
 fn append(
     alloc: Global,
     journal: &mut Journal,
@@ -54,16 +76,23 @@ fn append(
     payload: &[u8],
     page: &mut Page,
 ) {
-    let Ok(()) = journal.reserve() else {
-        return page.fail();
-    };
     match journal.build(alloc, payload) {
-        Ok(built) => match journal.append(disk, built) {
-            Ok(()) => put_journal(journal, page),
-            Err(error) => page.name(&error),
-        },
-        Err(BuildError::Memory) => page.fail(),
-        Err(error) => page.name(&error),
+        Ok(built) => put_written(journal.append(disk, built), journal, page),
+        Err(error) => put_unbuilt(error, page),
+    }
+}
+
+// Moves a journal into the other area, with one record.
+fn move_to(
+    alloc: Global,
+    journal: &mut Journal,
+    disk: &mut MemoryDisk,
+    payload: &[u8],
+    page: &mut Page,
+) {
+    match journal.build_area(alloc, payload) {
+        Ok(built) => put_written(journal.move_to(disk, built), journal, page),
+        Err(error) => put_unbuilt(error, page),
     }
 }
 
@@ -111,7 +140,10 @@ impl Desk {
         self.journal = None;
         match Journal::find(self.alloc, &mut self.disk, self.area) {
             Ok(Found::Blank) => page.word("blank"),
-            Ok(Found::Current(journal)) => self.keep(journal, page),
+            Ok(Found::Current(journal, recorded)) => {
+                self.keep(journal, page);
+                put_payloads(&recorded, page);
+            }
             Err(error) => put_error(error, page),
         }
     }
@@ -134,6 +166,21 @@ impl Desk {
         }
     }
 
+    // Moves the journal into the other area with one record, if there is a journal.
+    fn move_to(&mut self, asked: &mut Question<'_>, page: &mut Page) {
+        let payload = asked.bytes(self.alloc, page);
+        match &mut self.journal {
+            Some(journal) => move_to(self.alloc, journal, &mut self.disk, &payload, page),
+            None => page.word("none"),
+        }
+    }
+
+    // Serves lines over a store on the disk. What journal there is isn't known behind it.
+    fn serve(&mut self, asked: &mut Question<'_>, page: &mut Page) {
+        self.journal = None;
+        serve_on(self.alloc, asked, &mut self.disk, self.area, page);
+    }
+
     fn take(&mut self, asked: &mut Question<'_>, page: &mut Page) {
         match asked.word() {
             "area" => self.area = area_in(asked, page),
@@ -143,6 +190,8 @@ impl Desk {
             "find" => self.find(page),
             "begin" => self.begin(asked, page),
             "append" => self.append(asked, page),
+            "move" => self.move_to(asked, page),
+            "serve" => self.serve(asked, page),
             "show" => page.bytes(self.disk.bytes()),
             "faults" => page.number(self.disk.faults()),
             "run" => run_over(self.alloc, asked, &mut self.disk, page),

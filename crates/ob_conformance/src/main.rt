@@ -35,7 +35,6 @@ fn answer(alloc: Global, asked: &mut Question<'_>, page: &mut Page) {
         "runs" => runs::runs(alloc, asked, page),
         "desk" => desk::steps(alloc, asked, page),
         "sure" => whole::sure(alloc, asked, page),
-        "area" => area::area(alloc, asked, page),
         word => answer_small(alloc, word, asked, page),
     }
 }

@@ -2,6 +2,7 @@
 ghost use Rattle.std.specs.Prelude.{string_bytes, IfOk};
 ghost use Rattle.ob_explain_page.specs.Pages.{IsPage};
 
+use crate::areas::Areas;
 use crate::lines::{page_of, words_of};
 use crate::records::image_of;
 use ob_base::{Items, Memory};
@@ -251,18 +252,18 @@ fn say_other(
     Ok(())
 }
 
-/// Tells a person in what the program of a text differs from the one with which a store was begun, by the bytes of the store's area:
+/// Tells a person in what the program of a text differs from the one with which a store was begun, by the areas of the store:
 /// the first contract that is declared otherwise, or that all are declared alike.
 pub fn explain_other_program(
     alloc: Global,
     name: &str,
     text: &[u8],
-    bytes: &[u8],
+    areas: Areas<'_>,
 ) -> Result<String, Memory>
     ensures { IfOk result (λ page. IsPage (string_bytes page)) }
 {
     let mut told = Explanation::new(alloc);
-    match image_of(bytes) {
+    match image_of(areas.current()) {
         Some(image) => say_other(alloc, &mut told, text, image)?,
         None => say_unread(&mut told),
     }

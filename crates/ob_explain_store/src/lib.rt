@@ -2,6 +2,7 @@
 //! opened; and why one is refused. Nothing is claimed of what is said but that it has a bound.
 #![tactic(auto)]
 
+mod areas;
 mod comparing;
 mod failing;
 mod lines;
@@ -13,6 +14,7 @@ mod replaying;
 mod resting;
 mod watching;
 
+pub use areas::{AreaAt, Areas};
 pub use comparing::explain_other_program;
 pub use failing::{explain_disk, explain_file};
 pub use opening::{Opening, explain_opening};

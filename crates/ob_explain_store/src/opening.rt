@@ -11,13 +11,13 @@ use std::alloc::Global;
 /// What is known of a store that is opened.
 #[derive(Clone, Copy)]
 pub struct Opening {
-    /// What stood at the front of its disk.
+    /// What stood on its disk.
     pub front: Front,
     /// How many objects it holds.
     pub objects: usize,
     /// How many handles it holds.
     pub handles: usize,
-    /// How many bytes it may have.
+    /// How many bytes each of its areas has at most.
     pub area: u64,
 }
 
@@ -37,13 +37,22 @@ impl Filled {
     }
 }
 
+// How much of its current area is used. Where that is full the store moves into the other one.
+fn used_of(opening: Opening) -> Filled {
+    Filled {
+        count: opening.front.used as u64,
+        most: opening.area,
+        what: " bytes used (",
+    }
+}
+
 // What may be filled.
 fn bounds_of(opening: Opening) -> [Filled; 3] {
     [
         Filled {
-            count: opening.front.used as u64,
+            count: opening.front.moved as u64,
             most: opening.area,
-            what: " bytes are used. No command makes room: see 'A full store' in docs/GUIDE.md",
+            what: " bytes were taken by all that it held when it last moved. No command makes room: see 'A full store' in docs/GUIDE.md",
         },
         Filled {
             count: opening.objects as u64,
@@ -59,29 +68,30 @@ fn bounds_of(opening: Opening) -> [Filled; 3] {
 }
 
 // How many there are of how many.
-fn put_part_of(title: &mut Words, filled: Filled, what: &str) {
+fn put_part_of(title: &mut Words, filled: Filled) {
     title.put_number(filled.count);
     title.put(" of ");
     title.put_number(filled.most);
-    title.put(what);
+    title.put(filled.what);
 }
 
 // What is said of a store that is begun.
-fn say_begun(title: &mut Words, length: usize) {
+fn say_begun(title: &mut Words, length: u64) {
     if length == 0 {
         title.put("a new store, since there was no such file, or an empty one");
     } else {
         title.put("a new store, begun over what stood there, ");
-        put_count(title, length as u64, " byte", " bytes");
+        put_count(title, length, " byte", " bytes");
     }
 }
 
 // What is said of a store that was there.
-fn say_held(title: &mut Words, opening: Opening, used: Filled) {
+fn say_held(title: &mut Words, opening: Opening) {
+    let used = used_of(opening);
     put_count(title, opening.objects as u64, " object, ", " objects, ");
     put_count(title, opening.handles as u64, " handle, ", " handles, ");
     put_count(title, opening.front.records, " record; ", " records; ");
-    put_part_of(title, used, " bytes used (");
+    put_part_of(title, used);
     title.put_number(used.percent());
     title.put(" %)");
 }
@@ -93,24 +103,23 @@ fn put_warning(alloc: Global, page: &mut Page, name: &str, filled: Filled) -> Re
     }
     let mut title = Words::new(alloc);
     title.put("warning: ");
-    put_part_of(&mut title, filled, filled.what);
+    put_part_of(&mut title, filled);
     put_title(page, name, title)
 }
 
 // A store that was there.
 fn put_held(alloc: Global, page: &mut Page, name: &str, opening: Opening) -> Result<(), Memory> {
-    let all = bounds_of(opening);
     let mut title = Words::new(alloc);
-    say_held(&mut title, opening, all[0]);
+    say_held(&mut title, opening);
     put_title(page, name, title)?;
-    for one in all.iter() {
+    for one in bounds_of(opening).iter() {
         put_warning(alloc, page, name, *one)?;
     }
     Ok(())
 }
 
 // A store that is begun.
-fn put_begun(alloc: Global, page: &mut Page, name: &str, length: usize) -> Result<(), Memory> {
+fn put_begun(alloc: Global, page: &mut Page, name: &str, length: u64) -> Result<(), Memory> {
     let mut title = Words::new(alloc);
     say_begun(&mut title, length);
     put_title(page, name, title)

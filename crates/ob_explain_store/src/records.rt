@@ -2,6 +2,9 @@
 
 use ob_base::Fields;
 
+/// Where a header has the serial.
+const SERIAL_AT: usize = 5;
+
 /// Where a header tells how many bytes the image has.
 const LENGTH_AT: usize = 13;
 
@@ -35,6 +38,34 @@ fn sized(bytes: &[u8]) -> Option<&[u8]> {
 /// The image of an area.
 pub fn image_of(bytes: &[u8]) -> Option<&[u8]> {
     sized(behind(bytes, LENGTH_AT))
+}
+
+// The serial that is told there; 0 where there are too few bytes, or it is below 1.
+fn told_serial(bytes: &[u8]) -> i64 {
+    let mut fields = Fields::new(behind(bytes, SERIAL_AT));
+    match fields.i64() {
+        Ok(serial) => serial.max(0),
+        Err(_) => 0,
+    }
+}
+
+/// Whether an area has more than one byte, and its gate is open.
+pub fn is_open(bytes: &[u8]) -> bool {
+    !matches!(bytes, [] | [_] | [0, ..])
+}
+
+/// Whether it begins as a header does.
+pub fn is_marked(bytes: &[u8]) -> bool {
+    matches!(bytes, [_, b'O', b'B', b'S', b'A', ..])
+}
+
+/// The serial of an area; 0 where it isn't open, or has no header.
+pub fn serial_of(bytes: &[u8]) -> i64 {
+    if is_open(bytes) && is_marked(bytes) && image_of(bytes).is_some() {
+        told_serial(bytes)
+    } else {
+        0
+    }
 }
 
 /// The payload of the record behind a gate, where it is whole.

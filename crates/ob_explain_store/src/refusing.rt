@@ -2,8 +2,9 @@
 ghost use Rattle.std.specs.Prelude.{string_bytes, IfOk};
 ghost use Rattle.ob_explain_page.specs.Pages.{IsPage};
 
+use crate::areas::Areas;
 use crate::lines::{page_of, put_count, words_of};
-use crate::records::{Records, behind, counted};
+use crate::records::{Records, behind, counted, is_marked};
 use ob_base::Memory;
 use ob_explain_page::{Explanation, Words};
 use std::alloc::Global;
@@ -105,16 +106,8 @@ fn kind_of(bytes: &[u8]) -> &'static str {
     }
 }
 
-// Whether it begins as a header does.
-fn is_marked(bytes: &[u8]) -> bool {
-    matches!(bytes, [_, b'O', b'B', b'S', b'A', ..])
-}
-
-/// Tells a person what a file is that is no store, by its bytes.
-pub fn explain_not_store(alloc: Global, name: &str, bytes: &[u8]) -> Result<String, Memory>
-    ensures { IfOk result (λ page. IsPage (string_bytes page)) }
-{
-    let mut told = Explanation::new(alloc);
+// What is said of a file that begins with no area.
+fn say_first(told: &mut Explanation, bytes: &[u8]) {
     if is_marked(bytes) {
         told.what.put(
             "it begins as a store does, but what stands before its records isn't whole or was changed.",
@@ -125,6 +118,30 @@ pub fn explain_not_store(alloc: Global, name: &str, bytes: &[u8]) -> Result<Stri
         told.help.put(
             "see whether it is the right file. Nothing of it was changed; a new store is begun where no file is, or an empty one.",
         );
+    }
+}
+
+// What is said of a file with no area where the second one begins.
+fn say_second(told: &mut Explanation, start: u64) {
+    told.what.put("at byte ");
+    told.what.put_number(start);
+    told.what
+        .put(", where its second area begins, stands none.");
+    told.help.put(
+        "the file was changed, or is none of a store: take the last copy. Nothing of it was changed by this run.",
+    );
+}
+
+/// Tells a person what a file is that is no store, by its areas.
+pub fn explain_not_store(alloc: Global, name: &str, areas: Areas<'_>) -> Result<String, Memory>
+    ensures { IfOk result (λ page. IsPage (string_bytes page)) }
+{
+    let mut told = Explanation::new(alloc);
+    let area = areas.without_header();
+    if area.start == 0 {
+        say_first(&mut told, area.bytes);
+    } else {
+        say_second(&mut told, area.start);
     }
     page_of(alloc, name, words_of(alloc, "611 NotStore"), told)
 }
@@ -158,16 +175,18 @@ fn say_before(note: &mut Words, count: u64) {
     }
 }
 
-/// Tells a person which record of a store isn't one, by the bytes of the area: its number, its offset, and what is wrong with it.
+/// Tells a person which record of a store isn't one, by its areas: its number, its offset, and what is wrong with it.
 pub fn explain_damaged(
     alloc: Global,
     name: &str,
-    bytes: &[u8],
+    areas: Areas<'_>,
     offset: u64,
 ) -> Result<String, Memory>
     ensures { IfOk result (λ page. IsPage (string_bytes page)) }
 {
-    let gate = usize::try_from(offset).unwrap_or(bytes.len());
+    let area = areas.around(offset);
+    let bytes = area.bytes;
+    let gate = usize::try_from(offset.saturating_sub(area.start)).unwrap_or(bytes.len());
     let mut records = Records::of(bytes);
     records.pass(gate);
     let mut told = Explanation::new(alloc);

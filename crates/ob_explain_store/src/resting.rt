@@ -2,6 +2,7 @@
 ghost use Rattle.std.specs.Prelude.{string_bytes, IfOk};
 ghost use Rattle.ob_explain_page.specs.Pages.{IsPage};
 
+use crate::areas::Areas;
 use crate::lines::{put_parts, put_title, words_of};
 use crate::places::{HeldBy, Holder, Places, object_of, places_of};
 use crate::records::image_of;
@@ -236,19 +237,19 @@ fn put_failing(alloc: Global, page: &mut Page, bytes: &[u8], id: ObjectId) -> Re
 /// What is done about such a store.
 const HELP: &str = "the file was changed, since no request leads there: take the last copy.";
 
-/// Tells a person of a store that isn't at rest, by the bytes of its area: the first object that fails, in which way, and which places
+/// Tells a person of a store that isn't at rest, by its areas: the first object that fails, in which way, and which places
 /// own or share it.
 pub fn explain_not_at_rest(
     alloc: Global,
     name: &str,
-    bytes: &[u8],
+    areas: Areas<'_>,
     id: ObjectId,
 ) -> Result<String, Memory>
     ensures { IfOk result (λ page. IsPage (string_bytes page)) }
 {
     let mut page = Page::new(alloc);
     put_title(&mut page, name, words_of(alloc, "601 NotAtRest"))?;
-    put_failing(alloc, &mut page, bytes, id)?;
+    put_failing(alloc, &mut page, areas.current(), id)?;
     page.put_words("  help: ", HELP)?;
     page.into_text()
 }

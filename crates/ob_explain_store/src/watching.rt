@@ -1,37 +1,57 @@
-//! A disk whose front is noted when it is first read.
+//! A disk of which is noted what stands on it as it is opened.
 
-use crate::records::Records;
+use crate::records::{Records, is_open, serial_of};
 use ob_base::Failed;
 use ob_disk::Disk;
 use std::cell::Cell;
 
-/// What stands at the front of a disk when it is first read.
+/// What stands on a disk as a store is opened there.
 #[derive(Clone, Copy)]
 pub struct Front {
-    /// How many bytes there are, up to the end of the area.
-    pub length: usize,
+    /// How many bytes the disk has.
+    pub length: u64,
     /// Whether it is blank, so that a store is begun there.
     pub blank: bool,
-    /// How many records there are.
+    /// How many records the current area has.
     pub records: u64,
-    /// How many bytes the store has, up to the gate behind its records.
+    /// How many bytes that area has, up to the gate behind its records.
     pub used: usize,
+    /// How many of them all that the store held took when it last moved there; 0 where it never moved.
+    pub moved: usize,
+    // How many bytes this is known by.
+    read: usize,
 }
 
-// What stands at a front.
-fn front_of(bytes: &[u8]) -> Front {
-    let mut records = Records::of(bytes);
-    records.pass(bytes.len());
+// What is known of a disk of so many bytes of which none was read.
+fn unread(length: u64) -> Front {
     Front {
-        length: bytes.len(),
-        blank: matches!(bytes, [] | [_] | [0, ..]),
-        records: records.count,
-        used: records.gate.saturating_add(1),
+        length,
+        blank: true,
+        records: 0,
+        used: 0,
+        moved: 0,
+        read: 0,
     }
 }
 
-/// A disk, each of whose calls is one of the disk that it holds. What it reads first, which is the whole area, it also notes for a
-/// person.
+// What is known of a disk of so many bytes by these, from the start of an area on.
+fn front_of(length: u64, bytes: &[u8]) -> Front {
+    let mut records = Records::of(bytes);
+    let _ = records.step();
+    let first = records.gate.saturating_add(1);
+    records.pass(bytes.len());
+    Front {
+        length,
+        blank: !is_open(bytes),
+        records: records.count,
+        used: records.gate.saturating_add(1),
+        moved: if serial_of(bytes) > 1 { first } else { 0 },
+        read: bytes.len(),
+    }
+}
+
+/// A disk, each of whose calls is one of the disk that it holds. Beside that it notes for a person how long the disk is, and the most
+/// bytes that are read of it at once: those are the current area, if there is one.
 #[derive(Drop)]
 pub struct Watched<'a, D> {
     disk: D,
@@ -39,7 +59,7 @@ pub struct Watched<'a, D> {
 }
 
 impl<'a, D> Watched<'a, D> {
-    /// A disk that is watched, and where its front is noted.
+    /// A disk that is watched, and where it is noted what stands there.
     pub fn new(disk: D, front: &'a Cell<Option<Front>>) -> Self {
         Watched { disk, front }
     }
@@ -49,10 +69,23 @@ impl<'a, D> Watched<'a, D> {
         &self.disk
     }
 
-    // Notes the bytes that are read first.
+    // Notes how long the disk is, when that is first told.
+    fn note_length(&self, told: &Result<u64, Failed>) {
+        if let Ok(length) = told {
+            if self.front.get().is_none() {
+                self.front.set(Some(unread(*length)));
+            }
+        }
+    }
+
+    // Notes bytes that are read, if they are more than before.
     fn note(&self, bytes: &[u8]) {
-        if self.front.get().is_none() {
-            self.front.set(Some(front_of(bytes)));
+        let known = match self.front.get() {
+            Some(front) => front,
+            None => unread(0),
+        };
+        if bytes.len() > known.read {
+            self.front.set(Some(front_of(known.length, bytes)));
         }
     }
 }
@@ -71,7 +104,9 @@ impl<'a, D: Disk> Disk for Watched<'a, D> {
     }
 
     fn len(&mut self) -> Result<u64, Failed> {
-        self.disk.len()
+        let told = self.disk.len();
+        self.note_length(&told);
+        told
     }
 
     fn read(&mut self, at: u64, into: &mut [u8]) -> Result<(), Failed> {

@@ -1,32 +1,46 @@
 -- A record is put on a disk: what each of the two writes leaves.
-use Rattle.std.proofs.Common.{inl, ℕ, ◌+◌, List, [], ◌∷◌, length, take, arith, length-take}
+use Rattle.std.proofs.Common.{◌≡◌, inl, Bool, ℕ, ◌+◌, ◌≤◌, ◌^◌, List, [], ◌∷◌, ◌++◌, length, refl, sym, ap, subst, arith, length-append}
 use Rattle.ob_disk_spec.specs.Disk.{DiskView, Reads, WrittenOver}
-use Rattle.ob_disk_spec.specs.Durable.{Throughout, TornFrom}
-use Rattle.ob_disk_spec.proofs.Moments.{throughout_to, throughout_may}
-use Rattle.ob_journal_spec.specs.Areas.{Journaled, StandsWithOrWithout, with_payload, area_of}
-use Rattle.ob_journal_spec.proofs.Appending.{Staged, kept_behind, stages, opens_torn, opens, gate_within, staged_within}
-use Rattle.ob_journal_spec.proofs.Cut.{torn_area, overwritten_area}
-use Rattle.ob_journal.specs.Moments.{IsWhole, IsAppend}
+use Rattle.ob_disk_spec.specs.Durable.{Throughout, During, TornFrom}
+use Rattle.ob_disk_spec.proofs.Moments.{throughout_to, throughout_may, during_to, during_then}
+use Rattle.ob_journal_spec.specs.Spellings.{sized}
+use Rattle.ob_journal_spec.specs.Areas.{Journaled, with_payload, next_gate}
+use Rattle.ob_journal_spec.specs.Disks.{Place, start_of, IsWithOrWithout}
+use Rattle.ob_journal_spec.proofs.DiskAppending.{IsStagedAt, body_kept, body_staged, gate_torn, gate_opens, append_beside}
+use Rattle.ob_journal_spec.proofs.Spelled.{length-sized}
+use Rattle.ob_journal.specs.Moments.{IsHeld, IsAppend, LooksClosed}
 
-module _ (size : ℕ) (j : Journaled) (payload : List ℕ) (gate : ℕ) (built : List ℕ) (is : IsAppend size j payload gate built) (v : DiskView) (was : IsWhole size j v) where
+module _ (size : ℕ) (place : Place) (j : Journaled) (closed : Bool) (payload : List ℕ) (gate : ℕ) (built : List ℕ) (is : IsAppend size place j payload gate built) (v : DiskView) (was : IsHeld size place j closed v) where
   -- the write behind the gate
-  pub body_torn : (c : List ℕ) → TornFrom v (gate + 1) (length built) c → StandsWithOrWithout j payload (area_of size c)
-  body_torn c a =
-      inl (kept_behind j payload gate is.place (length built) (take size a.0) (take size c) (throughout_may v _ was a.0 a.1) (torn_area size (gate + 1) (length built) a.0 c (omega (arith, is.within)) a.2))
+  pub body_during : (w : DiskView) → During v w (TornFrom v (gate + 1) (length built)) → During v w (IsWithOrWithout size place j payload)
+  body_during w put = during_to v w _ _ put (λ c a. inl (body_kept size place j payload gate is.at (length built) a.0 c is.within (throughout_may v _ was.whole a.0 a.1) a.2))
 
-  pub body_there : (w : DiskView) → Throughout w (WrittenOver (Reads v) (gate + 1) built) → Throughout w (λ c. Staged j payload (area_of size c))
-  body_there w now = throughout_to w _ _ now (λ c a.
-      let stands = was.content a.0 a.1 in
-      let within = gate_within j payload gate is.place (take size a.0) stands in
-      stages j payload gate is.place built (take size a.0) (take size c) is.fits is.is stands
-      (overwritten_area size (gate + 1) built a.0 c (omega (arith, is.within)) (omega (arith, within, length-take size a.0)) a.2))
+  module _ (w : DiskView) (put : Throughout w (WrittenOver (Reads v) (gate + 1) built)) where
+    staged : Throughout w (IsStagedAt size place j payload)
+    staged = throughout_to w _ _ put (λ c a. body_staged size place j payload gate is.at built a.0 c is.within is.fits is.is (was.whole.content a.0 a.1) a.2)
 
-  -- the write of the gate
-  pub gate_torn : (w : DiskView) → Throughout w (λ c. Staged j payload (area_of size c)) → (c : List ℕ) → TornFrom w gate 1 c → StandsWithOrWithout j payload (area_of size c)
-  gate_torn w now c a = opens_torn j payload gate is.place (take size a.0) (take size c) (throughout_may w _ now a.0 a.1) (torn_area size gate 1 a.0 c (omega (arith, is.within)) a.2)
+    -- the write of the gate
+    pub both_during : (x : DiskView) → During v w (TornFrom v (gate + 1) (length built)) → During w x (TornFrom w gate 1) → During v x (IsWithOrWithout size place j payload)
+    both_during x one other = during_then v w x _ (body_during w one) (during_to w x _ _ other (λ c a. gate_torn size place j payload gate is.at a.0 c (throughout_may w _ staged a.0 a.1) a.2))
 
-  pub gate_there : (w x : DiskView) → Throughout w (λ c. Staged j payload (area_of size c)) → Throughout x (WrittenOver (Reads w) gate (1 ∷ [])) → IsWhole size (with_payload j payload) x
-  gate_there w x now then = throughout_to x _ _ then (λ c a.
-      let staged = now.content a.0 a.1 in
-      let within = staged_within j payload gate is.place (take size a.0) staged in
-      opens j payload gate is.place (take size a.0) (take size c) staged (overwritten_area size gate (1 ∷ []) a.0 c (omega (arith, is.within)) (omega (arith, within, length-take size a.0)) a.2))
+    pub both_held : (x : DiskView) → Throughout x (WrittenOver (Reads w) gate (1 ∷ [])) → IsHeld size place (with_payload j payload) closed x
+    both_held x other = record {
+      whole = throughout_to x _ _ other (λ c a. gate_opens size place j payload gate is.at a.0 c (staged.content a.0 a.1) a.2);
+      other = throughout_to x _ _ other (λ c a.
+          let b = put.content a.0 a.1 in
+          let same = append_beside size place j payload gate is.at built b.0 a.0 c is.within (was.whole.content b.0 b.1) b.2 a.2 in
+          subst (LooksClosed closed) (sym same) (was.other.content b.0 b.1));
+    }
+
+-- what was built appends
+pub appends : (size : ℕ) (place : Place) (j : Journaled) (payload built : List ℕ) (start gate : ℕ) → start ≡ start_of size place → gate ≡ next_gate j → size ≤ 2 ^ 31 → gate + 6 + length payload ≤ size → built ≡ sized.bytes payload ++ 0 ∷ [] → IsAppend size place j payload (start + gate) built
+appends size place j payload built start gate at next small within is = record {
+  at = omega (arith, at, next);
+  within = omega (arith, next, within, ap (λ (l : List ℕ). length l) is, length-append (sized.bytes payload) (0 ∷ []), length-sized payload);
+  fits = (omega (arith, small, within), refl);
+  is = is;
+}
+
+-- how long it is
+pub record_length : (payload built : List ℕ) → built ≡ sized.bytes payload ++ 0 ∷ [] → length built ≡ 5 + length payload
+record_length payload built is = omega (arith, ap (λ (l : List ℕ). length l) is, length-append (sized.bytes payload) (0 ∷ []), length-sized payload)

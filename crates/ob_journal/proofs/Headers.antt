@@ -1,15 +1,12 @@
 -- A header is read part by part.
 use Rattle.std.proofs.Common.{◌≡◌, ℕ, ℤ, ◌<◌, ◌≤◌, ◌^◌, List, [], ◌∷◌, ◌++◌, length, take, drop, refl, sym, ◌∙◌, ap, subst, append_assoc}
-use Rattle.std.specs.Prelude.{pos, ◌≤ℤ◌, ◌<ℤ◌}
-use Rattle.std.specs.Int.Signed.{<ℤ_irrefl, <ℤ-≤ℤ_trans}
-use Rattle.std.proofs.lemmas.Int.{by_lt_z}
-use Rattle.std.specs.Int.{w64}
-use Rattle.std.specs.Int.RustNames.{FitsSigned}
 use Rattle.ob_base.specs.Bytes.{u32_bytes, i64_bytes}
 use Rattle.ob_base.proofs.FieldsLemmas.{one_i64}
 use Rattle.ob_journal_spec.specs.Spellings.{sized}
 use Rattle.ob_journal_spec.specs.Areas.{HasHeader, HasRecord}
 use Rattle.ob_journal_spec.proofs.Reading.{whole_sized}
+use Rattle.ob_journal_spec.specs.Heads.{BeginsHeader}
+use Rattle.ob_journal.specs.Heads.{IsHead}
 use Rattle.ob_journal.specs.Parts.{IsSized, IsSerial, BeginsSerial}
 
 -- ---- bytes with their number
@@ -19,17 +16,6 @@ sized_there bytes left rest more n small is behind within ends =
     let same : rest ≡ left = behind ∙ ap (drop 4) is in
     let whole = whole_sized bytes rest n small (is ∙ ap (λ (l : List ℕ). u32_bytes n ++ l) (sym same)) within in
     (whole.0, whole.1 ∙ ap (λ (l : List ℕ). sized.bytes (take n rest) ++ l) (sym ends))
-
--- ---- a serial
-
-pub low_serial : (bytes rest : List ℕ) (z : ℤ) → FitsSigned w64 z → bytes ≡ i64_bytes z ++ rest → z <ℤ pos 1 → ¬ (BeginsSerial bytes)
-low_serial bytes rest z fits is low = λ has.
-    let both = one_i64 has.0 z has.1 rest has.2.fits fits (sym has.2.is ∙ is) in <ℤ_irrefl (<ℤ-≤ℤ_trans low (subst (λ (x : ℤ). pos 1 ≤ℤ x) both.0 has.2.from_one))
-
-pub high_serial : (bytes rest more : List ℕ) (z : ℤ) → FitsSigned w64 z → bytes ≡ i64_bytes z ++ rest → ¬ (z <ℤ pos 1) → more ≡ drop 8 bytes → IsSerial bytes z more
-high_serial bytes rest more z fits is high ends =
-    let same : more ≡ rest = ends ∙ ap (λ (l : List ℕ). drop 8 l) is in
-    record { fits = fits; from_one = by_lt_z z (pos 1) (λ low. absurd (high low)) (λ from. from); is = is ∙ ap (λ (l : List ℕ). i64_bytes z ++ l) (sym same) }
 
 -- ---- a header
 
@@ -60,6 +46,15 @@ module _ (bytes rest : List ℕ) (gate : ℕ) (is : bytes ≡ gate ∷ 79 ∷ 66
           fits = (tt, (number.fits, subst (λ (l : List ℕ). sized.fits l) same r.fits));
           from_one = number.from_one;
         }
+
+-- ---- the numbers of a header
+
+module _ (bytes rest : List ℕ) (gate : ℕ) (is : bytes ≡ gate ∷ 79 ∷ 66 ∷ 83 ∷ 65 ∷ rest) where
+  behind_head : (s : ℤ) (n : ℕ) → BeginsHeader s n bytes → rest ≡ i64_bytes s ++ u32_bytes n
+  behind_head s n begins = ap (λ (l : List ℕ). drop 5 l) (sym is ∙ begins.is)
+
+  pub no_head_serial : ¬ (BeginsSerial rest) → ¬ (IsHead bytes)
+  no_head_serial none = λ h. none (h.0, u32_bytes h.1, record { fits = h.2.fits; from_one = h.2.from_one; is = behind_head h.0 h.1 h.2 })
 
 -- ---- a record
 

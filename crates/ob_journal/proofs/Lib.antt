@@ -1,4 +1,7 @@
+pub mod Opens
 pub mod Appends
-pub mod Begins
 pub mod Headers
-pub mod Fronts
+pub mod Walks
+pub mod AreaHeads
+pub mod Finds
+pub mod Moves

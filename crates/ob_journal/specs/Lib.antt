@@ -1,7 +1,10 @@
-pub mod Parts
+pub mod Places
 pub mod Surveys
-pub mod Finding
-pub mod Journals
 pub mod Moments
-pub mod Reading
+pub mod Opening
+pub mod Journals
+pub mod Finding
 pub mod Rooms
+pub mod Parts
+pub mod Reading
+pub mod Heads

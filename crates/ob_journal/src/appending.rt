@@ -1,25 +1,27 @@
 //! A record is put on a disk.
-ghost use Rattle.std.specs.Prelude.{◌≡◌, ◌+◌, ◌<◌, ◌≤◌, ◌^◌, ◌++◌, ◌∷◌, [], ℕ, List, length, IfOk, OnOk};
+ghost use Rattle.std.specs.Prelude.{◌≡◌, ◌+◌, ◌<◌, ◌≤◌, ◌^◌, ◌++◌, ◌∷◌, [], ℕ, List, Bool, length, IfOk, OnOk};
 ghost use Rattle.ob_disk_spec.specs.Disk.{Reads, WrittenOver};
 ghost use Rattle.ob_disk_spec.specs.Durable.{Throughout, During, KeepsBehind};
 ghost use Rattle.ob_io.specs.Causes.{HasCause};
 ghost use Rattle.ob_journal_spec.specs.Spellings.{sized};
-ghost use Rattle.ob_journal_spec.specs.Areas.{Journaled, with_payload, StandsWithOrWithout, area_of};
-ghost use Rattle.ob_journal.specs.Moments.{IsWhole, IsAppend};
+ghost use Rattle.ob_journal_spec.specs.Areas.{Journaled, with_payload};
+ghost use Rattle.ob_journal_spec.specs.Disks.{Place, IsWithOrWithout};
+ghost use Rattle.ob_journal.specs.Moments.{IsHeld, IsAppend};
 
 use ob_base::{Failed, Memory, put_u32};
 use ob_disk::{Disk, durable_write};
 use std::alloc::Global;
 
-/// Puts what was built behind a closed gate, and then opens that. A crash in it, and an `Err`, leave the area with the
+/// Puts what was built behind a closed gate, and then opens that. A crash in it, and an `Err`, leave the disk with the
 /// record or without it.
 pub fn put_record<D: Disk>(disk: &mut D, gate: u64, built: &[u8]) -> Result<(), Failed>
     requires { gate + length built.now < 2 ^ 62 }
-    ensures whole { OnOk result ((size : ℕ) (j : Journaled) (payload : List ℕ) → IsAppend size j payload gate built.now →
-        IsWhole size j (D.view disk.old) → IsWhole size (with_payload j payload) (D.view disk.new)) }
-    ensures crash { (size : ℕ) (j : Journaled) (payload : List ℕ) → IsAppend size j payload gate built.now →
-        IsWhole size j (D.view disk.old) →
-        During (D.view disk.old) (D.view disk.new) (λ c. StandsWithOrWithout j payload (area_of size c)) }
+    ensures held { OnOk result ((size : ℕ) (place : Place) (j : Journaled) (closed : Bool) (payload : List ℕ) →
+        IsAppend size place j payload gate built.now → IsHeld size place j closed (D.view disk.old) →
+        IsHeld size place (with_payload j payload) closed (D.view disk.new)) }
+    ensures crash { (size : ℕ) (place : Place) (j : Journaled) (closed : Bool) (payload : List ℕ) →
+        IsAppend size place j payload gate built.now → IsHeld size place j closed (D.view disk.old) →
+        During (D.view disk.old) (D.view disk.new) (IsWithOrWithout size place j payload) }
     ensures written { OnOk result (Throughout (D.view disk.new)
         (WrittenOver (WrittenOver (Reads (D.view disk.old)) (gate + 1) built.now) gate (1 ∷ []))) }
     ensures behind { (size : ℕ) → gate + 1 + length built.now ≤ size → KeepsBehind size (D.view disk.old) (D.view disk.new) }
@@ -31,14 +33,23 @@ pub fn put_record<D: Disk>(disk: &mut D, gate: u64, built: &[u8]) -> Result<(), 
     Ok(())
 }
 
+/// Puts a payload behind other bytes, with the number of its bytes.
+pub fn put_sized(out: &mut Vec<u8>, payload: &[u8]) -> Result<(), Memory>
+    requires { length payload.now < 2 ^ 32 }
+    ensures { OnOk result (out.new.items ≡ out.old.items ++ sized.bytes payload.now) }
+{
+    put_u32(out, payload.len() as u32)?;
+    out.extend_from_slice(payload)?;
+    Ok(())
+}
+
 /// The bytes that append a record: its payload with the number of its bytes, and a closed gate.
 pub fn record_of(alloc: Global, payload: &[u8]) -> Result<Vec<u8>, Memory>
     requires { length payload.now < 2 ^ 32 }
     ensures { IfOk result (λ bytes. bytes.items ≡ sized.bytes payload.now ++ 0 ∷ []) }
 {
     let mut bytes = Vec::new(alloc);
-    put_u32(&mut bytes, payload.len() as u32)?;
-    bytes.extend_from_slice(payload)?;
+    put_sized(&mut bytes, payload)?;
     bytes.push(0)?;
     Ok(bytes)
 }

@@ -5,9 +5,14 @@ mod appending;
 mod beginning;
 mod error;
 mod finding;
+mod heads;
 mod journal;
 mod parts;
+mod place;
+mod recorded;
 mod records;
 
 pub use error::{BuildError, DiskFault, JournalError};
-pub use journal::{Built, Found, Journal};
+pub use journal::{Built, BuiltArea, Found, Journal};
+pub use recorded::Recorded;
+pub use records::first_record;

@@ -1,41 +1,62 @@
 //! What an area says, read from its bytes.
-ghost use Rattle.std.specs.Prelude.{◌≡◌, ◌+◌, ◌<◌, ◌≤◌, ◌^◌, ◌++◌, ◌∷◌, [], length, take, map, vec_len, vec_capacity, IfOk, OnOk};
-ghost use Rattle.ob_journal_spec.specs.Areas.{Front, begun, with_payload};
-ghost use Rattle.ob_journal.specs.Surveys.{payload_of, plain, ReadsRecords, Surveys};
+ghost use Rattle.std.specs.Prelude.{◌≡◌, ◌+◌, ◌<◌, ◌≤◌, ◌^◌, ℕ, List, [], length, IfOk, MatchOption, IfSome};
+ghost use Rattle.ob_journal_spec.specs.Areas.{Records};
+ghost use Rattle.ob_journal.specs.Surveys.{IsFirst, EndsAs, Surveys};
 
 use crate::error::AreaFault;
-use crate::parts::{behind, header, record_behind};
+use crate::parts::{behind, header, record_behind, sized};
 use ob_base::Memory;
 use std::alloc::Global;
 
-/// What an area says: its serial, its image, the payloads of its records, and where the gate behind them is.
+/// The payload of the first of some records, and the others.
+pub fn first_record(records: &[u8]) -> Option<(&[u8], &[u8])>
+    ensures first { (payloads : List (List ℕ)) → Records payloads records.now →
+        MatchOption result (payloads ≡ []) (λ x. IsFirst x.0.now x.1.now payloads) }
+    ensures shorter { IfSome result (λ x. length x.1.now < length records.now) }
+{
+    if records.is_empty() {
+        return None;
+    }
+    let Some((payload, rest)) = sized(behind(records, 1)) else {
+        return None;
+    };
+    Some((payload, rest))
+}
+
+/// What an area says: its serial, its image, and where the gate behind its records is.
 #[derive(Drop)]
 pub struct ReadArea {
     /// The serial.
     pub serial: i64,
     /// The bytes of the image.
     pub image: Vec<u8>,
-    /// The payloads.
-    pub payloads: Vec<Vec<u8>>,
     /// The offset of the next gate.
-    pub gate: u64,
+    pub gate: usize,
 }
 
-/// What is found in an area.
-#[derive(Drop)]
-pub enum Survey {
-    /// It is blank.
-    Blank,
-    /// It represents this.
-    Standing(ReadArea),
+/// Where records end.
+#[derive(Clone, Copy)]
+pub enum RecordsEnd {
+    /// At this closed gate.
+    Closed(usize),
+    /// At this open gate, behind which no record stands.
+    Unreadable(usize),
 }
 
-// Puts a payload behind the others.
-fn add(alloc: Global, payloads: &mut Vec<Vec<u8>>, payload: &[u8]) -> Result<(), Memory>
-    ensures { OnOk result (map payload_of payloads.new.items ≡ map payload_of payloads.old.items ++ payload.now ∷ []) }
+// Where the records end that begin here.
+fn records_end(bytes: &[u8]) -> RecordsEnd
+    requires some { 0 < length bytes.now }
+    requires small { length bytes.now ≤ 2 ^ 31 }
+    ensures { EndsAs result bytes.now }
 {
-    payloads.push(payload.to_vec(alloc)?)?;
-    Ok(())
+    let mut gate = 0;
+    'records: while bytes[gate] != 0 {
+        let Some(payload) = record_behind(behind(bytes, gate + 1)) else {
+            return RecordsEnd::Unreadable(gate);
+        };
+        gate += 5 + payload.len();
+    }
+    RecordsEnd::Closed(gate)
 }
 
 /// The same bytes in memory of their own.
@@ -46,77 +67,28 @@ pub fn copied(alloc: Global, bytes: &[u8]) -> Result<Vec<u8>, Memory>
     Ok(copy)
 }
 
-/// An area that has just been begun for an image.
-pub fn begun_area(alloc: Global, image: Vec<u8>) -> ReadArea
-    requires { length image.items < 2 ^ 62 }
-    ensures plain { plain result ≡ begun image.items }
-    ensures gate { result.gate ≡ 17 + length image.items }
-{
-    let gate = image.len() as u64 + 17;
-    ReadArea {
-        serial: 1,
-        image,
-        payloads: Vec::new(alloc),
-        gate,
-    }
-}
-
-// The records behind a header.
-fn records(alloc: Global, bytes: &[u8], serial: i64, image: Vec<u8>) -> Result<ReadArea, AreaFault>
-    requires front { Front (record { serial = serial; image = image.items; payloads = [] }) (take (17 + length image.items) bytes.now) }
-    requires within { 17 + length image.items < length bytes.now }
-    requires small { length bytes.now ≤ 2 ^ 31 }
-    ensures { ReadsRecords result bytes.now }
-{
-    let mut payloads = Vec::new(alloc);
-    let mut gate = 17 + image.len();
-    'records: while bytes[gate] != 0 {
-        let Some(payload) = record_behind(behind(bytes, gate + 1)) else {
-            return Err(AreaFault::Damaged(gate as u64));
-        };
-        let Ok(()) = add(alloc, &mut payloads, payload) else {
-            return Err(AreaFault::Memory);
-        };
-        gate += 5 + payload.len();
-    }
-    Ok(ReadArea {
-        serial,
-        image,
-        payloads,
-        gate: gate as u64,
-    })
-}
-
-/// What an area says, or why it says nothing.
-pub fn survey_area(alloc: Global, bytes: &[u8]) -> Result<Survey, AreaFault>
+/// What an area says, or why it says nothing. Its records aren't copied.
+pub fn survey_area(alloc: Global, bytes: &[u8]) -> Result<ReadArea, AreaFault>
     requires { length bytes.now ≤ 2 ^ 31 }
     ensures { Surveys result bytes.now }
 {
-    if bytes.len() <= 1 || bytes[0] == 0 {
-        return Ok(Survey::Blank);
+    if bytes.is_empty() || bytes[0] == 0 {
+        return Err(AreaFault::NotStore);
     }
     let Some((serial, image)) = header(bytes) else {
         return Err(AreaFault::NotStore);
     };
+    let first = 17 + image.len();
+    let gate = match records_end(behind(bytes, first)) {
+        RecordsEnd::Closed(gate) => first + gate,
+        RecordsEnd::Unreadable(gate) => return Err(AreaFault::Damaged((first + gate) as u64)),
+    };
     let Ok(image) = copied(alloc, image) else {
         return Err(AreaFault::Memory);
     };
-    match records(alloc, bytes, serial, image) {
-        Ok(contents) => Ok(Survey::Standing(contents)),
-        Err(fault) => Err(fault),
-    }
-}
-
-/// Puts a payload behind the others. It takes no memory.
-pub fn put_last(contents: &mut ReadArea, payload: Vec<u8>)
-    requires room { vec_len contents.old.payloads < vec_capacity contents.old.payloads }
-    requires small { contents.old.gate + length payload.items < 2 ^ 62 }
-    ensures payloads { plain contents.new ≡ with_payload (plain contents.old) payload.items }
-    ensures gate { contents.new.gate ≡ contents.old.gate + (5 + length payload.items) }
-{
-    contents.gate += 5 + payload.len() as u64;
-    match contents.payloads.push(payload) {
-        Ok(()) => {}
-        Err(_) => unreachable!(),
-    }
+    Ok(ReadArea {
+        serial,
+        image,
+        gate,
+    })
 }

@@ -1,9 +1,13 @@
 -- An append: what each of its two writes makes of an area.
-use Rattle.std.proofs.Common.{◌≡◌, inl, inr, ℕ, zero, suc, ◌+◌, ◌≤◌, List, [], ◌∷◌, ◌++◌, length, drop, sym, ◌∙◌, ap, subst, arith, append_assoc, length-append}
+use Rattle.std.proofs.Common.{◌≡◌, ◌⊎◌, inl, inr, ℕ, zero, suc, ◌+◌, ◌≤◌, List, [], ◌∷◌, ◌++◌, length, drop, sym, ◌∙◌, ap, subst, arith, append_assoc, length-append}
 use Rattle.ob_disk_spec.specs.Disk.{Torn, overwritten}
 use Rattle.ob_journal_spec.specs.Spellings.{sized}
-use Rattle.ob_journal_spec.specs.Areas.{Journaled, Front, StandsFor, next_gate, with_payload, StandsWithOrWithout}
+use Rattle.ob_journal_spec.specs.Areas.{Journaled, Front, StandsFor, next_gate, with_payload}
 use Rattle.ob_journal_spec.proofs.Bytes.{length-front, front-append, drop_front, torn_behind, torn_byte, put_inside}
+
+-- the area represents the records with this one or without it
+abbrev pub StandsWithOrWithout : Journaled → List ℕ → List ℕ → Type 0
+StandsWithOrWithout j payload area = StandsFor j area ⊎ StandsFor (with_payload j payload) area
 
 -- the record stands whole behind the closed gate
 pub record Staged (j : Journaled) (payload area : List ℕ) : Type 0 where

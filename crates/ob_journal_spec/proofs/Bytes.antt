@@ -9,12 +9,12 @@ use Rattle.ob_journal_spec.proofs.Spelled.{length-sized, length-header}
 
 -- ---- records
 
-length-records : (payloads : List (List ℕ)) (bytes : List ℕ) → Records payloads bytes → length bytes ≡ size_of payloads
+pub length-records : (payloads : List (List ℕ)) (bytes : List ℕ) → Records payloads bytes → length bytes ≡ size_of payloads
 length-records [] bytes is = ap length is
 length-records (payload ∷ payloads) bytes is =
     let rest = length-records payloads is.1 is.5 in omega (arith, ap length is.4, length-append (sized.bytes payload) is.1, length-sized payload, rest)
 
-records-append : (payloads : List (List ℕ)) (bytes payload : List ℕ) (gate : ℕ) → 0 < gate → sized.fits payload → Records payloads bytes → Records (payloads ++ payload ∷ []) (bytes ++ gate ∷ sized.bytes payload)
+pub records-append : (payloads : List (List ℕ)) (bytes payload : List ℕ) (gate : ℕ) → 0 < gate → sized.fits payload → Records payloads bytes → Records (payloads ++ payload ∷ []) (bytes ++ gate ∷ sized.bytes payload)
 records-append [] bytes payload gate is_open fits is = (gate, [], is_open, fits, ap (λ (l : List ℕ). l ++ gate ∷ sized.bytes payload) is ∙ sym (append-nil (gate ∷ sized.bytes payload)), refl)
 records-append (p ∷ payloads) bytes payload gate is_open fits is = (
   is.0,
@@ -43,6 +43,9 @@ front-append j bytes payload gate is_open fits s = record {
 pub size-append : (payloads : List (List ℕ)) (payload : List ℕ) → size_of (payloads ++ payload ∷ []) ≡ size_of payloads + (5 + length payload)
 size-append [] payload = omega arith
 size-append (p ∷ payloads) payload = omega (arith, size-append payloads payload)
+
+pub next_more : (j : Journaled) (payload : List ℕ) → next_gate (with_payload j payload) ≡ next_gate j + (5 + length payload)
+next_more j payload = omega (arith, size-append j.payloads payload)
 
 -- ---- bytes before an offset, the byte there, and those behind it
 

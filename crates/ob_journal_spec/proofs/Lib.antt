@@ -5,4 +5,11 @@ pub mod Cut
 pub mod Appending
 pub mod Beginning
 pub mod Reading
-pub mod Whole
+pub mod Beside
+pub mod Older
+pub mod DiskAppending
+pub mod DiskBuilding
+pub mod Heads
+pub mod DiskReading
+pub mod UniqueDisks
+pub mod Complete

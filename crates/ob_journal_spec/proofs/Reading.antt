@@ -71,15 +71,10 @@ gate_is j bytes gate front within = omega (arith, length-take gate bytes, within
 -- ---- parts from the front
 
 -- bytes with a number before them
-pub BeginsSized : List ℕ → Type 0
+abbrev pub BeginsSized : List ℕ → Type 0
 BeginsSized bytes = (b : List ℕ) × (rest : List ℕ) × sized.fits b × (bytes ≡ sized.bytes b ++ rest)
 
-pub short_sized : (bytes : List ℕ) → length bytes < 4 → ¬ (BeginsSized bytes)
-unfolding BeginsSized
-short_sized bytes short = λ has. omega (arith, short, ap length has.3, length-append (sized.bytes has.0) has.1, length-sized has.0)
-
 pub cut_sized : (bytes rest : List ℕ) (n : ℕ) → n < 2 ^ 32 → bytes ≡ u32_bytes n ++ rest → length rest < n → ¬ (BeginsSized bytes)
-unfolding BeginsSized
 cut_sized bytes rest n small is short = λ has.
     let both = one_u32 n (length has.0) rest (has.0 ++ has.1) small has.2.0 (sym is ∙ has.3 ∙ append_assoc (u32_bytes (length has.0)) has.0 has.1) in
     omega (arith, both.0, ap length both.1, length-append has.0 has.1, short)

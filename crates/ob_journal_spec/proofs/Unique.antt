@@ -4,10 +4,10 @@ use Rattle.ob_journal_spec.specs.Spellings.{sized, header}
 use Rattle.ob_journal_spec.specs.Areas.{Journaled, Records, Front, StandsFor, IsBlank, IsOpen, HasHeader, IsNoStore, HasRecord, IsDamaged}
 use Rattle.ob_journal_spec.proofs.Spelled.{one_sized, one_header, length-header}
 
-head : {a b : ℕ} {x y : List ℕ} → a ∷ x ≡ b ∷ y → a ≡ b
+pub head : {a b : ℕ} {x y : List ℕ} → a ∷ x ≡ b ∷ y → a ≡ b
 head e = cc
 
-tail : {a b : ℕ} {x y : List ℕ} → a ∷ x ≡ b ∷ y → x ≡ y
+pub tail : {a b : ℕ} {x y : List ℕ} → a ∷ x ≡ b ∷ y → x ≡ y
 tail e = cc
 
 -- the records end at a gate: it is closed, or no record is behind it
@@ -96,7 +96,7 @@ whole_or_damaged area j n s t =
     let gates = head same.2 in omega (arith, gates, t.is_open)
 
 -- behind a front is a header
-front_header : (j : Journaled) (area front behind : List ℕ) (gate : ℕ) → Front j front → area ≡ front ++ gate ∷ behind → HasHeader j.serial j.image area
+pub front_header : (j : Journaled) (area front behind : List ℕ) (gate : ℕ) → Front j front → area ≡ front ++ gate ∷ behind → HasHeader j.serial j.image area
 front_header j area front behind gate s is =
     let next = next_of s.records gate behind in
     record {
@@ -108,7 +108,7 @@ front_header j area front behind gate s is =
       from_one = s.from_one;
     }
 
-front_open : (j : Journaled) (area front behind : List ℕ) (gate : ℕ) → Front j front → area ≡ front ++ gate ∷ behind → IsOpen area
+pub front_open : (j : Journaled) (area front behind : List ℕ) (gate : ℕ) → Front j front → area ≡ front ++ gate ∷ behind → IsOpen area
 front_open j area front behind gate s is =
     let rest = (header.bytes (j.serial, j.image) ++ s.records) ++ gate ∷ behind in
     record {

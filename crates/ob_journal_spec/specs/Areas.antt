@@ -1,4 +1,4 @@
--- Which journal the bytes of an area represent, or why they represent none (this project's own).
+-- What the bytes of an area represent, or why they represent nothing (this project's own).
 use Rattle.std.specs.Prelude.{ℕ, ℤ, pos, ◌≤ℤ◌, ◌≡◌, ◌<◌, ◌≤◌, ◌+◌, ◌⊎◌, List, [], ◌∷◌, ◌++◌, length, take}
 use Rattle.ob_journal_spec.specs.Spellings.{sized, header}
 
@@ -8,7 +8,7 @@ pub record Journaled : Type 0 where
   pub image : List ℕ
   pub payloads : List (List ℕ)
 
--- the bytes of the area of a size at the start of a disk
+-- the bytes of an area of a size that begins with these bytes
 abbrev pub area_of : ℕ → List ℕ → List ℕ
 area_of size bytes = take size bytes
 
@@ -97,11 +97,3 @@ pub record IsDamaged (offset : ℕ) (area : List ℕ) : Type 0 where
   pub is_open : 0 < gate
   pub at : offset ≡ length front
   pub no_record : ¬ (HasRecord behind)
-
--- the area represents the records with this one or without it
-abbrev pub StandsWithOrWithout : Journaled → List ℕ → List ℕ → Type 0
-StandsWithOrWithout j payload area = StandsFor j area ⊎ StandsFor (with_payload j payload) area
-
--- the area is blank, or begun for this image
-abbrev pub IsBlankOrBegun : List ℕ → List ℕ → Type 0
-IsBlankOrBegun image area = IsBlank area ⊎ StandsFor (begun image) area

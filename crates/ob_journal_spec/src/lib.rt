@@ -3,4 +3,4 @@
 
 mod laws;
 
-pub use laws::{one_meaning, one_outcome};
+pub use laws::{each_finding, one_finding, one_journal, one_meaning, one_outcome};

@@ -62,7 +62,7 @@ module _ (words : Option Asked) (old new : OutsideView) (asked : Asked) (is : wo
     taken = h.ends.of_input.input;
     took = h.ends.of_input.took;
     written = subst (λ (l : List ℕ). Gives old.output.written new.output.written l)
-        (lines_replied (source_item asked h.table) h.start h.ends.lines (lines_of h.ends.of_input.input) h.ends.k h.ends.given h.ends.answered h.ends.given_is h.ends.of_input.is)
+        (lines_replied (source_item asked h.table h.bodies) h.start h.ends.lines (lines_of h.ends.of_input.input) h.ends.k h.ends.given h.ends.answered h.ends.given_is h.ends.of_input.is)
         h.ends.written;
   }
 
@@ -73,7 +73,7 @@ module _ (words : Option Asked) (old new : OutsideView) (asked : Asked) (is : wo
     taken = h.ends.of_input.taken;
     took = h.ends.of_input.took;
     written = subst (λ (l : List ℕ). Gives old.output.written new.output.written l)
-        (lines_replied (source_item asked h.table) h.start h.ends.lines (whole_lines h.ends.of_input.taken) h.ends.k h.ends.given h.ends.answered h.ends.given_is h.ends.of_input.is)
+        (lines_replied (source_item asked h.table h.bodies) h.start h.ends.lines (whole_lines h.ends.of_input.taken) h.ends.k h.ends.given h.ends.answered h.ends.given_is h.ends.of_input.is)
         h.ends.written;
   }
 
@@ -84,18 +84,18 @@ module _ (words : Option Asked) (old new : OutsideView) (asked : Asked) (is : wo
     taken = h.ends.of_input.taken;
     took = h.ends.of_input.took;
     written = subst (λ (l : List ℕ). Gives old.output.written new.output.written l)
-        (lines_replied (source_item asked h.table) h.start h.ends.lines (whole_lines h.ends.of_input.taken) h.ends.k h.ends.given h.ends.answered h.ends.given_is h.ends.of_input.is)
+        (lines_replied (source_item asked h.table h.bodies) h.start h.ends.lines (whole_lines h.ends.of_input.taken) h.ends.k h.ends.given h.ends.answered h.ends.given_is h.ends.of_input.is)
         h.ends.written;
   }
 
   -- a prefix of the replies was written
   at_prefix : (served : Served) (h : ServesProgram asked text (devices old) (devices new) served) (of_input : HasLines old.input h.ends.lines) (rest : List ℕ)
-      → replies (session (source_item asked h.table) h.start (requests_in h.ends.lines)) ≡ h.ends.given ++ rest → AnswersSome words old new
+      → replies (session (source_item asked h.table h.bodies) h.start (requests_in h.ends.lines)) ≡ h.ends.given ++ rest → AnswersSome words old new
   at_prefix served h of_input rest is = record {
     of = begun served h;
     input = of_input.input;
     all = of_input.all;
-    written = (h.ends.given, rest, lines_begun (source_item asked h.table) h.start h.ends.lines (lines_of of_input.input) h.ends.given rest is of_input.is, h.ends.written);
+    written = (h.ends.given, rest, lines_begun (source_item asked h.table h.bodies) h.start h.ends.lines (lines_of of_input.input) h.ends.given rest is of_input.is, h.ends.written);
   }
 
   -- a write failed, within a reply
@@ -104,20 +104,20 @@ module _ (words : Option Asked) (old new : OutsideView) (asked : Asked) (is : wo
       let requests = requests_in h.ends.lines in
       let next = h.ends.k + 1 in
       let rest = h.ends.given_is.1 in
-      at_prefix ended.WriteFault h h.ends.of_input (rest ++ replies (drop next (session (source_item asked h.table) h.start requests)))
-      (first_written (source_item asked h.table) h.start requests next h.ends.given rest h.ends.given_is.3)
+      at_prefix ended.WriteFault h h.ends.of_input (rest ++ replies (drop next (session (source_item asked h.table h.bodies) h.start requests)))
+      (first_written (source_item asked h.table h.bodies) h.start requests next h.ends.given rest h.ends.given_is.3)
 
   at_disk_fault : ServesProgram asked text (devices old) (devices new) ended.DiskFault → AnswersSome words old new
   at_disk_fault h =
       let requests = requests_in h.ends.lines in
-      at_prefix ended.DiskFault h h.ends.of_input (replies (drop h.ends.k (session (source_item asked h.table) h.start requests)))
-      (first_whole (source_item asked h.table) h.start requests h.ends.k h.ends.given h.ends.given_is)
+      at_prefix ended.DiskFault h h.ends.of_input (replies (drop h.ends.k (session (source_item asked h.table h.bodies) h.start requests)))
+      (first_whole (source_item asked h.table h.bodies) h.start requests h.ends.k h.ends.given h.ends.given_is)
 
   at_memory : ServesProgram asked text (devices old) (devices new) ended.Memory → AnswersSome words old new
   at_memory h =
       let requests = requests_in h.ends.lines in
-      at_prefix ended.Memory h h.ends.of_input (replies (drop h.ends.k (session (source_item asked h.table) h.start requests)))
-      (first_whole (source_item asked h.table) h.start requests h.ends.k h.ends.given h.ends.given_is)
+      at_prefix ended.Memory h h.ends.of_input (replies (drop h.ends.k (session (source_item asked h.table h.bodies) h.start requests)))
+      (first_whole (source_item asked h.table h.bodies) h.start requests h.ends.k h.ends.given h.ends.given_is)
 
   treated_answers : (exit : Exit) → Treats asked text (devices old) (devices new) exit → AnswersWhatItTook words old new exit
   treated_answers Done (inl h) = inl h.input

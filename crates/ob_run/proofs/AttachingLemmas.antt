@@ -1,4 +1,4 @@
--- Which calls of the disk are made, and what follows the area of a store.
+-- Which calls of the disk are made, and what follows the areas of a store.
 use Rattle.std.proofs.Common.{◌≡◌, ◌⊎◌, inl, inr, ⊎_elim, ℕ, List, Option, None, Some, Result, Ok, Err, OnOk, refl, sym, ◌∙◌, subst}
 use Rattle.ob_disk_spec.specs.Disk.{DiskView, IsQuiet}
 use Rattle.ob_disk_spec.specs.Durable.{May, KeepsBehind}
@@ -8,7 +8,7 @@ use Rattle.ob_disk_spec.proofs.Moments.{during_to}
 use Rattle.ob_disk_spec.proofs.Untouched.{untouched_none, untouched_during, attached_then}
 use Rattle.ob_words.specs.Asked.{Asked}
 use Rattle.ob_run.specs.Attaching.{AttachesAtMostOnce, UsesDisk, store_of, store_asked}
-use Rattle.ob_run.specs.Sessions.{area_bytes}
+use Rattle.ob_run.specs.Sessions.{both_areas}
 
 by_nothing : (store : Option (List ℕ)) (v : DiskView) → AttachesAtMostOnce store v v
 by_nothing None v = untouched_none v
@@ -16,9 +16,9 @@ by_nothing (Some name) v = inr (record { attaches = refl; calls = refl })
 
 -- where no call was made
 pub uses_nothing : (store : Option (List ℕ)) (v : DiskView) → UsesDisk store v v
-uses_nothing store v = record { attaches = by_nothing store v; behind = behind_none area_bytes v }
+uses_nothing store v = record { attaches = by_nothing store v; behind = behind_none both_areas v }
 
--- what follows the area of a store stays on a disk of which no call was made
+-- what follows the areas of a store stays on a disk of which no call was made
 behind_untouched : (size : ℕ) (old new : DiskView) → IsUntouched old new → KeepsBehind size old new
 behind_untouched size old new is = record {
   content = λ c reads. (c, sym is.content ∙ reads, refl);
@@ -27,21 +27,21 @@ behind_untouched size old new is = record {
 
 -- the same, said by the disk
 pub uses_untouched : (old new : DiskView) → IsUntouched old new → UsesDisk None old new
-uses_untouched old new is = record { attaches = is; behind = behind_untouched area_bytes old new is }
+uses_untouched old new is = record { attaches = is; behind = behind_untouched both_areas old new is }
 
 -- the disk of a name was attached, and then used
-pub uses_attached : (name : List ℕ) (old mid new : DiskView) → IsAttached old mid name → new.attaches ≡ mid.attaches → KeepsBehind area_bytes old mid → KeepsBehind area_bytes mid new
+pub uses_attached : (name : List ℕ) (old mid new : DiskView) → IsAttached old mid name → new.attaches ≡ mid.attaches → KeepsBehind both_areas old mid → KeepsBehind both_areas mid new
     → UsesDisk (Some name) old new
 uses_attached name old mid new attached same was next = record {
   attaches = inl (attached_then old mid new name attached same);
-  behind = behind_then area_bytes old mid new was next;
+  behind = behind_then both_areas old mid new was next;
 }
 
 -- attaching it failed
 pub uses_failed : (name : List ℕ) (old new : DiskView) → IsAttached old new name ⊎ (new.attaches ≡ old.attaches) → new.calls ≡ old.calls → IsQuiet old new → UsesDisk (Some name) old new
 uses_failed name old new either calls quiet = record {
   attaches = ⊎_elim (λ taken. inl taken) (λ same. inr (record { attaches = same; calls = calls })) either;
-  behind = behind_quiet area_bytes old new quiet;
+  behind = behind_quiet both_areas old new quiet;
 }
 
 -- what holds anyway

@@ -87,7 +87,7 @@ pub record SurvivesSession (asked : Asked) (old new : OutsideView) : Type 0 wher
   pub of_input : SpeaksOf served old.input new.input lines
   pub given : List ℕ
   pub written : Gives old.output.written new.output.written given
-  pub crash : Survives (source_item asked table) (StandsOnDisk asked.command table bodies) start (requests_in lines) given old.disk new.disk
+  pub crash : Survives (source_item asked table bodies) (StandsOnDisk asked.command table bodies) start (requests_in lines) given old.disk new.disk
 
 -- No session was begun, so no input was taken. The disk is as it was handed in, or its store wasn't opened.
 pub record SurvivesUnopened (asked : Asked) (old new : OutsideView) : Type 0 where

@@ -9,7 +9,6 @@ use Rattle.ob_front.proofs.MiddleLaws.{one_lowering}
 use Rattle.ob_front.proofs.StagesLaws.{one_table}
 use Rattle.ob_io.specs.LinesOfText.{lines_of}
 use Rattle.ob_io.specs.Told.{Takes, Gives, IsEnd}
-use Rattle.ob_journal_spec.specs.Areas.{area_of}
 use Rattle.ob_store_spec.specs.Stores.{StoreProgram, StoreState, IsStoreOf}
 use Rattle.ob_store_spec.proofs.Leading.{one_store}
 use Rattle.ob_serve.specs.Crash.{AfterFirst}
@@ -79,7 +78,7 @@ module _ (words : Option Asked) (old new : OutsideView) (given : IsObservable wo
 
   -- what a run that is Done has served, for a program and a store
   abbrev Serves : ClassTable → List SilicaBody → StoreState → Type 0
-  Serves table bodies start = ServesAll (program_with table bodies) (source_item asked table) start (requests_in lines) given.old given.new new.disk.now
+  Serves table bodies start = ServesAll (program_with table bodies) (source_item asked table bodies) start (requests_in lines) given.old given.new new.disk.now
 
   -- a session that ended so has served all
   session_serves : (h : ServesProgram asked given.text (devices old) (devices new) ended.Done) → Serves h.table h.bodies h.start
@@ -96,15 +95,15 @@ module _ (words : Option Asked) (old new : OutsideView) (given : IsObservable wo
           h.ends.of_input.is ∙ ap (λ (l : List ℕ). lines_of l)
           (took_all old.input.left new.input.left given.old.input given.new.input h.ends.of_input.input given.had.input given.has.input h.ends.of_input.took.told h.ends.of_input.end)
 
-      replied : h.ends.given ≡ replies (session (source_item asked h.table) h.start (requests_in lines))
-      replied = lines_replied (source_item asked h.table) h.start h.ends.lines lines h.ends.k h.ends.given h.ends.answered h.ends.given_is is_input
+      replied : h.ends.given ≡ replies (session (source_item asked h.table h.bodies) h.start (requests_in lines))
+      replied = lines_replied (source_item asked h.table h.bodies) h.start h.ends.lines lines h.ends.k h.ends.given h.ends.answered h.ends.given_is is_input
 
       at_end : (c : List ℕ)
-          → AfterFirst (source_item asked h.table) (StandsForStore (program_with h.table h.bodies) (Some area_bytes)) h.start (requests_in h.ends.lines) (IsStored ended.Done h.ends.k) c
-          → IsStoreOf (program_with h.table h.bodies) (area_of area_bytes c) (state_after (source_item asked h.table) h.start (requests_in lines))
+          → AfterFirst (source_item asked h.table h.bodies) (StandsForStore (program_with h.table h.bodies) (Some area_bytes)) h.start (requests_in h.ends.lines) (IsStored ended.Done h.ends.k) c
+          → IsStoreOf (program_with h.table h.bodies) area_bytes c (state_after (source_item asked h.table h.bodies) h.start (requests_in lines))
       at_end c after =
-          subst (λ (ls : List (List ℕ)). IsStoreOf (program_with h.table h.bodies) (area_of area_bytes c) (state_after (source_item asked h.table) h.start (requests_in ls))) is_input
-          (after_all (source_item asked h.table) (StandsForStore (program_with h.table h.bodies) (Some area_bytes)) h.start (requests_in h.ends.lines) h.ends.k c h.ends.answered after)
+          subst (λ (ls : List (List ℕ)). IsStoreOf (program_with h.table h.bodies) area_bytes c (state_after (source_item asked h.table h.bodies) h.start (requests_in ls))) is_input
+          (after_all (source_item asked h.table h.bodies) (StandsForStore (program_with h.table h.bodies) (Some area_bytes)) h.start (requests_in h.ends.lines) h.ends.k c h.ends.answered after)
 
   -- of the given program, and from the given store on
   served : ServesProgram asked given.text (devices old) (devices new) ended.Done → Serves given.table given.bodies given.start
@@ -112,9 +111,9 @@ module _ (words : Option Asked) (old new : OutsideView) (given : IsObservable wo
       let table = one_table_of given.text h.table given.table h.bodies given.bodies h.program given.program in
       let bodies = one_bodies_of given.text h.table given.table h.bodies given.bodies h.program given.program in
       let program = one_program given.text h.table given.table h.bodies given.bodies h.program given.program in
-      let begun : IsStoreOf (program_with given.table given.bodies) (area_of area_bytes given.old.disk) h.start =
-      subst (λ (p : StoreProgram). IsStoreOf p (area_of area_bytes given.old.disk) h.start) program (h.begins.1 given.old.disk given.had.disk) in
-      let start = one_store (program_with given.table given.bodies) (area_of area_bytes given.old.disk) h.start given.start begun given.represents in
+      let begun : IsStoreOf (program_with given.table given.bodies) area_bytes given.old.disk h.start =
+      subst (λ (p : StoreProgram). IsStoreOf p area_bytes given.old.disk h.start) program (h.begins.1 given.old.disk given.had.disk) in
+      let start = one_store (program_with given.table given.bodies) area_bytes given.old.disk h.start given.start begun given.represents in
       subst (λ (s : StoreState). Serves given.table given.bodies s) start
       (subst (λ (bs : List SilicaBody). Serves given.table bs h.start) bodies (subst (λ (t : ClassTable). Serves t h.bodies h.start) table (session_serves h)))
 
@@ -135,7 +134,7 @@ module _ (words : Option Asked) (old new : OutsideView) (given : IsObservable wo
     given.had.disk,
     λ table bodies program. (
       given.start,
-      subst (λ (p : StoreProgram). IsStoreOf p (area_of area_bytes given.old.disk) given.start)
+      subst (λ (p : StoreProgram). IsStoreOf p area_bytes given.old.disk given.start)
           (one_program given.text given.table table given.bodies bodies given.program program) given.represents,
     ),
   )

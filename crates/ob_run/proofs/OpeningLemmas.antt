@@ -11,7 +11,8 @@ use Rattle.ob_front.specs.Compiled.{IsCompiledProgram}
 use Rattle.ob_front.specs.Programs.{IsProgram}
 use Rattle.ob_heap.specs.Contents.{content_of}
 use Rattle.ob_io.specs.Causes.{Rose}
-use Rattle.ob_journal_spec.specs.Areas.{IsBlankOrBegun, area_of, begun}
+use Rattle.ob_journal_spec.specs.Areas.{begun}
+use Rattle.ob_journal_spec.specs.Disks.{first, IsBlankOrBegunDisk}
 use Rattle.ob_code_table.specs.ImageTables.{table_of_image}
 use Rattle.ob_rest_spec.specs.AtRest.{IsStoreAtRest}
 use Rattle.ob_silica.specs.Terms.{SilicaBody}
@@ -40,17 +41,18 @@ room_for code need light is lacks = omega (arith, light, is, lacks)
 
 -- a store that was opened on a disk
 pub opened_at : (old new : DiskView) (code : Image) (store : Store) → area_of_store store ≡ Some area_bytes → IsStoreAtRest (table_of_image code) (content_of (kept_of store))
-    → ((c : List ℕ) → Reads old c → IsStoreOf (program_of code) (area_of area_bytes c) (state_of store)) → StandsOn (program_of code) store new
+    → ((c : List ℕ) → Reads old c → IsStoreOf (program_of code) area_bytes c (state_of store)) → StandsOn (program_of code) store new
     → IsBlankStart (program_of code) (state_of store) ⊎ During old new (May old)
-    → During old new (λ c. May old c ⊎ IsBlankOrBegun (image.bytes code) (area_of area_bytes c)) → IsOpenedAs (program_of code) old new store
+    → During old new (λ c. May old c ⊎ IsBlankOrBegunDisk area_bytes (image.bytes code) c) → IsOpenedAs (program_of code) old new store
 opened_at old new code store area rest was stands still crash = record { area = area; at_rest = rest; was = was; stands = stands; since = since still }
   where
     Is : List ℕ → Type 0
-    Is c = IsStoreOf (program_of code) (area_of area_bytes c) (state_of store)
+    Is c = IsStoreOf (program_of code) area_bytes c (state_of store)
 
-    begun_as : IsBlankStart (program_of code) (state_of store) → (c : List ℕ) → IsBlankOrBegun (image.bytes code) (area_of area_bytes c) → Is c
+    begun_as : IsBlankStart (program_of code) (state_of store) → (c : List ℕ) → IsBlankOrBegunDisk area_bytes (image.bytes code) c → Is c
     begun_as start c (inl blank) = inl (record { blank = blank; content = start.content; gate = start.gate; serial = start.serial })
     begun_as start c (inr stood) = inr (record {
+      place = first;
       says = begun (image.bytes code);
       opened = record { stands = stood; image = refl; content_is = sym start.content };
       at_rest = rest.at_rest;
@@ -87,9 +89,9 @@ module _ (old mid new : DiskView) (same : mid.content ≡ old.content) (quiet : 
   stays_since program stays = record {
     quiet = λ c reads some. kept_since (stays.quiet c (same ∙ reads) some);
     disk = record {
-      since = leaves_since (λ c. IsBlankOrBegun program.image (area_of area_bytes c)) stays.disk.since;
-      now = throughout_to new (λ c. May mid c ⊎ IsBlankOrBegun program.image (area_of area_bytes c)) (λ c. May old c ⊎ IsBlankOrBegun program.image (area_of area_bytes c)) stays.disk.now
-          (or_before (λ c. IsBlankOrBegun program.image (area_of area_bytes c)));
+      since = leaves_since (λ c. IsBlankOrBegunDisk area_bytes program.image c) stays.disk.since;
+      now = throughout_to new (λ c. May mid c ⊎ IsBlankOrBegunDisk area_bytes program.image c) (λ c. May old c ⊎ IsBlankOrBegunDisk area_bytes program.image c) stays.disk.now
+          (or_before (λ c. IsBlankOrBegunDisk area_bytes program.image c));
     };
   }
 
@@ -100,7 +102,7 @@ module _ (old mid new : DiskView) (same : mid.content ≡ old.content) (quiet : 
     at_rest = opened.at_rest;
     was = λ c reads. opened.was c (same ∙ reads);
     stands = opened.stands;
-    since = leaves_since (λ c. IsStoreOf program (area_of area_bytes c) (state_of store)) opened.since;
+    since = leaves_since (λ c. IsStoreOf program area_bytes c (state_of store)) opened.since;
   }
   opens_since program calm (Err (unopened.Refused refusal)) told = (λ c reads. told.0 c (same ∙ reads), kept_since told.1)
   opens_since program calm (Err unopened.DiskFault) failed = (stays_since program failed.0, subst (λ (n : ℕ). Rose n new.faults) calm failed.1)
@@ -133,7 +135,7 @@ module _ (table : ClassTable) (bodies : List SilicaBody) (code : Image) (compile
     of = kept_store;
     stays = record {
       quiet = stays.quiet;
-      disk = subst (λ (bytes : List ℕ). During old.disk new.disk (λ c. May old.disk c ⊎ IsBlankOrBegun bytes (area_of area_bytes c))) image_is stays.disk;
+      disk = subst (λ (bytes : List ℕ). During old.disk new.disk (λ c. May old.disk c ⊎ IsBlankOrBegunDisk area_bytes bytes c)) image_is stays.disk;
     };
     input = input;
     output = output;
@@ -141,14 +143,14 @@ module _ (table : ClassTable) (bodies : List SilicaBody) (code : Image) (compile
 
   -- what is said of a store that is refused
   pub refused_by_store : (cause : StoreRefusal) (exit : Exit) → TellsRefusal cause old.output new.output exit
-      → ((c : List ℕ) → Reads old.disk c → IsRefused (program_of code) (area_of area_bytes c) cause) → During old.disk new.disk (May old.disk) → new.input ≡ old.input
+      → ((c : List ℕ) → Reads old.disk c → IsRefused (program_of code) area_bytes c cause) → During old.disk new.disk (May old.disk) → new.input ≡ old.input
       → (fuel lanes slice : ℕ) → Treats (asked_with (serve_stored name file) fuel lanes slice) text old new exit
   refused_by_store cause exit tells told kept input fuel lanes slice = by exit tells
     where
-      refused : (c : List ℕ) → Reads old.disk c → IsRefused (program_with table bodies) (area_of area_bytes c) cause
+      refused : (c : List ℕ) → Reads old.disk c → IsRefused (program_with table bodies) area_bytes c cause
       refused c reads =
-          subst (λ (p : StoreProgram). IsRefused p (area_of area_bytes c) cause) (same_program table bodies code compiled emitted sound)
-          (refused_by_source (record { table = table; bodies = bodies }) code (is_sound_for table bodies code compiled emitted sound) (image.bytes code) (area_of area_bytes c) cause (told c reads))
+          subst (λ (p : StoreProgram). IsRefused p area_bytes c cause) (same_program table bodies code compiled emitted sound)
+          (refused_by_source (record { table = table; bodies = bodies }) code (is_sound_for table bodies code compiled emitted sound) area_bytes c cause (told c reads))
 
       by : (exit : Exit) → TellsRefusal cause old.output new.output exit → Treats (asked_with (serve_stored name file) fuel lanes slice) text old new exit
       by StoreRefused tells = record {

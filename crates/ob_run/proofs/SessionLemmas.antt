@@ -20,7 +20,6 @@ use Rattle.ob_front.specs.Compiled.{IsCompiledProgram}
 use Rattle.ob_front.specs.Programs.{IsProgram}
 use Rattle.ob_heap.specs.Contents.{content_of}
 use Rattle.ob_heap_spec.specs.Contents.{Content, empty_content}
-use Rattle.ob_journal_spec.specs.Areas.{area_of}
 use Rattle.ob_code_table.specs.ImageTables.{table_of_image}
 use Rattle.ob_rest_spec.specs.AtRest.{IsStoreAtRest}
 use Rattle.ob_silica.specs.Terms.{SilicaBody}
@@ -35,7 +34,7 @@ use Rattle.ob_store.specs.Stores.{program_of, area_of_store, gate_of, serial_of,
 use Rattle.ob_store.specs.declared.store.Store.{Store}
 use Rattle.ob_store_spec.specs.Stores.{StoreProgram, StoreState, IsStoreOf}
 use Rattle.ob_serve.specs.Items.{by_source, item_of}
-use Rattle.ob_serve.specs.Kept.{IsServable, IsSoundFor}
+use Rattle.ob_serve.specs.Kept.{IsServable, IsSoundFor, KeepsSessions}
 use Rattle.ob_serve.specs.Served.{Devices, SpeaksOf, Ends, IsCause}
 use Rattle.ob_serve.specs.Standing.{StandsForStore, source_program}
 use Rattle.ob_serve.specs.declared.serving.Served.{Served}
@@ -45,7 +44,7 @@ use Rattle.ob_serve.proofs.Progress.{stored_holds}
 use Rattle.ob_serve.proofs.Tables.{rests_by_source, stands_by_source, storable}
 use Rattle.ob_words.specs.Asked.{serve, serve_stored, Asked}
 use Rattle.ob_run.specs.Openings.{IsOpenedAs}
-use Rattle.ob_run.specs.Sessions.{area_bytes, program_with, store_in_memory, ServesProgram}
+use Rattle.ob_run.specs.Sessions.{area_bytes, program_with, store_in_memory, IsKeptAlways, ServesProgram}
 use Rattle.ob_run.specs.Statuses.{Treats}
 use Rattle.ob_run.specs.Survival.{Survives}
 use Rattle.ob_run.specs.TextRead.{Tells, asked_with, exit_of}
@@ -133,9 +132,12 @@ module _ (table : ClassTable) (bodies : List SilicaBody) (code : Image) (compile
   same_program = ap (λ (i : Image). source_program table i) emitted
 
   module _ (text : List ℕ) (is : IsProgram text table bodies) (fuel lanes slice : ℕ) where
+    kept_always : IsKeptAlways table bodies fuel
+    kept_always = subst (λ (p : StoreProgram). KeepsSessions p fuel) same_program (keeps_sessions program code fuel is_sound_for)
+
     -- a session over a store in memory
     pub serves_in_memory : (name : List ℕ) (old new : Devices) (served : Served) (store : Store) → content_of (kept_of store) ≡ empty_content → area_of_store store ≡ None → state_of store ≡ store_in_memory
-        → Ends (item_of (by_source table fuel (area_of_store store))) (StandsForStore (source_program table code) (area_of_store store)) (state_of store) old new served
+        → Ends (item_of (by_source (source_program table code) fuel (area_of_store store))) (StandsForStore (source_program table code) (area_of_store store)) (state_of store) old new served
         → IsUntouched old.disk new.disk → served ≢ ended.DiskFault → TakesAtMost old.input new.input most_taken → ServesProgram (asked_with (serve name) fuel lanes slice) text old new served
     serves_in_memory name old new served store empty memory begins ends quiet sure few = record {
       table = table;
@@ -144,26 +146,26 @@ module _ (table : ClassTable) (bodies : List SilicaBody) (code : Image) (compile
       start = store_in_memory;
       begins = refl;
       ends = in_memory;
-      crash = survives (item_of (by_source table fuel None)) (StandsForStore (program_with table bodies) None) store_in_memory old new served in_memory;
-      kept = keeps_sessions program code fuel is_sound_for;
+      crash = survives (item_of (by_source (program_with table bodies) fuel None)) (StandsForStore (program_with table bodies) None) store_in_memory old new served in_memory;
+      kept = kept_always;
       spared = λ none. (quiet, sure);
       few = few;
     }
       where
-        in_memory : Ends (item_of (by_source table fuel None)) (StandsForStore (program_with table bodies) None) store_in_memory old new served
-        in_memory = subst (λ (p : StoreProgram). Ends (item_of (by_source table fuel None)) (StandsForStore p None) store_in_memory old new served) same_program
-            (subst (λ (s : StoreState). Ends (item_of (by_source table fuel None)) (StandsForStore (source_program table code) None) s old new served) begins
-            (subst (λ (area : Option ℕ). Ends (item_of (by_source table fuel area)) (StandsForStore (source_program table code) area) (state_of store) old new served) memory ends))
+        in_memory : Ends (item_of (by_source (program_with table bodies) fuel None)) (StandsForStore (program_with table bodies) None) store_in_memory old new served
+        in_memory = subst (λ (p : StoreProgram). Ends (item_of (by_source p fuel None)) (StandsForStore p None) store_in_memory old new served) same_program
+            (subst (λ (s : StoreState). Ends (item_of (by_source (source_program table code) fuel None)) (StandsForStore (source_program table code) None) s old new served) begins
+            (subst (λ (area : Option ℕ). Ends (item_of (by_source (source_program table code) fuel area)) (StandsForStore (source_program table code) area) (state_of store) old new served) memory ends))
 
     -- an area that represents a store of the code represents one of the program
-    pub by_program : (c : List ℕ) (s : StoreState) → IsStoreOf (program_of code) (area_of area_bytes c) s → IsStoreOf (program_with table bodies) (area_of area_bytes c) s
+    pub by_program : (c : List ℕ) (s : StoreState) → IsStoreOf (program_of code) area_bytes c s → IsStoreOf (program_with table bodies) area_bytes c s
     by_program c s is =
-        subst (λ (p : StoreProgram). IsStoreOf p (area_of area_bytes c) s) same_program (stands_by_source program code is_sound_for (image.bytes code) (area_of area_bytes c) s is)
+        subst (λ (p : StoreProgram). IsStoreOf p area_bytes c s) same_program (stands_by_source program code is_sound_for area_bytes c s is)
 
     -- a session over the store of a disk, which was opened before
     pub serves_stored : (name file : List ℕ) (old mid new : Devices) (served : Served) (store : Store) → mid.input ≡ old.input → mid.output ≡ old.output → old.disk.faults ≤ mid.disk.faults
         → IsOpenedAs (program_of code) old.disk mid.disk store
-        → Ends (item_of (by_source table fuel (area_of_store store))) (StandsForStore (source_program table code) (area_of_store store)) (state_of store) mid new served
+        → Ends (item_of (by_source (source_program table code) fuel (area_of_store store))) (StandsForStore (source_program table code) (area_of_store store)) (state_of store) mid new served
         → TakesAtMost mid.input new.input most_taken → ServesProgram (asked_with (serve_stored name file) fuel lanes slice) text old new served
     serves_stored name file old mid new served store input output later opened ends few = record {
       table = table;
@@ -173,22 +175,22 @@ module _ (table : ClassTable) (bodies : List SilicaBody) (code : Image) (compile
       begins = (rests_by_source program code is_sound_for (content_of (kept_of store)) opened.at_rest, λ c reads. by_program c (state_of store) (opened.was c reads));
       ends = from_old;
       crash = survives item stands (state_of store) old new served from_old;
-      kept = keeps_sessions program code fuel is_sound_for;
+      kept = kept_always;
       spared = λ none. absurd (cc none);
       few = subst (λ (v : SourceView). TakesAtMost v new.input most_taken) input few;
     }
       where
         item : StoreState → List ℕ → SessionItem StoreState
-        item = item_of (by_source table fuel (Some area_bytes))
+        item = item_of (by_source (program_with table bodies) fuel (Some area_bytes))
 
         stands : StoreState → List ℕ → Type 0
         stands = StandsForStore (program_with table bodies) (Some area_bytes)
 
-        from_mid : Ends (item_of (by_source table fuel (Some area_bytes))) (StandsForStore (program_with table bodies) (Some area_bytes)) (state_of store) mid new served
-        from_mid = subst (λ (p : StoreProgram). Ends (item_of (by_source table fuel (Some area_bytes))) (StandsForStore p (Some area_bytes)) (state_of store) mid new served) same_program
-            (subst (λ (area : Option ℕ). Ends (item_of (by_source table fuel area)) (StandsForStore (source_program table code) area) (state_of store) mid new served) opened.area ends)
+        from_mid : Ends (item_of (by_source (program_with table bodies) fuel (Some area_bytes))) (StandsForStore (program_with table bodies) (Some area_bytes)) (state_of store) mid new served
+        from_mid = subst (λ (p : StoreProgram). Ends (item_of (by_source p fuel (Some area_bytes))) (StandsForStore p (Some area_bytes)) (state_of store) mid new served) same_program
+            (subst (λ (area : Option ℕ). Ends (item_of (by_source (source_program table code) fuel area)) (StandsForStore (source_program table code) area) (state_of store) mid new served) opened.area ends)
 
-        here : Throughout mid.disk (λ c. IsStoreOf (program_with table bodies) (area_of area_bytes c) (state_of store))
+        here : Throughout mid.disk (λ c. IsStoreOf (program_with table bodies) area_bytes c (state_of store))
         here = throughout_to mid.disk _ _ (stores_stand (program_of code) store area_bytes mid.disk opened.area opened.stands opened.at_rest) (λ c stood. by_program c (state_of store) stood)
 
         cause_from : (s : Served) → IsCause s mid new → IsCause s old new
@@ -199,7 +201,7 @@ module _ (table : ClassTable) (bodies : List SilicaBody) (code : Image) (compile
         cause_from ended.WriteFault cause = subst (λ (v : SinkView). Rose v.faults new.output.faults) output cause
         cause_from ended.DiskFault cause = omega (arith, later, cause)
 
-        from_old : Ends (item_of (by_source table fuel (Some area_bytes))) (StandsForStore (program_with table bodies) (Some area_bytes)) (state_of store) old new served
+        from_old : Ends (item_of (by_source (program_with table bodies) fuel (Some area_bytes))) (StandsForStore (program_with table bodies) (Some area_bytes)) (state_of store) old new served
         from_old = record {
           lines = from_mid.lines;
           of_input = subst (λ (v : SourceView). SpeaksOf served v new.input from_mid.lines) input from_mid.of_input;

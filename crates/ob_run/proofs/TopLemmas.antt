@@ -6,7 +6,6 @@ use Rattle.ob_io.specs.Told.{Takes}
 use Rattle.ob_io.specs.Views.{Ask}
 use Rattle.ob_front.specs.Programs.{IsAccepted}
 use Rattle.ob_front.proofs.ProgramsLaws.{never_accepted_and_faulty_lem}
-use Rattle.ob_journal_spec.specs.Areas.{area_of}
 use Rattle.ob_store_spec.specs.Stores.{StoreProgram, StoreState}
 use Rattle.ob_store_spec.proofs.Refusing.{never_both}
 use Rattle.ob_serve.specs.Served.{Devices, IsToldAs}
@@ -141,7 +140,7 @@ module _ (words : Option Asked) (old new : OutsideView) (smooth : IsSmooth words
   has_store (serve name) has h = cc h.of.is
   has_store (serve_stored name store) has h =
       let stands = has.2 h.of.table h.of.bodies h.of.program in
-      never_both (program_with h.of.table h.of.bodies) (area_of area_bytes has.0) h.line.said.cause stands.0 (h.line.said.told has.0 has.1) stands.1
+      never_both (program_with h.of.table h.of.bodies) area_bytes has.0 h.line.said.cause stands.0 (h.line.said.told has.0 has.1) stands.1
   has_store (check name) has h = cc h.of.is
   has_store (trial length) has h = cc h.of.is
 

@@ -27,23 +27,23 @@ pub record BeginsSession (words : Option Asked) (before : OutsideView) : Type 0 
   pub start : StoreState
   pub begins : BeginsAt asked.command (program_with table bodies) before.disk start
 
--- the replies to lines, by the source meaning of a class table, from a store on; a blank line has none
-abbrev pub replies_to : Asked → ClassTable → StoreState → List (List ℕ) → List ℕ
-replies_to asked table start lines = replies (items_from (source_item asked table) start lines)
+-- the replies to lines, by the source meaning of a program, from a store on; a blank line has none
+abbrev pub replies_to : Asked → ClassTable → List SilicaBody → StoreState → List (List ℕ) → List ℕ
+replies_to asked table bodies start lines = replies (items_from (source_item asked table bodies) start lines)
 
 -- Bytes of the input were taken, and the output got exactly the replies to their lines.
 pub record AnswersLines (lines_in : List ℕ → List (List ℕ)) (words : Option Asked) (before after : OutsideView) : Type 0 where
   pub of : BeginsSession words before
   pub taken : List ℕ
   pub took : TakesFrom before.input after.input taken
-  pub written : Gives before.output.written after.output.written (replies_to of.asked of.table of.start (lines_in taken))
+  pub written : Gives before.output.written after.output.written (replies_to of.asked of.table of.bodies of.start (lines_in taken))
 
 -- The output got a prefix of the replies to the lines of the input.
 pub record AnswersSome (words : Option Asked) (before after : OutsideView) : Type 0 where
   pub of : BeginsSession words before
   pub input : List ℕ
   pub all : IsToldAs before.input.left input
-  pub written : GivesFront before.output.written after.output.written (replies_to of.asked of.table of.start (lines_of input))
+  pub written : GivesFront before.output.written after.output.written (replies_to of.asked of.table of.bodies of.start (lines_of input))
 
 -- no byte of the input was taken
 abbrev pub TakesNothing : OutsideView → OutsideView → Type 0

@@ -5,7 +5,7 @@ use Rattle.ob_disk_spec.specs.Disk.{DiskView}
 use Rattle.ob_disk_spec.specs.Calls.{IsAttached, IsUntouched}
 use Rattle.ob_disk_spec.specs.Durable.{KeepsBehind}
 use Rattle.ob_words.specs.Asked.{Command, check, serve, serve_stored, trial, Asked}
-use Rattle.ob_run.specs.Sessions.{area_bytes}
+use Rattle.ob_run.specs.Sessions.{both_areas}
 
 -- the STORE of a command; the others have none
 abbrev pub store_of : Command → Option (List ℕ)
@@ -29,7 +29,7 @@ abbrev pub AttachesAtMostOnce : Option (List ℕ) → DiskView → DiskView → 
 AttachesAtMostOnce None before after = IsUntouched before after
 AttachesAtMostOnce (Some name) before after = IsAttached before after name ⊎ NotesNothing before after
 
--- The disk of this name alone was used, and what follows the area of a store stays, a crash at any moment counted in.
+-- The disk of this name alone was used, and what follows the two areas of a store stays, a crash at any moment counted in.
 pub record UsesDisk (store : Option (List ℕ)) (before after : DiskView) : Type 0 where
   pub attaches : AttachesAtMostOnce store before after
-  pub behind : KeepsBehind area_bytes before after
+  pub behind : KeepsBehind both_areas before after

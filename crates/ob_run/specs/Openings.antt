@@ -11,7 +11,7 @@ use Rattle.ob_io.specs.Views.{SinkView}
 use Rattle.ob_rest_spec.specs.AtRest.{IsStoreAtRest}
 use Rattle.ob_store.specs.Stores.{area_of_store, kept_of, state_of, StandsOn}
 use Rattle.ob_store.specs.declared.store.Store.{Store}
-use Rattle.ob_journal_spec.specs.Areas.{IsBlank, IsBlankOrBegun, area_of}
+use Rattle.ob_journal_spec.specs.Disks.{IsBlankDisk, IsBlankOrBegunDisk}
 use Rattle.ob_store_spec.specs.Stores.{StoreProgram, StoreRefusal, IsStoreOf, IsRefused}
 use Rattle.ob_serve.specs.Served.{Devices}
 use Rattle.ob_words.specs.Asked.{Command, serve_stored}
@@ -24,7 +24,7 @@ use Rattle.ob_run.specs.declared.serving.Unopened.TheVariants.{Refused, DiskFaul
 -- The bytes are the refusal of what a disk reads, for a program: the line of its first cause.
 pub record IsStoreRefusal (program : StoreProgram) (disk : DiskView) (bytes : List ℕ) : Type 0 where
   pub cause : StoreRefusal
-  pub told : (c : List ℕ) → Reads disk c → IsRefused program (area_of area_bytes c) cause
+  pub told : (c : List ℕ) → Reads disk c → IsRefused program area_bytes c cause
   pub line : bytes ≡ store_line cause
 
 -- The command keeps its store on a disk, and its text is a program.
@@ -47,8 +47,8 @@ pub record RefusesStore (command : Command) (text : List ℕ) (says : (List ℕ 
 -- A store of this program wasn't opened. A disk that isn't blank is as it was handed in; of a blank one each image is as it was, or blank, or
 -- begun.
 pub record StaysUnopened (program : StoreProgram) (before after : DiskView) : Type 0 where
-  pub quiet : (c : List ℕ) → Reads before c → ¬ (IsBlank (area_of area_bytes c)) → KeepsBytes before after
-  pub disk : During before after (λ c. May before c ⊎ IsBlankOrBegun program.image (area_of area_bytes c))
+  pub quiet : (c : List ℕ) → Reads before c → ¬ (IsBlankDisk area_bytes c) → KeepsBytes before after
+  pub disk : During before after (λ c. May before c ⊎ IsBlankOrBegunDisk area_bytes program.image c)
 
 -- The text is a program, and its store wasn't opened. Neither stream was touched.
 pub record OpensNot (command : Command) (text : List ℕ) (before after : Devices) : Type 0 where
@@ -63,14 +63,14 @@ pub record OpensNot (command : Command) (text : List ℕ) (before after : Device
 pub record IsOpenedAs (program : StoreProgram) (before after : DiskView) (store : Store) : Type 0 where
   pub area : area_of_store store ≡ Some area_bytes
   pub at_rest : IsStoreAtRest program.table (content_of (kept_of store))
-  pub was : (c : List ℕ) → Reads before c → IsStoreOf program (area_of area_bytes c) (state_of store)
+  pub was : (c : List ℕ) → Reads before c → IsStoreOf program area_bytes c (state_of store)
   pub stands : StandsOn program store after
-  pub since : LeavesOnly before after (λ c. May before c ⊎ IsStoreOf program (area_of area_bytes c) (state_of store))
+  pub since : LeavesOnly before after (λ c. May before c ⊎ IsStoreOf program area_bytes c (state_of store))
 
 -- the answer says its own
 abbrev pub OpensAs : StoreProgram → DiskView → DiskView → Result Store Unopened → Type 0
 OpensAs program before after (Ok store) = IsOpenedAs program before after store
 OpensAs program before after (Err (Refused refusal)) =
-    ((c : List ℕ) → Reads before c → IsRefused program (area_of area_bytes c) (refusal_view refusal)) × KeepsBytes before after
+    ((c : List ℕ) → Reads before c → IsRefused program area_bytes c (refusal_view refusal)) × KeepsBytes before after
 OpensAs program before after (Err DiskFault) = StaysUnopened program before after × Rose before.faults after.faults
 OpensAs program before after (Err Memory) = StaysUnopened program before after

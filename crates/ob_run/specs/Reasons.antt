@@ -6,7 +6,6 @@ use Rattle.ob_silica.specs.Terms.{SilicaBody}
 use Rattle.ob_disk_spec.specs.Disk.{DiskView, Reads}
 use Rattle.ob_io.specs.Causes.{Rose}
 use Rattle.ob_front.specs.Programs.{IsProgram, IsAccepted}
-use Rattle.ob_journal_spec.specs.Areas.{area_of}
 use Rattle.ob_store_spec.specs.Stores.{StoreState, IsStoreOf}
 use Rattle.ob_serve.specs.Served.{Devices}
 use Rattle.ob_words.specs.Asked.{Command, check, serve, serve_stored, trial, Asked}
@@ -37,7 +36,7 @@ HasStoreFor (check name) text disk = ⊤
 HasStoreFor (serve name) text disk = ⊤
 HasStoreFor (serve_stored name store) text disk =
     (c : List ℕ) × Reads disk c × ((table : ClassTable) (bodies : List SilicaBody) → IsProgram text table bodies
-    → (s : StoreState) × IsStoreOf (program_with table bodies) (area_of area_bytes c) s)
+    → (s : StoreState) × IsStoreOf (program_with table bodies) area_bytes c s)
 HasStoreFor (trial length) text disk = ⊤
 
 -- The words ask for a command, whose text is observable. Neither the count of faults of the files rises nor that of the output. Where the command

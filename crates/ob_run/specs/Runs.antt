@@ -20,7 +20,7 @@ pub record IsRun (words : Option Asked) (before after : OutsideView) (exit : Exi
   pub answers : AnswersWhatItTook words before after exit
   -- P is asked once at most, for `most_read` bytes, and no other file is
   pub asks : AsksFor words before.files.asks after.files.asks
-  -- by `serve P STORE` the disk of the name STORE is taken, once at most, before any other call of it, and what follows its first 64 MiB
+  -- by `serve P STORE` the disk of the name STORE is taken, once at most, before any other call of it, and what follows its first 128 MiB
   -- stays; by all other words no call of the disk is made
   pub disk : UsesDisk (store_asked words) before.disk after.disk
   -- the run ends at the first fault

@@ -1,5 +1,5 @@
 -- The sessions of a program that is served (this project's own).
-use Rattle.std.specs.Prelude.{ℕ, pos, ◌≡◌, ◌≢◌, List, Option, Some, None}
+use Rattle.std.specs.Prelude.{ℕ, pos, ◌+◌, ◌≡◌, ◌≢◌, List, Option, Some, None}
 use Rattle.ob_base.specs.Limits.{most_taken}
 use Rattle.ob_table.specs.Tables.{ClassTable}
 use Rattle.ob_silica.specs.Terms.{SilicaBody}
@@ -10,7 +10,6 @@ use Rattle.ob_disk_spec.specs.Calls.{IsUntouched}
 use Rattle.ob_front.specs.Programs.{IsProgram}
 use Rattle.ob_heap_spec.specs.Contents.{empty_content}
 use Rattle.ob_io.specs.Told.{TakesAtMost}
-use Rattle.ob_journal_spec.specs.Areas.{area_of}
 use Rattle.ob_rest_spec.specs.AtRest.{IsStoreAtRest}
 use Rattle.ob_store_spec.specs.Stores.{StoreProgram, StoreState, IsStoreOf}
 use Rattle.ob_serve.specs.Items.{by_source, item_of}
@@ -23,11 +22,15 @@ use Rattle.ob_serve.specs.declared.serving.Served.TheVariants.{DiskFault}
 use Rattle.ob_words.specs.Asked.{Command, check, serve, serve_stored, trial, Asked}
 use Rattle.ob_run.specs.Survival.{Survives}
 
--- how many bytes a store may take on a disk: 64 MiB
+-- how many bytes each of the two areas of a store has on a disk: 64 MiB
 abbrev pub area_bytes : ℕ
 area_bytes = 67108864
 
--- the area in which a command's store is kept: one in memory has none
+-- how many both have
+abbrev pub both_areas : ℕ
+both_areas = area_bytes + area_bytes
+
+-- the size of the areas in which a command's store is kept: one in memory has none
 abbrev pub area_for : Command → Option ℕ
 area_for (check name) = None
 area_for (serve name) = None
@@ -47,13 +50,13 @@ abbrev pub BeginsAt : Command → StoreProgram → DiskView → StoreState → T
 BeginsAt (check name) program disk start = ⊥
 BeginsAt (serve name) program disk start = start ≡ store_in_memory
 BeginsAt (serve_stored name store) program disk start =
-    IsStoreAtRest program.table start.content × ((c : List ℕ) → Reads disk c → IsStoreOf program (area_of area_bytes c) start)
+    IsStoreAtRest program.table start.content × ((c : List ℕ) → Reads disk c → IsStoreOf program area_bytes c start)
 BeginsAt (trial length) program disk start = ⊥
 
--- The item of a line: it is answered by the source meaning of a class table, with the fuel that is asked for, on the store that the line
+-- The item of a line: it is answered by the source meaning of a program, with the fuel that is asked for, on the store that the line
 -- before left.
-abbrev pub source_item : Asked → ClassTable → StoreState → List ℕ → SessionItem StoreState
-source_item asked table = item_of (by_source table asked.limits.fuel (area_for asked.command))
+abbrev pub source_item : Asked → ClassTable → List SilicaBody → StoreState → List ℕ → SessionItem StoreState
+source_item asked table bodies = item_of (by_source (program_with table bodies) asked.limits.fuel (area_for asked.command))
 
 -- bytes of a disk represent the store of a command's session
 abbrev pub StandsOnDisk : Command → ClassTable → List SilicaBody → StoreState → List ℕ → Type 0
@@ -61,8 +64,8 @@ StandsOnDisk command table bodies = StandsForStore (program_with table bodies) (
 
 -- No item of any lines goes wrong; after each the store is at rest, and each stored asset that was never shared nor disowned has exactly
 -- one owner; and a line that is refused or aborted changes nothing.
-abbrev pub IsKeptAlways : ClassTable → ℕ → Type 0
-IsKeptAlways table fuel = KeepsSessions table fuel
+abbrev pub IsKeptAlways : ClassTable → List SilicaBody → ℕ → Type 0
+IsKeptAlways table bodies fuel = KeepsSessions (program_with table bodies) fuel
 
 -- The text is a program, and a session of it ended so.
 pub record ServesProgram (asked : Asked) (text : List ℕ) (before after : Devices) (served : Served) : Type 0 where
@@ -73,11 +76,11 @@ pub record ServesProgram (asked : Asked) (text : List ℕ) (before after : Devic
   pub start : StoreState
   pub begins : BeginsAt asked.command (program_with table bodies) before.disk start
   -- of which lines the end speaks, how many were answered, what was written, and what the disk represents
-  pub ends : Ends (source_item asked table) (StandsOnDisk asked.command table bodies) start before after served
+  pub ends : Ends (source_item asked table bodies) (StandsOnDisk asked.command table bodies) start before after served
   -- of the same lines and the same bytes: a crash loses no line of whose reply a byte was written
-  pub crash : Survives (source_item asked table) (StandsOnDisk asked.command table bodies) start (requests_in ends.lines) ends.given before.disk after.disk
+  pub crash : Survives (source_item asked table bodies) (StandsOnDisk asked.command table bodies) start (requests_in ends.lines) ends.given before.disk after.disk
   -- what each item keeps, whatever the lines are
-  pub kept : IsKeptAlways table asked.limits.fuel
+  pub kept : IsKeptAlways table bodies asked.limits.fuel
   -- over a store in memory no call of the disk was made, so none failed
   pub spared : area_for asked.command ≡ None → IsUntouched before.disk after.disk × (served ≢ DiskFault)
   -- however it ended, at most `most_taken` bytes of input were taken

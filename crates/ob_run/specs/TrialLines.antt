@@ -18,8 +18,8 @@ trial_text counts =
     count_line (codes "lines") counts.lines ++ count_line (codes "ok") counts.ok ++ count_line (codes "aborted") counts.aborted
     ++ count_line (codes "refused") counts.refused ++ count_line (codes "objects") counts.objects ++ count_line (codes "handles") counts.handles
 
--- The text is a program, and the bytes are the numbers of a trial of this length: with the default fuel, over a store in an area as large
--- as one on a disk has.
+-- The text is a program, and the bytes are the numbers of a trial of this length: with the default fuel, over a store in two areas as large
+-- as those on a disk.
 pub record TellsTrial (text : List ℕ) (length : ℕ) (bytes : List ℕ) : Type 0 where
   pub table : ClassTable
   pub bodies : List SilicaBody

@@ -27,7 +27,7 @@ use ob_store::{OpenError, Store};
 use ob_verify::Verified;
 use std::alloc::Global;
 
-/// How many bytes a store may take on a disk.
+/// How many bytes each of the two areas of a store has on a disk.
 pub const AREA: u64 = 67_108_864;
 
 // How the run ends whose session ended so.

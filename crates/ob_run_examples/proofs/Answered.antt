@@ -20,11 +20,11 @@ use Rattle.ob_run_examples.specs.Sample.{asked, input, output}
 use Rattle.ob_run_examples.proofs.Sampled.{many, passes}
 use Rattle.ob_run_examples.proofs.Testing.{tokens, tree, table, is_program}
 
-computed : replies (items_from (source_item asked (table many vending_machine)) store_in_memory (lines_of input)) ≡ output
+computed : (bodies : List SilicaBody) → replies (items_from (source_item asked (table many vending_machine) bodies) store_in_memory (lines_of input)) ≡ output
 unfolding tokens tree table most_slots states_max states_of word_of all_refs all_unary all_branches serde_json_on_literals is_utf8 chars lib.Utf8.encode digits
-computed = refl
+computed bodies = refl
 
-pub answered : (other : ClassTable) (more : List SilicaBody) → IsProgram vending_machine other more → replies (items_from (source_item asked other) store_in_memory (lines_of input)) ≡ output
+pub answered : (other : ClassTable) (more : List SilicaBody) → IsProgram vending_machine other more → replies (items_from (source_item asked other more) store_in_memory (lines_of input)) ≡ output
 answered other more is =
     let same = one_table vending_machine (table many vending_machine) other (is_program many vending_machine passes).checked.terms.has is.checked.terms.has in
-    subst (λ (t : ClassTable). replies (items_from (source_item asked t) store_in_memory (lines_of input)) ≡ output) same computed
+    subst (λ (t : ClassTable). replies (items_from (source_item asked t more) store_in_memory (lines_of input)) ≡ output) same (computed more)

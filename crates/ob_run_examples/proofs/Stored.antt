@@ -1,5 +1,5 @@
 -- The same over a store on a disk without a byte.
-use Rattle.std.proofs.Common.{ℕ, ◌≡◌, ◌+◌, ◌≤◌, pos, List, [], length, inl, refl, sym, ◌∙◌, ap, subst, arith, length-take}
+use Rattle.std.proofs.Common.{ℕ, ◌≡◌, ◌+◌, pos, List, [], length, inl, refl, sym, ◌∙◌, ap, subst}
 use Rattle.std.specs.Fmt.{digits}
 use Rattle.std.specs.Str.{is_utf8, chars}
 use Rattle.serde_json.proofs.OnLiterals.{serde_json_on_literals}
@@ -20,7 +20,7 @@ use Rattle.ob_front.specs.Programs.{IsProgram}
 use Rattle.ob_front.proofs.MiddleLaws.{one_lowering}
 use Rattle.ob_front.proofs.StagesLaws.{one_table}
 use Rattle.ob_io.specs.LinesOfText.{lines_of}
-use Rattle.ob_journal_spec.specs.Areas.{area_of}
+use Rattle.ob_journal_spec.proofs.UniqueDisks.{no_bytes_blank}
 use Rattle.ob_store_spec.specs.Payloads.{state, marks, truth, value, object_head, object, hold, held, handle, payload}
 use Rattle.ob_store_spec.specs.Stores.{StoreProgram, StoreState, IsStoreOf}
 use Rattle.ob_store_spec.proofs.Leading.{one_store}
@@ -47,22 +47,21 @@ image_length = refl
 abbrev begun_at : ℕ → StoreState
 begun_at count = record { content = empty_content; gate = 17 + count + 0; serial = pos 1 }
 
-blank : (program : StoreProgram) (start : StoreState) → IsStoreOf program (area_of area_bytes []) start → start ≡ begun_at (length program.image)
+blank : (program : StoreProgram) (start : StoreState) → IsStoreOf program area_bytes [] start → start ≡ begun_at (length program.image)
 blank program start is =
-    let few : length (area_of area_bytes []) ≤ 1 = omega (arith, length-take {A = ℕ} area_bytes []) in
-    one_store program (area_of area_bytes []) start (begun_at (length program.image)) is (inl (record { blank = inl few; content = refl; gate = refl; serial = refl }))
+    one_store program area_bytes [] start (begun_at (length program.image)) is (inl (record { blank = no_bytes_blank area_bytes; content = refl; gate = refl; serial = refl }))
 
-computed : replies (items_from (source_item asked_stored (table many vending_machine)) (begun_at 577) (lines_of input)) ≡ output
+computed : (more : List SilicaBody) → replies (items_from (source_item asked_stored (table many vending_machine) more) (begun_at 577) (lines_of input)) ≡ output
 unfolding tokens tree table most_slots states_max states_of word_of all_refs all_unary all_branches serde_json_on_literals is_utf8 chars lib.Utf8.encode digits text state marks truth value object_head object hold held handle payload mode
-computed = refl
+computed more = refl
 
-pub answered_stored : (other : ClassTable) (more : List SilicaBody) (start : StoreState) → IsProgram vending_machine other more → IsStoreOf (program_with other more) (area_of area_bytes []) start
-    → replies (items_from (source_item asked_stored other) start (lines_of input)) ≡ output
+pub answered_stored : (other : ClassTable) (more : List SilicaBody) (start : StoreState) → IsProgram vending_machine other more → IsStoreOf (program_with other more) area_bytes [] start
+    → replies (items_from (source_item asked_stored other more) start (lines_of input)) ≡ output
 answered_stored other more start is stands =
     let own = is_program many vending_machine passes in
     let same = one_table vending_machine (table many vending_machine) other own.checked.terms.has is.checked.terms.has in
     let program = one_program other (table many vending_machine) more (bodies many vending_machine) is own in
     let begins : start ≡ begun_at 577 =
-    blank (program_with (table many vending_machine) (bodies many vending_machine)) start (subst (λ (p : StoreProgram). IsStoreOf p (area_of area_bytes []) start) program stands) ∙ ap (λ (n : ℕ). begun_at n) image_length in
-    subst (λ (s : StoreState). replies (items_from (source_item asked_stored other) s (lines_of input)) ≡ output) (sym begins)
-    (subst (λ (t : ClassTable). replies (items_from (source_item asked_stored t) (begun_at 577) (lines_of input)) ≡ output) same computed)
+    blank (program_with (table many vending_machine) (bodies many vending_machine)) start (subst (λ (p : StoreProgram). IsStoreOf p area_bytes [] start) program stands) ∙ ap (λ (n : ℕ). begun_at n) image_length in
+    subst (λ (s : StoreState). replies (items_from (source_item asked_stored other more) s (lines_of input)) ≡ output) (sym begins)
+    (subst (λ (t : ClassTable). replies (items_from (source_item asked_stored t more) (begun_at 577) (lines_of input)) ≡ output) same (computed more))

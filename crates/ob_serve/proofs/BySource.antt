@@ -1,9 +1,7 @@
 -- A session by the code ends as it does by the source meaning.
 use Rattle.std.proofs.Common.{◌≡◌, ◌+◌, inl, inr, ⊎_elim, ℕ, List, take, Option, Some, None, refl, sym, ◌∙◌, ap, subst}
-use Rattle.ob_code.specs.Images.{image}
 use Rattle.ob_code.specs.declared.image.Image.{Image}
 use Rattle.ob_disk_spec.proofs.Moments.{weaker, throughout_to}
-use Rattle.ob_journal_spec.specs.Areas.{area_of}
 use Rattle.ob_code_table.specs.ImageTables.{table_of_image}
 use Rattle.ob_rest_spec.specs.AtRest.{IsStoreAtRest}
 use Rattle.ob_silica_steps.specs.Configurations.{SilicaProgram}
@@ -23,25 +21,25 @@ module _ (program : SilicaProgram) (code : Image) (fuel : ℕ) (area : Option �
   -- bytes that represent a store by the class table of the code represent it by that of the program
   stands : (s : StoreState) (c : List ℕ) → (at : Option ℕ) → StandsForStore (program_of code) at s c → StandsForStore (source_program program.table code) at s c
   stands s c None is = tt
-  stands s c (Some size) is = stands_by_source program code sound (image.bytes code) (area_of size c) s is
+  stands s c (Some size) is = stands_by_source program code sound size c s is
 
   module _ (start : StoreState) (rests : IsStoreAtRest program.table start.content) (lines : List (List ℕ)) where
     after_all : (j : ℕ) (c : List ℕ) → AfterAll (item_of (by_machine code fuel area)) (StandsForStore (program_of code) area) start (take j lines) c
-        → AfterAll (item_of (by_source program.table fuel area)) (StandsForStore (source_program program.table code) area) start (take j lines) c
+        → AfterAll (item_of (by_source (source_program program.table code) fuel area)) (StandsForStore (source_program program.table code) area) start (take j lines) c
     after_all j c is =
         subst (λ (s : StoreState). StandsForStore (source_program program.table code) area s c) (same_state program code fuel area sound start (take j lines) rests) (stands _ c area is)
 
     after_first : (P : ℕ → Type 0) (c : List ℕ) → AfterFirst (item_of (by_machine code fuel area)) (StandsForStore (program_of code) area) start lines P c
-        → AfterFirst (item_of (by_source program.table fuel area)) (StandsForStore (source_program program.table code) area) start lines P c
+        → AfterFirst (item_of (by_source (source_program program.table code) fuel area)) (StandsForStore (source_program program.table code) area) start lines P c
     after_first P c is = (is.0, is.1, after_all is.0 c is.2)
 
     after_some : (c : List ℕ) → AfterSome (item_of (by_machine code fuel area)) (StandsForStore (program_of code) area) start lines c
-        → AfterSome (item_of (by_source program.table fuel area)) (StandsForStore (source_program program.table code) area) start lines c
+        → AfterSome (item_of (by_source (source_program program.table code) fuel area)) (StandsForStore (source_program program.table code) area) start lines c
     after_some c is = (is.0, after_all is.0 c is.1)
 
   pub ends_by_source : (start : StoreState) (old new : Devices) (served : Served) → IsStoreAtRest program.table start.content
       → Ends (item_of (by_machine code fuel area)) (StandsForStore (program_of code) area) start old new served
-      → Ends (item_of (by_source program.table fuel area)) (StandsForStore (source_program program.table code) area) start old new served
+      → Ends (item_of (by_source (source_program program.table code) fuel area)) (StandsForStore (source_program program.table code) area) start old new served
   ends_by_source start old new served rests ended = record {
     lines = ended.lines;
     of_input = ended.of_input;

@@ -55,7 +55,7 @@ quiet_crash program after store v stands rests = during_none v _ (throughout_to 
 -- a store for which room was made is the same one
 module _ (program : StoreProgram) (after : StoreState) (store same : Store) (p : Prepared) (leads : CommitsTo program store p after) (state : state_of same ≡ state_of store)
     (area : area_of_store same ≡ area_of_store store) (content : content_with (kept_of same) (delta_prepared p) ≡ content_with (kept_of store) (delta_prepared p))
-    (prepared : IsPrepared program.table same p) where
+    (prepared : IsPrepared program same p) where
   pub ready_again : IsReady program same p
   ready_again = record {
     storable = leads.ready.storable;
@@ -64,13 +64,13 @@ module _ (program : StoreProgram) (after : StoreState) (store same : Store) (p :
     is_prepared = prepared;
   }
 
-  settles_again : settled program.table (area_of_store same) (state_of same) (content_with (kept_of same) (delta_prepared p)) ≡ Ok after
+  settles_again : settled program (area_of_store same) (state_of same) (content_with (kept_of same) (delta_prepared p)) ≡ Ok after
   settles_again =
-      ap (λ (a : Option ℕ). settled program.table a (state_of same) (content_with (kept_of same) (delta_prepared p))) area
-      ∙ ap (λ (s : StoreState). settled program.table (area_of_store store) s (content_with (kept_of same) (delta_prepared p))) state
-      ∙ ap (settled program.table (area_of_store store) (state_of store)) content ∙ leads.settles
+      ap (λ (a : Option ℕ). settled program a (state_of same) (content_with (kept_of same) (delta_prepared p))) area
+      ∙ ap (λ (s : StoreState). settled program (area_of_store store) s (content_with (kept_of same) (delta_prepared p))) state
+      ∙ ap (settled program (area_of_store store) (state_of store)) content ∙ leads.settles
 
-  pub kept_after : (new : Store) → settled program.table (area_of_store same) (state_of same) (content_with (kept_of same) (delta_prepared p)) ≡ Ok (state_of new) → state_of new ≡ after
+  pub kept_after : (new : Store) → settled program (area_of_store same) (state_of same) (content_with (kept_of same) (delta_prepared p)) ≡ Ok (state_of new) → state_of new ≡ after
   kept_after new settles = one_store (state_of new) after (sym settles ∙ settles_again)
 
   -- a crash leaves the store before or after
@@ -83,7 +83,7 @@ module _ (program : StoreProgram) (after : StoreState) (store same : Store) (p :
           → StandsForStore program (Some size) (state_of store) c ⊎ StandsForStore program (Some size) after c
       to_after size c is (inl before) = inl (subst (λ (s : StoreState). StandsForStore program (Some size) s c) state before)
       to_after size c is (inr later) =
-          inr (subst (λ (s : StoreState). StandsForStore program (Some size) s c) (one_store later.0 after (sym later.1 ∙ ap (λ (a : Option ℕ). settled program.table a (state_of same) (content_with (kept_of same) (delta_prepared p))) (sym (area ∙ is)) ∙ settles_again)) later.2)
+          inr (subst (λ (s : StoreState). StandsForStore program (Some size) s c) (one_store later.0 after (sym later.1 ∙ ap (λ (a : Option ℕ). settled program a (state_of same) (content_with (kept_of same) (delta_prepared p))) (sym (area ∙ is)) ∙ settles_again)) later.2)
 
       by_area : (a : Option ℕ) → area_of_store store ≡ a → During old new (λ c. StandsForStore program a (state_of store) c ⊎ StandsForStore program a after c)
       by_area None is = during_to old new _ _ (untouched_during old new (none (area ∙ is))) (λ c may. inl tt)

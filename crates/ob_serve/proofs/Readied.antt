@@ -1,6 +1,6 @@
 -- From what a request comes to, to what is made ready for its line.
 use Rattle.std.proofs.Common.{◌≡◌, ℕ, ℤ, ◌+◌, ◌<◌, ◌≤◌, Bool, true, false, List, map, length, Option, Some, None, refl, sym, ◌∙◌, ap, subst, arith}
-use Rattle.std.specs.Prelude.{Result, Ok, Err, IfOk, nat_le, nat_lt, option_map, if◌then◌else◌}
+use Rattle.std.specs.Prelude.{Result, Ok, Err, IfOk, nat_le}
 use Rattle.std.proofs.lemmas.Bool.Decides.{nat_tests}
 use Rattle.ob_base.specs.Limits.{longest_line}
 use Rattle.ob_base.specs.declared.cause.Memory.{Memory}
@@ -18,16 +18,12 @@ use Rattle.ob_invocation_spec.specs.Replies.{Invoked, Invocation, invoked, goes_
 use Rattle.ob_invocation_laws.specs.Laws.{KeepsStoreAtRest}
 use Rattle.ob_code_table.specs.ImageTables.{table_of_image}
 use Rattle.ob_exec_handles.specs.Coming.{ComesTo}
-use Rattle.ob_journal.specs.Journals.{area_size}
-use Rattle.ob_journal.specs.declared.journal.Journal.{Journal}
-use Rattle.ob_journal.specs.declared.journal.Built.{Built}
-use Rattle.ob_store_spec.specs.Payloads.{payload}
-use Rattle.ob_store_spec.specs.Between.{changes_between}
-use Rattle.ob_store_spec.specs.Settling.{say_nothing, needed, with_record, recorded, settled}
+use Rattle.ob_store_spec.specs.Settling.{settled}
 use Rattle.ob_store_spec.specs.Stores.{StoreState}
 use Rattle.ob_store_laws.specs.Recorded.{content_with, IsStorable}
-use Rattle.ob_store.specs.Stores.{program_of, area_of_store, gate_of, serial_of, kept_of, state_of}
-use Rattle.ob_store.specs.Preparing.{delta_prepared, IsBuiltFor, SaysWhatDiffers, IsPrepared, Prepares}
+use Rattle.ob_store.specs.Stores.{program_of, area_of_store, kept_of, state_of}
+use Rattle.ob_store.specs.Preparing.{delta_prepared, IsPrepared, Prepares}
+use Rattle.ob_store.proofs.Committing.{prepared_settles}
 use Rattle.ob_store.specs.declared.error.PrepareError.{PrepareError}
 use Rattle.ob_store.specs.declared.error.PrepareError.TheVariants.{Room}
 use Rattle.ob_store.specs.declared.store.Store.{Store}
@@ -80,58 +76,22 @@ comes_to_rest table goes_wrong base answer delta comes rests = absurd rests
 
 -- ---- what was made ready
 
--- a record that fits leads on
-builds_on : (table : ClassTable) (s : StoreState) (size : ℕ) (after : Content) → needed s ((payload table).bytes (changes_between table s.content after)) ≤ size
-    → (t : StoreState) × (settled table (Some size) s after ≡ Ok t)
-builds_on table s size after fits = by_news (say_nothing (changes_between table s.content after))
-  where
-    bytes : List ℕ
-    bytes = (payload table).bytes (changes_between table s.content after)
-
-    has_room : nat_lt size (needed s bytes) ≡ false
-    has_room = grind (arith, nat_tests)
-
-    by_news : (none : Bool) → (t : StoreState) × ((if none then Ok (record s { content = after }) else recorded size s after bytes) ≡ Ok t)
-    by_news true = (record s { content = after }, refl)
-    by_news false = (with_record s bytes after, rw has_room refl)
-
-nothing_on : (table : ClassTable) (s : StoreState) (size : ℕ) (after : Content) → say_nothing (changes_between table s.content after) ≡ true
-    → (t : StoreState) × (settled table (Some size) s after ≡ Ok t)
-nothing_on table s size after none = (record s { content = after }, rw none refl)
-
--- what was made ready leads on
-pub prepared_leads : (table : ClassTable) (store : Store) (prepared : Prepared) → IsPrepared table store prepared
-    → (t : StoreState) × (settled table (area_of_store store) (state_of store) (content_with (kept_of store) (delta_prepared prepared)) ≡ Ok t)
-prepared_leads table store prepared is = by_journal store.journal prepared.built is.built is.says
-  where
-    after : Content
-    after = content_with store.content prepared.delta
-
-    state : Option Journal → StoreState
-    state journal = record { content = content_of store.content; gate = gate_of journal; serial = serial_of journal }
-
-    by_journal : (journal : Option Journal) (built : Option Built) → IsBuiltFor journal built → SaysWhatDiffers table journal (content_of store.content) after built
-        → (t : StoreState) × (settled table (option_map area_size journal) (state journal) after ≡ Ok t)
-    by_journal None built fits says = (record (state None) { content = after }, refl)
-    by_journal (Some j) None fits says = nothing_on table (state (Some j)) (area_size j) after says
-    by_journal (Some j) (Some b) fits says = builds_on table (state (Some j)) (area_size j) after (omega (arith, fits.within, ap length says.1))
-
 long_shows : (line : List ℕ) → longest_line < length line → is_blank_line line ≡ false
 long_shows line long = let over : nat_le (length line) longest_line ≡ false = grind (arith, nat_tests) in rw over refl
 
 -- what preparing a delta answered
 pub prepared_by : (code image : Image) (store : Store) (delta : Delta) (r : Result Prepared PrepareError) (prepared : Prepared) → image ≡ code → r ≡ Ok prepared
-    → Prepares (table_of_image image) store delta r → (delta_prepared prepared ≡ delta) × IsPrepared (table_of_image code) store prepared
+    → Prepares (program_of image) store delta r → (delta_prepared prepared ≡ delta) × IsPrepared (program_of code) store prepared
 prepared_by code image store delta r prepared same is prepares =
-    let at : Prepares (table_of_image code) store delta (Ok prepared) =
-    subst (λ (i : Image). Prepares (table_of_image i) store delta (Ok prepared)) same (subst (Prepares (table_of_image image) store delta) is prepares) in (at.0, at.1)
+    let at : Prepares (program_of code) store delta (Ok prepared) =
+    subst (λ (i : Image). Prepares (program_of i) store delta (Ok prepared)) same (subst (Prepares (program_of image) store delta) is prepares) in (at.0, at.1)
 
 pub room_by : (code image : Image) (store : Store) (delta : Delta) (r : Result Prepared PrepareError) (need size : ℕ) (e : PrepareError) → image ≡ code → r ≡ Err e → e ≡ Room need size
-    → Prepares (table_of_image image) store delta r
-    → settled (table_of_image code) (area_of_store store) (state_of store) (content_with (kept_of store) delta) ≡ Err (need, size)
+    → Prepares (program_of image) store delta r
+    → settled (program_of code) (area_of_store store) (state_of store) (content_with (kept_of store) delta) ≡ Err (need, size)
 room_by code image store delta r need size e same is lacks prepares =
-    subst (λ (i : Image). settled (table_of_image i) (area_of_store store) (state_of store) (content_with (kept_of store) delta) ≡ Err (need, size)) same
-    (subst (λ (x : PrepareError). Prepares (table_of_image image) store delta (Err x)) lacks (subst (Prepares (table_of_image image) store delta) is prepares))
+    subst (λ (i : Image). settled (program_of i) (area_of_store store) (state_of store) (content_with (kept_of store) delta) ≡ Err (need, size)) same
+    (subst (λ (x : PrepareError). Prepares (program_of image) store delta (Err x)) lacks (subst (Prepares (program_of image) store delta) is prepares))
 
 -- ---- the item of a request
 
@@ -143,13 +103,13 @@ module _ (code : Image) (fuel : ℕ) (store : Store) where
   -- it is done, and what it changed was made ready
   pub ready_item : (id : ℤ) (i : Invocation) (reply : Reply) (delta : Delta) (ready : Ready) (prepared : Prepared)
       → IsStorable (table_of_image code) → IsStoreAtRest (table_of_image code) (content_of (kept_of store)) → KeepsStoreAtRest (table_of_image code) i
-      → reply.id ≡ Some id → ComesTo i (kept_of store) reply.answer delta → delta_prepared prepared ≡ delta → IsPrepared (table_of_image code) store prepared
+      → reply.id ≡ Some id → ComesTo i (kept_of store) reply.answer delta → delta_prepared prepared ≡ delta → IsPrepared (program_of code) store prepared
       → ready.reply.items ≡ reply_line reply → ready.prepared ≡ Some prepared → GivesItem (program_of code) store (invoked_item at_hand (state_of store) id i) ready
   ready_item id (invoked i) reply delta ready prepared storable before rests same comes is prepares bytes some =
-      let leads = prepared_leads (table_of_image code) store prepared prepares in
+      let leads = prepared_settles (program_of code) store prepared prepares in
       let content : content_with (kept_of store) (delta_prepared prepared) ≡ i.content = ap (content_with (kept_of store)) is ∙ comes_to_content i (kept_of store) reply.answer delta comes in
-      let settles : settled (table_of_image code) (area_of_store store) (state_of store) i.content ≡ Ok leads.0 =
-      ap (settled (table_of_image code) (area_of_store store) (state_of store)) (sym content) ∙ leads.1 in
+      let settles : settled (program_of code) (area_of_store store) (state_of store) i.content ≡ Ok leads.0 =
+      ap (settled (program_of code) (area_of_store store) (state_of store)) (sym content) ∙ leads.1 in
       subst (λ (item : SessionItem StoreState). GivesItem (program_of code) store item ready) (sym (ap (settled_item id (answer_of i.reply) (state_of store)) settles)) (record {
         reply = bytes ∙ ap reply_line (reply_is reply id (answer_of i.reply) same comes.0);
         next = subst (LeadsOn (program_of code) store leads.0) (sym some) (record {
@@ -166,11 +126,11 @@ module _ (code : Image) (fuel : ℕ) (store : Store) where
 
   -- the store has no room for it
   pub lacking_item : (id : ℤ) (i : Invocation) (answer : Answer) (delta : Delta) (ready : Ready) (need size : ℕ) → ComesTo i (kept_of store) answer delta
-      → settled (table_of_image code) (area_of_store store) (state_of store) (content_with (kept_of store) delta) ≡ Err (need, size)
+      → settled (program_of code) (area_of_store store) (state_of store) (content_with (kept_of store) delta) ≡ Err (need, size)
       → ready.reply.items ≡ room_line id need size → ready.prepared ≡ None → GivesItem (program_of code) store (invoked_item at_hand (state_of store) id i) ready
   lacking_item id (invoked i) answer delta ready need size comes lacks bytes none =
-      let settles : settled (table_of_image code) (area_of_store store) (state_of store) i.content ≡ Err (need, size) =
-      ap (settled (table_of_image code) (area_of_store store) (state_of store)) (sym (comes_to_content i (kept_of store) answer delta comes)) ∙ lacks in
+      let settles : settled (program_of code) (area_of_store store) (state_of store) i.content ≡ Err (need, size) =
+      ap (settled (program_of code) (area_of_store store) (state_of store)) (sym (comes_to_content i (kept_of store) answer delta comes)) ∙ lacks in
       subst (λ (item : SessionItem StoreState). GivesItem (program_of code) store item ready) (sym (ap (settled_item id (answer_of i.reply) (state_of store)) settles))
       (record { reply = bytes; next = subst (LeadsOn (program_of code) store (state_of store)) (sym none) refl })
   lacking_item id goes_wrong answer delta ready need size comes lacks bytes none = absurd comes

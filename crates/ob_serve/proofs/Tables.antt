@@ -3,6 +3,7 @@ use Rattle.std.proofs.lemmas.List.{length-map}
 use Rattle.std.proofs.lemmas.List.Elements.{All-map}
 use Rattle.std.proofs.Common.{◌≡◌, ◌≤◌, ◌^◌, ℕ, List, length, map, Option, All, refl, sym, ◌∙◌, ap, subst, arith}
 use Rattle.ob_table.specs.Tables.{ClassTable}
+use Rattle.ob_code.specs.Images.{image}
 use Rattle.ob_code.specs.declared.image.Image.{Image}
 use Rattle.ob_heap_spec.specs.Contents.{Content}
 use Rattle.ob_rest_spec.specs.AtRest.{IsStoreAtRest}
@@ -12,40 +13,43 @@ use Rattle.ob_emit_laws.proofs.Tables.{tables_agree}
 use Rattle.ob_emit_laws.specs.Names.{contract_without_names, without_names}
 use Rattle.ob_store_laws.specs.Recorded.{IsStorable}
 use Rattle.ob_store_spec.specs.Settling.{settled}
-use Rattle.ob_store_spec.specs.Stores.{StoreState, StoreRefusal, IsStoreOf, IsRefused}
+use Rattle.ob_store_spec.specs.Stores.{StoreProgram, StoreState, StoreRefusal, IsStoreOf, IsRefused}
+use Rattle.ob_store.specs.Stores.{program_of}
 use Rattle.ob_store_table_laws.proofs.Following.{store_follows, area_follows, refusal_follows}
 use Rattle.ob_store_table_laws.proofs.Whole.{named, unnamed, settled_unnamed}
 use Rattle.ob_serve.specs.Kept.{IsSoundFor}
+use Rattle.ob_serve.specs.Standing.{source_program}
 
 -- the class table of code lacks names alone
-table_of : (program : SilicaProgram) (image : Image) → IsSoundFor program image → table_of_image image ≡ without_names program.table
-table_of program image sound = ap table_of_image sound.emitted ∙ tables_agree program.table program.bodies sound.table
+table_of : (program : SilicaProgram) (code : Image) → IsSoundFor program code → table_of_image code ≡ without_names program.table
+table_of program code sound = ap table_of_image sound.emitted ∙ tables_agree program.table program.bodies sound.table
 
-module _ (program : SilicaProgram) (image : Image) (sound : IsSoundFor program image) where
-  pub rests_by_source : (content : Content) → IsStoreAtRest (table_of_image image) content → IsStoreAtRest program.table content
+module _ (program : SilicaProgram) (code : Image) (sound : IsSoundFor program code) where
+  pub rests_by_source : (content : Content) → IsStoreAtRest (table_of_image code) content → IsStoreAtRest program.table content
   rests_by_source content rests =
-      store_follows (without_names program.table) program.table (named program.table) content (subst (λ (t : ClassTable). IsStoreAtRest t content) (table_of program image sound) rests)
+      store_follows (without_names program.table) program.table (named program.table) content (subst (λ (t : ClassTable). IsStoreAtRest t content) (table_of program code sound) rests)
 
-  pub rests_by_image : (content : Content) → IsStoreAtRest program.table content → IsStoreAtRest (table_of_image image) content
+  pub rests_by_image : (content : Content) → IsStoreAtRest program.table content → IsStoreAtRest (table_of_image code) content
   rests_by_image content rests =
-      subst (λ (t : ClassTable). IsStoreAtRest t content) (sym (table_of program image sound)) (store_follows program.table (without_names program.table) (unnamed program.table) content rests)
+      subst (λ (t : ClassTable). IsStoreAtRest t content) (sym (table_of program code sound)) (store_follows program.table (without_names program.table) (unnamed program.table) content rests)
 
-  pub settles_alike : (area : Option ℕ) (s : StoreState) (after : Content) → settled (table_of_image image) area s after ≡ settled program.table area s after
-  settles_alike area s after = ap (λ (t : ClassTable). settled t area s after) (table_of program image sound) ∙ settled_unnamed program.table area s after
+  pub settles_alike : (area : Option ℕ) (s : StoreState) (after : Content) → settled (program_of code) area s after ≡ settled (source_program program.table code) area s after
+  settles_alike area s after =
+      ap (λ (t : ClassTable). settled (source_program t code) area s after) (table_of program code sound) ∙ settled_unnamed program.table (image.bytes code) area s after
 
-  pub stands_by_source : (bytes area : List ℕ) (s : StoreState) → IsStoreOf (record { table = table_of_image image; image = bytes }) area s → IsStoreOf (record { table = program.table; image = bytes }) area s
-  stands_by_source bytes area s stands =
-      area_follows (without_names program.table) program.table (named program.table) bytes area s
-      (subst (λ (t : ClassTable). IsStoreOf (record { table = t; image = bytes }) area s) (table_of program image sound) stands)
+  pub stands_by_source : (size : ℕ) (bytes : List ℕ) (s : StoreState) → IsStoreOf (program_of code) size bytes s → IsStoreOf (source_program program.table code) size bytes s
+  stands_by_source size bytes s stands =
+      area_follows (without_names program.table) program.table (named program.table) (image.bytes code) size bytes s
+      (subst (λ (t : ClassTable). IsStoreOf (source_program t code) size bytes s) (table_of program code sound) stands)
 
-  pub refused_by_source : (bytes area : List ℕ) (r : StoreRefusal) → IsRefused (record { table = table_of_image image; image = bytes }) area r → IsRefused (record { table = program.table; image = bytes }) area r
-  refused_by_source bytes area r refused =
-      refusal_follows (without_names program.table) program.table (named program.table) (unnamed program.table) bytes area r
-      (subst (λ (t : ClassTable). IsRefused (record { table = t; image = bytes }) area r) (table_of program image sound) refused)
+  pub refused_by_source : (size : ℕ) (bytes : List ℕ) (r : StoreRefusal) → IsRefused (program_of code) size bytes r → IsRefused (source_program program.table code) size bytes r
+  refused_by_source size bytes r refused =
+      refusal_follows (without_names program.table) program.table (named program.table) (unnamed program.table) (image.bytes code) size bytes r
+      (subst (λ (t : ClassTable). IsRefused (source_program t code) size bytes r) (table_of program code sound) refused)
 
   -- payloads can distinguish its contracts and states
-  pub storable : IsStorable (table_of_image image)
-  storable = subst IsStorable (sym (table_of program image sound)) (record {
+  pub storable : IsStorable (table_of_image code)
+  storable = subst IsStorable (sym (table_of program code sound)) (record {
     contracts = few_contracts;
     states = λ k d lt. few_states k d lt;
   })

@@ -1,15 +1,14 @@
 -- The session of a program over a store, for any meaning of requests (this project's own).
 use Rattle.std.specs.Prelude.{ℕ, ℤ, List, Option, Some, None, Result, Ok, Err}
-use Rattle.ob_table.specs.Tables.{ClassTable}
 use Rattle.ob_code.specs.declared.image.Image.{Image}
 use Rattle.ob_heap_spec.specs.Contents.{Content}
 use Rattle.ob_invocation_spec.specs.Replies.{Invocation, invoked, goes_wrong}
 use Rattle.ob_invocation_spec.specs.Requests as asked
 use Rattle.ob_invocation_spec.specs.SourceInvocation.{source_invocation}
-use Rattle.ob_code_table.specs.ImageTables.{table_of_image}
 use Rattle.ob_machine_meaning.specs.Meanings.{machine_invocation}
 use Rattle.ob_store_spec.specs.Settling.{settled}
-use Rattle.ob_store_spec.specs.Stores.{StoreState}
+use Rattle.ob_store_spec.specs.Stores.{StoreProgram, StoreState}
+use Rattle.ob_store.specs.Stores.{program_of}
 use Rattle.ob_wire.specs.Meanings.{request_of, answer_of}
 use Rattle.ob_wire.specs.declared.refusal.Refusal.{Refusal}
 use Rattle.ob_wire.specs.declared.request.Request.{Request}
@@ -23,26 +22,26 @@ use Rattle.ob_serve.specs.Session.{SessionItem, items_from}
 abbrev pub RequestMeaning : Type 0
 RequestMeaning = Content → asked.Request → Invocation
 
--- How lines are served: what requests mean, the class table by which payloads are said, and the size of the area in which the store is
--- kept, if it isn't kept in memory.
+-- How lines are served: what requests mean, the program by whose class table and image the store is kept, and the size of the areas in
+-- which it is, if it isn't kept in memory.
 pub record Service : Type 0 where
   pub meaning : RequestMeaning
-  pub table : ClassTable
+  pub program : StoreProgram
   pub area : Option ℕ
 
--- by the source meaning of a class table, with so many units of fuel for each request
-abbrev pub by_source : ClassTable → ℕ → Option ℕ → Service
-by_source table fuel area = record {
-  meaning = λ content request. source_invocation table content request fuel;
-  table = table;
+-- by the source meaning of a program's class table, with so many units of fuel for each request
+abbrev pub by_source : StoreProgram → ℕ → Option ℕ → Service
+by_source program fuel area = record {
+  meaning = λ content request. source_invocation program.table content request fuel;
+  program = program;
   area = area;
 }
 
 -- by code
 abbrev pub by_machine : Image → ℕ → Option ℕ → Service
-by_machine image fuel area = record {
-  meaning = λ content request. machine_invocation image content request fuel;
-  table = table_of_image image;
+by_machine code fuel area = record {
+  meaning = λ content request. machine_invocation code content request fuel;
+  program = program_of code;
   area = area;
 }
 
@@ -57,7 +56,7 @@ settled_item id answer s (Err lack) = record { reply = Some (record { id = Some 
 
 -- what a request of this id comes to: its reply, and the store after it; or it goes wrong
 abbrev pub invoked_item : Service → StoreState → ℤ → Invocation → SessionItem StoreState
-invoked_item service s id (invoked i) = settled_item id (answer_of i.reply) s (settled service.table service.area s i.content)
+invoked_item service s id (invoked i) = settled_item id (answer_of i.reply) s (settled service.program service.area s i.content)
 invoked_item service s id goes_wrong = record { reply = None; after = s }
 
 -- the item of what a line asks

@@ -9,12 +9,13 @@ use Rattle.ob_rest_spec.specs.AtRest.{IsStoreAtRest, EachAssetHasOneOwner}
 use Rattle.ob_silica_steps.specs.Configurations.{SilicaProgram}
 use Rattle.ob_sound_code.specs.SoundCode.{IsSoundImage, IsSoundCode}
 use Rattle.ob_store_laws.specs.Recorded.{IsStorable}
-use Rattle.ob_store_spec.specs.Stores.{StoreState}
+use Rattle.ob_store_spec.specs.Stores.{StoreProgram, StoreState}
 use Rattle.ob_wire.specs.declared.reply.Answer.{Answer}
 use Rattle.ob_wire.specs.declared.reply.Answer.TheVariants.{Ok, Abort, Refused}
 use Rattle.ob_wire.specs.declared.reply.Reply.{Reply}
 use Rattle.ob_serve.specs.Session.{SessionItem, state_after}
 use Rattle.ob_serve.specs.Items.{by_source, by_machine, item_of, items_of}
+use Rattle.ob_serve.specs.Standing.{source_program}
 
 -- whether an answer says that a request was done: it was neither refused nor aborted
 abbrev pub says_done : Answer → Bool
@@ -41,10 +42,10 @@ AreKept table before [] = ⊤
 AreKept table before (item ∷ items) = IsKept table before item × AreKept table item.after items
 
 -- each session of a program keeps this, on whatever store at rest it begins, on whatever lines, and wherever the store is kept
-abbrev pub KeepsSessions : ClassTable → ℕ → Type 0
-KeepsSessions table fuel =
-    (area : Option ℕ) (start : StoreState) (lines : List (List ℕ)) → IsStoreAtRest table start.content
-    → AreKept table start (items_of (by_source table fuel area) start lines)
+abbrev pub KeepsSessions : StoreProgram → ℕ → Type 0
+KeepsSessions program fuel =
+    (area : Option ℕ) (start : StoreState) (lines : List (List ℕ)) → IsStoreAtRest program.table start.content
+    → AreKept program.table start (items_of (by_source program fuel area) start lines)
 
 -- code may be served: its image is sound, and payloads can distinguish its contracts and states
 pub record IsServable (image : Image) : Type 0 where
@@ -61,4 +62,4 @@ pub record IsSoundFor (program : SilicaProgram) (image : Image) : Type 0 where
 abbrev pub GoesAsSource : SilicaProgram → Image → ℕ → Type 0
 GoesAsSource program image fuel =
     (area : Option ℕ) (start : StoreState) (lines : List (List ℕ)) → IsStoreAtRest program.table start.content
-    → items_of (by_machine image fuel area) start lines ≡ items_of (by_source program.table fuel area) start lines
+    → items_of (by_machine image fuel area) start lines ≡ items_of (by_source (source_program program.table image) fuel area) start lines

@@ -2,14 +2,13 @@
 use Rattle.std.specs.Prelude.{ℕ, ⊤, List, Option, Some, None}
 use Rattle.ob_code.specs.Images.{image}
 use Rattle.ob_code.specs.declared.image.Image.{Image}
-use Rattle.ob_journal_spec.specs.Areas.{area_of}
 use Rattle.ob_table.specs.Tables.{ClassTable}
 use Rattle.ob_store_spec.specs.Stores.{StoreProgram, StoreState, IsStoreOf}
 
--- the area of a size at the start of a disk represents a store; one in memory has no disk
+-- the bytes of a disk with areas of a size represent a store; one in memory has no disk
 abbrev pub StandsForStore : StoreProgram → Option ℕ → StoreState → List ℕ → Type 0
 StandsForStore program None s bytes = ⊤
-StandsForStore program (Some size) s bytes = IsStoreOf program (area_of size bytes) s
+StandsForStore program (Some size) s bytes = IsStoreOf program size bytes s
 
 -- a program by its class table and its image, as a store knows it
 abbrev pub source_program : ClassTable → Image → StoreProgram

@@ -100,7 +100,7 @@ room_line id need size = reply_line (record { id = Some id; answer = Abort (Room
 -- What was made ready for a store leads to another.
 pub record CommitsTo (program : StoreProgram) (store : Store) (prepared : Prepared) (after : StoreState) : Type 0 where
   pub ready : IsReady program store prepared
-  pub settles : settled program.table (area_of_store store) (state_of store) (content_with (kept_of store) (delta_prepared prepared)) ≡ Ok after
+  pub settles : settled program (area_of_store store) (state_of store) (content_with (kept_of store) (delta_prepared prepared)) ≡ Ok after
 
 -- what was made ready leads to this store, where there is anything to commit; else the store is that already
 abbrev pub LeadsOn : StoreProgram → Store → StoreState → Option Prepared → Type 0

@@ -8,7 +8,7 @@ ghost use Rattle.ob_code_table.specs.ImageTables.{table_of_image};
 ghost use Rattle.ob_machine_meaning.specs.Meanings.{machine_invocation};
 ghost use Rattle.ob_rest_spec.specs.AtRest.{IsStoreAtRest};
 ghost use Rattle.ob_store_laws.specs.Recorded.{IsStorable};
-ghost use Rattle.ob_store.specs.Stores.{area_of_store, kept_of, program_of, state_of};
+ghost use Rattle.ob_store.specs.Stores.{area_of_store, kept_of, program_of, state_of, HasImage};
 ghost use Rattle.ob_wire.specs.Meanings.{request_of};
 ghost use Rattle.ob_wire.specs.Reading.{value_of};
 ghost use Rattle.ob_exec_handles.specs.Coming.{ComesTo, IsInLimits};
@@ -123,6 +123,7 @@ fn ready_request(
 ) -> Result<Ready, Memory>
     requires names { IsNamesOf names.now code.now }
     requires storable { IsStorable (table_of_image code.now) }
+    requires image { HasImage (program_of code.now) store.now }
     requires at_rest { IsStoreAtRest (table_of_image code.now) (content_of (kept_of store.now)) }
     requires rests { KeepsStoreAtRest (table_of_image code.now)
         (machine_invocation code.now (content_of (kept_of store.now)) (request_of request.now) fuel) }
@@ -155,6 +156,7 @@ fn ready_line(
 ) -> Result<Ready, Memory>
     requires names { IsNamesOf names.now code.now }
     requires servable { IsServable code.now }
+    requires image { HasImage (program_of code.now) store.now }
     requires at_rest { IsStoreAtRest (table_of_image code.now) (content_of (kept_of store.now)) }
     ensures { IfOk result (λ ready. GivesItem (program_of code.now) store.now
         (item_of_asked (by_machine code.now fuel (area_of_store store.now)) (state_of store.now) (asked_by_value (value_of line.now)))
@@ -181,6 +183,7 @@ pub fn make_ready(
     requires short { length line.now ≤ longest_line }
     requires names { IsNamesOf names.now code.now }
     requires servable { IsServable code.now }
+    requires image { HasImage (program_of code.now) store.now }
     requires at_rest { IsStoreAtRest (table_of_image code.now) (content_of (kept_of store.now)) }
     ensures { IfOk result (λ ready. (full : List ℕ) → IsFull is_long line.now full →
         Readies (program_of code.now) (by_machine code.now fuel (area_of_store store.now)) store.now full ready) }

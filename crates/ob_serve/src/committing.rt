@@ -23,7 +23,7 @@ pub enum KeepError {
 }
 
 /// Commits what was made ready, if there is anything. All memory is taken before the disk is touched. Where the disk fails, it and each
-/// image of it represent the store before or after. Over a store in memory no call of the disk is made. What follows the area stays.
+/// image of it represent the store before or after. Over a store in memory no call of the disk is made. What follows its areas stays.
 pub fn keep<D: Disk>(
     store: &mut Store,
     disk: &mut D,
@@ -41,7 +41,8 @@ pub fn keep<D: Disk>(
     ensures untouched { area_of_store store.old ≡ None → IsUntouched (D.view disk.old) (D.view disk.new) }
     ensures sure { area_of_store store.old ≡ None → result ≢ Err KeepError.DiskFault }
     ensures memory { IsErrOf result KeepError.Memory → IsUntouched (D.view disk.old) (D.view disk.new) }
-    ensures behind { (size : ℕ) → area_of_store store.old ≡ Some size → KeepsBehind size (D.view disk.old) (D.view disk.new) }
+    ensures behind { (size : ℕ) → area_of_store store.old ≡ Some size →
+        KeepsBehind (size + size) (D.view disk.old) (D.view disk.new) }
     ensures attaches { (D.view disk.new).attaches ≡ (D.view disk.old).attaches }
     ensures area { area_of_store store.new ≡ area_of_store store.old }
     ensures cause { IsErrOf result KeepError.DiskFault → Rose (D.view disk.old).faults (D.view disk.new).faults }

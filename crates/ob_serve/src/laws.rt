@@ -4,6 +4,7 @@ ghost use Rattle.ob_code.specs.declared.image.Image.{Image};
 ghost use Rattle.ob_silica_steps.specs.Configurations.{SilicaProgram};
 ghost use Rattle.ob_serve.specs.Asked.{asked_by, IsAskedBy};
 ghost use Rattle.ob_serve.specs.Kept.{IsSoundFor, KeepsSessions, GoesAsSource};
+ghost use Rattle.ob_serve.specs.Standing.{source_program};
 
 /// What a line asks is worked out: its request, or why it asks nothing.
 pub fn lines_are_asked()
@@ -15,5 +16,5 @@ pub fn lines_are_asked()
 /// aborted changes nothing.
 pub fn sessions_are_kept()
     ensures same { (program : SilicaProgram) (image : Image) (fuel : ℕ) → IsSoundFor program image → GoesAsSource program image fuel }
-    ensures kept { (program : SilicaProgram) (image : Image) (fuel : ℕ) → IsSoundFor program image → KeepsSessions program.table fuel }
+    ensures kept { (program : SilicaProgram) (image : Image) (fuel : ℕ) → IsSoundFor program image → KeepsSessions (source_program program.table image) fuel }
 {}

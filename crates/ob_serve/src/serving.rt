@@ -82,15 +82,16 @@ fn serve_lines<S: Source, K: Sink, D: Disk>(
 ) -> Served
     requires servable { IsServable code.now }
     requires at_rest { IsStoreAtRest (table_of_image code.now) (content_of (kept_of store.old)) }
-    ensures ends { StandsOn (program_of code.now) store.old (D.view disk.old) →
-        Ends (item_of (by_machine code.now fuel (area_of_store store.old)))
+    requires stands { StandsOn (program_of code.now) store.old (D.view disk.old) }
+    ensures ends { Ends (item_of (by_machine code.now fuel (area_of_store store.old)))
         (StandsForStore (program_of code.now) (area_of_store store.old)) (state_of store.old)
         (record { input = S.view input.old; output = K.view output.old; disk = D.view disk.old })
         (record { input = S.view input.new; output = K.view output.new; disk = D.view disk.new })
         result }
     ensures untouched { area_of_store store.old ≡ None → IsUntouched (D.view disk.old) (D.view disk.new) }
     ensures sure { area_of_store store.old ≡ None → result ≢ Served.DiskFault }
-    ensures behind { (size : ℕ) → area_of_store store.old ≡ Some size → KeepsBehind size (D.view disk.old) (D.view disk.new) }
+    ensures behind { (size : ℕ) → area_of_store store.old ≡ Some size →
+        KeepsBehind (size + size) (D.view disk.old) (D.view disk.new) }
     ensures attaches { (D.view disk.new).attaches ≡ (D.view disk.old).attaches }
     ensures few { TakesAtMost (S.view input.old) (S.view input.new) most_taken }
     ensures later_read { (S.view input.old).faults ≤ (S.view input.new).faults }
@@ -157,7 +158,7 @@ pub fn serve<S: Source, K: Sink, D: Disk>(
 
     // The same by the source meaning of each program of which this is sound code.
     ensures ends { (program : SilicaProgram) → IsSoundFor program code.now →
-        Ends (item_of (by_source program.table fuel (area_of_store store.old)))
+        Ends (item_of (by_source (source_program program.table code.now) fuel (area_of_store store.old)))
         (StandsForStore (source_program program.table code.now) (area_of_store store.old)) (state_of store.old)
         (record { input = S.view input.old; output = K.view output.old; disk = D.view disk.old })
         (record { input = S.view input.new; output = K.view output.new; disk = D.view disk.new })
@@ -167,8 +168,9 @@ pub fn serve<S: Source, K: Sink, D: Disk>(
     ensures untouched { area_of_store store.old ≡ None → IsUntouched (D.view disk.old) (D.view disk.new) }
     ensures sure { area_of_store store.old ≡ None → result ≢ Served.DiskFault }
 
-    // What follows the area of a store on a disk stays, and no other disk is taken.
-    ensures behind { (size : ℕ) → area_of_store store.old ≡ Some size → KeepsBehind size (D.view disk.old) (D.view disk.new) }
+    // What follows the two areas of a store on a disk stays, and no other disk is taken.
+    ensures behind { (size : ℕ) → area_of_store store.old ≡ Some size →
+        KeepsBehind (size + size) (D.view disk.old) (D.view disk.new) }
     ensures attaches { (D.view disk.new).attaches ≡ (D.view disk.old).attaches }
 
     // However it ends, at most 2^40 bytes of input were taken.

@@ -1,47 +1,53 @@
--- A store is opened: what is read of its journal, and what its area represents.
-use Rattle.std.proofs.Common.{◌≡◌, inl, inr, ◌⊎◌, ℕ, suc, ◌+◌, ◌<◌, ◌≤◌, List, [], ◌∷◌, ◌++◌, length, take, drop, get_or, map, All, Option, Some, option_map, Result, Ok, Err, IfOk, Vec, sym, ◌∙◌, ap, subst, arith, take-append-drop, drop-cons, add-one}
-use Rattle.std.proofs.lemmas.List.{map_more, map-append}
-use Rattle.std.specs.declared.alloc.Global.{Global}
+-- A store is opened: what is read of its journal, and what the disk represents.
+use Rattle.std.proofs.Common.{◌≡◌, inl, inr, ◌⊎◌, ℕ, ◌+◌, ◌-◌, ◌≤◌, List, [], ◌∷◌, ◌++◌, length, All, Option, Some, option_map, Result, Ok, Err, IfOk, refl, sym, ◌∙◌, ap, subst, arith, append_assoc}
+use Rattle.std.proofs.lemmas.List.{append-nil, length-map}
 use Rattle.ob_table.specs.Tables.{ClassTable}
 use Rattle.ob_disk_spec.specs.Disk.{DiskView}
 use Rattle.ob_disk_spec.specs.Durable.{May, During}
 use Rattle.ob_disk_spec.proofs.Moments.{during_to, during_then, throughout_may}
-use Rattle.ob_heap.specs.Contents.{Stored, content_of}
+use Rattle.ob_heap.specs.Contents.{Stored, content_of, named_of}
 use Rattle.ob_heap.specs.Deltas.{with_handles}
 use Rattle.ob_heap.specs.Differences.{with_objects}
 use Rattle.ob_heap.specs.Plain.{object_of}
 use Rattle.ob_heap.specs.declared.delta.Delta.{Delta}
-use Rattle.ob_heap_spec.specs.Contents.{Content, IsObject, empty_content}
-use Rattle.ob_journal_spec.specs.Areas.{Journaled, StandsFor, IsBlank, IsBlankOrBegun, area_of, next_gate, size_of}
-use Rattle.ob_journal_spec.proofs.Bytes.{size-append}
-use Rattle.ob_journal.specs.Finding.{Finds, IsFoundIn, FaultsAs as JournalFaultsAs}
-use Rattle.ob_journal.specs.Moments.{IsFresh, IsWhole}
+use Rattle.ob_heap_spec.specs.Contents.{Content, IsObject, IsContent, empty_content}
+use Rattle.ob_journal_spec.specs.Areas.{Journaled, Records, next_gate, size_of}
+use Rattle.ob_journal_spec.specs.Disks.{start_of, IsJournalAt, IsBlankDisk, IsBlankOrBegunDisk}
+use Rattle.ob_journal_spec.specs.Differing.{DifferAt}
+use Rattle.ob_journal_spec.proofs.Bytes.{length-records}
+use Rattle.ob_journal.specs.Finding.{Finds, IsRead, IsFoundWith, IsFoundIn, FaultsAs as JournalFaultsAs}
+use Rattle.ob_journal.specs.Moments.{IsFresh}
 use Rattle.ob_journal.specs.declared.journal.Found.{Found}
 use Rattle.ob_journal.specs.declared.journal.Found.TheVariants.{Blank, Current}
-use Rattle.ob_journal.specs.Journals.{journaled, area_size, Holds, Begins}
+use Rattle.ob_journal.specs.Journals.{journaled, area_size, place_of, image_of, gate_of as gate_in, Holds, Begins}
 use Rattle.ob_journal.specs.Rooms.{NeedsNoRoom}
-use Rattle.ob_journal.specs.Surveys.{payload_of}
+use Rattle.ob_journal.specs.Surveys.{IsFirst, HasPayloads, record_bytes}
+use Rattle.ob_journal.specs.declared.recorded.Recorded.{Recorded}
 use Rattle.ob_journal.specs.declared.error.JournalError.{JournalError}
 use Rattle.ob_journal.specs.declared.error.JournalError.TheVariants as of_journal
 use Rattle.ob_journal.specs.declared.journal.Journal.{Journal}
-use Rattle.ob_rest_spec.specs.AtRest.{IsStoreAtRest}
+use Rattle.ob_rest_spec.specs.AtRest.{IsStoreAtRest, first_failing_object}
 use Rattle.ob_store_payload.specs.declared.error.PayloadError.{PayloadError}
 use Rattle.ob_store_payload.specs.declared.error.PayloadError.TheVariants as of_payload
 use Rattle.ob_store_spec.specs.Payloads.{Changes}
 use Rattle.ob_store_spec.specs.Changes.{SaysChanges, LeadFrom, with_changes}
 use Rattle.ob_store_spec.specs.Stores.{StoreProgram, IsStoreOf}
 use Rattle.ob_store_laws.specs.Recorded.{changes_of, content_with}
-use Rattle.ob_store.specs.Stores.{gate_of, serial_of, area_of_store, IsKeptAs, IsKeptIn, StandsOn}
-use Rattle.ob_store.specs.Opening.{Opens, FaultsAs, refused_by, IsKeptContent, IsFollowed, Follows, IsFirstBad, Replays, Rebuilds, BeginsStore, LacksArea, StaysUnlessBlank, StaysWithoutRoom}
+use Rattle.ob_store.specs.Stores.{gate_of, serial_of, area_of_store, IsKeptIn, StandsOn}
+use Rattle.ob_store.specs.Opening.{Opens, FaultsAs, refused_by, IsKeptContent, IsFollowed, Follows, IsFirstBad, Replays, first_gate, Rebuilds, BeginsStore, LacksArea, StaysUnlessBlank, StaysWithoutRoom}
 use Rattle.ob_store.specs.declared.store.Store.{Store}
 use Rattle.ob_store.specs.declared.error.OpenError.{OpenError}
 use Rattle.ob_store.specs.declared.error.OpenError.TheVariants.{NotStore, Damaged, OtherProgram, NotAtRest, Room, DiskFault, Memory}
+use Rattle.ob_owners.specs.Answers.{IsRestAnswer}
+use Rattle.ob_owners.specs.declared.error.RestError.{RestError}
+use Rattle.ob_owners.specs.declared.error.RestError.TheVariants as of_rest
+use Rattle.ob_base.specs.Limits.{most_objects, most_handles}
+use Rattle.ob_base.specs.declared.id.ObjectId.{ObjectId}
 use Rattle.ob_store_laws.proofs.Keeping.{changes_keep_contents}
 use Rattle.ob_store_laws.proofs.Made.{changes_are_made_as_deltas}
 use Rattle.ob_store.proofs.Same.{same_by}
 use Rattle.ob_store.proofs.Recording.{leads_more}
-use Rattle.ob_store.proofs.Standing.{open_store_of}
-use Rattle.ob_store.proofs.Committing.{state_by}
+use Rattle.ob_store.proofs.Standing.{state_by, open_store_of}
 
 -- ---- the empty content
 
@@ -101,52 +107,68 @@ size_between : (ps qs : List (List ℕ)) (p : List ℕ) → size_of (ps ++ p ∷
 size_between [] qs p = omega arith
 size_between (q ∷ ps) qs p = omega (arith, size_between ps qs p)
 
-module _ (xs : List (Vec ℕ Global)) (k : ℕ) (x : Vec ℕ Global) (within : k < length xs) (is : x ≡ get_or xs k x) where
-  -- the payload of a number stands between those before it and those behind it
-  pub split : map payload_of xs ≡ map payload_of (take k xs) ++ payload_of x ∷ map payload_of (drop (k + 1) xs)
-  split =
-      let tail : drop k xs ≡ x ∷ drop (k + 1) xs = rw add-one (drop-cons xs k x within ∙ ap (λ (y : Vec ℕ Global). y ∷ drop (suc k) xs) (sym is)) in
-      ap (map payload_of) (sym (take-append-drop k xs) ∙ ap (λ (ys : List (Vec ℕ Global)). take k xs ++ ys) tail) ∙ map-append payload_of (take k xs) (x ∷ drop (k + 1) xs)
+-- How far payloads were replayed: those before lead to the content, and the others are those of what is left.
+pub record IsReplayed (table : ClassTable) (payloads : List (List ℕ)) (content : Content) (rest : List ℕ) : Type 0 where
+  pub before : List (List ℕ)
+  pub others : List (List ℕ)
+  pub is : payloads ≡ before ++ others
+  pub leads : LeadFrom table empty_content before content
+  pub left : Records others rest
 
-  pub more : map payload_of (take (k + 1) xs) ≡ map payload_of (take k xs) ++ payload_of x ∷ []
-  more = map_more payload_of xs k x within ∙ ap (λ (y : Vec ℕ Global). map payload_of (take k xs) ++ payload_of y ∷ []) (sym is)
+-- none of them was
+pub replayed_none : (table : ClassTable) (payloads : List (List ℕ)) (content : Content) (records : List ℕ) → content ≡ empty_content → Records payloads records
+    → IsReplayed table payloads content records
+replayed_none table payloads content records none there = record { before = []; others = payloads; is = refl; leads = sym none; left = there }
 
-  pub gate_within : size_of (map payload_of (take k xs)) + (5 + length (payload_of x)) ≤ size_of (map payload_of xs)
-  gate_within = omega (arith, ap size_of split, size_between (map payload_of (take k xs)) (map payload_of (drop (k + 1) xs)) (payload_of x))
+-- all of them were
+pub replayed_all : (table : ClassTable) (payloads : List (List ℕ)) (content : Content) (rest : List ℕ) (r : IsReplayed table payloads content rest) → r.others ≡ []
+    → LeadFrom table empty_content payloads content
+replayed_all table payloads content rest r none =
+    subst (λ (ps : List (List ℕ)). LeadFrom table empty_content ps content) (sym (r.is ∙ ap (λ (ps : List (List ℕ)). r.before ++ ps) none ∙ append-nil r.before)) r.leads
 
-  pub gate_more : size_of (map payload_of (take (k + 1) xs)) ≡ size_of (map payload_of (take k xs)) + (5 + length (payload_of x))
-  gate_more = ap size_of more ∙ size-append (map payload_of (take k xs)) (payload_of x)
+module _ (table : ClassTable) (payloads : List (List ℕ)) (content : Content) (rest payload after : List ℕ) (r : IsReplayed table payloads content rest) (f : IsFirst payload after r.others) where
+  split : payloads ≡ r.before ++ payload ∷ f.others
+  split = r.is ∙ ap (λ (ps : List (List ℕ)). r.before ++ ps) f.is
 
-  pub replayed_more : (table : ClassTable) (before after : Content) → LeadFrom table empty_content (map payload_of (take k xs)) before → IsFollowed table before (payload_of x) after
-      → LeadFrom table empty_content (map payload_of (take (k + 1) xs)) after
-  replayed_more table before after leads next =
-      subst (λ (ps : List (List ℕ)). LeadFrom table empty_content ps after) (sym more)
-      (leads_more table empty_content before after (map payload_of (take k xs)) (payload_of x) next.changes leads next.says (sym next.leads))
-
-  pub first_bad : (table : ClassTable) (gate offset : ℕ) (content : Content) → LeadFrom table empty_content (map payload_of (take k xs)) content
-      → offset ≡ gate + size_of (map payload_of (take k xs)) → ((changes : Changes) → ¬ (SaysChanges table content changes (payload_of x)))
-      → IsFirstBad table gate (map payload_of xs) offset
-  first_bad table gate offset content leads at none = record {
-    before = map payload_of (take k xs);
-    bad = payload_of x;
-    after = map payload_of (drop (k + 1) xs);
-    is = split;
-    content = content;
-    content_is = leads;
-    says_none = none;
-    at = at;
+  -- one more was
+  pub replayed_more : (next : Content) → IsFollowed table content payload next → IsReplayed table payloads next after
+  replayed_more next is = record {
+    before = r.before ++ payload ∷ [];
+    others = f.others;
+    is = split ∙ sym (append_assoc r.before (payload ∷ []) f.others);
+    leads = leads_more table empty_content content next r.before payload is.changes r.leads is.says (sym is.leads);
+    left = f.behind;
   }
+
+  -- this one is bad
+  pub first_bad : (gate : ℕ) (records : List ℕ) → Records payloads records → ((changes : Changes) → ¬ (SaysChanges table content changes payload))
+      → IsFirstBad table gate payloads (gate + (length records - length rest))
+  first_bad gate records there none =
+      let all : length records ≡ size_of payloads = length-records payloads records there in
+      let left : length rest ≡ size_of r.others = length-records r.others rest r.left in
+      record {
+        before = r.before;
+        bad = payload;
+        after = f.others;
+        is = split;
+        content = content;
+        content_is = r.leads;
+        says_none = none;
+        at = omega (arith, all, left, ap size_of split, ap size_of f.is, size_between r.before f.others payload);
+      }
 
 -- ---- a store is rebuilt
 
-module _ (program : StoreProgram) (journal : Journal) where
-  pub rebuilt_opens : (size : ℕ) (r : Result Store OpenError) (area : List ℕ) → Rebuilds program journal r → StandsFor (journaled journal) area → Opens program size r area
-  rebuilt_opens size (Ok store) area is stands =
-      subst (λ (j : Option Journal). IsStoreOf program area (state_by (content_of store.content) j)) (sym is.journal_is)
-      (open_store_of program (content_of store.content) (journaled journal) area is.kept is.at_rest.at_rest stands)
-  rebuilt_opens size (Err NotStore) area is stands = absurd is
-  rebuilt_opens size (Err (Damaged offset)) area is stands = inr (record {
-    says = journaled journal;
+module _ (program : StoreProgram) (journal : Journal) (payloads : List (List ℕ)) where
+  pub rebuilt_opens : (size : ℕ) (r : Result Store OpenError) (bytes : List ℕ) → Rebuilds program journal payloads r → area_size journal ≡ size
+      → gate_in journal ≡ next_gate (journaled journal payloads) → IsJournalAt size (place_of journal) (journaled journal payloads) bytes → Opens program size r bytes
+  rebuilt_opens size (Ok store) bytes is same gate stands =
+      subst (λ (j : Option Journal). IsStoreOf program size bytes (state_by (content_of store.content) j)) (sym is.journal_is)
+      (open_store_of program (content_of store.content) size (place_of journal) (journaled journal payloads) (gate_in journal) bytes is.kept is.at_rest.at_rest gate stands)
+  rebuilt_opens size (Err NotStore) bytes is same gate stands = absurd is
+  rebuilt_opens size (Err (Damaged offset)) bytes is same gate stands = inr (record {
+    place = place_of journal;
+    says = journaled journal payloads;
     stands = stands;
     image = is.0;
     before = is.1.before;
@@ -156,20 +178,21 @@ module _ (program : StoreProgram) (journal : Journal) where
     content = is.1.content;
     content_is = is.1.content_is;
     says_none = is.1.says_none;
-    at = is.1.at;
+    at = omega (arith, is.1.at, ap (λ (n : ℕ). start_of n (place_of journal)) same);
   })
-  rebuilt_opens size (Err (OtherProgram offset)) area is stands = record { says = journaled journal; stands = stands; differ = is }
-  rebuilt_opens size (Err (NotAtRest object)) area is stands = record {
-    says = journaled journal;
+  rebuilt_opens size (Err (OtherProgram offset)) bytes is same gate stands = record { place = place_of journal; says = journaled journal payloads; stands = stands; differ = is }
+  rebuilt_opens size (Err (NotAtRest object)) bytes is same gate stands = record {
+    place = place_of journal;
+    says = journaled journal payloads;
     content = is.content;
     opened = record { stands = stands; image = is.kept.image; content_is = is.kept.content_is };
     fails = is.fails;
   }
-  rebuilt_opens size (Err (Room need limit)) area is stands = absurd is
-  rebuilt_opens size (Err DiskFault) area is stands = absurd is
-  rebuilt_opens size (Err Memory) area is stands = tt
+  rebuilt_opens size (Err (Room need limit)) bytes is same gate stands = absurd is
+  rebuilt_opens size (Err DiskFault) bytes is same gate stands = absurd is
+  rebuilt_opens size (Err Memory) bytes is same gate stands = tt
 
-  pub rebuilt_calm : (r : Result Store OpenError) (before now : ℕ) → Rebuilds program journal r → now ≡ before → FaultsAs r before now
+  pub rebuilt_calm : (r : Result Store OpenError) (before now : ℕ) → Rebuilds program journal payloads r → now ≡ before → FaultsAs r before now
   rebuilt_calm (Ok store) before now is same = same
   rebuilt_calm (Err NotStore) before now is same = same
   rebuilt_calm (Err (Damaged offset)) before now is same = same
@@ -179,7 +202,7 @@ module _ (program : StoreProgram) (journal : Journal) where
   rebuilt_calm (Err DiskFault) before now is same = absurd is
   rebuilt_calm (Err Memory) before now is same = same
 
-  pub rebuilt_lacks : (size : ℕ) (r : Result Store OpenError) → Rebuilds program journal r → LacksArea program size r
+  pub rebuilt_lacks : (size : ℕ) (r : Result Store OpenError) → Rebuilds program journal payloads r → LacksArea program size r
   rebuilt_lacks size (Ok store) is = tt
   rebuilt_lacks size (Err NotStore) is = tt
   rebuilt_lacks size (Err (Damaged offset)) is = tt
@@ -189,7 +212,7 @@ module _ (program : StoreProgram) (journal : Journal) where
   rebuilt_lacks size (Err DiskFault) is = tt
   rebuilt_lacks size (Err Memory) is = tt
 
-  pub rebuilt_stays : (old new : DiskView) (r : Result Store OpenError) → Rebuilds program journal r → During old new (May old) → StaysUnlessBlank program old new r
+  pub rebuilt_stays : (old new : DiskView) (r : Result Store OpenError) → Rebuilds program journal payloads r → During old new (May old) → StaysUnlessBlank program old new r
   rebuilt_stays old new (Ok store) is look = inr look
   rebuilt_stays old new (Err NotStore) is look = look
   rebuilt_stays old new (Err (Damaged offset)) is look = look
@@ -199,35 +222,47 @@ module _ (program : StoreProgram) (journal : Journal) where
   rebuilt_stays old new (Err DiskFault) is look = tt
   rebuilt_stays old new (Err Memory) is look = tt
 
-  pub rebuilt_area : (size : ℕ) (r : Result Store OpenError) → Rebuilds program journal r → area_size journal ≡ size → IfOk r (λ store. area_of_store store ≡ Some size)
+  pub rebuilt_area : (size : ℕ) (r : Result Store OpenError) → Rebuilds program journal payloads r → area_size journal ≡ size → IfOk r (λ store. area_of_store store ≡ Some size)
   rebuilt_area size (Ok store) is same = ap (option_map area_size) is.journal_is ∙ ap (λ (n : ℕ). Some n) same
   rebuilt_area size (Err e) is same = tt
 
-  pub rebuilt_rests : (r : Result Store OpenError) → Rebuilds program journal r → IfOk r (λ store. IsStoreAtRest program.table (content_of store.content))
+  pub rebuilt_rests : (r : Result Store OpenError) → Rebuilds program journal payloads r → IfOk r (λ store. IsStoreAtRest program.table (content_of store.content))
   rebuilt_rests (Ok store) is = is.at_rest
   rebuilt_rests (Err e) is = tt
 
-  pub rebuilt_stands : (r : Result Store OpenError) (v : DiskView) → Rebuilds program journal r → Holds journal v → IfOk r (λ store. StandsOn program store v)
+  pub rebuilt_stands : (r : Result Store OpenError) (v : DiskView) → Rebuilds program journal payloads r → Holds journal payloads v → IfOk r (λ store. StandsOn program store v)
   rebuilt_stands (Ok store) v is holds =
-      subst (λ (j : Option Journal). IsKeptIn program (content_of store.content) j v) (sym is.journal_is) (record { holds = holds; kept = is.kept })
+      subst (λ (j : Option Journal). IsKeptIn program (content_of store.content) j v) (sym is.journal_is) (record { payloads = payloads; holds = holds; kept = is.kept })
   rebuilt_stands (Err e) v is holds = tt
 
-pub not_replayed : (program : StoreProgram) (journal : Journal) (gate : ℕ) (payloads : List (List ℕ)) (e : OpenError) → Replays program.table gate payloads (Err e)
-    → gate ≡ 17 + length (journaled journal).image → payloads ≡ (journaled journal).payloads → (journaled journal).image ≡ program.image → Rebuilds program journal (Err e)
-not_replayed program journal gate payloads NotStore is at all image = absurd is
-not_replayed program journal gate payloads (Damaged offset) is at all image = (
-  image,
-  subst (λ (n : ℕ). IsFirstBad program.table n (journaled journal).payloads offset) at (subst (λ (ps : List (List ℕ)). IsFirstBad program.table gate ps offset) all is),
-)
-not_replayed program journal gate payloads (OtherProgram offset) is at all image = absurd is
-not_replayed program journal gate payloads (NotAtRest object) is at all image = absurd is
-not_replayed program journal gate payloads (Room need limit) is at all image = absurd is
-not_replayed program journal gate payloads DiskFault is at all image = absurd is
-not_replayed program journal gate payloads Memory is at all image = tt
+pub not_replayed : (program : StoreProgram) (journal : Journal) (payloads : List (List ℕ)) (e : OpenError) → Replays program.table (first_gate journal) payloads (Err e)
+    → image_of journal ≡ program.image → Rebuilds program journal payloads (Err e)
+not_replayed program journal payloads NotStore is image = absurd is
+not_replayed program journal payloads (Damaged offset) is image = (image, is)
+not_replayed program journal payloads (OtherProgram offset) is image = absurd is
+not_replayed program journal payloads (NotAtRest object) is image = absurd is
+not_replayed program journal payloads (Room need limit) is image = absurd is
+not_replayed program journal payloads DiskFault is image = absurd is
+not_replayed program journal payloads Memory is image = tt
 
-pub kept_as : (program : StoreProgram) (content : Content) (j : Journaled) (payloads : List (List ℕ)) → LeadFrom program.table empty_content payloads content → payloads ≡ j.payloads
-    → j.image ≡ program.image → IsKeptAs program content j
-kept_as program content j payloads leads all image = record { image = image; content_is = subst (λ (ps : List (List ℕ)). LeadFrom program.table empty_content ps content) all leads }
+pub not_rebuilt : (program : StoreProgram) (journal : Journal) (payloads : List (List ℕ)) (r : Result Stored OpenError) (e : OpenError) → r ≡ Err e
+    → Replays program.table (first_gate journal) payloads r → image_of journal ≡ program.image → Rebuilds program journal payloads (Err e)
+not_rebuilt program journal payloads r e is replays image =
+    not_replayed program journal payloads e (subst (λ (x : Result Stored OpenError). Replays program.table (first_gate journal) payloads x) is replays) image
+
+pub differ_so : (offset : ℕ) (a b x y : List ℕ) → a ≡ x → b ≡ y → DifferAt offset a b → DifferAt offset x y
+differ_so offset a b x y one other is = subst (λ (l : List ℕ). DifferAt offset x l) other (subst (λ (l : List ℕ). DifferAt offset l b) one is)
+
+pub few_kept : (table : ClassTable) (stored : Stored) → IsKeptContent table (content_of stored) → length stored.objects ≤ most_objects
+few_kept table stored kept = omega (arith, length-map stored.objects object_of, kept.few_objects)
+
+-- what is kept and has no object that fails is at rest
+pub rests_kept : (table : ClassTable) (stored : Stored) → IsKeptContent table (content_of stored)
+    → (IsContent table (content_of stored) → length stored.handles ≤ most_handles → IsStoreAtRest table (content_of stored)) → IsStoreAtRest table (content_of stored)
+rests_kept table stored kept rests = rests kept.is_content (omega (arith, length-map stored.handles named_of, kept.few_handles))
+
+pub fails_first : (table : ClassTable) (content : Content) (e : RestError) (id : ObjectId) → e ≡ of_rest.NotAtRest id → IsRestAnswer table content (Err e) → first_failing_object table content ≡ Some id.0
+fails_first table content e id is answer = let P : RestError → Type 0 = λ x. IsRestAnswer table content (Err x) in subst P is answer
 
 -- ---- a store is begun
 
@@ -236,20 +271,20 @@ looked_twice : (old mid new : DiskView) → During old mid (May old) → During 
 looked_twice old mid new look again = during_then old mid new _ look (during_to mid new _ _ again (λ c may. throughout_may mid (May old) look.now c may))
 
 module _ (program : StoreProgram) (size : ℕ) where
-  pub begun_opens : (r : Result Store OpenError) (area : List ℕ) → BeginsStore program size r → IsBlank area → Opens program size r area
-  begun_opens (Ok store) area is blank = inl (record {
+  pub begun_opens : (r : Result Store OpenError) (bytes : List ℕ) → BeginsStore program size r → IsBlankDisk size bytes → Opens program size r bytes
+  begun_opens (Ok store) bytes is blank = inl (record {
     blank = blank;
     content = is.content;
-    gate = ap gate_of is.journal_is ∙ ap next_gate is.says;
+    gate = ap gate_of is.journal_is ∙ is.gate;
     serial = ap serial_of is.journal_is ∙ ap (λ (j : Journaled). j.serial) is.says;
   })
-  begun_opens (Err NotStore) area is blank = absurd is
-  begun_opens (Err (Damaged offset)) area is blank = absurd is
-  begun_opens (Err (OtherProgram offset)) area is blank = absurd is
-  begun_opens (Err (NotAtRest object)) area is blank = absurd is
-  begun_opens (Err (Room need limit)) area is blank = (blank, is.0, is.1, is.2)
-  begun_opens (Err DiskFault) area is blank = tt
-  begun_opens (Err Memory) area is blank = tt
+  begun_opens (Err NotStore) bytes is blank = absurd is
+  begun_opens (Err (Damaged offset)) bytes is blank = absurd is
+  begun_opens (Err (OtherProgram offset)) bytes is blank = absurd is
+  begun_opens (Err (NotAtRest object)) bytes is blank = absurd is
+  begun_opens (Err (Room need limit)) bytes is blank = (blank, is.0, is.1, is.2)
+  begun_opens (Err DiskFault) bytes is blank = tt
+  begun_opens (Err Memory) bytes is blank = tt
 
   pub begun_area : (r : Result Store OpenError) → BeginsStore program size r → IfOk r (λ store. area_of_store store ≡ Some size)
   begun_area (Ok store) is = ap (option_map area_size) is.journal_is ∙ ap (λ (n : ℕ). Some n) is.area
@@ -272,7 +307,7 @@ module _ (program : StoreProgram) (size : ℕ) where
   pub begun_stays : (old mid new : DiskView) (r : Result Store OpenError) → BeginsStore program size r → During old mid (May old) → StaysWithoutRoom mid new r → StaysUnlessBlank program old new r
   begun_stays old mid new (Ok store) is look room = inl (record {
     content = is.content;
-    gate = ap gate_of is.journal_is ∙ ap next_gate is.says;
+    gate = ap gate_of is.journal_is ∙ is.gate;
     serial = ap serial_of is.journal_is ∙ ap (λ (j : Journaled). j.serial) is.says;
   })
   begun_stays old mid new (Err NotStore) is look room = absurd is
@@ -296,29 +331,41 @@ if_fresh (Err e) F P is fresh = tt
 
 -- ---- what was found
 
-pub blank_found : (size : ℕ) (f : Found) (area : List ℕ) → f ≡ Blank → Finds size (Ok f) area → IsBlank area
-blank_found size f area is said = let P : Found → Type 0 = λ x. Finds size (Ok x) area in subst P is said
+pub blank_found : (size : ℕ) (f : Found) (bytes : List ℕ) → f ≡ Blank → Finds size (Ok f) bytes → IsBlankDisk size bytes
+blank_found size f bytes is said = let P : Found → Type 0 = λ x. Finds size (Ok x) bytes in subst P is said
 
 pub blank_in : (size : ℕ) (f : Found) (v : DiskView) → f ≡ Blank → IsFoundIn size f v → IsFresh size v
 blank_in size f v is said = let P : Found → Type 0 = λ x. IsFoundIn size x v in subst P is said
 
-pub current_found : (size : ℕ) (f : Found) (journal : Journal) (area : List ℕ) → f ≡ Current journal → Finds size (Ok f) area → StandsFor (journaled journal) area
-current_found size f journal area is said = let P : Found → Type 0 = λ x. Finds size (Ok x) area in subst P is said
+pub current_in : (size : ℕ) (f : Found) (journal : Journal) (recorded : Recorded) (v : DiskView) → f ≡ Current journal recorded → IsFoundIn size f v → IsFoundWith size journal recorded v
+current_in size f journal recorded v is said = let P : Found → Type 0 = λ x. IsFoundIn size x v in subst P is said
 
-pub current_in : (size : ℕ) (f : Found) (journal : Journal) (v : DiskView) → f ≡ Current journal → IsFoundIn size f v → Holds journal v × (area_size journal ≡ size)
-current_in size f journal v is said =
-    let P : Found → Type 0 = λ x. IsFoundIn size x v in
-    let whole : IsFoundIn size (Current journal) v = subst P is said in
-    (subst (λ (n : ℕ). IsWhole n (journaled journal) v) (sym whole.1) whole.0, whole.1)
+current_found : (size : ℕ) (f : Found) (journal : Journal) (recorded : Recorded) (bytes : List ℕ) → f ≡ Current journal recorded → Finds size (Ok f) bytes → IsRead size journal recorded bytes
+current_found size f journal recorded bytes is said = let P : Found → Type 0 = λ x. Finds size (Ok x) bytes in subst P is said
+
+-- the next gate is the same by all payloads that the records have
+same_next : (journal : Journal) (recorded : Recorded) (ps qs : List (List ℕ)) → HasPayloads recorded ps → HasPayloads recorded qs → next_gate (journaled journal ps) ≡ next_gate (journaled journal qs)
+same_next journal recorded ps qs has other =
+    let one : length (record_bytes recorded) ≡ size_of ps = length-records ps (record_bytes recorded) has in
+    let two : length (record_bytes recorded) ≡ size_of qs = length-records qs (record_bytes recorded) other in
+    omega (arith, one, two)
+
+-- a store that was rebuilt of what was found is what the disk represents
+pub found_opens : (program : StoreProgram) (size : ℕ) (f : Found) (journal : Journal) (recorded : Recorded) (r : Result Store OpenError) (v : DiskView) (bytes : List ℕ) → f ≡ Current journal recorded
+    → ((payloads : List (List ℕ)) → HasPayloads recorded payloads → Rebuilds program journal payloads r) → IsFoundIn size f v → Finds size (Ok f) bytes → Opens program size r bytes
+found_opens program size f journal recorded r v bytes is rebuilt whole found =
+    let there = current_in size f journal recorded v is whole in
+    let read = current_found size f journal recorded bytes is found in
+    rebuilt_opens program journal read.0 size r bytes (rebuilt read.0 read.1) there.area (there.holds.gate ∙ same_next journal recorded there.payloads read.0 there.has read.1) read.2
 
 -- ---- no journal is found or begun
 
-pub not_found : (program : StoreProgram) (size : ℕ) (e : JournalError) (area : List ℕ) → Finds size (Err e) area → Opens program size (Err (refused_by e)) area
-not_found program size of_journal.NotStore area is = is
-not_found program size (of_journal.Damaged offset) area is = inl is
-not_found program size (of_journal.Room need limit) area is = absurd is
-not_found program size of_journal.DiskFault area is = tt
-not_found program size of_journal.Memory area is = tt
+pub not_found : (program : StoreProgram) (size : ℕ) (e : JournalError) (bytes : List ℕ) → Finds size (Err e) bytes → Opens program size (Err (refused_by e)) bytes
+not_found program size of_journal.NotStore bytes is = is
+not_found program size (of_journal.Damaged offset) bytes is = inl is
+not_found program size (of_journal.Room need limit) bytes is = absurd is
+not_found program size of_journal.DiskFault bytes is = tt
+not_found program size of_journal.Memory bytes is = tt
 
 pub not_found_lacks : (program : StoreProgram) (size : ℕ) (e : JournalError) → NeedsNoRoom (Err e) → LacksArea program size (Err (refused_by e))
 not_found_lacks program size of_journal.NotStore none = tt
@@ -344,10 +391,10 @@ faults_as T of_journal.Memory before now is = is
 -- ---- what a crash leaves
 
 -- nothing is written
-pub unwritten : (old new : DiskView) (size : ℕ) (image : List ℕ) → During old new (May old) → During old new (λ c. May old c ⊎ IsBlankOrBegun image (area_of size c))
+pub unwritten : (old new : DiskView) (size : ℕ) (image : List ℕ) → During old new (May old) → During old new (λ c. May old c ⊎ IsBlankOrBegunDisk size image c)
 unwritten old new size image look = during_to old new _ _ look (λ c may. inl may)
 
 -- an area is begun behind a look
-pub begun_behind : (old mid new : DiskView) (size : ℕ) (image : List ℕ) → During old mid (May old) → During mid new (λ c. IsBlankOrBegun image (area_of size c))
-    → During old new (λ c. May old c ⊎ IsBlankOrBegun image (area_of size c))
+pub begun_behind : (old mid new : DiskView) (size : ℕ) (image : List ℕ) → During old mid (May old) → During mid new (IsBlankOrBegunDisk size image)
+    → During old new (λ c. May old c ⊎ IsBlankOrBegunDisk size image c)
 begun_behind old mid new size image look start = during_then old mid new _ (unwritten old mid size image look) (during_to mid new _ _ start (λ c is. inr is))

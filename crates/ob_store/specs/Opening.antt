@@ -1,18 +1,17 @@
 -- What opening a store answers (this project's own).
-use Rattle.std.specs.Prelude.{ℕ, pos, ◌≡◌, ◌<◌, ◌≤◌, ◌+◌, ◌⊎◌, ⊤, List, ◌∷◌, ◌++◌, length, Some, Result, Ok, Err}
+use Rattle.std.specs.Prelude.{ℕ, pos, ◌≡◌, ◌<◌, ◌≤◌, ◌+◌, ◌⊎◌, ⊤, List, [], ◌∷◌, ◌++◌, length, Some, Result, Ok, Err}
 use Rattle.ob_base.specs.Limits.{most_objects, most_handles}
 use Rattle.ob_table.specs.Tables.{ClassTable}
 use Rattle.ob_disk_spec.specs.Disk.{DiskView}
 use Rattle.ob_disk_spec.specs.Durable.{May, During}
 use Rattle.ob_heap.specs.Contents.{Stored, content_of}
 use Rattle.ob_heap_spec.specs.Contents.{Content, IsContent, empty_content}
-use Rattle.ob_disk_spec.specs.Disk.{DiskView}
-use Rattle.ob_disk_spec.specs.Durable.{May, During}
 use Rattle.ob_io.specs.Causes.{Rose}
 use Rattle.ob_rest_spec.specs.AtRest.{IsStoreAtRest, first_failing_object}
-use Rattle.ob_journal_spec.specs.Areas.{IsBlank, begun, next_gate, size_of}
+use Rattle.ob_journal_spec.specs.Areas.{begun, next_gate, size_of}
+use Rattle.ob_journal_spec.specs.Disks.{IsBlankDisk, start_of}
 use Rattle.ob_journal_spec.specs.Differing.{DifferAt}
-use Rattle.ob_journal.specs.Journals.{journaled, area_size}
+use Rattle.ob_journal.specs.Journals.{journaled, area_size, place_of, image_of, gate_of}
 use Rattle.ob_journal.specs.declared.error.JournalError.{JournalError}
 use Rattle.ob_journal.specs.declared.error.JournalError.TheVariants as of_journal
 use Rattle.ob_journal.specs.declared.journal.Journal.{Journal}
@@ -26,17 +25,18 @@ use Rattle.ob_store.specs.declared.store.Store.{Store}
 use Rattle.ob_store.specs.declared.error.OpenError.{OpenError}
 use Rattle.ob_store.specs.declared.error.OpenError.TheVariants.{NotStore, Damaged, OtherProgram, NotAtRest, Room, DiskFault, Memory}
 
--- The answer is the store that an area represents, or why it represents none. `Room` comes where a blank area is too small to be begun.
+-- The answer is the store that a disk with areas of a size represents, or why it represents none. `Room` comes where the first area of a
+-- blank disk is too small to be begun.
 abbrev pub Opens : StoreProgram → ℕ → Result Store OpenError → List ℕ → Type 0
-Opens program size (Ok store) area = IsStoreOf program area (state_of store)
-Opens program size (Err NotStore) area = IsRefused program area not_store
-Opens program size (Err (Damaged offset)) area = IsRefused program area (damaged offset)
-Opens program size (Err (OtherProgram offset)) area = IsRefused program area (other_program offset)
-Opens program size (Err (NotAtRest object)) area = IsRefused program area (not_at_rest object.0)
-Opens program size (Err (Room need limit)) area =
-    IsBlank area × (need ≡ 18 + length program.image) × (limit ≡ size) × (size < need)
-Opens program size (Err DiskFault) area = ⊤
-Opens program size (Err Memory) area = ⊤
+Opens program size (Ok store) bytes = IsStoreOf program size bytes (state_of store)
+Opens program size (Err NotStore) bytes = IsRefused program size bytes not_store
+Opens program size (Err (Damaged offset)) bytes = IsRefused program size bytes (damaged offset)
+Opens program size (Err (OtherProgram offset)) bytes = IsRefused program size bytes (other_program offset)
+Opens program size (Err (NotAtRest object)) bytes = IsRefused program size bytes (not_at_rest object.0)
+Opens program size (Err (Room need limit)) bytes =
+    IsBlankDisk size bytes × (need ≡ 18 + length program.image) × (limit ≡ size) × (size < need)
+Opens program size (Err DiskFault) bytes = ⊤
+Opens program size (Err Memory) bytes = ⊤
 
 -- the count of faults rose, by one, where the disk failed, and else it stayed
 abbrev pub FaultsAs : {T : Type 0} → Result T OpenError → ℕ → ℕ → Type 0
@@ -84,40 +84,50 @@ pub record IsFirstBad (table : ClassTable) (gate : ℕ) (payloads : List (List �
 -- what replaying payloads answers, the first one's gate being at an offset: the content to which they lead, or the gate of the first
 -- that is bad
 abbrev pub Replays : ClassTable → ℕ → List (List ℕ) → Result Stored OpenError → Type 0
-Replays table gate payloads (Ok stored) = LeadFrom table empty_content payloads (content_of stored) × IsKeptContent table (content_of stored)
+Replays table gate payloads (Ok stored) = LeadFrom table empty_content payloads (content_of stored)
 Replays table gate payloads (Err (Damaged offset)) = IsFirstBad table gate payloads offset
 Replays table gate payloads (Err Memory) = ⊤
 Replays table gate payloads (Err other) = ⊥
 
--- a store is kept in a journal, is one of this program, and is at rest
-pub record IsRebuilt (program : StoreProgram) (journal : Journal) (store : Store) : Type 0 where
+-- what is answered may be kept
+abbrev pub IsKeptIfOk : ClassTable → Result Stored OpenError → Type 0
+IsKeptIfOk table (Ok stored) = IsKeptContent table (content_of stored)
+IsKeptIfOk table (Err error) = ⊤
+
+-- a store is kept in a journal with these payloads, is one of this program, and is at rest
+pub record IsRebuilt (program : StoreProgram) (journal : Journal) (payloads : List (List ℕ)) (store : Store) : Type 0 where
   pub journal_is : store.journal ≡ Some journal
-  pub kept : IsKeptAs program (content_of store.content) (journaled journal)
+  pub kept : IsKeptAs program (content_of store.content) (journaled journal payloads)
   pub at_rest : IsStoreAtRest program.table (content_of store.content)
 
--- a journal is one of this program, and the content to which it leads isn't at rest: this is the first object that fails
-pub record IsUnrested (program : StoreProgram) (journal : Journal) (object : ℕ) : Type 0 where
+-- A journal with these payloads is one of this program, and the content to which it leads isn't at rest: this is the first object that
+-- fails.
+pub record IsUnrested (program : StoreProgram) (journal : Journal) (payloads : List (List ℕ)) (object : ℕ) : Type 0 where
   pub content : Content
-  pub kept : IsKeptAs program content (journaled journal)
+  pub kept : IsKeptAs program content (journaled journal payloads)
   pub fails : first_failing_object program.table content ≡ Some object
 
--- What rebuilding a store from its journal answers; each refusal supposes that none before it holds.
-abbrev pub Rebuilds : StoreProgram → Journal → Result Store OpenError → Type 0
-Rebuilds program journal (Ok store) = IsRebuilt program journal store
-Rebuilds program journal (Err (OtherProgram offset)) = DifferAt offset (journaled journal).image program.image
-Rebuilds program journal (Err (Damaged offset)) =
-    ((journaled journal).image ≡ program.image)
-    × IsFirstBad program.table (17 + length (journaled journal).image) (journaled journal).payloads offset
-Rebuilds program journal (Err (NotAtRest object)) = IsUnrested program journal object.0
-Rebuilds program journal (Err Memory) = ⊤
-Rebuilds program journal (Err other) = ⊥
+-- where the gate of a journal's first record is, from the disk's start
+abbrev pub first_gate : Journal → ℕ
+first_gate journal = start_of (area_size journal) (place_of journal) + (17 + length (image_of journal))
 
--- a store is empty, and its journal of an area of this size has just been begun for this program
+-- What rebuilding a store from its journal with these payloads answers; each refusal supposes that none before it holds.
+abbrev pub Rebuilds : StoreProgram → Journal → List (List ℕ) → Result Store OpenError → Type 0
+Rebuilds program journal payloads (Ok store) = IsRebuilt program journal payloads store
+Rebuilds program journal payloads (Err (OtherProgram offset)) = DifferAt offset (image_of journal) program.image
+Rebuilds program journal payloads (Err (Damaged offset)) =
+    (image_of journal ≡ program.image) × IsFirstBad program.table (first_gate journal) payloads offset
+Rebuilds program journal payloads (Err (NotAtRest object)) = IsUnrested program journal payloads object.0
+Rebuilds program journal payloads (Err Memory) = ⊤
+Rebuilds program journal payloads (Err other) = ⊥
+
+-- a store is empty, and its journal of areas of this size has just been begun for this program
 pub record IsBegun (program : StoreProgram) (size : ℕ) (store : Store) : Type 0 where
   pub journal : Journal
   pub journal_is : store.journal ≡ Some journal
   pub content : content_of store.content ≡ empty_content
-  pub says : journaled journal ≡ begun program.image
+  pub says : journaled journal [] ≡ begun program.image
+  pub gate : gate_of journal ≡ next_gate (begun program.image)
   pub area : area_size journal ≡ size
 
 -- what beginning a store answers: `Room` exactly where the area is smaller than a header with its two gates
@@ -133,13 +143,13 @@ abbrev pub LacksArea : StoreProgram → ℕ → Result Store OpenError → Type 
 LacksArea program size (Err (Room need limit)) = (need ≡ 18 + length program.image) × (limit ≡ size) × (size < need)
 LacksArea program size answer = ⊤
 
--- a store is the one that a blank area represents
+-- a store is the one that a blank disk represents
 pub record IsBlankStart (program : StoreProgram) (s : StoreState) : Type 0 where
   pub content : s.content ≡ empty_content
   pub gate : s.gate ≡ next_gate (begun program.image)
   pub serial : s.serial ≡ pos 1
 
--- No byte changes but where a blank area is begun.
+-- No byte changes but where a blank disk is begun.
 abbrev pub StaysUnlessBlank : StoreProgram → DiskView → DiskView → Result Store OpenError → Type 0
 StaysUnlessBlank program old new (Ok store) = IsBlankStart program (state_of store) ⊎ During old new (May old)
 StaysUnlessBlank program old new (Err DiskFault) = ⊤

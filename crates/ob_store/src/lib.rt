@@ -1,9 +1,10 @@
-//! A store on a disk: its content in memory, and a journal of one area whose payloads lead to it.
+//! A store on a disk: its content in memory, and a journal whose payloads lead to it, in one of two areas.
 #![tactic(auto)]
 
 mod error;
 mod opening;
 mod store;
+mod writing;
 
 pub use error::{OpenError, PrepareError};
 pub use store::{Prepared, Store};

@@ -1,26 +1,27 @@
 //! A store is opened: begun on a blank disk, or rebuilt from its journal.
-ghost use Rattle.std.specs.Prelude.{◌≡◌, ◌≤◌, ◌<◌, ◌+◌, ◌^◌, ⊤, ℕ, List, length, map, MatchOption, IfOk, OnOk};
+ghost use Rattle.std.specs.Prelude.{◌≡◌, ◌≤◌, ◌<◌, ◌+◌, ◌^◌, ⊤, ℕ, List, length, MatchOption, IfOk, OnOk};
 ghost use Rattle.ob_base.specs.Limits.{most_objects, most_handles};
 ghost use Rattle.ob_disk_spec.specs.Durable.{During, KeepsBehind};
 ghost use Rattle.ob_code.specs.Images.{image};
 ghost use Rattle.ob_heap.specs.Contents.{content_of};
 ghost use Rattle.ob_heap_spec.specs.Contents.{IsContent};
-ghost use Rattle.ob_journal_spec.specs.Areas.{IsBlankOrBegun, area_of, size_of};
+ghost use Rattle.ob_journal_spec.specs.Areas.{Records};
+ghost use Rattle.ob_journal_spec.specs.Disks.{IsBlankOrBegunDisk};
 ghost use Rattle.ob_journal_spec.specs.Differing.{DifferAt};
 ghost use Rattle.ob_journal.specs.Moments.{IsFresh};
-ghost use Rattle.ob_journal.specs.Surveys.{payload_of};
+ghost use Rattle.ob_journal.specs.Surveys.{HasPayloads};
 ghost use Rattle.ob_code_table.specs.ImageTables.{table_of_image};
 ghost use Rattle.ob_store_spec.specs.Payloads.{Changes};
 ghost use Rattle.ob_store_spec.specs.Changes.{SaysChanges, with_changes};
 ghost use Rattle.ob_store.specs.Stores.{program_of, StandsOn};
-ghost use Rattle.ob_store.specs.Opening.{FaultsAs, refused_by, IsKeptContent, Follows, Replays, Rebuilds, BeginsStore, StaysWithoutRoom};
+ghost use Rattle.ob_store.specs.Opening.{FaultsAs, refused_by, IsKeptContent, Follows, Replays, IsKeptIfOk, first_gate, Rebuilds, BeginsStore, StaysWithoutRoom};
 
 use crate::error::OpenError;
 use crate::store::Store;
 use ob_code::{Image, encode};
 use ob_disk::Disk;
 use ob_heap::{Content, apply, reserve};
-use ob_journal::{Journal, JournalError};
+use ob_journal::{Journal, JournalError, Recorded, first_record};
 use ob_owners::{RestError, check_at_rest};
 use ob_store_payload::{PayloadError, read_payload};
 use std::alloc::Global;
@@ -72,32 +73,50 @@ fn follow(
     Ok(())
 }
 
-// The content to which payloads lead, of which the first one's gate is at this offset.
-fn replay(
-    alloc: Global,
-    code: &Image,
-    gate: u64,
-    payloads: &[Vec<u8>],
-) -> Result<Content, OpenError>
-    requires { gate + size_of (map payload_of payloads.now) < 2 ^ 62 }
-    ensures { Replays (table_of_image code.now) gate (map payload_of payloads.now) result }
+// The content to which the payloads of records lead, of which the first one's gate is at this offset.
+fn replay(alloc: Global, code: &Image, gate: u64, records: &[u8]) -> Result<Content, OpenError>
+    requires { gate + length records.now < 2 ^ 62 }
+    ensures replayed { (payloads : List (List ℕ)) → Records payloads records.now → Replays (table_of_image code.now) gate payloads result }
+    ensures kept { IsKeptIfOk (table_of_image code.now) result }
 {
     let mut content = Content::new(alloc);
-    let mut offset = gate;
-    for payload in payloads {
-        match follow(alloc, code, &mut content, payload.as_slice()) {
-            Ok(()) => offset += 5 + payload.len() as u64,
-            Err(PayloadError::Bad) => return Err(OpenError::Damaged(offset)),
+    let mut rest = records;
+    'records: while let Some((payload, after)) = first_record(rest) {
+        match follow(alloc, code, &mut content, payload) {
+            Ok(()) => rest = after,
+            Err(PayloadError::Bad) => {
+                let before = records.len() - rest.len();
+                return Err(OpenError::Damaged(gate + before as u64));
+            }
             Err(PayloadError::Memory) => return Err(OpenError::Memory),
         }
     }
     Ok(content)
 }
 
-/// The store that a journal represents, if it is one of this program and at rest.
-pub fn rebuilt(alloc: Global, code: &Image, journal: Journal) -> Result<Store, OpenError>
+// The content to which a journal's records lead. The bytes that were read go before it is looked at.
+fn replayed(
+    alloc: Global,
+    code: &Image,
+    journal: &Journal,
+    recorded: Recorded,
+) -> Result<Content, OpenError>
+    ensures replayed { (payloads : List (List ℕ)) → HasPayloads recorded payloads →
+        Replays (table_of_image code.now) (first_gate journal.now) payloads result }
+    ensures kept { IsKeptIfOk (table_of_image code.now) result }
+{
+    replay(alloc, code, journal.records_offset(), recorded.records())
+}
+
+/// The store that a journal represents with the records that were read, if it is one of this program and at rest.
+pub fn rebuilt(
+    alloc: Global,
+    code: &Image,
+    journal: Journal,
+    recorded: Recorded,
+) -> Result<Store, OpenError>
     requires { image.fits code.now }
-    ensures { Rebuilds (program_of code.now) journal result }
+    ensures { (payloads : List (List ℕ)) → HasPayloads recorded payloads → Rebuilds (program_of code.now) journal payloads result }
 {
     let Ok(image) = encode(alloc, code) else {
         return Err(OpenError::Memory);
@@ -105,8 +124,7 @@ pub fn rebuilt(alloc: Global, code: &Image, journal: Journal) -> Result<Store, O
     if let Some(offset) = first_difference(journal.image(), image.as_slice()) {
         return Err(OpenError::OtherProgram(offset));
     }
-    let gate = journal.image().len() as u64 + 17;
-    let content = replay(alloc, code, gate, journal.payloads())?;
+    let content = replayed(alloc, code, &journal, recorded)?;
     match check_at_rest(alloc, code, &content) {
         Ok(()) => Ok(Store {
             content,
@@ -117,7 +135,7 @@ pub fn rebuilt(alloc: Global, code: &Image, journal: Journal) -> Result<Store, O
     }
 }
 
-/// Begins an area for an empty store of a program.
+/// Begins the first area of a blank disk for an empty store of a program.
 pub fn begin_store<D: Disk>(
     alloc: Global,
     disk: &mut D,
@@ -131,7 +149,7 @@ pub fn begin_store<D: Disk>(
     ensures room { StaysWithoutRoom (D.view disk.old) (D.view disk.new) result }
     ensures stands { IfOk result (λ store. IsFresh area (D.view disk.old) → StandsOn (program_of code.now) store (D.view disk.new)) }
     ensures crash { IsFresh area (D.view disk.old) → During (D.view disk.old) (D.view disk.new)
-        (λ c. IsBlankOrBegun (image.bytes code.now) (area_of area c)) }
+        (IsBlankOrBegunDisk area (image.bytes code.now)) }
     ensures behind { KeepsBehind area (D.view disk.old) (D.view disk.new) }
     ensures attaches { (D.view disk.new).attaches ≡ (D.view disk.old).attaches }
     ensures cause { FaultsAs result (D.view disk.old).faults (D.view disk.new).faults }

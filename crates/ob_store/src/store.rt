@@ -1,5 +1,5 @@
 //! The store.
-ghost use Rattle.std.specs.Prelude.{◌≡◌, ◌≤◌, ◌^◌, ◌⊎◌, ℕ, List, IfOk, OnOk, OnErr, IsTrue, is_ok, Some};
+ghost use Rattle.std.specs.Prelude.{◌≡◌, ◌≤◌, ◌+◌, ◌^◌, ◌⊎◌, ℕ, List, IfOk, OnOk, OnErr, IsTrue, is_ok, Some};
 ghost use Rattle.ob_disk_spec.specs.Disk.{Reads};
 ghost use Rattle.ob_disk_spec.specs.Durable.{May, During, KeepsBehind};
 ghost use Rattle.ob_disk_spec.specs.Calls.{IsUntouched};
@@ -7,106 +7,41 @@ ghost use Rattle.ob_heap.specs.Contents.{content_of};
 ghost use Rattle.ob_heap.specs.Deltas.{IsDelta};
 ghost use Rattle.ob_heap_spec.specs.Contents.{IsContent, empty_content};
 ghost use Rattle.ob_io.specs.Causes.{HasCause};
-ghost use Rattle.ob_journal_spec.specs.Areas.{IsBlank, IsBlankOrBegun, area_of};
+ghost use Rattle.ob_journal_spec.specs.Disks.{IsBlankDisk, IsBlankOrBegunDisk};
 ghost use Rattle.ob_code.specs.Images.{image};
 ghost use Rattle.ob_code_table.specs.ImageTables.{table_of_image};
 ghost use Rattle.ob_rest_spec.specs.AtRest.{IsStoreAtRest};
 ghost use Rattle.ob_store_laws.specs.Recorded.{content_with, IsStorable};
 ghost use Rattle.ob_store_spec.specs.Settling.{settled};
-ghost use Rattle.ob_table.specs.Tables.{ClassTable};
 ghost use Rattle.ob_store_spec.specs.Stores.{StoreProgram};
-ghost use Rattle.ob_store.specs.Stores.{program_of, area_of_store, kept_of, state_of, StandsOn, IsSameJournal, IsSameStore};
+ghost use Rattle.ob_store.specs.Stores.{program_of, area_of_store, kept_of, state_of, HasImage, StandsOn, IsSameStore};
 ghost use Rattle.ob_store.specs.Opening.{Opens, LacksArea, StaysUnlessBlank, FaultsAs};
-ghost use Rattle.ob_store.specs.Preparing.{delta_prepared, IsBuiltFor, IsBuiltForStore, WritesNothing, IsPrepared, BuildsWhatDiffers, Prepares, HasSpareIn, HasRoomFor};
-ghost use Rattle.ob_store.specs.Committing.{IsReady, StandsBeforeOrAfter, HoldsIn, KeepsBehindIn, IsAppendedTo, StandsIn};
+ghost use Rattle.ob_store.specs.Preparing.{delta_prepared, IsBuiltForStore, WritesNothing, IsPrepared, Prepares, HasRoomFor};
+ghost use Rattle.ob_store.specs.Committing.{IsReady, StandsBeforeOrAfter};
 
 use crate::error::{OpenError, PrepareError};
 use crate::opening::{begin_store, rebuilt, refused_by};
+use crate::writing::{Record, build_record, write_in};
 use ob_base::Memory;
 use ob_code::Image;
 use ob_disk::Disk;
 use ob_heap::{Content, Delta, apply, reserve};
-use ob_journal::{BuildError, Built, DiskFault, Found, Journal};
-use ob_store_payload::put_payload;
+use ob_journal::{DiskFault, Found, Journal};
 use ob_verify::Verified;
 use std::alloc::Global;
 
-/// A store: its content in memory and, where it is kept on a disk, the journal that leads to it.
+/// A store: its content in memory and, where it is kept on a disk, the journal whose records lead to it.
 #[derive(Drop)]
 pub struct Store {
     pub(crate) content: Content,
     pub(crate) journal: Option<Journal>,
 }
 
-/// What is made ready for a store: a delta, and the record that says what differs after it, where there is one.
+/// What is made ready for a store: a delta, and what is written of it, where something differs after it.
 #[derive(Drop)]
 pub struct Prepared {
     delta: Delta,
-    built: Option<Built>,
-}
-
-// Builds the record that says what differs after a delta. `None` where nothing does.
-fn build_record(
-    alloc: Global,
-    code: &Image,
-    content: &Content,
-    journal: &Journal,
-    delta: &Delta,
-) -> Result<Option<Built>, PrepareError>
-    requires content { IsContent (table_of_image code.now) (content_of content.now) }
-    requires delta { IsDelta content.now delta.now }
-    ensures { BuildsWhatDiffers (table_of_image code.now) journal.now (content_of content.now) (content_with content.now delta.now) result }
-{
-    let Ok(payload) = put_payload(alloc, code, content, delta) else {
-        return Err(PrepareError::Memory);
-    };
-    let Some(payload) = payload else {
-        return Ok(None);
-    };
-    match journal.build(alloc, payload.as_slice()) {
-        Ok(built) => Ok(Some(built)),
-        Err(BuildError::Room(need, size)) => Err(PrepareError::Room(need, size)),
-        Err(BuildError::Memory) => Err(PrepareError::Memory),
-    }
-}
-
-// Makes room for one record more, where there is a journal.
-fn reserve_record(journal: &mut Option<Journal>) -> Result<(), Memory>
-    ensures spare { OnOk result (HasSpareIn journal.new) }
-    ensures same { IsSameJournal journal.old journal.new }
-{
-    if let Some(journal) = journal {
-        journal.reserve()?;
-    }
-    Ok(())
-}
-
-// Appends a record, where one was built.
-fn append_record<D: Disk>(
-    journal: &mut Option<Journal>,
-    disk: &mut D,
-    built: Option<Built>,
-) -> Result<(), DiskFault>
-    requires built { IsBuiltFor journal.old built }
-    requires spare { HasSpareIn journal.old }
-    ensures appended { OnOk result (IsAppendedTo journal.old built journal.new) }
-    ensures whole { OnOk result (HoldsIn journal.old (D.view disk.old) → HoldsIn journal.new (D.view disk.new)) }
-    ensures crash { HoldsIn journal.old (D.view disk.old) → During (D.view disk.old) (D.view disk.new) (StandsIn journal.old built) }
-    ensures sure { built ≡ None → IsTrue (is_ok result) }
-    ensures none { built ≡ None → IsUntouched (D.view disk.old) (D.view disk.new) }
-    ensures behind { KeepsBehindIn journal.old (D.view disk.old) (D.view disk.new) }
-    ensures attaches { (D.view disk.new).attaches ≡ (D.view disk.old).attaches }
-    ensures err { OnErr result (IsSameJournal journal.old journal.new) }
-    ensures cause { HasCause (D.view disk.old).faults (D.view disk.new).faults result }
-{
-    let Some(built) = built else {
-        return Ok(());
-    };
-    let Some(journal) = journal else {
-        return Ok(());
-    };
-    journal.append(disk, built)?;
-    Ok(())
+    built: Option<Record>,
 }
 
 impl Store {
@@ -121,14 +56,14 @@ impl Store {
         }
     }
 
-    /// Opens the store that an area of so many bytes at the start of a disk represents. It writes on a blank disk alone, where it
-    /// begins an area. What follows the area stays.
+    /// Opens the store that a disk with two areas of so many bytes each represents. It writes on a blank disk alone, where it
+    /// begins the first area. What follows that stays.
     ///
     /// # Errors
     ///
-    /// `NotStore`, `Damaged`, `OtherProgram` and `NotAtRest` exactly where the area represents no store of this program, by their
-    /// definitions; `Room` where the area of a blank disk is too small to be begun; `DiskFault` where a call of the disk failed: a
-    /// disk that isn't blank is then as it was, and a blank one is blank or begun; `Memory` where memory ran out.
+    /// `NotStore`, `Damaged`, `OtherProgram` and `NotAtRest` exactly where the disk represents no store of this program, by their
+    /// definitions; `Room` where the first area of a blank disk is too small to be begun; `DiskFault` where a call of the disk
+    /// failed: a disk that isn't blank is then as it was, and a blank one is blank or begun; `Memory` where memory ran out.
     pub fn open_store<D: Disk>(
         alloc: Global,
         disk: &mut D,
@@ -138,23 +73,25 @@ impl Store {
         requires some { 1 ≤ area }
         requires small { area ≤ 2 ^ 31 }
         requires fits { image.fits code.now }
-        ensures opened { (c : List ℕ) → Reads (D.view disk.old) c → Opens (program_of code.now) area result (area_of area c) }
+        ensures opened { (c : List ℕ) → Reads (D.view disk.old) c → Opens (program_of code.now) area result c }
         ensures room { LacksArea (program_of code.now) area result }
         ensures area { IfOk result (λ store. area_of_store store ≡ Some area) }
         ensures at_rest { IfOk result (λ store. IsStoreAtRest (table_of_image code.now) (content_of (kept_of store))) }
         ensures stands { IfOk result (λ store. StandsOn (program_of code.now) store (D.view disk.new)) }
-        ensures quiet { (c : List ℕ) → Reads (D.view disk.old) c → ¬ (IsBlank (area_of area c)) →
+        ensures quiet { (c : List ℕ) → Reads (D.view disk.old) c → ¬ (IsBlankDisk area c) →
             During (D.view disk.old) (D.view disk.new) (May (D.view disk.old)) }
         ensures still { StaysUnlessBlank (program_of code.now) (D.view disk.old) (D.view disk.new) result }
         ensures crash { During (D.view disk.old) (D.view disk.new)
-            (λ c. May (D.view disk.old) c ⊎ IsBlankOrBegun (image.bytes code.now) (area_of area c)) }
+            (λ c. May (D.view disk.old) c ⊎ IsBlankOrBegunDisk area (image.bytes code.now) c) }
         ensures behind { KeepsBehind area (D.view disk.old) (D.view disk.new) }
         ensures attaches { (D.view disk.new).attaches ≡ (D.view disk.old).attaches }
         ensures cause { FaultsAs result (D.view disk.old).faults (D.view disk.new).faults }
     {
         match Journal::find(alloc, disk, area) {
             Ok(Found::Blank) => begin_store(alloc, disk, code.image(), area),
-            Ok(Found::Current(journal)) => rebuilt(alloc, code.image(), journal),
+            Ok(Found::Current(journal, recorded)) => {
+                rebuilt(alloc, code.image(), journal, recorded)
+            }
             Err(error) => Err(refused_by(error)),
         }
     }
@@ -166,22 +103,25 @@ impl Store {
         &self.content
     }
 
-    /// Makes a delta ready: builds the record that says what differs after it.
+    /// Makes a delta ready: builds the record that says what differs after it, or, where that doesn't fit, the other area with one
+    /// record of all that the content holds then.
     ///
     /// # Errors
     ///
-    /// `Room` exactly where the area has no room for the record; `Memory` where memory ran out.
+    /// `Room` exactly where neither area has room, or no serial is left for the other one: it has what the record of what differs
+    /// needs. `Memory` where memory ran out.
     pub fn prepare(
         &self,
         alloc: Global,
         code: &Image,
         delta: Delta,
     ) -> Result<Prepared, PrepareError>
+        requires image { HasImage (program_of code.now) self.now }
         requires storable { IsStorable (table_of_image code.now) }
         requires at_rest { IsStoreAtRest (table_of_image code.now) (content_of (kept_of self.now)) }
         requires delta { IsDelta (kept_of self.now) delta }
         requires after { IsStoreAtRest (table_of_image code.now) (content_with (kept_of self.now) delta) }
-        ensures { Prepares (table_of_image code.now) self.now delta result }
+        ensures { Prepares (program_of code.now) self.now delta result }
     {
         let Some(journal) = &self.journal else {
             return Ok(Prepared { delta, built: None });
@@ -200,12 +140,9 @@ impl Store {
         ensures state { state_of self.new ≡ state_of self.old }
         ensures area { area_of_store self.new ≡ area_of_store self.old }
         ensures content { content_with (kept_of self.new) (delta_prepared prepared.now) ≡ content_with (kept_of self.old) (delta_prepared prepared.now) }
-        ensures prepared { (table : ClassTable) → IsPrepared table self.old prepared.now → IsPrepared table self.new prepared.now }
+        ensures prepared { (program : StoreProgram) → IsPrepared program self.old prepared.now → IsPrepared program self.new prepared.now }
     {
         let Ok(()) = reserve(&mut self.content, &prepared.delta) else {
-            return Err(Memory);
-        };
-        let Ok(()) = reserve_record(&mut self.journal) else {
             return Err(Memory);
         };
         Ok(())
@@ -216,14 +153,14 @@ impl Store {
     /// # Errors
     ///
     /// `DiskFault` where a call of the disk failed: the store is then as it was, and the disk and each image of it represent the store
-    /// before or after. What follows the area stays. Where there is nothing to write, as in memory, no call of the disk is made.
+    /// before or after. What follows both areas stays. Where there is nothing to write, as in memory, no call of the disk is made.
     pub fn commit<D: Disk>(&mut self, disk: &mut D, prepared: Prepared) -> Result<(), DiskFault>
         requires delta { IsDelta (kept_of self.old) (delta_prepared prepared) }
         requires built { IsBuiltForStore self.old prepared }
         requires room { HasRoomFor self.old prepared }
         ensures content { OnOk result (content_of (kept_of self.new) ≡ content_with (kept_of self.old) (delta_prepared prepared)) }
-        ensures settled { OnOk result ((table : ClassTable) → IsPrepared table self.old prepared →
-            settled table (area_of_store self.old) (state_of self.old) (content_with (kept_of self.old) (delta_prepared prepared)) ≡ Ok (state_of self.new)) }
+        ensures settled { OnOk result ((program : StoreProgram) → IsPrepared program self.old prepared →
+            settled program (area_of_store self.old) (state_of self.old) (content_with (kept_of self.old) (delta_prepared prepared)) ≡ Ok (state_of self.new)) }
         ensures area { area_of_store self.new ≡ area_of_store self.old }
         ensures stands { OnOk result ((program : StoreProgram) → IsReady program self.old prepared →
             StandsOn program self.old (D.view disk.old) → StandsOn program self.new (D.view disk.new)) }
@@ -231,14 +168,14 @@ impl Store {
             StandsOn program self.old (D.view disk.old) → During (D.view disk.old) (D.view disk.new)
             (StandsBeforeOrAfter program size (state_of self.old) (content_with (kept_of self.old) (delta_prepared prepared))) }
         ensures nothing { WritesNothing self.old prepared → IsUntouched (D.view disk.old) (D.view disk.new) }
-        ensures behind { (size : ℕ) → area_of_store self.old ≡ Some size → KeepsBehind size (D.view disk.old) (D.view disk.new) }
+        ensures behind { (size : ℕ) → area_of_store self.old ≡ Some size → KeepsBehind (size + size) (D.view disk.old) (D.view disk.new) }
         ensures attaches { (D.view disk.new).attaches ≡ (D.view disk.old).attaches }
         ensures sure { WritesNothing self.old prepared → IsTrue (is_ok result) }
         ensures err { OnErr result (state_of self.new ≡ state_of self.old) }
         ensures cause { HasCause (D.view disk.old).faults (D.view disk.new).faults result }
     {
         let Prepared { delta, built } = prepared;
-        let Ok(()) = append_record(&mut self.journal, disk, built) else {
+        let Ok(()) = write_in(&mut self.journal, disk, built) else {
             return Err(DiskFault);
         };
         apply(&mut self.content, delta);

@@ -43,7 +43,7 @@ module _ (table : ClassTable) (before after : List Object) where
     pub same : (n : ℕ) (a b : Object) → slice_get after n ≡ Some a → slice_get before n ≡ Some b
         → (object table).bytes (stored_object table n b) ≡ (object table).bytes (stored_object table n a) → b ≡ a
 
-  new_differs : (n : ℕ) (a : Object) → slice_get before n ≡ None → differs (stored_object table n a) ≡ true
+  pub new_differs : (n : ℕ) (a : Object) → slice_get before n ≡ None → differs (stored_object table n a) ≡ true
   new_differs n a none = ap (λ r. not (stored_as table n a r)) none
 
   same_bytes : (n : ℕ) (a b : Object) → slice_get before n ≡ Some b → differs (stored_object table n a) ≡ false

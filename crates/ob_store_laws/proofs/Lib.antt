@@ -10,3 +10,4 @@ pub mod Fitting
 pub mod Differing
 pub mod Said
 pub mod Deltas
+pub mod Whole

@@ -19,31 +19,31 @@ use Rattle.ob_store_laws.specs.Recorded.{object_change}
 use Rattle.ob_store_laws.proofs.Tails.{IsTail, whole_tail, rest_tail, first_of_tail, length_more, is_lower, not_lower}
 
 -- an object with its number
-abbrev Numbered : Type 0
+abbrev pub Numbered : Type 0
 Numbered = ObjectId × Object
 
 -- objects, of which the first has this number, with these in the places of those of their numbers, or behind them
-abbrev laid : ℕ → List Object → List Numbered → List Object
+abbrev pub laid : ℕ → List Object → List Numbered → List Object
 laid n [] es = map (λ e. e.1) es
 laid n (o ∷ os) [] = o ∷ os
 laid n (o ∷ os) (e ∷ es) = cond (nat_eq e.0.0 n) (e.1 ∷ laid (suc n) os es) (o ∷ laid (suc n) os (e ∷ es))
 
 -- the first of these has this number or a later one
-abbrev IsFrom : ℕ → List Numbered → Type 0
+abbrev pub IsFrom : ℕ → List Numbered → Type 0
 IsFrom n [] = Unit {0}
 IsFrom n (e ∷ es) = n ≤ e.0.0
 
-abbrev Ascend : List Numbered → Type 0
+abbrev pub Ascend : List Numbered → Type 0
 Ascend es = IsAscending (λ (e : Numbered). e.0.0) es
 
-from_below : (n m : ℕ) (es : List Numbered) → n ≡ m → IsBelowAll (λ (e : Numbered). e.0.0) m es → IsFrom (suc n) es
+pub from_below : (n m : ℕ) (es : List Numbered) → n ≡ m → IsBelowAll (λ (e : Numbered). e.0.0) m es → IsFrom (suc n) es
 from_below n m [] same b = tt
 from_below n m (e ∷ es) same b = let low = b.0 in omega arith
 
-same_number : (m n : ℕ) → nat_eq m n ≡ true → m ≡ n
+pub same_number : (m n : ℕ) → nat_eq m n ≡ true → m ≡ n
 same_number m n h = grind arith
 
-later_number : (m n : ℕ) → nat_eq m n ≡ false → n ≤ m → suc n ≤ m
+pub later_number : (m n : ℕ) → nat_eq m n ≡ false → n ≤ m → suc n ≤ m
 later_number m n h l = grind arith
 
 -- those past the others have the next numbers
@@ -53,7 +53,7 @@ next_number n e es from next = let a = next.0 in omega arith
 next_past : (n : ℕ) (e : Numbered) (es : List Numbered) → IsFrom n (e ∷ es) → AreNext n (e ∷ es) → AreNext (suc n) es
 next_past n e es from next = subst (λ b. AreNext (if b then n else suc n) es) (not_lower e.0.0 n (next_number n e es from next)) next.1
 
-next_within : (n : ℕ) (e : Numbered) (es : List Numbered) → e.0.0 < n → AreNext n (e ∷ es) → AreNext n es
+pub next_within : (n : ℕ) (e : Numbered) (es : List Numbered) → e.0.0 < n → AreNext n (e ∷ es) → AreNext n es
 next_within n e es low next = subst (λ b. AreNext (if b then n else suc n) es) (is_lower e.0.0 n low) next.1
 
 -- Objects after a delta.
@@ -67,7 +67,7 @@ past front (e ∷ es) n is up from next =
     ∙ past (front ++ e.1 ∷ []) es (suc n) (length_more front n e.1 is) up.1 (from_below n e.0.0 es (sym same) up.0) (next_past n e es from next)
     ∙ append_assoc front (e.1 ∷ []) (map (λ d. d.1) es)
 
-within : (front os : List Object) (es : List Numbered) (n count : ℕ) → n ≡ length front → count ≡ n + length os → Ascend es → IsFrom n es → AreNext count es
+pub within : (front os : List Object) (es : List Numbered) (n count : ℕ) → n ≡ length front → count ≡ n + length os → Ascend es → IsFrom n es → AreNext count es
     → with_objects (front ++ os) es ≡ front ++ laid n os es
 within front [] es n count is all up from next =
     let none : count ≡ n = omega arith in
@@ -125,7 +125,7 @@ module _ (table : ClassTable) (base : List Object) where
       (old n o (first_of_tail base n o os h))
       ∙ none_new (suc n) os (rest_tail base n o os h)
 
-  stored_past : (n : ℕ) (es : List Numbered) → Ascend es → IsFrom n es → AreNext n es
+  pub stored_past : (n : ℕ) (es : List Numbered) → Ascend es → IsFrom n es → AreNext n es
       → stored_from table n (map object_of (map (λ e. e.1) es)) ≡ map (object_change table) es
   stored_past n [] up from next = refl
   stored_past n (e ∷ es) up from next =

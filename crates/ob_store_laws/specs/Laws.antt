@@ -1,15 +1,15 @@
 -- What differs between two stores, as a payload says it (this project's own).
-use Rattle.std.specs.Prelude.{◌≡◌, ◌≤◌, All, length}
+use Rattle.std.specs.Prelude.{◌≡◌, ◌≤◌, All, [], ◌∷◌, length}
 use Rattle.ob_table.specs.Tables.{ClassTable}
-use Rattle.ob_heap_spec.specs.Contents.{Content, IsObject, IsContent}
+use Rattle.ob_heap_spec.specs.Contents.{Content, IsObject, IsContent, empty_content}
 use Rattle.ob_rest_spec.specs.AtRest.{IsStoreAtRest}
 use Rattle.ob_heap.specs.Contents.{Stored, content_of}
 use Rattle.ob_heap.specs.Deltas.{IsDelta}
 use Rattle.ob_heap.specs.Plain.{object_of}
 use Rattle.ob_heap.specs.declared.delta.Delta.{Delta}
 use Rattle.ob_store_spec.specs.Payloads.{Changes, payload}
-use Rattle.ob_store_spec.specs.Changes.{AreChangesOf, with_changes}
-use Rattle.ob_store_spec.specs.Between.{changes_between}
+use Rattle.ob_store_spec.specs.Changes.{AreChangesOf, LeadFrom, with_changes}
+use Rattle.ob_store_spec.specs.Between.{changes_between, all_of}
 use Rattle.ob_store_laws.specs.Recorded.{changes_of, news_of, content_with, IsStorable, IsDeltaOf}
 
 -- What differs between a content and a later one is changes of the first that lead to the second, and may be spelled.
@@ -46,3 +46,19 @@ abbrev pub ChangesKeepContents : Type 0
 ChangesKeepContents =
     (table : ClassTable) (content : Content) (changes : Changes) → IsContent table content → AreChangesOf table content changes
     → IsContent table (with_changes table content changes)
+
+-- All that a content holds is what differs between the empty content and it.
+abbrev pub AllIsWhatDiffers : Type 0
+AllIsWhatDiffers =
+    (table : ClassTable) (content : Content) → IsContent table content → all_of table content ≡ changes_between table empty_content content
+
+-- All that a store at rest holds is changes of the empty content that lead to it, and may be spelled.
+abbrev pub AllIsSaid : Type 0
+AllIsSaid =
+    (table : ClassTable) (content : Content) → IsStorable table → IsStoreAtRest table content → IsSaid table empty_content content (all_of table content)
+
+-- So the one payload that says all of it leads from the empty content to it.
+abbrev pub AllLeads : Type 0
+AllLeads =
+    (table : ClassTable) (content : Content) → IsStorable table → IsStoreAtRest table content
+    → LeadFrom table empty_content ((payload table).bytes (all_of table content) ∷ []) content

@@ -9,3 +9,5 @@ pub mod TallyLemmas
 pub mod ObjectLemmas
 pub mod ChangesLemmas
 pub mod ReadingLemmas
+pub mod WholeObjects
+pub mod Courses

@@ -28,8 +28,8 @@ use ob_heap::{Content, Delta, Handle, Object, RcStr, Value};
 use ob_owners::available;
 use std::cmp::Ordering;
 
-// How many objects there are after these, where they ascend, each once, and new ones have the next numbers.
-fn count_after(content: &Content, objects: &[(ObjectId, Object)]) -> Option<usize>
+/// How many objects there are after these, where they ascend, each once, and new ones have the next numbers.
+pub fn count_after(content: &Content, objects: &[(ObjectId, Object)]) -> Option<usize>
     ensures { MatchOption result (¬ (IsAscending (λ (e : ObjectNumber × StoredObject). e.0.0) objects.now × AreNext (length content.now.objects) objects.now))
         (λ count. IsAscending (λ (e : ObjectNumber × StoredObject). e.0.0) objects.now × AreNext (length content.now.objects) objects.now
         × (count ≡ length (with_objects content.now.objects objects.now))) }
@@ -132,7 +132,8 @@ fn are_objects(code: &Image, count: usize, objects: &[(ObjectId, Object)]) -> bo
     objects.iter().all(|entry| is_object(code, count, &entry.1))
 }
 
-fn order(name: &(Label, Label), other: &(Label, Label)) -> Ordering
+/// The order of two names of handles.
+pub fn order(name: &(Label, Label), other: &(Label, Label)) -> Ordering
     ensures { result ≡ label_order name.now other.now }
 {
     let who = name.0.as_bytes().cmp(other.0.as_bytes());
@@ -197,8 +198,8 @@ fn counted_with(count: usize, before: Option<Handle>, after: Option<Handle>) -> 
     }
 }
 
-// How many handles there are after changes of them.
-fn count_handles_after(content: &Content, handles: &[((Label, Label), Option<Handle>)]) -> usize
+/// How many handles there are after changes of them.
+pub fn count_handles_after(content: &Content, handles: &[((Label, Label), Option<Handle>)]) -> usize
     requires few { length content.now.handles ≤ most_handles }
     requires order { IsTrue (are_in_order handles.now) }
     ensures { result ≡ length (with_handles content.now.handles handles.now) }

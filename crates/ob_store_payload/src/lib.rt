@@ -1,4 +1,4 @@
-//! The payload of a store that says what differs after a delta: it is written, and read again.
+//! The payloads of a store that say what differs after a delta, and all that it holds then: they are written, and read again.
 #![tactic(auto)]
 
 mod conditions;
@@ -7,8 +7,10 @@ mod reading;
 mod reading_payload;
 mod rows;
 mod values;
+mod whole;
 mod writing;
 
 pub use error::PayloadError;
 pub use reading_payload::read_payload;
+pub use whole::put_whole;
 pub use writing::put_payload;

@@ -116,8 +116,9 @@ fn put_mode(out: &mut Vec<u8>, mode: Mode) -> Result<(), Memory>
     put_u8(out, number_of_mode(mode))
 }
 
+/// Appends a handle as it is then, or that it is none.
 #[tactic(auto, unfolding(ob_store_spec::specs::Payloads::held, ob_store_spec::specs::Payloads::hold))]
-fn put_held(out: &mut Vec<u8>, value: Option<Handle>) -> Result<(), Memory>
+pub fn put_held(out: &mut Vec<u8>, value: Option<Handle>) -> Result<(), Memory>
     ensures { OnOk result (out.new.items ≡ out.old.items ++ held_format.bytes (option_map handle_of value)) }
 {
     match value {

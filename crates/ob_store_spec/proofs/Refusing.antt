@@ -1,4 +1,4 @@
--- An area is refused for one cause at most, and for none where it stands for a store.
+-- A disk is refused for one cause at most, and for none where it represents a store.
 use Rattle.std.proofs.Common.{◌≡◌, ◌⊎◌, inl, inr, ℕ, zero, suc, ◌<◌, ◌≤◌, List, [], ◌∷◌, ◌++◌, length, take, drop, Option, Some, None, refl, sym, ◌∙◌, ap, subst, arith}
 use Rattle.std.proofs.lemmas.Bool.{cases_lt}
 use Rattle.ob_format_spec.specs.Lawful.{first}
@@ -6,9 +6,10 @@ use Rattle.ob_table.specs.Tables.{ClassTable}
 use Rattle.ob_heap_spec.specs.Contents.{Content, empty_content}
 use Rattle.ob_rest_spec.specs.AtRest.{first_failing_object}
 use Rattle.ob_rest_spec.proofs.FirstFailing.{told}
-use Rattle.ob_journal_spec.specs.Areas.{Journaled, StandsFor, size_of}
+use Rattle.ob_journal_spec.specs.Areas.{Journaled, size_of}
+use Rattle.ob_journal_spec.specs.Disks.{Place, start_of, IsJournalAt}
 use Rattle.ob_journal_spec.specs.Differing.{DifferAt}
-use Rattle.ob_journal_spec.proofs.Unique.{one_stands, one_damage, whole_or_damaged, blank_or_stands, blank_or_damaged, blank_or_no_store, no_store_or_stands, no_store_or_damaged}
+use Rattle.ob_journal_spec.proofs.UniqueDisks.{one_journal, one_damage_disk, journal_or_damaged_disk, blank_or_journal, blank_or_damaged_disk, blank_or_no_store_disk, no_store_or_journal, no_store_or_damaged_disk}
 use Rattle.ob_store_spec.specs.Payloads.{Changes}
 use Rattle.ob_store_spec.specs.Changes.{SaysChanges, LeadFrom, with_changes}
 use Rattle.ob_store_spec.specs.Stores.{StoreProgram, StoreState, IsStoreOf, IsOpened, IsOtherProgram, IsBadPayload, IsNotAtRest, StoreRefusal, not_store, damaged, other_program, not_at_rest, IsRefused}
@@ -69,89 +70,91 @@ never_same n xs ys p same = p.at (ap (λ (l : List ℕ). first (drop n l)) same)
 
 -- ---- one cause
 
-module _ (program : StoreProgram) (area : List ℕ) where
-  private_says : (j k : Journaled) → StandsFor j area → StandsFor k area → k ≡ j
-  private_says j k s t = one_stands area k j t s
+module _ (program : StoreProgram) (size : ℕ) (bytes : List ℕ) where
+  -- one area is current, and says one thing
+  same_says : (p q : Place) (j k : Journaled) → IsJournalAt size p j bytes → IsJournalAt size q k bytes → k ≡ j
+  same_says p q j k s t = (one_journal size bytes q p k j t s).1
 
-  bad_or_opened : (n : ℕ) (j : Journaled) (content : Content) → IsBadPayload program area n → IsOpened program area j content → ⊥
-  bad_or_opened n j content p q =
-      let same = private_says p.says j p.stands q.stands in
+  bad_or_opened : (n : ℕ) (place : Place) (j : Journaled) (content : Content) → IsBadPayload program size bytes n → IsOpened program size place bytes j content → ⊥
+  bad_or_opened n place j content p q =
+      let same = same_says p.place place p.says j p.stands q.stands in
       let leads = subst (λ (k : Journaled). LeadFrom program.table empty_content k.payloads content) same q.content_is in
       let all = subst (λ (l : List (List ℕ)). LeadFrom program.table empty_content l content) p.payloads leads in
       let says = through program.table empty_content content p.content p.before p.after p.bad all p.content_is in p.says_none says.0 says.1
 
-  other_or_image : (n : ℕ) (j : Journaled) → IsOtherProgram program area n → StandsFor j area → j.image ≡ program.image → ⊥
-  other_or_image n j p s image =
-      let same = private_says p.says j p.stands s in never_same n p.says.image program.image p.differ (sym (ap (λ (k : Journaled). k.image) same) ∙ image)
+  other_or_image : (n : ℕ) (place : Place) (j : Journaled) → IsOtherProgram program size bytes n → IsJournalAt size place j bytes → j.image ≡ program.image → ⊥
+  other_or_image n place j p s image =
+      let same = same_says p.place place p.says j p.stands s in never_same n p.says.image program.image p.differ (sym (ap (λ (k : Journaled). k.image) same) ∙ image)
 
-  same_bad : (m n : ℕ) → IsBadPayload program area m → IsBadPayload program area n → m ≡ n
+  same_bad : (m n : ℕ) → IsBadPayload program size bytes m → IsBadPayload program size bytes n → m ≡ n
   same_bad m n p q =
-      let same = private_says p.says q.says p.stands q.stands in
-      let payloads : p.before ++ p.bad ∷ p.after ≡ q.before ++ q.bad ∷ q.after = sym p.payloads ∙ sym (ap (λ (k : Journaled). k.payloads) same) ∙ q.payloads in
+      let one = one_journal size bytes p.place q.place p.says q.says p.stands q.stands in
+      let payloads : p.before ++ p.bad ∷ p.after ≡ q.before ++ q.bad ∷ q.after = sym p.payloads ∙ ap (λ (k : Journaled). k.payloads) one.1 ∙ q.payloads in
       let before = same_before program.table empty_content p.content q.content p.before q.before p.after q.after p.bad q.bad payloads p.content_is q.content_is p.says_none q.says_none in
-      let images : length p.says.image ≡ length q.says.image = sym (ap (λ (k : Journaled). length k.image) same) in
+      let starts : start_of size p.place ≡ start_of size q.place = ap (start_of size) one.0 in
+      let images : length p.says.image ≡ length q.says.image = ap (λ (k : Journaled). length k.image) one.1 in
       let sizes : size_of p.before ≡ size_of q.before = ap size_of before in
-      omega (arith, p.at, q.at, images, sizes)
+      omega (arith, p.at, q.at, starts, images, sizes)
 
-  same_other : (m n : ℕ) → IsOtherProgram program area m → IsOtherProgram program area n → m ≡ n
+  same_other : (m n : ℕ) → IsOtherProgram program size bytes m → IsOtherProgram program size bytes n → m ≡ n
   same_other m n p q =
-      let same = private_says p.says q.says p.stands q.stands in
+      let same = same_says p.place q.place p.says q.says p.stands q.stands in
       differ_once m n p.says.image program.image p.differ (subst (λ (k : Journaled). DifferAt n k.image program.image) same q.differ)
 
-  same_content : (j k : Journaled) (a b : Content) → IsOpened program area j a → IsOpened program area k b → a ≡ b
-  same_content j k a b p q =
-      let same = private_says j k p.stands q.stands in
-      one_content program.table empty_content j.payloads a b p.content_is (subst (λ (i : Journaled). LeadFrom program.table empty_content i.payloads b) same q.content_is)
+  same_content : (p q : Place) (j k : Journaled) (a b : Content) → IsOpened program size p bytes j a → IsOpened program size q bytes k b → a ≡ b
+  same_content p q j k a b s t =
+      let same = same_says p q j k s.stands t.stands in
+      one_content program.table empty_content j.payloads a b s.content_is (subst (λ (i : Journaled). LeadFrom program.table empty_content i.payloads b) same t.content_is)
 
   same_object : (m n : ℕ) → Some m ≡ Some n → m ≡ n
   same_object m n e = cc
 
-  same_rest : (m n : ℕ) → IsNotAtRest program area m → IsNotAtRest program area n → m ≡ n
+  same_rest : (m n : ℕ) → IsNotAtRest program size bytes m → IsNotAtRest program size bytes n → m ≡ n
   same_rest m n p q =
-      let same = same_content p.says q.says p.content q.content p.opened q.opened in
+      let same = same_content p.place q.place p.says q.says p.content q.content p.opened q.opened in
       same_object m n (sym p.fails ∙ ap (first_failing_object program.table) same ∙ q.fails)
 
-  pub one_refusal : (r s : StoreRefusal) → IsRefused program area r → IsRefused program area s → r ≡ s
+  pub one_refusal : (r s : StoreRefusal) → IsRefused program size bytes r → IsRefused program size bytes s → r ≡ s
   one_refusal not_store not_store p q = refl
-  one_refusal not_store (damaged n) p (inl q) = absurd (no_store_or_damaged area n p q)
-  one_refusal not_store (damaged n) p (inr q) = absurd (no_store_or_stands area q.says p q.stands)
-  one_refusal not_store (other_program n) p q = absurd (no_store_or_stands area q.says p q.stands)
-  one_refusal not_store (not_at_rest n) p q = absurd (no_store_or_stands area q.says p q.opened.stands)
-  one_refusal (damaged m) not_store (inl p) q = absurd (no_store_or_damaged area m q p)
-  one_refusal (damaged m) not_store (inr p) q = absurd (no_store_or_stands area p.says q p.stands)
-  one_refusal (damaged m) (damaged n) (inl p) (inl q) = ap damaged (one_damage area m n p q)
-  one_refusal (damaged m) (damaged n) (inl p) (inr q) = absurd (whole_or_damaged area q.says m q.stands p)
-  one_refusal (damaged m) (damaged n) (inr p) (inl q) = absurd (whole_or_damaged area p.says n p.stands q)
+  one_refusal not_store (damaged n) p (inl q) = absurd (no_store_or_damaged_disk size bytes n p q)
+  one_refusal not_store (damaged n) p (inr q) = absurd (no_store_or_journal size bytes q.place q.says p q.stands)
+  one_refusal not_store (other_program n) p q = absurd (no_store_or_journal size bytes q.place q.says p q.stands)
+  one_refusal not_store (not_at_rest n) p q = absurd (no_store_or_journal size bytes q.place q.says p q.opened.stands)
+  one_refusal (damaged m) not_store (inl p) q = absurd (no_store_or_damaged_disk size bytes m q p)
+  one_refusal (damaged m) not_store (inr p) q = absurd (no_store_or_journal size bytes p.place p.says q p.stands)
+  one_refusal (damaged m) (damaged n) (inl p) (inl q) = ap damaged (one_damage_disk size bytes m n p q)
+  one_refusal (damaged m) (damaged n) (inl p) (inr q) = absurd (journal_or_damaged_disk size bytes q.place q.says m q.stands p)
+  one_refusal (damaged m) (damaged n) (inr p) (inl q) = absurd (journal_or_damaged_disk size bytes p.place p.says n p.stands q)
   one_refusal (damaged m) (damaged n) (inr p) (inr q) = ap damaged (same_bad m n p q)
-  one_refusal (damaged m) (other_program n) (inl p) q = absurd (whole_or_damaged area q.says m q.stands p)
-  one_refusal (damaged m) (other_program n) (inr p) q = absurd (other_or_image n p.says q p.stands p.image)
-  one_refusal (damaged m) (not_at_rest n) (inl p) q = absurd (whole_or_damaged area q.says m q.opened.stands p)
-  one_refusal (damaged m) (not_at_rest n) (inr p) q = absurd (bad_or_opened m q.says q.content p q.opened)
-  one_refusal (other_program m) not_store p q = absurd (no_store_or_stands area p.says q p.stands)
-  one_refusal (other_program m) (damaged n) p (inl q) = absurd (whole_or_damaged area p.says n p.stands q)
-  one_refusal (other_program m) (damaged n) p (inr q) = absurd (other_or_image m q.says p q.stands q.image)
+  one_refusal (damaged m) (other_program n) (inl p) q = absurd (journal_or_damaged_disk size bytes q.place q.says m q.stands p)
+  one_refusal (damaged m) (other_program n) (inr p) q = absurd (other_or_image n p.place p.says q p.stands p.image)
+  one_refusal (damaged m) (not_at_rest n) (inl p) q = absurd (journal_or_damaged_disk size bytes q.place q.says m q.opened.stands p)
+  one_refusal (damaged m) (not_at_rest n) (inr p) q = absurd (bad_or_opened m q.place q.says q.content p q.opened)
+  one_refusal (other_program m) not_store p q = absurd (no_store_or_journal size bytes p.place p.says q p.stands)
+  one_refusal (other_program m) (damaged n) p (inl q) = absurd (journal_or_damaged_disk size bytes p.place p.says n p.stands q)
+  one_refusal (other_program m) (damaged n) p (inr q) = absurd (other_or_image m q.place q.says p q.stands q.image)
   one_refusal (other_program m) (other_program n) p q = ap other_program (same_other m n p q)
-  one_refusal (other_program m) (not_at_rest n) p q = absurd (other_or_image m q.says p q.opened.stands q.opened.image)
-  one_refusal (not_at_rest m) not_store p q = absurd (no_store_or_stands area p.says q p.opened.stands)
-  one_refusal (not_at_rest m) (damaged n) p (inl q) = absurd (whole_or_damaged area p.says n p.opened.stands q)
-  one_refusal (not_at_rest m) (damaged n) p (inr q) = absurd (bad_or_opened n p.says p.content q p.opened)
-  one_refusal (not_at_rest m) (other_program n) p q = absurd (other_or_image n p.says q p.opened.stands p.opened.image)
+  one_refusal (other_program m) (not_at_rest n) p q = absurd (other_or_image m q.place q.says p q.opened.stands q.opened.image)
+  one_refusal (not_at_rest m) not_store p q = absurd (no_store_or_journal size bytes p.place p.says q p.opened.stands)
+  one_refusal (not_at_rest m) (damaged n) p (inl q) = absurd (journal_or_damaged_disk size bytes p.place p.says n p.opened.stands q)
+  one_refusal (not_at_rest m) (damaged n) p (inr q) = absurd (bad_or_opened n p.place p.says p.content q p.opened)
+  one_refusal (not_at_rest m) (other_program n) p q = absurd (other_or_image n p.place p.says q p.opened.stands p.opened.image)
   one_refusal (not_at_rest m) (not_at_rest n) p q = ap not_at_rest (same_rest m n p q)
 
   none_some : (n : ℕ) (o : Option ℕ) → o ≡ None → o ≡ Some n → ⊥
   none_some n o p q = cc
 
-  pub never_both : (r : StoreRefusal) (s : StoreState) → IsRefused program area r → IsStoreOf program area s → ⊥
-  never_both not_store s p (inl q) = blank_or_no_store area q.blank p
-  never_both not_store s p (inr q) = no_store_or_stands area q.says p q.opened.stands
-  never_both (damaged n) s (inl p) (inl q) = blank_or_damaged area n q.blank p
-  never_both (damaged n) s (inr p) (inl q) = blank_or_stands area p.says q.blank p.stands
-  never_both (damaged n) s (inl p) (inr q) = whole_or_damaged area q.says n q.opened.stands p
-  never_both (damaged n) s (inr p) (inr q) = bad_or_opened n q.says s.content p q.opened
-  never_both (other_program n) s p (inl q) = blank_or_stands area p.says q.blank p.stands
-  never_both (other_program n) s p (inr q) = other_or_image n q.says p q.opened.stands q.opened.image
-  never_both (not_at_rest n) s p (inl q) = blank_or_stands area p.says q.blank p.opened.stands
+  pub never_both : (r : StoreRefusal) (s : StoreState) → IsRefused program size bytes r → IsStoreOf program size bytes s → ⊥
+  never_both not_store s p (inl q) = blank_or_no_store_disk size bytes q.blank p
+  never_both not_store s p (inr q) = no_store_or_journal size bytes q.place q.says p q.opened.stands
+  never_both (damaged n) s (inl p) (inl q) = blank_or_damaged_disk size bytes n q.blank p
+  never_both (damaged n) s (inr p) (inl q) = blank_or_journal size bytes p.place p.says q.blank p.stands
+  never_both (damaged n) s (inl p) (inr q) = journal_or_damaged_disk size bytes q.place q.says n q.opened.stands p
+  never_both (damaged n) s (inr p) (inr q) = bad_or_opened n q.place q.says s.content p q.opened
+  never_both (other_program n) s p (inl q) = blank_or_journal size bytes p.place p.says q.blank p.stands
+  never_both (other_program n) s p (inr q) = other_or_image n q.place q.says p q.opened.stands q.opened.image
+  never_both (not_at_rest n) s p (inl q) = blank_or_journal size bytes p.place p.says q.blank p.opened.stands
   never_both (not_at_rest n) s p (inr q) =
-      let same = same_content p.says q.says p.content s.content p.opened q.opened in
+      let same = same_content p.place q.place p.says q.says p.content s.content p.opened q.opened in
       let whole = (told program.table s.content).1 q.at_rest in
       none_some n (first_failing_object program.table s.content) whole (sym (ap (first_failing_object program.table) same) ∙ p.fails)

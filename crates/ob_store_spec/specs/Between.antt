@@ -1,5 +1,5 @@
 -- What differs between two contents, as a payload says it (this project's own).
-use Rattle.std.specs.Prelude.{ℕ, suc, Bool, false, not, List, [], ◌∷◌, ◌++◌, map, filter, Option, option_to_list, if◌then◌else◌}
+use Rattle.std.specs.Prelude.{ℕ, suc, Bool, false, not, List, [], ◌∷◌, ◌++◌, map, filter, Option, Some, option_to_list, if◌then◌else◌}
 use Rattle.std.specs.Option.{option_map_or}
 use Rattle.std.specs.Str.{bytes_eq}
 use Rattle.ob_base.specs.declared.id.StateId.{StateId}
@@ -53,3 +53,7 @@ changed_handles before after =
 -- what differs between two contents
 abbrev pub changes_between : ClassTable → Content → Content → Changes
 changes_between table before after = record { objects = changed_objects table before after; handles = changed_handles before after }
+
+-- all that a content holds, as changes of the empty one: each object, and each handle as it is there
+abbrev pub all_of : ClassTable → Content → Changes
+all_of table content = record { objects = stored_from table 0 content.objects; handles = map (λ h. (h.0, Some h.1)) content.handles }

@@ -4,7 +4,8 @@ use Rattle.std.specs.Prelude.{ℕ, ℤ, pos, ◌≡◌, ◌+◌, ◌⊎◌, List
 use Rattle.ob_table.specs.Tables.{ClassTable}
 use Rattle.ob_heap_spec.specs.Contents.{Content, empty_content}
 use Rattle.ob_rest_spec.specs.AtRest.{IsAtRest, first_failing_object}
-use Rattle.ob_journal_spec.specs.Areas.{Journaled, StandsFor, IsBlank, IsNoStore, IsDamaged, size_of, next_gate, begun}
+use Rattle.ob_journal_spec.specs.Areas.{Journaled, size_of, next_gate, begun}
+use Rattle.ob_journal_spec.specs.Disks.{Place, start_of, IsJournalAt, IsBlankDisk, IsNoStoreDisk, IsDamagedDisk}
 use Rattle.ob_journal_spec.specs.Differing.{DifferAt}
 use Rattle.ob_store_spec.specs.Payloads.{Changes}
 use Rattle.ob_store_spec.specs.Changes.{SaysChanges, LeadFrom}
@@ -14,47 +15,51 @@ pub record StoreProgram : Type 0 where
   pub table : ClassTable
   pub image : List ℕ
 
--- what a store is: its content, the offset of the next gate, and the serial of its area
+-- what a store is: its content, the offset of the next gate from its area's start, and the serial of its area
 pub record StoreState : Type 0 where
   pub content : Content
   pub gate : ℕ
   pub serial : ℤ
 
--- the area represents records of this program, which lead to this content
-pub record IsOpened (program : StoreProgram) (area : List ℕ) (j : Journaled) (content : Content) : Type 0 where
-  pub stands : StandsFor j area
+-- the disk represents records of this program by the area of this place, which lead to this content
+pub record IsOpened (program : StoreProgram) (size : ℕ) (place : Place) (bytes : List ℕ) (j : Journaled) (content : Content) : Type 0 where
+  pub stands : IsJournalAt size place j bytes
   pub image : j.image ≡ program.image
   pub content_is : LeadFrom program.table empty_content j.payloads content
 
--- a blank area represents the empty store, with the gate and the serial that it will begin with
-pub record IsBlankStore (program : StoreProgram) (area : List ℕ) (s : StoreState) : Type 0 where
-  pub blank : IsBlank area
+-- a blank disk represents the empty store, with the gate and the serial that it will begin with
+pub record IsBlankStore (program : StoreProgram) (size : ℕ) (bytes : List ℕ) (s : StoreState) : Type 0 where
+  pub blank : IsBlankDisk size bytes
   pub content : s.content ≡ empty_content
   pub gate : s.gate ≡ next_gate (begun program.image)
   pub serial : s.serial ≡ pos 1
 
--- an open area represents the content to which its payloads lead, which is at rest
-pub record IsOpenStore (program : StoreProgram) (area : List ℕ) (s : StoreState) : Type 0 where
+-- a disk with a current area represents the content to which its payloads lead, which is at rest
+pub record IsOpenStore (program : StoreProgram) (size : ℕ) (bytes : List ℕ) (s : StoreState) : Type 0 where
+  pub place : Place
   pub says : Journaled
-  pub opened : IsOpened program area says s.content
+  pub opened : IsOpened program size place bytes says s.content
   pub at_rest : IsAtRest program.table s.content
   pub gate : s.gate ≡ next_gate says
   pub serial : s.serial ≡ says.serial
 
--- the store that an area represents
-abbrev pub IsStoreOf : StoreProgram → List ℕ → StoreState → Type 0
-IsStoreOf program area s = IsBlankStore program area s ⊎ IsOpenStore program area s
+-- the store that the bytes of a disk with areas of a size represent
+abbrev pub IsStoreOf : StoreProgram → ℕ → List ℕ → StoreState → Type 0
+IsStoreOf program size bytes s = IsBlankStore program size bytes s ⊎ IsOpenStore program size bytes s
 
 -- the stored image isn't the program's: they first differ at this offset, or one ends there
-pub record IsOtherProgram (program : StoreProgram) (area : List ℕ) (offset : ℕ) : Type 0 where
+pub record IsOtherProgram (program : StoreProgram) (size : ℕ) (bytes : List ℕ) (offset : ℕ) : Type 0 where
+  pub place : Place
   pub says : Journaled
-  pub stands : StandsFor says area
+  pub stands : IsJournalAt size place says bytes
   pub differ : DifferAt offset says.image program.image
 
--- the payload of the record whose gate is at this offset says no changes of the content before it, and each before it does
-pub record IsBadPayload (program : StoreProgram) (area : List ℕ) (offset : ℕ) : Type 0 where
+-- The payload of the record whose gate is at this offset from the disk's start says no changes of the content before it, and each before
+-- it does.
+pub record IsBadPayload (program : StoreProgram) (size : ℕ) (bytes : List ℕ) (offset : ℕ) : Type 0 where
+  pub place : Place
   pub says : Journaled
-  pub stands : StandsFor says area
+  pub stands : IsJournalAt size place says bytes
   pub image : says.image ≡ program.image
   pub before : List (List ℕ)
   pub bad : List ℕ
@@ -63,16 +68,17 @@ pub record IsBadPayload (program : StoreProgram) (area : List ℕ) (offset : ℕ
   pub content : Content
   pub content_is : LeadFrom program.table empty_content before content
   pub says_none : (changes : Changes) → ¬ (SaysChanges program.table content changes bad)
-  pub at : offset ≡ 17 + length says.image + size_of before
+  pub at : offset ≡ start_of size place + (17 + length says.image + size_of before)
 
 -- the store isn't at rest: this is its first object that fails
-pub record IsNotAtRest (program : StoreProgram) (area : List ℕ) (object : ℕ) : Type 0 where
+pub record IsNotAtRest (program : StoreProgram) (size : ℕ) (bytes : List ℕ) (object : ℕ) : Type 0 where
+  pub place : Place
   pub says : Journaled
   pub content : Content
-  pub opened : IsOpened program area says content
+  pub opened : IsOpened program size place bytes says content
   pub fails : first_failing_object program.table content ≡ Some object
 
--- why an area is refused
+-- why a disk is refused
 pub data StoreRefusal : Type 0 where
   not_store : StoreRefusal
   damaged : ℕ → StoreRefusal
@@ -80,8 +86,8 @@ pub data StoreRefusal : Type 0 where
   not_at_rest : ℕ → StoreRefusal
 
 -- when it is
-abbrev pub IsRefused : StoreProgram → List ℕ → StoreRefusal → Type 0
-IsRefused program area not_store = IsNoStore area
-IsRefused program area (damaged offset) = IsDamaged offset area ⊎ IsBadPayload program area offset
-IsRefused program area (other_program offset) = IsOtherProgram program area offset
-IsRefused program area (not_at_rest object) = IsNotAtRest program area object
+abbrev pub IsRefused : StoreProgram → ℕ → List ℕ → StoreRefusal → Type 0
+IsRefused program size bytes not_store = IsNoStoreDisk size bytes
+IsRefused program size bytes (damaged offset) = IsDamagedDisk size offset bytes ⊎ IsBadPayload program size bytes offset
+IsRefused program size bytes (other_program offset) = IsOtherProgram program size bytes offset
+IsRefused program size bytes (not_at_rest object) = IsNotAtRest program size bytes object

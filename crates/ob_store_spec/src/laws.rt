@@ -12,18 +12,18 @@ pub fn one_saying()
         SaysChanges table content a bytes → SaysChanges table content b bytes → a ≡ b }
 {}
 
-/// Payloads lead to one content at most, and an area stands for one store at most.
+/// Payloads lead to one content at most, and a disk represents one store at most.
 pub fn one_content()
     ensures content { (table : ClassTable) (start : Content) (payloads : List (List ℕ)) (a b : Content) →
         LeadFrom table start payloads a → LeadFrom table start payloads b → a ≡ b }
-    ensures store { (program : StoreProgram) (area : List ℕ) (a b : StoreState) →
-        IsStoreOf program area a → IsStoreOf program area b → a ≡ b }
+    ensures store { (program : StoreProgram) (size : ℕ) (bytes : List ℕ) (a b : StoreState) →
+        IsStoreOf program size bytes a → IsStoreOf program size bytes b → a ≡ b }
 {}
 
-/// An area is refused for one cause at most, and for none where it stands for a store.
+/// A disk is refused for one cause at most, and for none where it represents a store.
 pub fn one_refusal()
-    ensures refusal { (program : StoreProgram) (area : List ℕ) (r s : StoreRefusal) →
-        IsRefused program area r → IsRefused program area s → r ≡ s }
-    ensures apart { (program : StoreProgram) (area : List ℕ) (r : StoreRefusal) (s : StoreState) →
-        IsRefused program area r → ¬ (IsStoreOf program area s) }
+    ensures refusal { (program : StoreProgram) (size : ℕ) (bytes : List ℕ) (r s : StoreRefusal) →
+        IsRefused program size bytes r → IsRefused program size bytes s → r ≡ s }
+    ensures apart { (program : StoreProgram) (size : ℕ) (bytes : List ℕ) (r : StoreRefusal) (s : StoreState) →
+        IsRefused program size bytes r → ¬ (IsStoreOf program size bytes s) }
 {}

@@ -73,10 +73,11 @@ module _ (t u : ClassTable) (f : Follows t u) where
     subst (λ c. LeadFrom u c payloads end) (f.leads content leads.0) (leading_follows (with_changes t content leads.0) payloads end leads.2),
   )
 
-  pub area_follows : (image area : List ℕ) (s : StoreState) → IsStoreOf (record { table = t; image = image }) area s
-      → IsStoreOf (record { table = u; image = image }) area s
-  area_follows image area s (inl blank) = inl (record { blank = blank.blank; content = blank.content; gate = blank.gate; serial = blank.serial })
-  area_follows image area s (inr stored) = inr (record {
+  pub area_follows : (image : List ℕ) (size : ℕ) (bytes : List ℕ) (s : StoreState) → IsStoreOf (record { table = t; image = image }) size bytes s
+      → IsStoreOf (record { table = u; image = image }) size bytes s
+  area_follows image size bytes s (inl blank) = inl (record { blank = blank.blank; content = blank.content; gate = blank.gate; serial = blank.serial })
+  area_follows image size bytes s (inr stored) = inr (record {
+    place = stored.place;
     says = stored.says;
     opened = record {
       stands = stored.opened.stands;
@@ -90,11 +91,12 @@ module _ (t u : ClassTable) (f : Follows t u) where
 
 -- what says nothing by the one says nothing by the other, so a refusal needs both ways
 module _ (t u : ClassTable) (f : Follows t u) (back : Follows u t) where
-  pub refusal_follows : (image area : List ℕ) (r : StoreRefusal) → IsRefused (record { table = t; image = image }) area r
-      → IsRefused (record { table = u; image = image }) area r
-  refusal_follows image area not_store is = is
-  refusal_follows image area (damaged offset) (inl is) = inl is
-  refusal_follows image area (damaged offset) (inr bad) = inr (record {
+  pub refusal_follows : (image : List ℕ) (size : ℕ) (bytes : List ℕ) (r : StoreRefusal) → IsRefused (record { table = t; image = image }) size bytes r
+      → IsRefused (record { table = u; image = image }) size bytes r
+  refusal_follows image size bytes not_store is = is
+  refusal_follows image size bytes (damaged offset) (inl is) = inl is
+  refusal_follows image size bytes (damaged offset) (inr bad) = inr (record {
+    place = bad.place;
     says = bad.says;
     stands = bad.stands;
     image = bad.image;
@@ -107,8 +109,9 @@ module _ (t u : ClassTable) (f : Follows t u) (back : Follows u t) where
     says_none = λ changes says. bad.says_none changes (saying_follows u t back bad.content changes bad.bad says);
     at = bad.at;
   })
-  refusal_follows image area (other_program offset) is = record { says = is.says; stands = is.stands; differ = is.differ }
-  refusal_follows image area (not_at_rest n) is = record {
+  refusal_follows image size bytes (other_program offset) is = record { place = is.place; says = is.says; stands = is.stands; differ = is.differ }
+  refusal_follows image size bytes (not_at_rest n) is = record {
+    place = is.place;
     says = is.says;
     content = is.content;
     opened = record {

@@ -1,7 +1,7 @@
 -- Objects, payloads and changes by a class table without names are those by the class table.
 use Rattle.std.proofs.Common.{◌≡◌, ◌∙◌, ℕ, suc, Bool, false, List, [], ◌∷◌, ◌++◌, length, Option, Some, None, refl, sym, ap, subst}
 use Rattle.std.proofs.Math.Path.{fun_ext}
-use Rattle.std.specs.Prelude.{nat_lt, not, filter, fold, slice_set, bytes_eq, option_map, IsSomeAnd, if◌then◌else◌}
+use Rattle.std.specs.Prelude.{nat_lt, not, map, filter, fold, slice_set, bytes_eq, option_map, IsSomeAnd, if◌then◌else◌}
 use Rattle.std.specs.Option.{option_map_or}
 use Rattle.ob_base.specs.declared.id.ContractId.{ContractId}
 use Rattle.ob_base.specs.declared.id.StateId.{StateId}
@@ -16,7 +16,7 @@ use Rattle.ob_emit_laws.specs.Names.{contract_without_names, without_names}
 use Rattle.ob_emit_laws.proofs.Unnamed.{said_alike, contract_unnamed}
 use Rattle.ob_store_spec.specs.Payloads.{StoredObject, Changes, value, available_count, object_head, object, handle, payload}
 use Rattle.ob_store_spec.specs.Changes.{fields_from, object_of, with_object, with_change, with_changes}
-use Rattle.ob_store_spec.specs.Between.{values_from, stored_object, stored_from, is_stored_so, changed_handles, changes_between}
+use Rattle.ob_store_spec.specs.Between.{values_from, stored_object, stored_from, is_stored_so, changed_handles, changes_between, all_of}
 
 module _ (table : ClassTable) where
   -- what is said of a contract that has other names at most
@@ -74,6 +74,10 @@ module _ (table : ClassTable) where
       ap (λ os. record { objects = os; handles = changed_handles before after })
       (ap (λ (so : StoredObject → Bool). filter (λ o. not (so o)) (stored_from (without_names table) 0 after.objects)) (so_unnamed before.objects)
       ∙ ap (filter (λ o. not (is_stored_so table before.objects o))) (from_unnamed 0 after.objects))
+
+  pub all_unnamed : (content : Content) → all_of (without_names table) content ≡ all_of table content
+  all_unnamed content =
+      ap (λ (os : List StoredObject). record { objects = os; handles = map (λ h. (h.0, Some h.1)) content.handles }) (from_unnamed 0 content.objects)
 
   -- What changes make.
 

@@ -8,7 +8,7 @@ use Rattle.ob_rest_spec.specs.Failing.{failing_ways}
 use Rattle.ob_emit_laws.specs.Names.{without_names}
 use Rattle.ob_store_spec.specs.Payloads.{Changes, payload}
 use Rattle.ob_store_spec.specs.Changes.{with_changes, SaysChanges, LeadFrom}
-use Rattle.ob_store_spec.specs.Between.{changes_between}
+use Rattle.ob_store_spec.specs.Between.{changes_between, all_of}
 use Rattle.ob_store_spec.specs.Stores.{StoreState, StoreRefusal, IsStoreOf, IsRefused}
 use Rattle.ob_store_spec.specs.Settling.{settled}
 
@@ -43,6 +43,10 @@ abbrev pub DifferencesIgnoreNames : Type 0
 DifferencesIgnoreNames =
     (table : ClassTable) (before after : Content) → changes_between (without_names table) before after ≡ changes_between table before after
 
+-- all that a content holds
+abbrev pub WholesIgnoreNames : Type 0
+WholesIgnoreNames = (table : ClassTable) (content : Content) → all_of (without_names table) content ≡ all_of table content
+
 -- what changes make of a content
 abbrev pub ChangesIgnoreNames : Type 0
 ChangesIgnoreNames =
@@ -61,20 +65,20 @@ LeadingIgnoresNames =
     (table : ClassTable) (content : Content) (payloads : List (List ℕ)) (end : Content)
     → LeadFrom (without_names table) content payloads end ↔ LeadFrom table content payloads end
 
--- what an area stands for, by the bytes of an image
+-- what a disk represents, by the bytes of an image
 abbrev pub StoresIgnoreNames : Type 0
 StoresIgnoreNames =
-    (table : ClassTable) (image area : List ℕ) (s : StoreState)
-    → IsStoreOf (record { table = without_names table; image = image }) area s ↔ IsStoreOf (record { table = table; image = image }) area s
+    (table : ClassTable) (image : List ℕ) (size : ℕ) (bytes : List ℕ) (s : StoreState)
+    → IsStoreOf (record { table = without_names table; image = image }) size bytes s ↔ IsStoreOf (record { table = table; image = image }) size bytes s
 
 -- why it is refused
 abbrev pub RefusalsIgnoreNames : Type 0
 RefusalsIgnoreNames =
-    (table : ClassTable) (image area : List ℕ) (r : StoreRefusal)
-    → IsRefused (record { table = without_names table; image = image }) area r ↔ IsRefused (record { table = table; image = image }) area r
+    (table : ClassTable) (image : List ℕ) (size : ℕ) (bytes : List ℕ) (r : StoreRefusal)
+    → IsRefused (record { table = without_names table; image = image }) size bytes r ↔ IsRefused (record { table = table; image = image }) size bytes r
 
 -- what becomes of a store
 abbrev pub SettlingIgnoresNames : Type 0
 SettlingIgnoresNames =
-    (table : ClassTable) (size : Option ℕ) (s : StoreState) (after : Content)
-    → settled (without_names table) size s after ≡ settled table size s after
+    (table : ClassTable) (image : List ℕ) (area : Option ℕ) (s : StoreState) (after : Content)
+    → settled (record { table = without_names table; image = image }) area s after ≡ settled (record { table = table; image = image }) area s after

@@ -3,13 +3,13 @@ use Rattle.std.proofs.Common.{◌≡◌, inl, ℕ, pos, ◌+◌, ◌-◌, ◌^�
 use Rattle.std.specs.Option.{IsSome}
 use Rattle.std.proofs.lemmas.List.{take_all}
 use Rattle.ob_client.specs.Trials.{trial_lines}
-use Rattle.ob_code.specs.Images.{image}
 use Rattle.ob_code.specs.declared.image.Image.{Image}
 use Rattle.ob_disk_spec.specs.Disk.{DiskView, Reads}
 use Rattle.ob_io.specs.Causes.{Rose}
 use Rattle.ob_io.specs.LinesOfText.{lines_of}
 use Rattle.ob_io.specs.Told.{Takes, IsEnd, Gives}
-use Rattle.ob_journal_spec.specs.Areas.{area_of, next_gate, begun}
+use Rattle.ob_journal_spec.specs.Areas.{next_gate, begun}
+use Rattle.ob_journal_spec.proofs.UniqueDisks.{no_bytes_blank}
 use Rattle.ob_heap.specs.Contents.{content_of}
 use Rattle.ob_heap_spec.specs.Contents.{empty_content}
 use Rattle.ob_code_table.specs.ImageTables.{table_of_image}
@@ -88,29 +88,28 @@ some_bytes o a b is same = is ∙ ap (λ (l : List ℕ). Some l) same
 pub blank_unrefused : (program : StoreProgram) (area : ℕ) (v : DiskView) → v.content ≡ Some [] → IsUnrefused program area v
 blank_unrefused program area v blank c reads r refused =
     let empty : c ≡ [] = same_bytes c [] (sym reads ∙ blank) in
-    let none : area_of area [] ≡ [] = take_all area [] (omega arith) in
-    never_both program (area_of area []) r (record { content = empty_content; gate = next_gate (begun program.image); serial = pos 1 })
-    (subst (λ (bytes : List ℕ). IsRefused program (area_of area bytes) r) empty refused)
-    (inl (record { blank = inl (omega (arith, ap length none)); content = refl; gate = refl; serial = refl }))
+    never_both program area [] r (record { content = empty_content; gate = next_gate (begun program.image); serial = pos 1 })
+    (subst (λ (bytes : List ℕ). IsRefused program area bytes r) empty refused)
+    (inl (record { blank = no_bytes_blank area; content = refl; gate = refl; serial = refl }))
 
 -- what was opened on a blank disk
-pub told_blank : (program : StoreProgram) (area : ℕ) (v : DiskView) (s : StoreState) → v.content ≡ Some [] → (c : List ℕ) × Reads v c × IsStoreOf program (area_of area c) s
-    → IsStoreOf program (area_of area []) s
-told_blank program area v s blank told = subst (λ (bytes : List ℕ). IsStoreOf program (area_of area bytes) s) (same_bytes told.0 [] (sym told.1 ∙ blank)) told.2
+pub told_blank : (program : StoreProgram) (area : ℕ) (v : DiskView) (s : StoreState) → v.content ≡ Some [] → (c : List ℕ) × Reads v c × IsStoreOf program area c s
+    → IsStoreOf program area [] s
+told_blank program area v s blank told = subst (λ (bytes : List ℕ). IsStoreOf program area bytes s) (same_bytes told.0 [] (sym told.1 ∙ blank)) told.2
 
 no_rise : Rose 0 0 → ⊥
 no_rise rose = omega (arith, rose)
 
 -- no cause but want of memory is left
-pub opens_unless_memory : (program : StoreProgram) (size : ℕ) (area : List ℕ) (e : OpenError) → 18 + length program.image ≤ size → ((r : StoreRefusal) → ¬ (IsRefused program area r))
-    → Opens program size (Err e) area → LacksArea program size (Err e) → FaultsAs {T = Store} (Err e) 0 0 → e ≡ unopened.Memory
-opens_unless_memory program size area unopened.NotStore room unrefused opens lacks faults = absurd (unrefused not_store opens)
-opens_unless_memory program size area (unopened.Damaged offset) room unrefused opens lacks faults = absurd (unrefused (damaged offset) opens)
-opens_unless_memory program size area (unopened.OtherProgram offset) room unrefused opens lacks faults = absurd (unrefused (other_program offset) opens)
-opens_unless_memory program size area (unopened.NotAtRest object) room unrefused opens lacks faults = absurd (unrefused (not_at_rest object.0) opens)
-opens_unless_memory program size area (unopened.Room need limit) room unrefused opens lacks faults = absurd (omega (arith, room, lacks.0, lacks.2))
-opens_unless_memory program size area unopened.DiskFault room unrefused opens lacks faults = absurd (no_rise faults.0)
-opens_unless_memory program size area unopened.Memory room unrefused opens lacks faults = refl
+pub opens_unless_memory : (program : StoreProgram) (size : ℕ) (bytes : List ℕ) (e : OpenError) → 18 + length program.image ≤ size → ((r : StoreRefusal) → ¬ (IsRefused program size bytes r))
+    → Opens program size (Err e) bytes → LacksArea program size (Err e) → FaultsAs {T = Store} (Err e) 0 0 → e ≡ unopened.Memory
+opens_unless_memory program size bytes unopened.NotStore room unrefused opens lacks faults = absurd (unrefused not_store opens)
+opens_unless_memory program size bytes (unopened.Damaged offset) room unrefused opens lacks faults = absurd (unrefused (damaged offset) opens)
+opens_unless_memory program size bytes (unopened.OtherProgram offset) room unrefused opens lacks faults = absurd (unrefused (other_program offset) opens)
+opens_unless_memory program size bytes (unopened.NotAtRest object) room unrefused opens lacks faults = absurd (unrefused (not_at_rest object.0) opens)
+opens_unless_memory program size bytes (unopened.Room need limit) room unrefused opens lacks faults = absurd (omega (arith, room, lacks.0, lacks.2))
+opens_unless_memory program size bytes unopened.DiskFault room unrefused opens lacks faults = absurd (no_rise faults.0)
+opens_unless_memory program size bytes unopened.Memory room unrefused opens lacks faults = refl
 
 -- ---- how the session ends
 
@@ -152,32 +151,32 @@ pub session_unrefused : (code : Image) (fuel area : ℕ) (store : Store) (old ne
     → IsUnrefused (program_of code) area new.disk
 session_unrefused code fuel area store old new served area_is ends c reads r refused =
     let stood = (subst (λ (a : Option ℕ). Ends (item_of (by_machine code fuel a)) (StandsForStore (program_of code) a) (state_of store) old new served) area_is ends).stored.content c reads in
-    never_both (program_of code) (area_of area c) r _ refused stood.2
+    never_both (program_of code) area c r _ refused stood.2
 
 module _ (program : SilicaProgram) (code : Image) (sound : IsSoundFor program code) (fuel area n : ℕ) where
   abbrev pub served_program : StoreProgram
   served_program = source_program program.table code
 
   abbrev pub item : StoreState → List ℕ → SessionItem StoreState
-  item = item_of (by_source program.table fuel (Some area))
+  item = item_of (by_source served_program fuel (Some area))
 
   abbrev pub EndsSession : Store → Devices → Devices → Served → Type 0
   EndsSession store old new served =
-      Ends (item_of (by_source program.table fuel (area_of_store store))) (StandsForStore served_program (area_of_store store)) (state_of store) old new served
+      Ends (item_of (by_source served_program fuel (area_of_store store))) (StandsForStore served_program (area_of_store store)) (state_of store) old new served
 
   -- a session that was read to its end
   pub done_session : (store : Store) (old new : Devices) (served : Served) → area_of_store store ≡ Some area → served ≡ ended.Done → EndsSession store old new served
       → Ends item (StandsForStore served_program (Some area)) (state_of store) old new ended.Done
   done_session store old new served area_is done ends =
       subst (λ (e : Served). Ends item (StandsForStore served_program (Some area)) (state_of store) old new e) done
-      (subst (λ (a : Option ℕ). Ends (item_of (by_source program.table fuel a)) (StandsForStore served_program a) (state_of store) old new served) area_is ends)
+      (subst (λ (a : Option ℕ). Ends (item_of (by_source served_program fuel a)) (StandsForStore served_program a) (state_of store) old new served) area_is ends)
 
   module _ (store after : Store) (old new : Devices) (bytes c : List ℕ) (counts : Counts)
-      (begins : IsStoreOf (program_of code) (area_of area []) (state_of store))
+      (begins : IsStoreOf (program_of code) area [] (state_of store))
       (at_rest : IsStoreAtRest (table_of_image code) (content_of (kept_of store)))
       (left : old.input.left ≡ Some (trial_lines n)) (unwritten : old.output.written ≡ Some []) (written : new.output.written ≡ Some bytes)
       (ends : Ends item (StandsForStore served_program (Some area)) (state_of store) old new ended.Done)
-      (reads : Reads new.disk c) (opened : IsStoreOf (program_of code) (area_of area c) (state_of after))
+      (reads : Reads new.disk c) (opened : IsStoreOf (program_of code) area c (state_of after))
       (counted : (rs : List Reply) → bytes ≡ lines_of_replies rs → CountsReplies rs (length (state_of after).content.objects) (length (state_of after).content.handles) counts) where
     abbrev asked : List (List ℕ)
     asked = requests_in ends.lines
@@ -198,9 +197,9 @@ module _ (program : SilicaProgram) (code : Image) (sound : IsSoundFor program co
     after_is =
         let stood = ends.stored.content c reads in
         let all : take stood.0 asked ≡ asked = take_all stood.0 asked (omega (arith, stood.1, ends.answered)) in
-        one_store served_program (area_of area c) (state_of after) (state_after item (state_of store) asked)
-        (stands_by_source program code sound (image.bytes code) (area_of area c) (state_of after) opened)
-        (subst (λ (l : List (List ℕ)). IsStoreOf served_program (area_of area c) (state_after item (state_of store) l)) all stood.2)
+        one_store served_program area c (state_of after) (state_after item (state_of store) asked)
+        (stands_by_source program code sound area c (state_of after) opened)
+        (subst (λ (l : List (List ℕ)). IsStoreOf served_program area c (state_after item (state_of store) l)) all stood.2)
 
     counts_items : (rs : List Reply) → AreRepliesOf items rs → AreCountsOf items (state_after item (state_of store) asked) counts
     counts_items rs are =
@@ -223,7 +222,7 @@ module _ (program : SilicaProgram) (code : Image) (sound : IsSoundFor program co
     pub is_trial : IsTrial served_program fuel area n counts
     is_trial = record {
       start = state_of store;
-      begins = stands_by_source program code sound (image.bytes code) (area_of area []) (state_of store) begins;
+      begins = stands_by_source program code sound area [] (state_of store) begins;
       counted = subst (λ (ls : List (List ℕ)). AreCountsOf (items_of (service served_program fuel area) (state_of store) ls) (state_after item (state_of store) (requests_in ls)) counts)
           (lines_are n old new left ends.lines ends.of_input) is_counted;
     }

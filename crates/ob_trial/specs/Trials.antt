@@ -2,7 +2,6 @@
 use Rattle.std.specs.Prelude.{ℕ, List, [], Some}
 use Rattle.ob_client.specs.Trials.{trial_lines}
 use Rattle.ob_io.specs.LinesOfText.{lines_of}
-use Rattle.ob_journal_spec.specs.Areas.{area_of}
 use Rattle.ob_store_spec.specs.Stores.{StoreProgram, StoreState, IsStoreOf}
 use Rattle.ob_serve.specs.Items.{Service, by_source, item_of, items_of}
 use Rattle.ob_serve.specs.Session.{requests_in, state_after}
@@ -13,14 +12,14 @@ use Rattle.ob_trial.specs.declared.counts.Counts.{Counts}
 abbrev pub lines_of_trial : ℕ → List (List ℕ)
 lines_of_trial length = lines_of (trial_lines length)
 
--- how its lines are served: by the source meaning of a class table, with so many units of fuel for each, over a store in an area of a size
+-- how its lines are served: by the source meaning of a program, with so many units of fuel for each, over a store in areas of a size
 abbrev pub service : StoreProgram → ℕ → ℕ → Service
-service program fuel area = by_source program.table fuel (Some area)
+service program fuel area = by_source program fuel (Some area)
 
 -- The numbers are those of the trial of a length: of the items of its lines, on the store that a blank disk represents, and of what that
 -- store holds after the last of them.
 pub record IsTrial (program : StoreProgram) (fuel area length : ℕ) (counts : Counts) : Type 0 where
   pub start : StoreState
-  pub begins : IsStoreOf program (area_of area []) start
+  pub begins : IsStoreOf program area [] start
   pub counted : AreCountsOf (items_of (service program fuel area) start (lines_of_trial length))
       (state_after (item_of (service program fuel area)) start (requests_in (lines_of_trial length))) counts

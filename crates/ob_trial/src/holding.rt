@@ -4,7 +4,6 @@ ghost use Rattle.ob_code.specs.Images.{image};
 ghost use Rattle.ob_disk.specs.Sure.{sure_disk_view};
 ghost use Rattle.ob_disk_spec.specs.Disk.{Reads};
 ghost use Rattle.ob_heap.specs.Contents.{content_of};
-ghost use Rattle.ob_journal_spec.specs.Areas.{area_of};
 ghost use Rattle.ob_code_table.specs.ImageTables.{table_of_image};
 ghost use Rattle.ob_rest_spec.specs.AtRest.{IsStoreAtRest};
 ghost use Rattle.ob_serve.specs.Kept.{IsServable, IsSoundFor};
@@ -48,7 +47,7 @@ fn open_told(
     requires fits { image.fits code.now }
     requires unrefused { IsUnrefused (program_of code.now) area (sure_disk_view disk.old) }
     ensures told { IfOk result (λ store. (c : List ℕ) × Reads (sure_disk_view disk.old) c
-        × IsStoreOf (program_of code.now) (area_of area c) (state_of store)) }
+        × IsStoreOf (program_of code.now) area c (state_of store)) }
     ensures area { IfOk result (λ store. area_of_store store ≡ Some area) }
     ensures at_rest { IfOk result (λ store. IsStoreAtRest (table_of_image code.now) (content_of (kept_of store))) }
     ensures stands { IfOk result (λ store. StandsOn (program_of code.now) store (sure_disk_view disk.new)) }
@@ -91,8 +90,8 @@ fn counts_with_store(replies: &[u8], store: &Store) -> Counts
     )
 }
 
-/// Holds the trial of this length: serves its lines by sound code, with so many units of fuel for each, on a blank store in an area of so
-/// many bytes on a disk in memory. The store after the last line is the one that the disk then represents.
+/// Holds the trial of this length: serves its lines by sound code, with so many units of fuel for each, on a blank store in two areas of
+/// so many bytes each, on a disk in memory. The store after the last line is the one that the disk then represents.
 ///
 /// # Errors
 ///
@@ -113,7 +112,7 @@ pub fn hold_trial(
 {
     let mut input = SureSource::new(trial_lines(alloc, trial_length)?);
     let mut output = SureSink::new(alloc, usize::MAX);
-    let mut disk = SureDisk::new(alloc, area);
+    let mut disk = SureDisk::new(alloc, area + area);
     let mut store = open_told(alloc, &mut disk, code, area)?;
     let served = serve(
         alloc,

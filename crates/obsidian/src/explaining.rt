@@ -2,7 +2,7 @@
 use ob_base::Memory;
 use ob_explain::{explain, explain_memory, notes};
 use ob_explain_store::{
-    explain_damaged, explain_disk, explain_file, explain_not_at_rest, explain_not_store,
+    Areas, explain_damaged, explain_disk, explain_file, explain_not_at_rest, explain_not_store,
     explain_other_program,
 };
 use ob_explain_words::explain_words;
@@ -54,19 +54,19 @@ fn explain_text(
     }
 }
 
-// Why a store is refused, by the bytes of its area and the text that was to be served.
-fn explain_bytes(
+// Why a store is refused, by its areas and the text that was to be served.
+fn explain_areas(
     alloc: Global,
     store: &str,
     text: &[u8],
-    bytes: &[u8],
+    areas: Areas<'_>,
     refusal: StoreRefusal,
 ) -> Result<String, Memory> {
     match refusal {
-        StoreRefusal::NotStore => explain_not_store(alloc, store, bytes),
-        StoreRefusal::Damaged(offset) => explain_damaged(alloc, store, bytes, offset),
-        StoreRefusal::OtherProgram(_) => explain_other_program(alloc, store, text, bytes),
-        StoreRefusal::NotAtRest(object) => explain_not_at_rest(alloc, store, bytes, object),
+        StoreRefusal::NotStore => explain_not_store(alloc, store, areas),
+        StoreRefusal::Damaged(offset) => explain_damaged(alloc, store, areas, offset),
+        StoreRefusal::OtherProgram(_) => explain_other_program(alloc, store, text, areas),
+        StoreRefusal::NotAtRest(object) => explain_not_at_rest(alloc, store, areas, object),
     }
 }
 
@@ -80,8 +80,14 @@ fn explain_refusal(
     let (Some(text), Some(refusal)) = (&examined.text, examined.refusal) else {
         return Ok(String::new(alloc));
     };
-    match disk.front(AREA) {
-        Ok(bytes) => explain_bytes(alloc, store, text, &bytes, refusal),
+    match disk.front(2 * AREA) {
+        Ok(bytes) => explain_areas(
+            alloc,
+            store,
+            text,
+            Areas::of(&bytes, AREA as usize),
+            refusal,
+        ),
         Err(_) => Ok(String::new(alloc)),
     }
 }

@@ -1,8 +1,9 @@
 use Rattle.ob_store.specs.Stores.{program_of}
 use Rattle.ob_run.proofs.OpeningLemmas.{opens_since, untaken}
-use Rattle.ob_disk_spec.proofs.Behind.{behind_quiet}
+use Rattle.std.proofs.Common.{arith}
+use Rattle.ob_disk_spec.proofs.Behind.{behind_quiet, behind_more}
 use Rattle.ob_disk_spec.proofs.Untouched.{attached_then}
-use Rattle.ob_run.specs.Sessions.{area_bytes}
+use Rattle.ob_run.specs.Sessions.{area_bytes, both_areas}
 use Rattle.ob_run.proofs.AttachingLemmas.{uses_attached, uses_failed, on_ok}
 use Rattle.ob_run.proofs.serving.open_named.Goals as goal
 
@@ -19,7 +20,7 @@ returns-in-Err-clause-opens g c =
 pub returns-in-Ok-clause-disk : goal.returns-in-Ok-clause-disk
 returns-in-Ok-clause-disk g c =
     uses_attached c.args.name.now (g.D.Disk.view c.args.disk.now) (g.D.Disk.view c.attach.new.self) (g.D.Disk.view c.open_taken.new.disk) c.in-Ok.ensures.attaches c.open_taken.ensures.attaches
-    (behind_quiet area_bytes _ _ c.attach.ensures.quiet) c.open_taken.ensures.behind
+    (behind_quiet both_areas _ _ c.attach.ensures.quiet) (behind_more area_bytes both_areas _ _ (omega arith) c.open_taken.ensures.behind)
 
 pub returns-in-Ok-clause-attached : goal.returns-in-Ok-clause-attached
 returns-in-Ok-clause-attached g c = on_ok c.open_taken.result _

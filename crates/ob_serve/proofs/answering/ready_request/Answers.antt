@@ -7,12 +7,15 @@ use Rattle.ob_machine_meaning.specs.Meanings.{machine_invocation}
 use Rattle.ob_heap.specs.Contents.{content_of}
 use Rattle.ob_rest_spec.specs.AtRest.{IsStoreAtRest}
 use Rattle.ob_store_laws.specs.Recorded.{content_with}
-use Rattle.ob_store.specs.Stores.{kept_of, area_of_store, state_of}
+use Rattle.ob_store.specs.Stores.{program_of, kept_of, area_of_store, state_of, HasImage}
 use Rattle.ob_store_spec.specs.Settling.{settled}
 use Rattle.ob_store.specs.Preparing.{IsPrepared, Prepares}
 use Rattle.ob_wire.specs.Meanings.{request_of}
 use Rattle.ob_serve.proofs.Readied.{comes_to_rest, ready_item, lacking_item, prepared_by, room_by}
 use Rattle.ob_serve.proofs.answering.ready_request.Goals as goal
+
+pub prepare-requires-clause-image : goal.prepare-requires-clause-image
+prepare-requires-clause-image c = subst (λ (i : Image). HasImage (program_of i) c.args.store.now) (sym c.image.ensures.image) c.requires.image
 
 pub prepare-requires-clause-after : goal.prepare-requires-clause-after
 prepare-requires-clause-after c =

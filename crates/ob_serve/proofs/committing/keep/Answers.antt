@@ -1,14 +1,14 @@
-use Rattle.std.proofs.Common.{inl, ◌∙◌}
+use Rattle.std.proofs.Common.{inl, ◌+◌, ◌∙◌}
 use Rattle.ob_disk_spec.proofs.Behind.{behind_none}
 use Rattle.ob_disk_spec.proofs.Untouched.{untouched_none}
 use Rattle.ob_store.proofs.Same.{same_stands}
-use Rattle.ob_serve.proofs.Committed.{some_leads, crash_leaves, ready_again}
+use Rattle.ob_serve.proofs.Committed.{quiet_crash, some_leads, crash_leaves, ready_again}
 use Rattle.ob_serve.proofs.committing.keep.Goals as goal
 
 pub returns-then-is_err-2-clause-crash : goal.returns-then-is_err-2-clause-crash
 returns-then-is_err-2-clause-crash g c = λ program after leads rests stands.
     let some = some_leads program after c.args.store.now c.args.prepared c.in-Some.prepared c.in-Some.is leads in
-    let prepared = c.reserve.ensures.prepared program.table some.ready.is_prepared in
+    let prepared = c.reserve.ensures.prepared program some.ready.is_prepared in
     let ready = ready_again program after c.args.store.now c.reserve.new.self c.in-Some.prepared some c.reserve.ensures.state c.reserve.ensures.area c.reserve.ensures.content prepared in
     crash_leaves program after c.args.store.now c.reserve.new.self c.in-Some.prepared some c.reserve.ensures.state c.reserve.ensures.area c.reserve.ensures.content prepared
     (g.D.Disk.view c.args.disk.now) (g.D.Disk.view c.commit.new.disk) (λ none. c.commit.ensures.nothing (inl none))
@@ -17,11 +17,18 @@ returns-then-is_err-2-clause-crash g c = λ program after leads rests stands.
 pub returns-clause-crash : goal.returns-clause-crash
 returns-clause-crash g c = λ program after leads rests stands.
     let some = some_leads program after c.args.store.now c.args.prepared c.in-Some.prepared c.in-Some.is leads in
-    let prepared = c.reserve.ensures.prepared program.table some.ready.is_prepared in
+    let prepared = c.reserve.ensures.prepared program some.ready.is_prepared in
     let ready = ready_again program after c.args.store.now c.reserve.new.self c.in-Some.prepared some c.reserve.ensures.state c.reserve.ensures.area c.reserve.ensures.content prepared in
     crash_leaves program after c.args.store.now c.reserve.new.self c.in-Some.prepared some c.reserve.ensures.state c.reserve.ensures.area c.reserve.ensures.content prepared
     (g.D.Disk.view c.args.disk.now) (g.D.Disk.view c.commit.new.disk) (λ none. c.commit.ensures.nothing (inl none))
     (λ size area. c.commit.ensures.crash program size ready area (same_stands program c.args.store.now c.reserve.new.self (g.D.Disk.view c.args.disk.now) c.reserve.ensures.same stands))
+
+-- where nothing was done
+pub returns-in_default-clause-crash : goal.returns-in_default-clause-crash
+returns-in_default-clause-crash g c = λ program after leads rests stands. quiet_crash program after c.args.store.now (g.D.Disk.view c.args.disk.now) stands rests
+
+pub returns-then-is_err-clause-crash : goal.returns-then-is_err-clause-crash
+returns-then-is_err-clause-crash g c = λ program after leads rests stands. quiet_crash program after c.args.store.now (g.D.Disk.view c.args.disk.now) stands rests
 
 -- ---- the calls of the disk
 
@@ -29,7 +36,7 @@ pub returns-in_default-clause-untouched : goal.returns-in_default-clause-untouch
 returns-in_default-clause-untouched g c = λ none. untouched_none (g.D.Disk.view c.args.disk.now)
 
 pub returns-in_default-clause-behind : goal.returns-in_default-clause-behind
-returns-in_default-clause-behind g c = λ size is. behind_none size (g.D.Disk.view c.args.disk.now)
+returns-in_default-clause-behind g c = λ size is. behind_none (size + size) (g.D.Disk.view c.args.disk.now)
 
 pub returns-then-is_err-clause-untouched : goal.returns-then-is_err-clause-untouched
 returns-then-is_err-clause-untouched g c = λ none. untouched_none (g.D.Disk.view c.args.disk.now)
@@ -38,7 +45,7 @@ pub returns-then-is_err-clause-memory : goal.returns-then-is_err-clause-memory
 returns-then-is_err-clause-memory g c = λ is. untouched_none (g.D.Disk.view c.args.disk.now)
 
 pub returns-then-is_err-clause-behind : goal.returns-then-is_err-clause-behind
-returns-then-is_err-clause-behind g c = λ size is. behind_none size (g.D.Disk.view c.args.disk.now)
+returns-then-is_err-clause-behind g c = λ size is. behind_none (size + size) (g.D.Disk.view c.args.disk.now)
 
 pub returns-then-is_err-2-clause-untouched : goal.returns-then-is_err-2-clause-untouched
 returns-then-is_err-2-clause-untouched g c = λ none. c.commit.ensures.nothing (inl (c.reserve.ensures.area ∙ none))

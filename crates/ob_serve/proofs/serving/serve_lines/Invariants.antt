@@ -1,4 +1,4 @@
-use Rattle.std.proofs.Common.{◌≡◌, ◌-◌, ◌^◌, ℕ, None, Some}
+use Rattle.std.proofs.Common.{◌≡◌, ◌+◌, ◌-◌, ◌^◌, ℕ, None, Some}
 use Rattle.ob_disk_spec.specs.Calls.{IsUntouched}
 use Rattle.ob_disk_spec.specs.Durable.{KeepsBehind}
 use Rattle.ob_heap.specs.Contents.{content_of}
@@ -21,12 +21,11 @@ invariant-lines g l = record {
   at_rest : IsStoreAtRest (table_of_image l.code) (content_of (kept_of l.store));
   area : area_of_store l.store ≡ area_of_store l.fn.store;
   state : state_of l.store ≡ state_after (item_of (by_machine l.code l.fuel (area_of_store l.fn.store))) (state_of l.fn.store) (requests_in read.lines);
-  answered : StandsOn (program_of l.code) l.fn.store (g.D.Disk.view l.fn.disk)
-      → Answered (item_of (by_machine l.code l.fuel (area_of_store l.fn.store))) (StandsForStore (program_of l.code) (area_of_store l.fn.store)) (state_of l.fn.store) (requests_in read.lines)
+  answered : Answered (item_of (by_machine l.code l.fuel (area_of_store l.fn.store))) (StandsForStore (program_of l.code) (area_of_store l.fn.store)) (state_of l.fn.store) (requests_in read.lines)
       (g.K.Sink.view l.fn.output).written (g.K.Sink.view l.output).written (g.D.Disk.view l.fn.disk) (g.D.Disk.view l.disk);
-  stands : StandsOn (program_of l.code) l.fn.store (g.D.Disk.view l.fn.disk) → StandsOn (program_of l.code) l.store (g.D.Disk.view l.disk);
+  stands : StandsOn (program_of l.code) l.store (g.D.Disk.view l.disk);
   untouched : area_of_store l.fn.store ≡ None → IsUntouched (g.D.Disk.view l.fn.disk) (g.D.Disk.view l.disk);
-  behind : (size : ℕ) → area_of_store l.fn.store ≡ Some size → KeepsBehind size (g.D.Disk.view l.fn.disk) (g.D.Disk.view l.disk);
+  behind : (size : ℕ) → area_of_store l.fn.store ≡ Some size → KeepsBehind (size + size) (g.D.Disk.view l.fn.disk) (g.D.Disk.view l.disk);
   attaches : (g.D.Disk.view l.disk).attaches ≡ (g.D.Disk.view l.fn.disk).attaches;
   calm_read : (g.S.Source.view l.input).faults ≡ (g.S.Source.view l.fn.input).faults;
   calm_write : (g.K.Sink.view l.output).faults ≡ (g.K.Sink.view l.fn.output).faults;

@@ -1,7 +1,8 @@
 use Rattle.std.proofs.Common.{List, ℕ, ◌∙◌, ap, refl, subst}
 use Rattle.ob_disk_spec.specs.Durable.{During}
 use Rattle.ob_disk_spec.proofs.Behind.{behind_none}
-use Rattle.ob_journal_spec.specs.Areas.{IsBlankOrBegun, area_of, begun}
+use Rattle.ob_journal_spec.specs.Areas.{begun, next_gate}
+use Rattle.ob_journal_spec.specs.Disks.{IsBlankOrBegunDisk}
 use Rattle.ob_journal.specs.Moments.{IsFresh}
 use Rattle.ob_store.proofs.Opened.{empty_of}
 use Rattle.ob_store.proofs.opening.begin_store.Goals as goal
@@ -12,7 +13,8 @@ returns-in-Ok-begin-clause-begun g c = record {
   journal_is = refl;
   content = empty_of c.new.result c.new.ensures.objects c.new.ensures.handles;
   says = c.in-Ok-begin.ensures.begun.0 ∙ ap begun (c.as_slice.ensures.value ∙ c.in-Ok.ensures.is);
-  area = c.in-Ok-begin.ensures.begun.1;
+  gate = c.in-Ok-begin.ensures.begun.1 ∙ ap (λ (l : List ℕ). next_gate (begun l)) (c.as_slice.ensures.value ∙ c.in-Ok.ensures.is);
+  area = c.in-Ok-begin.ensures.begun.2;
 }
 
 pub returns-in_default-clause-behind : goal.returns-in_default-clause-behind
@@ -23,10 +25,10 @@ pub returns-in-Ok-begin-clause-crash : goal.returns-in-Ok-begin-clause-crash
 returns-in-Ok-begin-clause-crash g c =
     let old = g.D.Disk.view c.args.disk.now in
     let new = g.D.Disk.view c.begin.new.disk in
-    subst (λ (l : List ℕ). IsFresh c.args.area old → During old new (λ c'. IsBlankOrBegun l (area_of c.args.area c'))) (c.as_slice.ensures.value ∙ c.in-Ok.ensures.is) c.begin.ensures.crash
+    subst (λ (l : List ℕ). IsFresh c.args.area old → During old new (IsBlankOrBegunDisk c.args.area l)) (c.as_slice.ensures.value ∙ c.in-Ok.ensures.is) c.begin.ensures.crash
 
 pub returns-clause-crash : goal.returns-clause-crash
 returns-clause-crash g c =
     let old = g.D.Disk.view c.args.disk.now in
     let new = g.D.Disk.view c.begin.new.disk in
-    subst (λ (l : List ℕ). IsFresh c.args.area old → During old new (λ c'. IsBlankOrBegun l (area_of c.args.area c'))) (c.as_slice.ensures.value ∙ c.in-Ok.ensures.is) c.begin.ensures.crash
+    subst (λ (l : List ℕ). IsFresh c.args.area old → During old new (IsBlankOrBegunDisk c.args.area l)) (c.as_slice.ensures.value ∙ c.in-Ok.ensures.is) c.begin.ensures.crash

@@ -1,40 +1,41 @@
-use Rattle.std.proofs.Common.{sym, subst, arith, List, ℕ}
+use Rattle.std.proofs.Common.{arith}
 use Rattle.ob_heap.specs.Contents.{content_of}
 use Rattle.ob_code_table.specs.ImageTables.{table_of_image}
-use Rattle.ob_store_spec.specs.Payloads.{Changes}
-use Rattle.ob_store_spec.specs.Changes.{SaysChanges}
-use Rattle.ob_store.specs.Opening.{IsFollowed}
-use Rattle.ob_store.proofs.Opened.{empty_of, kept_empty, first_bad, bad_payload, gate_within, gate_more, replayed_more}
+use Rattle.ob_store.proofs.Opened.{empty_of, kept_empty, bad_payload, replayed_none, replayed_all, replayed_more, first_bad}
 use Rattle.ob_store.proofs.opening.replay.Goals as goal
 
-pub loop-payload-init : goal.loop-payload-init
-loop-payload-init c =
+pub records-init : goal.records-init
+records-init c =
+    let table = table_of_image c.args.code.now in
     let none = empty_of c.new-content.result c.new-content.ensures.objects c.new-content.ensures.handles in
-    record { leads = sym none; kept = kept_empty (table_of_image c.args.code.now) _ none; at = omega arith }
-
-pub overflow_add-offset-in-Ok : goal.overflow_add-offset-in-Ok
-overflow_add-offset-in-Ok c =
-    let within = gate_within c.args.payloads.now c.loop-payload.payload-index c.payload-item.result c.loop-payload-test.true c.payload-item.is in
-    omega (arith, within, c.loop-payload.invariant.at, c.requires, c.len.ensures)
-
-pub returns-in-Err-Bad : goal.returns-in-Err-Bad
-returns-in-Err-Bad c =
-    let table = table_of_image c.args.code.now in
-    let before = content_of c.loop-payload.content in
-    let bad = bad_payload table before (content_of c.follow.new.content) c.as_slice.result.now c.in-Err-Bad.field-0 c.in-Err-Bad.field-0-is c.in-Err-Bad.ensures in
-    let P : List ℕ → Type 0 = λ p. (changes : Changes) → ¬ (SaysChanges table before changes p) in
-    first_bad c.args.payloads.now c.loop-payload.payload-index c.payload-item.result c.loop-payload-test.true c.payload-item.is table c.args.gate c.loop-payload.offset before
-    c.loop-payload.invariant.leads c.loop-payload.invariant.at (subst P c.as_slice.ensures.value bad)
-
-pub loop-payload-preserved : goal.loop-payload-preserved
-loop-payload-preserved c =
-    let table = table_of_image c.args.code.now in
-    let before = content_of c.loop-payload.content in
-    let after = content_of c.follow.new.content in
-    let next : IsFollowed table before c.payload-item.result.items after = subst (λ (p : List ℕ). IsFollowed table before p after) c.as_slice.ensures.value c.in-Ok.ensures in
-    let more = gate_more c.args.payloads.now c.loop-payload.payload-index c.payload-item.result c.loop-payload-test.true c.payload-item.is in
     record {
-      leads = replayed_more c.args.payloads.now c.loop-payload.payload-index c.payload-item.result c.loop-payload-test.true c.payload-item.is table before after c.loop-payload.invariant.leads next;
-      kept = next.kept;
-      at = omega (arith, more, c.loop-payload.invariant.at, c.len.ensures);
+      replayed = λ payloads there. replayed_none table payloads (content_of c.new-content.result) c.args.records.now none there;
+      kept = kept_empty table _ none;
+      within = omega arith;
+    }
+
+pub returns-in-Err-Bad-clause-replayed : goal.returns-in-Err-Bad-clause-replayed
+returns-in-Err-Bad-clause-replayed c = λ payloads there.
+    let table = table_of_image c.args.code.now in
+    let before = content_of c.records.content in
+    let bad = bad_payload table before (content_of c.follow.new.content) c.in-Some.payload.now c.in-Err-Bad.field-0 c.in-Err-Bad.field-0-is c.in-Err-Bad.ensures in
+    let so_far = c.records.invariant.replayed payloads there in
+    first_bad table payloads before c.records.rest.now c.in-Some.payload.now c.in-Some.after.now so_far (c.in-Some.ensures.first so_far.others so_far.left) c.args.gate c.args.records.now there bad
+
+pub returns-clause-replayed : goal.returns-clause-replayed
+returns-clause-replayed c = λ payloads there.
+    let so_far = c.records.invariant.replayed payloads there in
+    replayed_all (table_of_image c.args.code.now) payloads (content_of c.records.content) c.records.rest.now so_far (c.in_default.ensures.first so_far.others so_far.left)
+
+pub records-preserved : goal.records-preserved
+records-preserved c =
+    let table = table_of_image c.args.code.now in
+    let before = content_of c.records.content in
+    let after = content_of c.follow.new.content in
+    record {
+      replayed = λ payloads there.
+          let so_far = c.records.invariant.replayed payloads there in
+          replayed_more table payloads before c.records.rest.now c.in-Some.payload.now c.in-Some.after.now so_far (c.in-Some.ensures.first so_far.others so_far.left) after c.in-Ok.ensures;
+      kept = c.in-Ok.ensures.kept;
+      within = omega (arith, c.in-Some.ensures.shorter);
     }

@@ -1,17 +1,18 @@
-use Rattle.std.proofs.Common.{◌≡◌, ◌+◌, take, map}
+use Rattle.std.proofs.Common.{◌≤◌, ℕ, List, length}
 use Rattle.ob_heap.specs.Contents.{content_of}
-use Rattle.ob_heap_spec.specs.Contents.{empty_content}
-use Rattle.ob_journal_spec.specs.Areas.{size_of}
-use Rattle.ob_journal.specs.Surveys.{payload_of}
+use Rattle.ob_journal_spec.specs.Areas.{Records}
 use Rattle.ob_code_table.specs.ImageTables.{table_of_image}
-use Rattle.ob_store_spec.specs.Changes.{LeadFrom}
 use Rattle.ob_store.specs.Opening.{IsKeptContent}
+use Rattle.ob_store.proofs.Opened.{IsReplayed}
 use Rattle.ob_store.proofs.opening.replay.Given as goal
 
--- the payloads so far lead to the content
-abbrev pub invariant-loop-payload : goal.invariant-loop-payload
-invariant-loop-payload l = record {
-  leads : LeadFrom (table_of_image l.code) empty_content (map payload_of (take l.payload-index l.payloads)) (content_of l.content);
+-- the payloads so far lead to the content, and the others are those of what is left
+abbrev pub invariant-records : goal.invariant-records
+invariant-records l = record {
+  replayed : (payloads : List (List ℕ)) → Records payloads l.records → IsReplayed (table_of_image l.code) payloads (content_of l.content) l.rest;
   kept : IsKeptContent (table_of_image l.code) (content_of l.content);
-  at : l.offset ≡ l.gate + size_of (map payload_of (take l.payload-index l.payloads));
+  within : length l.rest ≤ length l.records;
 }
+
+abbrev pub decreases-records : goal.decreases-records
+decreases-records l = length l.rest

@@ -1,5 +1,5 @@
 use Rattle.ob_emit_laws.specs.Names.{without_names}
-use Rattle.ob_store_table_laws.proofs.Unnamed.{differences_unnamed, changes_unnamed}
+use Rattle.ob_store_table_laws.proofs.Unnamed.{differences_unnamed, all_unnamed, changes_unnamed}
 use Rattle.ob_store_table_laws.proofs.Failing.{failing_unnamed, first_unnamed}
 use Rattle.ob_store_table_laws.proofs.Following.{content_follows, store_follows, saying_follows, leading_follows, area_follows, refusal_follows}
 use Rattle.ob_store_table_laws.proofs.Whole.{named, unnamed, payloads_unnamed, settled_unnamed}
@@ -26,6 +26,9 @@ returns-clause-payloads c = payloads_unnamed
 pub returns-clause-differences : goal.returns-clause-differences
 returns-clause-differences c = differences_unnamed
 
+pub returns-clause-wholes : goal.returns-clause-wholes
+returns-clause-wholes c = all_unnamed
+
 pub returns-clause-changes : goal.returns-clause-changes
 returns-clause-changes c = changes_unnamed
 
@@ -42,15 +45,15 @@ returns-clause-leading c table content payloads end = (
 )
 
 pub returns-clause-stores : goal.returns-clause-stores
-returns-clause-stores c table image area s = (
-  area_follows (without_names table) table (named table) image area s,
-  area_follows table (without_names table) (unnamed table) image area s,
+returns-clause-stores c table image size bytes s = (
+  area_follows (without_names table) table (named table) image size bytes s,
+  area_follows table (without_names table) (unnamed table) image size bytes s,
 )
 
 pub returns-clause-refusals : goal.returns-clause-refusals
-returns-clause-refusals c table image area r = (
-  refusal_follows (without_names table) table (named table) (unnamed table) image area r,
-  refusal_follows table (without_names table) (unnamed table) (named table) image area r,
+returns-clause-refusals c table image size bytes r = (
+  refusal_follows (without_names table) table (named table) (unnamed table) image size bytes r,
+  refusal_follows table (without_names table) (unnamed table) (named table) image size bytes r,
 )
 
 pub returns-clause-settling : goal.returns-clause-settling

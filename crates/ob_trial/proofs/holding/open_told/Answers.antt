@@ -1,4 +1,3 @@
-use Rattle.ob_journal_spec.specs.Areas.{area_of}
 use Rattle.ob_store.specs.Stores.{program_of}
 use Rattle.ob_trial.proofs.HoldingLemmas.{opens_unless_memory}
 use Rattle.ob_trial.proofs.holding.open_told.Goals as goal
@@ -7,7 +6,7 @@ use Rattle.ob_trial.proofs.holding.open_told.Goals as goal
 pub out_of_memory-requires : goal.out_of_memory-requires
 out_of_memory-requires c =
     let bytes = c.in-Some._told.now in
-    opens_unless_memory (program_of c.args.code.now) c.args.area (area_of c.args.area bytes) c.in-Err.error c.requires.room
+    opens_unless_memory (program_of c.args.code.now) c.args.area bytes c.in-Err.error c.requires.room
     (λ r. c.requires.unrefused bytes c.in-Some.ensures r) (c.in-Err.ensures.opened bytes c.in-Some.ensures) c.in-Err.ensures.room c.in-Err.ensures.cause
 
 pub returns-in-Ok-clause-told : goal.returns-in-Ok-clause-told

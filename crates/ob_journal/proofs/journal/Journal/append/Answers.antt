@@ -1,47 +1,48 @@
-use Rattle.std.proofs.Common.{◌∙◌, sym, ap, subst, arith}
-use Rattle.ob_disk_spec.specs.Durable.{Throughout}
-use Rattle.ob_journal_spec.specs.Areas.{Journaled, StandsFor, area_of, next_gate}
-use Rattle.ob_journal.specs.Surveys.{plain}
-use Rattle.ob_journal.proofs.Fronts.{appends, next_more}
+use Rattle.std.proofs.Common.{◌∙◌, ◌+◌, ℕ, List, length, ap, arith}
+use Rattle.ob_journal_spec.proofs.Bytes.{next_more}
+use Rattle.ob_journal.specs.Journals.{journaled, place_of, end_offset}
+use Rattle.ob_journal.proofs.Appends.{appends, record_length}
+use Rattle.ob_journal.proofs.Moves.{appended_there}
 use Rattle.ob_journal.proofs.journal.Journal.append.Goals as goal
 
 pub returns-in_default-clause-crash : goal.returns-in_default-clause-crash
-returns-in_default-clause-crash g c = λ holds.
+returns-in_default-clause-crash g c = λ payloads payload is holds.
     let s = c.args.self.now in
-    let p = c.args.built.payload.items in
-    c.put_record.ensures.crash s.area (plain s.contents) p (appends s.area (plain s.contents) p _ s.contents.gate s.place s.small c.requires.built.within (c.as_slice.ensures.value ∙ c.requires.built.is)) holds
+    let j = journaled s payloads in
+    c.put_record.ensures.crash s.area (place_of s) j s.other_closed payload
+    (appends s.area (place_of s) j payload _ c.start.result s.gate c.start.ensures.start holds.gate s.small is.within (c.as_slice.ensures.value ∙ is.is))
+    (record { whole = holds.whole; other = holds.other })
 
 pub returns-clause-crash : goal.returns-clause-crash
-returns-clause-crash g c = λ holds.
+returns-clause-crash g c = λ payloads payload is holds.
     let s = c.args.self.now in
-    let p = c.args.built.payload.items in
-    c.put_record.ensures.crash s.area (plain s.contents) p (appends s.area (plain s.contents) p _ s.contents.gate s.place s.small c.requires.built.within (c.as_slice.ensures.value ∙ c.requires.built.is)) holds
-
-pub invariant_of-self : goal.invariant_of-self
-invariant_of-self g c =
-    let s = c.args.self.now in
-    let p = c.args.built.payload.items in
-    record {
-      small = s.small;
-      within = omega (arith, c.put_last.ensures.gate, s.place, c.requires.built.within);
-      place = c.put_last.ensures.gate ∙ (omega (arith, s.place, next_more (plain s.contents) p)) ∙ ap next_gate (sym c.put_last.ensures.payloads);
-    }
+    let j = journaled s payloads in
+    c.put_record.ensures.crash s.area (place_of s) j s.other_closed payload
+    (appends s.area (place_of s) j payload _ c.start.result s.gate c.start.ensures.start holds.gate s.small is.within (c.as_slice.ensures.value ∙ is.is))
+    (record { whole = holds.whole; other = holds.other })
 
 pub returns-clause-whole : goal.returns-clause-whole
-returns-clause-whole g c = λ holds.
+returns-clause-whole g c = λ payloads payload is holds.
     let s = c.args.self.now in
-    let p = c.args.built.payload.items in
-    let now = c.in-Ok.ensures.whole s.area (plain s.contents) p (appends s.area (plain s.contents) p _ s.contents.gate s.place s.small c.requires.built.within (c.as_slice.ensures.value ∙ c.requires.built.is)) holds in
-    subst (λ (j : Journaled). Throughout (g.D.Disk.view c.put_record.new.disk) (λ c'. StandsFor j (area_of s.area c'))) (sym c.put_last.ensures.payloads) now
+    let j = journaled s payloads in
+    let held = c.in-Ok.ensures.held s.area (place_of s) j s.other_closed payload
+    (appends s.area (place_of s) j payload _ c.start.result s.gate c.start.ensures.start holds.gate s.small is.within (c.as_slice.ensures.value ∙ is.is))
+    (record { whole = holds.whole; other = holds.other }) in
+    record { whole = held.whole; gate = omega (arith, holds.gate, next_more j payload, record_length payload _ is.is); other = held.other }
+
+pub returns-clause-written : goal.returns-clause-written
+returns-clause-written g c =
+    let s = c.args.self.now in
+    appended_there _ _ _ _ _ _ (ap (λ (n : ℕ). n + s.gate) c.start.ensures.start) c.as_slice.ensures.value c.in-Ok.ensures.written
 
 pub returns-in_default-clause-behind : goal.returns-in_default-clause-behind
 returns-in_default-clause-behind g c =
     let s = c.args.self.now in
-    let p = c.args.built.payload.items in
-    c.put_record.ensures.behind s.area (appends s.area (plain s.contents) p _ s.contents.gate s.place s.small c.requires.built.within (c.as_slice.ensures.value ∙ c.requires.built.is)).within
+    let is = c.requires.1 in
+    c.put_record.ensures.behind (end_offset s) (omega (arith, record_length c.requires.0 _ is.is, is.within, c.start.ensures.start, ap (λ (l : List ℕ). length l) c.as_slice.ensures.value))
 
 pub returns-clause-behind : goal.returns-clause-behind
 returns-clause-behind g c =
     let s = c.args.self.now in
-    let p = c.args.built.payload.items in
-    c.put_record.ensures.behind s.area (appends s.area (plain s.contents) p _ s.contents.gate s.place s.small c.requires.built.within (c.as_slice.ensures.value ∙ c.requires.built.is)).within
+    let is = c.requires.1 in
+    c.put_record.ensures.behind (end_offset s) (omega (arith, record_length c.requires.0 _ is.is, is.within, c.start.ensures.start, ap (λ (l : List ℕ). length l) c.as_slice.ensures.value))

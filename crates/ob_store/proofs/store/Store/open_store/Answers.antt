@@ -3,22 +3,22 @@ use Rattle.ob_disk_spec.proofs.Behind.{behind_then}
 use Rattle.ob_code.specs.Images.{image}
 use Rattle.ob_code.specs.declared.image.Image.{Image}
 use Rattle.ob_disk_spec.specs.Durable.{During}
-use Rattle.ob_journal_spec.specs.Areas.{IsBlankOrBegun, area_of}
+use Rattle.ob_journal_spec.specs.Disks.{IsBlankOrBegunDisk}
 use Rattle.ob_journal.specs.Moments.{IsFresh}
 use Rattle.ob_store.specs.Stores.{program_of, StandsOn}
 use Rattle.ob_journal.specs.declared.journal.Found.{Found}
 use Rattle.ob_store.specs.Opening.{Opens, BeginsStore, Rebuilds, LacksArea, StaysUnlessBlank, FaultsAs}
 use Rattle.ob_store.specs.declared.store.Store.{Store}
 use Rattle.ob_store.specs.declared.error.OpenError.{OpenError}
-use Rattle.ob_store.proofs.Opened.{blank_found, blank_in, current_found, current_in, begun_opens, begun_area, begun_rests, begun_lacks, begun_stays, if_fresh, rebuilt_opens, rebuilt_calm, rebuilt_area, rebuilt_rests, rebuilt_stands, rebuilt_lacks, rebuilt_stays, not_found, not_found_lacks, not_found_stays, faults_as, unwritten, begun_behind}
+use Rattle.ob_store.proofs.Opened.{blank_found, blank_in, current_in, begun_opens, begun_area, begun_rests, begun_lacks, begun_stays, if_fresh, found_opens, rebuilt_calm, rebuilt_area, rebuilt_rests, rebuilt_stands, rebuilt_lacks, rebuilt_stays, not_found, not_found_lacks, not_found_stays, faults_as, unwritten, begun_behind}
 use Rattle.ob_store.proofs.store.Store.open_store.Goals as goal
 
--- ---- a blank area is begun
+-- ---- a blank disk is begun
 
 pub returns-in-Ok-Blank-clause-opened : goal.returns-in-Ok-Blank-clause-opened
 returns-in-Ok-Blank-clause-opened g c = λ c' reads.
-    begun_opens (program_of c.args.code.now) c.args.area _ (area_of c.args.area c') (subst (λ (x : Image). BeginsStore (program_of x) c.args.area c.begin_store.result) c.image.ensures.image c.begin_store.ensures.begun)
-    (blank_found c.args.area _ (area_of c.args.area c') c.in-Ok-Blank.field-0-is (c.in-Ok-Blank.ensures.found c' reads))
+    begun_opens (program_of c.args.code.now) c.args.area _ c' (subst (λ (x : Image). BeginsStore (program_of x) c.args.area c.begin_store.result) c.image.ensures.image c.begin_store.ensures.begun)
+    (blank_found c.args.area _ c' c.in-Ok-Blank.field-0-is (c.in-Ok-Blank.ensures.found c' reads))
 
 pub returns-in-Ok-Blank-clause-room : goal.returns-in-Ok-Blank-clause-room
 returns-in-Ok-Blank-clause-room g c = begun_lacks (program_of c.args.code.now) c.args.area _ (subst (λ (x : Image). BeginsStore (program_of x) c.args.area c.begin_store.result) c.image.ensures.image c.begin_store.ensures.begun)
@@ -34,14 +34,14 @@ returns-in-Ok-Blank-clause-stands g c = if_fresh _ _ _ (subst (λ (x : Image). I
 
 pub returns-in-Ok-Blank-clause-quiet : goal.returns-in-Ok-Blank-clause-quiet
 returns-in-Ok-Blank-clause-quiet g c = λ c' reads is_not.
-    absurd (is_not (blank_found c.args.area _ (area_of c.args.area c') c.in-Ok-Blank.field-0-is (c.in-Ok-Blank.ensures.found c' reads)))
+    absurd (is_not (blank_found c.args.area _ c' c.in-Ok-Blank.field-0-is (c.in-Ok-Blank.ensures.found c' reads)))
 
 pub returns-in-Ok-Blank-clause-still : goal.returns-in-Ok-Blank-clause-still
 returns-in-Ok-Blank-clause-still g c = begun_stays (program_of c.args.code.now) c.args.area _ _ _ _ (subst (λ (x : Image). BeginsStore (program_of x) c.args.area c.begin_store.result) c.image.ensures.image c.begin_store.ensures.begun) c.find.ensures.quiet c.begin_store.ensures.room
 
 pub returns-in-Ok-Blank-clause-crash : goal.returns-in-Ok-Blank-clause-crash
 returns-in-Ok-Blank-clause-crash g c =
-    let P : Image → Type 0 = λ x. During (g.D.Disk.view c.find.new.disk) (g.D.Disk.view c.begin_store.new.disk) (λ c'. IsBlankOrBegun (image.bytes x) (area_of c.args.area c')) in
+    let P : Image → Type 0 = λ x. During (g.D.Disk.view c.find.new.disk) (g.D.Disk.view c.begin_store.new.disk) (IsBlankOrBegunDisk c.args.area (image.bytes x)) in
     begun_behind _ _ _ c.args.area _ c.find.ensures.quiet (subst P c.image.ensures.image (c.begin_store.ensures.crash (blank_in c.args.area _ _ c.in-Ok-Blank.field-0-is c.in-Ok-Blank.ensures.whole)))
 
 pub returns-in-Ok-Blank-clause-cause : goal.returns-in-Ok-Blank-clause-cause
@@ -51,43 +51,58 @@ returns-in-Ok-Blank-clause-cause g c = subst (λ (n : ℕ). FaultsAs c.begin_sto
 
 pub returns-in-Ok-Current-clause-opened : goal.returns-in-Ok-Current-clause-opened
 returns-in-Ok-Current-clause-opened g c = λ c' reads.
-    rebuilt_opens (program_of c.args.code.now) c.in-Ok-Current.journal c.args.area _ (area_of c.args.area c') (subst (λ (x : Image). Rebuilds (program_of x) c.in-Ok-Current.journal c.rebuilt.result) c.image-in-Ok-Current.ensures.image c.rebuilt.ensures)
-    (current_found c.args.area _ c.in-Ok-Current.journal (area_of c.args.area c') c.in-Ok-Current.field-0-is (c.in-Ok-Current.ensures.found c' reads))
+    found_opens (program_of c.args.code.now) c.args.area _ c.in-Ok-Current.journal c.in-Ok-Current.recorded _ _ c' c.in-Ok-Current.field-0-is
+    (λ payloads has. subst (λ (x : Image). Rebuilds (program_of x) c.in-Ok-Current.journal payloads c.rebuilt.result) c.image-in-Ok-Current.ensures.image (c.rebuilt.ensures payloads has))
+    c.in-Ok-Current.ensures.whole (c.in-Ok-Current.ensures.found c' reads)
 
 pub returns-in-Ok-Current-clause-room : goal.returns-in-Ok-Current-clause-room
-returns-in-Ok-Current-clause-room g c = rebuilt_lacks (program_of c.args.code.now) c.in-Ok-Current.journal c.args.area _ (subst (λ (x : Image). Rebuilds (program_of x) c.in-Ok-Current.journal c.rebuilt.result) c.image-in-Ok-Current.ensures.image c.rebuilt.ensures)
+returns-in-Ok-Current-clause-room g c =
+    let there = current_in c.args.area _ c.in-Ok-Current.journal c.in-Ok-Current.recorded _ c.in-Ok-Current.field-0-is c.in-Ok-Current.ensures.whole in
+    rebuilt_lacks (program_of c.args.code.now) c.in-Ok-Current.journal there.payloads c.args.area _
+    (subst (λ (x : Image). Rebuilds (program_of x) c.in-Ok-Current.journal there.payloads c.rebuilt.result) c.image-in-Ok-Current.ensures.image (c.rebuilt.ensures there.payloads there.has))
 
 pub returns-in-Ok-Current-clause-area : goal.returns-in-Ok-Current-clause-area
 returns-in-Ok-Current-clause-area g c =
-    rebuilt_area (program_of c.args.code.now) c.in-Ok-Current.journal c.args.area _ (subst (λ (x : Image). Rebuilds (program_of x) c.in-Ok-Current.journal c.rebuilt.result) c.image-in-Ok-Current.ensures.image c.rebuilt.ensures)
-    (current_in c.args.area _ c.in-Ok-Current.journal _ c.in-Ok-Current.field-0-is c.in-Ok-Current.ensures.whole).1
+    let there = current_in c.args.area _ c.in-Ok-Current.journal c.in-Ok-Current.recorded _ c.in-Ok-Current.field-0-is c.in-Ok-Current.ensures.whole in
+    rebuilt_area (program_of c.args.code.now) c.in-Ok-Current.journal there.payloads c.args.area _
+    (subst (λ (x : Image). Rebuilds (program_of x) c.in-Ok-Current.journal there.payloads c.rebuilt.result) c.image-in-Ok-Current.ensures.image (c.rebuilt.ensures there.payloads there.has)) there.area
 
 pub returns-in-Ok-Current-clause-at_rest : goal.returns-in-Ok-Current-clause-at_rest
-returns-in-Ok-Current-clause-at_rest g c = rebuilt_rests (program_of c.args.code.now) c.in-Ok-Current.journal _ (subst (λ (x : Image). Rebuilds (program_of x) c.in-Ok-Current.journal c.rebuilt.result) c.image-in-Ok-Current.ensures.image c.rebuilt.ensures)
+returns-in-Ok-Current-clause-at_rest g c =
+    let there = current_in c.args.area _ c.in-Ok-Current.journal c.in-Ok-Current.recorded _ c.in-Ok-Current.field-0-is c.in-Ok-Current.ensures.whole in
+    rebuilt_rests (program_of c.args.code.now) c.in-Ok-Current.journal there.payloads _
+    (subst (λ (x : Image). Rebuilds (program_of x) c.in-Ok-Current.journal there.payloads c.rebuilt.result) c.image-in-Ok-Current.ensures.image (c.rebuilt.ensures there.payloads there.has))
 
 pub returns-in-Ok-Current-clause-stands : goal.returns-in-Ok-Current-clause-stands
 returns-in-Ok-Current-clause-stands g c =
-    rebuilt_stands (program_of c.args.code.now) c.in-Ok-Current.journal _ _ (subst (λ (x : Image). Rebuilds (program_of x) c.in-Ok-Current.journal c.rebuilt.result) c.image-in-Ok-Current.ensures.image c.rebuilt.ensures)
-    (current_in c.args.area _ c.in-Ok-Current.journal _ c.in-Ok-Current.field-0-is c.in-Ok-Current.ensures.whole).0
+    let there = current_in c.args.area _ c.in-Ok-Current.journal c.in-Ok-Current.recorded _ c.in-Ok-Current.field-0-is c.in-Ok-Current.ensures.whole in
+    rebuilt_stands (program_of c.args.code.now) c.in-Ok-Current.journal there.payloads _ _
+    (subst (λ (x : Image). Rebuilds (program_of x) c.in-Ok-Current.journal there.payloads c.rebuilt.result) c.image-in-Ok-Current.ensures.image (c.rebuilt.ensures there.payloads there.has)) there.holds
 
 pub returns-in-Ok-Current-clause-quiet : goal.returns-in-Ok-Current-clause-quiet
 returns-in-Ok-Current-clause-quiet g c = λ c' reads is_not. c.find.ensures.quiet
 
 pub returns-in-Ok-Current-clause-still : goal.returns-in-Ok-Current-clause-still
-returns-in-Ok-Current-clause-still g c = rebuilt_stays (program_of c.args.code.now) c.in-Ok-Current.journal _ _ _ (subst (λ (x : Image). Rebuilds (program_of x) c.in-Ok-Current.journal c.rebuilt.result) c.image-in-Ok-Current.ensures.image c.rebuilt.ensures) c.find.ensures.quiet
+returns-in-Ok-Current-clause-still g c =
+    let there = current_in c.args.area _ c.in-Ok-Current.journal c.in-Ok-Current.recorded _ c.in-Ok-Current.field-0-is c.in-Ok-Current.ensures.whole in
+    rebuilt_stays (program_of c.args.code.now) c.in-Ok-Current.journal there.payloads _ _ _
+    (subst (λ (x : Image). Rebuilds (program_of x) c.in-Ok-Current.journal there.payloads c.rebuilt.result) c.image-in-Ok-Current.ensures.image (c.rebuilt.ensures there.payloads there.has)) c.find.ensures.quiet
 
 pub returns-in-Ok-Current-clause-crash : goal.returns-in-Ok-Current-clause-crash
 returns-in-Ok-Current-clause-crash g c = unwritten _ _ c.args.area _ c.find.ensures.quiet
 
 pub returns-in-Ok-Current-clause-cause : goal.returns-in-Ok-Current-clause-cause
-returns-in-Ok-Current-clause-cause g c = rebuilt_calm (program_of c.args.code.now) c.in-Ok-Current.journal _ _ _ (subst (λ (x : Image). Rebuilds (program_of x) c.in-Ok-Current.journal c.rebuilt.result) c.image-in-Ok-Current.ensures.image c.rebuilt.ensures) c.in-Ok-Current.ensures.cause
+returns-in-Ok-Current-clause-cause g c =
+    let there = current_in c.args.area _ c.in-Ok-Current.journal c.in-Ok-Current.recorded _ c.in-Ok-Current.field-0-is c.in-Ok-Current.ensures.whole in
+    rebuilt_calm (program_of c.args.code.now) c.in-Ok-Current.journal there.payloads _ _ _
+    (subst (λ (x : Image). Rebuilds (program_of x) c.in-Ok-Current.journal there.payloads c.rebuilt.result) c.image-in-Ok-Current.ensures.image (c.rebuilt.ensures there.payloads there.has)) c.in-Ok-Current.ensures.cause
 
 -- ---- none is found
 
 pub returns-in-Err-clause-opened : goal.returns-in-Err-clause-opened
 returns-in-Err-clause-opened g c = λ c' reads.
-    let P : OpenError → Type 0 = λ e. Opens (program_of c.args.code.now) c.args.area (Err e) (area_of c.args.area c') in
-    subst P (sym c.refused_by.ensures) (not_found (program_of c.args.code.now) c.args.area c.in-Err.error (area_of c.args.area c') (c.in-Err.ensures.found c' reads))
+    let P : OpenError → Type 0 = λ e. Opens (program_of c.args.code.now) c.args.area (Err e) c' in
+    subst P (sym c.refused_by.ensures) (not_found (program_of c.args.code.now) c.args.area c.in-Err.error c' (c.in-Err.ensures.found c' reads))
 
 pub returns-in-Err-clause-room : goal.returns-in-Err-clause-room
 returns-in-Err-clause-room g c =

@@ -1,46 +1,33 @@
+use Rattle.std.proofs.Common.{refl}
 use Rattle.ob_store.specs.Stores.{IsSameStore}
 use Rattle.ob_store.specs.declared.store.Store.{Store}
-use Rattle.ob_store.proofs.Same.{same_journal, same_state, same_area, same_after, same_prepared}
+use Rattle.ob_store.proofs.Same.{same_state, same_area, same_after, same_prepared}
 use Rattle.ob_store.proofs.store.Store.reserve.Goals as goal
 
 pub returns-in_default : goal.returns-in_default
 returns-in_default c =
     let a = c.args.self.now in
     let b : Store = record { content = c.reserve.new.content; journal = a.journal } in
-    let same : IsSameStore a b = record { objects = c.reserve.ensures.objects; handles = c.reserve.ensures.handles; journal = same_journal a.journal } in
+    let same : IsSameStore a b = record { objects = c.reserve.ensures.objects; handles = c.reserve.ensures.handles; journal = refl } in
     record {
       room = tt;
       same = same;
       state = same_state a b same;
-      area = same_area a.journal b.journal same.journal;
+      area = same_area a b same;
       content = same_after a.content b.content c.args.prepared.now.delta same.objects same.handles;
-      prepared = λ table is. same_prepared table a b c.args.prepared.now same is;
-    }
-
-pub returns-in_default-reserve_record : goal.returns-in_default-reserve_record
-returns-in_default-reserve_record c =
-    let a = c.args.self.now in
-    let b : Store = record { content = c.reserve.new.content; journal = c.reserve_record.new.journal } in
-    let same : IsSameStore a b = record { objects = c.reserve.ensures.objects; handles = c.reserve.ensures.handles; journal = c.reserve_record.ensures.same } in
-    record {
-      room = tt;
-      same = same;
-      state = same_state a b same;
-      area = same_area a.journal b.journal same.journal;
-      content = same_after a.content b.content c.args.prepared.now.delta same.objects same.handles;
-      prepared = λ table is. same_prepared table a b c.args.prepared.now same is;
+      prepared = λ program is. same_prepared program a b c.args.prepared.now same is;
     }
 
 pub returns : goal.returns
 returns c =
     let a = c.args.self.now in
-    let b : Store = record { content = c.reserve.new.content; journal = c.reserve_record.new.journal } in
-    let same : IsSameStore a b = record { objects = c.reserve.ensures.objects; handles = c.reserve.ensures.handles; journal = c.reserve_record.ensures.same } in
+    let b : Store = record { content = c.reserve.new.content; journal = a.journal } in
+    let same : IsSameStore a b = record { objects = c.reserve.ensures.objects; handles = c.reserve.ensures.handles; journal = refl } in
     record {
-      room = record { content = c.in-Ok.ensures.room; journal = c.in-Ok-reserve_record.ensures.spare };
+      room = c.in-Ok.ensures.room;
       same = same;
       state = same_state a b same;
-      area = same_area a.journal b.journal same.journal;
+      area = same_area a b same;
       content = same_after a.content b.content c.args.prepared.now.delta same.objects same.handles;
-      prepared = λ table is. same_prepared table a b c.args.prepared.now same is;
+      prepared = λ program is. same_prepared program a b c.args.prepared.now same is;
     }

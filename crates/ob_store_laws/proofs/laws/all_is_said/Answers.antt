@@ -1,0 +1,5 @@
+use Rattle.ob_store_laws.proofs.Whole.{all_is_said}
+use Rattle.ob_store_laws.proofs.laws.all_is_said.Goals as goal
+
+pub returns : goal.returns
+returns c = all_is_said
