@@ -1,17 +1,10 @@
 -- Each slice that doesn't end the run of a request takes it nearer to its end.
 use Rattle.std.proofs.Common.{◌≡◌, ℕ, zero, suc, ◌*◌, ◌<◌, ◌≤◌, Bool, true, false, ◌&&◌, List, [], ◌∷◌, Option, Some, None, refl, sym, ap, ◌∙◌, subst, arith, true≢false}
 use Rattle.std.specs.Prelude.{if◌then◌else◌}
-use Rattle.ob_base.specs.declared.id.ContractId.{ContractId}
-use Rattle.ob_perm.specs.Permissions.{is_shared}
-use Rattle.ob_perm.specs.Masks.{permission_of}
 use Rattle.ob_table.specs.Tables.{ClassTable}
-use Rattle.ob_table.specs.declared.contract.ResolvedType.{ResolvedType}
-use Rattle.ob_table.specs.declared.contract.ResolvedType.TheVariants.{Int, Bool as BoolKind, Text, Reference}
-use Rattle.ob_heap_spec.specs.Values.{Value, int_value, bool_value, text_value, reference}
 use Rattle.ob_heap_spec.specs.Objects.{Object}
 use Rattle.ob_heap_spec.specs.Contents.{Content}
-use Rattle.ob_heap_spec.specs.Worlds.{ReadItem, World, first_world}
-use Rattle.ob_heap_spec.specs.Marks.{mark_shared, comes_into}
+use Rattle.ob_heap_spec.specs.Worlds.{ReadItem}
 use Rattle.ob_heap_spec.specs.Handles.{handle_at}
 use Rattle.ob_rest_spec.specs.Incoming.{IncomingReference, owner_of}
 use Rattle.ob_invocation_spec.specs.Checks.{Check, refusal_of, reads_of}
@@ -22,23 +15,20 @@ use Rattle.ob_invocation_spec.specs.Refusals.{handle_check, new_checks, call_che
 use Rattle.ob_invocation_spec.specs.Replies.{Refusal}
 use Rattle.ob_invocation_spec.specs.Requests.{Operation, new_request, call_request, disown_request, give_request, see_request, owner_request, Request}
 use Rattle.ob_invocation_spec.specs.Showing.{shown_at, shown_place}
-use Rattle.ob_code.specs.declared.image.BodyCode.{BodyCode}
 use Rattle.ob_code.specs.declared.image.Image.{Image}
-use Rattle.ob_code.specs.declared.image.ParamCode.{ParamCode}
-use Rattle.ob_code.specs.Code.{body_code}
-use Rattle.ob_code_table.specs.ImageTables.{perm_of_code, type_of_param, table_of_image}
+use Rattle.ob_code_table.specs.ImageTables.{table_of_image}
 use Rattle.ob_machine_steps.specs.Configurations.{ended, aborted, Next, goes, stops}
-use Rattle.ob_machine_steps.specs.Entries.{MachineEntry, lock_receiver, args_come_in, receiver_comes_in, comes_into_body, entry_world, Phase, starting, running, started, next_step}
+use Rattle.ob_machine_steps.specs.Entries.{Phase, starting, running, started, next_step}
 use Rattle.ob_machine_steps.specs.Measures.{longest, steps_left, LeadsAhead}
 use Rattle.ob_machine_steps.specs.Runs.{Stop, over, after_step, pays, waits, left_after, run_in}
 use Rattle.ob_machine_steps.specs.Runs as steps
-use Rattle.ob_machine_laws.proofs.Fuel.{shared_fuel}
 use Rattle.ob_machine_laws.proofs.Measuring.{lowers}
 use Rattle.ob_machine_laws.proofs.Slicing.{none_paused, over_paused, paused_same}
 use Rattle.ob_locality_laws.specs.Locality.{phase_onto}
 use Rattle.ob_request_run_spec.specs.Held.{laid_over}
 use Rattle.ob_request_run_spec.specs.Runs.{Run, opened, paused, answered, lost}
 use Rattle.ob_request_run_spec.specs.Slices.{stops_so, with_thing, refused_or, unless_refused, entered, after_entry_test, enters, begins, shows_owner, opens, entry_of, sliced, slice}
+use Rattle.ob_request_run_laws.proofs.Enough.{entry_fuel}
 use Rattle.ob_lanes_spec.specs.Measures.{Distances}
 use Rattle.ob_lanes_spec.specs.Requests.{Stores, has_ended, request_rules, steps_of_run}
 use Rattle.ob_lanes_laws.proofs.Keeping.{differ}
@@ -80,43 +70,6 @@ comes_nearer image (suc n) units p q ahead u f =
 steps_onto : (image : Image) (xs : List Object) (p : Phase) → steps_left image (phase_onto xs p) ≡ steps_left image p
 steps_onto image xs (starting e w) = refl
 steps_onto image xs (running c) = refl
-
--- A run begins with all its units.
-
-if_fuel : (b : Bool) (u w : World) → u.fuel ≡ w.fuel → (if b then u else w).fuel ≡ w.fuel
-if_fuel true u w h = h
-if_fuel false u w h = refl
-
-value_fuel : (of : ResolvedType) (v : Value) (w : World) → (comes_into of v w).fuel ≡ w.fuel
-value_fuel (Reference id p) (reference n) w = if_fuel (is_shared (permission_of p)) (mark_shared n w) w (shared_fuel w n)
-value_fuel (Reference id p) (int_value z) w = refl
-value_fuel (Reference id p) (bool_value b) w = refl
-value_fuel (Reference id p) (text_value bytes) w = refl
-value_fuel Int v w = refl
-value_fuel BoolKind v w = refl
-value_fuel Text v w = refl
-
-args_fuel : (params : List ParamCode) (args : List Value) (w : World) → (args_come_in params args w).fuel ≡ w.fuel
-args_fuel [] args w = refl
-args_fuel (p ∷ params) [] w = refl
-args_fuel (p ∷ params) (a ∷ args) w = args_fuel params args (comes_into (type_of_param p) a w) ∙ value_fuel (type_of_param p) a w
-
-receiver_fuel : (contract : ContractId) (b : BodyCode) (receiver : Option ℕ) (w : World) → (receiver_comes_in contract b receiver w).fuel ≡ w.fuel
-receiver_fuel contract b None w = refl
-receiver_fuel contract b (Some n) w = value_fuel (Reference contract (perm_of_code b.entry)) (reference n) w
-
-body_fuel : (contract : ContractId) (b : Option BodyCode) (receiver : Option ℕ) (args : List Value) (w : World) → (comes_into_body contract b receiver args w).fuel ≡ w.fuel
-body_fuel contract None receiver args w = refl
-body_fuel contract (Some b) receiver args w = args_fuel b.params args (receiver_comes_in contract b receiver w) ∙ receiver_fuel contract b receiver w
-
-locked_fuel : (locked : Bool) (receiver : Option ℕ) (w : World) → (lock_receiver locked receiver w).fuel ≡ w.fuel
-locked_fuel locked None w = refl
-locked_fuel true (Some n) w = refl
-locked_fuel false (Some n) w = refl
-
-entry_fuel : (image : Image) (e : MachineEntry) (xs : List Object) (fuel : ℕ) → (entry_world image e xs fuel).fuel ≡ fuel
-entry_fuel image e xs fuel =
-    body_fuel e.contract (body_code image e.contract e.tx) e.receiver e.args (lock_receiver e.lock e.receiver (first_world xs fuel)) ∙ locked_fuel e.lock e.receiver (first_world xs fuel)
 
 -- Runs.
 

@@ -38,7 +38,7 @@ use Rattle.ob_request_run_spec.specs.Runs.{Run, opened}
 use Rattle.ob_request_run_spec.specs.Slices.{stops_so, with_thing, refused_or, unless_refused, entered, after_entry_test, enters, begins, shows_owner, opens, slice}
 use Rattle.ob_request_run_laws.specs.Laws.{HasEnded}
 
--- Marks take no unit.
+-- Marks take no unit, so a run begins with all its units.
 
 if_fuel : (b : Bool) (u w : World) → u.fuel ≡ w.fuel → (if b then u else w).fuel ≡ w.fuel
 if_fuel true u w h = h
@@ -71,7 +71,7 @@ locked_fuel locked None w = refl
 locked_fuel true (Some n) w = refl
 locked_fuel false (Some n) w = refl
 
-entry_fuel : (image : Image) (e : MachineEntry) (xs : List Object) (fuel : ℕ) → (entry_world image e xs fuel).fuel ≡ fuel
+pub entry_fuel : (image : Image) (e : MachineEntry) (xs : List Object) (fuel : ℕ) → (entry_world image e xs fuel).fuel ≡ fuel
 entry_fuel image e xs fuel =
     body_fuel e.contract (body_code image e.contract e.tx) e.receiver e.args (lock_receiver e.lock e.receiver (first_world xs fuel)) ∙ locked_fuel e.lock e.receiver (first_world xs fuel)
 
