@@ -5,3 +5,4 @@ pub mod Walks
 pub mod AreaHeads
 pub mod Finds
 pub mod Moves
+mod Drafts

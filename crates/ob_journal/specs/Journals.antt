@@ -1,5 +1,6 @@
 -- What a journal says, and what it is asked to write.
 use Rattle.std.specs.Prelude.{ℕ, pos, ◌+ℤ◌, ◌<ℤ◌, ◌≡◌, ◌<◌, ◌≤◌, ◌+◌, ◌⊎◌, List, [], ◌∷◌, ◌++◌, length, Result, Ok, Err}
+use Rattle.ob_base.specs.Bytes.{u32_bytes}
 use Rattle.ob_disk_spec.specs.Disk.{DiskView}
 use Rattle.ob_disk_spec.specs.Durable.{Throughout}
 use Rattle.ob_journal_spec.specs.Spellings.{sized, header}
@@ -15,6 +16,7 @@ use Rattle.ob_journal.specs.declared.error.JournalError.{JournalError}
 use Rattle.ob_journal.specs.declared.error.JournalError.TheVariants.{NotStore, Damaged, Room, DiskFault, Memory}
 use Rattle.ob_journal.specs.declared.journal.Journal.{Journal}
 use Rattle.ob_journal.specs.declared.journal.Built.{Built}
+use Rattle.ob_journal.specs.declared.journal.AreaDraft.{AreaDraft}
 use Rattle.ob_journal.specs.declared.journal.BuiltArea.{BuiltArea}
 
 -- the place of a journal's area
@@ -67,6 +69,22 @@ pub record IsBuiltArea (journal : Journal) (payload : List ℕ) (built : BuiltAr
   pub serial : journal.serial <ℤ last_serial
   pub within : need_for_one journal.image.items payload ≤ journal.area
   pub is : area_built built ≡ header.bytes (journal.serial +ℤ pos 1, journal.image.items) ++ 1 ∷ (sized.bytes payload ++ 0 ∷ [])
+
+-- The front of an area for a move of this journal: a header with the next serial, if one is left, and the same image, an open gate, and four
+-- bytes for a number.
+pub record IsFront (journal : Journal) (front : List ℕ) : Type 0 where
+  pub length : length front ≡ 21 + length journal.image.items
+  pub is : journal.serial <ℤ last_serial → front ≡ header.bytes (journal.serial +ℤ pos 1, journal.image.items) ++ 1 ∷ u32_bytes 0
+
+-- an area is being built for a move of this journal, and this payload stands behind its front
+pub record IsDraftOf (journal : Journal) (payload : List ℕ) (draft : AreaDraft) : Type 0 where
+  pub front : List ℕ
+  pub begins : IsFront journal front
+  pub is : draft.bytes.items ≡ front ++ payload
+
+-- an area is being built for a move of this journal
+abbrev pub IsDraftFor : Journal → AreaDraft → Type 0
+IsDraftFor journal draft = (payload : List ℕ) × IsDraftOf journal payload draft
 
 -- it was built for this journal
 abbrev pub IsBuiltFor : Journal → Built → Type 0

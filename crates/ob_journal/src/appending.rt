@@ -1,5 +1,6 @@
 //! A record is put on a disk.
-ghost use Rattle.std.specs.Prelude.{◌≡◌, ◌+◌, ◌<◌, ◌≤◌, ◌^◌, ◌++◌, ◌∷◌, [], ℕ, List, Bool, length, IfOk, OnOk};
+ghost use Rattle.std.specs.Prelude.{◌≡◌, ◌+◌, ◌<◌, ◌≤◌, ◌^◌, ◌++◌, ◌∷◌, [], ℕ, List, Bool, length, take, drop, IfOk, OnOk};
+ghost use Rattle.ob_base.specs.Bytes.{u32_bytes};
 ghost use Rattle.ob_disk_spec.specs.Disk.{Reads, WrittenOver};
 ghost use Rattle.ob_disk_spec.specs.Durable.{Throughout, During, KeepsBehind};
 ghost use Rattle.ob_io.specs.Causes.{HasCause};
@@ -40,6 +41,27 @@ pub fn put_sized(out: &mut Vec<u8>, payload: &[u8]) -> Result<(), Memory>
 {
     put_u32(out, payload.len() as u32)?;
     out.extend_from_slice(payload)?;
+    Ok(())
+}
+
+// Puts a number over the four bytes at an offset.
+fn set_u32(bytes: &mut [u8], at: usize, value: u32)
+    requires { at + 4 ≤ length bytes.old }
+    ensures { bytes.new ≡ take at bytes.old ++ (u32_bytes value ++ drop (at + 4) bytes.old) }
+{
+    bytes[at..at + 4].copy_from_slice(&value.to_be_bytes());
+}
+
+/// Makes a payload, which stands four bytes behind an offset, the record there: puts the number of its bytes into those four, and
+/// a closed gate behind it.
+pub fn close_record(bytes: &mut Vec<u8>, at: usize) -> Result<(), Memory>
+    requires within { at + 4 ≤ length bytes.old.items }
+    requires small { length bytes.old.items < 2 ^ 32 }
+    ensures { OnOk result (bytes.new.items ≡ take at bytes.old.items ++ (sized.bytes (drop (at + 4) bytes.old.items) ++ 0 ∷ [])) }
+{
+    let count = bytes.len() - (at + 4);
+    set_u32(bytes, at, count as u32);
+    bytes.push(0)?;
     Ok(())
 }
 

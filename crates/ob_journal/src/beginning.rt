@@ -3,14 +3,15 @@ ghost use Rattle.std.specs.Prelude.{◌≡◌, ◌+◌, ◌<◌, ◌≤◌, ◌^
 ghost use Rattle.ob_disk_spec.specs.Disk.{Reads, WrittenOver};
 ghost use Rattle.ob_disk_spec.specs.Durable.{May, Throughout, During, KeepsBehind};
 ghost use Rattle.ob_io.specs.Causes.{HasCause};
-ghost use Rattle.ob_journal_spec.specs.Spellings.{sized, header};
+ghost use Rattle.ob_base.specs.Bytes.{u32_bytes};
+ghost use Rattle.ob_journal_spec.specs.Spellings.{header};
 ghost use Rattle.ob_journal_spec.specs.Areas.{begun};
 ghost use Rattle.ob_journal_spec.specs.Disks.{first, IsBlankOrBegunDisk};
 ghost use Rattle.ob_journal.specs.Moments.{IsFresh, IsHeld, LooksClosed, OpensByOne};
 ghost use Rattle.ob_journal.specs.Opening.{Opening, IsStart, IsOpening, IsAsBefore, IsNew, IsNewOrNot, IsReady, IsClosedFor, IsShut, ClosedOver, AreaOver, IsFirstOf};
 
 use crate::appending::put_sized;
-use ob_base::{Failed, Memory, put_i64};
+use ob_base::{Failed, Memory, put_i64, put_u32};
 use ob_disk::{Disk, durable_write, settle};
 use std::alloc::Global;
 
@@ -36,17 +37,16 @@ pub fn header_of(alloc: Global, serial: i64, image: &[u8]) -> Result<Vec<u8>, Me
     Ok(bytes)
 }
 
-/// The header of an area, one record of this payload behind an open gate, and a closed gate.
-pub fn area_of(alloc: Global, serial: i64, image: &[u8], payload: &[u8]) -> Result<Vec<u8>, Memory>
-    requires image { length image.now < 2 ^ 32 }
-    requires payload { length payload.now < 2 ^ 32 }
-    ensures { IfOk result (λ bytes. bytes.items ≡ header.bytes (serial, image.now) ++ 1 ∷ (sized.bytes payload.now ++ 0 ∷ [])) }
+/// The header of an area, an open gate, and four bytes for the number of the bytes of the payload that is to follow. They have room
+/// for so many in all, so that they needn't be copied as they grow.
+pub fn front_of(alloc: Global, serial: i64, image: &[u8], room: usize) -> Result<Vec<u8>, Memory>
+    requires { length image.now < 2 ^ 32 }
+    ensures { IfOk result (λ bytes. bytes.items ≡ header.bytes (serial, image.now) ++ 1 ∷ u32_bytes 0) }
 {
-    let mut bytes = Vec::new(alloc);
+    let mut bytes = Vec::with_capacity(alloc, room)?;
     put_header(&mut bytes, serial, image)?;
     bytes.push(1)?;
-    put_sized(&mut bytes, payload)?;
-    bytes.push(0)?;
+    put_u32(&mut bytes, 0)?;
     Ok(bytes)
 }
 

@@ -1,8 +1,9 @@
 //! The journal.
-ghost use Rattle.std.specs.Prelude.{◌+◌, ◌<◌, ◌≤◌, ◌^◌, ◌≤ℤ◌, pos, length};
+ghost use Rattle.std.specs.Prelude.{◌≡◌, ◌+◌, ◌<◌, ◌≤◌, ◌^◌, ◌≤ℤ◌, ◌<ℤ◌, ◌+ℤ◌, pos, length};
+ghost use Rattle.ob_journal_spec.specs.Lasting.{last_serial};
 
-use crate::appending::{put_record, record_of};
-use crate::beginning::{area_of, header_of, open_first, put_area};
+use crate::appending::{close_record, put_record, record_of};
+use crate::beginning::{front_of, header_of, open_first, put_area};
 use crate::error::{AreaFault, BuildError, DiskFault, JournalError, ReadFault};
 use crate::finding::{look_at_both, measure, read_area};
 use crate::heads::Current;
@@ -35,10 +36,28 @@ pub struct Built {
     bytes: Vec<u8>,
 }
 
+/// The front of an area that is being built for a move, up to the payload of its one record.
+#[derive(Drop)]
+pub struct AreaDraft {
+    /// The bytes so far. The payload is to be put behind them.
+    pub bytes: Vec<u8>,
+}
+
 /// An area with one record that is built for a move and not yet written.
 #[derive(Drop)]
 pub struct BuiltArea {
     bytes: Vec<u8>,
+}
+
+// The serial that follows another one. The last one is followed by none, and answered itself.
+fn next_serial(serial: i64) -> i64
+    ensures { serial <ℤ last_serial → result ≡ serial +ℤ pos 1 }
+{
+    if serial == i64::MAX {
+        serial
+    } else {
+        serial + 1
+    }
 }
 
 /// What is found on a disk.
@@ -62,7 +81,7 @@ impl Journal {
     ghost use Rattle.ob_journal.specs.Places.{place_in};
     ghost use Rattle.ob_journal.specs.Reading.{Counts};
     ghost use Rattle.ob_journal.specs.Rooms.{StaysWithoutRoom, NeedsNoRoom};
-    ghost use Rattle.ob_journal.specs.Journals.{place_of, image_of, gate_of, next_offset, end_offset, area_size, journaled, Holds, bytes_built, IsBuilt, IsBuiltArea, IsBuiltFor, IsAreaFor, Builds, BuildsArea, IsAppended, IsMoved, MovedOver, Begins};
+    ghost use Rattle.ob_journal.specs.Journals.{place_of, image_of, gate_of, next_offset, end_offset, area_size, journaled, Holds, bytes_built, IsBuilt, IsBuiltArea, IsBuiltFor, IsAreaFor, IsFront, IsDraftOf, IsDraftFor, Builds, BuildsArea, IsAppended, IsMoved, MovedOver, Begins};
 
     // The journal of the area that is current, and its records.
     fn current<D: Disk>(
@@ -224,6 +243,33 @@ impl Journal {
         Ok(Built { bytes })
     }
 
+    /// Begins to build the other area for a move. The payload of its one record is to be put behind the draft's bytes, so that
+    /// it is written once. They have room for a whole area.
+    pub fn draft_area(&self, alloc: Global) -> Result<AreaDraft, Memory>
+        ensures { IfOk result (λ draft. IsFront self.now draft.bytes.items) }
+    {
+        let serial = next_serial(self.serial);
+        let bytes = front_of(alloc, serial, self.image.as_slice(), self.area as usize)?;
+        Ok(AreaDraft { bytes })
+    }
+
+    /// Builds the other area for a move of a draft with the payload of its one record. `Room` where it would be larger than an
+    /// area may be, or this one has the last serial.
+    pub fn finish_area(&self, draft: AreaDraft) -> Result<BuiltArea, BuildError>
+        requires { IsDraftFor self.now draft }
+        ensures { (payload : List ℕ) → IsDraftOf self.now payload draft → BuildsArea self.now payload result }
+    {
+        let mut bytes = draft.bytes;
+        let need = bytes.len() as u64 + 2;
+        if need > self.area || self.serial == i64::MAX {
+            return Err(BuildError::Room(need, self.area));
+        }
+        let Ok(()) = close_record(&mut bytes, self.image.len() + 17) else {
+            return Err(BuildError::Memory);
+        };
+        Ok(BuiltArea { bytes })
+    }
+
     /// Builds the other area for a move, with one record of a payload. `Room` where it would be larger than an area may be, or
     /// this one has the last serial.
     pub fn build_area(&self, alloc: Global, payload: &[u8]) -> Result<BuiltArea, BuildError>
@@ -233,10 +279,13 @@ impl Journal {
         if need > self.area || self.serial == i64::MAX {
             return Err(BuildError::Room(need, self.area));
         }
-        let Ok(bytes) = area_of(alloc, self.serial + 1, self.image.as_slice(), payload) else {
+        let Ok(mut draft) = self.draft_area(alloc) else {
             return Err(BuildError::Memory);
         };
-        Ok(BuiltArea { bytes })
+        if draft.bytes.extend_from_slice(payload).is_err() {
+            return Err(BuildError::Memory);
+        }
+        self.finish_area(draft)
     }
 
     /// Appends a record. At `Ok` it is there for good. A crash in it, and an `Err`, leave the disk with it or without it, and

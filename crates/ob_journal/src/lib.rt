@@ -13,6 +13,6 @@ mod recorded;
 mod records;
 
 pub use error::{BuildError, DiskFault, JournalError};
-pub use journal::{Built, BuiltArea, Found, Journal};
+pub use journal::{AreaDraft, Built, BuiltArea, Found, Journal};
 pub use recorded::Recorded;
 pub use records::first_record;
