@@ -1,6 +1,15 @@
 pub mod ValuesLemmas
-pub mod ScanningLemmas
+pub mod TurnLemmas
 pub mod SeenLemmas
 pub mod TallyLaws
 pub mod NotingLemmas
 pub mod RestLemmas
+pub mod PlacesLemmas
+pub mod WalkLemmas
+pub mod TakingLemmas
+pub mod GatherLemmas
+pub mod OwnersLemmas
+pub mod OrderLemmas
+pub mod SourceLemmas
+pub mod ApplyLemmas
+pub mod CountingLemmas

@@ -22,7 +22,7 @@ use Rattle.ob_owners.specs.declared.tally.Holding.{Holding}
 use Rattle.ob_owners.specs.declared.tally.Tally.{Tally}
 use Rattle.ob_owners.specs.Noting.{holding_of_field, holding_of_handle, holdings, tallies_with, after_holdings}
 use Rattle.ob_owners.specs.Referring.{references_by}
-use Rattle.ob_owners.proofs.ScanningLemmas.{rest_turn}
+use Rattle.ob_owners.proofs.TurnLemmas.{rest_turn}
 use Rattle.ob_owners.proofs.SeenLemmas.{contract_by}
 use Rattle.ob_owners.proofs.TallyLaws.{after_append}
 

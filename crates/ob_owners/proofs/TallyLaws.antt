@@ -261,7 +261,7 @@ many_is zero = refl
 many_is (suc zero) = refl
 many_is (suc (suc k)) = grind (arith, common_steps)
 
-zero_is : (k : ℕ) → is_zero (owner_count k) ≡ (k == 0)
+pub zero_is : (k : ℕ) → is_zero (owner_count k) ≡ (k == 0)
 zero_is zero = refl
 zero_is (suc zero) = refl
 zero_is (suc (suc k)) = grind (arith, common_steps)

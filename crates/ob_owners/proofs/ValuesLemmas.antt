@@ -16,7 +16,7 @@ use Rattle.ob_heap_spec.specs.Objects.{is_available}
 use Rattle.ob_code_table.specs.Images.{is_available_in}
 use Rattle.ob_code_table.specs.ImageTables.{contract_of_code, field_of_code}
 use Rattle.ob_rest_spec.specs.References.{available_value}
-use Rattle.ob_owners.specs.Scanning.{entry_at}
+use Rattle.ob_owners.specs.Entries.{entry_at}
 
 entry_number : (k : ℕ) (es : List (FieldId × Value)) → IfSome (entry_at k es) (λ e. e.0.0 ≡ k)
 entry_number k [] = tt

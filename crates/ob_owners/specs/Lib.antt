@@ -1,6 +1,12 @@
 pub mod Spots
-pub mod Scanning
+pub mod Entries
 pub mod Referring
 pub mod Tallies
 pub mod Noting
 pub mod Answers
+pub mod Places
+pub mod Owning
+pub mod Order
+pub mod Indexes
+pub mod Moving
+pub mod Counts

@@ -1,20 +1,28 @@
 //! Where the owner of an object stands in a store, and whether a store is at rest.
 #![tactic(auto)]
 
+mod counts;
+mod declared;
 mod error;
-mod fields;
+mod gathering;
 mod index;
+mod mode;
+mod moving;
+mod order;
+mod owners;
+mod places;
 mod references;
 mod rest;
-mod scan;
 mod seen;
 mod spot;
 mod tally;
 mod values;
+mod walking;
 
+pub use counts::{StoreCounts, count_store};
 pub use error::RestError;
 pub use index::Index;
+pub use owners::Owners;
 pub use rest::check_at_rest;
-pub use scan::{Scan, owner_scan};
 pub use spot::Spot;
 pub use values::available;

@@ -12,7 +12,7 @@ ghost use Rattle.ob_owners.specs.Referring.{field_reference_of, references_by};
 ghost use Rattle.ob_owners.specs.Tallies.{AreTallies};
 ghost use Rattle.ob_owners.specs.Noting.{empty_tally, one_owner_more, with_holding, tallies_with, after_holdings, holding_of_field, holding_of_handle, holdings};
 
-use crate::fields::is_owned;
+use crate::mode::is_owned;
 use crate::references::{FieldReference, reference_at};
 use crate::seen::is_in_states;
 use ob_base::{Label, Memory, Mode, ObjectId};

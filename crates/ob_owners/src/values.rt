@@ -6,7 +6,7 @@ ghost use Rattle.ob_heap.specs.Plain.{object_of, value_of};
 ghost use Rattle.ob_code_table.specs.ImageTables.{contract_of_code};
 ghost use Rattle.ob_code_table.specs.Images.{is_available_in};
 ghost use Rattle.ob_rest_spec.specs.References.{available_value};
-ghost use Rattle.ob_owners.specs.Scanning.{entry_at};
+ghost use Rattle.ob_owners.specs.Entries.{entry_at};
 
 use ob_base::FieldId;
 use ob_code::{ContractCode, FieldCode};

@@ -8,7 +8,7 @@ ghost use Rattle.ob_code_table.specs.ImageTables.{table_of_image};
 ghost use Rattle.ob_machine_meaning.specs.Meanings.{machine_invocation};
 ghost use Rattle.ob_rest_spec.specs.AtRest.{IsStoreAtRest};
 ghost use Rattle.ob_store_laws.specs.Recorded.{IsStorable};
-ghost use Rattle.ob_store.specs.Stores.{area_of_store, kept_of, program_of, state_of, HasImage};
+ghost use Rattle.ob_store.specs.Stores.{area_of_store, kept_of, program_of, state_of, HasImage, TellsOwners};
 ghost use Rattle.ob_wire.specs.Meanings.{request_of};
 ghost use Rattle.ob_wire.specs.Reading.{value_of};
 ghost use Rattle.ob_exec_handles.specs.Coming.{ComesTo, IsInLimits};
@@ -23,7 +23,6 @@ use ob_base::Memory;
 use ob_exec::answer;
 use ob_exec_entries::Names;
 use ob_heap::Delta;
-use ob_owners::Scan;
 use ob_store::{PrepareError, Prepared, Store};
 use ob_verify::Verified;
 use ob_wire::{Answer, Cause, Refusal, Reply, Request, WireError, read_request, reply_bytes};
@@ -87,7 +86,7 @@ fn lack_room(alloc: Global, request: &Request, need: u64, size: u64) -> Result<R
     })
 }
 
-// What a request comes to on a store, where the owner of an object is looked for among all places.
+// What a request comes to on a store, which tells the owners of its objects.
 fn find_answer(
     alloc: Global,
     code: &Verified,
@@ -97,6 +96,7 @@ fn find_answer(
     request: &Request,
 ) -> Result<(Reply, Delta), Memory>
     requires names { IsNamesOf names.now code.now }
+    requires owners { TellsOwners (program_of code.now) store.now }
     requires right { IsInLimits (machine_invocation code.now (content_of (kept_of store.now)) (request_of request.now) fuel) }
     ensures id { IfOk result (λ found. found.0.id ≡ Some request.now.id) }
     ensures answer { IfOk result (λ found. ComesTo
@@ -104,11 +104,7 @@ fn find_answer(
         (kept_of store.now) found.0.answer found.1) }
 {
     let content = store.content();
-    let owners = Scan {
-        code: code.image(),
-        content,
-    };
-    let (reply, delta, _spent) = answer(alloc, code, names, content, &owners, request, fuel)?;
+    let (reply, delta, _spent) = answer(alloc, code, names, content, store, request, fuel)?;
     Ok((reply, delta))
 }
 
@@ -124,6 +120,7 @@ fn ready_request(
     requires names { IsNamesOf names.now code.now }
     requires storable { IsStorable (table_of_image code.now) }
     requires image { HasImage (program_of code.now) store.now }
+    requires owners { TellsOwners (program_of code.now) store.now }
     requires at_rest { IsStoreAtRest (table_of_image code.now) (content_of (kept_of store.now)) }
     requires rests { KeepsStoreAtRest (table_of_image code.now)
         (machine_invocation code.now (content_of (kept_of store.now)) (request_of request.now) fuel) }
@@ -157,6 +154,7 @@ fn ready_line(
     requires names { IsNamesOf names.now code.now }
     requires servable { IsServable code.now }
     requires image { HasImage (program_of code.now) store.now }
+    requires owners { TellsOwners (program_of code.now) store.now }
     requires at_rest { IsStoreAtRest (table_of_image code.now) (content_of (kept_of store.now)) }
     ensures { IfOk result (λ ready. GivesItem (program_of code.now) store.now
         (item_of_asked (by_machine code.now fuel (area_of_store store.now)) (state_of store.now) (asked_by_value (value_of line.now)))
@@ -184,6 +182,7 @@ pub fn make_ready(
     requires names { IsNamesOf names.now code.now }
     requires servable { IsServable code.now }
     requires image { HasImage (program_of code.now) store.now }
+    requires owners { TellsOwners (program_of code.now) store.now }
     requires at_rest { IsStoreAtRest (table_of_image code.now) (content_of (kept_of store.now)) }
     ensures { IfOk result (λ ready. (full : List ℕ) → IsFull is_long line.now full →
         Readies (program_of code.now) (by_machine code.now fuel (area_of_store store.now)) store.now full ready) }

@@ -1,14 +1,15 @@
 -- What is built of a delta, and what it makes of the disk.
-use Rattle.std.proofs.Common.{◌≡◌, ℕ, ◌+◌, ◌<◌, ◌≤◌, ◌⊎◌, inl, inr, List, [], Option, Some, Result, Ok, Err, sym, subst, arith}
+use Rattle.std.proofs.Common.{◌≡◌, ℕ, ◌+◌, ◌<◌, ◌≤◌, ◌⊎◌, inl, inr, List, [], ◌++◌, Option, Some, Result, Ok, Err, sym, subst, arith}
 use Rattle.ob_disk_spec.specs.Disk.{DiskView}
 use Rattle.ob_disk_spec.specs.Durable.{During, KeepsBehind}
 use Rattle.ob_disk_spec.proofs.Behind.{behind_more}
 use Rattle.ob_journal_spec.specs.Disks.{Place, first, second, start_of}
 use Rattle.ob_journal_spec.specs.Lasting.{last_serial}
-use Rattle.ob_journal.specs.Journals.{journaled, area_size, place_of, image_of, end_offset, need_for_one, Holds, BuildsArea}
+use Rattle.ob_journal.specs.Journals.{journaled, area_size, place_of, image_of, end_offset, need_for_one, Holds, BuildsArea, IsFront, IsDraftOf}
 use Rattle.ob_journal.specs.declared.error.BuildError.{BuildError}
 use Rattle.ob_journal.specs.declared.error.BuildError.TheVariants as of_build
 use Rattle.ob_journal.specs.declared.journal.Journal.{Journal}
+use Rattle.ob_journal.specs.declared.journal.AreaDraft.{AreaDraft}
 use Rattle.ob_journal.specs.declared.journal.BuiltArea.{BuiltArea}
 use Rattle.ob_store.specs.Preparing.{IsRecordIn, BuildsMove}
 use Rattle.ob_store.specs.Committing.{HoldsIn, StandsIn}
@@ -27,13 +28,16 @@ lacks_or : (need size m n : ℕ) (P : Type 0) → need ≡ m → size ≡ n → 
 lacks_or need size m n P a b (inl less) = inl (omega (arith, a, b, less))
 lacks_or need size m n P a b (inr other) = inr other
 
+-- the payload of all stands behind the front
+pub drafted : (journal : Journal) (front all : List ℕ) (draft : AreaDraft) → IsFront journal front → draft.bytes.items ≡ front ++ all → IsDraftOf journal all draft
+drafted journal front all draft begins is = record { front = front; begins = begins; is = is }
+
 -- what building a move answered
-pub move_built : (journal : Journal) (payload all : List ℕ) (r : Result BuiltArea BuildError) → payload ≡ all → BuildsArea journal payload r → BuildsMove journal all r
-move_built journal payload all (Ok built) is builds = subst (λ (p : List ℕ). BuildsArea journal p (Ok built)) is builds
-move_built journal payload all (Err (of_build.Room need size)) is builds =
-    let there : BuildsArea journal all (Err (of_build.Room need size)) = subst (λ (p : List ℕ). BuildsArea journal p (Err (of_build.Room need size))) is builds in
-    lacks_or need size (need_for_one (image_of journal) all) (area_size journal) ((journaled journal []).serial ≡ last_serial) there.0 there.1 there.2
-move_built journal payload all (Err of_build.Memory) is builds = tt
+pub move_built : (journal : Journal) (all : List ℕ) (r : Result BuiltArea BuildError) → BuildsArea journal all r → BuildsMove journal all r
+move_built journal all (Ok built) builds = builds
+move_built journal all (Err (of_build.Room need size)) builds =
+    lacks_or need size (need_for_one (image_of journal) all) (area_size journal) ((journaled journal []).serial ≡ last_serial) builds.0 builds.1 builds.2
+move_built journal all (Err of_build.Memory) builds = tt
 
 -- ---- what is written to a journal, where there is one and something is
 

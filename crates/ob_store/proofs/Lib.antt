@@ -5,3 +5,4 @@ pub mod Built
 pub mod Committing
 pub mod Opened
 pub mod Differing
+pub mod ReadingLemmas

@@ -33,8 +33,8 @@ use Rattle.ob_store_spec.specs.Payloads.{Changes}
 use Rattle.ob_store_spec.specs.Changes.{SaysChanges, LeadFrom, with_changes}
 use Rattle.ob_store_spec.specs.Stores.{StoreProgram, IsStoreOf}
 use Rattle.ob_store_laws.specs.Recorded.{changes_of, content_with}
-use Rattle.ob_store.specs.Stores.{gate_of, serial_of, area_of_store, IsKeptIn, StandsOn}
-use Rattle.ob_store.specs.Opening.{Opens, FaultsAs, refused_by, IsKeptContent, IsFollowed, Follows, IsFirstBad, Replays, first_gate, Rebuilds, BeginsStore, LacksArea, StaysUnlessBlank, StaysWithoutRoom}
+use Rattle.ob_store.specs.Stores.{gate_of, serial_of, area_of_store, IsKeptAs, IsKeptIn, StandsOn}
+use Rattle.ob_store.specs.Opening.{Opens, FaultsAs, refused_by, IndexesOrLacks, IsKeptContent, IsFollowed, Follows, IsFirstBad, Replays, first_gate, Rebuilds, BeginsStore, LacksArea, StaysUnlessBlank, StaysWithoutRoom}
 use Rattle.ob_store.specs.declared.store.Store.{Store}
 use Rattle.ob_store.specs.declared.error.OpenError.{OpenError}
 use Rattle.ob_store.specs.declared.error.OpenError.TheVariants.{NotStore, Damaged, OtherProgram, NotAtRest, Room, DiskFault, Memory}
@@ -231,9 +231,22 @@ module _ (program : StoreProgram) (journal : Journal) (payloads : List (List ℕ
   rebuilt_rests (Err e) is = tt
 
   pub rebuilt_stands : (r : Result Store OpenError) (v : DiskView) → Rebuilds program journal payloads r → Holds journal payloads v → IfOk r (λ store. StandsOn program store v)
-  rebuilt_stands (Ok store) v is holds =
-      subst (λ (j : Option Journal). IsKeptIn program (content_of store.content) j v) (sym is.journal_is) (record { payloads = payloads; holds = holds; kept = is.kept })
+  rebuilt_stands (Ok store) v is holds = record {
+    owners = is.owners;
+    kept = subst (λ (j : Option Journal). IsKeptIn program (content_of store.content) j v) (sym is.journal_is) (record { payloads = payloads; holds = holds; kept = is.kept });
+  }
   rebuilt_stands (Err e) v is holds = tt
+
+-- a content to which the records lead and their journal became a store
+pub rebuilt_by : (program : StoreProgram) (journal : Journal) (payloads : List (List ℕ)) (content : Stored) (r : Result Store OpenError) → IndexesOrLacks program content journal r
+    → IsKeptAs program (content_of content) (journaled journal payloads) → IsStoreAtRest program.table (content_of content) → Rebuilds program journal payloads r
+rebuilt_by program journal payloads content (Ok store) is kept rests = record {
+  journal_is = is.journal_is;
+  kept = subst (λ (x : Stored). IsKeptAs program (content_of x) (journaled journal payloads)) (sym is.content_is) kept;
+  at_rest = subst (λ (x : Stored). IsStoreAtRest program.table (content_of x)) (sym is.content_is) rests;
+  owners = is.owners rests.is_content;
+}
+rebuilt_by program journal payloads content (Err e) is kept rests = subst (λ (x : OpenError). Rebuilds program journal payloads (Err x)) (sym is) tt
 
 pub not_replayed : (program : StoreProgram) (journal : Journal) (payloads : List (List ℕ)) (e : OpenError) → Replays program.table (first_gate journal) payloads (Err e)
     → image_of journal ≡ program.image → Rebuilds program journal payloads (Err e)

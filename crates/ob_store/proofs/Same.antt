@@ -12,9 +12,10 @@ use Rattle.ob_heap.specs.declared.object.Handle.{Handle}
 use Rattle.ob_heap_spec.specs.Contents.{Content}
 use Rattle.ob_journal.specs.Journals.{area_size}
 use Rattle.ob_journal.specs.declared.journal.Journal.{Journal}
+use Rattle.ob_owners.specs.Indexes.{IsIndexOf}
 use Rattle.ob_store_spec.specs.Stores.{StoreProgram, StoreState}
 use Rattle.ob_store_laws.specs.Recorded.{content_with}
-use Rattle.ob_store.specs.Stores.{gate_of, serial_of, state_of, area_of_store, HasImageIn, IsSameStore, IsKeptIn, StandsOn}
+use Rattle.ob_store.specs.Stores.{gate_of, serial_of, state_of, area_of_store, HasImageIn, IsSameStore, IsKeptIn, TellsOwners, StandsOn}
 use Rattle.ob_store.specs.Preparing.{IsBuiltFor, SaysWhatDiffers, IsPrepared}
 use Rattle.ob_store.specs.declared.store.Store.{Store}
 use Rattle.ob_store.specs.declared.store.Prepared.{Prepared}
@@ -69,7 +70,14 @@ same_prepared program a b prepared same is =
           (subst (λ (x : Content). SaysWhatDiffers program a.journal x (content_with a.content prepared.delta) prepared.built) before is.says));
     }
 
-pub same_stands : (program : StoreProgram) (a b : Store) (v : DiskView) → IsSameStore a b → StandsOn program a v → StandsOn program b v
-same_stands program a b v same stands =
-    subst (λ (j : Option Journal). IsKeptIn program (content_of b.content) j v) (sym same.journal)
-    (subst (λ (x : Content). IsKeptIn program x a.journal v) (sym (same_content a.content b.content same.objects same.handles)) stands)
+pub same_stands : (program : StoreProgram) (a b : Store) (v : DiskView) → IsSameStore a b → TellsOwners program b → StandsOn program a v → StandsOn program b v
+same_stands program a b v same owners stands = record {
+  owners = owners;
+  kept = subst (λ (j : Option Journal). IsKeptIn program (content_of b.content) j v) (sym same.journal)
+      (subst (λ (x : Content). IsKeptIn program x a.journal v) (sym (same_content a.content b.content same.objects same.handles)) stands.kept);
+}
+
+-- an index of one of them is one of the other
+pub same_owners : (program : StoreProgram) (a b : Store) → IsSameStore a b → IsIndexOf program.table (content_of a.content) b.owners → TellsOwners program b
+same_owners program a b same is =
+    subst (λ (x : Content). IsIndexOf program.table x b.owners) (sym (same_content a.content b.content same.objects same.handles)) is

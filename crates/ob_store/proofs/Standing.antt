@@ -46,7 +46,7 @@ stands_by program content (Some j) size v is kept rest =
 -- a disk that represents a store at rest is one, as it reads and in each image
 pub stores_stand : (program : StoreProgram) (store : Store) (size : ℕ) (v : DiskView) → area_of_store store ≡ Some size → StandsOn program store v
     → IsStoreAtRest program.table (content_of store.content) → Throughout v (λ c. IsStoreOf program size c (state_of store))
-stores_stand program store size v area stands rest = stands_by program (content_of store.content) store.journal size v area stands rest.at_rest
+stores_stand program store size v area stands rest = stands_by program (content_of store.content) store.journal size v area stands.kept rest.at_rest
 
 image_in : (program : StoreProgram) (content : Content) (journal : Option Journal) (v : DiskView) → IsKeptIn program content journal v → HasImageIn program journal
 image_in program content None v kept = tt
@@ -54,7 +54,7 @@ image_in program content (Some j) v kept = kept.kept.image
 
 -- a store that a disk represents is one of the program
 pub stands_image : (program : StoreProgram) (store : Store) (v : DiskView) → StandsOn program store v → HasImage program store
-stands_image program store v stands = image_in program (content_of store.content) store.journal v stands
+stands_image program store v stands = image_in program (content_of store.content) store.journal v stands.kept
 
 -- where no call of the disk is made
 pub behind_in : (journal : Option Journal) (v : DiskView) → KeepsBehindIn journal v v

@@ -3,3 +3,4 @@ pub mod Opening
 pub mod Writing
 pub mod Preparing
 pub mod Committing
+pub mod Reading

@@ -1,5 +1,5 @@
 -- What opening a store answers (this project's own).
-use Rattle.std.specs.Prelude.{ℕ, pos, ◌≡◌, ◌<◌, ◌≤◌, ◌+◌, ◌⊎◌, ⊤, List, [], ◌∷◌, ◌++◌, length, Some, Result, Ok, Err}
+use Rattle.std.specs.Prelude.{ℕ, pos, ◌≡◌, ◌<◌, ◌≤◌, ◌+◌, ◌⊎◌, ⊤, List, [], ◌∷◌, ◌++◌, length, Option, Some, Result, Ok, Err}
 use Rattle.ob_base.specs.Limits.{most_objects, most_handles}
 use Rattle.ob_table.specs.Tables.{ClassTable}
 use Rattle.ob_disk_spec.specs.Disk.{DiskView}
@@ -20,7 +20,7 @@ use Rattle.ob_store_payload.specs.declared.error.PayloadError.TheVariants as of_
 use Rattle.ob_store_spec.specs.Payloads.{Changes}
 use Rattle.ob_store_spec.specs.Changes.{SaysChanges, with_changes, LeadFrom}
 use Rattle.ob_store_spec.specs.Stores.{StoreProgram, StoreState, IsStoreOf, IsRefused, not_store, damaged, other_program, not_at_rest}
-use Rattle.ob_store.specs.Stores.{state_of, IsKeptAs}
+use Rattle.ob_store.specs.Stores.{state_of, TellsOwners, IsKeptAs}
 use Rattle.ob_store.specs.declared.store.Store.{Store}
 use Rattle.ob_store.specs.declared.error.OpenError.{OpenError}
 use Rattle.ob_store.specs.declared.error.OpenError.TheVariants.{NotStore, Damaged, OtherProgram, NotAtRest, Room, DiskFault, Memory}
@@ -94,11 +94,23 @@ abbrev pub IsKeptIfOk : ClassTable → Result Stored OpenError → Type 0
 IsKeptIfOk table (Ok stored) = IsKeptContent table (content_of stored)
 IsKeptIfOk table (Err error) = ⊤
 
+-- a store has this content and this journal, where there is one, and tells the owners of a content of the class table
+pub record IsIndexed (program : StoreProgram) (content : Stored) (journal : Option Journal) (store : Store) : Type 0 where
+  pub content_is : store.content ≡ content
+  pub journal_is : store.journal ≡ journal
+  pub owners : IsContent program.table (content_of content) → TellsOwners program store
+
+-- what putting a content and a journal together to a store answers
+abbrev pub IndexesOrLacks : StoreProgram → Stored → Journal → Result Store OpenError → Type 0
+IndexesOrLacks program content journal (Ok store) = IsIndexed program content (Some journal) store
+IndexesOrLacks program content journal (Err error) = error ≡ Memory
+
 -- a store is kept in a journal with these payloads, is one of this program, and is at rest
 pub record IsRebuilt (program : StoreProgram) (journal : Journal) (payloads : List (List ℕ)) (store : Store) : Type 0 where
   pub journal_is : store.journal ≡ Some journal
   pub kept : IsKeptAs program (content_of store.content) (journaled journal payloads)
   pub at_rest : IsStoreAtRest program.table (content_of store.content)
+  pub owners : TellsOwners program store
 
 -- A journal with these payloads is one of this program, and the content to which it leads isn't at rest: this is the first object that
 -- fails.
@@ -129,6 +141,7 @@ pub record IsBegun (program : StoreProgram) (size : ℕ) (store : Store) : Type 
   pub says : journaled journal [] ≡ begun program.image
   pub gate : gate_of journal ≡ next_gate (begun program.image)
   pub area : area_size journal ≡ size
+  pub owners : TellsOwners program store
 
 -- what beginning a store answers: `Room` exactly where the area is smaller than a header with its two gates
 abbrev pub BeginsStore : StoreProgram → ℕ → Result Store OpenError → Type 0

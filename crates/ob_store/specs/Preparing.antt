@@ -11,6 +11,7 @@ use Rattle.ob_journal.specs.declared.error.BuildError.TheVariants as of_build
 use Rattle.ob_journal.specs.declared.journal.Journal.{Journal}
 use Rattle.ob_journal.specs.declared.journal.Built.{Built}
 use Rattle.ob_journal.specs.declared.journal.BuiltArea.{BuiltArea}
+use Rattle.ob_owners.specs.Indexes.{IsReadyFor}
 use Rattle.ob_store_spec.specs.Between.{changes_between}
 use Rattle.ob_store_spec.specs.Settling.{say_nothing, payload_between, payload_of_all, settled}
 use Rattle.ob_store_spec.specs.Stores.{StoreProgram}
@@ -112,6 +113,7 @@ Prepares program store delta (Err (Room need size)) =
     settled program (area_of_store store) (state_of store) (content_with store.content delta) ≡ Err (need, size)
 Prepares program store delta (Err Memory) = ⊤
 
--- all memory is there that committing takes
-abbrev pub HasRoomFor : Store → Prepared → Type 0
-HasRoomFor store prepared = HasRoom store.content prepared.delta
+-- All memory is there that committing takes, and what it changes in the index of owners is ready.
+pub record HasRoomFor (store : Store) (prepared : Prepared) : Type 0 where
+  pub content : HasRoom store.content prepared.delta
+  pub owners : IsReadyFor store.content prepared.delta store.owners

@@ -9,6 +9,7 @@ use Rattle.ob_journal_spec.specs.Areas.{Journaled}
 use Rattle.ob_journal.specs.Journals.{journaled, area_size, image_of, gate_of as gate_in, Holds}
 use Rattle.ob_journal.specs.declared.journal.Journal.{Journal}
 use Rattle.ob_code_table.specs.ImageTables.{table_of_image}
+use Rattle.ob_owners.specs.Indexes.{IsIndexOf}
 use Rattle.ob_store_spec.specs.Changes.{LeadFrom}
 use Rattle.ob_store_spec.specs.Stores.{StoreProgram, StoreState}
 use Rattle.ob_store.specs.declared.store.Store.{Store}
@@ -64,9 +65,14 @@ abbrev pub IsKeptIn : StoreProgram → Content → Option Journal → DiskView �
 IsKeptIn program content None v = ⊤
 IsKeptIn program content (Some journal) v = IsKeptBy program content journal v
 
--- the disk and each image of it represent a store; one in memory has no disk
-abbrev pub StandsOn : StoreProgram → Store → DiskView → Type 0
-StandsOn program store v = IsKeptIn program (content_of store.content) store.journal v
+-- a store was made for a program: its index tells the owners of its content by the program's class table
+abbrev pub TellsOwners : StoreProgram → Store → Type 0
+TellsOwners program store = IsIndexOf program.table (content_of store.content) store.owners
+
+-- A store was made for a program, and the disk and each image of it represent it; one in memory has no disk.
+pub record StandsOn (program : StoreProgram) (store : Store) (v : DiskView) : Type 0 where
+  pub owners : TellsOwners program store
+  pub kept : IsKeptIn program (content_of store.content) store.journal v
 
 -- two stores are the same but for the memory that they have taken
 pub record IsSameStore (a b : Store) : Type 0 where

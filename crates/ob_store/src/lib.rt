@@ -3,8 +3,11 @@
 
 mod error;
 mod opening;
+mod reading;
 mod store;
+mod telling;
 mod writing;
 
 pub use error::{OpenError, PrepareError};
+pub use reading::read_store;
 pub use store::{Prepared, Store};

@@ -14,10 +14,11 @@ ghost use Rattle.ob_code_table.specs.ImageTables.{table_of_image};
 ghost use Rattle.ob_store_spec.specs.Payloads.{Changes};
 ghost use Rattle.ob_store_spec.specs.Changes.{SaysChanges, with_changes};
 ghost use Rattle.ob_store.specs.Stores.{program_of, StandsOn};
-ghost use Rattle.ob_store.specs.Opening.{FaultsAs, refused_by, IsKeptContent, Follows, Replays, IsKeptIfOk, first_gate, Rebuilds, BeginsStore, StaysWithoutRoom};
+ghost use Rattle.ob_store.specs.Opening.{FaultsAs, refused_by, IndexesOrLacks, IsKeptContent, Follows, Replays, IsKeptIfOk, first_gate, Rebuilds, BeginsStore, StaysWithoutRoom};
 
 use crate::error::OpenError;
-use crate::store::Store;
+use crate::store::{Store, index_owners};
+use ob_base::Memory;
 use ob_code::{Image, encode};
 use ob_disk::Disk;
 use ob_heap::{Content, apply, reserve};
@@ -108,6 +109,21 @@ fn replayed(
     replay(alloc, code, journal.records_offset(), recorded.records())
 }
 
+// The store with a content to which a journal's records lead.
+fn kept_in(
+    alloc: Global,
+    code: &Image,
+    content: Content,
+    journal: Journal,
+) -> Result<Store, OpenError>
+    ensures { IndexesOrLacks (program_of code.now) content journal result }
+{
+    match index_owners(alloc, code, content, Some(journal)) {
+        Ok(store) => Ok(store),
+        Err(Memory) => Err(OpenError::Memory),
+    }
+}
+
 /// The store that a journal represents with the records that were read, if it is one of this program and at rest.
 pub fn rebuilt(
     alloc: Global,
@@ -126,10 +142,7 @@ pub fn rebuilt(
     }
     let content = replayed(alloc, code, &journal, recorded)?;
     match check_at_rest(alloc, code, &content) {
-        Ok(()) => Ok(Store {
-            content,
-            journal: Some(journal),
-        }),
+        Ok(()) => kept_in(alloc, code, content, journal),
         Err(RestError::NotAtRest(id)) => Err(OpenError::NotAtRest(id)),
         Err(RestError::Memory) => Err(OpenError::Memory),
     }
@@ -157,11 +170,14 @@ pub fn begin_store<D: Disk>(
     let Ok(image) = encode(alloc, code) else {
         return Err(OpenError::Memory);
     };
+    let Ok(mut store) = index_owners(alloc, code, Content::new(alloc), None) else {
+        return Err(OpenError::Memory);
+    };
     match Journal::begin(alloc, disk, area, image.as_slice()) {
-        Ok(journal) => Ok(Store {
-            content: Content::new(alloc),
-            journal: Some(journal),
-        }),
+        Ok(journal) => {
+            store.journal = Some(journal);
+            Ok(store)
+        }
         Err(error) => Err(refused_by(error)),
     }
 }

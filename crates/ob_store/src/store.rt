@@ -14,8 +14,8 @@ ghost use Rattle.ob_rest_spec.specs.AtRest.{IsStoreAtRest};
 ghost use Rattle.ob_store_laws.specs.Recorded.{content_with, IsStorable};
 ghost use Rattle.ob_store_spec.specs.Settling.{settled};
 ghost use Rattle.ob_store_spec.specs.Stores.{StoreProgram};
-ghost use Rattle.ob_store.specs.Stores.{program_of, area_of_store, kept_of, state_of, HasImage, StandsOn, IsSameStore};
-ghost use Rattle.ob_store.specs.Opening.{Opens, LacksArea, StaysUnlessBlank, FaultsAs};
+ghost use Rattle.ob_store.specs.Stores.{program_of, area_of_store, kept_of, state_of, HasImage, TellsOwners, StandsOn, IsSameStore};
+ghost use Rattle.ob_store.specs.Opening.{IsIndexed, Opens, LacksArea, StaysUnlessBlank, FaultsAs};
 ghost use Rattle.ob_store.specs.Preparing.{delta_prepared, IsBuiltForStore, WritesNothing, IsPrepared, Prepares, HasRoomFor};
 ghost use Rattle.ob_store.specs.Committing.{IsReady, StandsBeforeOrAfter};
 
@@ -27,13 +27,15 @@ use ob_code::Image;
 use ob_disk::Disk;
 use ob_heap::{Content, Delta, apply, reserve};
 use ob_journal::{DiskFault, Found, Journal};
+use ob_owners::Owners;
 use ob_verify::Verified;
 use std::alloc::Global;
 
-/// A store: its content in memory and, where it is kept on a disk, the journal whose records lead to it.
+/// A store: its content in memory with an index of its owners and, where it is kept on a disk, the journal whose records lead to it.
 #[derive(Drop)]
 pub struct Store {
     pub(crate) content: Content,
+    pub(crate) owners: Owners,
     pub(crate) journal: Option<Journal>,
 }
 
@@ -44,16 +46,35 @@ pub struct Prepared {
     built: Option<Record>,
 }
 
+/// A store with this content and this journal, and the index of its owners.
+pub fn index_owners(
+    alloc: Global,
+    code: &Image,
+    content: Content,
+    journal: Option<Journal>,
+) -> Result<Store, Memory>
+    ensures { IfOk result (IsIndexed (program_of code.now) content journal) }
+{
+    let owners = Owners::build(alloc, code, &content)?;
+    Ok(Store {
+        content,
+        owners,
+        journal,
+    })
+}
+
 impl Store {
-    /// An empty store in memory.
-    pub fn blank(alloc: Global) -> Store
-        ensures content { content_of (kept_of result) ≡ empty_content }
-        ensures memory { area_of_store result ≡ None }
+    /// An empty store of a program, in memory.
+    ///
+    /// # Errors
+    ///
+    /// `Memory` where memory ran out.
+    pub fn blank(alloc: Global, code: &Verified) -> Result<Store, Memory>
+        ensures content { IfOk result (λ store. content_of (kept_of store) ≡ empty_content) }
+        ensures memory { IfOk result (λ store. area_of_store store ≡ None) }
+        ensures owners { IfOk result (TellsOwners (program_of code.now)) }
     {
-        Store {
-            content: Content::new(alloc),
-            journal: None,
-        }
+        index_owners(alloc, code.image(), Content::new(alloc), None)
     }
 
     /// Opens the store that a disk with two areas of so many bytes each represents. It writes on a blank disk alone, where it
@@ -141,11 +162,12 @@ impl Store {
         ensures area { area_of_store self.new ≡ area_of_store self.old }
         ensures content { content_with (kept_of self.new) (delta_prepared prepared.now) ≡ content_with (kept_of self.old) (delta_prepared prepared.now) }
         ensures prepared { (program : StoreProgram) → IsPrepared program self.old prepared.now → IsPrepared program self.new prepared.now }
+        ensures owners { (program : StoreProgram) → TellsOwners program self.old → TellsOwners program self.new }
     {
         let Ok(()) = reserve(&mut self.content, &prepared.delta) else {
             return Err(Memory);
         };
-        Ok(())
+        self.owners.reserve(&self.content, &prepared.delta)
     }
 
     /// The store becomes the one after what was made ready. It takes no memory.
@@ -179,6 +201,7 @@ impl Store {
             return Err(DiskFault);
         };
         apply(&mut self.content, delta);
+        self.owners.apply();
         Ok(())
     }
 }

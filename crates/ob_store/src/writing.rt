@@ -67,10 +67,13 @@ fn build_move(
     requires { IsDelta content.now delta.now }
     ensures { BuildsMove journal.now (payload_of_all (program_of code.now) (content_with content.now delta.now)) result }
 {
-    let Ok(payload) = put_whole(alloc, code, content, delta) else {
+    let Ok(mut draft) = journal.draft_area(alloc) else {
         return Err(BuildError::Memory);
     };
-    match journal.build_area(alloc, payload.as_slice()) {
+    let Ok(()) = put_whole(&mut draft.bytes, code, content, delta) else {
+        return Err(BuildError::Memory);
+    };
+    match journal.finish_area(draft) {
         Ok(built) => Ok(built),
         Err(error) => Err(error),
     }

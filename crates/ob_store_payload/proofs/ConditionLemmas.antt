@@ -25,7 +25,7 @@ use Rattle.ob_heap.specs.declared.object.Handle.{Handle}
 use Rattle.ob_heap.proofs.HandlesLemmas.{names_total}
 use Rattle.ob_heap.proofs.DeltasLemmas.{count_after, length-with_objects}
 use Rattle.ob_code_table.specs.ImageTables.{field_of_code}
-use Rattle.ob_owners.proofs.ScanningLemmas.{rest_turn, rest_end}
+use Rattle.ob_owners.proofs.TurnLemmas.{rest_turn, rest_end}
 use Rattle.ob_store_laws.proofs.Entries.{of_sorted}
 
 -- Texts.

@@ -14,7 +14,7 @@ use Rattle.ob_heap.proofs.LookLemmas.{plain_order}
 use Rattle.ob_heap_spec.specs.Contents.{HandleName, name_order}
 use Rattle.ob_heap_spec.specs.Handles.{NamedHandle, put_handle, without_handle}
 use Rattle.ob_heap_spec.proofs.Names.{names_total, one_name}
-use Rattle.ob_owners.proofs.ScanningLemmas.{rest_turn}
+use Rattle.ob_owners.proofs.TurnLemmas.{rest_turn}
 use Rattle.ob_store_laws.specs.Recorded.{handle_change}
 use Rattle.ob_store_laws.proofs.Entries.{both, parts, less, first_below, rest_sorted, sorted_of}
 use Rattle.ob_store_laws.proofs.Handles.{Change, InOrder, handles_follow, changes_sorted}

@@ -16,7 +16,7 @@ use Rattle.ob_heap.proofs.LookLemmas.{plain_order}
 use Rattle.ob_heap_spec.specs.Contents.{HandleName, Handle as PlainHandle, name_order}
 use Rattle.ob_heap_spec.specs.Handles.{NamedHandle, without_handle}
 use Rattle.ob_heap_spec.proofs.Names.{names_total}
-use Rattle.ob_owners.proofs.ScanningLemmas.{rest_turn, rest_end}
+use Rattle.ob_owners.proofs.TurnLemmas.{rest_turn, rest_end}
 use Rattle.ob_store_laws.specs.Recorded.{handle_change}
 use Rattle.ob_store_laws.proofs.Entries.{sorted_of}
 use Rattle.ob_store_laws.proofs.Handles.{Change, InOrder, at, found_changed, sorted_changed, handles_follow, changes_sorted}

@@ -23,7 +23,6 @@ use ob_base::{Label, MOST_HANDLES, Memory, ObjectId, put_u32};
 use ob_code::Image;
 use ob_format::put_text_bytes;
 use ob_heap::{Block, Content, Delta, Handle, Object};
-use std::alloc::Global;
 use std::cmp::Ordering;
 
 // Appends the object of a number, or the first of these changes in its place if that has the same number. Answers the changes to come.
@@ -226,21 +225,21 @@ fn put_handles(
     Ok(())
 }
 
-/// The payload that says all that a content holds after a delta, which isn't applied (this project's own). It goes through the content
-/// once, and takes no memory but the payload's. `Memory` also where there are more handles than there may be, more objects than 32 bits
-/// count, or a longer text than they say.
+/// Appends the payload that says all that a content holds after a delta, which isn't applied (this project's own). It goes through the
+/// content once, and takes no memory but the payload's. `Memory` also where there are more handles than there may be, more objects than
+/// 32 bits count, or a longer text than they say; some bytes of the payload are then appended.
 #[tactic(auto, unfolding(ob_store_spec::specs::Payloads::payload))]
 pub fn put_whole(
-    alloc: Global,
+    out: &mut Vec<u8>,
     code: &Image,
     content: &Content,
     delta: &Delta,
-) -> Result<Vec<u8>, Memory>
+) -> Result<(), Memory>
     requires { IsDelta content.now delta.now }
-    ensures { IfOk result (λ bytes. bytes.items ≡ (payload_format (table_of_image code.now)).bytes (all_of (table_of_image code.now) (content_with content.now delta.now))) }
+    ensures { OnOk result (out.new.items ≡ out.old.items
+        ++ (payload_format (table_of_image code.now)).bytes (all_of (table_of_image code.now) (content_with content.now delta.now))) }
 {
-    let mut bytes = Vec::new(alloc);
-    put_objects(&mut bytes, code, content, delta.objects.as_slice())?;
-    put_handles(&mut bytes, content, delta.handles.as_slice())?;
-    Ok(bytes)
+    put_objects(out, code, content, delta.objects.as_slice())?;
+    put_handles(out, content, delta.handles.as_slice())?;
+    Ok(())
 }

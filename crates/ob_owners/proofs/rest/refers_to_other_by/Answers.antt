@@ -8,7 +8,7 @@ use Rattle.ob_rest_spec.specs.References.{FieldReference}
 use Rattle.ob_owners.specs.Referring.{field_reference_of}
 use Rattle.ob_owners.proofs.NotingLemmas.{references_from}
 use Rattle.ob_owners.proofs.RestLemmas.{fields_asked}
-use Rattle.ob_owners.proofs.ScanningLemmas.{rest_end}
+use Rattle.ob_owners.proofs.TurnLemmas.{rest_end}
 use Rattle.ob_owners.proofs.rest.refers_to_other_by.Goals as goal
 
 pub returns-then-is_other : goal.returns-then-is_other

@@ -5,7 +5,7 @@ use Rattle.ob_code_table.specs.ImageTables.{contract_of_code, table_of_image}
 use Rattle.ob_owners.specs.Noting.{holding_of_field, after_holdings}
 use Rattle.ob_owners.specs.Referring.{field_reference_of}
 use Rattle.ob_owners.proofs.NotingLemmas.{references_from, fields_noted}
-use Rattle.ob_owners.proofs.ScanningLemmas.{rest_end}
+use Rattle.ob_owners.proofs.TurnLemmas.{rest_end}
 use Rattle.ob_owners.proofs.tally.note_fields.Goals as goal
 
 pub loop-place-preserved : goal.loop-place-preserved

@@ -1,5 +1,5 @@
 use Rattle.std.proofs.Common.{◌≡◌, drop}
-use Rattle.ob_owners.specs.Scanning.{entry_at}
+use Rattle.ob_owners.specs.Entries.{entry_at}
 use Rattle.ob_owners.proofs.values.find.Given as goal
 
 abbrev pub invariant-loop-item : goal.invariant-loop-item

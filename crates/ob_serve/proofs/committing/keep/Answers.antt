@@ -1,4 +1,5 @@
-use Rattle.std.proofs.Common.{inl, ◌+◌, ◌∙◌}
+use Rattle.std.proofs.Common.{inl, ◌+◌, ◌∙◌, ◌≡◌, sym, true≢false, Result, Ok, Err, false, OnOk}
+use Rattle.std.specs.Prelude.{is_err}
 use Rattle.ob_disk_spec.proofs.Behind.{behind_none}
 use Rattle.ob_disk_spec.proofs.Untouched.{untouched_none}
 use Rattle.ob_store.proofs.Same.{same_stands}
@@ -12,7 +13,7 @@ returns-then-is_err-2-clause-crash g c = λ program after leads rests stands.
     let ready = ready_again program after c.args.store.now c.reserve.new.self c.in-Some.prepared some c.reserve.ensures.state c.reserve.ensures.area c.reserve.ensures.content prepared in
     crash_leaves program after c.args.store.now c.reserve.new.self c.in-Some.prepared some c.reserve.ensures.state c.reserve.ensures.area c.reserve.ensures.content prepared
     (g.D.Disk.view c.args.disk.now) (g.D.Disk.view c.commit.new.disk) (λ none. c.commit.ensures.nothing (inl none))
-    (λ size area. c.commit.ensures.crash program size ready area (same_stands program c.args.store.now c.reserve.new.self (g.D.Disk.view c.args.disk.now) c.reserve.ensures.same stands))
+    (λ size area. c.commit.ensures.crash program size ready area (same_stands program c.args.store.now c.reserve.new.self (g.D.Disk.view c.args.disk.now) c.reserve.ensures.same (c.reserve.ensures.owners program stands.owners) stands))
 
 pub returns-clause-crash : goal.returns-clause-crash
 returns-clause-crash g c = λ program after leads rests stands.
@@ -21,7 +22,7 @@ returns-clause-crash g c = λ program after leads rests stands.
     let ready = ready_again program after c.args.store.now c.reserve.new.self c.in-Some.prepared some c.reserve.ensures.state c.reserve.ensures.area c.reserve.ensures.content prepared in
     crash_leaves program after c.args.store.now c.reserve.new.self c.in-Some.prepared some c.reserve.ensures.state c.reserve.ensures.area c.reserve.ensures.content prepared
     (g.D.Disk.view c.args.disk.now) (g.D.Disk.view c.commit.new.disk) (λ none. c.commit.ensures.nothing (inl none))
-    (λ size area. c.commit.ensures.crash program size ready area (same_stands program c.args.store.now c.reserve.new.self (g.D.Disk.view c.args.disk.now) c.reserve.ensures.same stands))
+    (λ size area. c.commit.ensures.crash program size ready area (same_stands program c.args.store.now c.reserve.new.self (g.D.Disk.view c.args.disk.now) c.reserve.ensures.same (c.reserve.ensures.owners program stands.owners) stands))
 
 -- where nothing was done
 pub returns-in_default-clause-crash : goal.returns-in_default-clause-crash
@@ -58,3 +59,18 @@ returns-clause-untouched g c = λ none. c.commit.ensures.nothing (inl (c.reserve
 
 pub returns-clause-behind : goal.returns-clause-behind
 returns-clause-behind g c = λ size is. c.commit.ensures.behind size (c.reserve.ensures.area ∙ is)
+
+-- what stands then
+
+-- what holds on Ok holds where there is no error
+at_ok : {T E P : Type 0} (r : Result T E) → is_err r ≡ false → OnOk r P → P
+at_ok (Ok x) is holds = holds
+at_ok (Err e) is holds = absurd (true≢false is)
+
+pub returns-clause-stands : goal.returns-clause-stands
+returns-clause-stands g c = λ program after leads stands.
+    let some = some_leads program after c.args.store.now c.args.prepared c.in-Some.prepared c.in-Some.is leads in
+    let prepared = c.reserve.ensures.prepared program some.ready.is_prepared in
+    let ready = ready_again program after c.args.store.now c.reserve.new.self c.in-Some.prepared some c.reserve.ensures.state c.reserve.ensures.area c.reserve.ensures.content prepared in
+    let same = same_stands program c.args.store.now c.reserve.new.self (g.D.Disk.view c.args.disk.now) c.reserve.ensures.same (c.reserve.ensures.owners program stands.owners) stands in
+    at_ok c.commit.result (sym c.is_err-2.ensures.value ∙ c.if-is_err-2.false) c.commit.ensures.stands program ready same

@@ -116,6 +116,9 @@ returns-in-Err-make_ready-clause-few g c = few_taken _ _ _ (more_taken _ _ _ _ _
 pub make_ready-requires-clause-image : goal.make_ready-requires-clause-image
 make_ready-requires-clause-image g c = stands_image (program_of c.args.code.now) c.lines.store (g.D.Disk.view c.lines.disk) c.lines.invariant.stands
 
+pub make_ready-requires-clause-owners : goal.make_ready-requires-clause-owners
+make_ready-requires-clause-owners g c = c.lines.invariant.stands.owners
+
 pub keep-requires : goal.keep-requires
 keep-requires g c =
     let line = c.in-Ok-next_line.ensures.ok in

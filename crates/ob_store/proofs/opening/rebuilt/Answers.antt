@@ -1,11 +1,11 @@
-use Rattle.std.proofs.Common.{◌≡◌, ◌∙◌, sym, refl}
+use Rattle.std.proofs.Common.{◌≡◌, ◌∙◌, sym}
 use Rattle.std.proofs.lemmas.Result.{err_from_is_err_and}
 use Rattle.ob_code.specs.Images.{image}
 use Rattle.ob_code_table.specs.ImageTables.{table_of_image}
 use Rattle.ob_heap.specs.Contents.{content_of}
 use Rattle.ob_journal.specs.Journals.{image_of}
 use Rattle.ob_store.specs.Stores.{program_of}
-use Rattle.ob_store.proofs.Opened.{differ_so, not_rebuilt, few_kept, rests_kept, fails_first}
+use Rattle.ob_store.proofs.Opened.{differ_so, not_rebuilt, few_kept, rests_kept, rebuilt_by, fails_first}
 use Rattle.ob_store.proofs.opening.rebuilt.Goals as goal
 
 pub returns-in-Some : goal.returns-in-Some
@@ -23,12 +23,11 @@ check_at_rest-requires c = few_kept (table_of_image c.args.code.now) c.in_ok-con
 
 pub returns-in-Ok-check_at_rest : goal.returns-in-Ok-check_at_rest
 returns-in-Ok-check_at_rest c = λ payloads has.
+    let table = table_of_image c.args.code.now in
     let same : image_of c.args.journal ≡ image.bytes c.args.code.now = sym (c.image.ensures payloads) ∙ c.in_default-first_difference.ensures ∙ c.as_slice.ensures.value ∙ c.in-Ok.ensures.is in
-    record {
-      journal_is = refl;
-      kept = record { image = same; content_is = c.in_ok-content.ensures.replayed payloads has };
-      at_rest = rests_kept (table_of_image c.args.code.now) c.in_ok-content.content c.in_ok-content.ensures.kept c.in-Ok-check_at_rest.ensures.store;
-    }
+    rebuilt_by (program_of c.args.code.now) c.args.journal payloads c.in_ok-content.content c.kept_in.result c.kept_in.ensures
+    (record { image = same; content_is = c.in_ok-content.ensures.replayed payloads has })
+    (rests_kept table c.in_ok-content.content c.in_ok-content.ensures.kept c.in-Ok-check_at_rest.ensures.store)
 
 pub returns-in-Err-NotAtRest : goal.returns-in-Err-NotAtRest
 returns-in-Err-NotAtRest c = λ payloads has.
@@ -36,5 +35,5 @@ returns-in-Err-NotAtRest c = λ payloads has.
     record {
       content = content_of c.in_ok-content.content;
       kept = record { image = same; content_is = c.in_ok-content.ensures.replayed payloads has };
-      fails = fails_first (table_of_image c.args.code.now) (content_of c.in_ok-content.content) c.in-Err-NotAtRest.field-0 c.in-Err-NotAtRest.id c.in-Err-NotAtRest.field-0-is c.in-Err-NotAtRest.ensures.answer;
+      fails = rw c.in-Err-NotAtRest.field-0-is (fails_first (table_of_image c.args.code.now) (content_of c.in_ok-content.content) c.in-Err-NotAtRest.field-0 c.in-Err-NotAtRest.id c.in-Err-NotAtRest.field-0-is c.in-Err-NotAtRest.ensures.answer);
     }

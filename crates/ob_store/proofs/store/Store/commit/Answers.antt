@@ -5,6 +5,7 @@ use Rattle.ob_heap.specs.Deltas.{with_handles}
 use Rattle.ob_heap.specs.Differences.{with_objects}
 use Rattle.ob_heap_spec.specs.Contents.{Content}
 use Rattle.ob_journal.specs.Journals.{area_size}
+use Rattle.ob_owners.specs.Indexes.{IsIndexOf}
 use Rattle.ob_store_laws.specs.Recorded.{content_with}
 use Rattle.ob_store_laws.proofs.Whole.{all_leads}
 use Rattle.ob_store.specs.Stores.{gate_of, serial_of, IsKeptIn}
@@ -46,8 +47,12 @@ returns-clause-stands g c = λ program ready stands.
     let said = said_after program.table s.content p.delta ready.storable ready.before ready.after in
     let all = all_leads program.table after ready.storable ready.after in
     let next = kept_after program before after said all s.journal c.write_in.new.journal p.built (g.D.Disk.view c.args.disk.now) (g.D.Disk.view c.write_in.new.disk) says
-    (c.in-Ok.ensures.written payload there) (λ payloads holds. c.in-Ok.ensures.whole payloads payload there holds) stands in
-    subst (λ (x : Content). IsKeptIn program x c.write_in.new.journal (g.D.Disk.view c.write_in.new.disk)) (sym (returns-clause-content g c)) next
+    (c.in-Ok.ensures.written payload there) (λ payloads holds. c.in-Ok.ensures.whole payloads payload there holds) stands.kept in
+    record {
+      owners = subst (λ (x : Content). IsIndexOf program.table x c.apply-2.new.self) (sym (returns-clause-content g c))
+          (c.apply-2.ensures program.table s.content p.delta c.requires.delta c.requires.room.owners ready.before.is_content ready.after.is_content stands.owners);
+      kept = subst (λ (x : Content). IsKeptIn program x c.write_in.new.journal (g.D.Disk.view c.write_in.new.disk)) (sym (returns-clause-content g c)) next;
+    }
 
 pub returns-clause-crash : goal.returns-clause-crash
 returns-clause-crash g c = λ program size ready area stands.
@@ -59,8 +64,8 @@ returns-clause-crash g c = λ program size ready area stands.
     let said = said_after program.table s.content p.delta ready.storable ready.before ready.after in
     let all = all_leads program.table after ready.storable ready.after in
     during_to _ _ _ _
-    (c.write_in.ensures.crash (payloads_of program before s.journal _ stands) (payload_in program before after p.built) (record_in program before after s.journal p.built says) (held program before s.journal _ stands))
-    (leaves program before after said all ready.before.at_rest ready.after.at_rest s.journal p.built size _ stands says area)
+    (c.write_in.ensures.crash (payloads_of program before s.journal _ stands.kept) (payload_in program before after p.built) (record_in program before after s.journal p.built says) (held program before s.journal _ stands.kept))
+    (leaves program before after said all ready.before.at_rest ready.after.at_rest s.journal p.built size _ stands.kept says area)
 
 pub returns-in_default-clause-crash : goal.returns-in_default-clause-crash
 returns-in_default-clause-crash g c = λ program size ready area stands.
@@ -72,8 +77,8 @@ returns-in_default-clause-crash g c = λ program size ready area stands.
     let said = said_after program.table s.content p.delta ready.storable ready.before ready.after in
     let all = all_leads program.table after ready.storable ready.after in
     during_to _ _ _ _
-    (c.write_in.ensures.crash (payloads_of program before s.journal _ stands) (payload_in program before after p.built) (record_in program before after s.journal p.built says) (held program before s.journal _ stands))
-    (leaves program before after said all ready.before.at_rest ready.after.at_rest s.journal p.built size _ stands says area)
+    (c.write_in.ensures.crash (payloads_of program before s.journal _ stands.kept) (payload_in program before after p.built) (record_in program before after s.journal p.built says) (held program before s.journal _ stands.kept))
+    (leaves program before after said all ready.before.at_rest ready.after.at_rest s.journal p.built size _ stands.kept says area)
 
 pub returns-in_default-clause-area : goal.returns-in_default-clause-area
 returns-in_default-clause-area g c = ap (option_map area_size) c.in_default.ensures.err

@@ -1,0 +1,19 @@
+use Rattle.std.proofs.Common.{map, refl, ◌∙◌}
+use Rattle.std.specs.Prelude.{flat_map}
+use Rattle.std.specs.Option.{option_copied}
+use Rattle.ob_code_table.specs.ImageTables.{table_of_image}
+use Rattle.ob_owners.specs.Owning.{owning_of, owning_by_object, objects_going}
+use Rattle.ob_owners.proofs.GatherLemmas.{object_going, at_end}
+use Rattle.ob_owners.proofs.gathering.add_objects_going.Goals as goal
+
+pub loop-change-preserved : goal.loop-change-preserved
+loop-change-preserved c =
+    object_going (table_of_image c.args.code.now) c.args.content.now c.args.changes.now c.loop-change.change-index c.change-item.result (option_copied c.object.result)
+    (map owning_of c.loop-change.found.items) (map owning_of c.add_object_there.new.found.items) c.loop-change-test.true c.change-item.is c.object.ensures
+    c.in_ok-add_object_there.ensures
+    ∙ c.loop-change.invariant
+
+pub returns : goal.returns
+returns c =
+    at_end (λ es. flat_map (owning_by_object (table_of_image c.args.code.now)) (objects_going c.args.content.now es)) c.args.changes.now c.loop-change.change-index (map owning_of c.loop-change.found.items) _ refl
+    c.loop-change-test.false c.loop-change.invariant

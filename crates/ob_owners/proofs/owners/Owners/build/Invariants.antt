@@ -1,0 +1,4 @@
+use Rattle.ob_owners.proofs.owners.Owners.build.Given as goal
+
+abbrev pub ghosts-fill : goal.ghosts-fill
+ghosts-fill a = record { name = a.blank.name; parts = a.blank.parts }
