@@ -1,6 +1,6 @@
 -- What comes of the end of a run.
-use Rattle.std.proofs.Common.{◌≡◌, ◌≤◌, ℕ, Bool, true, false, List, [], ◌∷◌, ◌++◌, length, map, Option, Some, None, refl, sym, ap, subst, ◌∙◌}
-use Rattle.std.specs.Prelude.{option_map, flat_map, if◌then◌else◌}
+use Rattle.std.proofs.Common.{◌≡◌, ◌≤◌, ℕ, Bool, true, false, List, [], ◌∷◌, length, Option, Some, None, refl, sym, ap, subst, ◌∙◌}
+use Rattle.std.specs.Prelude.{if◌then◌else◌}
 use Rattle.std.specs.Option.{option_map_or}
 use Rattle.std.proofs.lemmas.List.{length-map}
 use Rattle.std.proofs.Math.ListN.{length-set}
@@ -16,27 +16,24 @@ use Rattle.ob_heap.specs.declared.object.Object.{Object}
 use Rattle.ob_heap.specs.declared.value.Value.{Value}
 use Rattle.ob_heap.specs.Contents.{Stored, content_of}
 use Rattle.ob_heap.specs.Overlays.{Changes, laid_over, objects_over}
-use Rattle.ob_heap.specs.Plain.{object_of, value_of}
+use Rattle.ob_heap.specs.Plain.{object_of}
 use Rattle.ob_rest_spec.specs.Modes.{is_shared}
 use Rattle.ob_invocation_spec.specs.Entries.{Entry}
-use Rattle.ob_invocation_spec.specs.Entering.{put_after_use, put_given, puts_after}
-use Rattle.ob_invocation_spec.specs.Handles.{handle_name, mark_put, mark_puts}
+use Rattle.ob_invocation_spec.specs.Entering.{puts_after}
+use Rattle.ob_invocation_spec.specs.Handles.{mark_put, mark_puts}
 use Rattle.ob_invocation_spec.specs.Invocation.{done_with, ended}
 use Rattle.ob_invocation_spec.specs.Replies.{Reply, invoked, aborted}
-use Rattle.ob_invocation_spec.specs.Showing.{told_state, reply_of_result}
+use Rattle.ob_invocation_spec.specs.Showing.{told_state}
 use Rattle.ob_table.specs.Tables.{ClassTable}
 use Rattle.ob_machine.specs.Shown.{cause_of}
 use Rattle.ob_machine.specs.declared.progress.Cause.{Cause}
-use Rattle.ob_machine.specs.declared.progress.Progress.TheVariants.{Finished, Aborted, Going}
+use Rattle.ob_machine.specs.declared.progress.Progress.TheVariants.{Finished}
 use Rattle.ob_wire.specs.declared.reply.Answer.{Answer}
 use Rattle.ob_exec_handles.specs.Coming.{ComesTo, LeadsTo, IsInLimits}
 use Rattle.ob_exec_handles.specs.Marking.{with_put_marks}
 use Rattle.ob_exec_handles.proofs.MarkingLemmas.{puts_objects}
-use Rattle.ob_exec_entries.specs.Entering.{use_of}
-use Rattle.ob_exec_entries.specs.declared.entered.Entered.{Entered}
 use Rattle.ob_exec.specs.Ending.{IsRight, EndsSo}
 use Rattle.ob_exec.specs.Putting.{LeaveTheSame}
-use Rattle.ob_exec.specs.Standing.{StandsFor}
 
 -- Handles that are put leave as many objects.
 
@@ -90,7 +87,7 @@ same_content : (a b : List plain.Object) (x y : List NamedHandle) → a ≡ b �
     → ◌≡◌ {A = Content} (record { objects = a; handles = x }) (record { objects = b; handles = y })
 same_content a b x y p q = λ i. record { objects = p i; handles = q i }
 
-comes_same : (reply : Reply) (base : Stored) (changes : Changes) (others puts : List NamedHandle) (w : World) (reads : List ReadItem) (answer : Answer) (delta : Delta)
+pub comes_same : (reply : Reply) (base : Stored) (changes : Changes) (others puts : List NamedHandle) (w : World) (reads : List ReadItem) (answer : Answer) (delta : Delta)
     → LeaveTheSame base changes others puts → w.objects ≡ objects_over base.objects changes
     → ComesTo (done_with reply (content_of base) puts w reads) base answer delta → ComesTo (done_with reply (content_of base) others w reads) base answer delta
 comes_same reply base changes others puts w reads answer delta same is h =
@@ -102,19 +99,6 @@ comes_same reply base changes others puts w reads answer delta same is h =
           objects (sym same.handles)) h.1,
     )
 
-pub comes_done : (table : ClassTable) (base : Stored) (e : Entry) (reads : List ReadItem) (o : RunOutcome (Option values.Value))
-    (given : Option Value) (changes : Changes) (puts : List NamedHandle) (answer : Answer) (delta : Delta)
-    → EndsSo o (Finished given) base.objects changes → LeaveTheSame base changes (puts_after (content_of base) e (option_map value_of given)) puts
-    → ((w : World) (read : List ReadItem) → w.objects ≡ objects_over base.objects changes
-    → ComesTo (done_with (reply_of_result (option_map value_of given)) (content_of base) puts w read) base answer delta)
-    → ComesTo (ended table (content_of base) e reads o) base answer delta
-comes_done table base e reads (gives result w) given changes puts answer delta end same h =
-    subst (λ r. ComesTo (ended table (content_of base) e reads (gives r w)) base answer delta) (sym end.0)
-    (comes_same (reply_of_result (option_map value_of given)) base changes (puts_after (content_of base) e (option_map value_of given)) puts w reads answer delta
-    same end.1 (h w reads end.1))
-comes_done table base e reads (aborts cause s) given changes puts answer delta end same h = absurd end
-comes_done table base e reads wrong given changes puts answer delta end same h = absurd end
-
 -- what comes of an abort by this cause
 abbrev pub AbortsSo : ClassTable → Stored → Cause → Answer → Delta → Type 0
 AbortsSo table base cause answer delta =
@@ -124,30 +108,3 @@ AbortsSo table base cause answer delta =
       taken = taken;
       reads = reads;
     })) base answer delta
-
-pub comes_aborted : (table : ClassTable) (e : Entry) (reads : List ReadItem) (o : RunOutcome (Option values.Value))
-    (cause : Cause) (base : Stored) (changes : Changes) (answer : Answer) (delta : Delta)
-    → EndsSo o (Aborted cause) base.objects changes → AbortsSo table base cause answer delta
-    → ComesTo (ended table (content_of base) e reads o) base answer delta
-comes_aborted table e reads (gives result w) cause base changes answer delta end h = absurd end
-comes_aborted table e reads (aborts by s) cause base changes answer delta end h =
-    subst (λ c. ComesTo (ended table (content_of base) e reads (aborts c s)) base answer delta) (sym end) (h s.taken (s.reads ++ reads))
-comes_aborted table e reads wrong cause base changes answer delta end h = absurd end
-
-pub never_going : (o : RunOutcome (Option values.Value)) (base : List Object) (changes : Changes) → EndsSo o Going base changes → ⊥
-never_going (gives result w) base changes end = end
-never_going (aborts cause s) base changes end = end
-never_going wrong base changes end = end
-
--- What is entered.
-
--- what handles become is told by the uses of what is entered
-pub puts_same : (content : Content) (who : List ℕ) (into : Option (List ℕ)) (entered : Entered) (e : Entry) (result : Option values.Value)
-    → StandsFor content who into entered e
-    → puts_after content e result
-    ≡ flat_map put_after_use (map (use_of who) entered.uses) ++ option_map_or (λ name. put_given (handle_name who name) entered.given result) into []
-puts_same content who into entered e result s =
-    ap (λ us. flat_map put_after_use us ++ option_map_or (λ name. put_given (handle_name e.who name) e.given result) e.into []) (sym s.uses)
-    ∙ ap (λ x. flat_map put_after_use (map (use_of who) entered.uses) ++ option_map_or (λ name. put_given (handle_name x name) e.given result) e.into []) s.client
-    ∙ ap (λ g. flat_map put_after_use (map (use_of who) entered.uses) ++ option_map_or (λ name. put_given (handle_name who name) g result) e.into []) (sym s.given)
-    ∙ ap (λ i. flat_map put_after_use (map (use_of who) entered.uses) ++ option_map_or (λ name. put_given (handle_name who name) entered.given result) i []) s.name

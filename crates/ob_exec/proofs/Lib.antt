@@ -7,3 +7,12 @@ pub mod RunLemmas
 pub mod UseLemmas
 pub mod ReadingLemmas
 pub mod SpendingLemmas
+pub mod NotedLemmas
+pub mod GoingLemmas
+pub mod FinishLemmas
+pub mod OpeningLemmas
+pub mod SliceLemmas
+pub mod ElsewhereLemmas
+pub mod AnswerLemmas
+pub mod FirstLemmas
+pub mod CallerLemmas

@@ -18,31 +18,25 @@ use Rattle.ob_heap_spec.specs.Contents.{HandleName, Handle, Content, object_at}
 use Rattle.ob_heap_spec.specs.Dispatch.{transaction_named}
 use Rattle.ob_heap_spec.specs.Worlds.{ReadItem, object_item, handle_item, handles_full_item, AllRead}
 use Rattle.ob_heap_spec.specs.Handles.{handle_at}
-use Rattle.ob_invocation_spec.specs.Checks.{Check, check, refusal_of, reads_of, refused_or, unless_refused, with_found}
+use Rattle.ob_invocation_spec.specs.Checks.{Check, check, refusal_of, reads_of, refused_or, unless_refused}
 use Rattle.ob_invocation_spec.specs.Entries.{HandleUse, Entry, used_for, use_of_argument, argument_uses, handle_uses, entry_of_new, entry_of_call}
 use Rattle.ob_invocation_spec.specs.Handles.{handle_name, handle_reads, are_handles_full}
-use Rattle.ob_invocation_spec.specs.Invocation.{enter_entry, invoke_new, invoke_call}
 use Rattle.ob_invocation_spec.specs.Refusals.{is_no_handle, is_taken, argument_checks, is_no_contract, is_not_main, has_other_count, has_other_kind, lacks_permission, repeats_object, lacks_into, has_needless_into, making_checks, into_checks, entry_checks, found_checks, new_checks, call_checks}
 use Rattle.ob_invocation_spec.specs.Replies.{Refusal, Invocation, no_handle, no_contract, not_main, no_transaction, arg_count, arg_kind, permission, repeated, into_missing, into_needless, into_taken, handles_full}
 use Rattle.ob_invocation_spec.specs.Requests.{argument_name, Argument, int_argument, bool_argument, text_argument, handle_argument, other_argument, NewRequest, CallRequest}
-use Rattle.ob_code.specs.declared.image.Image.{Image}
-use Rattle.ob_code_table.specs.ImageTables.{table_of_image}
-use Rattle.ob_machine_meaning.specs.Meanings.{machine_meaning}
 use Rattle.ob_wire.specs.Meanings.{argument_meant}
 use Rattle.ob_wire.specs.Refusals.{refusal_told}
 use Rattle.ob_wire.specs.declared.refusal.Refusal.{Refusal as TheRefusal}
 use Rattle.ob_wire.specs.declared.request.Arg.{Arg}
 use Rattle.ob_wire.specs.declared.request.Arg.TheVariants as arg
 use Rattle.ob_exec_entries.specs.Arguments.{names_no_handle}
-use Rattle.ob_exec_entries.specs.Entering.{EntersSo}
-use Rattle.ob_exec_entries.specs.declared.entered.Entered.{Entered}
 use Rattle.ob_exec_entries.proofs.CheckLemmas.{handles_first}
 use Rattle.ob_exec_entries.proofs.EnteringLemmas.{new_asked, call_asked}
 use Rattle.ob_exec_handles.specs.Spending.{item_of, SpendsSo, name_reads}
 use Rattle.ob_exec_handles.specs.declared.spent.Spent.{Spent}
 use Rattle.ob_exec_handles.proofs.SpendingLemmas.{second_item, all_itself, all_right, same_items}
 use Rattle.ob_exec.specs.Reading.{argument_reads, read_then, into_reads, new_reads, call_reads}
-use Rattle.ob_exec.specs.Standing.{entering, AreUsesRead, ComesAfter}
+use Rattle.ob_exec.specs.Standing.{AreUsesRead}
 use Rattle.ob_exec.proofs.StandingLemmas.{made, called, by_signature, by_transaction, by_contract, by_object, by_handle, new_of, call_of}
 
 -- The arguments.
@@ -250,7 +244,7 @@ arguments_read content who (p ∷ ps) (handle_argument name ∷ args) rest e =
     (filter_map (λ (pair : Param × Argument). use_of_argument content who pair.0 pair.1) (zip ps args)) e
     (λ f. arguments_read content who ps args rest f)
 
-new_uses : (table : ClassTable) (content : Content) (who : List ℕ) (r : NewRequest) (e : Entry) → entry_of_new table who r ≡ Some e
+pub new_uses : (table : ClassTable) (content : Content) (who : List ℕ) (r : NewRequest) (e : Entry) → entry_of_new table who r ≡ Some e
     → refusal_of (new_checks table content who r) ≡ None → AreUsesRead (reads_of (new_checks table content who r)) (handle_uses content e)
 new_uses table content who r e is passed =
     let contract = bind_some (contract_named table.contracts r.contract) (λ (id : ContractId). constructor_at table id >>= λ s. Some (made who r id s)) e is in
@@ -261,7 +255,7 @@ new_uses table content who r e is passed =
     (check no_contract (is_no_contract table r.contract) ∷ check not_main (is_not_main table r.contract)
     ∷ found_checks table content (entry_of_new table who r)) passed)
 
-call_uses : (table : ClassTable) (content : Content) (who : List ℕ) (r : CallRequest) (e : Entry) → entry_of_call table content who r ≡ Some e
+pub call_uses : (table : ClassTable) (content : Content) (who : List ℕ) (r : CallRequest) (e : Entry) → entry_of_call table content who r ≡ Some e
     → refusal_of (call_checks table content who r) ≡ None → AreUsesRead (reads_of (call_checks table content who r)) (handle_uses content e)
 call_uses table content who r e is passed =
     let n = handle_name who r.on in
@@ -283,48 +277,6 @@ call_uses table content who r e is passed =
           (all_right (handle_item n ∷ object_item h.0.object ∷ []) (reads_of inner) (reads_of inner) (all_itself (reads_of inner)))
           (arguments_read content who s.0.params r.args rest there),
     ))
-
--- What follows from the checks.
-
-pub new_after : (image : Image) (content : Content) (fuel : ℕ) (who : List ℕ) (r : NewRequest) (entered : Entered) (items : List ReadItem)
-    → EntersSo content (new_checks (table_of_image image) content who r) (entry_of_new (table_of_image image) who r) who entered
-    → items ≡ reads_of (new_checks (table_of_image image) content who r)
-    → ComesAfter (entering image content fuel) content who r.into entered items
-    (invoke_new (machine_meaning image) (table_of_image image) content fuel who r)
-new_after image content fuel who r entered items k told =
-    let table = table_of_image image in
-    let reads = reads_of (new_checks (table_of_image image) content who r) in
-    let of = new_of (table_of_image image) who r k.entry k.is in
-    record {
-      entry = k.entry;
-      reads = reads_of (new_checks (table_of_image image) content who r);
-      stands = record { client = of.0; name = of.1; machine = k.machine; uses = k.uses; given = k.given };
-      is = ap (λ (f : Option Refusal). refused_or content f reads
-          (λ rs. with_found (entry_of_new table who r) (enter_entry (machine_meaning image) table content fuel rs))) k.passed
-          ∙ ap (λ (f : Option Entry). with_found f (enter_entry (machine_meaning image) table content fuel reads)) k.is;
-      told = told;
-      uses = new_uses (table_of_image image) content who r k.entry k.is k.passed;
-    }
-
-pub call_after : (image : Image) (content : Content) (fuel : ℕ) (who : List ℕ) (r : CallRequest) (entered : Entered) (items : List ReadItem)
-    → EntersSo content (call_checks (table_of_image image) content who r) (entry_of_call (table_of_image image) content who r) who entered
-    → items ≡ reads_of (call_checks (table_of_image image) content who r)
-    → ComesAfter (entering image content fuel) content who r.into entered items
-    (invoke_call (machine_meaning image) (table_of_image image) content fuel who r)
-call_after image content fuel who r entered items k told =
-    let table = table_of_image image in
-    let reads = reads_of (call_checks (table_of_image image) content who r) in
-    let of = call_of (table_of_image image) content who r k.entry k.is in
-    record {
-      entry = k.entry;
-      reads = reads_of (call_checks (table_of_image image) content who r);
-      stands = record { client = of.0; name = of.1; machine = k.machine; uses = k.uses; given = k.given };
-      is = ap (λ (f : Option Refusal). refused_or content f reads
-          (λ rs. with_found (entry_of_call table content who r) (enter_entry (machine_meaning image) table content fuel rs))) k.passed
-          ∙ ap (λ (f : Option Entry). with_found f (enter_entry (machine_meaning image) table content fuel reads)) k.is;
-      told = told;
-      uses = call_uses (table_of_image image) content who r k.entry k.is k.passed;
-    }
 
 -- a request that is refused takes nothing, and reads what its checks do
 pub refused_spends : (content : Content) (checks : List Check) (go : List ReadItem → Invocation) (s : Spent) (refusal : TheRefusal)

@@ -1,56 +1,28 @@
 -- What a request takes and reads whose run has ended.
-use Rattle.std.proofs.Common.{◌≡◌, ℕ, ◌+◌, Bool, true, false, List, [], ◌∷◌, ◌++◌, length, map, Option, Some, None, Result, Ok, Err, refl, sym, ap, subst, ◌∙◌, arith, append-nil}
-use Rattle.std.specs.Prelude.{not, ◌&&◌, nat_lt, nat_le, Contains, find, option_map, flat_map, IfOk, if◌then◌else◌}
+use Rattle.std.proofs.Common.{◌≡◌, ℕ, ◌+◌, Bool, true, false, List, [], ◌∷◌, ◌++◌, Option, Some, None, Result, Ok, Err, refl, sym, ap, subst, ◌∙◌, arith, append-nil}
+use Rattle.std.specs.Prelude.{not, ◌&&◌, nat_lt, nat_le, Contains, flat_map, IfOk, if◌then◌else◌}
 use Rattle.std.specs.Option.{option_map_or}
 use Rattle.std.specs.List.{AllByRecursion}
 use Rattle.std.proofs.lemmas.List.Sums.{fold-append}
-use Rattle.ob_base.specs.declared.id.TxId.{TxId}
 use Rattle.ob_base.specs.declared.permission.Mode.{Mode}
 use Rattle.ob_base.specs.declared.permission.Mode.TheVariants.{Owned, Shared, Unowned}
-use Rattle.ob_table.specs.Tables.{ClassTable}
 use Rattle.ob_rest_spec.specs.Modes.{is_owned, is_shared}
-use Rattle.ob_verify_spec.proofs.Cells.{none_some}
-use Rattle.ob_heap_spec.specs.Contents.{Content}
 use Rattle.ob_heap_spec.specs.Marks.{mark_shared}
 use Rattle.ob_heap_spec.specs.Values as values
-use Rattle.ob_heap_spec.specs.Worlds.{World, Spent as WorldSpent, ReadItem, object_item, RunOutcome, gives, aborts, wrong, AllRead, ReadSame, is_made, with_read}
+use Rattle.ob_heap_spec.specs.Worlds.{World, ReadItem, object_item, AllRead, ReadSame, is_made, with_read}
 use Rattle.ob_heap_spec.specs.Handles.{NamedHandle}
 use Rattle.ob_heap.specs.declared.delta.Delta.{Delta}
-use Rattle.ob_heap.specs.declared.value.Value.{Value}
-use Rattle.ob_heap.specs.Contents.{Stored, content_of}
-use Rattle.ob_heap.specs.Overlays.{Changes, objects_over}
-use Rattle.ob_heap.specs.Plain.{value_of}
-use Rattle.ob_invocation_spec.specs.Entries.{HandleUse, Entry, handle_uses}
-use Rattle.ob_invocation_spec.specs.Entering.{Meaning, handle_in, put_after_use, put_given, put_into, puts_after, is_outside_use, first_outside_use, outside_cause}
+use Rattle.ob_invocation_spec.specs.Entries.{HandleUse}
+use Rattle.ob_invocation_spec.specs.Entering.{handle_in, put_after_use, put_given}
 use Rattle.ob_invocation_spec.specs.Handles.{handle_name, mark_put, mark_puts}
-use Rattle.ob_invocation_spec.specs.Invocation.{ended, after_entry_test}
-use Rattle.ob_invocation_spec.specs.Replies.{Invocation}
-use Rattle.ob_code.specs.declared.image.Image.{Image}
-use Rattle.ob_machine_parts.specs.Shown.{reads_of}
-use Rattle.ob_machine_parts.proofs.WorldLemmas.{count_over}
-use Rattle.ob_machine_steps.specs.Entries.{started}
-use Rattle.ob_machine_steps.specs.Outcomes.{outcome}
-use Rattle.ob_code_table.specs.ImageTables.{table_of_image}
-use Rattle.ob_machine_meaning.specs.Meanings.{machine_meaning}
-use Rattle.ob_machine.specs.Shown.{cause_of}
-use Rattle.ob_machine.specs.declared.progress.Cause.{Cause}
-use Rattle.ob_machine.specs.declared.progress.Progress.{Progress}
-use Rattle.ob_machine.specs.declared.progress.Progress.TheVariants.{Finished, Aborted, Going}
 use Rattle.ob_wire.specs.declared.reply.Answer.{Answer}
-use Rattle.ob_exec_entries.specs.Entering.{use_of, machine_entry}
-use Rattle.ob_exec_entries.specs.declared.entered.Entered.{Entered}
-use Rattle.ob_exec_handles.specs.Spending.{item_of, SpendsSo}
 use Rattle.ob_exec_handles.specs.declared.answered.Answered.{Answered}
 use Rattle.ob_exec_handles.specs.declared.spent.Spent.{Spent}
 use Rattle.ob_exec_handles.proofs.SpendingLemmas.{all_itself, all_on, all_both, all_left, all_right, same_items, first_last, onward_puts, shared_reads, puts_within}
-use Rattle.ob_exec.specs.Bodies.{body_number}
-use Rattle.ob_exec.specs.Ending.{EndsSo, HasSpent}
-use Rattle.ob_exec.specs.Reading.{object_read, is_shared_given, given_read, end_read}
-use Rattle.ob_exec.specs.Standing.{StandsFor, entering, running, AreUsesRead, ComesAfter}
+use Rattle.ob_exec.specs.Reading.{object_read, is_shared_given, given_read}
+use Rattle.ob_exec.specs.Standing.{AreUsesRead}
 use Rattle.ob_exec.specs.declared.invoked.Invoked.{Invoked}
 use Rattle.ob_exec.proofs.ReadingLemmas.{uses_more}
-use Rattle.ob_exec.proofs.RunLemmas.{comes_of_end, same_first, none_found}
-use Rattle.ob_exec.proofs.StartLemmas.{with_number}
 
 -- What is answered, with what is spent.
 
@@ -105,7 +77,7 @@ marked_reads w n count made =
     by false = same_items w.reads (w.reads ++ []) (sym (append-nil w.reads))
 
 -- the handle on what is given
-given_reads : (w : World) (count : ℕ) (who : List ℕ) (into : Option (List ℕ)) (given : Option Mode) (value : Option values.Value)
+pub given_reads : (w : World) (count : ℕ) (who : List ℕ) (into : Option (List ℕ)) (given : Option Mode) (value : Option values.Value)
     → ((n : ℕ) → is_made w n ≡ not (nat_lt n count))
     → ReadSame (mark_puts w (option_map_or (λ name. put_given (handle_name who name) given value) into [])).reads (w.reads ++ given_read count into given value)
 given_reads w count who None given value made = same_items w.reads (w.reads ++ []) (sym (append-nil w.reads))
@@ -119,7 +91,7 @@ given_reads w count who (Some name) (Some Shared) (Some (values.reference n)) ma
 given_reads w count who (Some name) (Some Unowned) (Some (values.reference n)) made = same_items w.reads (w.reads ++ []) (sym (append-nil w.reads))
 
 -- an object is made by the run where it isn't one of the base
-made_test : (c m n l k : ℕ) → l ≡ c + m → k ≡ m → nat_le l (n + k) ≡ not (nat_lt n c)
+pub made_test : (c m n l k : ℕ) → l ≡ c + m → k ≡ m → nat_le l (n + k) ≡ not (nat_lt n c)
 made_test c m n l k e f = ap (λ x. nat_le x (n + k)) e ∙ ap (λ x. nat_le (c + m) (n + x)) f ∙ by (nat_lt n c) refl
   where
     by : (b : Bool) → nat_lt n c ≡ b → nat_le (c + m) (n + m) ≡ not b
@@ -129,7 +101,7 @@ made_test c m n l k e f = ap (λ x. nat_le x (n + k)) e ∙ ap (λ x. nat_le (c 
 -- The end of a run.
 
 -- what is read where the run gives a result
-done_reads : (w : World) (uses : List HandleUse) (into : List NamedHandle) (reads run given all : List ReadItem)
+pub done_reads : (w : World) (uses : List HandleUse) (into : List NamedHandle) (reads run given all : List ReadItem)
     → all ≡ (reads ++ run) ++ given → ReadSame w.reads run → AreUsesRead reads uses
     → ReadSame (mark_puts (mark_puts w (flat_map put_after_use uses)) into).reads ((mark_puts w (flat_map put_after_use uses)).reads ++ given)
     → ReadSame ((mark_puts w (flat_map put_after_use uses ++ into)).reads ++ reads) all
@@ -163,109 +135,3 @@ done_reads w uses into reads run given all told same there marks =
         let first = onward_puts (flat_map put_after_use uses) w in
         let last = onward_puts into (mark_puts w (flat_map put_after_use uses)) in
         all_on w.reads (mark_puts w (flat_map put_after_use uses)).reads (mark_puts (mark_puts w (flat_map put_after_use uses)) into).reads first.reads last.reads
-
-gives_spends : (base : Stored) (who : List ℕ) (into : Option (List ℕ)) (entered : Entered) (e : Entry) (reads : List ReadItem) (result : Option values.Value) (w : World)
-    (given : Option Value) (taken : ℕ) (changes : Changes) (spent : Spent) → result ≡ option_map value_of given → w.objects ≡ objects_over base.objects changes
-    → w.taken ≡ taken → w.made ≡ length changes.made → ReadSame w.reads (reads_of changes) → StandsFor (content_of base) who into entered e
-    → AreUsesRead reads (handle_uses (content_of base) e) → spent.taken ≡ taken
-    → map item_of spent.reads ≡ (reads ++ reads_of changes) ++ end_read (length base.objects) into entered.given (Finished given)
-    → (spent.taken ≡ (mark_puts w (puts_after (content_of base) e result)).taken)
-    × ReadSame ((mark_puts w (puts_after (content_of base) e result)).reads ++ reads) (map item_of spent.reads)
-gives_spends base who into entered e reads result w given taken changes spent is objects units made same stands uses told told_reads =
-    let on = onward_puts (puts_after (content_of base) e result) w in
-    let marked = onward_puts (flat_map put_after_use (handle_uses (content_of base) e)) w in
-    let count : length w.objects ≡ length base.objects + length changes.made = ap length objects ∙ count_over base.objects changes in (
-      told ∙ sym units ∙ sym on.taken,
-      done_reads w (handle_uses (content_of base) e) (put_into e result) reads (reads_of changes) (given_read (length base.objects) e.into e.given result)
-          (map item_of spent.reads)
-          (told_reads
-          ∙ ap (λ x. (reads ++ reads_of changes) ++ given_read (length base.objects) x entered.given (option_map value_of given)) (sym stands.name)
-          ∙ ap (λ x. (reads ++ reads_of changes) ++ given_read (length base.objects) e.into x (option_map value_of given)) stands.given
-          ∙ ap (λ x. (reads ++ reads_of changes) ++ given_read (length base.objects) e.into e.given x) (sym is)) same uses
-          (given_reads (mark_puts w (flat_map put_after_use (handle_uses (content_of base) e))) (length base.objects) e.who e.into e.given result
-          (λ n. made_test (length base.objects) (length changes.made) n
-          (length (mark_puts w (flat_map put_after_use (handle_uses (content_of base) e))).objects)
-          (mark_puts w (flat_map put_after_use (handle_uses (content_of base) e))).made (marked.count ∙ count) (marked.made ∙ made))),
-    )
-
--- where the run aborts
-abort_reads : (s : WorldSpent) (reads run all : List ReadItem) (b : Bool) → all ≡ (reads ++ run) ++ (if b then [] else []) → ReadSame s.reads run
-    → ReadSame (s.reads ++ reads) all
-abort_reads s reads run all b told same =
-    subst (ReadSame (s.reads ++ reads)) (sym (told ∙ none b)) (
-      all_both s.reads reads (reads ++ run) (all_right reads run s.reads same.0) (all_left reads run reads (all_itself reads)),
-      all_both reads run (s.reads ++ reads) (all_right s.reads reads reads (all_itself reads)) (all_left s.reads reads run same.1),
-    )
-  where
-    none : (b : Bool) → (reads ++ run) ++ (if b then [] else []) ≡ reads ++ run
-    none true = append-nil (reads ++ run)
-    none false = append-nil (reads ++ run)
-
-spends : (table : ClassTable) (base : Stored) (who : List ℕ) (into : Option (List ℕ)) (entered : Entered) (e : Entry) (reads : List ReadItem)
-    (o : RunOutcome (Option values.Value)) (progress : Progress) (taken : ℕ) (changes : Changes) (spent : Spent) → EndsSo o progress base.objects changes
-    → HasSpent o taken changes → StandsFor (content_of base) who into entered e → AreUsesRead reads (handle_uses (content_of base) e) → spent.taken ≡ taken
-    → map item_of spent.reads ≡ (reads ++ reads_of changes) ++ end_read (length base.objects) into entered.given progress
-    → SpendsSo (ended table (content_of base) e reads o) spent
-spends table base who into entered e reads (gives result w) (Finished given) taken changes spent ends has stands uses told told_reads =
-    gives_spends base who into entered e reads result w given taken changes spent ends.0 ends.1 has.0 has.1 has.2 stands uses told told_reads
-spends table base who into entered e reads (gives result w) (Aborted cause) taken changes spent ends has stands uses told told_reads = absurd ends
-spends table base who into entered e reads (gives result w) Going taken changes spent ends has stands uses told told_reads = absurd ends
-spends table base who into entered e reads (aborts cause s) (Finished given) taken changes spent ends has stands uses told told_reads = absurd ends
-spends table base who into entered e reads (aborts cause s) (Aborted by) taken changes spent ends has stands uses told told_reads =
-    (told ∙ sym has.0, abort_reads s reads (reads_of changes) (map item_of spent.reads) (is_shared_given into entered.given) told_reads has.1)
-spends table base who into entered e reads (aborts cause s) Going taken changes spent ends has stands uses told told_reads = absurd ends
-spends table base who into entered e reads wrong progress taken changes spent ends has stands uses told told_reads = absurd has
-
-pub run_spends : (image : Image) (base : Stored) (fuel : ℕ) (who : List ℕ) (into : Option (List ℕ)) (entered : Entered) (items : List ReadItem) (i : Invocation)
-    (number : TxId) (progress : Progress) (taken : ℕ) (changes : Changes) (spent : Spent)
-    → ComesAfter (running image (content_of base) fuel) (content_of base) who into entered items i
-    → body_number image (machine_entry entered).receiver entered.contract entered.tx ≡ Some number
-    → EndsSo (outcome image (started image (with_number number (machine_entry entered)) (content_of base).objects fuel)) progress base.objects changes
-    → HasSpent (outcome image (started image (with_number number (machine_entry entered)) (content_of base).objects fuel)) taken changes
-    → spent.taken ≡ taken
-    → map item_of spent.reads ≡ (items ++ reads_of changes) ++ end_read (length base.objects) into entered.given progress
-    → SpendsSo i spent
-run_spends image base fuel who into entered items i number progress taken changes spent k h ends has told told_reads =
-    subst (λ j. SpendsSo j spent)
-    (sym (comes_of_end image (content_of base) fuel who into entered i number (record { entry = k.entry; reads = k.reads; stands = k.stands; is = k.is }) h))
-    (spends (table_of_image image) base who into entered k.entry k.reads
-    (outcome image (started image (with_number number (machine_entry entered)) (content_of base).objects fuel)) progress taken changes spent ends has k.stands k.uses told
-    (told_reads ∙ ap (λ rs. (rs ++ reads_of changes) ++ end_read (length base.objects) into entered.given progress) k.told))
-
--- The entry test.
-
--- what is spent where it fails
-pub test_spends : (meaning : Meaning) (table : ClassTable) (content : Content) (fuel : ℕ) (e : Entry) (reads : List ReadItem) (found : Option HandleUse) (cause : Cause)
-    (spent : Spent) → option_map cause_of (Some cause) ≡ option_map (outside_cause content.objects) found → spent.taken ≡ 0 → map item_of spent.reads ≡ reads
-    → SpendsSo (after_entry_test meaning table content fuel e reads found) spent
-test_spends meaning table content fuel e reads None cause spent h told told_reads = absurd (none_some (sym h))
-test_spends meaning table content fuel e reads (Some u) cause spent h told told_reads = (told, same_items reads (map item_of spent.reads) (sym told_reads))
-
--- what is entered passes it
-pub passes_after : (image : Image) (content : Content) (fuel : ℕ) (who : List ℕ) (into : Option (List ℕ)) (entered : Entered) (items : List ReadItem) (i : Invocation)
-    → ComesAfter (entering image content fuel) content who into entered items i
-    → option_map cause_of None ≡ option_map (outside_cause content.objects) (find (is_outside_use (table_of_image image) content.objects) (map (use_of who) entered.uses))
-    → ComesAfter (running image content fuel) content who into entered items i
-passes_after image content fuel who into entered items i k h = record {
-  entry = k.entry;
-  reads = k.reads;
-  stands = k.stands;
-  is = k.is ∙ ap (after_entry_test (machine_meaning image) (table_of_image image) content fuel k.entry k.reads)
-      (same_first image content who into entered i fuel (record { entry = k.entry; reads = k.reads; stands = k.stands; is = k.is })
-      ∙ none_found (outside_cause content.objects) _ h);
-  told = k.told;
-  uses = k.uses;
-}
-
--- it fails it
-pub fails_spends : (image : Image) (base : Stored) (fuel : ℕ) (who : List ℕ) (into : Option (List ℕ)) (entered : Entered) (items : List ReadItem) (i : Invocation)
-    (cause : Cause) (spent : Spent) → ComesAfter (entering image (content_of base) fuel) (content_of base) who into entered items i
-    → option_map cause_of (Some cause) ≡ option_map (outside_cause (content_of base).objects) (find (is_outside_use (table_of_image image) (content_of base).objects) (map (use_of who) entered.uses))
-    → spent.taken ≡ 0 → map item_of spent.reads ≡ items → SpendsSo i spent
-fails_spends image base fuel who into entered items i cause spent k h told told_reads =
-    subst (λ j. SpendsSo j spent) (sym k.is)
-    (test_spends (machine_meaning image) (table_of_image image) (content_of base) fuel k.entry k.reads
-    (first_outside_use (table_of_image image) (content_of base) k.entry) cause spent
-    (h ∙ ap (option_map (outside_cause (content_of base).objects))
-    (sym (same_first image (content_of base) who into entered i fuel (record { entry = k.entry; reads = k.reads; stands = k.stands; is = k.is }))))
-    told (told_reads ∙ k.told))

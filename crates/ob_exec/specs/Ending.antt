@@ -1,11 +1,10 @@
 -- How the code tells of the end of a run (this project's own).
-use Rattle.std.specs.Prelude.{◌≡◌, ℕ, List, length, Option, option_map, ⊤}
+use Rattle.std.specs.Prelude.{◌≡◌, List, Option, option_map, ⊤}
 use Rattle.ob_heap_spec.specs.Values.{Value}
-use Rattle.ob_heap_spec.specs.Worlds.{RunOutcome, gives, aborts, wrong, ReadSame}
+use Rattle.ob_heap_spec.specs.Worlds.{RunOutcome, gives, aborts, wrong}
 use Rattle.ob_heap.specs.declared.object.Object.{Object}
 use Rattle.ob_heap.specs.Overlays.{Changes, objects_over}
 use Rattle.ob_heap.specs.Plain.{value_of}
-use Rattle.ob_machine_parts.specs.Shown.{reads_of}
 use Rattle.ob_machine.specs.Shown.{cause_of}
 use Rattle.ob_machine.specs.declared.progress.Progress.{Progress}
 use Rattle.ob_machine.specs.declared.progress.Progress.TheVariants.{Finished, Aborted}
@@ -22,9 +21,3 @@ abbrev pub EndsSo : RunOutcome (Option Value) → Progress → List Object → C
 EndsSo (gives result w) (Finished given) base o = (result ≡ option_map value_of given) × (w.objects ≡ objects_over base o)
 EndsSo (aborts cause s) (Aborted told) base o = cause ≡ cause_of told
 EndsSo outcome progress base o = ⊥
-
--- A run has taken so many units, and has made and read what the changes say, in whatever order it has read.
-abbrev pub HasSpent : RunOutcome (Option Value) → ℕ → Changes → Type 0
-HasSpent (gives result w) taken o = (w.taken ≡ taken) × (w.made ≡ length o.made) × ReadSame w.reads (reads_of o)
-HasSpent (aborts cause s) taken o = (s.taken ≡ taken) × ReadSame s.reads (reads_of o)
-HasSpent wrong taken o = ⊥

@@ -1,17 +1,14 @@
 -- What a `new` or a `call` reads, as the code tells it (this project's own).
-use Rattle.std.specs.Prelude.{ℕ, Bool, true, false, nat_lt, List, [], ◌∷◌, ◌++◌, Option, Some, None, option_map, if◌then◌else◌}
+use Rattle.std.specs.Prelude.{ℕ, Bool, true, false, nat_lt, List, [], ◌∷◌, ◌++◌, Option, Some, None, if◌then◌else◌}
 use Rattle.std.specs.Option.{option_map_or}
 use Rattle.ob_base.specs.declared.permission.Mode.{Mode}
 use Rattle.ob_base.specs.declared.permission.Mode.TheVariants.{Shared}
 use Rattle.ob_heap_spec.specs.Contents.{Content}
 use Rattle.ob_heap_spec.specs.Values.{Value, reference}
 use Rattle.ob_heap_spec.specs.Worlds.{ReadItem, object_item}
-use Rattle.ob_heap.specs.Plain.{value_of}
 use Rattle.ob_invocation_spec.specs.Handles.{handle_name, handle_reads}
 use Rattle.ob_invocation_spec.specs.Refusals.{is_no_handle}
 use Rattle.ob_invocation_spec.specs.Requests.{argument_name}
-use Rattle.ob_machine.specs.declared.progress.Progress.{Progress}
-use Rattle.ob_machine.specs.declared.progress.Progress.TheVariants.{Finished}
 use Rattle.ob_wire.specs.Meanings.{argument_meant}
 use Rattle.ob_wire.specs.declared.refusal.Refusal.{Refusal}
 use Rattle.ob_wire.specs.declared.request.Arg.{Arg}
@@ -68,12 +65,3 @@ is_shared_given into given = false
 -- what is read where what is given is put into a handle
 abbrev pub given_read : ℕ → Option (List ℕ) → Option Mode → Option Value → List ReadItem
 given_read count into given value = if is_shared_given into given then value_read count value else []
-
--- the same by how far a run has come
-abbrev pub result_read : ℕ → Progress → List ReadItem
-result_read count (Finished value) = value_read count (option_map value_of value)
-result_read count progress = []
-
--- what the end of a run reads: the object that it gives, where that is put into a Shared handle
-abbrev pub end_read : ℕ → Option (List ℕ) → Option Mode → Progress → List ReadItem
-end_read count into given progress = if is_shared_given into given then result_read count progress else []

@@ -5,7 +5,7 @@ use Rattle.ob_heap_spec.specs.Contents.{Content}
 use Rattle.ob_heap_spec.specs.Worlds.{ReadItem, object_item}
 use Rattle.ob_invocation_spec.specs.Entries.{HandleUse, Entry, handle_uses}
 use Rattle.ob_invocation_spec.specs.Entering.{run_entry}
-use Rattle.ob_invocation_spec.specs.Invocation.{ended, enter_entry}
+use Rattle.ob_invocation_spec.specs.Invocation.{ended}
 use Rattle.ob_invocation_spec.specs.Replies.{Invocation}
 use Rattle.ob_code.specs.declared.image.Image.{Image}
 use Rattle.ob_code_table.specs.ImageTables.{table_of_image}
@@ -25,11 +25,7 @@ pub record StandsFor (content : Content) (who : List ℕ) (into : Option (List �
 abbrev pub Way : Type 0
 Way = List ReadItem → Entry → Invocation
 
--- by code, with so many units
-abbrev pub entering : Image → Content → ℕ → Way
-entering image content fuel reads e = enter_entry (machine_meaning image) (table_of_image image) content fuel reads e
-
--- the same once it has passed its entry test
+-- by code, with so many units, once it has passed its entry test
 abbrev pub running : Image → Content → ℕ → Way
 running image content fuel reads e =
     ended (table_of_image image) content e reads (run_entry (machine_meaning image) content fuel e)
@@ -44,12 +40,3 @@ pub record ComesBy (way : Way) (content : Content) (who : List ℕ) (into : Opti
 -- the object of each use was read
 abbrev pub AreUsesRead : List ReadItem → List HandleUse → Type 0
 AreUsesRead reads uses = AllByRecursion (λ (u : HandleUse). Contains reads (object_item u.handle.object)) uses
-
--- The same of an invocation before which just these items were read, the object of each use among them.
-pub record ComesAfter (way : Way) (content : Content) (who : List ℕ) (into : Option (List ℕ)) (entered : Entered) (items : List ReadItem) (i : Invocation) : Type 0 where
-  pub entry : Entry
-  pub reads : List ReadItem
-  pub stands : StandsFor content who into entered entry
-  pub is : i ≡ way reads entry
-  pub told : items ≡ reads
-  pub uses : AreUsesRead reads (handle_uses content entry)

@@ -24,10 +24,10 @@ use Rattle.ob_machine_steps.specs.Runs.{Stop, over, after_step, pays, waits, lef
 use Rattle.ob_machine_steps.specs.Runs as steps
 use Rattle.ob_machine_laws.proofs.Measuring.{lowers}
 use Rattle.ob_machine_laws.proofs.Slicing.{none_paused, over_paused, paused_same}
-use Rattle.ob_locality_laws.specs.Locality.{phase_onto}
-use Rattle.ob_request_run_spec.specs.Held.{laid_over}
-use Rattle.ob_request_run_spec.specs.Runs.{Run, opened, paused, answered, lost}
-use Rattle.ob_request_run_spec.specs.Slices.{stops_so, with_thing, refused_or, unless_refused, entered, after_entry_test, enters, begins, shows_owner, opens, entry_of, sliced, slice}
+use Rattle.ob_request_run_laws.specs.Locality.{phase_onto}
+use Rattle.ob_request_run_laws.specs.Held.{laid_over}
+use Rattle.ob_request_run_laws.specs.Runs.{Run, opened, paused, answered, lost}
+use Rattle.ob_request_run_laws.specs.Slices.{stops_so, with_thing, refused_or, unless_refused, entered, after_entry_test, enters, begins, shows_owner, opens, entry_of, sliced, slice}
 use Rattle.ob_request_run_laws.proofs.Enough.{entry_fuel}
 use Rattle.ob_lanes_spec.specs.Measures.{Distances}
 use Rattle.ob_lanes_spec.specs.Requests.{Stores, has_ended, request_rules, steps_of_run}

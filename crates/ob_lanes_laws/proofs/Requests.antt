@@ -14,8 +14,8 @@ use Rattle.ob_machine_meaning.specs.Meanings.{machine_invocation}
 use Rattle.ob_machine_steps.specs.Measures.{LeadsAhead}
 use Rattle.ob_unowned_laws.specs.Laws.{KeepsStores, LeavesUnowned}
 use Rattle.ob_unowned_laws.proofs.Unowned.{unowned_stay_so}
-use Rattle.ob_request_run_spec.specs.Runs.{Answer, Run, opened, paused, answered, lost, reads_of_run, content_after, invoked_by}
-use Rattle.ob_request_run_spec.specs.Slices.{slice, slices}
+use Rattle.ob_request_run_laws.specs.Runs.{Answer, Run, opened, paused, answered, lost, reads_of_run, content_after, invoked_by}
+use Rattle.ob_request_run_laws.specs.Slices.{slice, slices}
 use Rattle.ob_request_run_laws.specs.Laws.{ComesTo, OwnsAlike}
 use Rattle.ob_request_run_laws.proofs.There.{handles_below}
 use Rattle.ob_request_run_laws.proofs.Whole.{slices_come_to}

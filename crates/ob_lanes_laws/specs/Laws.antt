@@ -9,7 +9,7 @@ use Rattle.ob_code.specs.declared.image.Image.{Image}
 use Rattle.ob_code_table.specs.ImageTables.{table_of_image}
 use Rattle.ob_machine_steps.specs.Measures.{LeadsAhead}
 use Rattle.ob_unowned_laws.specs.Laws.{KeepsStores}
-use Rattle.ob_request_run_spec.specs.Runs.{Run}
+use Rattle.ob_request_run_laws.specs.Runs.{Run}
 use Rattle.ob_request_run_laws.specs.Laws.{AgreeOn}
 use Rattle.ob_lanes_spec.specs.Schedule.{Rules, Busy, Lanes, Event, idle, is_done, after_events}
 use Rattle.ob_lanes_spec.specs.Serial.{Meaning, IsSerializable, RunsAlone, AreLocal}

@@ -7,8 +7,8 @@ use Rattle.ob_code.specs.declared.image.Image.{Image}
 use Rattle.ob_code_table.specs.ImageTables.{table_of_image}
 use Rattle.ob_machine_steps.specs.Measures.{longest, steps_left}
 use Rattle.ob_machine_meaning.specs.Meanings.{machine_invocation}
-use Rattle.ob_request_run_spec.specs.Runs.{Run, opened, paused, answered, lost, reads_of_run, content_after}
-use Rattle.ob_request_run_spec.specs.Slices.{slice}
+use Rattle.ob_request_run_laws.specs.Runs.{Run, opened, paused, answered, lost, reads_of_run, content_after}
+use Rattle.ob_request_run_laws.specs.Slices.{slice}
 use Rattle.ob_lanes_spec.specs.Schedule.{Rules}
 use Rattle.ob_lanes_spec.specs.Conflicts.{conflicts}
 

@@ -38,11 +38,11 @@ use Rattle.ob_machine_meaning.specs.Meanings.{machine_invocation}
 use Rattle.ob_machine_steps.specs.Measures.{steps_left, LeadsAhead}
 use Rattle.ob_machine_steps.specs.Runs.{Stop, over, run_in, after_steps, world_of}
 use Rattle.ob_machine_steps.specs.Runs as steps
-use Rattle.ob_locality_laws.specs.Locality.{phase_onto}
-use Rattle.ob_locality_laws.proofs.Lists.{none_is_some, some_is, all_read_self}
-use Rattle.ob_request_run_spec.specs.Held.{Held, laid_over, held_by}
-use Rattle.ob_request_run_spec.specs.Runs.{NameChange, Run, opened, paused, answered, lost, done_in, puts_in, put_of, unchanged}
-use Rattle.ob_request_run_spec.specs.Slices.{stops_so, sliced, with_thing, refused_or, unless_refused, entered, after_entry_test, enters, begins, disowns, sees, shows_owner, asks_owner, opens, slice, slices}
+use Rattle.ob_request_run_laws.specs.Locality.{phase_onto}
+use Rattle.ob_request_run_laws.proofs.Lists.{none_is_some, some_is, all_read_self}
+use Rattle.ob_request_run_laws.specs.Held.{Held, laid_over, held_by}
+use Rattle.ob_request_run_laws.specs.Runs.{NameChange, Run, opened, paused, answered, lost, done_in, puts_in, put_of, unchanged}
+use Rattle.ob_request_run_laws.specs.Slices.{stops_so, sliced, with_thing, refused_or, unless_refused, entered, after_entry_test, enters, begins, disowns, sees, shows_owner, asks_owner, opens, slice, slices}
 use Rattle.ob_request_run_laws.specs.Laws.{IsReadAs, HasReadChanges}
 use Rattle.ob_request_run_laws.proofs.Checks.{read_left, first_passed, rest_read}
 use Rattle.ob_request_run_laws.proofs.Found.{then_each, where_each}

@@ -13,7 +13,7 @@ use Rattle.ob_invocation_spec.specs.Handles.{handle_name, handle_reads, serves}
 use Rattle.ob_invocation_spec.specs.Refusals.{handle_check, argument_checks, is_no_transaction, receiver_serves, use_serves, is_repeated, making_checks, entry_checks, found_checks, new_checks, call_checks, give_checks}
 use Rattle.ob_invocation_spec.specs.Replies.{Refusal, no_contract, not_main, no_transaction, arg_count, arg_kind, permission, repeated, into_missing, into_needless}
 use Rattle.ob_invocation_spec.specs.Requests.{argument_names, NewRequest, CallRequest, GiveRequest}
-use Rattle.ob_locality_laws.proofs.Lists.{some_is_none}
+use Rattle.ob_request_run_laws.proofs.Lists.{some_is_none}
 use Rattle.ob_request_run_laws.specs.Laws.{AgreeOn}
 use Rattle.ob_request_run_laws.proofs.Found.{IsFound, found_by, AreFound, arguments_found, IsEntryFound, kinds_same, argument_uses_same, uses_same, new_found, call_found, call_same}
 

@@ -9,7 +9,7 @@ use Rattle.ob_heap_spec.specs.Worlds.{ReadItem, handle_item}
 use Rattle.ob_heap_spec.specs.Handles.{NamedHandle}
 use Rattle.ob_invocation_laws.proofs.Handles.{found_put, found_gone}
 use Rattle.ob_invocation_laws.proofs.Kept.{one_name_tested}
-use Rattle.ob_request_run_spec.specs.Runs.{NameChange, Answer, changed_to, changed_by, content_after}
+use Rattle.ob_request_run_laws.specs.Runs.{NameChange, Answer, changed_to, changed_by, content_after}
 use Rattle.ob_request_run_laws.specs.Laws.{HasRead, DifferOn}
 use Rattle.ob_request_run_laws.proofs.Laid.{laid_length, laid_unheld}
 

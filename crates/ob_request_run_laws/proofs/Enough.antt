@@ -34,8 +34,8 @@ use Rattle.ob_machine_steps.specs.Runs.{Stop, over, run_in}
 use Rattle.ob_machine_steps.specs.Runs as steps
 use Rattle.ob_machine_laws.proofs.Fuel.{shared_fuel}
 use Rattle.ob_machine_laws.proofs.Paying.{whole_ends}
-use Rattle.ob_request_run_spec.specs.Runs.{Run, opened}
-use Rattle.ob_request_run_spec.specs.Slices.{stops_so, with_thing, refused_or, unless_refused, entered, after_entry_test, enters, begins, shows_owner, opens, slice}
+use Rattle.ob_request_run_laws.specs.Runs.{Run, opened}
+use Rattle.ob_request_run_laws.specs.Slices.{stops_so, with_thing, refused_or, unless_refused, entered, after_entry_test, enters, begins, shows_owner, opens, slice}
 use Rattle.ob_request_run_laws.specs.Laws.{HasEnded}
 
 -- Marks take no unit, so a run begins with all its units.

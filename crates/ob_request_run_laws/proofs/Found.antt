@@ -24,7 +24,7 @@ use Rattle.ob_invocation_spec.specs.Entries.{HandleUse, Entry, mode_of_result, u
 use Rattle.ob_invocation_spec.specs.Handles.{handle_name, handle_reads}
 use Rattle.ob_invocation_spec.specs.Refusals.{is_of_type, is_argument_for, has_other_kind}
 use Rattle.ob_invocation_spec.specs.Requests.{Argument, int_argument, bool_argument, text_argument, handle_argument, other_argument, argument_names, NewRequest, CallRequest}
-use Rattle.ob_locality_laws.proofs.Lists.{none_is_some, some_is}
+use Rattle.ob_request_run_laws.proofs.Lists.{none_is_some, some_is}
 use Rattle.ob_request_run_laws.specs.Laws.{AgreeOn}
 
 -- A name stands for the same on both, and so does the object.

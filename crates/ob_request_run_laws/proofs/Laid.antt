@@ -7,9 +7,9 @@ use Rattle.std.specs.Option.{unwrap_or}
 use Rattle.ob_heap_spec.specs.Objects.{Object}
 use Rattle.ob_heap_spec.specs.Contents.{object_at}
 use Rattle.ob_heap_spec.specs.Worlds.{ReadItem, object_item, next_item, handle_item, handles_full_item, World, AllRead}
-use Rattle.ob_locality_laws.specs.Locality.{Setting, IsKnown, Alike, onto, IsGood}
-use Rattle.ob_locality_laws.proofs.Lists.{none_is_some, all_read_more, past_end, there_is}
-use Rattle.ob_request_run_spec.specs.Held.{Held, with_held, held_of, held_by, found, laid_from, laid_over}
+use Rattle.ob_request_run_laws.specs.Locality.{Setting, IsKnown, Alike, onto, IsGood}
+use Rattle.ob_request_run_laws.proofs.Lists.{none_is_some, all_read_more, past_end, there_is}
+use Rattle.ob_request_run_laws.specs.Held.{Held, with_held, held_of, held_by, found, laid_from, laid_over}
 
 -- Lists.
 

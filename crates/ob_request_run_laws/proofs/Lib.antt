@@ -1,3 +1,10 @@
+pub mod Lists
+pub mod Moves
+pub mod Follows
+pub mod Instructions
+pub mod Slices
+pub mod Entries
+pub mod Local
 pub mod Laid
 pub mod Steps
 pub mod Standing

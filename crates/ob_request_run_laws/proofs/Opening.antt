@@ -39,13 +39,13 @@ use Rattle.ob_machine_steps.specs.Outcomes.{outcome}
 use Rattle.ob_machine_steps.specs.Measures.{steps_left, LeadsAhead}
 use Rattle.ob_machine_steps.specs.Runs.{Stop, over, run_in, after_steps}
 use Rattle.ob_machine_steps.specs.Runs as steps
-use Rattle.ob_locality_laws.specs.Laws.{setting}
-use Rattle.ob_locality_laws.specs.Locality.{Setting, reads_of_stop, ComesThere}
-use Rattle.ob_locality_laws.proofs.Entries.{first_alike, first_good, entry_moves}
-use Rattle.ob_locality_laws.proofs.Lists.{none_is_some, some_is_none, some_is, all_read_self, all_read_on, all_read_more, there_is}
-use Rattle.ob_locality_laws.proofs.Moves.{Moves, moves_self, moves_from, reads_grow, disowned_moves}
-use Rattle.ob_request_run_spec.specs.Runs.{Run, reads_of_run, puts_in, put_of, unchanged}
-use Rattle.ob_request_run_spec.specs.Slices.{stops_so, sliced, with_thing, refused_or, unless_refused, body_number, entered, after_entry_test, enters, begins, disowns, sees, shows_owner, asks_owner, opens}
+use Rattle.ob_request_run_laws.specs.LocalityLaws.{setting}
+use Rattle.ob_request_run_laws.specs.Locality.{Setting, reads_of_stop, ComesThere}
+use Rattle.ob_request_run_laws.proofs.Entries.{first_alike, first_good, entry_moves}
+use Rattle.ob_request_run_laws.proofs.Lists.{none_is_some, some_is_none, some_is, all_read_self, all_read_on, all_read_more, there_is}
+use Rattle.ob_request_run_laws.proofs.Moves.{Moves, moves_self, moves_from, reads_grow, disowned_moves}
+use Rattle.ob_request_run_laws.specs.Runs.{Run, reads_of_run, puts_in, put_of, unchanged}
+use Rattle.ob_request_run_laws.specs.Slices.{stops_so, sliced, with_thing, refused_or, unless_refused, body_number, entered, after_entry_test, enters, begins, disowns, sees, shows_owner, asks_owner, opens}
 use Rattle.ob_request_run_laws.specs.Laws.{AgreeOn, OwnsAlike}
 use Rattle.ob_request_run_laws.proofs.Checks.{EachSame, checks_same, read_left, read_right, new_same, call_checks_same, give_same, one_same, new_entry_found, call_entry_found, on_found, call_on_found}
 use Rattle.ob_request_run_laws.proofs.Found.{IsEntryOn, IsEntryFound, values_same, outside_use_same, outside_found, call_same, new_on, call_on}

@@ -27,7 +27,7 @@ use Rattle.ob_heap_spec.proofs.Names.{names_total}
 use Rattle.ob_invocation_spec.specs.Showing.{place_item}
 use Rattle.ob_invocation_laws.proofs.Handles.{Before, head_of, tail_of, head_before, tail_pairs}
 use Rattle.ob_invocation_laws.proofs.Kept.{one_name_tested}
-use Rattle.ob_locality_laws.proofs.Lists.{none_is_some, some_is}
+use Rattle.ob_request_run_laws.proofs.Lists.{none_is_some, some_is}
 use Rattle.ob_request_run_laws.specs.Laws.{AgreeOn}
 
 -- What is in a list.

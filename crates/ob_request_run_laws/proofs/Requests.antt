@@ -13,13 +13,13 @@ use Rattle.ob_code_table.specs.ImageTables.{table_of_image}
 use Rattle.ob_machine_meaning.specs.Meanings.{machine_invocation}
 use Rattle.ob_machine_steps.specs.Measures.{steps_left, LeadsAhead}
 use Rattle.ob_machine_steps.specs.Runs.{Stop, run_in, world_of}
-use Rattle.ob_locality_laws.specs.Laws.{setting}
-use Rattle.ob_locality_laws.specs.Locality.{Setting, Alike, phase_onto, reads_of_stop, IsGoodPhase}
-use Rattle.ob_locality_laws.proofs.Lists.{none_is_some, all_read_self, all_read_on}
-use Rattle.ob_locality_laws.proofs.Local.{slice_stays_good}
-use Rattle.ob_request_run_spec.specs.Held.{Held, laid_over}
-use Rattle.ob_request_run_spec.specs.Runs.{Run, opened, paused, answered, lost, reads_of_run}
-use Rattle.ob_request_run_spec.specs.Slices.{stops_so, sliced, with_thing, entry_of, slice, slices}
+use Rattle.ob_request_run_laws.specs.LocalityLaws.{setting}
+use Rattle.ob_request_run_laws.specs.Locality.{Setting, Alike, phase_onto, reads_of_stop, IsGoodPhase}
+use Rattle.ob_request_run_laws.proofs.Lists.{none_is_some, all_read_self, all_read_on}
+use Rattle.ob_request_run_laws.proofs.Local.{slice_stays_good}
+use Rattle.ob_request_run_laws.specs.Held.{Held, laid_over}
+use Rattle.ob_request_run_laws.specs.Runs.{Run, opened, paused, answered, lost, reads_of_run}
+use Rattle.ob_request_run_laws.specs.Slices.{stops_so, sliced, with_thing, entry_of, slice, slices}
 use Rattle.ob_request_run_laws.specs.Laws.{AgreeOn, OwnsAlike}
 use Rattle.ob_request_run_laws.proofs.Checks.{new_entry_found, call_entry_found, call_on_found}
 use Rattle.ob_request_run_laws.proofs.Found.{IsEntryOn, IsEntryFound, call_same, new_on, call_on}

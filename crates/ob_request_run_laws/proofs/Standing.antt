@@ -19,12 +19,12 @@ use Rattle.ob_machine_steps.specs.Configurations.{ended}
 use Rattle.ob_machine_steps.specs.Entries.{MachineEntry, Phase, started}
 use Rattle.ob_machine_steps.specs.Runs.{paused, over, after_steps, world_of}
 use Rattle.ob_machine_laws.specs.Laws.{LeadsSo}
-use Rattle.ob_locality_laws.specs.Locality.{IsGood, IsGoodPhase}
-use Rattle.ob_locality_laws.specs.Laws.{HasReadChanges}
-use Rattle.ob_locality_laws.proofs.Entries.{first_good, entry_good, marked_good, disowned_good}
-use Rattle.ob_locality_laws.proofs.Local.{still_xs, grown, run_stays_good, phase_world_good, changes_are_read}
-use Rattle.ob_request_run_spec.specs.Held.{nothing_held, laid_from, held_by}
-use Rattle.ob_request_run_spec.specs.Runs.{NameChange, put_of, changed_by, invoked_by}
+use Rattle.ob_request_run_laws.specs.Locality.{IsGood, IsGoodPhase}
+use Rattle.ob_request_run_laws.specs.LocalityLaws.{HasReadChanges}
+use Rattle.ob_request_run_laws.proofs.Entries.{first_good, entry_good, marked_good, disowned_good}
+use Rattle.ob_request_run_laws.proofs.Local.{still_xs, grown, run_stays_good, phase_world_good, changes_are_read}
+use Rattle.ob_request_run_laws.specs.Held.{nothing_held, laid_from, held_by}
+use Rattle.ob_request_run_laws.specs.Runs.{NameChange, put_of, changed_by, invoked_by}
 use Rattle.ob_request_run_laws.proofs.Laid.{IsKept, laid_back}
 
 -- what every run keeps of its content, and what it hasn't read is the content's

@@ -6,7 +6,7 @@ use Rattle.ob_machine_steps.specs.Configurations.{End, Next, goes, stops}
 use Rattle.ob_machine_steps.specs.Entries.{Phase, running, next_step}
 use Rattle.ob_machine_steps.specs.Runs.{Stop, paused, over, after_step, after_steps, pays, waits, left_after, run_in}
 use Rattle.ob_machine_laws.proofs.Slicing.{none_paused, over_paused, paused_same}
-use Rattle.ob_locality_laws.proofs.Lists.{none_is_some}
+use Rattle.ob_request_run_laws.proofs.Lists.{none_is_some}
 
 abbrev IsOver : Option Stop → Type 0
 IsOver None = ⊥

@@ -25,15 +25,15 @@ use Rattle.ob_code_table.specs.ImageTables.{table_of_image}
 use Rattle.ob_machine_steps.specs.Measures.{steps_left}
 use Rattle.ob_machine_steps.specs.Runs.{Stop, over, run_in, world_of}
 use Rattle.ob_machine_steps.specs.Runs as steps
-use Rattle.ob_locality_laws.specs.Laws.{setting}
-use Rattle.ob_locality_laws.specs.Locality.{Setting, onto, phase_onto, stop_onto, reads_of_stop, IsGoodPhase, IsGoodStop, AlikeStop}
-use Rattle.ob_locality_laws.proofs.Entries.{then_moves}
-use Rattle.ob_locality_laws.proofs.Lists.{all_read_self, all_read_on, there_is}
-use Rattle.ob_locality_laws.proofs.Local.{grown}
-use Rattle.ob_locality_laws.proofs.Moves.{HasAlike, Moves, moves_self, moves_from, reads_grow, shared_moves}
-use Rattle.ob_locality_laws.proofs.Slices.{FollowsStop, slice_follows, told}
-use Rattle.ob_request_run_spec.specs.Runs.{NameChange, Run, opened, paused, answered, lost, reads_of_run, done_in, puts_in, put_of, unchanged}
-use Rattle.ob_request_run_spec.specs.Slices.{stops_so, sliced}
+use Rattle.ob_request_run_laws.specs.LocalityLaws.{setting}
+use Rattle.ob_request_run_laws.specs.Locality.{Setting, onto, phase_onto, stop_onto, reads_of_stop, IsGoodPhase, IsGoodStop, AlikeStop}
+use Rattle.ob_request_run_laws.proofs.Entries.{then_moves}
+use Rattle.ob_request_run_laws.proofs.Lists.{all_read_self, all_read_on, there_is}
+use Rattle.ob_request_run_laws.proofs.Local.{grown}
+use Rattle.ob_request_run_laws.proofs.Moves.{HasAlike, Moves, moves_self, moves_from, reads_grow, shared_moves}
+use Rattle.ob_request_run_laws.proofs.Slices.{FollowsStop, slice_follows, told}
+use Rattle.ob_request_run_laws.specs.Runs.{NameChange, Run, opened, paused, answered, lost, reads_of_run, done_in, puts_in, put_of, unchanged}
+use Rattle.ob_request_run_laws.specs.Slices.{stops_so, sliced}
 use Rattle.ob_request_run_laws.proofs.Causes.{EndTellsNone, told_none, end_plain}
 use Rattle.ob_request_run_laws.proofs.Checks.{read_left}
 use Rattle.ob_request_run_laws.proofs.Found.{IsEntryFound, uses_same}

@@ -26,7 +26,7 @@ use Rattle.ob_invocation_laws.proofs.Marking.{same_length, puts_share}
 use Rattle.ob_invocation_laws.proofs.Shown.{found_object}
 use Rattle.ob_invocation_laws.proofs.Used.{IntoPut, into_put}
 use Rattle.ob_machine_meaning.specs.Meanings.{entry_of_request}
-use Rattle.ob_locality_laws.specs.Locality.{AreThere, IsReceiverThere}
+use Rattle.ob_request_run_laws.specs.Locality.{AreThere, IsReceiverThere}
 use Rattle.ob_request_run_laws.proofs.Found.{AreUses, AreArgumentsOn, IsEntryOn, uses_on}
 
 -- a number is below

@@ -31,12 +31,12 @@ use Rattle.ob_machine_steps.specs.Measures.{steps_left, LeadsAhead}
 use Rattle.ob_machine_steps.specs.Runs.{Stop, over, after_steps, run_in, world_of}
 use Rattle.ob_machine_steps.specs.Runs as steps
 use Rattle.ob_machine_laws.proofs.Ending.{over_in}
-use Rattle.ob_locality_laws.specs.Locality.{phase_onto}
-use Rattle.ob_locality_laws.proofs.Lists.{none_is_some, some_is_none, some_is}
-use Rattle.ob_request_run_spec.specs.Held.{Held, laid_over, held_by}
-use Rattle.ob_request_run_spec.specs.Runs.{Run, opened, paused, answered, lost, puts_in, invoked_by}
-use Rattle.ob_request_run_spec.specs.Slices.{ends_so, stops_so, sliced, with_thing, body_number, entered, begins, with_handle, disowns, sees, shows_owner, asks_owner, opens, entry_of, slice, slices}
-use Rattle.ob_request_run_spec.specs.Slices as run
+use Rattle.ob_request_run_laws.specs.Locality.{phase_onto}
+use Rattle.ob_request_run_laws.proofs.Lists.{none_is_some, some_is_none, some_is}
+use Rattle.ob_request_run_laws.specs.Held.{Held, laid_over, held_by}
+use Rattle.ob_request_run_laws.specs.Runs.{Run, opened, paused, answered, lost, puts_in, invoked_by}
+use Rattle.ob_request_run_laws.specs.Slices.{ends_so, stops_so, sliced, with_thing, body_number, entered, begins, with_handle, disowns, sees, shows_owner, asks_owner, opens, entry_of, slice, slices}
+use Rattle.ob_request_run_laws.specs.Slices as run
 use Rattle.ob_request_run_laws.specs.Laws.{ComesTo}
 use Rattle.ob_request_run_laws.proofs.Laid.{IsHeld, held_is, laid_back}
 use Rattle.ob_request_run_laws.proofs.Steps.{IsSome, steps_add, rest_over, in_steps, slice_some}

@@ -17,10 +17,10 @@ use Rattle.ob_machine_steps.specs.Measures.{LeadsAhead}
 use Rattle.ob_machine_meaning.specs.Meanings.{machine_invocation}
 use Rattle.ob_code_table.specs.ImageTables.{table_of_image}
 use Rattle.ob_machine_steps.specs.Runs.{world_of}
-use Rattle.ob_locality_laws.specs.Locality.{Agree}
-use Rattle.ob_request_run_spec.specs.Held.{Held, found}
-use Rattle.ob_request_run_spec.specs.Runs.{NameChange, Answer, Run, opened, paused, answered, lost, reads_of_run, content_after, invoked_by}
-use Rattle.ob_request_run_spec.specs.Slices.{slice, slices}
+use Rattle.ob_request_run_laws.specs.Locality.{Agree}
+use Rattle.ob_request_run_laws.specs.Held.{Held, found}
+use Rattle.ob_request_run_laws.specs.Runs.{NameChange, Answer, Run, opened, paused, answered, lost, reads_of_run, content_after, invoked_by}
+use Rattle.ob_request_run_laws.specs.Slices.{slice, slices}
 
 -- a run that has been answered comes to this invocation on a content, and one that is lost goes wrong there
 abbrev pub ComesTo : Content → Invocation → Run → Type 0

@@ -20,9 +20,9 @@ use Rattle.ob_code_table.specs.ImageTables.{perm_of_code, type_of_param}
 use Rattle.ob_machine_steps.specs.Outcomes.{outcome_at, outcome}
 use Rattle.ob_machine_steps.specs.Measures.{steps_left}
 use Rattle.ob_machine_steps.specs.Runs.{Stop, paused, over, after_step, after_steps, world_of}
-use Rattle.ob_locality_laws.specs.Locality.{IsGoodPhase}
-use Rattle.ob_locality_laws.proofs.Entries.{entry_good}
-use Rattle.ob_locality_laws.proofs.Local.{steps_stay_good, run_stays_good, phase_world_good}
+use Rattle.ob_request_run_laws.specs.Locality.{IsGoodPhase}
+use Rattle.ob_request_run_laws.proofs.Entries.{entry_good}
+use Rattle.ob_request_run_laws.proofs.Local.{steps_stay_good, run_stays_good, phase_world_good}
 use Rattle.ob_unowned_laws.proofs.Blind.{marked, hold, if_world, shared_held, end_held, next_held, phase_held, next_is_held}
 
 -- Steps.

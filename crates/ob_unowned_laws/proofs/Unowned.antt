@@ -18,7 +18,7 @@ use Rattle.ob_invocation_laws.proofs.Still.{handles_of, store_stays}
 use Rattle.ob_code.specs.declared.image.Image.{Image}
 use Rattle.ob_code_table.specs.ImageTables.{table_of_image}
 use Rattle.ob_machine_meaning.specs.Meanings.{machine_invocation}
-use Rattle.ob_locality_laws.proofs.Lists.{none_is_some, some_is_none, some_is, there_is}
+use Rattle.ob_request_run_laws.proofs.Lists.{none_is_some, some_is_none, some_is, there_is}
 use Rattle.ob_unowned_laws.specs.Laws.{KeepsStores, LeavesUnowned}
 use Rattle.ob_unowned_laws.proofs.Blind.{is_same, mark_if, marked, marked_get, marked_length}
 use Rattle.ob_unowned_laws.proofs.Requests.{content_marked, Alike, are_marked, owners_held, invocations_alike}

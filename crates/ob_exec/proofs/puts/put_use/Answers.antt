@@ -1,4 +1,4 @@
-use Rattle.std.proofs.Common.{◌≡◌, ◌∙◌, ◌∷◌, [], map, ap, rules}
+use Rattle.std.proofs.Common.{◌∙◌, map, ap, rules}
 use Rattle.ob_heap.specs.Contents.{named_of, IsInOrder}
 use Rattle.ob_invocation_spec.specs.Entering.{handle_in, put_after_use}
 use Rattle.ob_invocation_spec.specs.Handles.{handle_name}

@@ -1,5 +1,4 @@
-use Rattle.std.proofs.Common.{sym, subst, map, refl, rules}
-use Rattle.std.specs.Prelude.{flat_map}
+use Rattle.std.proofs.Common.{subst, map, rules}
 use Rattle.ob_heap.specs.Contents.{content_of, named_of}
 use Rattle.ob_invocation_spec.specs.Entering.{put_after_use}
 use Rattle.ob_exec_entries.specs.Entering.{use_of}

@@ -1,2 +1,0 @@
-pub mod Locality
-pub mod Laws
