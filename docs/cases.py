@@ -447,6 +447,13 @@ class Shelf(Room):
             return b" " + ended.end() + b", lines: %d" % len(written)
         return b" " + ended.end() + b"".join(b" " + line.rstrip(b"\n") for line in written)
 
+    def audit(self):
+        """A run that tells of the store, which stays as it is."""
+        before = self.store()
+        ended = self.ended = self.run([b"audit", b"p", b"s"], b"")
+        remark = b"" if before == self.store() else b", the file has changed"
+        return b" " + ended.end() + b" " * bool(ended.output) + b", ".join(ended.output.splitlines()) + remark
+
     def edit(self, old, new):
         """Puts other words into the text, in place of some that stand there."""
         path = os.path.join(self.folder, "p")
@@ -470,6 +477,8 @@ class Shelf(Room):
             return self.put({b"disk": 0, b"put": self.gate(), b"second": questions.AREA}[word], rest)
         if word == b"serve":
             return word + self.serve(rest)
+        if word == b"audit":
+            return word + self.audit()
         if word in (b"show", b"records"):
             return word + digits(self.store()[0 if word == b"show" else self.gate():])
         if word == b"areas":

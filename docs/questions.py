@@ -11,8 +11,8 @@ AMPLE = 1 << 30
 AREA = 1 << 26
 # How many calls fail, where all from one on do: more than a run of a case has.
 LATER = 100
-# How many units of fuel a run has that doesn't say it.
-FUEL = 1000
+# How many units of fuel a run of code has that doesn't say it, and a request.
+FUEL, FUEL_OF_REQUESTS = 1000, 100_000
 NO_STATE, OTHER_STATE, BITS = 32, 33, 34
 
 
@@ -793,6 +793,85 @@ def area(case):
     return answer.end(answer.bytes())
 
 
+# ---- requests run in slices
+
+# How a request is run: at once, and in slices of so many units.
+WAYS = ("at once", "in slices of 1", "in slices of 2", "in slices of 3", "in slices of 1000")
+
+
+def item_order(item):
+    """Objects by number, the next number, handles by client and name, and whether the handles are full."""
+    return ("object", "next", "handle", "full").index(item[0]), item[1:]
+
+
+def item_read(answer):
+    word = answer.word()
+    return (word, answer.number()) if word == "object" else (word, answer.bytes(), answer.bytes()) if word == "handle" else (word,)
+
+
+def item_shown(item):
+    if item[0] == "handle":
+        return b".".join(item[1:]).decode()
+    return f"o{item[1]}" if item[0] == "object" else item[0]
+
+
+def handle_shown(answer):
+    """A handle that differs: on which object it is, and how it holds that; or that it is none."""
+    name, mode = f"{answer.text()}.{answer.text()}", answer.word()
+    return f"{name} is {mode}" + ("" if mode == "none" else f" o{answer.number()}")
+
+
+def request_run(answer):
+    """What a request comes to: its reply, the units that it takes, the items that it reads, and what differs in the store."""
+    units, items = answer.number(), {item_read(answer) for _ in range(answer.number())}
+    reads = " ".join(["reads", *map(item_shown, sorted(items, key=item_order))])
+    parts = [answer.text().rstrip("\n"), f"units {units}", *([reads] if items else []), *many(answer, object_shown), *many(answer, handle_shown)]
+    return "; ".join(parts)
+
+
+def ways_shown(answer):
+    """What a request comes to; and each way of running it that comes to something else."""
+    each = [request_run(answer) for _ in WAYS]
+    others = [f"; {way}: {come}" for way, come in zip(WAYS, each) if come != each[0]]
+    return (each[0] + "".join(others) + "\n").encode()
+
+
+def lines_told(case):
+    """The lines of the input, each as a word of a question."""
+    return [told(line.rstrip(b"\n")) for line in lines_of(case.part(b"input"))]
+
+
+def sliced(case):
+    lines = lines_told(case)
+    question = f"slices {told(case.part(b'text'))} {int(case.part(b'fuel') or FUEL_OF_REQUESTS)} {' '.join(lines)}"
+    _, answer = yield from asked_steps([f"area {AREA}", question])
+    return answer.end(b"".join(ways_shown(answer) for _ in lines))
+
+
+# ---- owners
+
+def owner_shown(answer):
+    """The place that owns an object."""
+    word = answer.word()
+    if word == "field":
+        return f"o{answer.number()}.f{answer.number()}"
+    return f"{answer.text()}.{answer.text()}" if word == "handle" else word
+
+
+def owners_shown(answer):
+    return " ".join(many(answer, owner_shown)) or "no objects"
+
+
+def owners(case):
+    """The owners after each line, on a store that is opened anew; and after all of them on one that stays open, where they are others."""
+    text, lines = told(case.part(b"text")), lines_told(case)
+    steps = [f"area {AREA}", f"owners {text} {' '.join(lines)}", "clear -", f"owners {text} {told(case.part(b'input'))}"]
+    _, anew, _, at_once = yield from asked_steps(steps)
+    each, last = [owners_shown(anew) for _ in lines], owners_shown(at_once)
+    remark = "" if last == each[-1] else f"; in one run: {last}"
+    return anew.end(("\n".join(each) + remark + "\n").encode())
+
+
 # ---- requests and replies
 
 def why(answer, shape):
@@ -981,6 +1060,8 @@ KINDS = {
     b"failing-run": (b"input", b"output", (b"text", b"words", b"given", b"status"), run_given),
     b"failing-store": (b"runs", b"answer", (b"text", b"input", b"output"), memory_store),
     b"area": (b"runs", b"answer", (b"text",), area),
+    b"slices": (b"input", b"output", (b"text", b"fuel"), sliced),
+    b"owners": (b"input", b"output", (b"text",), owners),
     b"request": (b"text", b"answer", (), request),
     b"reply": (b"text", b"answer", (), reply),
     b"sent": (b"text", b"answer", (), sent),

@@ -8,6 +8,7 @@
 # - the file is made for its owner alone and locked, and its folder is synced, before anything of it is read or written;
 # - for each line that changes something there are a write, a sync, a write, a sync, and then its reply; for all others the reply alone;
 # - a second run on that STORE ends with 5, and has read and written nothing;
+# - an audit makes the first calls of these, reads, and writes nothing to the file;
 # - a call that a signal interrupts is made again, and of a short write the rest is written;
 # - where a sync or a write fails, or the file ends before what is read, the run ends with 5, with no further call and no reply;
 # - a file that is refused is looked at once more behind the line that refuses it, and not written;
@@ -67,14 +68,28 @@ words() {
         END { print all }'
 }
 
-# Serves lines from standard input on a store of this name, under strace with these options.
-serve() {
-    local store=$room/$1/store
-    shift
+# Runs a command on a store of this name, under strace with these options.
+run() {
+    local command=$1 store=$room/$2/store
+    shift 2
     mkdir -p "${store%/*}"
-    strace -y -qq -s 0 -o trace -P "$store" -P "${store%/*}" -P "$room/output" "$@" "$program" serve "$machine" "$store" >output 2>error
+    strace -y -qq -s 0 -o trace -P "$store" -P "${store%/*}" -P "$room/output" "$@" "$program" "$command" "$machine" "$store" >output 2>error
     status=$?
     calls=$(words "$store" <trace)
+}
+
+# Serves lines from standard input on a store of this name, under strace with these options.
+serve() {
+    run serve "$@"
+}
+
+# Tells where an audit of a store of this name doesn't make these calls, and write these numbers.
+want_audit() {
+    local title=$1 wanted="0 $3 $4"
+    run audit "$2" </dev/null
+    if [ "$status $calls $(xargs <output)" != "$wanted" ]; then
+        tell_wrong "$title" "$wanted" "$status $calls $(xargs <output)"
+    fi
 }
 
 # Tells where a run didn't end with this status, these calls, and as many of the replies.
@@ -136,6 +151,13 @@ done
 serve new </dev/null
 want 'a store that is there' 0 "$taken read read" 0
 want_told 'a store that is there' new '3 objects, 3 handles, 4 records; 790 of 67108864 bytes used (0 %)'
+
+cp new/store stored
+want_audit 'an audit' new "$taken read read reply" 'objects 3 handles 3 owned 3 shared 0 disowned 0 loose 0'
+want_audit 'an audit of a new file' audited "$taken reply" 'objects 0 handles 0 owned 0 shared 0 disowned 0 loose 0'
+if ! cmp -s new/store stored || [ -s audited/store ]; then
+    tell_wrong 'an audit' 'files as they were' "$(wc -c new/store audited/store | xargs)"
+fi
 
 coproc first { exec "$program" serve "$machine" "$room/new/store" 2>/dev/null; }
 echo '{"op":"see","id":1,"who":"alice","on":"m"}' >&"${first[1]}"

@@ -1,11 +1,15 @@
 //! A store in areas of some size, and what it answers.
 ghost use Rattle.std.specs.Prelude.{◌≤◌, ◌^◌, IfSome};
 ghost use Rattle.ob_code.specs.Images.{image};
+ghost use Rattle.ob_code_table.specs.ImageTables.{table_of_image};
+ghost use Rattle.ob_heap.specs.Contents.{content_of};
+ghost use Rattle.ob_rest_spec.specs.AtRest.{IsStoreAtRest};
+ghost use Rattle.ob_store.specs.Stores.{StandsOn, kept_of, program_of as stored_program};
 ghost use Rattle.ob_serve.specs.Kept.{IsServable};
 
 use crate::page::Page;
 use crate::question::Question;
-use ob_disk::MemoryDisk;
+use ob_disk::{Disk, MemoryDisk};
 use ob_front::{Compiled, Seen, compile};
 use ob_io::{SureSink, SureSource};
 use ob_serve::{Served, serve};
@@ -16,7 +20,8 @@ use std::alloc::Global;
 /// The units of fuel that each request has.
 const FUEL: u32 = 100_000;
 
-fn program_of(alloc: Global, text: &[u8], seen: &mut Seen) -> Option<Compiled>
+/// The program of a text, if it is accepted.
+pub fn program_of(alloc: Global, text: &[u8], seen: &mut Seen) -> Option<Compiled>
     ensures fits { IfSome result (λ program. image.fits program.code) }
     ensures servable { IfSome result (λ program. IsServable program.code) }
 {
@@ -63,6 +68,27 @@ fn put_served(served: Served, page: &mut Page) {
         Served::Done => page.word("Done"),
         Served::DiskFault => page.word("DiskFault"),
         _ => page.fail(),
+    }
+}
+
+/// Serves lines over a store that was opened. Their replies aren't looked at.
+pub fn serve_line<D: Disk>(
+    alloc: Global,
+    code: &Verified,
+    store: &mut Store,
+    lines: Vec<u8>,
+    disk: &mut D,
+    page: &mut Page,
+)
+    requires servable { IsServable code.now }
+    requires at_rest { IsStoreAtRest (table_of_image code.now) (content_of (kept_of store.old)) }
+    requires stands { StandsOn (stored_program code.now) store.old (D.view disk.old) }
+{
+    let mut input = SureSource::new(lines);
+    let mut output = SureSink::new(alloc, usize::MAX);
+    let served = serve(alloc, code, store, FUEL, &mut input, &mut output, disk);
+    if !matches!(served, Served::Done) {
+        page.fail();
     }
 }
 

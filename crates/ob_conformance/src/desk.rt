@@ -2,8 +2,10 @@
 ghost use Rattle.std.specs.Prelude.{◌≤◌, ◌^◌};
 
 use crate::area::serve_on;
+use crate::owners::owners_on;
 use crate::page::Page;
 use crate::question::Question;
+use crate::slices::slices_on;
 use crate::whole::run_over;
 use ob_disk::{Disk, MemoryDisk};
 use ob_journal::{BuildError, DiskFault, Found, Journal, JournalError, Recorded, first_record};
@@ -181,6 +183,18 @@ impl Desk {
         serve_on(self.alloc, asked, &mut self.disk, self.area, page);
     }
 
+    // Runs requests in slices upon the store on the disk.
+    fn run_sliced(&mut self, asked: &mut Question<'_>, page: &mut Page) {
+        self.journal = None;
+        slices_on(self.alloc, asked, &mut self.disk, self.area, page);
+    }
+
+    // Puts owners in the store on the disk, after lines.
+    fn put_owners(&mut self, asked: &mut Question<'_>, page: &mut Page) {
+        self.journal = None;
+        owners_on(self.alloc, asked, &mut self.disk, self.area, page);
+    }
+
     fn take(&mut self, asked: &mut Question<'_>, page: &mut Page) {
         match asked.word() {
             "area" => self.area = area_in(asked, page),
@@ -192,6 +206,8 @@ impl Desk {
             "append" => self.append(asked, page),
             "move" => self.move_to(asked, page),
             "serve" => self.serve(asked, page),
+            "slices" => self.run_sliced(asked, page),
+            "owners" => self.put_owners(asked, page),
             "show" => page.bytes(self.disk.bytes()),
             "faults" => page.number(self.disk.faults()),
             "run" => run_over(self.alloc, asked, &mut self.disk, page),

@@ -120,8 +120,8 @@ fn put_reads(alloc: Global, overlay: &Overlay, page: &mut Page) {
     }
 }
 
-// Puts an object behind its number.
-fn put_told(id: ObjectId, object: &Object, page: &mut Page) {
+/// Puts an object behind its number.
+pub fn put_told(id: ObjectId, object: &Object, page: &mut Page) {
     page.number(u64::from(id.0));
     page.number(u64::from(object.contract.0));
     page.number_or_none(match object.state {

@@ -80,6 +80,11 @@ fn put_command(command: Command<'_>, page: &mut Page) {
             put_file(program, page);
             put_file(store, page);
         }
+        Command::Audit(program, store) => {
+            page.word("audit");
+            put_file(program, page);
+            put_file(store, page);
+        }
         Command::Trial(length) => {
             page.word("trial");
             page.number(u64::from(length));

@@ -9,26 +9,37 @@ use ob_words::LONGEST_TRIAL;
 struct Form {
     // The word.
     word: &'static str,
-    // The most words behind it.
+    // The fewest words behind it.
+    least: usize,
+    // The most.
     most: usize,
     // What is said of how it is written.
     help: &'static str,
 }
 
 /// The commands.
-const FORMS: [Form; 3] = [
+const FORMS: [Form; 4] = [
     Form {
         word: "check",
+        least: 1,
         most: 1,
         help: "write `check P`: P is the file with the program's text.",
     },
     Form {
         word: "serve",
+        least: 1,
         most: 2,
         help: "write `serve P` or `serve P STORE`: P is the file with the program's text, STORE the file in which its store is kept.",
     },
     Form {
+        word: "audit",
+        least: 2,
+        most: 2,
+        help: "write `audit P STORE`: P is the file with the program's text, STORE the file in which its store is kept.",
+    },
+    Form {
         word: "trial",
+        least: 1,
         most: 1,
         help: "write `trial N`: N is the length of the trial.",
     },
@@ -36,7 +47,7 @@ const FORMS: [Form; 3] = [
 
 /// What is said where no word is near.
 const COMMANDS: &str =
-    "the commands are `check P`, `serve P`, `serve P STORE` and `trial N`; `--help` tells more.";
+    "the commands are `check P`, `serve P`, `serve P STORE`, `audit P STORE` and `trial N`; `--help` tells more.";
 
 const OPTIONS: &str =
     "the options are `--fuel UNITS`, `--lanes LANES` and `--slice UNITS`; behind the word `--` a name may begin with `-`.";
@@ -139,7 +150,7 @@ fn say_names(told: &mut Explanation, form: Form, names: &[&str]) {
                 .put_with("`{}` is one word too many behind ", &[*name]);
             told.what.put_with("`{}`", &[form.word]);
         }
-        None if names.is_empty() => told
+        None if names.len() < form.least => told
             .what
             .put_with("behind `{}` a word is missing", &[form.word]),
         None => return,

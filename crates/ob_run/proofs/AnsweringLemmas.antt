@@ -121,12 +121,14 @@ module _ (words : Option Asked) (old new : OutsideView) (asked : Asked) (is : wo
 
   treated_answers : (exit : Exit) → Treats asked text (devices old) (devices new) exit → AnswersWhatItTook words old new exit
   treated_answers Done (inl h) = inl h.input
-  treated_answers Done (inr h) = inr (at_end h)
+  treated_answers Done (inr (inl h)) = inl h.input
+  treated_answers Done (inr (inr h)) = inr (at_end h)
   treated_answers Refused h = h.input
   treated_answers ReadFault h = at_read_fault h
   treated_answers WriteFault (inl h) = inl h.input
   treated_answers WriteFault (inr (inl h)) = inl h.input
-  treated_answers WriteFault (inr (inr h)) = inr (at_write_fault h)
+  treated_answers WriteFault (inr (inr (inl h))) = inl h.input
+  treated_answers WriteFault (inr (inr (inr h))) = inr (at_write_fault h)
   treated_answers DiskFault (inl h) = inl h.0.input
   treated_answers DiskFault (inr h) = inr (at_disk_fault h)
   treated_answers StoreRefused h = h.input

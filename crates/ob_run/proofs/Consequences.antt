@@ -1,4 +1,4 @@
--- What follows from what a run says: which of three ways a command went, what a crash leaves whatever the status, what each kind of
+-- What follows from what a run says: which of four ways a command went, what a crash leaves whatever the status, what each kind of
 -- command needs to be Done, and the corollary.
 use Rattle.std.specs.Prelude.{⊤}
 use Rattle.std.proofs.Common.{◌≡◌, ◌⊎◌, inl, inr, ℕ, List, Option, Some, subst}
@@ -15,7 +15,8 @@ use Rattle.ob_serve.specs.Served.{Devices, IsToldAs, SpeaksOf}
 use Rattle.ob_serve.specs.Session.{requests_in}
 use Rattle.ob_serve.specs.declared.serving.Served.{Served}
 use Rattle.ob_serve.specs.declared.serving.Served.TheVariants as ended
-use Rattle.ob_words.specs.Asked.{Command, check, serve, serve_stored, trial, Asked}
+use Rattle.ob_words.specs.Asked.{Command, check, serve, serve_stored, audit, trial, Asked}
+use Rattle.ob_run.specs.Auditing.{AuditsStore}
 use Rattle.ob_run.specs.Commands.{file_of, text_in}
 use Rattle.ob_run.specs.Corollary.{ServesObservable}
 use Rattle.ob_run.specs.Openings.{RefusesStore, OpensNot}
@@ -55,21 +56,30 @@ EndsSession asked text old new Memory = ServesProgram asked text old new ended.M
 EndsSession asked text old new Long = ServesProgram asked text old new ended.Long
 EndsSession asked text old new exit = ⊥
 
-pub one_of_three_ways : (asked : Asked) (text : List ℕ) (old new : Devices) (exit : Exit) → Treats asked text old new exit
-    → TellsAlone asked text old new exit ⊎ (FailsToOpen asked.command text old new exit ⊎ EndsSession asked text old new exit)
-one_of_three_ways asked text old new Done (inl h) = inl h
-one_of_three_ways asked text old new Done (inr h) = inr (inr h)
-one_of_three_ways asked text old new Refused h = inl h
-one_of_three_ways asked text old new ReadFault h = inr (inr h)
-one_of_three_ways asked text old new WriteFault (inl h) = inl h
-one_of_three_ways asked text old new WriteFault (inr h) = inr h
-one_of_three_ways asked text old new DiskFault h = inr h
-one_of_three_ways asked text old new StoreRefused h = inr (inl h)
-one_of_three_ways asked text old new Memory (inl h) = inl (record { output = h.output; input = h.input; disk = h.disk })
-one_of_three_ways asked text old new Memory (inr h) = inr h
-one_of_three_ways asked text old new Long h = inr (inr h)
-one_of_three_ways asked text old new Usage h = absurd h
-one_of_three_ways asked text old new FileFault h = absurd h
+-- it told the numbers of a store
+abbrev pub TellsStore : Command → List ℕ → Devices → Devices → Exit → Type 0
+TellsStore command text old new Done = AuditsStore command text WritesWhole old new
+TellsStore command text old new WriteFault = AuditsStore command text WritesFront old new
+TellsStore command text old new exit = ⊥
+
+pub one_of_four_ways : (asked : Asked) (text : List ℕ) (old new : Devices) (exit : Exit) → Treats asked text old new exit
+    → TellsAlone asked text old new exit
+    ⊎ (FailsToOpen asked.command text old new exit ⊎ (TellsStore asked.command text old new exit ⊎ EndsSession asked text old new exit))
+one_of_four_ways asked text old new Done (inl h) = inl h
+one_of_four_ways asked text old new Done (inr h) = inr (inr h)
+one_of_four_ways asked text old new Refused h = inl h
+one_of_four_ways asked text old new ReadFault h = inr (inr (inr h))
+one_of_four_ways asked text old new WriteFault (inl h) = inl h
+one_of_four_ways asked text old new WriteFault (inr h) = inr h
+one_of_four_ways asked text old new DiskFault (inl h) = inr (inl h)
+one_of_four_ways asked text old new DiskFault (inr h) = inr (inr (inr h))
+one_of_four_ways asked text old new StoreRefused h = inr (inl h)
+one_of_four_ways asked text old new Memory (inl h) = inl (record { output = h.output; input = h.input; disk = h.disk })
+one_of_four_ways asked text old new Memory (inr (inl h)) = inr (inl h)
+one_of_four_ways asked text old new Memory (inr (inr h)) = inr (inr (inr h))
+one_of_four_ways asked text old new Long h = inr (inr (inr h))
+one_of_four_ways asked text old new Usage h = absurd h
+one_of_four_ways asked text old new FileFault h = absurd h
 
 -- ---- whatever the status
 
@@ -117,12 +127,14 @@ module _ (asked : Asked) (old new : OutsideView) (text : List ℕ) (told : IsTol
 
   text_survives : (exit : Exit) → Treats asked text (devices old) (devices new) exit → SurvivesUnopened asked old new ⊎ SurvivesSession asked old new
   text_survives Done (inl h) = inl (record { input = h.input; disk = inl (untouched_during _ _ h.disk) })
-  text_survives Done (inr h) = inr (session_survives ended.Done h)
+  text_survives Done (inr (inl h)) = inl (record { input = h.input; disk = inl h.disk })
+  text_survives Done (inr (inr h)) = inr (session_survives ended.Done h)
   text_survives Refused h = inl (record { input = h.input; disk = inl (untouched_during _ _ h.disk) })
   text_survives ReadFault h = inr (session_survives ended.ReadFault h)
   text_survives WriteFault (inl h) = inl (record { input = h.input; disk = inl (untouched_during _ _ h.disk) })
   text_survives WriteFault (inr (inl h)) = inl (record { input = h.input; disk = inl h.disk })
-  text_survives WriteFault (inr (inr h)) = inr (session_survives ended.WriteFault h)
+  text_survives WriteFault (inr (inr (inl h))) = inl (record { input = h.input; disk = inl h.disk })
+  text_survives WriteFault (inr (inr (inr h))) = inr (session_survives ended.WriteFault h)
   text_survives DiskFault (inl h) = inl (unopened_survives h.0)
   text_survives DiskFault (inr h) = inr (session_survives ended.DiskFault h)
   text_survives StoreRefused h = inl (record { input = h.input; disk = inl h.disk })
@@ -160,6 +172,7 @@ abbrev pub ServesLines : Command → Type 0
 ServesLines (check name) = ⊥
 ServesLines (serve name) = ⊤
 ServesLines (serve_stored name store) = ⊤
+ServesLines (audit name store) = ⊥
 ServesLines (trial length) = ⊥
 
 -- it writes what it finds of its text
@@ -167,6 +180,7 @@ abbrev pub FindsOfText : Command → Type 0
 FindsOfText (check name) = ⊤
 FindsOfText (serve name) = ⊥
 FindsOfText (serve_stored name store) = ⊥
+FindsOfText (audit name store) = ⊥
 FindsOfText (trial length) = ⊤
 
 -- one that serves lines needs them
@@ -174,6 +188,7 @@ pub lines_are_input : (command : Command) (old new : Devices) → ServesLines co
 lines_are_input (check name) old new serves input = absurd serves
 lines_are_input (serve name) old new serves input = input
 lines_are_input (serve_stored name store) old new serves input = input
+lines_are_input (audit name store) old new serves input = absurd serves
 lines_are_input (trial length) old new serves input = absurd serves
 
 -- one that finds something of its text needs neither lines nor a store
@@ -181,13 +196,19 @@ pub findings_need_no_input : (command : Command) (old new : Devices) → FindsOf
 findings_need_no_input (check name) old new finds = tt
 findings_need_no_input (serve name) old new finds = absurd finds
 findings_need_no_input (serve_stored name store) old new finds = absurd finds
+findings_need_no_input (audit name store) old new finds = absurd finds
 findings_need_no_input (trial length) old new finds = tt
 
 pub findings_need_no_store : (command : Command) (text : List ℕ) (disk : DiskView) → FindsOfText command → HasStoreFor command text disk
 findings_need_no_store (check name) text disk finds = tt
 findings_need_no_store (serve name) text disk finds = tt
 findings_need_no_store (serve_stored name store) text disk finds = absurd finds
+findings_need_no_store (audit name store) text disk finds = absurd finds
 findings_need_no_store (trial length) text disk finds = tt
+
+-- one that audits a store needs no lines
+pub audits_need_no_lines : (name store : List ℕ) (old new : Devices) → ¬ (Rose old.disk.faults new.disk.faults) → HasInputFor (audit name store) old new
+audits_need_no_lines name store old new calm = calm
 
 -- ---- the corollary
 

@@ -3,10 +3,6 @@ use Rattle.std.proofs.Common.{◌≡◌, ◌⊎◌, inl, inr, ℕ, ◌≤◌, Li
 use Rattle.std.proofs.lemmas.List.{append-nil, take_all}
 use Rattle.ob_table.specs.Tables.{ClassTable}
 use Rattle.ob_silica.specs.Terms.{SilicaBody}
-use Rattle.ob_front.specs.Lowered.{AreLoweredTo}
-use Rattle.ob_front.specs.Programs.{IsProgram}
-use Rattle.ob_front.proofs.MiddleLaws.{one_lowering}
-use Rattle.ob_front.proofs.StagesLaws.{one_table}
 use Rattle.ob_io.specs.LinesOfText.{lines_of}
 use Rattle.ob_io.specs.Told.{Takes, Gives, IsEnd}
 use Rattle.ob_store_spec.specs.Stores.{StoreProgram, StoreState, IsStoreOf}
@@ -25,20 +21,8 @@ use Rattle.ob_run.specs.Statuses.{Treats, MeetsStatus}
 use Rattle.ob_run.specs.declared.exit.Exit.{Exit}
 use Rattle.ob_run.specs.declared.exit.Exit.TheVariants.{Done, Memory}
 use Rattle.ob_run.proofs.AnsweringLemmas.{lines_replied}
+use Rattle.ob_run.proofs.ProgramLemmas.{one_table_of, one_bodies_of, one_program}
 use Rattle.ob_run.proofs.TopLemmas.{treated_told, has_reason}
-
--- ---- a text is one program at most
-
-one_table_of : (text : List ℕ) (a b : ClassTable) (xs ys : List SilicaBody) → IsProgram text a xs → IsProgram text b ys → a ≡ b
-one_table_of text a b xs ys p q = one_table text a b p.checked.terms.has q.checked.terms.has
-
-one_bodies_of : (text : List ℕ) (a b : ClassTable) (xs ys : List SilicaBody) → IsProgram text a xs → IsProgram text b ys → xs ≡ ys
-one_bodies_of text a b xs ys p q =
-    one_lowering b b.bodies xs ys (subst (λ (t : ClassTable). AreLoweredTo t t.bodies xs) (one_table_of text a b xs ys p q) p.checked.terms.lowered) q.checked.terms.lowered
-
-one_program : (text : List ℕ) (a b : ClassTable) (xs ys : List SilicaBody) → IsProgram text a xs → IsProgram text b ys → program_with a xs ≡ program_with b ys
-one_program text a b xs ys p q =
-    ap (λ (t : ClassTable). program_with t xs) (one_table_of text a b xs ys p q) ∙ ap (λ (bodies : List SilicaBody). program_with b bodies) (one_bodies_of text a b xs ys p q)
 
 -- ---- what is observable
 
@@ -120,7 +104,8 @@ module _ (words : Option Asked) (old new : OutsideView) (given : IsObservable wo
   -- a command that serves lines is Done by a session alone
   done_serves : Treats asked given.text (devices old) (devices new) Done → Serves given.table given.bodies given.start
   done_serves (inl h) = absurd h.output.said
-  done_serves (inr h) = served h
+  done_serves (inr (inl h)) = absurd h.is
+  done_serves (inr (inr h)) = served h
 
   done : (exit : Exit) → MeetsStatus words old new exit → exit ≡ Done → Serves given.table given.bodies given.start
   done exit status is =

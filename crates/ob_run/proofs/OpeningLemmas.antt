@@ -11,6 +11,7 @@ use Rattle.ob_front.specs.Compiled.{IsCompiledProgram}
 use Rattle.ob_front.specs.Programs.{IsProgram}
 use Rattle.ob_heap.specs.Contents.{content_of}
 use Rattle.ob_io.specs.Causes.{Rose}
+use Rattle.ob_owners.specs.declared.counts.StoreCounts.{StoreCounts}
 use Rattle.ob_journal_spec.specs.Areas.{begun}
 use Rattle.ob_journal_spec.specs.Disks.{first, IsBlankOrBegunDisk}
 use Rattle.ob_code_table.specs.ImageTables.{table_of_image}
@@ -24,8 +25,11 @@ use Rattle.ob_store.specs.Opening.{IsBlankStart}
 use Rattle.ob_store.specs.Stores.{program_of, area_of_store, kept_of, state_of, StandsOn}
 use Rattle.ob_store.specs.declared.store.Store.{Store}
 use Rattle.ob_store_spec.specs.Stores.{StoreProgram, StoreRefusal, IsStoreOf, IsRefused}
-use Rattle.ob_words.specs.Asked.{serve_stored}
-use Rattle.ob_run.specs.Openings.{KeepsStoreOf, OpensNot, IsOpenedAs, StaysUnopened, OpensAs}
+use Rattle.ob_words.specs.Asked.{Command, check, serve, serve_stored, audit, trial}
+use Rattle.ob_run.specs.Attaching.{store_of}
+use Rattle.ob_run.specs.Auditing.{CountsAs}
+use Rattle.ob_run.specs.Openings.{KeepsStoreOf, OpensNot, IsOpenedAs, StaysUnopened, StaysFor, OpensAs}
+use Rattle.ob_run.specs.Outside.{KeepsBytes}
 use Rattle.ob_run.specs.Sessions.{area_bytes, program_with}
 use Rattle.ob_run.specs.Statuses.{Treats}
 use Rattle.ob_run.specs.TextRead.{TellsRefusal, asked_with}
@@ -108,31 +112,54 @@ module _ (old mid new : DiskView) (same : mid.content ≡ old.content) (quiet : 
   opens_since program calm (Err unopened.DiskFault) failed = (stays_since program failed.0, subst (λ (n : ℕ). Rose n new.faults) calm failed.1)
   opens_since program calm (Err unopened.Memory) stays = stays_since program stays
 
--- a disk that couldn't be taken
-pub untaken : (code : Image) (old new : DiskView) → IsQuiet old new → StaysUnopened (program_of code) old new
-untaken code old new quiet = record {
+  -- and what its numbers were counted as, they are since before
+  pub counts_since : (program : StoreProgram) → mid.faults ≡ old.faults → (answer : Result StoreCounts Unopened) → CountsAs program mid new answer → CountsAs program old new answer
+  counts_since program calm (Ok counts) are = (
+    record { content = are.0.content; at_rest = are.0.at_rest; represents = λ c reads. are.0.represents c (same ∙ reads); counted = are.0.counted },
+    kept_since are.1,
+  )
+  counts_since program calm (Err (unopened.Refused refusal)) told = (λ c reads. told.0 c (same ∙ reads), kept_since told.1)
+  counts_since program calm (Err unopened.DiskFault) failed = (kept_since failed.0, subst (λ (n : ℕ). Rose n new.faults) calm failed.1)
+  counts_since program calm (Err unopened.Memory) kept = kept_since kept
+
+-- a call that changes no byte
+pub kept_quiet : (old new : DiskView) → IsQuiet old new → KeepsBytes old new
+kept_quiet old new quiet = record {
+  since = call old new (May old) quiet.time (λ c left. inr (quiet.images c left));
+  now = record { content = λ c reads. inl (quiet.content c reads); images = λ c left. inr (quiet.images c left) };
+}
+
+-- a disk of which no byte changed
+kept_stays : (program : StoreProgram) (old new : DiskView) → KeepsBytes old new → StaysUnopened program old new
+kept_stays program old new kept = record {
   quiet = λ c reads some. kept;
   disk = during_to old new (May old) _ kept (λ c may. inl may);
 }
-  where
-    kept : During old new (May old)
-    kept = record {
-      since = call old new (May old) quiet.time (λ c left. inr (quiet.images c left));
-      now = record { content = λ c reads. inl (quiet.content c reads); images = λ c left. inr (quiet.images c left) };
-    }
+
+stays_for : (command : Command) (program : StoreProgram) (old new : DiskView) → KeepsBytes old new → StaysFor command program old new
+stays_for (check name) program old new kept = kept_stays program old new kept
+stays_for (serve name) program old new kept = kept_stays program old new kept
+stays_for (serve_stored name store) program old new kept = kept_stays program old new kept
+stays_for (audit name store) program old new kept = kept
+stays_for (trial length) program old new kept = kept_stays program old new kept
+
+-- a disk that couldn't be taken
+pub untaken : (code : Image) (old new : DiskView) → IsQuiet old new → StaysUnopened (program_of code) old new
+untaken code old new quiet = kept_stays (program_of code) old new (kept_quiet old new quiet)
 
 module _ (table : ClassTable) (bodies : List SilicaBody) (code : Image) (compiled : IsCompiledProgram table bodies) (emitted : code ≡ image_of table bodies)
-    (sound : IsSoundCode (record { table = table; bodies = bodies }) code) (text : List ℕ) (is : IsProgram text table bodies) (name file : List ℕ) (old new : Devices) where
+    (sound : IsSoundCode (record { table = table; bodies = bodies }) code) (text : List ℕ) (is : IsProgram text table bodies) where
   image_is : image.bytes code ≡ image.bytes (image_of table bodies)
   image_is = cc emitted
 
-  abbrev pub kept_store : KeepsStoreOf (serve_stored name file) text
-  kept_store = record { name = name; store = file; is = refl; table = table; bodies = bodies; program = is }
+  abbrev pub kept_store : (command : Command) (file : List ℕ) → store_of command ≡ Some file → KeepsStoreOf command text
+  kept_store command file keeps = record { store = file; is = keeps; table = table; bodies = bodies; program = is }
 
   -- its store wasn't opened
-  pub opens_not : StaysUnopened (program_of code) old.disk new.disk → new.input ≡ old.input → new.output ≡ old.output → OpensNot (serve_stored name file) text old new
-  opens_not stays input output = record {
-    of = kept_store;
+  pub opens_not : (name file : List ℕ) (old new : Devices) → StaysUnopened (program_of code) old.disk new.disk → new.input ≡ old.input → new.output ≡ old.output
+      → OpensNot (serve_stored name file) text old new
+  opens_not name file old new stays input output = record {
+    of = kept_store (serve_stored name file) file refl;
     stays = record {
       quiet = stays.quiet;
       disk = subst (λ (bytes : List ℕ). During old.disk new.disk (λ c. May old.disk c ⊎ IsBlankOrBegunDisk area_bytes bytes c)) image_is stays.disk;
@@ -141,32 +168,41 @@ module _ (table : ClassTable) (bodies : List SilicaBody) (code : Image) (compile
     output = output;
   }
 
+  -- nothing was done with the store of a command, and no byte of its disk changed
+  pub leaves : (command : Command) (file : List ℕ) → store_of command ≡ Some file → (old new : Devices) → KeepsBytes old.disk new.disk → new.input ≡ old.input → new.output ≡ old.output
+      → OpensNot command text old new
+  leaves command file keeps old new kept input output = record {
+    of = kept_store command file keeps;
+    stays = stays_for command (program_with table bodies) old.disk new.disk kept;
+    input = input;
+    output = output;
+  }
+
   -- what is said of a store that is refused
-  pub refused_by_store : (cause : StoreRefusal) (exit : Exit) → TellsRefusal cause old.output new.output exit
+  pub refused_by_store : (command : Command) (file : List ℕ) (keeps : store_of command ≡ Some file) (old new : Devices) (cause : StoreRefusal) (exit : Exit) → TellsRefusal cause old.output new.output exit
       → ((c : List ℕ) → Reads old.disk c → IsRefused (program_of code) area_bytes c cause) → During old.disk new.disk (May old.disk) → new.input ≡ old.input
-      → (fuel lanes slice : ℕ) → Treats (asked_with (serve_stored name file) fuel lanes slice) text old new exit
-  refused_by_store cause exit tells told kept input fuel lanes slice = by exit tells
+      → (fuel lanes slice : ℕ) → Treats (asked_with command fuel lanes slice) text old new exit
+  refused_by_store command file keeps old new cause exit tells told kept input fuel lanes slice = by exit tells
     where
       refused : (c : List ℕ) → Reads old.disk c → IsRefused (program_with table bodies) area_bytes c cause
       refused c reads =
           subst (λ (p : StoreProgram). IsRefused p area_bytes c cause) (same_program table bodies code compiled emitted sound)
           (refused_by_source (record { table = table; bodies = bodies }) code (is_sound_for table bodies code compiled emitted sound) area_bytes c cause (told c reads))
 
-      by : (exit : Exit) → TellsRefusal cause old.output new.output exit → Treats (asked_with (serve_stored name file) fuel lanes slice) text old new exit
+      by : (exit : Exit) → TellsRefusal cause old.output new.output exit → Treats (asked_with command fuel lanes slice) text old new exit
       by StoreRefused tells = record {
-        of = kept_store;
+        of = kept_store command file keeps;
         line = record { bytes = tells.bytes; said = record { cause = cause; told = refused; line = tells.said }; written = tells.written };
         input = input;
         disk = kept;
       }
       by WriteFault tells = inr (inl (record {
-        of = kept_store;
+        of = kept_store command file keeps;
         line = record { bytes = tells.bytes; said = record { cause = cause; told = refused; line = tells.said }; cause = tells.cause; front = tells.front };
         input = input;
         disk = kept;
       }))
-      by Memory tells =
-          inr (inl (opens_not (record { quiet = λ c reads some. kept; disk = during_to old.disk new.disk (May old.disk) _ kept (λ c may. inl may) }) input tells))
+      by Memory tells = inr (inl (leaves command file keeps old new kept input tells))
       by Done tells = absurd tells
       by Refused tells = absurd tells
       by Usage tells = absurd tells

@@ -30,7 +30,7 @@ use Rattle.ob_weight_laws.proofs.Weighing.{within_weight}
 use Rattle.ob_journal.specs.Journals.{area_size}
 use Rattle.ob_journal.specs.declared.journal.Journal.{Journal}
 use Rattle.ob_front.proofs.CompiledLaws.{terms_in_order}
-use Rattle.ob_store.specs.Stores.{program_of, area_of_store, gate_of, serial_of, kept_of, state_of, IsKeptIn, StandsOn}
+use Rattle.ob_store.specs.Stores.{program_of, area_of_store, gate_of, serial_of, kept_of, state_of, IsKeptIn, TellsOwners, StandsOn}
 use Rattle.ob_store.specs.declared.store.Store.{Store}
 use Rattle.ob_store_spec.specs.Stores.{StoreProgram, StoreState, IsStoreOf}
 use Rattle.ob_serve.specs.Items.{by_source, item_of}
@@ -70,9 +70,9 @@ told_alone asked text old new Long tells input disk = absurd tells
 
 -- a session that ended is what the exit says
 pub ends_session : (asked : Asked) (text : List ℕ) (old new : Devices) (served : Served) → ServesProgram asked text old new served → Treats asked text old new (exit_of served)
-ends_session asked text old new ended.Done h = inr h
+ends_session asked text old new ended.Done h = inr (inr h)
 ends_session asked text old new ended.ReadFault h = h
-ends_session asked text old new ended.WriteFault h = inr (inr h)
+ends_session asked text old new ended.WriteFault h = inr (inr (inr h))
 ends_session asked text old new ended.DiskFault h = inr h
 ends_session asked text old new ended.Memory h = inr (inr h)
 ends_session asked text old new ended.Long h = h
@@ -90,9 +90,11 @@ no_journal : (journal : Option Journal) → option_map area_size journal ≡ Non
 no_journal None none = refl
 no_journal (Some j) none = cc
 
-pub stands_in_memory : (program : StoreProgram) (store : Store) (v : DiskView) → area_of_store store ≡ None → StandsOn program store v
-stands_in_memory program store v none =
-    subst (λ (j : Option Journal). IsKeptIn program (content_of store.content) j v) (sym (no_journal store.journal none)) tt
+pub stands_in_memory : (program : StoreProgram) (store : Store) (v : DiskView) → area_of_store store ≡ None → TellsOwners program store → StandsOn program store v
+stands_in_memory program store v none owners = record {
+  owners = owners;
+  kept = subst (λ (j : Option Journal). IsKeptIn program (content_of store.content) j v) (sym (no_journal store.journal none)) tt;
+}
 
 pub begins_in_memory : (store : Store) → content_of (kept_of store) ≡ empty_content → area_of_store store ≡ None → state_of store ≡ store_in_memory
 begins_in_memory store empty none =

@@ -12,7 +12,7 @@ use Rattle.ob_front.specs.Programs.{HasTermsFault, at_table, at_slot, IsProgram,
 use Rattle.ob_serve.specs.Served.{Devices, IsToldAs}
 use Rattle.ob_serve.specs.declared.serving.Served.{Served}
 use Rattle.ob_serve.specs.declared.serving.Served.TheVariants as ended
-use Rattle.ob_words.specs.Asked.{Command, check, serve, serve_stored, trial, Asked}
+use Rattle.ob_words.specs.Asked.{Command, check, serve, serve_stored, audit, trial, Asked}
 use Rattle.ob_run.specs.FileAsks.{most_read}
 use Rattle.ob_run.specs.Openings.{OpensNot}
 use Rattle.ob_run.specs.Sessions.{ServesProgram}
@@ -56,6 +56,7 @@ module _ (content : List ℕ) (long : longest_program < length (take most_read c
   not_found (check name) bytes h = no_program h.0.table h.0.bodies h.0.is
   not_found (serve name) bytes h = h
   not_found (serve_stored name store) bytes h = h
+  not_found (audit name store) bytes h = h
   not_found (trial length) bytes h = no_program h.table h.bodies h.program
 
   too_long_of_text : (command : Command) (bytes : List ℕ) → IsOfText command (take most_read content) bytes → IsOfText command content bytes
@@ -70,7 +71,8 @@ module _ (content : List ℕ) (long : longest_program < length (take most_read c
 
   too_long_treated : (asked : Asked) (old new : Devices) (exit : Exit) → Treats asked (take most_read content) old new exit → Treats asked content old new exit
   too_long_treated asked old new Done (inl h) = absurd (not_found asked.command h.output.bytes h.output.said)
-  too_long_treated asked old new Done (inr h) = absurd (serves_none asked old new ended.Done h)
+  too_long_treated asked old new Done (inr (inl h)) = absurd (no_program h.of.table h.of.bodies h.of.program)
+  too_long_treated asked old new Done (inr (inr h)) = absurd (serves_none asked old new ended.Done h)
   too_long_treated asked old new Refused h = record {
     output = record { bytes = h.output.bytes; said = too_long_refusal h.output.bytes h.output.said; written = h.output.written };
     input = h.input;
@@ -83,7 +85,8 @@ module _ (content : List ℕ) (long : longest_program < length (take most_read c
     disk = h.disk;
   })
   too_long_treated asked old new WriteFault (inr (inl h)) = absurd (no_program h.of.table h.of.bodies h.of.program)
-  too_long_treated asked old new WriteFault (inr (inr h)) = absurd (serves_none asked old new ended.WriteFault h)
+  too_long_treated asked old new WriteFault (inr (inr (inl h))) = absurd (no_program h.of.table h.of.bodies h.of.program)
+  too_long_treated asked old new WriteFault (inr (inr (inr h))) = absurd (serves_none asked old new ended.WriteFault h)
   too_long_treated asked old new DiskFault (inl h) = absurd (opens_none asked.command old new h.0)
   too_long_treated asked old new DiskFault (inr h) = absurd (serves_none asked old new ended.DiskFault h)
   too_long_treated asked old new StoreRefused h = absurd (no_program h.of.table h.of.bodies h.of.program)

@@ -1,24 +1,28 @@
 -- From what is done with a text to what a run says.
 use Rattle.std.proofs.Common.{◌≡◌, ◌⊎◌, inl, inr, ℕ, ◌<◌, List, length, Option, None, Some, refl, sym, ap, subst, arith, length-append}
 use Rattle.ob_base.specs.Limits.{most_taken}
-use Rattle.ob_disk_spec.specs.Disk.{DiskView}
+use Rattle.ob_disk_spec.specs.Disk.{DiskView, Reads}
+use Rattle.ob_io.specs.Causes.{Rose}
 use Rattle.ob_io.specs.Told.{Takes}
 use Rattle.ob_io.specs.Views.{Ask}
-use Rattle.ob_front.specs.Programs.{IsAccepted}
+use Rattle.ob_front.specs.Programs.{IsProgram, IsAccepted}
 use Rattle.ob_front.proofs.ProgramsLaws.{never_accepted_and_faulty_lem}
-use Rattle.ob_store_spec.specs.Stores.{StoreProgram, StoreState}
+use Rattle.ob_store_spec.specs.Stores.{StoreProgram, StoreState, IsStoreOf}
 use Rattle.ob_store_spec.proofs.Refusing.{never_both}
 use Rattle.ob_serve.specs.Served.{Devices, IsToldAs}
 use Rattle.ob_serve.specs.declared.serving.Served.{Served}
 use Rattle.ob_serve.specs.declared.serving.Served.TheVariants as ended
-use Rattle.ob_words.specs.Asked.{Command, check, serve, serve_stored, trial, Asked}
-use Rattle.ob_run.specs.Attaching.{UsesDisk, store_asked}
+use Rattle.ob_silica.specs.Terms.{SilicaBody}
+use Rattle.ob_table.specs.Tables.{ClassTable}
+use Rattle.ob_words.specs.Asked.{Command, check, serve, serve_stored, audit, trial, Asked}
+use Rattle.ob_run.specs.Attaching.{UsesDisk, store_of, store_asked}
 use Rattle.ob_run.specs.Faults.{EndsAtFault}
+use Rattle.ob_run.specs.Auditing.{AuditsStore}
 use Rattle.ob_run.specs.FileAsks.{AsksOnce, AsksAtMostOnce, AsksFor}
 use Rattle.ob_run.specs.Commands.{file_of, text_in}
 use Rattle.ob_run.specs.Openings.{RefusesStore}
 use Rattle.ob_run.specs.Outside.{OutsideView, devices}
-use Rattle.ob_run.specs.Reasons.{HasInput, HasInputFor, HasStoreFor, IsSmooth, HasReason}
+use Rattle.ob_run.specs.Reasons.{HasInput, HasInputFor, HasStoreFor, HasRefusal, HasRefusalFor, IsSmooth, HasReason}
 use Rattle.ob_run.specs.Runs.{IsRun}
 use Rattle.ob_run.specs.Sessions.{area_bytes, program_with, BeginsAt, ServesProgram}
 use Rattle.ob_run.specs.Statuses.{IsFinding, Treats, TreatsText, MeetsStatus}
@@ -28,6 +32,8 @@ use Rattle.ob_run.specs.Writes.{WritesWhole}
 use Rattle.ob_run.specs.declared.exit.Exit.{Exit}
 use Rattle.ob_run.specs.declared.exit.Exit.TheVariants.{Done, Refused, Usage, ReadFault, WriteFault, DiskFault, StoreRefused, FileFault, Memory, Long}
 use Rattle.ob_run.proofs.AnsweringLemmas.{answers}
+use Rattle.ob_run.proofs.AuditingLemmas.{keeps_unless_served}
+use Rattle.ob_run.proofs.ProgramLemmas.{one_program}
 use Rattle.ob_run.proofs.TextLemmas.{TreatsAll, treated_all}
 
 -- nothing is at most one ask
@@ -102,13 +108,16 @@ begun_input : (command : Command) (program : StoreProgram) (disk : DiskView) (st
 begun_input (check name) program disk start old new input begins = absurd begins
 begun_input (serve name) program disk start old new input begins = input
 begun_input (serve_stored name store) program disk start old new input begins = input
+begun_input (audit name store) program disk start old new input begins = absurd begins
 begun_input (trial length) program disk start old new input begins = absurd begins
 
-stored_input : (command : Command) (name store : List ℕ) (old new : Devices) → HasInputFor command old new → command ≡ serve_stored name store → HasInput old new
-stored_input (check given) name store old new input is = absurd (cc is)
-stored_input (serve given) name store old new input is = input
-stored_input (serve_stored given kept) name store old new input is = input
-stored_input (trial length) name store old new input is = absurd (cc is)
+-- of the disk of a store no call failed
+stored_calm : (command : Command) (store : List ℕ) (old new : Devices) → HasInputFor command old new → store_of command ≡ Some store → ¬ (Rose old.disk.faults new.disk.faults)
+stored_calm (check given) store old new input is = absurd (cc is)
+stored_calm (serve given) store old new input is = input.disk
+stored_calm (serve_stored given kept) store old new input is = input.disk
+stored_calm (audit given kept) store old new input is = input
+stored_calm (trial length) store old new input is = absurd (cc is)
 
 module _ (words : Option Asked) (old new : OutsideView) (smooth : IsSmooth words old new) where
   told : (exit : Exit) → TreatsText words old new exit → Treats smooth.asked smooth.text (devices old) (devices new) exit
@@ -124,10 +133,11 @@ module _ (words : Option Asked) (old new : OutsideView) (smooth : IsSmooth words
   no_write_fault : Treats smooth.asked smooth.text (devices old) (devices new) WriteFault → ⊥
   no_write_fault (inl h) = smooth.writes h.output.cause
   no_write_fault (inr (inl h)) = smooth.writes h.line.cause
-  no_write_fault (inr (inr h)) = smooth.writes h.ends.cause
+  no_write_fault (inr (inr (inl h))) = smooth.writes h.numbers.cause
+  no_write_fault (inr (inr (inr h))) = smooth.writes h.ends.cause
 
   no_disk_fault : Treats smooth.asked smooth.text (devices old) (devices new) DiskFault → ⊥
-  no_disk_fault (inl h) = let input = stored_input smooth.asked.command h.0.of.name h.0.of.store (devices old) (devices new) smooth.input h.0.of.is in input.disk h.1
+  no_disk_fault (inl h) = stored_calm smooth.asked.command h.0.of.store (devices old) (devices new) smooth.input h.0.of.is h.1
   no_disk_fault (inr h) = let input = served_input ended.DiskFault h in input.disk h.ends.cause
 
   not_long : Treats smooth.asked smooth.text (devices old) (devices new) Long → ⊥
@@ -139,6 +149,9 @@ module _ (words : Option Asked) (old new : OutsideView) (smooth : IsSmooth words
   has_store : (command : Command) → HasStoreFor command smooth.text old.disk → RefusesStore command smooth.text WritesWhole (devices old) (devices new) → ⊥
   has_store (serve name) has h = cc h.of.is
   has_store (serve_stored name store) has h =
+      let stands = has.2 h.of.table h.of.bodies h.of.program in
+      never_both (program_with h.of.table h.of.bodies) area_bytes has.0 h.line.said.cause stands.0 (h.line.said.told has.0 has.1) stands.1
+  has_store (audit name store) has h =
       let stands = has.2 h.of.table h.of.bodies h.of.program in
       never_both (program_with h.of.table h.of.bodies) area_bytes has.0 h.line.said.cause stands.0 (h.line.said.told has.0 has.1) stands.1
   has_store (check name) has h = cc h.of.is
@@ -165,14 +178,74 @@ module _ (words : Option Asked) (old new : OutsideView) (smooth : IsSmooth words
   found (check name) bytes h = h.0
   found (serve name) bytes h = absurd h
   found (serve_stored name store) bytes h = absurd h
+  found (audit name store) bytes h = absurd h
   found (trial length) bytes h = record { table = h.table; bodies = h.bodies; is = h.program }
 
   not_done : ¬ (IsAccepted smooth.text) → Treats smooth.asked smooth.text (devices old) (devices new) Done → ⊥
   not_done fault (inl h) = fault (found smooth.asked.command h.output.bytes h.output.said)
-  not_done fault (inr h) = fault (record { table = h.table; bodies = h.bodies; is = h.program })
+  not_done fault (inr (inl h)) = fault (record { table = h.of.table; bodies = h.of.bodies; is = h.of.program })
+  not_done fault (inr (inr h)) = fault (record { table = h.table; bodies = h.bodies; is = h.program })
 
   no_store : ¬ (IsAccepted smooth.text) → Treats smooth.asked smooth.text (devices old) (devices new) StoreRefused → ⊥
   no_store fault h = fault (record { table = h.of.table; bodies = h.of.bodies; is = h.of.program })
+
+  -- a store that is refused isn't one
+  refused_is_none : HasRefusal smooth.text old.disk → (table : ClassTable) (bodies : List SilicaBody) → IsProgram smooth.text table bodies
+      → ((c : List ℕ) → Reads old.disk c → (s : StoreState) × IsStoreOf (program_with table bodies) area_bytes c s) → ⊥
+  refused_is_none has table bodies program stands =
+      let one = stands has.bytes has.reads in
+      never_both (program_with has.table has.bodies) area_bytes has.bytes has.cause one.0 has.refused
+      (subst (λ (p : StoreProgram). IsStoreOf p area_bytes has.bytes one.0) (one_program smooth.text table has.table bodies has.bodies program has.program) one.1)
+
+  -- so no session begins on it, and no audit counts it
+  no_finding : (command : Command) → HasRefusalFor command smooth.text old.disk → (bytes : List ℕ) → IsFinding command smooth.text bytes → ⊥
+  no_finding (check name) has bytes h = has
+  no_finding (serve name) has bytes h = has
+  no_finding (serve_stored name store) has bytes h = h
+  no_finding (audit name store) has bytes h = h
+  no_finding (trial length) has bytes h = has
+
+  no_numbers : (command : Command) → HasRefusalFor command smooth.text old.disk → AuditsStore command smooth.text WritesWhole (devices old) (devices new) → ⊥
+  no_numbers (check name) has h = has
+  no_numbers (serve name) has h = has
+  no_numbers (serve_stored name store) has h = h.is
+  no_numbers (audit name store) has h =
+      refused_is_none has h.of.table h.of.bodies h.of.program
+      (λ c reads. let of = h.numbers.said.are.represents c reads in (of.store, of.represents))
+  no_numbers (trial length) has h = has
+
+  no_start : (command : Command) (table : ClassTable) (bodies : List SilicaBody) (start : StoreState) → IsProgram smooth.text table bodies → HasRefusalFor command smooth.text old.disk
+      → BeginsAt command (program_with table bodies) old.disk start → ⊥
+  no_start (check name) table bodies start program has begins = has
+  no_start (serve name) table bodies start program has begins = has
+  no_start (serve_stored name store) table bodies start program has begins = refused_is_none has table bodies program (λ c reads. (start, begins.1 c reads))
+  no_start (audit name store) table bodies start program has begins = begins
+  no_start (trial length) table bodies start program has begins = has
+
+  not_opened : HasRefusalFor smooth.asked.command smooth.text old.disk → Treats smooth.asked smooth.text (devices old) (devices new) Done → ⊥
+  not_opened has (inl h) = no_finding smooth.asked.command has h.output.bytes h.output.said
+  not_opened has (inr (inl h)) = no_numbers smooth.asked.command has h
+  not_opened has (inr (inr h)) = no_start smooth.asked.command h.table h.bodies h.start h.program has h.begins
+
+  accepted_by : (command : Command) → HasRefusalFor command smooth.text old.disk → IsAccepted smooth.text
+  accepted_by (check name) has = absurd has
+  accepted_by (serve name) has = absurd has
+  accepted_by (serve_stored name store) has = record { table = has.table; bodies = has.bodies; is = has.program }
+  accepted_by (audit name store) has = record { table = has.table; bodies = has.bodies; is = has.program }
+  accepted_by (trial length) has = absurd has
+
+  -- what is refused is told
+  store_refused : (e : Exit) → MeetsStatus words old new e → HasRefusalFor smooth.asked.command smooth.text old.disk → (e ≡ StoreRefused) ⊎ (e ≡ Memory)
+  store_refused StoreRefused h has = inl refl
+  store_refused Memory h has = inr refl
+  store_refused Done h has = absurd (not_opened has (told Done h))
+  store_refused Refused h has = absurd (no_fault (accepted_by smooth.asked.command has) (told Refused h))
+  store_refused Usage h has = absurd (cc (h.none, smooth.is))
+  store_refused ReadFault h has = absurd (no_read_fault (told ReadFault h))
+  store_refused WriteFault h has = absurd (no_write_fault (told WriteFault h))
+  store_refused DiskFault h has = absurd (no_disk_fault (told DiskFault h))
+  store_refused FileFault h has = absurd (smooth.files h.cause)
+  store_refused Long h has = absurd (not_long (told Long h))
 
   -- a text that isn't is refused
   refused : (e : Exit) → MeetsStatus words old new e → ¬ (IsAccepted smooth.text) → (e ≡ Refused) ⊎ (e ≡ Memory)
@@ -205,6 +278,7 @@ pub has_reason : (words : Option Asked) (old new : OutsideView) (e : Exit) → M
 has_reason words old new e h = record {
   unknown = unknown words old new e h;
   accepted = λ smooth. accepted words old new smooth e h;
+  refused = λ smooth. store_refused words old new smooth e h;
   faulty = λ smooth. refused words old new smooth e h;
 }
 
@@ -217,5 +291,6 @@ is_run words old new e status asks disk faults = record {
   answers = answers words old new e status;
   asks = asks;
   disk = disk;
+  kept = keeps_unless_served words old new e status disk;
   faults = faults;
 }

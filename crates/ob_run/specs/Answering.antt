@@ -53,7 +53,7 @@ TakesNothing before after = after.input ≡ before.input
 -- fails: up to this read the run over it is the same, and there it ends, in ReadFault. So before each read of the input each line that was
 -- taken whole has its reply written, and a client may wait for it before it sends its next line.
 abbrev pub AnswersWhatItTook : Option Asked → OutsideView → OutsideView → Exit → Type 0
--- The input was read to its end, and each line has its reply. `check` and `trial` take nothing.
+-- The input was read to its end, and each line has its reply. `check`, `audit` and `trial` take nothing.
 AnswersWhatItTook words before after Done = TakesNothing before after ⊎ AnswersLines lines_of words before after
 -- Each line that was taken whole has its reply.
 AnswersWhatItTook words before after ReadFault = AnswersLines whole_lines words before after

@@ -1,10 +1,11 @@
 -- What a run does with the disk: which calls of it are made, and what stays (this project's own).
-use Rattle.std.specs.Prelude.{◌≡◌, ◌⊎◌, List, ℕ, Option, Some, None}
+use Rattle.std.specs.Prelude.{◌≡◌, ◌⊎◌, ⊤, List, ℕ, Option, Some, None}
 use Rattle.std.specs.Option.{option_and_then}
 use Rattle.ob_disk_spec.specs.Disk.{DiskView}
 use Rattle.ob_disk_spec.specs.Calls.{IsAttached, IsUntouched}
 use Rattle.ob_disk_spec.specs.Durable.{KeepsBehind}
-use Rattle.ob_words.specs.Asked.{Command, check, serve, serve_stored, trial, Asked}
+use Rattle.ob_words.specs.Asked.{Command, check, serve, serve_stored, audit, trial, Asked}
+use Rattle.ob_run.specs.Outside.{KeepsBytes}
 use Rattle.ob_run.specs.Sessions.{both_areas}
 
 -- the STORE of a command; the others have none
@@ -12,6 +13,7 @@ abbrev pub store_of : Command → Option (List ℕ)
 store_of (check name) = None
 store_of (serve name) = None
 store_of (serve_stored name store) = Some store
+store_of (audit name store) = Some store
 store_of (trial length) = None
 
 -- the STORE of what the words ask for, if they are a command that has one
@@ -33,3 +35,13 @@ AttachesAtMostOnce (Some name) before after = IsAttached before after name ⊎ N
 pub record UsesDisk (store : Option (List ℕ)) (before after : DiskView) : Type 0 where
   pub attaches : AttachesAtMostOnce store before after
   pub behind : KeepsBehind both_areas before after
+
+-- a session over a store on a disk changes it; by each other command no byte of a disk changes, a crash at any moment counted in
+abbrev pub KeepsUnlessServed : Command → DiskView → DiskView → Type 0
+KeepsUnlessServed (serve_stored name store) before after = ⊤
+KeepsUnlessServed command before after = KeepsBytes before after
+
+-- the same of what the words ask for; where they ask for nothing, no byte changes
+abbrev pub KeepsUnlessAsked : Option Asked → DiskView → DiskView → Type 0
+KeepsUnlessAsked None before after = KeepsBytes before after
+KeepsUnlessAsked (Some asked) before after = KeepsUnlessServed asked.command before after

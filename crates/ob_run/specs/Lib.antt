@@ -11,6 +11,7 @@ pub mod Sessions
 pub mod Attaching
 pub mod Openings
 pub mod TrialLines
+pub mod Auditing
 pub mod Statuses
 pub mod Reasons
 pub mod Answering

@@ -14,7 +14,8 @@ use Rattle.ob_store.specs.declared.store.Store.{Store}
 use Rattle.ob_journal_spec.specs.Disks.{IsBlankDisk, IsBlankOrBegunDisk}
 use Rattle.ob_store_spec.specs.Stores.{StoreProgram, StoreRefusal, IsStoreOf, IsRefused}
 use Rattle.ob_serve.specs.Served.{Devices}
-use Rattle.ob_words.specs.Asked.{Command, serve_stored}
+use Rattle.ob_words.specs.Asked.{Command, audit}
+use Rattle.ob_run.specs.Attaching.{store_of}
 use Rattle.ob_run.specs.Outside.{KeepsBytes}
 use Rattle.ob_run.specs.Sessions.{area_bytes, program_with}
 use Rattle.ob_run.specs.StoreLine.{store_line, refusal_view}
@@ -29,9 +30,8 @@ pub record IsStoreRefusal (program : StoreProgram) (disk : DiskView) (bytes : Li
 
 -- The command keeps its store on a disk, and its text is a program.
 pub record KeepsStoreOf (command : Command) (text : List ℕ) : Type 0 where
-  pub name : List ℕ
   pub store : List ℕ
-  pub is : command ≡ serve_stored name store
+  pub is : store_of command ≡ Some store
   pub table : ClassTable
   pub bodies : List SilicaBody
   pub program : IsProgram text table bodies
@@ -50,10 +50,15 @@ pub record StaysUnopened (program : StoreProgram) (before after : DiskView) : Ty
   pub quiet : (c : List ℕ) → Reads before c → ¬ (IsBlankDisk area_bytes c) → KeepsBytes before after
   pub disk : During before after (λ c. May before c ⊎ IsBlankOrBegunDisk area_bytes program.image c)
 
--- The text is a program, and its store wasn't opened. Neither stream was touched.
+-- What is left of a disk whose store a command didn't open: an audit changes no byte of it.
+abbrev pub StaysFor : Command → StoreProgram → DiskView → DiskView → Type 0
+StaysFor (audit name store) program before after = KeepsBytes before after
+StaysFor command program before after = StaysUnopened program before after
+
+-- The text is a program, and nothing was done with its store. Neither stream was touched.
 pub record OpensNot (command : Command) (text : List ℕ) (before after : Devices) : Type 0 where
   pub of : KeepsStoreOf command text
-  pub stays : StaysUnopened (program_with of.table of.bodies) before.disk after.disk
+  pub stays : StaysFor command (program_with of.table of.bodies) before.disk after.disk
   pub input : after.input ≡ before.input
   pub output : after.output ≡ before.output
 

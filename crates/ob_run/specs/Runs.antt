@@ -2,7 +2,7 @@
 use Rattle.std.specs.Prelude.{Option}
 use Rattle.ob_words.specs.Asked.{Asked}
 use Rattle.ob_run.specs.Answering.{AnswersWhatItTook}
-use Rattle.ob_run.specs.Attaching.{UsesDisk, store_asked}
+use Rattle.ob_run.specs.Attaching.{UsesDisk, KeepsUnlessAsked, store_asked}
 use Rattle.ob_run.specs.FileAsks.{AsksFor}
 use Rattle.ob_run.specs.Faults.{EndsAtFault}
 use Rattle.ob_run.specs.Outside.{OutsideView}
@@ -20,8 +20,10 @@ pub record IsRun (words : Option Asked) (before after : OutsideView) (exit : Exi
   pub answers : AnswersWhatItTook words before after exit
   -- P is asked once at most, for `most_read` bytes, and no other file is
   pub asks : AsksFor words before.files.asks after.files.asks
-  -- by `serve P STORE` the disk of the name STORE is taken, once at most, before any other call of it, and what follows its first 128 MiB
-  -- stays; by all other words no call of the disk is made
+  -- by `serve P STORE` and `audit P STORE` the disk of the name STORE is taken, once at most, before any other call of it, and what follows
+  -- its first 128 MiB stays; by all other words no call of the disk is made
   pub disk : UsesDisk (store_asked words) before.disk after.disk
+  -- only by `serve P STORE` a byte of the disk changes, a crash at any moment counted in: an audit writes nothing, however it ends
+  pub kept : KeepsUnlessAsked words before.disk after.disk
   -- the run ends at the first fault
   pub faults : EndsAtFault before after exit

@@ -19,7 +19,7 @@ use Rattle.ob_serve.specs.Served.{Devices, Ends}
 use Rattle.ob_serve.specs.Standing.{StandsForStore}
 use Rattle.ob_serve.specs.declared.serving.Served.{Served}
 use Rattle.ob_serve.specs.declared.serving.Served.TheVariants.{DiskFault}
-use Rattle.ob_words.specs.Asked.{Command, check, serve, serve_stored, trial, Asked}
+use Rattle.ob_words.specs.Asked.{Command, check, serve, serve_stored, audit, trial, Asked}
 use Rattle.ob_run.specs.Survival.{Survives}
 
 -- how many bytes each of the two areas of a store has on a disk: 64 MiB
@@ -35,6 +35,7 @@ abbrev pub area_for : Command → Option ℕ
 area_for (check name) = None
 area_for (serve name) = None
 area_for (serve_stored name store) = Some area_bytes
+area_for (audit name store) = Some area_bytes
 area_for (trial length) = None
 
 -- a program, as a store knows it: by its class table, and the bytes of its image
@@ -51,6 +52,7 @@ BeginsAt (check name) program disk start = ⊥
 BeginsAt (serve name) program disk start = start ≡ store_in_memory
 BeginsAt (serve_stored name store) program disk start =
     IsStoreAtRest program.table start.content × ((c : List ℕ) → Reads disk c → IsStoreOf program area_bytes c start)
+BeginsAt (audit name store) program disk start = ⊥
 BeginsAt (trial length) program disk start = ⊥
 
 -- The item of a line: it is answered by the source meaning of a program, with the fuel that is asked for, on the store that the line

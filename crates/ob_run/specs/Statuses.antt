@@ -5,7 +5,8 @@ use Rattle.ob_io.specs.Causes.{Rose}
 use Rattle.ob_front.specs.Programs.{IsAccepted, HasTextFault}
 use Rattle.ob_serve.specs.Served.{Devices, IsToldAs}
 use Rattle.ob_serve.specs.declared.serving.Served.TheVariants as ended
-use Rattle.ob_words.specs.Asked.{Command, check, serve, serve_stored, trial, Asked}
+use Rattle.ob_words.specs.Asked.{Command, check, serve, serve_stored, audit, trial, Asked}
+use Rattle.ob_run.specs.Auditing.{AuditsStore}
 use Rattle.ob_run.specs.FileAsks.{AsksOnce}
 use Rattle.ob_run.specs.Commands.{file_of, text_in}
 use Rattle.ob_run.specs.FaultLine.{fault_line}
@@ -29,11 +30,12 @@ pub record IsRefusal (text bytes : List ℕ) : Type 0 where
 abbrev pub accepted_line : List ℕ
 accepted_line = codes "accepted" ++ 10 ∷ []
 
--- The bytes are what a command that takes no input finds of a text without a fault.
+-- The bytes are what a command that takes no input and no store finds of a text without a fault.
 abbrev pub IsFinding : Command → List ℕ → List ℕ → Type 0
 IsFinding (check name) text bytes = IsAccepted text × (bytes ≡ accepted_line)
 IsFinding (serve name) text bytes = ⊥
 IsFinding (serve_stored name store) text bytes = ⊥
+IsFinding (audit name store) text bytes = ⊥
 IsFinding (trial length) text bytes = TellsTrial text length bytes
 
 -- The bytes are what a command writes of a text: its refusal, or what it finds.
@@ -44,23 +46,26 @@ IsOfText command text bytes = IsRefusal text bytes ⊎ IsFinding command text by
 
 -- What each status says of a command, its text, the streams and the disk.
 abbrev pub Treats : Asked → List ℕ → Devices → Devices → Exit → Type 0
--- What the command finds of the text was written, or the replies to all lines of the input.
+-- What the command finds of the text was written, or the numbers of its store, or the replies to all lines of the input.
 Treats asked text before after Done =
-    OnOutput (WritesWhole (IsFinding asked.command text)) before after ⊎ ServesProgram asked text before after ended.Done
+    OnOutput (WritesWhole (IsFinding asked.command text)) before after
+    ⊎ (AuditsStore asked.command text WritesWhole before after ⊎ ServesProgram asked text before after ended.Done)
 -- The text has a fault: the line of its first was written.
 Treats asked text before after Refused = OnOutput (WritesWhole (IsRefusal text)) before after
 -- A read of the input failed.
 Treats asked text before after ReadFault = ServesProgram asked text before after ended.ReadFault
--- A write failed: within what the command writes of the text, within the line of a store that is refused, or within a reply.
+-- A write failed: within what the command writes of the text, within the line of a store that is refused, within the numbers of a store, or
+-- within a reply.
 Treats asked text before after WriteFault =
     OnOutput (WritesFront (IsOfText asked.command text)) before after
-    ⊎ (RefusesStore asked.command text WritesFront before after ⊎ ServesProgram asked text before after ended.WriteFault)
--- A call of the disk failed: while the store was opened, or while a line was committed.
+    ⊎ (RefusesStore asked.command text WritesFront before after
+    ⊎ (AuditsStore asked.command text WritesFront before after ⊎ ServesProgram asked text before after ended.WriteFault))
+-- A call of the disk failed: while the store was opened or read, or while a line was committed.
 Treats asked text before after DiskFault =
     (OpensNot asked.command text before after × Rose before.disk.faults after.disk.faults) ⊎ ServesProgram asked text before after ended.DiskFault
 -- What the disk reads is refused for the program: the line of the first cause was written.
 Treats asked text before after StoreRefused = RefusesStore asked.command text WritesWhole before after
--- Memory ran out: before anything was touched, while the store was opened, or before a reply.
+-- Memory ran out: before anything was touched, before anything was done with the store, or before a reply.
 Treats asked text before after Memory =
     KeepsDevices before after ⊎ (OpensNot asked.command text before after ⊎ ServesProgram asked text before after ended.Memory)
 -- Exactly `most_taken` bytes of input were taken.

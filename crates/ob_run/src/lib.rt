@@ -1,6 +1,7 @@
 //! The top call: what the words of a command line ask for, done over files, a source, a sink and a disk.
 #![tactic(auto)]
 
+mod auditing;
 mod examined;
 mod exit;
 mod fault;

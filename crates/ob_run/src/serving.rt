@@ -19,6 +19,7 @@ use crate::exit::Exit;
 use crate::outside::Outside;
 use crate::refusal::StoreRefusal;
 use crate::telling::{refuse, refuse_store};
+use ob_base::Memory;
 use ob_disk::Disk;
 use ob_front::compile;
 use ob_io::{Files, Sink, Source};
@@ -122,7 +123,10 @@ pub fn serve_text<F: Files, S: Source, K: Sink, D: Disk>(
         Ok(program) => program,
         Err(error) => return refuse(alloc, error, &mut outside.output, &mut examined.fault),
     };
-    let mut store = Store::blank(alloc);
+    let mut store = match Store::blank(alloc, &program.code) {
+        Ok(store) => store,
+        Err(Memory) => return Exit::Memory,
+    };
     let served = serve(
         alloc,
         &program.code,

@@ -1,20 +1,30 @@
 //! What is written where no line is served.
-ghost use Rattle.std.specs.Prelude.{◌≡◌, ℕ, List};
+ghost use Rattle.std.specs.Prelude.{◌≡◌, ◌++◌, ℕ, List, OnOk, string_bytes};
 ghost use Rattle.ob_base.specs.TextErrors.{OnFault};
 ghost use Rattle.ob_front.specs.Programs.{IsAccepted, HasTextFault};
 ghost use Rattle.ob_words.specs.Asked.{Command, check};
 ghost use Rattle.ob_run.specs.Faults.{CountsFault};
 ghost use Rattle.ob_run.specs.StoreLine.{refusal_view};
 ghost use Rattle.ob_run.specs.TextRead.{Tells, TellsRefusal};
+ghost use Rattle.ob_run.specs.TrialLines.{count_line};
 
 use crate::examined::Examined;
 use crate::exit::Exit;
 use crate::fault::fault_line;
 use crate::refusal::{StoreRefusal, store_line};
-use ob_base::ProgramFault;
+use ob_base::{Memory, ProgramFault};
 use ob_front::{CompileError, check_program};
 use ob_io::{Sink, write_all};
 use std::alloc::Global;
+
+/// Puts a number behind its word, on a line.
+pub fn put_count(text: &mut String, alloc: Global, word: &str, count: u64) -> Result<(), Memory>
+    ensures { OnOk result (string_bytes text.new ≡ string_bytes text.old ++ count_line word.now count) }
+{
+    let line = format!(in alloc; "{word} {count}\n")?;
+    text.push_str(&line)?;
+    Ok(())
+}
 
 /// Writes the line of the fault for which a text is refused, and notes the fault; nothing where memory ran out.
 pub fn refuse<K: Sink>(

@@ -14,6 +14,7 @@ ghost use Rattle.ob_run.specs.Runs.{IsRun};
 ghost use Rattle.ob_run.specs.Statuses.{Treats, MeetsStatus};
 ghost use Rattle.ob_run.specs.TextRead.{IsReadOf};
 
+use crate::auditing::audit_store;
 use crate::examined::Examined;
 use crate::exit::Exit;
 use crate::machine::vending_machine;
@@ -35,7 +36,8 @@ fn file_of(command: Command<'_>) -> Option<&str>
     ensures { option_map (λ name. name.now) result ≡ file_of (command_view command.entry) }
 {
     match command {
-        Command::Check(name) | Command::Serve(name) | Command::ServeStored(name, _) => Some(name),
+        Command::Check(name) | Command::Serve(name) => Some(name),
+        Command::ServeStored(name, _) | Command::Audit(name, _) => Some(name),
         Command::Trial(_) => None,
     }
 }
@@ -76,6 +78,7 @@ fn treat<F: Files, S: Source, K: Sink, D: Disk>(
         Command::ServeStored(_, name) => {
             serve_text_stored(alloc, text, name, fuel, outside, examined)
         }
+        Command::Audit(_, name) => audit_store(alloc, text, name, outside, examined),
         Command::Trial(length) => try_text(alloc, text, length, &mut outside.output, examined),
     }
 }

@@ -1,30 +1,21 @@
 //! A trial is held, and its numbers are written.
-ghost use Rattle.std.specs.Prelude.{◌≡◌, ◌++◌, ℕ, List, IfOk, OnOk, string_bytes};
+ghost use Rattle.std.specs.Prelude.{◌≡◌, ℕ, List, IfOk, string_bytes};
 ghost use Rattle.ob_words.specs.Asked.{trial};
 ghost use Rattle.ob_run.specs.Faults.{CountsFault};
 ghost use Rattle.ob_run.specs.Statuses.{IsFinding};
 ghost use Rattle.ob_run.specs.TextRead.{Tells};
-ghost use Rattle.ob_run.specs.TrialLines.{count_line, trial_text};
+ghost use Rattle.ob_run.specs.TrialLines.{trial_text};
 
 use crate::examined::Examined;
 use crate::exit::Exit;
 use crate::serving::AREA;
-use crate::telling::refuse;
+use crate::telling::{put_count, refuse};
 use ob_base::Memory;
 use ob_front::compile;
 use ob_io::{Sink, write_all};
 use ob_trial::{Counts, hold_trial};
 use ob_words::DEFAULT_FUEL;
 use std::alloc::Global;
-
-// Puts a number behind its word, on a line.
-fn put_count(text: &mut String, alloc: Global, word: &str, count: u64) -> Result<(), Memory>
-    ensures { OnOk result (string_bytes text.new ≡ string_bytes text.old ++ count_line word.now count) }
-{
-    let line = format!(in alloc; "{word} {count}\n")?;
-    text.push_str(&line)?;
-    Ok(())
-}
 
 // The six numbers, each on a line.
 fn trial_text(alloc: Global, counts: Counts) -> Result<String, Memory>

@@ -13,7 +13,7 @@ use Rattle.clap.specs.Faults.{fault_of}
 use Rattle.clap.specs.Simple.{matches_of}
 use Rattle.clap.specs.Walk.{Row, Text, all_of, first_of}
 use Rattle.ob_base.proofs.OptionalLemmas.{both_true}
-use Rattle.ob_words.specs.Asked.{Command, check, serve, serve_stored, trial, Limits, Asked, asked_with, asked_of, command_of, limits_of}
+use Rattle.ob_words.specs.Asked.{Command, check, serve, serve_stored, audit, trial, Limits, Asked, asked_with, asked_of, command_of, limits_of}
 use Rattle.ob_words.specs.CommandLine.{command_line}
 use Rattle.ob_words.specs.Settings.{Setting, fuel, lanes, slice, name_of, setting_of}
 use Rattle.ob_words.specs.Written.{Given, IsRow, IsWritten, is_in_range, is_plain, option_words, values_of}
@@ -232,6 +232,7 @@ split : (row : List Text) (c : Command) → IsRow row c → Split row c
 split row (check p) is = record { word = codes "check"; names = p ∷ []; is = is; some = refl; command = refl }
 split row (serve p) is = record { word = codes "serve"; names = p ∷ []; is = is; some = refl; command = refl }
 split row (serve_stored p store) is = record { word = codes "serve"; names = p ∷ store ∷ []; is = is; some = refl; command = refl }
+split row (audit p store) is = record { word = codes "audit"; names = p ∷ store ∷ []; is = is; some = refl; command = refl }
 split row (trial n) is = record { word = codes "trial"; names = is.0 ∷ []; is = is.1; some = refl; command = ap (option_map trial) is.2 }
 
 limits_are : (f l s : Option Text) (limits : Limits) → setting_of fuel f ≡ Some limits.fuel → setting_of lanes l ≡ Some limits.lanes

@@ -6,12 +6,13 @@ use Rattle.ob_words.specs.CommandLine.{is_taken, values_in}
 use Rattle.ob_words.specs.Settings.{fuel, lanes, slice, number_in, setting_of}
 
 -- The commands. `check P` tells the first fault of the text in the file P, or that it has none. `serve P` serves lines for the program
--- in the file P over a store in memory, and `serve P STORE` over the store on the disk STORE. `trial N` answers the lines of the trial
--- of length N.
+-- in the file P over a store in memory, and `serve P STORE` over the store on the disk STORE. `audit P STORE` counts what that store
+-- holds. `trial N` answers the lines of the trial of length N.
 pub data Command : Type 0 where
   check : Text → Command
   serve : Text → Command
   serve_stored : Text → Text → Command
+  audit : Text → Text → Command
   trial : ℕ → Command
 
 -- how long a trial may be
@@ -38,7 +39,9 @@ command_of_one word one =
 
 -- the command that is a word with two words after it
 abbrev pub command_of_two : Text → Text → Text → Option Command
-command_of_two word one two = if bytes_eq word (codes "serve") then Some (serve_stored one two) else None
+command_of_two word one two =
+    if bytes_eq word (codes "serve") then Some (serve_stored one two)
+    else (if bytes_eq word (codes "audit") then Some (audit one two) else None)
 
 -- the command that is a word with these words after it
 abbrev pub command_of : Text → List Text → Option Command

@@ -1,7 +1,7 @@
 -- What the code's values stand for.
-use Rattle.ob_words.specs.Asked.{Command, check, serve, serve_stored, trial, Limits, Asked}
+use Rattle.ob_words.specs.Asked.{Command, check, serve, serve_stored, audit, trial, Limits, Asked}
 use Rattle.ob_words.specs.declared.asked.Command.{Command as CodeCommand}
-use Rattle.ob_words.specs.declared.asked.Command.TheVariants.{Check, Serve, ServeStored, Trial}
+use Rattle.ob_words.specs.declared.asked.Command.TheVariants.{Check, Serve, ServeStored, Audit, Trial}
 use Rattle.ob_words.specs.declared.asked.Limits.{Limits as CodeLimits}
 use Rattle.ob_words.specs.declared.asked.Asked.{Asked as CodeAsked}
 
@@ -10,6 +10,7 @@ abbrev pub command_view : CodeCommand → Command
 command_view (Check p) = check p.now
 command_view (Serve p) = serve p.now
 command_view (ServeStored p store) = serve_stored p.now store.now
+command_view (Audit p store) = audit p.now store.now
 command_view (Trial n) = trial n
 
 -- the settings

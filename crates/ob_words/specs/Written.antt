@@ -4,13 +4,14 @@ use Rattle.std.specs.List.{list_all}
 use Rattle.std.specs.Str.{bytes_eq}
 use Rattle.clap.specs.Walk.{Text}
 use Rattle.ob_words.specs.Settings.{Setting, fuel, lanes, slice, name_of, setting_of, number_in}
-use Rattle.ob_words.specs.Asked.{Command, check, serve, serve_stored, trial, longest_trial, Asked}
+use Rattle.ob_words.specs.Asked.{Command, check, serve, serve_stored, audit, trial, longest_trial, Asked}
 
 -- The words are a row of the table, and this is its command.
 abbrev pub IsRow : List Text → Command → Type 0
 IsRow words (check p) = words ≡ codes "check" ∷ p ∷ []
 IsRow words (serve p) = words ≡ codes "serve" ∷ p ∷ []
 IsRow words (serve_stored p store) = words ≡ codes "serve" ∷ p ∷ store ∷ []
+IsRow words (audit p store) = words ≡ codes "audit" ∷ p ∷ store ∷ []
 IsRow words (trial n) = (digits : Text) × (words ≡ codes "trial" ∷ digits ∷ []) × (number_in 0 longest_trial digits ≡ Some n)
 
 -- a setting, with the text of its value

@@ -10,6 +10,8 @@ pub enum Command<'a> {
     Serve(&'a str),
     /// The program in a file, the first, is served over the store on a disk, the second.
     ServeStored(&'a str, &'a str),
+    /// What the store on a disk holds, the second, is counted for the program in a file, the first.
+    Audit(&'a str, &'a str),
     /// The lines of the trial of this length, from 0 to `LONGEST_TRIAL`, are answered.
     Trial(u32),
 }

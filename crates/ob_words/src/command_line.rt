@@ -19,6 +19,7 @@ Commands:
   check P        Tell the first fault of the program text in the file P, or that it has none
   serve P        Serve the program in the file P over a store in memory, until the input ends
   serve P STORE  Serve the program in the file P over the store in the file STORE
+  audit P STORE  Count what that store holds, and write nothing to it
   trial N        Answer the N + 1 request lines of the trial of length N, from 0 to 20000
 
 Requests are read from standard input, a JSON object a line; replies are written to standard output.";
@@ -38,7 +39,7 @@ fn command_word<'a>(alloc: Global) -> Arg<'a>
 {
     Arg::new(alloc, "command")
         .required(true)
-        .help("What is done: check, serve or trial")
+        .help("What is done: check, serve, audit or trial")
 }
 
 // The words after it.

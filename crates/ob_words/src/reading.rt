@@ -38,6 +38,7 @@ fn command_of_two<'a>(word: &str, one: &'a str, two: &'a str) -> Option<Command<
 {
     match word {
         "serve" => Some(Command::ServeStored(one, two)),
+        "audit" => Some(Command::Audit(one, two)),
         _ => None,
     }
 }

@@ -22,7 +22,7 @@ pub fn command_of(alloc: Global, words: &[String]) -> Option<Command<'_>> {
 /// The file in which a command keeps its store; None where it keeps none.
 pub fn store_of<'a>(command: Option<Command<'a>>) -> Option<&'a str> {
     match command {
-        Some(Command::ServeStored(_, store)) => Some(store),
+        Some(Command::ServeStored(_, store) | Command::Audit(_, store)) => Some(store),
         _ => None,
     }
 }
@@ -30,7 +30,8 @@ pub fn store_of<'a>(command: Option<Command<'a>>) -> Option<&'a str> {
 // The file of which a command has its text; empty where it has none.
 fn file_of(command: Command<'_>) -> &str {
     match command {
-        Command::Check(file) | Command::Serve(file) | Command::ServeStored(file, _) => file,
+        Command::Check(file) | Command::Serve(file) => file,
+        Command::ServeStored(file, _) | Command::Audit(file, _) => file,
         Command::Trial(_) => "",
     }
 }

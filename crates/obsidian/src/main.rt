@@ -1,5 +1,5 @@
-//! Serves a program of the Obsidian language, request lines in and replies out; or checks its text; or holds a trial. Beside that it
-//! tells a person on standard error what is wrong with the words, the text, the files or the store, and how a store was opened.
+//! Serves a program of the Obsidian language, request lines in and replies out; or checks its text; or audits a store; or holds a trial.
+//! Beside that it tells a person on standard error what is wrong with the words, the text, the files or the store, and how a store was opened.
 #![tactic(auto)]
 
 mod announcing;

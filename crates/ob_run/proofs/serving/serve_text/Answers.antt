@@ -1,4 +1,4 @@
-use Rattle.std.proofs.Common.{map, None, refl, sym, subst}
+use Rattle.std.proofs.Common.{inl, map, None, refl, sym, subst}
 use Rattle.ob_silica.specs.TermsView.{silica_body_of}
 use Rattle.ob_serve.specs.Served.{Devices}
 use Rattle.ob_words.specs.Asked.{serve}
@@ -24,10 +24,15 @@ serve-served-requires-clause-servable g c =
     let program = c.in-Ok.program in is_servable program.table (map silica_body_of program.bodies) program.code c.in-Ok.ensures.compiled c.in-Ok.ensures.code c.in-Ok.ensures.sound_code
 
 pub serve-served-requires-clause-at_rest : goal.serve-served-requires-clause-at_rest
-serve-served-requires-clause-at_rest g c = rests_in_memory c.in-Ok.program.code c.blank-store.result c.blank-store.ensures.content
+serve-served-requires-clause-at_rest g c = rests_in_memory c.in-Ok.program.code c.in-Ok-blank.store c.in-Ok-blank.ensures.content
 
 pub serve-served-requires-clause-stands : goal.serve-served-requires-clause-stands
-serve-served-requires-clause-stands g c = stands_in_memory (program_of c.in-Ok.program.code) c.blank-store.result (g.D.Disk.view c.args.outside.now.disk) c.blank-store.ensures.memory
+serve-served-requires-clause-stands g c = stands_in_memory (program_of c.in-Ok.program.code) c.in-Ok-blank.store (g.D.Disk.view c.args.outside.now.disk) c.in-Ok-blank.ensures.memory
+    c.in-Ok-blank.ensures.owners
+
+-- no memory is left for a store
+pub returns-in-Err-blank-clause-treats : goal.returns-in-Err-blank-clause-treats
+returns-in-Err-blank-clause-treats g c = λ name lanes slice. inl (record { input = refl; output = refl; disk = spared _ })
 
 -- the run ends as the session of the program does
 pub returns-clause-treats : goal.returns-clause-treats
@@ -39,14 +44,17 @@ returns-clause-treats g c = λ name lanes slice.
     let sound = (c.in-Ok.ensures.sound_code) in
     subst (λ (e : Exit). Treats (asked_with (serve name) c.args.fuel lanes slice) c.args.text.now old new e) (sym c.exit_of.ensures)
     (ends_session (asked_with (serve name) c.args.fuel lanes slice) c.args.text.now old new c.serve-served.result
-    (serves_in_memory program.table bodies program.code c.in-Ok.ensures.compiled c.in-Ok.ensures.code sound c.args.text.now c.in-Ok.ensures.program c.args.fuel lanes slice name old new c.serve-served.result c.blank-store.result
-    c.blank-store.ensures.content c.blank-store.ensures.memory (begins_in_memory c.blank-store.result c.blank-store.ensures.content c.blank-store.ensures.memory)
+    (serves_in_memory program.table bodies program.code c.in-Ok.ensures.compiled c.in-Ok.ensures.code sound c.args.text.now c.in-Ok.ensures.program c.args.fuel lanes slice name old new c.serve-served.result c.in-Ok-blank.store
+    c.in-Ok-blank.ensures.content c.in-Ok-blank.ensures.memory (begins_in_memory c.in-Ok-blank.store c.in-Ok-blank.ensures.content c.in-Ok-blank.ensures.memory)
     (c.serve-served.ensures.ends (record { table = program.table; bodies = bodies }) (record { sound = sound; emitted = c.in-Ok.ensures.code; table = c.in-Ok.ensures.compiled.lowered.table }))
-    (c.serve-served.ensures.untouched c.blank-store.ensures.memory) (c.serve-served.ensures.sure c.blank-store.ensures.memory) c.serve-served.ensures.few))
+    (c.serve-served.ensures.untouched c.in-Ok-blank.ensures.memory) (c.serve-served.ensures.sure c.in-Ok-blank.ensures.memory) c.serve-served.ensures.few))
 
 -- no call of the disk is made
 pub returns-in-Err-clause-disk : goal.returns-in-Err-clause-disk
 returns-in-Err-clause-disk g c = uses_nothing None (g.D.Disk.view c.args.outside.now.disk)
 
+pub returns-in-Err-blank-clause-disk : goal.returns-in-Err-blank-clause-disk
+returns-in-Err-blank-clause-disk g c = uses_nothing None (g.D.Disk.view c.args.outside.now.disk)
+
 pub returns-clause-disk : goal.returns-clause-disk
-returns-clause-disk g c = uses_untouched (g.D.Disk.view c.args.outside.now.disk) (g.D.Disk.view c.serve-served.new.disk) (c.serve-served.ensures.untouched c.blank-store.ensures.memory)
+returns-clause-disk g c = uses_untouched (g.D.Disk.view c.args.outside.now.disk) (g.D.Disk.view c.serve-served.new.disk) (c.serve-served.ensures.untouched c.in-Ok-blank.ensures.memory)

@@ -37,7 +37,7 @@ returns-in-Err-Refused-clause-treats g c = λ file lanes slice.
     let new : Devices = record { input = old.input; output = g.K.Sink.view c.refuse_store.new.output; disk = g.D.Disk.view c.open_named.new.disk } in
     let opens = rw c.in-Err-Refused.field-0-is at c.in-Err-Refused.ensures.opens in
     refused_by_store program.table (map silica_body_of program.bodies) program.code c.in-Ok.ensures.compiled c.in-Ok.ensures.code c.in-Ok.ensures.sound_code c.args.text.now c.in-Ok.ensures.program
-    file c.args.name.now old new (refusal_view c.in-Err-Refused.refusal) c.refuse_store.result c.refuse_store.ensures.tells opens.0 opens.1 refl c.args.fuel lanes slice
+    (serve_stored file c.args.name.now) c.args.name.now refl old new (refusal_view c.in-Err-Refused.refusal) c.refuse_store.result c.refuse_store.ensures.tells opens.0 opens.1 refl c.args.fuel lanes slice
 
 pub returns-in-Err-DiskFault-clause-treats : goal.returns-in-Err-DiskFault-clause-treats
 returns-in-Err-DiskFault-clause-treats g c = λ file lanes slice.

@@ -20,6 +20,10 @@ pub returns-in-ServeStored-clause-treats : goal.returns-in-ServeStored-clause-tr
 returns-in-ServeStored-clause-treats g c =
     rw c.in-ServeStored.is (c.serve_text_stored.ensures.treats c.in-ServeStored.field-0.now c.args.asked.limits.lanes c.args.asked.limits.slice)
 
+pub returns-in-Audit-clause-treats : goal.returns-in-Audit-clause-treats
+returns-in-Audit-clause-treats g c =
+    rw c.in-Audit.is (c.audit_store.ensures.treats c.in-Audit.field-0.now c.args.asked.limits.fuel c.args.asked.limits.lanes c.args.asked.limits.slice)
+
 pub returns-in-Trial-clause-treats : goal.returns-in-Trial-clause-treats
 returns-in-Trial-clause-treats g c =
     let old : Devices = devices (told g.F.Files.view g.S.Source.view g.K.Sink.view g.D.Disk.view c.args.outside.now) in
@@ -36,6 +40,9 @@ returns-in-Serve-clause-disk g c = rw c.in-Serve.is c.serve_text.ensures.disk
 
 pub returns-in-ServeStored-clause-disk : goal.returns-in-ServeStored-clause-disk
 returns-in-ServeStored-clause-disk g c = rw c.in-ServeStored.is c.serve_text_stored.ensures.disk
+
+pub returns-in-Audit-clause-disk : goal.returns-in-Audit-clause-disk
+returns-in-Audit-clause-disk g c = rw c.in-Audit.is c.audit_store.ensures.disk
 
 pub returns-in-Trial-clause-disk : goal.returns-in-Trial-clause-disk
 returns-in-Trial-clause-disk g c = uses_nothing (store_of (asked_view c.args.asked).command) (g.D.Disk.view c.args.outside.now.disk)

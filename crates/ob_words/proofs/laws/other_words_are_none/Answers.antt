@@ -9,6 +9,7 @@ returns c = record {
   no_words = refl;
   lone_serve = refl;
   too_many = refl;
+  lone_audit = refl;
   unknown = refl;
   no_fuel = refl;
   twice = refl;

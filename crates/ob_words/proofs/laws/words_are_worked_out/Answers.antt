@@ -8,6 +8,7 @@ unfolding clap_on_literals
 returns c = record {
   check = refl;
   serve_stored = refl;
+  audit = refl;
   leading_zeros = refl;
   behind_hyphens = refl;
   with_equals = refl;
