@@ -56,13 +56,14 @@ set_leads mark id base o y at has is =
       next = (omega arith, tt);
       is = ap (λ b. map object_of (if b then set base id.0 y else base ++ y ∷ [])) (is_lower id.0 (length base) l)
           ∙ map-set object_of base id.0 y ∙ ap (set (map object_of base) id.0) is ∙ sym to;
-      others = All-from_recursion (λ (e : ObjectId × Object). ¬ (slice_get base e.0.0 ≡ Some e.1)) ((id, y) ∷ []) (other, tt);
+      others = All-from_recursion (λ (e : ObjectId × Object). ¬ (object_at (map object_of base) e.0.0 ≡ Some (object_of e.1))) ((id, y) ∷ []) (other, tt);
     }
   where
-    other : ¬ (slice_get base id.0 ≡ Some y)
+    other : ¬ (object_at (map object_of base) id.0 ≡ Some (object_of y))
     other e =
-        let same : o ≡ y = cc in
-        true≢false (sym (ap (has_mark mark) is ∙ mark_there mark (object_of o)) ∙ ap (λ x. has_mark mark (object_of x)) (sym same) ∙ has)
+        let both : ◌≡◌ {A = Option PlainObject} (Some (object_of o)) (Some (object_of y)) = sym (looked base id.0 (Some o) at) ∙ e in
+        let same : object_of o ≡ object_of y = cc in
+        true≢false (sym (ap (has_mark mark) is ∙ mark_there mark (object_of o)) ∙ ap (has_mark mark) (sym same) ∙ has)
 
 pub mark_set : (mark : Mark) (id : ObjectId) (base : List Object) (o y : Object) (changes : List (ObjectId × Object)) → slice_get base id.0 ≡ Some o
     → has_mark mark (object_of o) ≡ false → object_of y ≡ marked mark (object_of o) → changes ≡ (id, y) ∷ []

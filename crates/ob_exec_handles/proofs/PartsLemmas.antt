@@ -1,10 +1,7 @@
 -- How objects and handles change.
-use Rattle.std.proofs.Common.{◌≡◌, ℕ, zero, suc, ◌<◌, ◌≤◌, Bool, true, false, List, [], ◌∷◌, ◌++◌, length, map, Some, None, refl, sym, ap, subst, ◌∙◌, true≢false, arith}
-use Rattle.std.specs.Prelude.{nat_lt, not, slice_get, if◌then◌else◌}
-use Rattle.std.specs.Option.{option_map_or}
-use Rattle.std.specs.List.{AllByRecursion}
-use Rattle.std.proofs.lemmas.List.Elements.{All-from_recursion}
-use Rattle.std.proofs.lemmas.Option.{slice_get_past}
+use Rattle.std.proofs.Common.{◌≡◌, ℕ, zero, suc, ◌<◌, ◌≤◌, Bool, true, false, List, [], ◌∷◌, ◌++◌, length, map, get_or, refl, sym, ap, subst, ◌∙◌, true≢false, arith}
+use Rattle.std.specs.Prelude.{nat_lt, if◌then◌else◌}
+use Rattle.std.proofs.lemmas.Option.{slice_get-map}
 use Rattle.ob_base.specs.declared.id.ObjectId.{ObjectId}
 use Rattle.ob_base.specs.declared.name.Label.{Label}
 use Rattle.ob_heap_spec.specs.Contents.{Content}
@@ -14,10 +11,9 @@ use Rattle.ob_heap.specs.declared.object.Handle.{Handle}
 use Rattle.ob_heap.specs.Ascending.{IsAscending}
 use Rattle.ob_heap.specs.Contents.{Stored, content_of, named_of}
 use Rattle.ob_heap.specs.Deltas.{AreNext}
-use Rattle.ob_heap.specs.Differences.{same_object, is_other, other_objects, numbered_from, differing, with_objects}
+use Rattle.ob_heap.specs.Differences.{is_other, other_objects, numbered_from, differing, with_objects, AreOthers}
 use Rattle.ob_heap.specs.Overlays.{Changes, laid_over, objects_over}
 use Rattle.ob_heap.specs.Plain.{object_of}
-use Rattle.ob_heap.proofs.DifferencesLemmas.{object_Decides}
 use Rattle.ob_exec_handles.specs.Coming.{LeadsTo}
 use Rattle.ob_exec_handles.specs.Parts.{ObjectsLead, HandlesLead}
 
@@ -76,39 +72,12 @@ next_made : (n : ℕ) (os : List Object) → AreNext n (numbered_from n os)
 next_made n [] = tt
 next_made n (o ∷ os) = (omega arith, subst (λ b. AreNext (if b then n else suc n) (numbered_from (suc n) os)) (sym (not_lower n)) (next_made (suc n) os))
 
--- an object isn't the one that a base has at its number
-abbrev Differs : List Object → ObjectId × Object → Type 0
-Differs base e = ¬ (slice_get base e.0.0 ≡ Some e.1)
-
-other_differs : (base : List Object) (n : ℕ) (o : Object) → is_other base n o ≡ true → ¬ (slice_get base n ≡ Some o)
-other_differs base n o is e =
-    let f : not (same_object o o) ≡ true = sym (ap (λ r. option_map_or (λ b. not (same_object b o)) r false) e) ∙ is in
-    let s : same_object o o ≡ true = (object_Decides o o).1 refl in
-    true≢false (sym f ∙ ap not s)
-
-others_differ : (base : List Object) (es : List (ℕ × Object)) (rest : List (ObjectId × Object)) → AllByRecursion (Differs base) rest
-    → AllByRecursion (Differs base) (other_objects base es ++ rest)
-others_differ base [] rest h = h
-others_differ base (e ∷ es) rest h = by (is_other base e.0 e.1) refl (others_differ base es rest h)
-  where
-    by : (b : Bool) → is_other base e.0 e.1 ≡ b → AllByRecursion (Differs base) (other_objects base es ++ rest)
-        → AllByRecursion (Differs base) ((if b then (record { 0 = e.0 }, e.1) ∷ other_objects base es else other_objects base es) ++ rest)
-    by true is r = (other_differs base e.0 e.1 is, r)
-    by false is r = r
-
-made_differ : (base : List Object) (n : ℕ) (os : List Object) → length base ≤ n → AllByRecursion (Differs base) (numbered_from n os)
-made_differ base n [] h = tt
-made_differ base n (o ∷ os) h =
-    ((λ e. let none : slice_get base n ≡ None = slice_get_past base n h in cc), made_differ base (suc n) os (omega arith))
-
 pub differing_lead : (base : List Object) (c : Changes) (changes : List (ObjectId × Object)) → changes ≡ differing base c
-    → with_objects base changes ≡ laid_over base c → IsAscending (λ (e : ObjectId × Object). e.0.0) changes
+    → with_objects base changes ≡ laid_over base c → IsAscending (λ (e : ObjectId × Object). e.0.0) changes → AreOthers base changes
     → ObjectsLead base changes (objects_over base c)
-differing_lead base c changes is applied order = record {
+differing_lead base c changes is applied order others = record {
   order = order;
   next = subst (AreNext (length base)) (sym is) (next_others base c.changed (numbered_from (length base) c.made) (next_made (length base) c.made));
   is = ap (map object_of) applied;
-  others = All-from_recursion (Differs base) changes
-      (subst (AllByRecursion (Differs base)) (sym is)
-      (others_differ base c.changed (numbered_from (length base) c.made) (made_differ base (length base) c.made (omega arith))));
+  others = λ k d l e. others k d l (sym (slice_get-map object_of base (get_or changes k d).0.0) ∙ e);
 }

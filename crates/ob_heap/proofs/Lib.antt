@@ -8,3 +8,4 @@ pub mod HandlesLemmas
 pub mod DeltasLemmas
 pub mod LookLemmas
 pub mod BlocksLemmas
+pub mod OthersLemmas

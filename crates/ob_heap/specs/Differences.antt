@@ -1,6 +1,6 @@
 -- Whether values and objects are the same, and where the objects of a run differ from those of its base (this project's own).
-use Rattle.std.specs.Prelude.{ℕ, suc, Bool, true, false, not, ◌&&◌, nat_eq, nat_lt, slice_set, bytes_eq, List, [], ◌∷◌, ◌++◌, length, Option, Some, None, slice_get, if◌then◌else◌}
-use Rattle.std.specs.Option.{option_map_or}
+use Rattle.std.specs.Prelude.{◌≡◌, ℕ, suc, Bool, true, false, not, ◌&&◌, nat_eq, nat_lt, slice_set, bytes_eq, List, [], ◌∷◌, ◌++◌, length, All, Option, Some, None, slice_get, if◌then◌else◌}
+use Rattle.std.specs.Option.{option_map, option_map_or}
 use Rattle.std.specs.Ordering.{int_eq}
 use Rattle.ob_base.specs.declared.id.FieldId.{FieldId}
 use Rattle.ob_base.specs.declared.id.ObjectId.{ObjectId}
@@ -9,6 +9,7 @@ use Rattle.ob_heap.specs.declared.value.Value.{Value}
 use Rattle.ob_heap.specs.declared.value.Value.TheVariants.{Int, Bool as Truth, Text, Object as Reference}
 use Rattle.ob_heap.specs.declared.object.Object.{Object}
 use Rattle.ob_heap.specs.Overlays.{Changes}
+use Rattle.ob_heap.specs.Plain.{object_of}
 
 -- whether two truth values are the same
 abbrev pub same_truth : Bool → Bool → Bool
@@ -49,6 +50,10 @@ abbrev pub other_objects : List Object → List (ℕ × Object) → List (Object
 other_objects base [] = []
 other_objects base (e ∷ es) =
     if is_other base e.0 e.1 then (record { 0 = e.0 }, e.1) ∷ other_objects base es else other_objects base es
+
+-- as plain data none of these objects is the one that the base has at its number
+abbrev pub AreOthers : List Object → List (ObjectId × Object) → Type 0
+AreOthers base os = All (λ (e : ObjectId × Object). ¬ (option_map object_of (slice_get base e.0.0) ≡ Some (object_of e.1))) os
 
 -- objects with their numbers, from this number on
 abbrev pub numbered_from : ℕ → List Object → List (ObjectId × Object)

@@ -3,7 +3,7 @@ ghost use Rattle.std.specs.Prelude.{◌≡◌, ◌<◌, [], ◌∷◌, ◌++◌,
 ghost use Rattle.std.specs.Option.{option_copied};
 ghost use Rattle.ob_heap.specs.Overlays.{changed_at, IsPut, IsEditedCopy, IsEditedOver};
 ghost use Rattle.ob_heap.specs.Ascending.{IsAscending};
-ghost use Rattle.ob_heap.specs.Differences.{other_objects};
+ghost use Rattle.ob_heap.specs.Differences.{other_objects, AreOthers};
 
 use crate::edit::{Edit, change};
 use crate::object::Object;
@@ -75,7 +75,8 @@ fn add_other(
     id: u32,
     object: &Object,
 ) -> Result<(), Memory>
-    ensures { OnOk result (found.new ≡ found.old ++ other_objects base.now ((id, object.now) ∷ [])) }
+    ensures found { OnOk result (found.new ≡ found.old ++ other_objects base.now ((id, object.now) ∷ [])) }
+    ensures others { OnOk result (AreOthers base.now found.old → AreOthers base.now found.new) }
 {
     if is_other(base, id, object) {
         found.push((ObjectId(id), object.copy(alloc)?))?;
@@ -91,6 +92,7 @@ fn add_others(
     map: &BTreeMap<u32, Object>,
 ) -> Result<(), Memory>
     ensures found { OnOk result (found.new ≡ found.old ++ other_objects base.now map.now.entries) }
+    ensures others { OnOk result (AreOthers base.now found.old → AreOthers base.now found.new) }
     ensures order { IsAscending (λ e. e.0) map.now.entries }
 {
     // `len` says that the numbers ascend.
@@ -141,6 +143,7 @@ impl Changed {
         base: &[Object],
     ) -> Result<(), Memory>
         ensures found { OnOk result (found.new ≡ found.old ++ other_objects base.now self.now) }
+        ensures others { OnOk result (AreOthers base.now found.old → AreOthers base.now found.new) }
         ensures order { IsAscending (λ e. e.0) self.now }
     {
         if let Some((id, object)) = &self.alone {

@@ -2,6 +2,9 @@
 ghost use Rattle.std.specs.Prelude.{◌≡◌, [], ◌∷◌, ◌++◌, ◌≤◌, ℕ, nat_eq, nat_le, IfOk, OnOk, OnErr, remove, length, slice_get};
 ghost use Rattle.std.specs.Option.{option_copied};
 ghost use Rattle.std.specs.List.{insert, position_or_len};
+ghost use Rattle.ob_base.specs.declared.id.FieldId.{FieldId as FieldNumber};
+ghost use Rattle.ob_heap.specs.declared.value.Value.{Value as FieldValue};
+ghost use Rattle.ob_heap.specs.Ascending.{IsAscending};
 ghost use Rattle.ob_heap.specs.Fields.{place_of, is_at, value_at, with_value, without_value};
 
 use crate::value::Value;
@@ -144,6 +147,15 @@ impl Fields {
         ensures { self.new ≡ without_value field self.old }
     {
         remove_from(&mut self.items, field);
+    }
+
+    // How many fields have a value. Their numbers ascend.
+    #[inline(always)]
+    pub(crate) fn count(&self) -> usize
+        ensures count { result ≡ length self.now }
+        ensures order { IsAscending (λ (e : FieldNumber × FieldValue). e.0.0) self.now }
+    {
+        self.items.len()
     }
 
     /// The fields that have a value, in the order of their numbers, with their values.

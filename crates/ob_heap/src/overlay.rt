@@ -4,7 +4,7 @@ ghost use Rattle.std.specs.Option.{option_copied};
 ghost use Rattle.ob_base.specs.Limits.{most_objects};
 ghost use Rattle.ob_heap.specs.declared.object.Object.{Object};
 ghost use Rattle.ob_heap.specs.Ascending.{IsAscending};
-ghost use Rattle.ob_heap.specs.Differences.{differing, numbered_from, with_objects};
+ghost use Rattle.ob_heap.specs.Differences.{differing, numbered_from, with_objects, AreOthers};
 ghost use Rattle.ob_heap.specs.Edits.{IsEdited};
 ghost use Rattle.ob_heap.specs.Overlays.{no_changes, laid_over, noted, IsSameBeside, KeepsOthers};
 
@@ -177,6 +177,7 @@ impl Overlay {
         ensures objects { IfOk result (λ delta. delta.objects ≡ differing base.now.objects self.now) }
         ensures applied { IfOk result (λ delta. with_objects base.now.objects delta.objects ≡ laid_over base.now.objects self.now) }
         ensures order { IfOk result (λ delta. IsAscending (λ e. e.0.0) delta.objects) }
+        ensures others { IfOk result (λ delta. AreOthers base.now.objects delta.objects) }
         ensures handles { IfOk result (λ delta. delta.handles ≡ []) }
     {
         let mut objects = Sequence::new(alloc);

@@ -1,6 +1,7 @@
 //! Whether values and objects are the same.
-ghost use Rattle.std.specs.Prelude.{◌≡◌, ◌&&◌, nat_eq, slice_get};
+ghost use Rattle.std.specs.Prelude.{◌≡◌, ◌&&◌, not, nat_eq, true, slice_get, option_map, Some};
 ghost use Rattle.ob_heap.specs.Differences.{same_value, same_fields, same_object, same_state, is_other};
+ghost use Rattle.ob_heap.specs.Plain.{object_of};
 
 use crate::object::Object;
 use crate::value::Value;
@@ -62,12 +63,24 @@ pub fn is_same(one: &Object, other: &Object) -> bool
         && are_same_fields(one.fields.as_slice(), other.fields.as_slice())
 }
 
+// Whether two objects differ. Then they do so as plain data, too.
+fn differs(one: &Object, other: &Object) -> bool
+    ensures differs { result ≡ not (same_object one.now other.now) }
+    ensures plain { result ≡ true → ¬ (object_of one.now ≡ object_of other.now) }
+{
+    // `count` says that the numbers of the fields ascend.
+    let _one = one.fields.count();
+    let _other = other.fields.count();
+    !is_same(one, other)
+}
+
 /// Whether an object isn't the one that a base has at its number. A number past the base has none to differ from.
 pub fn is_other(base: &[Object], id: u32, object: &Object) -> bool
-    ensures { result ≡ is_other base.now id object.now }
+    ensures other { result ≡ is_other base.now id object.now }
+    ensures plain { result ≡ true → ¬ (option_map object_of (slice_get base.now id) ≡ Some (object_of object.now)) }
 {
     match base.get(id as usize) {
-        Some(before) => !is_same(before, object),
+        Some(before) => differs(before, object),
         None => false,
     }
 }
