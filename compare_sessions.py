@@ -11,6 +11,7 @@ replies agree, 1 where one doesn't, where the text of P is refused, the program 
 words are wrong, or a session can't be read.
 """
 import argparse
+import itertools
 import json
 import os
 import re
@@ -50,12 +51,16 @@ class Request:
     def is_blank(self):
         return not self.text.strip(BLANKS) and len(self.text) <= LONGEST_LINE
 
-    def called(self):
-        """The client, the handle and the transaction of a call; nothing of another request."""
+    def asked(self):
+        """The JSON value of the request; nothing where it has none."""
         try:
-            asked = json.loads(self.text)
+            return json.loads(self.text)
         except (ValueError, RecursionError):
             return None
+
+    def called(self):
+        """The client, the handle and the transaction of a call; nothing of another request."""
+        asked = self.asked()
         if not isinstance(asked, dict) or asked.get("op") != "call":
             return None
         words = [asked.get(key) for key in ("who", "on", "tx")]
@@ -105,9 +110,18 @@ def look(request):
     return json.dumps({"op": "see", "id": 0, "who": called[0], "on": called[1]}).encode() + b"\n" if called else b""
 
 
+def replies_to(request, told):
+    """The replies to a request, of those that are left: one for each request of a batch, but one alone where it is refused as a whole."""
+    if request.is_blank():
+        return []
+    first, asked = next(told, None), request.asked()
+    others = len(asked) - 1 if isinstance(asked, list) and fields(first).get("id") is not None else 0
+    return [reply for reply in (first, *itertools.islice(told, others)) if reply is not None]
+
+
 def replies_of(command, store, requests):
-    """The replies of one run: for each request what `look` told before it, and its own; nothing where there is none. How each run
-    opens the store isn't passed on, unless the run fails."""
+    """The replies of one run: for each request what `look` told before it, and its own. How each run opens the store isn't passed on,
+    unless the run fails."""
     given = b"".join(look(request) + request.text + b"\n" for request in requests)
     errors = subprocess.PIPE if store else None
     ran = subprocess.run([*command, *store], input=given, stdout=subprocess.PIPE, stderr=errors, check=False)
@@ -117,7 +131,7 @@ def replies_of(command, store, requests):
         last = [line.decode(errors="replace") for line in lines if line][-1:]
         raise Stopped("\n  ".join([f"the program ended with status {ran.returncode}", *last]))
     told = iter(lines[:-1])
-    return [(next(told, None) if look(request) else None, None if request.is_blank() else next(told, None)) for request in requests]
+    return [(next(told, None) if look(request) else None, replies_to(request, told)) for request in requests]
 
 
 def runs_of(requests):
@@ -149,15 +163,14 @@ def fields(reply):
         return {}
 
 
-def answered(request, told, reply):
+def answered(request, told, replies):
     """The contract and the transaction that a reply has answered by `ok`; of an instance its generic contract."""
     called, seen = request.called(), fields(told).get("ok")
-    return {(seen["contract"].partition("[")[0], called[2])} if called and seen and "ok" in fields(reply) else set()
+    return {(seen["contract"].partition("[")[0], called[2])} if called and seen and any("ok" in fields(reply) for reply in replies) else set()
 
 
-def differences(request, reply):
+def differences(request, came):
     """Where a request's replies aren't those of the session: the line, what it has and what came."""
-    came = [] if reply is None else [reply]
     for place in range(max(len(request.wanted), len(came))):
         line, wanted = request.wanted[place] if place < len(request.wanted) else (request.line, None)
         other = came[place] if place < len(came) else None
@@ -172,12 +185,12 @@ def shown(reply):
 def compare(command, path):
     """Runs a session, and says how many replies agree. Returns whether all do, and what was answered by `ok`."""
     first, agreeing, total, done = None, 0, 0, set()
-    for request, (told, reply) in served(command, requests_of(path)):
-        others = list(differences(request, reply))
-        total += max(len(request.wanted), reply is not None)
-        agreeing += max(len(request.wanted), reply is not None) - len(others)
+    for request, (told, replies) in served(command, requests_of(path)):
+        others = list(differences(request, replies))
+        total += max(len(request.wanted), len(replies))
+        agreeing += max(len(request.wanted), len(replies)) - len(others)
         first = first or (others[0] if others else None)
-        done |= answered(request, told, reply)
+        done |= answered(request, told, replies)
     if first:
         print(f"{path}:{first[0]}: another reply came\n  wanted | {shown(first[1])}\n  came   | {shown(first[2])}")
     print(f"{path}: {agreeing} of {total} replies agree", flush=True)

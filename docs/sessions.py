@@ -37,6 +37,9 @@ TOLD = [
     ("# nothing\n", 2, "s: no request stands in it\n"),
     (f"> {NEW}\n< {MADE}\n{ADD[1:]}\n", 2,
      "s:3: no line of a session: each is a request behind `> `, a reply, `restart`, a comment behind `#`, or empty\n"),
+    # A batch has a reply for each of its requests, or one alone where it is refused as a whole.
+    (f'> {NEW}\n< {MADE}\n> [{ADD},{ADD.replace(":2,", ":3,")}]\n< {{"id":2,"ok":5}}\n< {{"id":3,"ok":10}}\n> []\n< {{"id":null,"refused":4}}\n', 0,
+     f"s: 4 of 4 replies agree\n{MISSING}"),
     # Of marks, which no client has, nothing is told.
     (f'> {NEW.replace("Tally", "Mint")}\n< {MADE}\n', 0,
      "s: 1 of 1 replies agree\nnever answered by ok:\n  Money: worth, fits, merge, split\n  Mint: mint, is_mine\n", "money.obs"),

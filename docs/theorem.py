@@ -29,8 +29,7 @@ MOST_LINES = 44
 # The run's own layer, from the top down: what each crate is about, in a few words.
 LAYER = {
     "ob_run": "What each status says of a run",
-    "ob_serve": "A session: lines, replies and the store, one line after another",
-    "ob_trial": "A trial",
+    "ob_serve": "A session: lines, their items, replies and the store, one after another",
     "ob_owners": "What an audit counts",
     "ob_store": "What a store holds that is only read",
     "ob_words": "The words of the command line",

@@ -10,6 +10,8 @@
             alice.call("m", "buy", obsidian.Ref("c"), into="candy")
         except obsidian.Aborted as aborted:
             print(aborted.name, aborted.details)
+        bob = server.client("bob")
+        shown, refused = server.batch([alice.request("see", on="m"), bob.request("see", on="m")])
 
 Only Python's standard library is needed. `who` is a name that this process vouches for: a front for many people decides which of them is which
 client, since the program takes each line as it stands.
@@ -25,6 +27,7 @@ REFUSALS = {
     1: ("LongLine", "shorten it"),
     2: ("Json", "mend it"),
     3: ("Shape", "write the keys of its row"),
+    4: ("BatchSize", "send 1 to 64"),
     5: ("NoHandle", "ask as the client that has it"),
     6: ("NoContract", "see the program"),
     7: ("NotMain", "call a transaction that makes such an object"),
@@ -115,6 +118,15 @@ def argument(value):
     raise TypeError(f"an argument is an int, a bool, a str or a Ref, and not {value!r}")
 
 
+def outcome_of(reply):
+    """What a reply has as `ok`, or the error that it tells."""
+    if "ok" in reply:
+        return reply["ok"]
+    if "refused" in reply:
+        return Refused(reply["refused"])
+    return Aborted(reply["abort"], {key: value for key, value in reply.items() if key not in ("abort", "id")})
+
+
 class Server:
     """A run of `COMMAND serve PROGRAM [STORE]`, from its beginning to `close`, or to the end of a `with`. Several threads may ask."""
 
@@ -132,21 +144,36 @@ class Server:
         """Asks a request, whose `id` is given here, and returns what its reply has as `ok`; raises Refused, Aborted or Ended."""
         with self.turn:
             request["id"] = next(self.numbers)
-            line = json.dumps(request, ensure_ascii=False, separators=(",", ":")).encode() + b"\n"
-            reply = self.reply_to(line)
-        if "ok" in reply:
-            return reply["ok"]
-        if "refused" in reply:
-            raise Refused(reply["refused"])
-        raise Aborted(reply["abort"], {key: value for key, value in reply.items() if key not in ("abort", "id")})
+            self.send(request)
+            outcome = outcome_of(self.reply())
+        if isinstance(outcome, Error):
+            raise outcome
+        return outcome
 
-    def reply_to(self, line):
-        """The reply to a line. What the program writes on one that it doesn't answer, as a fault of its text, is no reply."""
+    def batch(self, requests):
+        """Asks 1 to 64 requests, each made by `Client.request`, in one line. Returns what each comes to, in their order: what its reply has as
+        `ok`, or its Refused or Aborted. Raises Refused where the line is, or Ended."""
+        with self.turn:
+            asked = [{**request, "id": next(self.numbers)} for request in requests]
+            self.send(asked)
+            replies = [self.reply()]
+            if replies[0]["id"] is None:
+                raise outcome_of(replies[0])
+            replies.extend(self.reply() for _ in asked[1:])
+        outcomes = {reply["id"]: outcome_of(reply) for reply in replies}
+        return [outcomes[request["id"]] for request in asked]
+
+    def send(self, value):
+        """Writes a line."""
+        line = json.dumps(value, ensure_ascii=False, separators=(",", ":")).encode() + b"\n"
         try:
             self.run.stdin.write(line)
             self.run.stdin.flush()
         except (BrokenPipeError, ValueError):
             raise self.ended() from None
+
+    def reply(self):
+        """The next reply. What the program writes on a line that it doesn't answer, as a fault of its text, is none."""
         told = self.run.stdout.readline()
         if not told.startswith(b"{") or not told.endswith(b"\n"):
             raise self.ended(told)
@@ -182,17 +209,23 @@ class Client:
     server: Server
     who: str
 
-    def ask(self, operation, **parts):
+    def request(self, operation, args=(), **parts):
+        """A request for a batch: the operation, and what it has beside its number and its client, by its keys."""
         given = {key: value for key, value in parts.items() if value is not None}
-        return self.server.ask(op=operation, who=self.who, **given)
+        if args:
+            given["args"] = [argument(value) for value in args]
+        return {"op": operation, "who": self.who, **given}
+
+    def ask(self, operation, **parts):
+        return self.server.ask(**self.request(operation, **parts))
 
     def new(self, contract, *args, into):
         """Makes an object of the main contract, and returns its number."""
-        return self.ask("new", contract=contract, args=[argument(value) for value in args], into=into)["object"]
+        return self.ask("new", contract=contract, args=args, into=into)["object"]
 
     def call(self, handle, transaction, *args, into=None):
         """Calls a transaction, and returns what it gives: None, an int, a bool, a str, or with `into` the number of an object."""
-        given = self.ask("call", on=handle, tx=transaction, args=[argument(value) for value in args], into=into)
+        given = self.ask("call", on=handle, tx=transaction, args=args, into=into)
         return given["object"] if isinstance(given, dict) else given
 
     def see(self, handle):

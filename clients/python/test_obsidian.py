@@ -139,6 +139,22 @@ class ServingTest(unittest.TestCase):
             ann.new("Spender", into="s")
             self.abort("fuel", {}, ann.call, "s", "down", 20)
 
+    def test_a_batch(self):
+        with serve("tally.obs") as server:
+            ann, bob = server.client("ann"), server.client("bob")
+            ann.new("Tally", into="t")
+            ann.give("t", "bob", "t", "shared")
+            add = [who.request("call", on="t", tx="add", args=[1]) for who in (ann, bob) for _ in range(32)]
+            sums = server.batch(add)
+            self.assertEqual(sorted(sums), list(range(1, 65)))
+            self.assertEqual((sums[:32], sums[32:]), (sorted(sums[:32]), sorted(sums[32:])))
+            shown, refused = server.batch([ann.request("see", on="t"), bob.request("see", on="u")])
+            self.assertEqual((shown["fields"], refused.name), ({"n": 64}, "NoHandle"))
+            self.refusal("BatchSize", server.batch, [])
+            self.refusal("BatchSize", server.batch, add + [ann.request("see", on="t")])
+            self.refusal("Shape", server.batch, add + [ann.request("paint", on="t")])
+            self.assertEqual(ann.call("t", "add", 1), 65)
+
     def test_threads_ask_in_turn(self):
         with serve("tally.obs") as server:
             server.client("ann").new("Tally", into="t")

@@ -120,6 +120,7 @@ number_small : (r : Refusal) → number_of r < 2 ^ 64
 number_small refusal.LongLine = omega arith
 number_small refusal.Json = omega arith
 number_small refusal.Shape = omega arith
+number_small refusal.BatchSize = omega arith
 number_small refusal.NoHandle = omega arith
 number_small refusal.NoContract = omega arith
 number_small refusal.NotMain = omega arith

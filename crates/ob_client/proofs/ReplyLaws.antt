@@ -101,6 +101,7 @@ unfolding serde_json_on_literals
 refused_again id refusal.LongLine = refl
 refused_again id refusal.Json = refl
 refused_again id refusal.Shape = refl
+refused_again id refusal.BatchSize = refl
 refused_again id refusal.NoHandle = refl
 refused_again id refusal.NoContract = refl
 refused_again id refusal.NotMain = refl

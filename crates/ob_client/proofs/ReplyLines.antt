@@ -92,6 +92,7 @@ pub reads_value : (result : Result Reply WireError) (line : List ℕ) (value : D
 reads_value (Ok r) line value utf8 json told =
     record { json = record { utf8 = utf8; json = json ∙ ap Some told.0 }; possible = told.1 }
 reads_value (Err wire.Json) line value utf8 json told = absurd told
+reads_value (Err wire.BatchSize) line value utf8 json told = absurd told
 reads_value (Err wire.Shape) line value utf8 json told = (value, record { utf8 = utf8; json = json }, told)
 reads_value (Err wire.Memory) line value utf8 json told = tt
 
@@ -103,13 +104,22 @@ pub no_json_by : (line : List ℕ) (result : Result Reply WireError) → ReadsRe
 no_json_by line (Ok r) h is = absurd cc
 no_json_by line (Err wire.Json) h is = h
 no_json_by line (Err wire.Shape) h is = absurd cc
+no_json_by line (Err wire.BatchSize) h is = absurd cc
 no_json_by line (Err wire.Memory) h is = absurd cc
 
 pub no_reply_by : (line : List ℕ) (result : Result Reply WireError) → ReadsReply result line → IsErrOf result wire.Shape → TellsNothing line
 no_reply_by line (Ok r) h is = absurd cc
 no_reply_by line (Err wire.Json) h is = absurd cc
 no_reply_by line (Err wire.Shape) h is = h
+no_reply_by line (Err wire.BatchSize) h is = absurd cc
 no_reply_by line (Err wire.Memory) h is = absurd cc
+
+pub no_batch_size_by : (line : List ℕ) (result : Result Reply WireError) → ReadsReply result line → ¬ (IsErrOf result wire.BatchSize)
+no_batch_size_by line (Ok r) h is = absurd cc
+no_batch_size_by line (Err wire.Json) h is = absurd cc
+no_batch_size_by line (Err wire.Shape) h is = absurd cc
+no_batch_size_by line (Err wire.BatchSize) h is = absurd h
+no_batch_size_by line (Err wire.Memory) h is = absurd cc
 
 -- ---- one field after another
 

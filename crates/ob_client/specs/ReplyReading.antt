@@ -156,6 +156,7 @@ refusal_numbered n =
     if nat_eq n 1 then Some refusal.LongLine
     else (if nat_eq n 2 then Some refusal.Json
     else (if nat_eq n 3 then Some refusal.Shape
+    else (if nat_eq n 4 then Some refusal.BatchSize
     else (if nat_eq n 5 then Some refusal.NoHandle
     else (if nat_eq n 6 then Some refusal.NoContract
     else (if nat_eq n 7 then Some refusal.NotMain
@@ -167,7 +168,7 @@ refusal_numbered n =
     else (if nat_eq n 13 then Some refusal.IntoMissing
     else (if nat_eq n 14 then Some refusal.IntoNeedless
     else (if nat_eq n 15 then Some refusal.IntoTaken
-    else (if nat_eq n 16 then Some refusal.HandlesFull else None))))))))))))))
+    else (if nat_eq n 16 then Some refusal.HandlesFull else None)))))))))))))))
 
 -- why a request wasn't begun
 abbrev pub refused_in : Option Data → Option Answer
@@ -198,6 +199,7 @@ reply_in value =
 abbrev pub IsToldBy : Result Reply WireError → Data → Type 0
 IsToldBy (Ok reply) value = (value ≡ reply_json reply) × IsTrue (is_reply reply)
 IsToldBy (Err wire.Json) value = ⊥
+IsToldBy (Err wire.BatchSize) value = ⊥
 IsToldBy (Err wire.Shape) value = (reply : Reply) → IsTrue (is_reply reply) → ¬ (value ≡ reply_json reply)
 IsToldBy (Err wire.Memory) value = Unit {0}
 
@@ -206,4 +208,5 @@ abbrev pub ReadsReply : Result Reply WireError → List ℕ → Type 0
 ReadsReply (Ok reply) line = Tells line reply
 ReadsReply (Err wire.Json) line = IsNoJson line
 ReadsReply (Err wire.Shape) line = TellsNothing line
+ReadsReply (Err wire.BatchSize) line = ⊥
 ReadsReply (Err wire.Memory) line = Unit {0}

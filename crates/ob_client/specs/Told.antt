@@ -11,7 +11,7 @@ use Rattle.ob_base.specs.declared.id.ObjectId.{ObjectId}
 use Rattle.ob_wire.specs.Requests.{IsJson}
 use Rattle.ob_wire.specs.Replies.{reply_json}
 use Rattle.ob_wire.specs.declared.refusal.Refusal.{Refusal}
-use Rattle.ob_wire.specs.declared.refusal.Refusal.TheVariants.{LongLine, Json, Shape}
+use Rattle.ob_wire.specs.declared.refusal.Refusal.TheVariants.{LongLine, Json, Shape, BatchSize}
 use Rattle.ob_wire.specs.declared.reply.Reply.{Reply}
 use Rattle.ob_wire.specs.declared.reply.Answer.{Answer}
 use Rattle.ob_wire.specs.declared.reply.Answer.TheVariants as answer
@@ -96,6 +96,7 @@ abbrev pub is_of_line : Refusal → Bool
 is_of_line LongLine = true
 is_of_line Json = true
 is_of_line Shape = true
+is_of_line BatchSize = true
 is_of_line _ = false
 
 -- the answer to a line that has no request

@@ -224,6 +224,7 @@ fn refusal_numbered(number: u64) -> Option<Refusal>
         1 => Some(Refusal::LongLine),
         2 => Some(Refusal::Json),
         3 => Some(Refusal::Shape),
+        4 => Some(Refusal::BatchSize),
         5 => Some(Refusal::NoHandle),
         6 => Some(Refusal::NoContract),
         7 => Some(Refusal::NotMain),
@@ -280,7 +281,7 @@ fn has_no_request(answer: &Answer) -> bool
     match answer {
         Answer::Refused(refusal) => matches!(
             refusal,
-            Refusal::LongLine | Refusal::Json | Refusal::Shape
+            Refusal::LongLine | Refusal::Json | Refusal::Shape | Refusal::BatchSize
         ),
         Answer::Ok(_) | Answer::Abort(_) => false,
     }
@@ -351,6 +352,7 @@ pub fn read_reply(alloc: Global, line: &[u8]) -> Result<Reply, WireError>
     ensures told { IfOk result (λ reply. Tells line.now reply) }
     ensures no_json { IsErrOf result WireError.Json → IsNoJson line.now }
     ensures no_reply { IsErrOf result WireError.Shape → TellsNothing line.now }
+    ensures no_batch_size { ¬ (IsErrOf result WireError.BatchSize) }
 {
     find_reply(alloc, line)
 }

@@ -29,8 +29,8 @@ use Rattle.ob_request_run_laws.specs.Held.{laid_over}
 use Rattle.ob_request_run_laws.specs.Runs.{Run, opened, paused, answered, lost}
 use Rattle.ob_request_run_laws.specs.Slices.{stops_so, with_thing, refused_or, unless_refused, entered, after_entry_test, enters, begins, shows_owner, opens, entry_of, sliced, slice}
 use Rattle.ob_request_run_laws.proofs.Enough.{entry_fuel}
-use Rattle.ob_lanes_spec.specs.Measures.{Distances}
-use Rattle.ob_lanes_spec.specs.Requests.{Stores, has_ended, request_rules, steps_of_run}
+use Rattle.ob_lanes_laws.specs.Measures.{Distances}
+use Rattle.ob_lanes_laws.specs.Requests.{Stores, has_ended, request_rules, steps_of_run}
 use Rattle.ob_lanes_laws.proofs.Keeping.{differ}
 
 -- Slices of the machine.
@@ -146,3 +146,8 @@ request_distances stores image fuel ahead = record {
   opening = λ q. opening_most image fuel;
   slice = λ s units r u f g. slice_nearer image fuel (stores.content_of s) units r ahead u f g;
 }
+
+-- the most that a run of a request is from its end
+pub request_most : {S L : Type 0} (stores : Stores S L) (image : Image) (fuel : ℕ) (ahead : LeadsAhead image) → (request_distances stores image fuel ahead).most ≡ suc (fuel * longest image)
+unfolding request_distances
+request_most stores image fuel ahead = refl

@@ -2,10 +2,10 @@
 use Rattle.std.proofs.Common.{◌≡◌, ℕ, zero, suc, ◌+◌, ◌<◌, ◌≤◌, ◌⊎◌, inl, inr, Bool, true, false, not, ◌&&◌, ◌||◌, List, [], ◌∷◌, length, replicate, Option, Some, None, refl, sym, ap, ◌∙◌, subst, arith, true≢false}
 use Rattle.std.specs.Prelude.{nat_eq, nat_lt, slice_get, if◌then◌else◌}
 use Rattle.std.proofs.lemmas.Bool.{ltb-true}
-use Rattle.ob_lanes_spec.specs.Schedule.{Rules, Busy, Done, Lanes, Event, start, slice, commit, is_done, is_held, are_earlier_done, may_start, opened, sliced, with_lane, starts, runs, committed, commits, step, idle}
-use Rattle.ob_lanes_spec.specs.Serial.{Meaning, RunsAlone, IsReached, IsOf, AreLocal}
-use Rattle.ob_lanes_spec.specs.Turns.{first_start, started, turn, next_lane, Round, after_turns, are_done_from, is_answered}
-use Rattle.ob_lanes_spec.specs.Measures.{Distances, turns_left}
+use Rattle.ob_lanes_laws.specs.Schedule.{Rules, Busy, Done, Lanes, Event, start, slice, commit, is_done, is_held, are_earlier_done, may_start, opened, sliced, with_lane, starts, runs, committed, commits, step, idle}
+use Rattle.ob_lanes_laws.specs.Serial.{Meaning, RunsAlone, IsReached, IsOf, AreLocal}
+use Rattle.ob_lanes_laws.specs.Turns.{first_start, started, turn, next_lane, Round, after_turns, are_done_from, is_answered}
+use Rattle.ob_lanes_laws.specs.Measures.{Distances, turns_left}
 use Rattle.ob_lanes_laws.specs.Laws.{OfEach, AreUnderWay, IsAnsweredIn}
 use Rattle.ob_lanes_laws.proofs.Keeping.{none_is_some, both_true, Fits, Keeps, step_keeps, idle_keeps, idle_lane, local_fits, each_of, first_reached}
 use Rattle.ob_lanes_laws.proofs.Lowering.{AreNear, turns_lower, turn_length, turn_near}

@@ -3,8 +3,8 @@ use Rattle.std.proofs.Common.{◌≡◌, ℕ, zero, suc, ◌+◌, ◌<◌, ◌�
 use Rattle.std.proofs.lemmas.Bool.{eqb-true}
 use Rattle.std.specs.Prelude.{nat_eq, slice_get, slice_set, is_some, if◌then◌else◌}
 use Rattle.std.specs.Option.{unwrap_or}
-use Rattle.ob_lanes_spec.specs.Schedule.{Rules, run_of, Busy, Done, Lanes, Event, start, slice, commit, is_done, is_busy_with, is_held, are_earlier_done, may_start, opened, sliced, with_lane, starts, runs, after_commit, committed, commits, step, after_events, idle}
-use Rattle.ob_lanes_spec.specs.Serial.{Meaning, IsDoneAlone, IsSerializable, IsEnded, RunsAlone, IsReached, IsOf, AreLocal}
+use Rattle.ob_lanes_laws.specs.Schedule.{Rules, run_of, Busy, Done, Lanes, Event, start, slice, commit, is_done, is_busy_with, is_held, are_earlier_done, may_start, opened, sliced, with_lane, starts, runs, after_commit, committed, commits, step, after_events, idle}
+use Rattle.ob_lanes_laws.specs.Serial.{Meaning, IsDoneAlone, IsSerializable, IsEnded, RunsAlone, IsReached, IsOf, AreLocal}
 use Rattle.ob_lanes_laws.specs.Laws.{OfEach}
 
 -- What is asked of rules, of stores that are fit and requests that may be asked: a run that isn't stale after a commit is the one to which

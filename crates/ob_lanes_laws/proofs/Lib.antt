@@ -4,4 +4,8 @@ pub mod Lowering
 pub mod Ending
 pub mod Same
 pub mod Distance
+pub mod Blind
+pub mod UnownedRuns
+pub mod UnownedRequests
+pub mod Unowned
 pub mod Requests

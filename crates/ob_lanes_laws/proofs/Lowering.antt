@@ -2,9 +2,9 @@
 use Rattle.std.proofs.Common.{◌≡◌, ℕ, zero, suc, ◌+◌, ◌*◌, ◌<◌, ◌≤◌, ◌⊎◌, inl, inr, Bool, true, false, not, ◌&&◌, ◌||◌, List, [], ◌∷◌, map, length, Option, Some, None, refl, sym, ap, ◌∙◌, subst, arith, true≢false, length-set, eq-eqb}
 use Rattle.std.specs.Prelude.{nat_eq, slice_get, slice_set, is_some, if◌then◌else◌}
 use Rattle.std.specs.List.{list_any}
-use Rattle.ob_lanes_spec.specs.Schedule.{Rules, Busy, Done, Lanes, start, slice, commit, is_done, is_held, are_earlier_done, may_start, opened, sliced, with_lane, starts, runs, after_commit, committed, commits, step}
-use Rattle.ob_lanes_spec.specs.Turns.{first_start, started, turn, next_lane, are_done_from, is_answered}
-use Rattle.ob_lanes_spec.specs.Measures.{count_open, Distances, weight, weights, does, round_from, idle_turns, until_commit, most_until, may_one, turns_left}
+use Rattle.ob_lanes_laws.specs.Schedule.{Rules, Busy, Done, Lanes, start, slice, commit, is_done, is_held, are_earlier_done, may_start, opened, sliced, with_lane, starts, runs, after_commit, committed, commits, step}
+use Rattle.ob_lanes_laws.specs.Turns.{first_start, started, turn, next_lane, are_done_from, is_answered}
+use Rattle.ob_lanes_laws.specs.Measures.{count_open, Distances, weight, weights, does, round_from, idle_turns, until_commit, most_until, may_one, turns_left}
 use Rattle.ob_lanes_laws.specs.Laws.{AreUnderWay}
 use Rattle.ob_lanes_laws.proofs.Keeping.{none_is_some, some_same, set_cases, map_cases, both_true, not_true}
 use Rattle.ob_lanes_laws.proofs.Rounds.{true_most, there, length_map, round_length, nearer}

@@ -12,20 +12,20 @@ use Rattle.ob_code.specs.declared.image.Image.{Image}
 use Rattle.ob_code_table.specs.ImageTables.{table_of_image}
 use Rattle.ob_machine_meaning.specs.Meanings.{machine_invocation}
 use Rattle.ob_machine_steps.specs.Measures.{LeadsAhead}
-use Rattle.ob_unowned_laws.specs.Laws.{KeepsStores, LeavesUnowned}
-use Rattle.ob_unowned_laws.proofs.Unowned.{unowned_stay_so}
+use Rattle.ob_lanes_laws.specs.UnownedLaws.{KeepsStores, LeavesUnowned}
+use Rattle.ob_lanes_laws.proofs.Unowned.{unowned_stay_so}
 use Rattle.ob_request_run_laws.specs.Runs.{Answer, Run, opened, paused, answered, lost, reads_of_run, content_after, invoked_by}
 use Rattle.ob_request_run_laws.specs.Slices.{slice, slices}
 use Rattle.ob_request_run_laws.specs.Laws.{ComesTo, OwnsAlike}
 use Rattle.ob_request_run_laws.proofs.There.{handles_below}
 use Rattle.ob_request_run_laws.proofs.Whole.{slices_come_to}
 use Rattle.ob_request_run_laws.proofs.Requests.{requests_are_local}
-use Rattle.ob_lanes_spec.specs.Schedule.{run_of, Event, after_events, idle}
-use Rattle.ob_lanes_spec.specs.Serial.{IsSerializable, IsEnded}
-use Rattle.ob_lanes_spec.specs.Conflicts.{conflicts}
-use Rattle.ob_lanes_spec.specs.Requests.{Stores, store_by, IsInvoked, has_ended, commit, answer, request_rules}
-use Rattle.ob_lanes_spec.specs.Turns.{after_turns}
-use Rattle.ob_lanes_spec.specs.Measures.{turns_left}
+use Rattle.ob_lanes_laws.specs.Schedule.{run_of, Event, after_events, idle}
+use Rattle.ob_lanes_laws.specs.Serial.{IsSerializable, IsEnded}
+use Rattle.ob_lanes_laws.specs.Conflicts.{conflicts}
+use Rattle.ob_lanes_laws.specs.Requests.{Stores, store_by, IsInvoked, has_ended, commit, answer, request_rules}
+use Rattle.ob_lanes_laws.specs.Turns.{after_turns}
+use Rattle.ob_lanes_laws.specs.Measures.{turns_left}
 use Rattle.ob_lanes_laws.specs.Laws.{OfEach, IsAtRestIn, IsAnsweredIn}
 use Rattle.ob_lanes_laws.proofs.Keeping.{Fits, events_serializable}
 use Rattle.ob_lanes_laws.proofs.Ending.{batch_ends}

@@ -4,7 +4,7 @@ use Rattle.std.proofs.lemmas.List.{append-nil, map-append}
 use Rattle.std.proofs.lemmas.Bool.{ltb-false}
 use Rattle.std.specs.Prelude.{nat_lt, slice_get, if◌then◌else◌}
 use Rattle.std.specs.List.{list_any}
-use Rattle.ob_lanes_spec.specs.Measures.{first_true, round_from}
+use Rattle.ob_lanes_laws.specs.Measures.{first_true, round_from}
 use Rattle.ob_lanes_laws.proofs.Keeping.{none_is_some, some_same}
 
 -- The next one that is true, round.

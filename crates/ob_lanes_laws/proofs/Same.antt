@@ -23,7 +23,7 @@ use Rattle.ob_heap_spec.specs.Worlds.{ReadItem, object_item, next_item, handle_i
 use Rattle.ob_heap_spec.proofs.Items.{item_of}
 use Rattle.ob_invocation_spec.specs.Handles.{are_handles_full}
 use Rattle.ob_request_run_laws.specs.Laws.{AgreeOn}
-use Rattle.ob_lanes_spec.specs.Conflicts.{same_truth, same_value, same_state, same_values, field_count, same_object, same_mode, same_handle, is_same_item, conflicts}
+use Rattle.ob_lanes_laws.specs.Conflicts.{same_truth, same_value, same_state, same_values, field_count, same_object, same_mode, same_handle, is_same_item, conflicts}
 use Rattle.ob_lanes_laws.proofs.Keeping.{both_true}
 
 -- Values, states and handles.

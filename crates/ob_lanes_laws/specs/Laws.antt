@@ -8,15 +8,15 @@ use Rattle.ob_invocation_spec.specs.Requests.{Request, HasLabels}
 use Rattle.ob_code.specs.declared.image.Image.{Image}
 use Rattle.ob_code_table.specs.ImageTables.{table_of_image}
 use Rattle.ob_machine_steps.specs.Measures.{LeadsAhead}
-use Rattle.ob_unowned_laws.specs.Laws.{KeepsStores}
+use Rattle.ob_lanes_laws.specs.UnownedLaws.{KeepsStores}
 use Rattle.ob_request_run_laws.specs.Runs.{Run}
 use Rattle.ob_request_run_laws.specs.Laws.{AgreeOn}
-use Rattle.ob_lanes_spec.specs.Schedule.{Rules, Busy, Lanes, Event, idle, is_done, after_events}
-use Rattle.ob_lanes_spec.specs.Serial.{Meaning, IsSerializable, RunsAlone, AreLocal}
-use Rattle.ob_lanes_spec.specs.Turns.{turn, next_lane, after_turns, is_answered}
-use Rattle.ob_lanes_spec.specs.Measures.{Distances, turns_left}
-use Rattle.ob_lanes_spec.specs.Conflicts.{conflicts}
-use Rattle.ob_lanes_spec.specs.Requests.{Stores, Answer, IsInvoked, request_rules}
+use Rattle.ob_lanes_laws.specs.Schedule.{Rules, Busy, Lanes, Event, idle, is_done, after_events}
+use Rattle.ob_lanes_laws.specs.Serial.{Meaning, IsSerializable, RunsAlone, AreLocal}
+use Rattle.ob_lanes_laws.specs.Turns.{turn, next_lane, after_turns, is_answered}
+use Rattle.ob_lanes_laws.specs.Measures.{Distances, turns_left}
+use Rattle.ob_lanes_laws.specs.Conflicts.{conflicts}
+use Rattle.ob_lanes_laws.specs.Requests.{Stores, Answer, IsInvoked, request_rules}
 
 -- Any rules.
 

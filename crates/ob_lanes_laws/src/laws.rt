@@ -1,5 +1,11 @@
-//! Laws of the schedule.
+//! Laws of the schedule, and of objects without an owner.
 ghost use Rattle.ob_lanes_laws.specs.Laws.{SchedulesAreSerializable, TurnsLowerTheMeasure, BatchesEnd, AnsweredBatchesStay, ConflictsAreDifferences, RequestsAreSerializable, RequestBatchesEnd};
+ghost use Rattle.ob_lanes_laws.specs.UnownedLaws.{UnownedStaySo};
+
+/// An object of a store at rest that has no owning place has none after any request, by code that leaves each store at rest.
+pub fn objects_stay_unowned()
+    ensures { UnownedStaySo }
+{}
 
 /// For stores, requests, runs and answers of any kind: where runs are local a schedule is serializable, whatever events come.
 pub fn schedules_are_serializable<S, Q, R, A>()

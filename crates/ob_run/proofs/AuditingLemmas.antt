@@ -129,7 +129,7 @@ module _ (table : ClassTable) (bodies : List SilicaBody) (code : Image) (compile
   content_by_program : (c : List ℕ) (content : Content) → IsContentOf (program_of code) area_bytes c content → IsContentOf (program_with table bodies) area_bytes c content
   content_by_program c content of = record {
     store = of.store;
-    represents = by_program table bodies code compiled emitted sound text is 0 0 0 c of.store of.represents;
+    represents = by_program table bodies code compiled emitted sound c of.store of.represents;
     content_is = of.content_is;
   }
 

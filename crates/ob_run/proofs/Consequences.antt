@@ -12,7 +12,7 @@ use Rattle.ob_silica.specs.Terms.{SilicaBody}
 use Rattle.ob_front.specs.Programs.{IsProgram}
 use Rattle.ob_store_spec.specs.Stores.{StoreState}
 use Rattle.ob_serve.specs.Served.{Devices, IsToldAs, SpeaksOf}
-use Rattle.ob_serve.specs.Session.{requests_in}
+use Rattle.ob_serve.specs.Session.{items_from}
 use Rattle.ob_serve.specs.declared.serving.Served.{Served}
 use Rattle.ob_serve.specs.declared.serving.Served.TheVariants as ended
 use Rattle.ob_words.specs.Asked.{Command, check, serve, serve_stored, audit, trial, Asked}
@@ -23,7 +23,7 @@ use Rattle.ob_run.specs.Openings.{RefusesStore, OpensNot}
 use Rattle.ob_run.specs.Outside.{OutsideView, devices}
 use Rattle.ob_run.specs.Reasons.{HasInput, HasInputFor, HasStoreFor}
 use Rattle.ob_run.specs.Runs.{IsRun}
-use Rattle.ob_run.specs.Sessions.{program_with, BeginsAt, StandsOnDisk, source_item, ServesProgram}
+use Rattle.ob_run.specs.Sessions.{program_with, BeginsAt, StandsOnDisk, source_items, ServesProgram}
 use Rattle.ob_run.specs.Statuses.{Treats, TreatsText, MeetsStatus}
 use Rattle.ob_run.specs.Survival.{Survives}
 use Rattle.ob_run.specs.TextRead.{Tells}
@@ -97,7 +97,7 @@ pub record SurvivesSession (asked : Asked) (old new : OutsideView) : Type 0 wher
   pub of_input : SpeaksOf served old.input new.input lines
   pub given : List ℕ
   pub written : Gives old.output.written new.output.written given
-  pub crash : Survives (source_item asked table bodies) (StandsOnDisk asked.command table bodies) start (requests_in lines) given old.disk new.disk
+  pub crash : Survives (StandsOnDisk asked.command table bodies) start (items_from (source_items asked table bodies) start lines) given old.disk new.disk
 
 -- No session was begun, so no input was taken. The disk is as it was handed in, or its store wasn't opened.
 pub record SurvivesUnopened (asked : Asked) (old new : OutsideView) : Type 0 where
@@ -151,7 +151,7 @@ module _ (words : Option Asked) (old new : OutsideView) (asked : Asked) (is : wo
       let same : h.asked ≡ asked = cc (h.is, is) in
       subst (λ (a : Asked). SurvivesUnopened a old new ⊎ SurvivesSession a old new) same (text_survives h.asked old new h.text h.told exit h.treats)
 
-  -- a crash at any moment loses no line of whose reply a byte was written
+  -- a crash at any moment loses no item of whose reply a byte was written
   pub no_reply_is_lost : (exit : Exit) → MeetsStatus words old new exit → SurvivesUnopened asked old new ⊎ SurvivesSession asked old new
   no_reply_is_lost Done h = file_survives Done h
   no_reply_is_lost Refused h = file_survives Refused h

@@ -9,14 +9,14 @@ use Rattle.ob_store_spec.specs.Stores.{StoreProgram, StoreState, IsStoreOf}
 use Rattle.ob_store_spec.proofs.Leading.{one_store}
 use Rattle.ob_serve.specs.Crash.{AfterFirst}
 use Rattle.ob_serve.specs.Served.{IsStored}
-use Rattle.ob_serve.specs.Session.{SessionItem, session, state_after, requests_in, replies}
+use Rattle.ob_serve.specs.Session.{SessionItem, items_from, state_after, replies}
 use Rattle.ob_serve.specs.Standing.{StandsForStore}
 use Rattle.ob_serve.specs.declared.serving.Served.TheVariants as ended
 use Rattle.ob_words.specs.Asked.{Asked}
 use Rattle.ob_run.specs.Corollary.{serving, IsObservable, ServesAll, IsUndisturbed, ServesObservable}
 use Rattle.ob_run.specs.Outside.{OutsideView, devices}
 use Rattle.ob_run.specs.Reasons.{HasStoreFor, IsSmooth, HasReason}
-use Rattle.ob_run.specs.Sessions.{area_bytes, program_with, source_item, ServesProgram}
+use Rattle.ob_run.specs.Sessions.{area_bytes, program_with, source_items, ServesProgram}
 use Rattle.ob_run.specs.Statuses.{Treats, MeetsStatus}
 use Rattle.ob_run.specs.declared.exit.Exit.{Exit}
 use Rattle.ob_run.specs.declared.exit.Exit.TheVariants.{Done, Memory}
@@ -43,13 +43,13 @@ wrote written now xs ys bytes had has gave =
     let first : Gives (Some xs) now bytes = subst (λ (o : Option (List ℕ)). Gives o now bytes) had gave in
     subst (λ (o : Option (List ℕ)). Gives (Some xs) o bytes) has first
 
--- the store after as many requests as there are
-after_all : {S : Type 0} (item : S → List ℕ → SessionItem S) (stands : S → List ℕ → Type 0) (start : S) (requests : List (List ℕ)) (k : ℕ) (c : List ℕ)
-    → k ≡ length requests → AfterFirst item stands start requests (IsStored ended.Done k) c → stands (state_after item start requests) c
-after_all item stands start requests k c all after =
+-- the store after as many items as there are
+after_all : {S : Type 0} (stands : S → List ℕ → Type 0) (start : S) (items : List (SessionItem S)) (k : ℕ) (c : List ℕ)
+    → k ≡ length items → AfterFirst stands start items (IsStored ended.Done k) c → stands (state_after start items) c
+after_all stands start items k c all after =
     let is : after.0 ≡ k = after.1 in
-    let none_left : length requests ≤ after.0 = omega (arith, all, is) in
-    subst (λ (ls : List (List ℕ)). stands (state_after item start ls) c) (take_all after.0 requests none_left) after.2
+    let none_left : length items ≤ after.0 = omega (arith, all, is) in
+    subst (λ (first : List (SessionItem _)). stands (state_after start first) c) (take_all after.0 items none_left) after.2
 
 -- ---- where all bytes are observable
 
@@ -62,7 +62,7 @@ module _ (words : Option Asked) (old new : OutsideView) (given : IsObservable wo
 
   -- what a run that is Done has served, for a program and a store
   abbrev Serves : ClassTable → List SilicaBody → StoreState → Type 0
-  Serves table bodies start = ServesAll (program_with table bodies) (source_item asked table bodies) start (requests_in lines) given.old given.new new.disk.now
+  Serves table bodies start = ServesAll (program_with table bodies) start (items_from (source_items asked table bodies) start lines) given.old given.new new.disk.now
 
   -- a session that ended so has served all
   session_serves : (h : ServesProgram asked given.text (devices old) (devices new) ended.Done) → Serves h.table h.bodies h.start
@@ -79,15 +79,15 @@ module _ (words : Option Asked) (old new : OutsideView) (given : IsObservable wo
           h.ends.of_input.is ∙ ap (λ (l : List ℕ). lines_of l)
           (took_all old.input.left new.input.left given.old.input given.new.input h.ends.of_input.input given.had.input given.has.input h.ends.of_input.took.told h.ends.of_input.end)
 
-      replied : h.ends.given ≡ replies (session (source_item asked h.table h.bodies) h.start (requests_in lines))
-      replied = lines_replied (source_item asked h.table h.bodies) h.start h.ends.lines lines h.ends.k h.ends.given h.ends.answered h.ends.given_is is_input
+      replied : h.ends.given ≡ replies (items_from (source_items asked h.table h.bodies) h.start lines)
+      replied = lines_replied (source_items asked h.table h.bodies) h.start h.ends.lines lines h.ends.k h.ends.given h.ends.answered h.ends.given_is is_input
 
       at_end : (c : List ℕ)
-          → AfterFirst (source_item asked h.table h.bodies) (StandsForStore (program_with h.table h.bodies) (Some area_bytes)) h.start (requests_in h.ends.lines) (IsStored ended.Done h.ends.k) c
-          → IsStoreOf (program_with h.table h.bodies) area_bytes c (state_after (source_item asked h.table h.bodies) h.start (requests_in lines))
+          → AfterFirst (StandsForStore (program_with h.table h.bodies) (Some area_bytes)) h.start (items_from (source_items asked h.table h.bodies) h.start h.ends.lines) (IsStored ended.Done h.ends.k) c
+          → IsStoreOf (program_with h.table h.bodies) area_bytes c (state_after h.start (items_from (source_items asked h.table h.bodies) h.start lines))
       at_end c after =
-          subst (λ (ls : List (List ℕ)). IsStoreOf (program_with h.table h.bodies) area_bytes c (state_after (source_item asked h.table h.bodies) h.start (requests_in ls))) is_input
-          (after_all (source_item asked h.table h.bodies) (StandsForStore (program_with h.table h.bodies) (Some area_bytes)) h.start (requests_in h.ends.lines) h.ends.k c h.ends.answered after)
+          subst (λ (ls : List (List ℕ)). IsStoreOf (program_with h.table h.bodies) area_bytes c (state_after h.start (items_from (source_items asked h.table h.bodies) h.start ls))) is_input
+          (after_all (StandsForStore (program_with h.table h.bodies) (Some area_bytes)) h.start (items_from (source_items asked h.table h.bodies) h.start h.ends.lines) h.ends.k c h.ends.answered after)
 
   -- of the given program, and from the given store on
   served : ServesProgram asked given.text (devices old) (devices new) ended.Done → Serves given.table given.bodies given.start

@@ -13,7 +13,7 @@ use Rattle.ob_base.specs.Limits.{most_taken}
 use Rattle.ob_io.specs.Told.{TakesAtMost, Gives}
 use Rattle.ob_io.specs.Views.{SourceView, SinkView}
 use Rattle.ob_store.proofs.Standing.{stores_stand}
-use Rattle.ob_serve.specs.Session.{SessionItem, requests_in}
+use Rattle.ob_serve.specs.Session.{SessionItem, items_from}
 use Rattle.ob_emit_spec.specs.EmittedImages.{image_of}
 use Rattle.ob_emit_spec.specs.Weights.{most_weight}
 use Rattle.ob_front.specs.Compiled.{IsCompiledProgram}
@@ -33,18 +33,20 @@ use Rattle.ob_front.proofs.CompiledLaws.{terms_in_order}
 use Rattle.ob_store.specs.Stores.{program_of, area_of_store, gate_of, serial_of, kept_of, state_of, IsKeptIn, TellsOwners, StandsOn}
 use Rattle.ob_store.specs.declared.store.Store.{Store}
 use Rattle.ob_store_spec.specs.Stores.{StoreProgram, StoreState, IsStoreOf}
-use Rattle.ob_serve.specs.Items.{by_source, item_of}
-use Rattle.ob_serve.specs.Kept.{IsServable, IsSoundFor, KeepsSessions}
+use Rattle.ob_serve.specs.Items.{by_source, items_of_line}
+use Rattle.ob_serve.specs.Kept.{IsServable, IsSoundFor, AreLimits, KeepsSessions, KeepsOrders}
 use Rattle.ob_serve.specs.Served.{Devices, SpeaksOf, Ends, IsCause}
 use Rattle.ob_serve.specs.Standing.{StandsForStore, source_program}
+use Rattle.ob_serve.specs.declared.limits.Limits.{Limits}
 use Rattle.ob_serve.specs.declared.serving.Served.{Served}
 use Rattle.ob_serve.specs.declared.serving.Served.TheVariants as ended
 use Rattle.ob_serve.proofs.Keeping.{empty_rests, keeps_sessions}
+use Rattle.ob_serve.proofs.Orders.{keeps_orders}
 use Rattle.ob_serve.proofs.Progress.{stored_holds}
 use Rattle.ob_serve.proofs.Tables.{rests_by_source, stands_by_source, storable}
 use Rattle.ob_words.specs.Asked.{serve, serve_stored, Asked}
 use Rattle.ob_run.specs.Openings.{IsOpenedAs}
-use Rattle.ob_run.specs.Sessions.{area_bytes, program_with, store_in_memory, IsKeptAlways, ServesProgram}
+use Rattle.ob_run.specs.Sessions.{area_bytes, program_with, store_in_memory, IsKeptAlways, IsOrderedAlways, ServesProgram}
 use Rattle.ob_run.specs.Statuses.{Treats}
 use Rattle.ob_run.specs.Survival.{Survives}
 use Rattle.ob_run.specs.TextRead.{Tells, asked_with, exit_of}
@@ -78,10 +80,10 @@ ends_session asked text old new ended.Memory h = inr (inr h)
 ends_session asked text old new ended.Long h = h
 
 -- what a crash leaves of a session, by its end
-pub survives : {S : Type 0} (item : S → List ℕ → SessionItem S) (stands : S → List ℕ → Type 0) (start : S) (old new : Devices) (served : Served) (ends : Ends item stands start old new served)
-    → Survives item stands start (requests_in ends.lines) ends.given old.disk new.disk
-survives item stands start old new served ends = record {
-  now = throughout_to new.disk _ _ ends.stored (stored_holds item stands start old new served ends);
+pub survives : {S : Type 0} (items : S → List ℕ → List (SessionItem S)) (stands : S → List ℕ → Type 0) (start : S) (old new : Devices) (served : Served) (ends : Ends items stands start old new served)
+    → Survives stands start (items_from items start ends.lines) ends.given old.disk new.disk
+survives items stands start old new served ends = record {
+  now = throughout_to new.disk _ _ ends.stored (stored_holds items stands start old new served ends);
   since = ends.since;
 }
 
@@ -133,14 +135,31 @@ module _ (table : ClassTable) (bodies : List SilicaBody) (code : Image) (compile
   pub same_program : source_program table code ≡ program_with table bodies
   same_program = ap (λ (i : Image). source_program table i) emitted
 
-  module _ (text : List ℕ) (is : IsProgram text table bodies) (fuel lanes slice : ℕ) where
-    kept_always : IsKeptAlways table bodies fuel
-    kept_always = subst (λ (p : StoreProgram). KeepsSessions p fuel) same_program (keeps_sessions program code fuel is_sound_for)
+  -- an area that represents a store of the code represents one of the program
+  pub by_program : (c : List ℕ) (s : StoreState) → IsStoreOf (program_of code) area_bytes c s → IsStoreOf (program_with table bodies) area_bytes c s
+  by_program c s is =
+      subst (λ (p : StoreProgram). IsStoreOf p area_bytes c s) same_program (stands_by_source program code is_sound_for area_bytes c s is)
+
+  module _ (text : List ℕ) (is : IsProgram text table bodies) (limits : Limits) (are : AreLimits limits) where
+    kept_always : IsKeptAlways table bodies limits
+    kept_always = subst (λ (i : Image). KeepsSessions (source_program table i) i limits) emitted (keeps_sessions program code limits is_sound_for)
+
+    ordered_always : IsOrderedAlways table bodies limits
+    ordered_always = subst (λ (i : Image). KeepsOrders (source_program table i) i limits) emitted (keeps_orders program code limits is_sound_for are)
+
+    -- the items of a line, by the source meaning of the program, over a store in areas of a size
+    abbrev line_items : Image → Option ℕ → StoreState → List ℕ → List (SessionItem StoreState)
+    line_items i area = items_of_line (by_source (source_program table i) i limits area)
+
+    -- a session of the program's code ended
+    abbrev EndsBy : Image → Option ℕ → StoreState → Devices → Devices → Served → Type 0
+    EndsBy i area start old new served = Ends (line_items i area) (StandsForStore (source_program table i) area) start old new served
 
     -- a session over a store in memory
     pub serves_in_memory : (name : List ℕ) (old new : Devices) (served : Served) (store : Store) → content_of (kept_of store) ≡ empty_content → area_of_store store ≡ None → state_of store ≡ store_in_memory
-        → Ends (item_of (by_source (source_program table code) fuel (area_of_store store))) (StandsForStore (source_program table code) (area_of_store store)) (state_of store) old new served
-        → IsUntouched old.disk new.disk → served ≢ ended.DiskFault → TakesAtMost old.input new.input most_taken → ServesProgram (asked_with (serve name) fuel lanes slice) text old new served
+        → EndsBy code (area_of_store store) (state_of store) old new served
+        → IsUntouched old.disk new.disk → served ≢ ended.DiskFault → TakesAtMost old.input new.input most_taken
+        → ServesProgram (asked_with (serve name) limits.fuel limits.lanes limits.slice) text old new served
     serves_in_memory name old new served store empty memory begins ends quiet sure few = record {
       table = table;
       bodies = bodies;
@@ -148,27 +167,23 @@ module _ (table : ClassTable) (bodies : List SilicaBody) (code : Image) (compile
       start = store_in_memory;
       begins = refl;
       ends = in_memory;
-      crash = survives (item_of (by_source (program_with table bodies) fuel None)) (StandsForStore (program_with table bodies) None) store_in_memory old new served in_memory;
+      crash = survives (line_items (image_of table bodies) None) (StandsForStore (program_with table bodies) None) store_in_memory old new served in_memory;
       kept = kept_always;
+      ordered = ordered_always;
       spared = λ none. (quiet, sure);
       few = few;
     }
       where
-        in_memory : Ends (item_of (by_source (program_with table bodies) fuel None)) (StandsForStore (program_with table bodies) None) store_in_memory old new served
-        in_memory = subst (λ (p : StoreProgram). Ends (item_of (by_source p fuel None)) (StandsForStore p None) store_in_memory old new served) same_program
-            (subst (λ (s : StoreState). Ends (item_of (by_source (source_program table code) fuel None)) (StandsForStore (source_program table code) None) s old new served) begins
-            (subst (λ (area : Option ℕ). Ends (item_of (by_source (source_program table code) fuel area)) (StandsForStore (source_program table code) area) (state_of store) old new served) memory ends))
-
-    -- an area that represents a store of the code represents one of the program
-    pub by_program : (c : List ℕ) (s : StoreState) → IsStoreOf (program_of code) area_bytes c s → IsStoreOf (program_with table bodies) area_bytes c s
-    by_program c s is =
-        subst (λ (p : StoreProgram). IsStoreOf p area_bytes c s) same_program (stands_by_source program code is_sound_for area_bytes c s is)
+        in_memory : EndsBy (image_of table bodies) None store_in_memory old new served
+        in_memory = subst (λ (i : Image). EndsBy i None store_in_memory old new served) emitted
+            (subst (λ (s : StoreState). EndsBy code None s old new served) begins
+            (subst (λ (area : Option ℕ). EndsBy code area (state_of store) old new served) memory ends))
 
     -- a session over the store of a disk, which was opened before
     pub serves_stored : (name file : List ℕ) (old mid new : Devices) (served : Served) (store : Store) → mid.input ≡ old.input → mid.output ≡ old.output → old.disk.faults ≤ mid.disk.faults
         → IsOpenedAs (program_of code) old.disk mid.disk store
-        → Ends (item_of (by_source (source_program table code) fuel (area_of_store store))) (StandsForStore (source_program table code) (area_of_store store)) (state_of store) mid new served
-        → TakesAtMost mid.input new.input most_taken → ServesProgram (asked_with (serve_stored name file) fuel lanes slice) text old new served
+        → EndsBy code (area_of_store store) (state_of store) mid new served
+        → TakesAtMost mid.input new.input most_taken → ServesProgram (asked_with (serve_stored name file) limits.fuel limits.lanes limits.slice) text old new served
     serves_stored name file old mid new served store input output later opened ends few = record {
       table = table;
       bodies = bodies;
@@ -176,21 +191,19 @@ module _ (table : ClassTable) (bodies : List SilicaBody) (code : Image) (compile
       start = state_of store;
       begins = (rests_by_source program code is_sound_for (content_of (kept_of store)) opened.at_rest, λ c reads. by_program c (state_of store) (opened.was c reads));
       ends = from_old;
-      crash = survives item stands (state_of store) old new served from_old;
+      crash = survives (line_items (image_of table bodies) (Some area_bytes)) stands (state_of store) old new served from_old;
       kept = kept_always;
+      ordered = ordered_always;
       spared = λ none. absurd (cc none);
       few = subst (λ (v : SourceView). TakesAtMost v new.input most_taken) input few;
     }
       where
-        item : StoreState → List ℕ → SessionItem StoreState
-        item = item_of (by_source (program_with table bodies) fuel (Some area_bytes))
-
         stands : StoreState → List ℕ → Type 0
         stands = StandsForStore (program_with table bodies) (Some area_bytes)
 
-        from_mid : Ends (item_of (by_source (program_with table bodies) fuel (Some area_bytes))) (StandsForStore (program_with table bodies) (Some area_bytes)) (state_of store) mid new served
-        from_mid = subst (λ (p : StoreProgram). Ends (item_of (by_source p fuel (Some area_bytes))) (StandsForStore p (Some area_bytes)) (state_of store) mid new served) same_program
-            (subst (λ (area : Option ℕ). Ends (item_of (by_source (source_program table code) fuel area)) (StandsForStore (source_program table code) area) (state_of store) mid new served) opened.area ends)
+        from_mid : EndsBy (image_of table bodies) (Some area_bytes) (state_of store) mid new served
+        from_mid = subst (λ (i : Image). EndsBy i (Some area_bytes) (state_of store) mid new served) emitted
+            (subst (λ (area : Option ℕ). EndsBy code area (state_of store) mid new served) opened.area ends)
 
         here : Throughout mid.disk (λ c. IsStoreOf (program_with table bodies) area_bytes c (state_of store))
         here = throughout_to mid.disk _ _ (stores_stand (program_of code) store area_bytes mid.disk opened.area opened.stands opened.at_rest) (λ c stood. by_program c (state_of store) stood)
@@ -203,7 +216,7 @@ module _ (table : ClassTable) (bodies : List SilicaBody) (code : Image) (compile
         cause_from ended.WriteFault cause = subst (λ (v : SinkView). Rose v.faults new.output.faults) output cause
         cause_from ended.DiskFault cause = omega (arith, later, cause)
 
-        from_old : Ends (item_of (by_source (program_with table bodies) fuel (Some area_bytes))) (StandsForStore (program_with table bodies) (Some area_bytes)) (state_of store) old new served
+        from_old : EndsBy (image_of table bodies) (Some area_bytes) (state_of store) old new served
         from_old = record {
           lines = from_mid.lines;
           of_input = subst (λ (v : SourceView). SpeaksOf served v new.input from_mid.lines) input from_mid.of_input;

@@ -11,7 +11,7 @@ use Rattle.ob_serve.specs.Session.{items_from, replies}
 use Rattle.ob_words.specs.Asked.{Asked}
 use Rattle.ob_run.specs.Commands.{file_of, text_in}
 use Rattle.ob_run.specs.Outside.{OutsideView}
-use Rattle.ob_run.specs.Sessions.{program_with, BeginsAt, source_item}
+use Rattle.ob_run.specs.Sessions.{program_with, BeginsAt, source_items}
 use Rattle.ob_run.specs.declared.exit.Exit.{Exit}
 use Rattle.ob_run.specs.declared.exit.Exit.TheVariants.{Done, Refused, Usage, ReadFault, WriteFault, DiskFault, StoreRefused, FileFault, Memory, Long}
 
@@ -29,7 +29,7 @@ pub record BeginsSession (words : Option Asked) (before : OutsideView) : Type 0 
 
 -- the replies to lines, by the source meaning of a program, from a store on; a blank line has none
 abbrev pub replies_to : Asked → ClassTable → List SilicaBody → StoreState → List (List ℕ) → List ℕ
-replies_to asked table bodies start lines = replies (items_from (source_item asked table bodies) start lines)
+replies_to asked table bodies start lines = replies (items_from (source_items asked table bodies) start lines)
 
 -- Bytes of the input were taken, and the output got exactly the replies to their lines.
 pub record AnswersLines (lines_in : List ℕ → List (List ℕ)) (words : Option Asked) (before after : OutsideView) : Type 0 where
@@ -49,16 +49,16 @@ pub record AnswersSome (words : Option Asked) (before after : OutsideView) : Typ
 abbrev pub TakesNothing : OutsideView → OutsideView → Type 0
 TakesNothing before after = after.input ≡ before.input
 
--- Where a run ends by its input, each line that was taken whole has its reply written. That is so of every source, also of one whose next read
+-- Where a run ends by its input, each line that was taken whole has its replies written. That is so of every source, also of one whose next read
 -- fails: up to this read the run over it is the same, and there it ends, in ReadFault. So before each read of the input each line that was
--- taken whole has its reply written, and a client may wait for it before it sends its next line.
+-- taken whole has its replies written, and a client may wait for them before it sends its next line.
 abbrev pub AnswersWhatItTook : Option Asked → OutsideView → OutsideView → Exit → Type 0
--- The input was read to its end, and each line has its reply. `check`, `audit` and `trial` take nothing.
+-- The input was read to its end, and each line has its replies. `check`, `audit` and `trial` take nothing.
 AnswersWhatItTook words before after Done = TakesNothing before after ⊎ AnswersLines lines_of words before after
--- Each line that was taken whole has its reply.
+-- Each line that was taken whole has its replies.
 AnswersWhatItTook words before after ReadFault = AnswersLines whole_lines words before after
 AnswersWhatItTook words before after Long = AnswersLines whole_lines words before after
--- Here less holds: a line that was taken may lack its reply, or a part of it. No reply comes before that of an earlier line.
+-- Here less holds: a line that was taken may lack its replies, or a part of them. No reply comes before those to an earlier line.
 AnswersWhatItTook words before after WriteFault = TakesNothing before after ⊎ AnswersSome words before after
 AnswersWhatItTook words before after DiskFault = TakesNothing before after ⊎ AnswersSome words before after
 AnswersWhatItTook words before after Memory = TakesNothing before after ⊎ AnswersSome words before after

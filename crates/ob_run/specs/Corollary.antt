@@ -9,10 +9,10 @@ use Rattle.ob_io.specs.Causes.{Rose}
 use Rattle.ob_io.specs.LinesOfText.{lines_of}
 use Rattle.ob_store_spec.specs.Stores.{StoreProgram, StoreState, IsStoreOf}
 use Rattle.ob_serve.specs.Served.{Devices}
-use Rattle.ob_serve.specs.Session.{SessionItem, session, state_after, requests_in, replies}
+use Rattle.ob_serve.specs.Session.{SessionItem, items_from, state_after, replies}
 use Rattle.ob_words.specs.Asked.{serve_stored, Limits, Asked}
 use Rattle.ob_run.specs.Outside.{OutsideView, devices}
-use Rattle.ob_run.specs.Sessions.{area_bytes, program_with, source_item}
+use Rattle.ob_run.specs.Sessions.{area_bytes, program_with, source_items}
 use Rattle.ob_run.specs.declared.exit.Exit.{Exit}
 use Rattle.ob_run.specs.declared.exit.Exit.TheVariants.{Done, Memory}
 
@@ -54,16 +54,16 @@ pub record IsObservable (words : Option Asked) (before after : OutsideView) : Ty
   pub start : StoreState
   pub represents : IsStoreOf (program_with table bodies) area_bytes old.disk start
 
--- All requests are answered and stored, each by its item on the store that the one before it left.
-pub record ServesAll (program : StoreProgram) (item : StoreState → List ℕ → SessionItem StoreState) (start : StoreState) (requests : List (List ℕ)) (old new : DeviceBytes)
+-- All items are answered and stored, each on the store that the one before it left.
+pub record ServesAll (program : StoreProgram) (start : StoreState) (items : List (SessionItem StoreState)) (old new : DeviceBytes)
     (crash_images : List ℕ → Type 0) : Type 0 where
   -- the input was read to its end
   pub input : new.input ≡ []
-  -- the output is what it was, and then the replies to all requests
-  pub output : new.output ≡ old.output ++ replies (session item start requests)
-  -- the disk, as it reads and in each crash image, represents the store after all requests
-  pub disk : IsStoreOf program area_bytes new.disk (state_after item start requests)
-  pub images : (image : List ℕ) → crash_images image → IsStoreOf program area_bytes image (state_after item start requests)
+  -- the output is what it was, and then the replies of all items
+  pub output : new.output ≡ old.output ++ replies items
+  -- the disk, as it reads and in each crash image, represents the store after all items
+  pub disk : IsStoreOf program area_bytes new.disk (state_after start items)
+  pub images : (image : List ℕ) → crash_images image → IsStoreOf program area_bytes image (state_after start items)
 
 -- no call of the files, the streams or the disk failed, and the input has fewer than `most_taken` bytes
 pub record IsUndisturbed (before after : OutsideView) (input : List ℕ) : Type 0 where
@@ -77,7 +77,8 @@ pub record IsUndisturbed (before after : OutsideView) (input : List ℕ) : Type 
 pub record ServesObservable (words : Option Asked) (before after : OutsideView) (exit : Exit) : Type 0 where
   -- If it is Done, then it has served all lines of the input but the blank ones, by the source meaning of the text.
   pub done : (given : IsObservable words before after) → exit ≡ Done
-      → ServesAll (program_with given.table given.bodies) (source_item (serving given.name given.store given.limits) given.table given.bodies) given.start (requests_in (lines_of given.old.input)) given.old
-      given.new after.disk.now
+      → ServesAll (program_with given.table given.bodies) given.start
+      (items_from (source_items (serving given.name given.store given.limits) given.table given.bodies) given.start (lines_of given.old.input))
+      given.old given.new after.disk.now
   -- If nothing disturbed it, then it is Done, or memory ran out.
   pub undisturbed : (given : IsObservable words before after) → IsUndisturbed before after given.old.input → (exit ≡ Done) ⊎ (exit ≡ Memory)

@@ -1,3 +1,7 @@
+pub mod Counting
+pub mod Holding
+pub mod Kinds
+pub mod Trials
 pub mod VendingMachine
 pub mod Commands
 pub mod FileAsks

@@ -12,11 +12,12 @@ use Rattle.ob_heap_spec.specs.Contents.{empty_content}
 use Rattle.ob_io.specs.Told.{TakesAtMost}
 use Rattle.ob_rest_spec.specs.AtRest.{IsStoreAtRest}
 use Rattle.ob_store_spec.specs.Stores.{StoreProgram, StoreState, IsStoreOf}
-use Rattle.ob_serve.specs.Items.{by_source, item_of}
-use Rattle.ob_serve.specs.Kept.{KeepsSessions}
-use Rattle.ob_serve.specs.Session.{SessionItem, requests_in}
+use Rattle.ob_serve.specs.Items.{by_source, items_of_line}
+use Rattle.ob_serve.specs.Kept.{KeepsSessions, KeepsOrders}
+use Rattle.ob_serve.specs.Session.{SessionItem, items_from}
 use Rattle.ob_serve.specs.Served.{Devices, Ends}
 use Rattle.ob_serve.specs.Standing.{StandsForStore}
+use Rattle.ob_serve.specs.declared.limits.Limits.{Limits}
 use Rattle.ob_serve.specs.declared.serving.Served.{Served}
 use Rattle.ob_serve.specs.declared.serving.Served.TheVariants.{DiskFault}
 use Rattle.ob_words.specs.Asked.{Command, check, serve, serve_stored, audit, trial, Asked}
@@ -55,19 +56,28 @@ BeginsAt (serve_stored name store) program disk start =
 BeginsAt (audit name store) program disk start = ⊥
 BeginsAt (trial length) program disk start = ⊥
 
--- The item of a line: it is answered by the source meaning of a program, with the fuel that is asked for, on the store that the line
+-- the limits of a session, as the words have them
+abbrev pub session_limits : Asked → Limits
+session_limits asked = record { fuel = asked.limits.fuel; lanes = asked.limits.lanes; slice = asked.limits.slice }
+
+-- The items of a line: it is answered by the source meaning of a program, with the limits that are asked for, on the store that the line
 -- before left.
-abbrev pub source_item : Asked → ClassTable → List SilicaBody → StoreState → List ℕ → SessionItem StoreState
-source_item asked table bodies = item_of (by_source (program_with table bodies) asked.limits.fuel (area_for asked.command))
+abbrev pub source_items : Asked → ClassTable → List SilicaBody → StoreState → List ℕ → List (SessionItem StoreState)
+source_items asked table bodies =
+    items_of_line (by_source (program_with table bodies) (image_of table bodies) (session_limits asked) (area_for asked.command))
 
 -- bytes of a disk represent the store of a command's session
 abbrev pub StandsOnDisk : Command → ClassTable → List SilicaBody → StoreState → List ℕ → Type 0
 StandsOnDisk command table bodies = StandsForStore (program_with table bodies) (area_for command)
 
 -- No item of any lines goes wrong; after each the store is at rest, and each stored asset that was never shared nor disowned has exactly
--- one owner; and a line that is refused or aborted changes nothing.
-abbrev pub IsKeptAlways : ClassTable → List SilicaBody → ℕ → Type 0
-IsKeptAlways table bodies fuel = KeepsSessions (program_with table bodies) fuel
+-- one owner; and a request or line that is refused or aborted changes nothing.
+abbrev pub IsKeptAlways : ClassTable → List SilicaBody → Limits → Type 0
+IsKeptAlways table bodies limits = KeepsSessions (program_with table bodies) (image_of table bodies) limits
+
+-- Each batch is answered in an order of its requests: each once, and those of a client as they stand in it.
+abbrev pub IsOrderedAlways : ClassTable → List SilicaBody → Limits → Type 0
+IsOrderedAlways table bodies limits = KeepsOrders (program_with table bodies) (image_of table bodies) limits
 
 -- The text is a program, and a session of it ended so.
 pub record ServesProgram (asked : Asked) (text : List ℕ) (before after : Devices) (served : Served) : Type 0 where
@@ -78,11 +88,13 @@ pub record ServesProgram (asked : Asked) (text : List ℕ) (before after : Devic
   pub start : StoreState
   pub begins : BeginsAt asked.command (program_with table bodies) before.disk start
   -- of which lines the end speaks, how many were answered, what was written, and what the disk represents
-  pub ends : Ends (source_item asked table bodies) (StandsOnDisk asked.command table bodies) start before after served
-  -- of the same lines and the same bytes: a crash loses no line of whose reply a byte was written
-  pub crash : Survives (source_item asked table bodies) (StandsOnDisk asked.command table bodies) start (requests_in ends.lines) ends.given before.disk after.disk
+  pub ends : Ends (source_items asked table bodies) (StandsOnDisk asked.command table bodies) start before after served
+  -- of the same lines and the same bytes: a crash loses no item of whose reply a byte was written
+  pub crash : Survives (StandsOnDisk asked.command table bodies) start (items_from (source_items asked table bodies) start ends.lines) ends.given before.disk after.disk
   -- what each item keeps, whatever the lines are
-  pub kept : IsKeptAlways table bodies asked.limits.fuel
+  pub kept : IsKeptAlways table bodies (session_limits asked)
+  -- in which order the requests of a batch are answered
+  pub ordered : IsOrderedAlways table bodies (session_limits asked)
   -- over a store in memory no call of the disk was made, so none failed
   pub spared : area_for asked.command ≡ None → IsUntouched before.disk after.disk × (served ≢ DiskFault)
   -- however it ended, at most `most_taken` bytes of input were taken

@@ -60,7 +60,7 @@ Treats asked text before after WriteFault =
     OnOutput (WritesFront (IsOfText asked.command text)) before after
     ⊎ (RefusesStore asked.command text WritesFront before after
     ⊎ (AuditsStore asked.command text WritesFront before after ⊎ ServesProgram asked text before after ended.WriteFault))
--- A call of the disk failed: while the store was opened or read, or while a line was committed.
+-- A call of the disk failed: while the store was opened or read, or while a request was committed.
 Treats asked text before after DiskFault =
     (OpensNot asked.command text before after × Rose before.disk.faults after.disk.faults) ⊎ ServesProgram asked text before after ended.DiskFault
 -- What the disk reads is refused for the program: the line of the first cause was written.

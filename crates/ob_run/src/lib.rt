@@ -2,9 +2,13 @@
 #![tactic(auto)]
 
 mod auditing;
+mod counting;
+mod counts;
 mod examined;
 mod exit;
 mod fault;
+mod holding;
+mod kinds;
 mod machine;
 mod outside;
 mod refusal;

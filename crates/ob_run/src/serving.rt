@@ -23,7 +23,7 @@ use ob_base::Memory;
 use ob_disk::Disk;
 use ob_front::compile;
 use ob_io::{Files, Sink, Source};
-use ob_serve::{Served, serve};
+use ob_serve::{Limits, Served, serve};
 use ob_store::{OpenError, Store};
 use ob_verify::Verified;
 use std::alloc::Global;
@@ -106,11 +106,14 @@ fn open_named<D: Disk>(
 pub fn serve_text<F: Files, S: Source, K: Sink, D: Disk>(
     alloc: Global,
     text: &[u8],
-    fuel: u32,
+    limits: Limits,
     outside: &mut Outside<F, S, K, D>,
     examined: &mut Examined<'_>,
 ) -> Exit
-    ensures treats { (name : List ℕ) (lanes slice : ℕ) → Treats (asked_with (serve name) fuel lanes slice) text.now
+    requires lanes { 1 ≤ limits.lanes }
+    requires most_lanes { limits.lanes ≤ 8 }
+    requires slice { 1 ≤ limits.slice }
+    ensures treats { (name : List ℕ) → Treats (asked_with (serve name) limits.fuel limits.lanes limits.slice) text.now
         (devices (told F.view S.view K.view D.view outside.old))
         (devices (told F.view S.view K.view D.view outside.new)) result }
     ensures files { outside.new.files ≡ outside.old.files }
@@ -131,7 +134,7 @@ pub fn serve_text<F: Files, S: Source, K: Sink, D: Disk>(
         alloc,
         &program.code,
         &mut store,
-        fuel,
+        limits,
         &mut outside.input,
         &mut outside.output,
         &mut outside.disk,
@@ -144,11 +147,14 @@ pub fn serve_text_stored<F: Files, S: Source, K: Sink, D: Disk>(
     alloc: Global,
     text: &[u8],
     name: &str,
-    fuel: u32,
+    limits: Limits,
     outside: &mut Outside<F, S, K, D>,
     examined: &mut Examined<'_>,
 ) -> Exit
-    ensures treats { (file : List ℕ) (lanes slice : ℕ) → Treats (asked_with (serve_stored file name.now) fuel lanes slice) text.now
+    requires lanes { 1 ≤ limits.lanes }
+    requires most_lanes { limits.lanes ≤ 8 }
+    requires slice { 1 ≤ limits.slice }
+    ensures treats { (file : List ℕ) → Treats (asked_with (serve_stored file name.now) limits.fuel limits.lanes limits.slice) text.now
         (devices (told F.view S.view K.view D.view outside.old))
         (devices (told F.view S.view K.view D.view outside.new)) result }
     ensures files { outside.new.files ≡ outside.old.files }
@@ -175,7 +181,7 @@ pub fn serve_text_stored<F: Files, S: Source, K: Sink, D: Disk>(
         alloc,
         &program.code,
         &mut store,
-        fuel,
+        limits,
         &mut outside.input,
         &mut outside.output,
         &mut outside.disk,

@@ -1,5 +1,5 @@
 //! The top call.
-ghost use Rattle.std.specs.Prelude.{◌≡◌, Some, map, option_map, string_bytes, IfOk, IsErrOf};
+ghost use Rattle.std.specs.Prelude.{◌≡◌, ◌≤◌, Some, map, option_map, string_bytes, IfOk, IsErrOf};
 ghost use Rattle.ob_io.specs.Causes.{Rose};
 ghost use Rattle.ob_io.specs.Files.{NotesAsk};
 ghost use Rattle.ob_words.specs.Asked.{asked_of};
@@ -25,6 +25,7 @@ use crate::trying::try_text;
 use ob_base::LONGEST_PROGRAM;
 use ob_disk::Disk;
 use ob_io::{FileError, Files, Sink, Source};
+use ob_serve::Limits;
 use ob_words::{Asked, Command, WordsError, parse_words};
 use std::alloc::Global;
 
@@ -62,6 +63,9 @@ fn treat<F: Files, S: Source, K: Sink, D: Disk>(
     outside: &mut Outside<F, S, K, D>,
     examined: &mut Examined<'_>,
 ) -> Exit
+    requires lanes { 1 ≤ asked.limits.lanes }
+    requires most_lanes { asked.limits.lanes ≤ 8 }
+    requires slice { 1 ≤ asked.limits.slice }
     ensures treats { Treats (asked_view asked.entry) text.now
         (devices (told F.view S.view K.view D.view outside.old))
         (devices (told F.view S.view K.view D.view outside.new)) result }
@@ -72,11 +76,16 @@ fn treat<F: Files, S: Source, K: Sink, D: Disk>(
         (told F.view S.view K.view D.view outside.new) result }
 {
     let fuel = asked.limits.fuel;
+    let limits = Limits {
+        fuel,
+        lanes: asked.limits.lanes,
+        slice: asked.limits.slice,
+    };
     match asked.command {
         Command::Check(_) => check_text(alloc, text, &mut outside.output, examined),
-        Command::Serve(_) => serve_text(alloc, text, fuel, outside, examined),
+        Command::Serve(_) => serve_text(alloc, text, limits, outside, examined),
         Command::ServeStored(_, name) => {
-            serve_text_stored(alloc, text, name, fuel, outside, examined)
+            serve_text_stored(alloc, text, name, limits, outside, examined)
         }
         Command::Audit(_, name) => audit_store(alloc, text, name, outside, examined),
         Command::Trial(length) => try_text(alloc, text, length, &mut outside.output, examined),

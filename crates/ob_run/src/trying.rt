@@ -6,15 +6,17 @@ ghost use Rattle.ob_run.specs.Statuses.{IsFinding};
 ghost use Rattle.ob_run.specs.TextRead.{Tells};
 ghost use Rattle.ob_run.specs.TrialLines.{trial_text};
 
+use crate::counts::Counts;
 use crate::examined::Examined;
 use crate::exit::Exit;
+use crate::holding::hold_trial;
 use crate::serving::AREA;
 use crate::telling::{put_count, refuse};
 use ob_base::Memory;
 use ob_front::compile;
 use ob_io::{Sink, write_all};
-use ob_trial::{Counts, hold_trial};
-use ob_words::DEFAULT_FUEL;
+use ob_serve::Limits;
+use ob_words::{DEFAULT_FUEL, DEFAULT_SLICE};
 use std::alloc::Global;
 
 // The six numbers, each on a line.
@@ -61,7 +63,12 @@ pub fn try_text<K: Sink>(
         Ok(program) => program,
         Err(error) => return refuse(alloc, error, output, &mut examined.fault),
     };
-    match hold_trial(alloc, &program.code, DEFAULT_FUEL, AREA, length) {
+    let limits = Limits {
+        fuel: DEFAULT_FUEL,
+        lanes: 1,
+        slice: DEFAULT_SLICE,
+    };
+    match hold_trial(alloc, &program.code, limits, AREA, length) {
         Ok(counts) => tell_trial(alloc, counts, output),
         Err(Memory) => Exit::Memory,
     }

@@ -25,7 +25,7 @@ use Rattle.ob_store_spec.specs.Payloads.{state, marks, truth, value, object_head
 use Rattle.ob_store_spec.specs.Stores.{StoreProgram, StoreState, IsStoreOf}
 use Rattle.ob_store_spec.proofs.Leading.{one_store}
 use Rattle.ob_serve.specs.Session.{items_from, replies}
-use Rattle.ob_run.specs.Sessions.{area_bytes, program_with, source_item}
+use Rattle.ob_run.specs.Sessions.{area_bytes, program_with, source_items}
 use Rattle.ob_run.specs.VendingMachine.{vending_machine}
 use Rattle.ob_run_examples.specs.Sample.{asked_stored, input, output}
 use Rattle.ob_run_examples.proofs.Sampled.{many, passes}
@@ -51,17 +51,17 @@ blank : (program : StoreProgram) (start : StoreState) → IsStoreOf program area
 blank program start is =
     one_store program area_bytes [] start (begun_at (length program.image)) is (inl (record { blank = no_bytes_blank area_bytes; content = refl; gate = refl; serial = refl }))
 
-computed : (more : List SilicaBody) → replies (items_from (source_item asked_stored (table many vending_machine) more) (begun_at 577) (lines_of input)) ≡ output
+computed : (more : List SilicaBody) → replies (items_from (source_items asked_stored (table many vending_machine) more) (begun_at 577) (lines_of input)) ≡ output
 unfolding tokens tree table most_slots states_max states_of word_of all_refs all_unary all_branches serde_json_on_literals is_utf8 chars lib.Utf8.encode digits text state marks truth value object_head object hold held handle payload mode
 computed more = refl
 
 pub answered_stored : (other : ClassTable) (more : List SilicaBody) (start : StoreState) → IsProgram vending_machine other more → IsStoreOf (program_with other more) area_bytes [] start
-    → replies (items_from (source_item asked_stored other more) start (lines_of input)) ≡ output
+    → replies (items_from (source_items asked_stored other more) start (lines_of input)) ≡ output
 answered_stored other more start is stands =
     let own = is_program many vending_machine passes in
     let same = one_table vending_machine (table many vending_machine) other own.checked.terms.has is.checked.terms.has in
     let program = one_program other (table many vending_machine) more (bodies many vending_machine) is own in
     let begins : start ≡ begun_at 577 =
     blank (program_with (table many vending_machine) (bodies many vending_machine)) start (subst (λ (p : StoreProgram). IsStoreOf p area_bytes [] start) program stands) ∙ ap (λ (n : ℕ). begun_at n) image_length in
-    subst (λ (s : StoreState). replies (items_from (source_item asked_stored other more) s (lines_of input)) ≡ output) (sym begins)
-    (subst (λ (t : ClassTable). replies (items_from (source_item asked_stored t more) (begun_at 577) (lines_of input)) ≡ output) same (computed more))
+    subst (λ (s : StoreState). replies (items_from (source_items asked_stored other more) s (lines_of input)) ≡ output) (sym begins)
+    (subst (λ (t : ClassTable). replies (items_from (source_items asked_stored t more) (begun_at 577) (lines_of input)) ≡ output) same (computed more))

@@ -8,7 +8,7 @@ ghost use Rattle.ob_front.specs.Programs.{IsProgram, IsAccepted};
 ghost use Rattle.ob_io.specs.LinesOfText.{lines_of};
 ghost use Rattle.ob_serve.specs.Session.{items_from, replies};
 ghost use Rattle.ob_store_spec.specs.Stores.{StoreState, IsStoreOf};
-ghost use Rattle.ob_run.specs.Sessions.{area_bytes, program_with, source_item, store_in_memory};
+ghost use Rattle.ob_run.specs.Sessions.{area_bytes, program_with, source_items, store_in_memory};
 ghost use Rattle.ob_run.specs.VendingMachine.{vending_machine};
 ghost use Rattle.ob_run_examples.specs.Sample.{asked, asked_stored, input, output};
 
@@ -20,12 +20,12 @@ pub fn vending_machine_is_accepted()
 /// The replies to the lines of the sample, by the source meaning of its program, from the empty store on, are these bytes.
 pub fn sample_is_answered()
     ensures { (table : ClassTable) (bodies : List SilicaBody) → IsProgram vending_machine table bodies
-        → replies (items_from (source_item asked table bodies) store_in_memory (lines_of input)) ≡ output }
+        → replies (items_from (source_items asked table bodies) store_in_memory (lines_of input)) ≡ output }
 {}
 
 /// The same by `serve P STORE`, from the store on that a disk without a byte represents.
 pub fn sample_is_answered_on_a_disk()
     ensures { (table : ClassTable) (bodies : List SilicaBody) (start : StoreState) → IsProgram vending_machine table bodies
         → IsStoreOf (program_with table bodies) area_bytes [] start
-        → replies (items_from (source_item asked_stored table bodies) start (lines_of input)) ≡ output }
+        → replies (items_from (source_items asked_stored table bodies) start (lines_of input)) ≡ output }
 {}

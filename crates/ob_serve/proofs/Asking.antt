@@ -1,29 +1,33 @@
 -- What a line asks is worked out, and the names in it are labels.
-use Rattle.std.proofs.Common.{◌≡◌, ℕ, ℤ, ◌<◌, ◌≤◌, Bool, true, false, ◌&&◌, List, ◌∷◌, ◌++◌, length, map, Option, Some, None, refl, ◌∙◌, ap, arith}
-use Rattle.std.specs.Prelude.{Ok, Err, IfOk, nat_lt, option_to_list, codes, if◌then◌else◌}
+use Rattle.std.proofs.Common.{◌≡◌, ℕ, zero, suc, subst, ℤ, ◌<◌, ◌≤◌, Bool, true, false, ◌&&◌, List, [], ◌∷◌, ◌++◌, length, map, Option, Some, None, refl, ◌∙◌, ap, arith}
+use Rattle.std.specs.Prelude.{Result, Ok, Err, IfOk, nat_lt, slice_get, option_to_list, codes, if◌then◌else◌}
 use Rattle.std.specs.List.{list_all}
 use Rattle.std.specs.Str.{is_utf8, bytes_eq}
 use Rattle.std.proofs.lemmas.Bool.Decides.{nat_tests}
 use Rattle.std.proofs.lemmas.List.Folds.{list_all-append}
 use Rattle.std.proofs.lemmas.Str.{is_utf8-from_IsUtf8, IsUtf8-from_is_utf8}
 use Rattle.serde_json.specs.Data.{Data, null, boolean, number, string, array, object, Items, no_items, item, Members, no_members, member}
-use Rattle.serde_json.specs.Find.{get, as_i64, as_str}
+use Rattle.serde_json.specs.Find.{get, as_array, as_i64, as_str}
 use Rattle.serde_json.specs.Read.{read}
 use Rattle.ob_base.specs.Limits.{longest_line}
 use Rattle.ob_base.specs.Names.{is_label, is_text}
 use Rattle.ob_invocation_spec.specs.Requests as asked
 use Rattle.ob_invocation_spec.specs.Requests.{argument_names, names_in, HasLabels}
 use Rattle.ob_wire.specs.Meanings.{argument_meant, operation_of, request_of}
-use Rattle.ob_wire.specs.Reading.{request_in, value_of}
-use Rattle.ob_wire.specs.Requests.{LabelIfAt, number_argument, handle_named, handle_argument, argument_of, arguments_of, AreArgs, HasParts, IsRequest, IsJson, Asks, IsNoJson, AsksNothing}
-use Rattle.ob_wire.specs.declared.refusal.Refusal.TheVariants.{LongLine, Json, Shape}
+use Rattle.ob_wire.specs.Reading.{request_in, requests_in, one_of, batch_if, incoming_by, incoming_in, value_of}
+use Rattle.ob_wire.specs.Requests.{LabelIfAt, number_argument, handle_named, handle_argument, argument_of, arguments_of, AreArgs, HasParts, IsRequest, AreRequests, IsIncoming, is_batch_size, IsJson, AsksIncoming, IsNoJson, AsksNothing, AsksWrongCount}
+use Rattle.ob_wire.specs.declared.refusal.Refusal.TheVariants.{LongLine, Json, Shape, BatchSize}
+use Rattle.ob_wire.specs.declared.reading.WireError.{WireError}
+use Rattle.ob_wire.specs.declared.reading.WireError.TheVariants as wire
+use Rattle.ob_wire.specs.declared.request.Incoming.{Incoming}
+use Rattle.ob_wire.specs.declared.request.Incoming.TheVariants.{One, Batch}
 use Rattle.ob_wire.specs.declared.request.Arg.{Arg}
 use Rattle.ob_wire.specs.declared.request.Arg.TheVariants as arg
 use Rattle.ob_wire.specs.declared.request.Op.{Op}
 use Rattle.ob_wire.specs.declared.request.Op.TheVariants.{New, Call, Disown, Give, See, Owner}
 use Rattle.ob_wire.specs.declared.request.Request.{Request}
-use Rattle.ob_wire.proofs.RequestLaws.{request_there, request_again}
-use Rattle.ob_serve.specs.Asked.{asked_if_found, asked_by_value, asked_by, IsAskedBy}
+use Rattle.ob_wire.proofs.IncomingLaws.{incoming_there, incoming_again, no_request_there, no_request_again, wrong_count_there, wrong_count_again}
+use Rattle.ob_serve.specs.Asked.{asked_if, asked_by_value, asked_by, IsAskedBy}
 
 -- ---- what a line asks
 
@@ -44,13 +48,9 @@ no_value : (line : List ℕ) (o : Option Data) → value_of line ≡ o → IsNoJ
 no_value line None is none = refl
 no_value line (Some value) is none = absurd (none value (value_again line value is))
 
-no_request : (value : Data) (o : Option Request) → request_in value ≡ o → ((request : Request) → ¬ (IsRequest value request)) → o ≡ None
-no_request value None is none = refl
-no_request value (Some request) is none = absurd (none request (request_there value request is))
-
--- a line that isn't too long and asks a request
-pub asks_request : (line : List ℕ) (request : Request) → Asks line request → asked_by_value (value_of line) ≡ Ok request
-asks_request line request asks = ap asked_by_value (value_there line asks.0 asks.1) ∙ ap asked_if_found (request_again asks.0 request asks.2)
+-- a line that isn't too long and asks something
+pub asks_incoming : (line : List ℕ) (incoming : Incoming) → AsksIncoming line incoming → asked_by_value (value_of line) ≡ Ok incoming
+asks_incoming line incoming asks = ap asked_by_value (value_there line asks.0 asks.1) ∙ ap asked_if (incoming_again asks.0 incoming asks.2)
 
 -- one that is no JSON
 pub asks_no_json : (line : List ℕ) → IsNoJson line → asked_by_value (value_of line) ≡ Err Json
@@ -58,8 +58,11 @@ asks_no_json line none = ap asked_by_value (no_value line (value_of line) refl n
 
 -- one that is no request
 pub asks_nothing : (line : List ℕ) → AsksNothing line → asked_by_value (value_of line) ≡ Err Shape
-asks_nothing line asks =
-    ap asked_by_value (value_there line asks.0 asks.1) ∙ ap asked_if_found (no_request asks.0 (request_in asks.0) refl asks.2)
+asks_nothing line asks = ap asked_by_value (value_there line asks.0 asks.1) ∙ ap asked_if (no_request_again asks.0 asks.2)
+
+-- one that has too few requests or too many
+pub asks_wrong_count : (line : List ℕ) → AsksWrongCount line → asked_by_value (value_of line) ≡ Err BatchSize
+asks_wrong_count line asks = ap asked_by_value (value_there line asks.0 asks.1) ∙ ap asked_if (wrong_count_again asks.0 asks.2)
 
 is_long : (n : ℕ) → nat_lt longest_line n ≡ true → longest_line < n
 is_long n is = grind (arith, nat_tests)
@@ -81,14 +84,44 @@ asks_too_long line long = ap (λ (b : Bool). if b then Err LongLine else asked_b
 pub asks_by_value : (line : List ℕ) → length line ≤ longest_line → asked_by line ≡ asked_by_value (value_of line)
 asks_by_value line short = ap (λ (b : Bool). if b then Err LongLine else asked_by_value (value_of line)) (short_test (length line) short)
 
-asked_of_found : (line : List ℕ) (value : Data) (o : Option Request) → length line ≤ longest_line → IsJson line value → request_in value ≡ o
-    → IsAskedBy line (asked_if_found o)
-asked_of_found line value None short json is = (short, (value, json, λ request asks. let again = request_again value request asks in absurd cc))
-asked_of_found line value (Some request) short json is = (short, (value, json, request_there value request is))
+-- a value asks something, or it is no request, or has too few or too many
+abbrev Tells : Result Incoming WireError → Type 0
+Tells (Ok incoming) = Unit {0}
+Tells (Err wire.Shape) = Unit {0}
+Tells (Err wire.BatchSize) = Unit {0}
+Tells (Err wire.Json) = ⊥
+Tells (Err wire.Memory) = ⊥
+
+one_tells : (o : Option Request) → Tells (one_of o)
+one_tells None = tt
+one_tells (Some request) = tt
+
+size_tells : (requests : List Request) (b : Bool) → Tells (if b then Ok (Batch requests) else Err wire.BatchSize)
+size_tells requests true = tt
+size_tells requests false = tt
+
+batch_tells : (o : Option (List Request)) → Tells (batch_if o)
+batch_tells None = tt
+batch_tells (Some requests) = size_tells requests (is_batch_size (length requests))
+
+array_tells : (o : Option Items) (value : Data) → Tells (incoming_by o value)
+array_tells None value = one_tells (request_in value)
+array_tells (Some items) value = batch_tells (requests_in items)
+
+value_tells : (value : Data) → Tells (incoming_in value)
+value_tells value = array_tells (as_array value) value
+
+asked_of_found : (line : List ℕ) (value : Data) (r : Result Incoming WireError) → length line ≤ longest_line → IsJson line value → incoming_in value ≡ r → Tells r
+    → IsAskedBy line (asked_if r)
+asked_of_found line value (Ok incoming) short json is tells = (short, (value, json, incoming_there value incoming is))
+asked_of_found line value (Err wire.Shape) short json is tells = (short, (value, json, no_request_there value is))
+asked_of_found line value (Err wire.BatchSize) short json is tells = (short, (value, json, wrong_count_there value is))
+asked_of_found line value (Err wire.Json) short json is tells = absurd tells
+asked_of_found line value (Err wire.Memory) short json is tells = absurd tells
 
 asked_of_value : (line : List ℕ) (o : Option Data) → length line ≤ longest_line → value_of line ≡ o → IsAskedBy line (asked_by_value o)
 asked_of_value line None short is = (short, λ value json. let there = value_there line value json in cc)
-asked_of_value line (Some value) short is = asked_of_found line value (request_in value) short (value_again line value is) refl
+asked_of_value line (Some value) short is = asked_of_found line value (incoming_in value) short (value_again line value is) refl (value_tells value)
 
 asked_of_length : (line : List ℕ) (b : Bool) → nat_lt longest_line (length line) ≡ b → IsAskedBy line (if b then Err LongLine else asked_by_value (value_of line))
 asked_of_length line true is = is_long (length line) is
@@ -183,18 +216,38 @@ parts_labels value (Owner on) parts = both_hold (is_label on) true parts.fits re
 pub request_labels : (value : Data) (request : Request) → IsRequest value request → HasLabels (request_of request)
 request_labels value request is = both_hold (is_label request.who) _ is.who.fits (parts_labels value request.op is.parts)
 
-found_labels : (value : Data) (o : Option Request) → request_in value ≡ o → IfOk (asked_if_found o) (λ request. HasLabels (request_of request))
-found_labels value None is = tt
-found_labels value (Some request) is = request_labels value request (request_there value request is)
+-- the names in each request of what is asked are labels
+abbrev pub HasAllLabels : Incoming → Type 0
+HasAllLabels (One request) = HasLabels (request_of request)
+HasAllLabels (Batch requests) = (n : ℕ) (request : Request) → slice_get requests n ≡ Some request → HasLabels (request_of request)
 
-value_labels : (o : Option Data) → IfOk (asked_by_value o) (λ request. HasLabels (request_of request))
+items_have : (items : Items) (requests : List Request) → AreRequests items requests → (n : ℕ) (request : Request) → slice_get requests n ≡ Some request → HasLabels (request_of request)
+items_have no_items [] are n request is = absurd cc
+items_have no_items (first ∷ requests) are n request is = absurd are
+items_have (item value items) [] are n request is = absurd are
+items_have (item value items) (first ∷ requests) are zero request is =
+    let same : first ≡ request = cc in subst (λ (r : Request). HasLabels (request_of r)) same (request_labels value first are.0)
+items_have (item value items) (first ∷ requests) are (suc n) request is = items_have items requests are.1 n request is
+
+pub incoming_labels : (value : Data) (incoming : Incoming) → IsIncoming value incoming → HasAllLabels incoming
+incoming_labels value (One request) is = request_labels value request is
+incoming_labels value (Batch requests) is = items_have is.0.0 requests is.0.2
+
+found_labels : (value : Data) (r : Result Incoming WireError) → incoming_in value ≡ r → IfOk (asked_if r) HasAllLabels
+found_labels value (Ok incoming) is = incoming_labels value incoming (incoming_there value incoming is)
+found_labels value (Err wire.Shape) is = tt
+found_labels value (Err wire.BatchSize) is = tt
+found_labels value (Err wire.Json) is = tt
+found_labels value (Err wire.Memory) is = tt
+
+value_labels : (o : Option Data) → IfOk (asked_by_value o) HasAllLabels
 value_labels None = tt
-value_labels (Some value) = found_labels value (request_in value) refl
+value_labels (Some value) = found_labels value (incoming_in value) refl
 
-length_labels : (b : Bool) (o : Option Data) → IfOk (if b then Err LongLine else asked_by_value o) (λ request. HasLabels (request_of request))
+length_labels : (b : Bool) (o : Option Data) → IfOk (if b then Err LongLine else asked_by_value o) HasAllLabels
 length_labels true o = tt
 length_labels false o = value_labels o
 
--- so they have in what a line asks
-pub asked_labels : (line : List ℕ) → IfOk (asked_by line) (λ request. HasLabels (request_of request))
+-- so they are in what a line asks
+pub asked_labels : (line : List ℕ) → IfOk (asked_by line) HasAllLabels
 asked_labels line = length_labels (nat_lt longest_line (length line)) (value_of line)

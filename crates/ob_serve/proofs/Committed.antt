@@ -21,8 +21,6 @@ use Rattle.ob_store.specs.Committing.{IsReady, StandsBeforeOrAfter}
 use Rattle.ob_store.specs.declared.store.Store.{Store}
 use Rattle.ob_store.specs.declared.store.Prepared.{Prepared}
 use Rattle.ob_store.proofs.Standing.{stores_stand}
-use Rattle.ob_serve.specs.Items.{by_machine, item_of}
-use Rattle.ob_serve.specs.Session.{SessionItem, bytes_of}
 use Rattle.ob_serve.specs.Standing.{StandsForStore}
 use Rattle.ob_serve.specs.Stops.{LineReader, IsStop, CommitsTo, LeadsOn}
 use Rattle.ob_serve.specs.declared.serving.Served.{Served}
@@ -95,25 +93,6 @@ pub stands_now : (program : StoreProgram) (store : Store) (v : DiskView) (area :
 stands_now program store v area s in_area is stands rests =
     subst (λ (t : StoreState). Throughout v (StandsForStore program area t)) is
     (subst (λ (a : Option ℕ). Throughout v (StandsForStore program a (state_of store))) in_area (stands_through program store v stands rests))
-
--- the item of a line, on the store that is at hand
-module _ (code : Image) (fuel : ℕ) (store : Store) (area : Option ℕ) (s : StoreState) (full : List ℕ) (in_area : area_of_store store ≡ area) (is : state_of store ≡ s) where
-  pub same_there : item_of (by_machine code fuel (area_of_store store)) (state_of store) full ≡ item_of (by_machine code fuel area) s full
-  same_there = ap (λ (a : Option ℕ). item_of (by_machine code fuel a) (state_of store) full) in_area ∙ ap (λ (t : StoreState). item_of (by_machine code fuel area) t full) is
-
-  pub crash_between : (old new : DiskView)
-      → During old new (λ c. StandsForStore (program_of code) (area_of_store store) (state_of store) c ⊎ StandsForStore (program_of code) (area_of_store store) (item_of (by_machine code fuel (area_of_store store)) (state_of store) full).after c)
-      → During old new (λ c. StandsForStore (program_of code) area s c ⊎ StandsForStore (program_of code) area (item_of (by_machine code fuel area) s full).after c)
-  crash_between old new left =
-      subst (λ (i : SessionItem StoreState). During old new (λ c. StandsForStore (program_of code) area s c ⊎ StandsForStore (program_of code) area i.after c)) same_there
-      (subst (λ (t : StoreState). During old new (λ c. StandsForStore (program_of code) area t c ⊎ StandsForStore (program_of code) area (item_of (by_machine code fuel (area_of_store store)) (state_of store) full).after c)) is
-      (subst (λ (a : Option ℕ). During old new (λ c. StandsForStore (program_of code) a (state_of store) c ⊎ StandsForStore (program_of code) a (item_of (by_machine code fuel (area_of_store store)) (state_of store) full).after c)) in_area left))
-
-  pub reply_there : (bytes : List ℕ) → bytes ≡ bytes_of (item_of (by_machine code fuel (area_of_store store)) (state_of store) full).reply → bytes ≡ bytes_of (item_of (by_machine code fuel area) s full).reply
-  reply_there bytes told = told ∙ ap (λ (i : SessionItem StoreState). bytes_of i.reply) same_there
-
-  pub after_there : (t : StoreState) → t ≡ (item_of (by_machine code fuel (area_of_store store)) (state_of store) full).after → t ≡ (item_of (by_machine code fuel area) s full).after
-  after_there t told = told ∙ ap (λ (i : SessionItem StoreState). i.after) same_there
 
 -- a disk of which no byte changed
 pub quiet_stands : (mid new : DiskView) (P : List ℕ → Type 0) → During mid new (May mid) → Throughout mid P → Throughout new P

@@ -5,5 +5,12 @@ pub mod Keeping
 pub mod Readied
 pub mod Committed
 pub mod Sessions
+pub mod Steps
 pub mod Progress
 pub mod BySource
+pub mod Growing
+pub mod Rounds
+pub mod Turning
+pub mod Orders
+pub mod LineItems
+pub mod Commits

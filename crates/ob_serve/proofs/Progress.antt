@@ -1,23 +1,35 @@
 -- How a session goes on, and how it ends.
 use Rattle.std.proofs.Common.{◌≡◌, ◌⊎◌, inl, inr, ⊎_elim, ℕ, ◌+◌, ◌<◌, ◌≤◌, Bool, true, false, List, [], ◌∷◌, ◌++◌, length, take, drop, Option, None, Some, refl, sym, ◌∙◌, ap, subst, arith, append_assoc, length-append, take-append-drop}
-use Rattle.std.proofs.lemmas.List.{append-nil, take_all, take-take}
+use Rattle.std.specs.Prelude.{◌≢◌, Result, ⊤}
+use Rattle.std.proofs.lemmas.List.{append-nil, take_at, take-take}
 use Rattle.ob_base.specs.Limits.{most_taken}
+use Rattle.ob_code.specs.declared.image.Image.{Image}
 use Rattle.ob_io.specs.Causes.{Rose}
-use Rattle.ob_io.specs.Told.{Takes, TakesFrom, TakesAtMost, Gives, GivesFront, IsEnd}
+use Rattle.ob_io.specs.Told.{Takes, TakesFrom, TakesAtMost, Gives, IsEnd}
 use Rattle.ob_io.specs.LinesOfText.{lines_of, whole_lines, IsSplit}
 use Rattle.ob_io.proofs.TextLemmas.{split_none, split_more, split_end, split_part}
-use Rattle.ob_io.specs.Views.{SourceView}
+use Rattle.ob_io.specs.Views.{SourceView, SinkView}
 use Rattle.ob_io.proofs.ToldLemmas.{gives_none, gives_then, takes_none, takes_then, takes_from_none, takes_from_then}
 use Rattle.ob_disk_spec.specs.Disk.{DiskView, LeavesOnly}
-use Rattle.ob_disk_spec.specs.Durable.{May, Throughout, During}
-use Rattle.ob_disk_spec.proofs.Moments.{weaker, then, throughout_to, throughout_may}
-use Rattle.ob_serve.specs.Session.{SessionItem, session, bytes_of, state_after, requests_in, replies, is_blank_line}
-use Rattle.ob_serve.specs.Crash.{AfterAll, AfterFirst, AfterSome}
+use Rattle.ob_disk_spec.specs.Durable.{May, Throughout}
+use Rattle.ob_disk_spec.proofs.Behind.{behind_none, behind_then}
+use Rattle.ob_disk_spec.proofs.Untouched.{untouched_none, untouched_then}
+use Rattle.ob_disk_spec.proofs.Moments.{weaker, then, throughout_to}
+use Rattle.ob_store_spec.specs.Stores.{StoreState}
+use Rattle.ob_store.specs.Stores.{program_of, area_of_store, state_of}
+use Rattle.ob_store.specs.declared.store.Store.{Store}
+use Rattle.ob_serve.specs.Session.{SessionItem, items_from, state_after, replies}
+use Rattle.ob_serve.specs.Crash.{AfterFirst, AfterSome}
 use Rattle.ob_serve.specs.Served.{Devices, IsToldAs, ReadsSome, SpeaksOf, IsAnswered, IsGiven, IsStored, IsCause, Ends}
+use Rattle.ob_serve.specs.Items.{by_machine, items_of_line}
+use Rattle.ob_serve.specs.declared.limits.Limits.{Limits}
+use Rattle.ob_serve.specs.Serving.{Moment, IsServing, items_shown, StaysIn, stands_where, Answered, HasFault, Stopped, Answers}
+use Rattle.ob_serve.specs.Standing.{StandsForStore}
 use Rattle.ob_serve.specs.Stops.{LineReader, ReadsLine, ReadsPart, IsStop}
 use Rattle.ob_serve.specs.declared.serving.Served.{Served}
 use Rattle.ob_serve.specs.declared.serving.Served.TheVariants.{Done, ReadFault, WriteFault, DiskFault, Memory, Long}
-use Rattle.ob_serve.proofs.Sessions.{replies-append, requests_in-append, one_request, no_request, front_replies, one_reply, next_replies, state_after-append, after_front, after_one, some_more, before_or_after}
+use Rattle.ob_serve.proofs.Committed.{stands_through, stands_now}
+use Rattle.ob_serve.proofs.Sessions.{replies-append, state_after-append, items_from-append, one_more, take_in, after_front, some_more, some_later, first_in}
 
 -- ---- the input so far
 
@@ -83,108 +95,182 @@ pub few_taken : (old now : SourceView) (count : ℕ) → HasTaken old now count 
 few_taken old now count has few = (has.0, has.1, omega (arith, has.2, few))
 
 -- as many bytes as were handed on
-all_taken : (old now : SourceView) (bytes : List ℕ) (count : ℕ) → Takes old.left now.left bytes → HasTaken old now count → count ≡ length bytes → TakesFrom old now bytes
+pub all_taken : (old now : SourceView) (bytes : List ℕ) (count : ℕ) → Takes old.left now.left bytes → HasTaken old now count → count ≡ length bytes → TakesFrom old now bytes
 all_taken old now bytes count told has same = record { told = told; counted = omega (arith, has.1.counted, has.2, same) }
 
--- ---- the replies and the disk so far
+-- ---- the items so far
 
-module _ {S : Type 0} (item : S → List ℕ → SessionItem S) (stands : S → List ℕ → Type 0) (start : S) where
-  -- these requests were answered, and a crash leaves the store after some of them
-  pub record Answered (requests : List (List ℕ)) (written gave : Option (List ℕ)) (old now : DiskView) : Type 0 where
-    pub given : Gives written gave (replies (session item start requests))
-    pub since : LeavesOnly old now (AfterSome item stands start requests)
+pub stays_none : (area : Option ℕ) (v : DiskView) → StaysIn area v v
+stays_none area v = record { untouched = λ none. untouched_none v; behind = λ size is. behind_none (size + size) v; attaches = refl }
 
-  pub answered_none : (written : Option (List ℕ)) (old : DiskView) → Answered [] written written old old
-  answered_none written old = record { given = gives_none written; since = record { later = omega arith; each = λ t c le left. inl left } }
+pub stays_then : (area : Option ℕ) (old mid new : DiskView) → StaysIn area old mid → StaysIn area mid new → StaysIn area old new
+stays_then area old mid new a b = record {
+  untouched = λ none. untouched_then old mid new (a.untouched none) (b.untouched none);
+  behind = λ size is. behind_then (size + size) old mid new (a.behind size is) (b.behind size is);
+  attaches = b.attaches ∙ a.attaches;
+}
 
-  -- the store at this moment, or after this line
-  abbrev pub Between : List (List ℕ) → List ℕ → List ℕ → Type 0
-  Between requests line c = stands (state_after item start requests) c ⊎ stands (item (state_after item start requests) line).after c
+-- nothing was asked
+pub answered_none : (code : Image) (m : Moment) → IsServing code m → Answered code [] m m
+answered_none code m serving = record {
+  area = refl;
+  state = refl;
+  serving = serving;
+  given = gives_none m.output.written;
+  since = record { later = omega arith; each = λ t c le left. inl left };
+  stays = stays_none (area_of_store m.store) m.disk;
+  calm_write = refl;
+  calm_disk = refl;
+}
 
-  pub since_more : (requests : List (List ℕ)) (line : List ℕ) (old mid now : DiskView) → LeavesOnly old mid (AfterSome item stands start requests) → During mid now (Between requests line) → LeavesOnly old now (AfterSome item stands start (requests ++ line ∷ []))
-  since_more requests line old mid now was change =
-      then old mid now _ (weaker old mid _ _ was (some_more item stands start requests (line ∷ []))) (weaker mid now _ _ change.since (before_or_after item stands start requests line))
+module _ (code : Image) (xs : List (SessionItem StoreState)) (old mid : Moment) (was : Answered code xs old mid) where
+  -- what is said of the store in the middle, said from the first one
+  moved : (F : (StoreState → List ℕ → Type 0) → StoreState → Type 0) → F (stands_where code mid.store) (state_of mid.store) → F (stands_where code old.store) (state_after (state_of old.store) xs)
+  moved F is =
+      subst (F (stands_where code old.store)) was.state
+      (subst (λ (area : Option ℕ). F (StandsForStore (program_of code) area) (state_of mid.store)) was.area is)
 
-  -- a blank line goes by
-  pub answered_blank : {written gave : Option (List ℕ)} {old now : DiskView} (lines : List (List ℕ)) (line : List ℕ) → is_blank_line line ≡ true → Answered (requests_in lines) written gave old now → Answered (requests_in (lines ++ line ∷ [])) written gave old now
-  answered_blank {written} {gave} {old} {now} lines line is was = subst (λ (requests : List (List ℕ)). Answered requests written gave old now) (sym (no_request lines line is)) was
+  stays_on : (new : Moment) → StaysIn (area_of_store mid.store) mid.disk new.disk → StaysIn (area_of_store old.store) old.disk new.disk
+  stays_on new stays = stays_then (area_of_store old.store) old.disk mid.disk new.disk was.stays (subst (λ (area : Option ℕ). StaysIn area mid.disk new.disk) was.area stays)
 
-  pub kept_blank : (P : S → Type 0) (lines : List (List ℕ)) (line : List ℕ) → is_blank_line line ≡ true → P (state_after item start (requests_in lines)) → P (state_after item start (requests_in (lines ++ line ∷ [])))
-  kept_blank P lines line is was = subst (λ (requests : List (List ℕ)). P (state_after item start requests)) (sym (no_request lines line is)) was
+  since_on : (ys rest : List (SessionItem StoreState)) (new : Moment) → LeavesOnly mid.disk new.disk (AfterSome (stands_where code mid.store) (state_of mid.store) ys)
+      → LeavesOnly old.disk new.disk (AfterSome (stands_where code old.store) (state_of old.store) ((xs ++ ys) ++ rest))
+  since_on ys rest new since =
+      let stands = stands_where code old.store in
+      let start = state_of old.store in
+      then old.disk mid.disk new.disk _
+      (weaker old.disk mid.disk _ _ was.since (λ c some. some_more stands start (xs ++ ys) rest c (some_more stands start xs ys c some)))
+      (weaker mid.disk new.disk _ _ (moved (λ stand s. LeavesOnly mid.disk new.disk (AfterSome stand s ys)) since)
+      (λ c some. some_more stands start (xs ++ ys) rest c (some_later stands start xs ys c some)))
 
-  -- a line is stored and answered
-  pub answered_line : {written gave gave' : Option (List ℕ)} {old mid now : DiskView} (lines : List (List ℕ)) (line reply : List ℕ) → is_blank_line line ≡ false → Answered (requests_in lines) written gave old mid
-      → During mid now (Between (requests_in lines) line) → reply ≡ bytes_of (item (state_after item start (requests_in lines)) line).reply → Gives gave gave' reply → Answered (requests_in (lines ++ line ∷ [])) written gave' old now
-  answered_line {written} {gave} {gave'} {old} {mid} {now} lines line reply shows was change is gives =
-      let requests = requests_in lines in
-      let whole = subst (Gives gave gave') is gives in
-      let more : Answered (requests ++ line ∷ []) written gave' old now = record {
-        given = subst (Gives written gave') (sym (one_reply item start requests line)) (gives_then written gave gave' _ _ was.given whole);
-        since = since_more requests line old mid now was.since change;
-      } in
-      subst (λ (rs : List (List ℕ)). Answered rs written gave' old now) (sym (one_request lines line shows)) more
-
-  pub kept_line : (P : S → Type 0) (lines : List (List ℕ)) (line : List ℕ) → is_blank_line line ≡ false → P (item (state_after item start (requests_in lines)) line).after → P (state_after item start (requests_in (lines ++ line ∷ [])))
-  kept_line P lines line shows was =
-      subst (λ (rs : List (List ℕ)). P (state_after item start rs)) (sym (one_request lines line shows)) (subst P (sym (state_after-append item start (requests_in lines) (line ∷ []))) was)
-
-  -- no byte of the disk changed
-  pub answered_quiet : {written gave : Option (List ℕ)} {old mid now : DiskView} (requests : List (List ℕ)) → Answered requests written gave old mid → During mid now (May mid)
-      → Throughout mid (stands (state_after item start requests)) → Answered requests written gave old now
-  answered_quiet {written} {gave} {old} {mid} {now} requests was quiet here = record {
-    given = was.given;
-    since = then old mid now _ was.since (weaker mid now _ _ quiet.since (λ c may. (length requests, subst (λ (rs : List (List ℕ)). AfterAll item stands start rs c) (sym (take_all (length requests) requests (omega arith))) (throughout_may mid _ here c may))));
+  -- more items are answered
+  pub answered_then : (ys : List (SessionItem StoreState)) (new : Moment) → Answered code ys mid new → Answered code (xs ++ ys) old new
+  answered_then ys new more = record {
+    area = more.area ∙ was.area;
+    state = more.state ∙ ap (λ (s : StoreState). state_after s ys) was.state ∙ sym (state_after-append (state_of old.store) xs ys);
+    serving = more.serving;
+    given = subst (Gives old.output.written new.output.written) (sym (replies-append xs ys)) (gives_then old.output.written mid.output.written new.output.written (replies xs) (replies ys) was.given more.given);
+    since = subst (λ (items : List (SessionItem StoreState)). LeavesOnly old.disk new.disk (AfterSome (stands_where code old.store) (state_of old.store) items)) (append-nil (xs ++ ys)) (since_on ys [] new more.since);
+    stays = stays_on new more.stays;
+    calm_write = more.calm_write ∙ was.calm_write;
+    calm_disk = more.calm_disk ∙ was.calm_disk;
   }
 
+  module _ (ys rest : List (SessionItem StoreState)) where
+    answered_in : (served : Served) (k : ℕ) (new : Moment) → HasFault served mid new → IsAnswered served (length ys) k → IsAnswered served (length ((xs ++ ys) ++ rest)) (length xs + k)
+    answered_in WriteFault k new fault is = omega (arith, is, length-append (xs ++ ys) rest, length-append xs ys)
+    answered_in DiskFault k new fault is = omega (arith, is, length-append (xs ++ ys) rest, length-append xs ys)
+    answered_in Memory k new fault is = omega (arith, is, length-append (xs ++ ys) rest, length-append xs ys)
+    answered_in Done k new fault is = absurd fault
+    answered_in ReadFault k new fault is = absurd fault
+    answered_in Long k new fault is = absurd fault
+
+    replies_in : (k : ℕ) → k ≤ length ys → replies (take (length xs + k) ((xs ++ ys) ++ rest)) ≡ replies xs ++ replies (take k ys)
+    replies_in k within = ap replies (take_in xs ys rest k within) ∙ replies-append xs (take k ys)
+
+    whole_in : (k : ℕ) (given : List ℕ) → k ≤ length ys → given ≡ replies (take k ys) → replies xs ++ given ≡ replies (take (length xs + k) ((xs ++ ys) ++ rest))
+    whole_in k given within is = ap (λ (l : List ℕ). replies xs ++ l) is ∙ sym (replies_in k within)
+
+    given_in : (served : Served) (k : ℕ) (given : List ℕ) (new : Moment) → HasFault served mid new → IsAnswered served (length ys) k → IsGiven served ys k given
+        → IsGiven served ((xs ++ ys) ++ rest) (length xs + k) (replies xs ++ given)
+    given_in WriteFault k given new fault within is =
+        let next : (length xs + k) + 1 ≡ length xs + (k + 1) = omega arith in (
+          is.0,
+          is.1,
+          ap (λ (l : List ℕ). replies xs ++ l) is.2 ∙ sym (append_assoc (replies xs) (replies (take k ys)) is.0) ∙ ap (λ (l : List ℕ). l ++ is.0) (sym (replies_in k (omega (arith, within)))),
+          ap (λ (n : ℕ). replies (take n ((xs ++ ys) ++ rest))) next ∙ replies_in (k + 1) (omega (arith, within)) ∙ ap (λ (l : List ℕ). replies xs ++ l) is.3 ∙ sym (append_assoc (replies xs) given is.1),
+        )
+    given_in DiskFault k given new fault within is = whole_in k given (omega (arith, within)) is
+    given_in Memory k given new fault within is = whole_in k given within is
+    given_in Done k given new fault within is = absurd fault
+    given_in ReadFault k given new fault within is = absurd fault
+    given_in Long k given new fault within is = absurd fault
+
+    few_stored : (served : Served) (k j : ℕ) (new : Moment) → HasFault served mid new → IsAnswered served (length ys) k → IsStored served k j → j ≤ length ys
+    few_stored WriteFault k j new fault within is = omega (arith, within, is)
+    few_stored DiskFault k j new fault within is = ⊎_elim (λ e. let same : j ≡ k = e in omega (arith, within, same)) (λ e. let same : j ≡ k + 1 = e in omega (arith, within, same)) is
+    few_stored Memory k j new fault within is = omega (arith, within, is)
+    few_stored Done k j new fault within is = absurd fault
+    few_stored ReadFault k j new fault within is = absurd fault
+    few_stored Long k j new fault within is = absurd fault
+
+    stored_later : (served : Served) (k j : ℕ) (new : Moment) → HasFault served mid new → IsStored served k j → IsStored served (length xs + k) (length xs + j)
+    stored_later WriteFault k j new fault is = omega (arith, is)
+    stored_later DiskFault k j new fault is = ⊎_elim (λ e. let same : j ≡ k = e in inl (omega (arith, same))) (λ e. let same : j ≡ k + 1 = e in inr (omega (arith, same))) is
+    stored_later Memory k j new fault is = omega (arith, is)
+    stored_later Done k j new fault is = absurd fault
+    stored_later ReadFault k j new fault is = absurd fault
+    stored_later Long k j new fault is = absurd fault
+
+    fault_on : (served : Served) (new : Moment) → HasFault served mid new → HasFault served old new
+    fault_on WriteFault new fault = (rw was.calm_write at fault.0, fault.1 ∙ was.calm_disk)
+    fault_on DiskFault new fault = (fault.0 ∙ was.calm_write, rw was.calm_disk at fault.1)
+    fault_on Memory new fault = (fault.0 ∙ was.calm_write, fault.1 ∙ was.calm_disk)
+    fault_on Done new fault = absurd fault
+    fault_on ReadFault new fault = absurd fault
+    fault_on Long new fault = absurd fault
+
+    -- it stops in the next items, before others
+    pub stopped_then : (served : Served) (new : Moment) → Stopped code served ys mid new → Stopped code served ((xs ++ ys) ++ rest) old new
+    stopped_then served new stop = record {
+      k = length xs + stop.k;
+      answered = answered_in served stop.k new stop.cause stop.answered;
+      given = replies xs ++ stop.given;
+      written = gives_then old.output.written mid.output.written new.output.written (replies xs) stop.given was.given stop.written;
+      given_is = given_in served stop.k stop.given new stop.cause stop.answered stop.given_is;
+      stored = throughout_to new.disk _ _
+          (moved (λ stand s. Throughout new.disk (AfterFirst stand s ys (IsStored served stop.k))) stop.stored)
+          (first_in (stands_where code old.store) (state_of old.store) xs ys rest (IsStored served stop.k) (IsStored served (length xs + stop.k))
+          (λ j is. few_stored served stop.k j new stop.cause stop.answered is) (λ j is. stored_later served stop.k j new stop.cause is));
+      since = since_on ys rest new stop.since;
+      stays = stays_on new stop.stays;
+      sure = λ none. stop.sure (was.area ∙ none);
+      cause = fault_on served new stop.cause;
+    }
+
+-- ---- the ends of a session
+
+module _ {S : Type 0} (items : S → List ℕ → List (SessionItem S)) (stands : S → List ℕ → Type 0) (start : S) where
   module _ (old new : Devices) where
-    -- an end, by the requests that it knows and those that follow
-    built : (served : Served) (lines requests more : List (List ℕ)) (k : ℕ) (given : List ℕ) → requests_in lines ≡ requests ++ more → SpeaksOf served old.input new.input lines → IsAnswered served (length (requests ++ more)) k
-        → Gives old.output.written new.output.written given → IsGiven served (session item start (requests ++ more)) k given
-        → Throughout new.disk (AfterFirst item stands start (requests ++ more) (IsStored served k))
-        → LeavesOnly old.disk new.disk (AfterSome item stands start requests) → IsCause served old new → Ends item stands start old new served
-    built served lines requests more k given all of_input answered written is stored since cause = record {
+    -- All of these items, which aren't the last, are answered and stored.
+    before : (served : Served) (lines : List (List ℕ)) (so_far rest : List (SessionItem S)) → items_from items start lines ≡ so_far ++ rest → SpeaksOf served old.input new.input lines
+        → IsAnswered served (length (so_far ++ rest)) (length so_far) → IsGiven served (so_far ++ rest) (length so_far) (replies so_far) → IsStored served (length so_far) (length so_far)
+        → Gives old.output.written new.output.written (replies so_far) → LeavesOnly old.disk new.disk (AfterSome stands start so_far) → Throughout new.disk (stands (state_after start so_far))
+        → IsCause served old new → Ends items stands start old new served
+    before served lines so_far rest all of_input answered is stored given since images cause = record {
       lines = lines;
       of_input = of_input;
-      k = k;
+      k = length so_far;
       answered = rw all answered;
-      given = given;
-      written = written;
+      given = replies so_far;
+      written = given;
       given_is = rw all is;
-      stored = rw all stored;
-      since = rw all (weaker old.disk new.disk _ _ since (λ c some. inr (some_more item stands start requests more c some)));
+      stored = rw all (throughout_to new.disk _ _ images (λ c is. (length so_far, stored, after_front stands start so_far rest c is)));
+      since = rw all (weaker old.disk new.disk _ _ since (λ c some. inr (some_more stands start so_far rest c some)));
       cause = cause;
     }
 
-    -- Before a line: the store is that after the lines so far.
-    before : (served : Served) (lines so_far rest : List (List ℕ)) → lines ≡ so_far ++ rest → SpeaksOf served old.input new.input lines → IsAnswered served (length (requests_in so_far ++ requests_in rest)) (length (requests_in so_far))
-        → IsGiven served (session item start (requests_in so_far ++ requests_in rest)) (length (requests_in so_far)) (replies (session item start (requests_in so_far)))
-        → IsStored served (length (requests_in so_far)) (length (requests_in so_far))
-        → Throughout new.disk (stands (state_after item start (requests_in so_far)))
-        → Answered (requests_in so_far) old.output.written new.output.written old.disk new.disk → IsCause served old new → Ends item stands start old new served
-    before served lines so_far rest all of_input answered is stored images was cause =
-        built served lines (requests_in so_far) (requests_in rest) (length (requests_in so_far)) (replies (session item start (requests_in so_far))) (ap requests_in all ∙ requests_in-append so_far rest) of_input answered was.given is
-        (throughout_to new.disk _ _ images (λ c is. (length (requests_in so_far), stored, after_front item stands start (requests_in so_far) (requests_in rest) c is))) was.since cause
+    front_replies : (so_far rest : List (SessionItem S)) → replies so_far ≡ replies (take (length so_far) (so_far ++ rest))
+    front_replies so_far rest = ap replies (sym (take_at so_far rest (length so_far) refl))
 
-    -- memory runs out before a reply
-    pub gives_up : (pending : Option (List ℕ)) (ended : Bool) (handed : ℕ) (read : Reading old.input.left pending ended handed) → (ended ≡ true → IsEnd pending)
-        → Answered (requests_in read.lines) old.output.written new.output.written old.disk new.disk → Throughout new.disk (stands (state_after item start (requests_in read.lines)))
-        → Ends item stands start old new Memory
-    gives_up pending ended handed read ends was images =
-        let at = reached old.input.left pending ended handed read ends in
-        before Memory (lines_of at.input) read.lines at.rest at.all (record { input = at.input; all = at.is; is = refl })
-        (omega (arith, length-append (requests_in read.lines) (requests_in at.rest)))
-        (sym (front_replies item start (requests_in read.lines) (requests_in at.rest))) refl images was tt
+    -- memory runs out before a line is looked at
+    pub gives_up : (input : List ℕ) (so_far rest : List (SessionItem S)) → IsToldAs old.input.left input → items_from items start (lines_of input) ≡ so_far ++ rest
+        → Gives old.output.written new.output.written (replies so_far) → LeavesOnly old.disk new.disk (AfterSome stands start so_far) → Throughout new.disk (stands (state_after start so_far))
+        → Ends items stands start old new Memory
+    gives_up input so_far rest is all given since images =
+        before Memory (lines_of input) so_far rest all (record { input = input; all = is; is = refl }) (omega (arith, length-append so_far rest)) (front_replies so_far rest) refl given since images tt
 
     -- the lines so far are all that the end speaks of
     all_so_far : (served : Served) (lines so_far : List (List ℕ)) → lines ≡ so_far → SpeaksOf served old.input new.input lines
-        → (length (requests_in so_far ++ requests_in []) ≡ length (requests_in so_far) → IsAnswered served (length (requests_in so_far ++ requests_in [])) (length (requests_in so_far)))
-        → (replies (session item start (requests_in so_far)) ≡ replies (take (length (requests_in so_far)) (session item start (requests_in so_far ++ requests_in [])))
-        → IsGiven served (session item start (requests_in so_far ++ requests_in [])) (length (requests_in so_far)) (replies (session item start (requests_in so_far))))
-        → IsStored served (length (requests_in so_far)) (length (requests_in so_far))
-        → Throughout new.disk (stands (state_after item start (requests_in so_far)))
-        → Answered (requests_in so_far) old.output.written new.output.written old.disk new.disk → IsCause served old new → Ends item stands start old new served
-    all_so_far served lines so_far is of_input answered given stored images was cause =
-        before served lines so_far [] (is ∙ sym (append-nil so_far)) of_input (answered (ap length (append-nil (requests_in so_far)))) (given (sym (front_replies item start (requests_in so_far) []))) stored images was cause
+        → (length (items_from items start so_far ++ []) ≡ length (items_from items start so_far) → IsAnswered served (length (items_from items start so_far ++ [])) (length (items_from items start so_far)))
+        → (replies (items_from items start so_far) ≡ replies (take (length (items_from items start so_far)) (items_from items start so_far ++ []))
+        → IsGiven served (items_from items start so_far ++ []) (length (items_from items start so_far)) (replies (items_from items start so_far)))
+        → IsStored served (length (items_from items start so_far)) (length (items_from items start so_far))
+        → Gives old.output.written new.output.written (replies (items_from items start so_far)) → LeavesOnly old.disk new.disk (AfterSome stands start (items_from items start so_far))
+        → Throughout new.disk (stands (state_after start (items_from items start so_far))) → IsCause served old new → Ends items stands start old new served
+    all_so_far served lines so_far is of_input answered told stored given since images cause =
+        let xs = items_from items start so_far in
+        before served lines xs [] (ap (items_from items start) is ∙ sym (append-nil xs)) of_input (answered (ap length (append-nil xs))) (told (front_replies xs [])) stored given since images cause
 
     -- the input stops within a line
     cut_off : (from now : LineReader) (read : Reading old.input.left from.pending from.ended from.handed) (part : ReadsPart from now) → now.left ≡ new.input.left → HasTaken old.input new.input now.taken
@@ -198,9 +284,9 @@ module _ {S : Type 0} (item : S → List ℕ → SessionItem S) (stands : S → 
     -- what an end before a line says
     pub stopped : (served : Served) (from now : LineReader) (read : Reading old.input.left from.pending from.ended from.handed) → (from.ended ≡ true → IsEnd from.pending) → IsStop from now served → old.input.faults ≤ from.faults
         → now.left ≡ new.input.left → now.faults ≡ new.input.faults → HasTaken old.input new.input now.taken
-        → Answered (requests_in read.lines) old.output.written new.output.written old.disk new.disk → Throughout new.disk (stands (state_after item start (requests_in read.lines)))
-        → Ends item stands start old new served
-    stopped Done from now read ends stop later left faults has was images =
+        → Gives old.output.written new.output.written (replies (items_from items start read.lines)) → LeavesOnly old.disk new.disk (AfterSome stands start (items_from items start read.lines))
+        → Throughout new.disk (stands (state_after start (items_from items start read.lines))) → Ends items stands start old new served
+    stopped Done from now read ends stop later left faults has given since images =
         let told = takes_then old.input.left from.pending new.input.left read.taken [] read.took (rw left at stop.took) in
         let count : now.handed ≡ length read.taken = omega (arith, read.counted, stop.counted) in
         all_so_far Done (lines_of read.taken) read.lines (split_end from.ended read.taken read.lines read.split)
@@ -210,85 +296,164 @@ module _ {S : Type 0} (item : S → List ℕ → SessionItem S) (stands : S → 
           end = rw left at stop.end;
           within = omega (arith, stop.within, count);
           is = refl;
-        }) (λ same. sym same) (λ is. is) refl images was tt
-    stopped ReadFault from now read ends stop later left faults has was images =
+        }) (λ same. sym same) (λ is. is) refl given since images tt
+    stopped ReadFault from now read ends stop later left faults has given since images =
         let part = stop.1 in
         all_so_far ReadFault _ read.lines (split_part read.taken part.bytes read.lines (rw part.goes_on at read.split) part.one_line)
-        (cut_off from now read part left has (λ n. n < most_taken) (λ count. omega (arith, count, stop.2))) (λ same. sym same) (λ is. is) refl images was
+        (cut_off from now read part left has (λ n. n < most_taken) (λ count. omega (arith, count, stop.2))) (λ same. sym same) (λ is. is) refl given since images
         (let rose : Rose from.faults new.input.faults = rw faults at stop.0 in omega (arith, later, rose))
-    stopped Long from now read ends stop later left faults has was images =
+    stopped Long from now read ends stop later left faults has given since images =
         let part = stop.0 in
         all_so_far Long _ read.lines (split_part read.taken part.bytes read.lines (rw part.goes_on at read.split) part.one_line)
-        (cut_off from now read part left has (λ n. n ≡ most_taken) (λ count. omega (arith, count, stop.1))) (λ same. sym same) (λ is. is) refl images was tt
-    stopped Memory from now read ends stop later left faults has was images = gives_up from.pending from.ended from.handed read ends was images
-    stopped WriteFault from now read ends stop later left faults has was images = absurd stop
-    stopped DiskFault from now read ends stop later left faults has was images = absurd stop
-
-    -- what the requests of the input are, where a line more was read
-    one_more : (lines rest : List (List ℕ)) (line : List ℕ) (input : List ℕ) → is_blank_line line ≡ false → lines_of input ≡ (lines ++ line ∷ []) ++ rest → requests_in (lines_of input) ≡ (requests_in lines ++ line ∷ []) ++ requests_in rest
-    one_more lines rest line input shows all = ap requests_in all ∙ requests_in-append (lines ++ line ∷ []) rest ∙ ap (λ (ls : List (List ℕ)). ls ++ requests_in rest) (one_request lines line shows)
-
-    some_left : (requests more : List (List ℕ)) (line : List ℕ) → length requests < length ((requests ++ line ∷ []) ++ more)
-    some_left requests more line = omega (arith, length-append (requests ++ line ∷ []) more, length-append requests (line ∷ []))
-
-    -- the disk fails while a line is stored
-    pub disk_fails : (lines : List (List ℕ)) (line : List ℕ) (mid : DiskView) → is_blank_line line ≡ false → Reaches old.input.left (lines ++ line ∷ [])
-        → Answered (requests_in lines) old.output.written new.output.written old.disk mid → During mid new.disk (Between (requests_in lines) line) → Rose old.disk.faults new.disk.faults
-        → Ends item stands start old new DiskFault
-    disk_fails lines line mid shows at was change rose =
-        let requests = requests_in lines in
-        let more = requests_in at.rest in
-        let k = length requests in
-        let split : (requests ++ line ∷ []) ++ more ≡ requests ++ (line ∷ [] ++ more) = append_assoc requests (line ∷ []) more in
-        let given : replies (session item start requests) ≡ replies (take k (session item start ((requests ++ line ∷ []) ++ more))) =
-        sym (ap (λ (ls : List (List ℕ)). replies (take k (session item start ls))) split ∙ front_replies item start requests (line ∷ [] ++ more)) in
-        built DiskFault (lines_of at.input) (requests ++ line ∷ []) more k (replies (session item start requests)) (one_more lines at.rest line at.input shows at.all) (record { input = at.input; all = at.is; is = refl }) (some_left requests more line) was.given given
-        (throughout_to new.disk _ _ change.now (λ c between. ⊎_elim
-        (λ is. (k, inl refl, subst (λ (ls : List (List ℕ)). AfterAll item stands start (take k ls) c) (sym split) (after_front item stands start requests (line ∷ [] ++ more) c is)))
-        (λ is. (k + 1, inr refl, after_one item stands start requests more line c is))
-        between))
-        (since_more requests line old.disk mid new.disk was.since change) rose
-
-    -- the output fails while the reply of a stored line is written
-    pub write_fails : (lines : List (List ℕ)) (line reply : List ℕ) (gave : Option (List ℕ)) (mid : DiskView) → is_blank_line line ≡ false → Reaches old.input.left (lines ++ line ∷ [])
-        → Answered (requests_in lines) old.output.written gave old.disk mid → During mid new.disk (Between (requests_in lines) line)
-        → Throughout new.disk (stands (item (state_after item start (requests_in lines)) line).after)
-        → reply ≡ bytes_of (item (state_after item start (requests_in lines)) line).reply → GivesFront gave new.output.written reply → Rose old.output.faults new.output.faults
-        → Ends item stands start old new WriteFault
-    write_fails lines line reply gave mid shows at was change images is front rose =
-        let requests = requests_in lines in
-        let more = requests_in at.rest in
-        let k = length requests in
-        let so_far = replies (session item start requests) in
-        let split : (requests ++ line ∷ []) ++ more ≡ requests ++ (line ∷ [] ++ more) = append_assoc requests (line ∷ []) more in
-        let given : so_far ++ front.0 ≡ replies (take k (session item start ((requests ++ line ∷ []) ++ more))) ++ front.0 =
-        ap (λ (l : List ℕ). l ++ front.0) (sym (ap (λ (ls : List (List ℕ)). replies (take k (session item start ls))) split ∙ front_replies item start requests (line ∷ [] ++ more))) in
-        let next = next_replies item start requests more line ∙ ap (λ (l : List ℕ). so_far ++ l) (sym is ∙ front.2) ∙ sym (append_assoc so_far front.0 front.1) in
-        built WriteFault (lines_of at.input) (requests ++ line ∷ []) more k (so_far ++ front.0) (one_more lines at.rest line at.input shows at.all) (record { input = at.input; all = at.is; is = refl }) (some_left requests more line)
-        (gives_then old.output.written gave new.output.written so_far front.0 was.given front.3) (front.0, front.1, given, next)
-        (throughout_to new.disk _ _ images (λ c is. (k + 1, refl, after_one item stands start requests more line c is)))
-        (since_more requests line old.disk mid new.disk was.since change) rose
-
-    -- ---- whatever the status
+        (cut_off from now read part left has (λ n. n ≡ most_taken) (λ count. omega (arith, count, stop.1))) (λ same. sym same) (λ is. is) refl given since images tt
+    stopped Memory from now read ends stop later left faults has given since images =
+        let at = reached old.input.left from.pending from.ended from.handed read ends in
+        gives_up at.input (items_from items start read.lines) (items_from items (state_after start (items_from items start read.lines)) at.rest) at.is (ap (items_from items start) at.all ∙ items_from-append items start read.lines at.rest) given since images
+    stopped WriteFault from now read ends stop later left faults has given since images = absurd stop
+    stopped DiskFault from now read ends stop later left faults has given since images = absurd stop
 
     -- the replies of the items that are stored hold what was written
-    pub stored_holds : (served : Served) (ended : Ends item stands start old new served) (c : List ℕ) → AfterFirst item stands start (requests_in ended.lines) (IsStored served ended.k) c
-        → AfterFirst item stands start (requests_in ended.lines) (λ j. (rest : List ℕ) × (replies (take j (session item start (requests_in ended.lines))) ≡ ended.given ++ rest)) c
-    stored_holds served ended c is = (is.0, within served ended.k is.0 is.1 (session item start (requests_in ended.lines)) ended.given ended.given_is, is.2)
+    pub stored_holds : (served : Served) (ended : Ends items stands start old new served) (c : List ℕ) → AfterFirst stands start (items_from items start ended.lines) (IsStored served ended.k) c
+        → AfterFirst stands start (items_from items start ended.lines) (λ j. (rest : List ℕ) × (replies (take j (items_from items start ended.lines)) ≡ ended.given ++ rest)) c
+    stored_holds served ended c is = (is.0, within served ended.k is.0 is.1 (items_from items start ended.lines) ended.given ended.given_is, is.2)
       where
-        -- the replies of the items that are stored hold what was written
-        whole : (k j : ℕ) (items : List (SessionItem S)) (given : List ℕ) → j ≡ k → given ≡ replies (take k items) → (rest : List ℕ) × (replies (take j items) ≡ given ++ rest)
-        whole k j items given same is = ([], ap (λ (n : ℕ). replies (take n items)) same ∙ sym is ∙ sym (append-nil given))
+        whole : (k j : ℕ) (all : List (SessionItem S)) (given : List ℕ) → j ≡ k → given ≡ replies (take k all) → (rest : List ℕ) × (replies (take j all) ≡ given ++ rest)
+        whole k j all given same is = ([], ap (λ (n : ℕ). replies (take n all)) same ∙ sym is ∙ sym (append-nil given))
 
-        more : (k : ℕ) (items : List (SessionItem S)) → (rest : List ℕ) × (replies (take (k + 1) items) ≡ replies (take k items) ++ rest)
-        more k items =
-            let split : take k items ++ drop k (take (k + 1) items) ≡ take (k + 1) items = ap (λ (is : List (SessionItem S)). is ++ drop k (take (k + 1) items)) (sym (take-take k (k + 1) items (omega arith))) ∙ take-append-drop k (take (k + 1) items) in
-            (replies (drop k (take (k + 1) items)), ap replies (sym split) ∙ replies-append (take k items) (drop k (take (k + 1) items)))
+        more : (k : ℕ) (all : List (SessionItem S)) → (rest : List ℕ) × (replies (take (k + 1) all) ≡ replies (take k all) ++ rest)
+        more k all =
+            let split : take k all ++ drop k (take (k + 1) all) ≡ take (k + 1) all = ap (λ (is : List (SessionItem S)). is ++ drop k (take (k + 1) all)) (sym (take-take k (k + 1) all (omega arith))) ∙ take-append-drop k (take (k + 1) all) in
+            (replies (drop k (take (k + 1) all)), ap replies (sym split) ∙ replies-append (take k all) (drop k (take (k + 1) all)))
 
-        within : (served : Served) (k j : ℕ) → IsStored served k j → (items : List (SessionItem S)) (given : List ℕ) → IsGiven served items k given → (rest : List ℕ) × (replies (take j items) ≡ given ++ rest)
-        within Done k j same items given is = whole k j items given same is
-        within ReadFault k j same items given is = whole k j items given same is
-        within Long k j same items given is = whole k j items given same is
-        within Memory k j same items given is = whole k j items given same is
-        within WriteFault k j same items given is = (is.1, ap (λ (n : ℕ). replies (take n items)) same ∙ is.3)
-        within DiskFault k j same items given is = ⊎_elim (λ s. whole k j items given s is) (λ s. let m = more k items in (m.0, ap (λ (n : ℕ). replies (take n items)) s ∙ m.1 ∙ ap (λ (l : List ℕ). l ++ m.0) (sym is))) same
+        within : (served : Served) (k j : ℕ) → IsStored served k j → (all : List (SessionItem S)) (given : List ℕ) → IsGiven served all k given → (rest : List ℕ) × (replies (take j all) ≡ given ++ rest)
+        within Done k j same all given is = whole k j all given same is
+        within ReadFault k j same all given is = whole k j all given same is
+        within Long k j same all given is = whole k j all given same is
+        within Memory k j same all given is = whole k j all given same is
+        within WriteFault k j same all given is = (is.1, ap (λ (n : ℕ). replies (take n all)) same ∙ is.3)
+        within DiskFault k j same all given is = ⊎_elim (λ s. whole k j all given s is) (λ s. let m = more k all in (m.0, ap (λ (n : ℕ). replies (take n all)) s ∙ m.1 ∙ ap (λ (l : List ℕ). l ++ m.0) (sym is))) same
+
+-- ---- the session by code
+
+module _ (code : Image) (items : StoreState → List ℕ → List (SessionItem StoreState)) (m0 m : Moment) where
+  -- a line more is answered
+  pub line_answered : (lines : List (List ℕ)) (line : List ℕ) (new : Moment) → Answered code (items_from items (state_of m0.store) lines) m0 m
+      → Answered code (items_shown items (state_after (state_of m0.store) (items_from items (state_of m0.store) lines)) line) m new → Answered code (items_from items (state_of m0.store) (lines ++ line ∷ [])) m0 new
+  line_answered lines line new was more =
+      let start = state_of m0.store in
+      let xs = items_from items start lines in
+      subst (λ (is : List (SessionItem StoreState)). Answered code is m0 new) (sym (one_more items start lines line)) (answered_then code xs m0 m was (items_shown items (state_after start xs) line) new more)
+
+  -- it stops in a line
+  pub line_stopped : (input old_input : SourceView) (served : Served) (lines rest : List (List ℕ)) (line bytes : List ℕ) (new : Moment) → IsToldAs input.left bytes → lines_of bytes ≡ (lines ++ line ∷ []) ++ rest
+      → Answered code (items_from items (state_of m0.store) lines) m0 m
+      → Stopped code served (items_shown items (state_after (state_of m0.store) (items_from items (state_of m0.store) lines)) line) m new
+      → Ends items (stands_where code m0.store) (state_of m0.store) (record { input = input; output = m0.output; disk = m0.disk }) (record { input = old_input; output = new.output; disk = new.disk }) served
+  line_stopped input now served lines rest line bytes new told all was stop =
+      let start = state_of m0.store in
+      let xs = items_from items start lines in
+      let ys = items_shown items (state_after start xs) line in
+      let more = items_from items (state_after start (items_from items start (lines ++ line ∷ []))) rest in
+      let same : items_from items start (lines_of bytes) ≡ (xs ++ ys) ++ more =
+      ap (items_from items start) all ∙ items_from-append items start (lines ++ line ∷ []) rest ∙ ap (λ (is : List (SessionItem StoreState)). is ++ more) (one_more items start lines line) in
+      whole served (subst (λ (is : List (SessionItem StoreState)). Stopped code served is m0 new) (sym same) (stopped_then code xs m0 m was ys more served new stop))
+    where
+      speaks : (served : Served) → HasFault served m0 new → SpeaksOf served input now (lines_of bytes)
+      speaks WriteFault fault = record { input = bytes; all = told; is = refl }
+      speaks DiskFault fault = record { input = bytes; all = told; is = refl }
+      speaks Memory fault = record { input = bytes; all = told; is = refl }
+      speaks Done fault = absurd fault
+      speaks ReadFault fault = absurd fault
+      speaks Long fault = absurd fault
+
+      caused : (served : Served) → HasFault served m0 new → IsCause served (record { input = input; output = m0.output; disk = m0.disk }) (record { input = now; output = new.output; disk = new.disk })
+      caused WriteFault fault = fault.0.rose
+      caused DiskFault fault = fault.1.rose
+      caused Memory fault = tt
+      caused Done fault = absurd fault
+      caused ReadFault fault = absurd fault
+      caused Long fault = absurd fault
+
+      whole : (served : Served) → Stopped code served (items_from items (state_of m0.store) (lines_of bytes)) m0 new
+          → Ends items (stands_where code m0.store) (state_of m0.store) (record { input = input; output = m0.output; disk = m0.disk }) (record { input = now; output = new.output; disk = new.disk }) served
+      whole served stop = record {
+        lines = lines_of bytes;
+        of_input = speaks served stop.cause;
+        k = stop.k;
+        answered = stop.answered;
+        given = stop.given;
+        written = stop.written;
+        given_is = stop.given_is;
+        stored = stop.stored;
+        since = weaker m0.disk new.disk _ _ stop.since (λ c some. inr some);
+        cause = caused served stop.cause;
+      }
+
+-- ---- a session's part, said of its start
+
+-- what a part answers on the store at hand, said of the first store and the lines so far
+pub line_here : (code : Image) (limits : Limits) (m0 m : Moment) (lines : List (List ℕ)) (full : List ℕ) (new : Moment) (result : Result ⊤ Served)
+    → Answered code (items_from (items_of_line (by_machine code limits (area_of_store m0.store))) (state_of m0.store) lines) m0 m
+    → Answers code (items_shown (items_of_line (by_machine code limits (area_of_store m.store))) (state_of m.store) full) m new result
+    → Answers code (items_shown (items_of_line (by_machine code limits (area_of_store m0.store)))
+    (state_after (state_of m0.store) (items_from (items_of_line (by_machine code limits (area_of_store m0.store))) (state_of m0.store) lines)) full) m new result
+line_here code limits m0 m lines full new result was answers =
+    subst (λ (s : StoreState). Answers code (items_shown (items_of_line (by_machine code limits (area_of_store m0.store))) s full) m new result) was.state
+    (subst (λ (a : Option ℕ). Answers code (items_shown (items_of_line (by_machine code limits a)) (state_of m.store) full) m new result) was.area answers)
+
+-- memory runs out before the first line
+pub gives_up_first : (code : Image) (items : StoreState → List ℕ → List (SessionItem StoreState)) (store : Store) (input : SourceView) (output : SinkView) (disk : DiskView) → IsServing code (record { store = store; output = output; disk = disk })
+    → Ends items (stands_where code store) (state_of store) (record { input = input; output = output; disk = disk }) (record { input = input; output = output; disk = disk }) Memory
+gives_up_first code items store input output disk serving =
+    let devices : Devices = record { input = input; output = output; disk = disk } in
+    let at = reached input.left input.left false 0 (reads_none input.left input.left false 0 refl refl refl) (λ e. absurd (cc e)) in
+    gives_up items (stands_where code store) (state_of store) devices devices at.input [] (items_from items (state_of store) (lines_of at.input)) at.is refl
+    (gives_none output.written) (record { later = omega arith; each = λ t c le left. inl left }) (stands_through (program_of code) store disk serving.stands serving.at_rest)
+
+module _ (code : Image) (items : StoreState → List ℕ → List (SessionItem StoreState)) (m0 m : Moment) where
+  -- it ends before a line
+  pub stopped_here : (old_input new_input : SourceView) (served : Served) (from now : LineReader) (read : Reading old_input.left from.pending from.ended from.handed) → (from.ended ≡ true → IsEnd from.pending) → IsStop from now served → old_input.faults ≤ from.faults
+      → now.left ≡ new_input.left → now.faults ≡ new_input.faults → HasTaken old_input new_input now.taken → Answered code (items_from items (state_of m0.store) read.lines) m0 m
+      → Ends items (stands_where code m0.store) (state_of m0.store) (record { input = old_input; output = m0.output; disk = m0.disk }) (record { input = new_input; output = m.output; disk = m.disk }) served
+  stopped_here old_input new_input served from now read ends stop later left faults has was =
+      stopped items (stands_where code m0.store) (state_of m0.store) (record { input = old_input; output = m0.output; disk = m0.disk }) (record { input = new_input; output = m.output; disk = m.disk })
+      served from now read ends stop later left faults has was.given was.since
+      (stands_now (program_of code) m.store m.disk (area_of_store m0.store) (state_after (state_of m0.store) (items_from items (state_of m0.store) read.lines)) was.area was.state was.serving.stands was.serving.at_rest)
+
+  -- a line's stop, whatever follows
+  pub stop_there : (served : Served) (lines : List (List ℕ)) (line : List ℕ) (new : Moment) → Answered code (items_from items (state_of m0.store) lines) m0 m
+      → Stopped code served (items_shown items (state_after (state_of m0.store) (items_from items (state_of m0.store) lines)) line) m new
+      → Stopped code served ((items_from items (state_of m0.store) lines ++ items_shown items (state_after (state_of m0.store) (items_from items (state_of m0.store) lines)) line) ++ []) m0 new
+  stop_there served lines line new was stop =
+      let xs = items_from items (state_of m0.store) lines in
+      stopped_then code xs m0 m was (items_shown items (state_after (state_of m0.store) xs) line) [] served new stop
+
+-- what a stop says of faults
+pub record Counts (served : Served) (old new : Moment) : Type 0 where
+  pub later_write : old.output.faults ≤ new.output.faults
+  pub later_disk : old.disk.faults ≤ new.disk.faults
+  pub calm : served ≢ WriteFault → served ≢ DiskFault → (new.output.faults ≡ old.output.faults) × (new.disk.faults ≡ old.disk.faults)
+  pub once : new.output.faults + new.disk.faults ≤ old.output.faults + old.disk.faults + 1
+
+pub stop_counts : (served : Served) (old new : Moment) → HasFault served old new → Counts served old new
+stop_counts WriteFault old new fault = record {
+  later_write = fault.0.later;
+  later_disk = let e = fault.1 in omega (arith, e);
+  calm = λ other more. absurd (other refl);
+  once = let a = fault.0.once in let e = fault.1 in omega (arith, a, e);
+}
+stop_counts DiskFault old new fault = record {
+  later_write = let e = fault.0 in omega (arith, e);
+  later_disk = fault.1.later;
+  calm = λ other more. absurd (more refl);
+  once = let a = fault.1.once in let e = fault.0 in omega (arith, a, e);
+}
+stop_counts Memory old new fault = record {
+  later_write = let e = fault.0 in omega (arith, e);
+  later_disk = let e = fault.1 in omega (arith, e);
+  calm = λ other more. fault;
+  once = let a = fault.0 in let e = fault.1 in omega (arith, a, e);
+}
+stop_counts Done old new fault = absurd fault
+stop_counts ReadFault old new fault = absurd fault
+stop_counts Long old new fault = absurd fault

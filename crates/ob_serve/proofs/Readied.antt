@@ -1,9 +1,6 @@
 -- From what a request comes to, to what is made ready for its line.
 use Rattle.std.proofs.Common.{◌≡◌, ℕ, ℤ, ◌+◌, ◌<◌, ◌≤◌, Bool, true, false, List, map, length, Option, Some, None, refl, sym, ◌∙◌, ap, subst, arith}
 use Rattle.std.specs.Prelude.{Result, Ok, Err, IfOk, nat_le}
-use Rattle.std.proofs.lemmas.Bool.Decides.{nat_tests}
-use Rattle.ob_base.specs.Limits.{longest_line}
-use Rattle.ob_base.specs.declared.cause.Memory.{Memory}
 use Rattle.ob_table.specs.Tables.{ClassTable}
 use Rattle.ob_code.specs.declared.image.Image.{Image}
 use Rattle.ob_heap_spec.specs.Objects.{Object}
@@ -32,16 +29,11 @@ use Rattle.ob_wire.specs.Meanings.{answer_of}
 use Rattle.ob_wire.specs.Replies.{reply_line}
 use Rattle.ob_wire.specs.declared.reply.Answer.{Answer}
 use Rattle.ob_wire.specs.declared.reply.Reply.{Reply}
-use Rattle.ob_wire.specs.Reading.{value_of}
 use Rattle.ob_wire.specs.declared.refusal.Refusal.{Refusal}
-use Rattle.ob_wire.specs.declared.refusal.Refusal.TheVariants.{LongLine}
-use Rattle.ob_wire.specs.declared.request.Request.{Request}
-use Rattle.ob_serve.specs.Session.{SessionItem, is_blank_line}
-use Rattle.ob_serve.specs.Asked.{asked_by_value}
-use Rattle.ob_serve.specs.Items.{Service, by_machine, settled_item, invoked_item, item_of_asked}
-use Rattle.ob_serve.specs.Stops.{IsFull, LeadsOn, GivesItem, Readies, refusal_line, room_line}
+use Rattle.ob_serve.specs.Session.{SessionItem}
+use Rattle.ob_serve.specs.Items.{settled_item, invoked_item, refused_item}
+use Rattle.ob_serve.specs.Stops.{LeadsOn, GivesItem, IsOfDelta, refusal_line, room_line}
 use Rattle.ob_serve.specs.declared.answering.Ready.{Ready}
-use Rattle.ob_serve.proofs.Asking.{asks_too_long, asks_by_value}
 
 abbrev holding : List Object → List (HandleName × Handle) → Content
 holding objects handles = record { objects = objects; handles = handles }
@@ -76,9 +68,6 @@ comes_to_rest table goes_wrong base answer delta comes rests = absurd rests
 
 -- ---- what was made ready
 
-long_shows : (line : List ℕ) → longest_line < length line → is_blank_line line ≡ false
-long_shows line long = let over : nat_le (length line) longest_line ≡ false = grind (arith, nat_tests) in rw over refl
-
 -- what preparing a delta answered
 pub prepared_by : (code image : Image) (store : Store) (delta : Delta) (r : Result Prepared PrepareError) (prepared : Prepared) → image ≡ code → r ≡ Ok prepared
     → Prepares (program_of image) store delta r → (delta_prepared prepared ≡ delta) × IsPrepared (program_of code) store prepared
@@ -95,16 +84,16 @@ room_by code image store delta r need size e same is lacks prepares =
 
 -- ---- the item of a request
 
-module _ (code : Image) (fuel : ℕ) (store : Store) where
-  -- the items of this store
-  abbrev pub at_hand : Service
-  at_hand = by_machine code fuel (area_of_store store)
+module _ (code : Image) (store : Store) where
+  -- what a request comes to on this store
+  abbrev pub item_here : ℤ → Invocation → SessionItem StoreState
+  item_here id i = invoked_item (program_of code) (area_of_store store) (state_of store) id i
 
   -- it is done, and what it changed was made ready
   pub ready_item : (id : ℤ) (i : Invocation) (reply : Reply) (delta : Delta) (ready : Ready) (prepared : Prepared)
       → IsStorable (table_of_image code) → IsStoreAtRest (table_of_image code) (content_of (kept_of store)) → KeepsStoreAtRest (table_of_image code) i
       → reply.id ≡ Some id → ComesTo i (kept_of store) reply.answer delta → delta_prepared prepared ≡ delta → IsPrepared (program_of code) store prepared
-      → ready.reply.items ≡ reply_line reply → ready.prepared ≡ Some prepared → GivesItem (program_of code) store (invoked_item at_hand (state_of store) id i) ready
+      → ready.reply.items ≡ reply_line reply → ready.prepared ≡ Some prepared → GivesItem (program_of code) store (item_here id i) ready
   ready_item id (invoked i) reply delta ready prepared storable before rests same comes is prepares bytes some =
       let leads = prepared_settles (program_of code) store prepared prepares in
       let content : content_with (kept_of store) (delta_prepared prepared) ≡ i.content = ap (content_with (kept_of store)) is ∙ comes_to_content i (kept_of store) reply.answer delta comes in
@@ -127,7 +116,7 @@ module _ (code : Image) (fuel : ℕ) (store : Store) where
   -- the store has no room for it
   pub lacking_item : (id : ℤ) (i : Invocation) (answer : Answer) (delta : Delta) (ready : Ready) (need size : ℕ) → ComesTo i (kept_of store) answer delta
       → settled (program_of code) (area_of_store store) (state_of store) (content_with (kept_of store) delta) ≡ Err (need, size)
-      → ready.reply.items ≡ room_line id need size → ready.prepared ≡ None → GivesItem (program_of code) store (invoked_item at_hand (state_of store) id i) ready
+      → ready.reply.items ≡ room_line id need size → ready.prepared ≡ None → GivesItem (program_of code) store (item_here id i) ready
   lacking_item id (invoked i) answer delta ready need size comes lacks bytes none =
       let settles : settled (program_of code) (area_of_store store) (state_of store) i.content ≡ Err (need, size) =
       ap (settled (program_of code) (area_of_store store) (state_of store)) (sym (comes_to_content i (kept_of store) answer delta comes)) ∙ lacks in
@@ -135,51 +124,23 @@ module _ (code : Image) (fuel : ℕ) (store : Store) where
       (record { reply = bytes; next = subst (LeadsOn (program_of code) store (state_of store)) (sym none) refl })
   lacking_item id goes_wrong answer delta ready need size comes lacks bytes none = absurd comes
 
-  -- ---- from what a line asks to its item
+-- the item of a line that is refused
+pub refused_gives : (code : Image) (store : Store) (refusal : Refusal) (ready : Ready) → (ready.reply.items ≡ refusal_line refusal) × (ready.prepared ≡ None)
+    → GivesItem (program_of code) store (refused_item (state_of store) refusal) ready
+refused_gives code store refusal ready is = record { reply = is.0; next = subst (LeadsOn (program_of code) store (state_of store)) (sym is.1) refl }
 
-  -- what was made ready is that of what a line is known to ask
-  pub given_by : (asked known : Result Request Refusal) (r : Result Ready Memory) → asked ≡ known
-      → IfOk r (λ ready. GivesItem (program_of code) store (item_of_asked at_hand (state_of store) known) ready)
-      → IfOk r (λ ready. GivesItem (program_of code) store (item_of_asked at_hand (state_of store) asked) ready)
-  given_by asked known r same given =
-      subst (λ (a : Result Request Refusal). IfOk r (λ ready. GivesItem (program_of code) store (item_of_asked at_hand (state_of store) a) ready)) (sym same) given
+-- what was made ready is of its delta
+pub is_of_delta : (code : Image) (store : Store) (delta : Delta) (ready : Ready) (prepared : Prepared) → delta_prepared prepared ≡ delta → IsPrepared (program_of code) store prepared → ready.prepared ≡ Some prepared
+    → IsOfDelta (program_of code) store delta ready.prepared
+is_of_delta code store delta ready prepared is prepares some =
+    let leads = prepared_settles (program_of code) store prepared prepares in
+    subst (IsOfDelta (program_of code) store delta) (sym some)
+    (is, leads.0, ap (λ (d : Delta). settled (program_of code) (area_of_store store) (state_of store) (content_with (kept_of store) d)) (sym is) ∙ leads.1)
 
-  refused_item_of : (refusal : Refusal) (ready : Ready) → (ready.reply.items ≡ refusal_line refusal) × (ready.prepared ≡ None)
-      → GivesItem (program_of code) store (item_of_asked at_hand (state_of store) (Err refusal)) ready
-  refused_item_of refusal ready is = record { reply = is.0; next = subst (LeadsOn (program_of code) store (state_of store)) (sym is.1) refl }
+pub lacks_for_delta : (code : Image) (store : Store) (delta : Delta) (need size : ℕ) (ready : Ready) → settled (program_of code) (area_of_store store) (state_of store) (content_with (kept_of store) delta) ≡ Err (need, size) → ready.prepared ≡ None
+    → IsOfDelta (program_of code) store delta ready.prepared
+lacks_for_delta code store delta need size ready lacks none = subst (IsOfDelta (program_of code) store delta) (sym none) ((need, size), lacks)
 
-  refused_as : (refusal : Refusal) (r : Result Ready Memory) → IfOk r (λ ready. (ready.reply.items ≡ refusal_line refusal) × (ready.prepared ≡ None))
-      → IfOk r (λ ready. GivesItem (program_of code) store (item_of_asked at_hand (state_of store) (Err refusal)) ready)
-  refused_as refusal (Ok ready) is = refused_item_of refusal ready is
-  refused_as refusal (Err e) is = tt
-
-  -- that of a line that is refused
-  pub refused_by : (asked : Result Request Refusal) (refusal : Refusal) (r : Result Ready Memory) → asked ≡ Err refusal
-      → IfOk r (λ ready. (ready.reply.items ≡ refusal_line refusal) × (ready.prepared ≡ None))
-      → IfOk r (λ ready. GivesItem (program_of code) store (item_of_asked at_hand (state_of store) asked) ready)
-  refused_by asked refusal r same is = given_by asked (Err refusal) r same (refused_as refusal r is)
-
-  -- a line that is too long is made ready for
-  pub long_readies : (ready : Ready) (is_long : Bool) (line full : List ℕ) → is_long ≡ true → (ready.reply.items ≡ refusal_line LongLine) × (ready.prepared ≡ None)
-      → IsFull is_long line full → Readies (program_of code) at_hand store full (Some ready)
-  long_readies ready false line full is given long = absurd cc
-  long_readies ready true line full is given long = (
-    long_shows full long,
-    subst (λ (a : Result Request Refusal). GivesItem (program_of code) store (item_of_asked at_hand (state_of store) a) ready) (sym (asks_too_long full long)) (refused_item_of LongLine ready given),
-  )
-
-  -- and so is one that isn't
-  pub line_readies : (ready : Ready) (is_long : Bool) (line full : List ℕ) → is_long ≡ false → is_blank_line line ≡ false
-      → GivesItem (program_of code) store (item_of_asked at_hand (state_of store) (asked_by_value (value_of line))) ready → IsFull is_long line full
-      → Readies (program_of code) at_hand store full (Some ready)
-  line_readies ready true line full is shows given whole = absurd cc
-  line_readies ready false line full is shows given whole =
-      subst (λ (l : List ℕ). Readies (program_of code) at_hand store l (Some ready)) (sym whole.0) (
-        shows,
-        subst (λ (a : Result Request Refusal). GivesItem (program_of code) store (item_of_asked at_hand (state_of store) a) ready) (sym (asks_by_value line whole.1)) given,
-      )
-
-  -- a blank one isn't
-  pub blank_passes : (is_long : Bool) (line full : List ℕ) → is_long ≡ false → is_blank_line line ≡ true → IsFull is_long line full → Readies (program_of code) at_hand store full None
-  blank_passes true line full is blank whole = absurd cc
-  blank_passes false line full is blank whole = ap is_blank_line whole.0 ∙ blank
+pub both_ok : {T E : Type 0} (r : Result T E) (P Q : T → Type 0) → IfOk r P → IfOk r Q → IfOk r (λ x. P x × Q x)
+both_ok (Ok x) P Q p q = (p, q)
+both_ok (Err e) P Q p q = tt

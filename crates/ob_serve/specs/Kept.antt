@@ -1,5 +1,5 @@
 -- What each item of a session keeps (Coblenz et al., TOPLAS 42(3), 2020, for assets and their owners; the rest is this project's own).
-use Rattle.std.specs.Prelude.{◌≡◌, ℕ, Bool, true, false, ⊤, List, [], ◌∷◌, Option, Some, None, IsSome}
+use Rattle.std.specs.Prelude.{◌≡◌, ℕ, ◌<◌, Bool, true, false, ⊤, List, [], ◌∷◌, map, Option, Some, None, IsSome, Ok as Fine}
 use Rattle.ob_table.specs.Tables.{ClassTable}
 use Rattle.ob_table_spec.specs.Conditions.{IsClassTable}
 use Rattle.ob_code.specs.declared.image.Image.{Image}
@@ -13,8 +13,15 @@ use Rattle.ob_store_spec.specs.Stores.{StoreProgram, StoreState}
 use Rattle.ob_wire.specs.declared.reply.Answer.{Answer}
 use Rattle.ob_wire.specs.declared.reply.Answer.TheVariants.{Ok, Abort, Refused}
 use Rattle.ob_wire.specs.declared.reply.Reply.{Reply}
-use Rattle.ob_serve.specs.Session.{SessionItem, state_after}
-use Rattle.ob_serve.specs.Items.{by_source, by_machine, item_of, items_of}
+use Rattle.ob_wire.specs.Meanings.{request_of}
+use Rattle.ob_wire.specs.declared.request.Incoming.TheVariants.{Batch}
+use Rattle.ob_wire.specs.declared.request.Request.{Request}
+use Rattle.ob_store.specs.Stores.{program_of}
+use Rattle.ob_serve.specs.Asked.{asked_by}
+use Rattle.ob_serve.specs.Session.{SessionItem}
+use Rattle.ob_serve.specs.declared.limits.Limits.{Limits}
+use Rattle.ob_serve.specs.Batches.{commit_order, IsOrderOf}
+use Rattle.ob_serve.specs.Items.{by_source, by_machine, items_of}
 use Rattle.ob_serve.specs.Standing.{source_program}
 
 -- whether an answer says that a request was done: it was neither refused nor aborted
@@ -42,10 +49,22 @@ AreKept table before [] = ⊤
 AreKept table before (item ∷ items) = IsKept table before item × AreKept table item.after items
 
 -- each session of a program keeps this, on whatever store at rest it begins, on whatever lines, and wherever the store is kept
-abbrev pub KeepsSessions : StoreProgram → ℕ → Type 0
-KeepsSessions program fuel =
+abbrev pub KeepsSessions : StoreProgram → Image → Limits → Type 0
+KeepsSessions program code limits =
     (area : Option ℕ) (start : StoreState) (lines : List (List ℕ)) → IsStoreAtRest program.table start.content
-    → AreKept program.table start (items_of (by_source program fuel area) start lines)
+    → AreKept program.table start (items_of (by_source program code limits area) start lines)
+
+-- limits under which a batch ends: there is a lane, and a slice has a unit
+pub record AreLimits (limits : Limits) : Type 0 where
+  pub lanes : 0 < limits.lanes
+  pub slice : 0 < limits.slice
+
+-- Each batch that a line asks is answered in an order of its requests, on whatever store at rest, and wherever the store is kept: each
+-- once, and those of a client as they stand in it.
+abbrev pub KeepsOrders : StoreProgram → Image → Limits → Type 0
+KeepsOrders program code limits =
+    (area : Option ℕ) (s : StoreState) (line : List ℕ) (batch : List Request) → IsStoreAtRest program.table s.content
+    → asked_by line ≡ Fine (Batch batch) → IsOrderOf (map request_of batch) (commit_order (program_of code) code limits area s (map request_of batch))
 
 -- code may be served: its image is sound, and payloads can distinguish its contracts and states
 pub record IsServable (image : Image) : Type 0 where
@@ -59,7 +78,7 @@ pub record IsSoundFor (program : SilicaProgram) (image : Image) : Type 0 where
   pub table : IsClassTable program.table
 
 -- each session goes by the code as by the source meaning: the replies are the same, and so is the store after each
-abbrev pub GoesAsSource : SilicaProgram → Image → ℕ → Type 0
-GoesAsSource program image fuel =
+abbrev pub GoesAsSource : SilicaProgram → Image → Limits → Type 0
+GoesAsSource program image limits =
     (area : Option ℕ) (start : StoreState) (lines : List (List ℕ)) → IsStoreAtRest program.table start.content
-    → items_of (by_machine image fuel area) start lines ≡ items_of (by_source (source_program program.table image) fuel area) start lines
+    → items_of (by_machine image limits area) start lines ≡ items_of (by_source (source_program program.table image) image limits area) start lines

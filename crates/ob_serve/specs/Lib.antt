@@ -1,8 +1,12 @@
 pub mod Session
 pub mod Asked
+pub mod Settled
+pub mod Batches
 pub mod Items
 pub mod Kept
 pub mod Crash
 pub mod Served
 pub mod Standing
+pub mod Serving
+pub mod Turning
 pub mod Stops

@@ -9,7 +9,7 @@ use Rattle.ob_io.specs.Told.{TakesFrom, Gives, IsEnd}
 use Rattle.ob_io.specs.LinesOfText.{lines_of, whole_lines}
 use Rattle.ob_io.specs.Views.{SourceView, SinkView}
 use Rattle.ob_serve.specs.Crash.{AfterFirst, AfterSome}
-use Rattle.ob_serve.specs.Session.{SessionItem, session, requests_in, replies}
+use Rattle.ob_serve.specs.Session.{SessionItem, items_from, replies}
 use Rattle.ob_serve.specs.declared.serving.Served.{Served}
 use Rattle.ob_serve.specs.declared.serving.Served.TheVariants.{Done, ReadFault, WriteFault, DiskFault, Memory, Long}
 
@@ -91,15 +91,15 @@ IsCause Done old new = ⊤
 IsCause Long old new = ⊤
 IsCause Memory old new = ⊤
 
--- A session ended: the row of its status. `stands` says when bytes represent a store.
-pub record Ends {S : Type 0} (item : S → List ℕ → SessionItem S) (stands : S → List ℕ → Type 0) (start : S) (old new : Devices) (served : Served) : Type 0 where
+-- A session ended: the row of its status. `items` says the items of a line, and `stands` when bytes represent a store.
+pub record Ends {S : Type 0} (items : S → List ℕ → List (SessionItem S)) (stands : S → List ℕ → Type 0) (start : S) (old new : Devices) (served : Served) : Type 0 where
   pub lines : List (List ℕ)
   pub of_input : SpeaksOf served old.input new.input lines
   pub k : ℕ
-  pub answered : IsAnswered served (length (requests_in lines)) k
+  pub answered : IsAnswered served (length (items_from items start lines)) k
   pub given : List ℕ
   pub written : Gives old.output.written new.output.written given
-  pub given_is : IsGiven served (session item start (requests_in lines)) k given
-  pub stored : Throughout new.disk (AfterFirst item stands start (requests_in lines) (IsStored served k))
-  pub since : LeavesOnly old.disk new.disk (λ c. May old.disk c ⊎ AfterSome item stands start (requests_in lines) c)
+  pub given_is : IsGiven served (items_from items start lines) k given
+  pub stored : Throughout new.disk (AfterFirst stands start (items_from items start lines) (IsStored served k))
+  pub since : LeavesOnly old.disk new.disk (λ c. May old.disk c ⊎ AfterSome stands start (items_from items start lines) c)
   pub cause : IsCause served old new

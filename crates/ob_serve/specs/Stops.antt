@@ -18,8 +18,8 @@ use Rattle.ob_wire.specs.Replies.{reply_line}
 use Rattle.ob_wire.specs.declared.refusal.Refusal.{Refusal}
 use Rattle.ob_wire.specs.declared.reply.Answer.TheVariants.{Abort, Refused}
 use Rattle.ob_wire.specs.declared.reply.Cause.TheVariants.{Room}
-use Rattle.ob_serve.specs.Items.{Service, item_of}
-use Rattle.ob_serve.specs.Session.{SessionItem, bytes_of, is_blank_line}
+use Rattle.ob_heap.specs.declared.delta.Delta.{Delta}
+use Rattle.ob_serve.specs.Session.{SessionItem, bytes_of}
 use Rattle.ob_serve.specs.declared.answering.Ready.{Ready}
 use Rattle.ob_serve.specs.declared.serving.Served.{Served}
 use Rattle.ob_serve.specs.declared.serving.Served.TheVariants.{Done, ReadFault, WriteFault, DiskFault, Memory, Long}
@@ -112,7 +112,10 @@ pub record GivesItem (program : StoreProgram) (store : Store) (item : SessionIte
   pub reply : ready.reply.items ≡ bytes_of item.reply
   pub next : LeadsOn program store item.after ready.prepared
 
--- what is made ready for a line, if it gets a reply
-abbrev pub Readies : StoreProgram → Service → Store → List ℕ → Option Ready → Type 0
-Readies program service store line None = is_blank_line line ≡ true
-Readies program service store line (Some ready) = (is_blank_line line ≡ false) × GivesItem program store (item_of service (state_of store) line) ready
+-- What was made ready has this delta, and the store has room for what that leads to; or it has nothing to commit, since there is no room.
+abbrev pub IsOfDelta : StoreProgram → Store → Delta → Option Prepared → Type 0
+IsOfDelta program store delta (Some prepared) =
+    (delta_prepared prepared ≡ delta) × (after : StoreState)
+    × (settled program (area_of_store store) (state_of store) (content_with (kept_of store) delta) ≡ Ok after)
+IsOfDelta program store delta None =
+    (lack : ℕ × ℕ) × (settled program (area_of_store store) (state_of store) (content_with (kept_of store) delta) ≡ Err lack)

@@ -2,9 +2,15 @@
 #![tactic(auto)]
 
 mod answering;
+mod batches;
 mod committing;
 mod laws;
+mod limits;
+mod lines;
 mod serving;
+mod turns;
 
+pub use batches::{answer_turn, lanes_of};
 pub use laws::{lines_are_asked, sessions_are_kept};
+pub use limits::Limits;
 pub use serving::{Served, serve};

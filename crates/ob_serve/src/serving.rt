@@ -10,18 +10,18 @@ ghost use Rattle.ob_code_table.specs.ImageTables.{table_of_image};
 ghost use Rattle.ob_rest_spec.specs.AtRest.{IsStoreAtRest};
 ghost use Rattle.ob_silica_steps.specs.Configurations.{SilicaProgram};
 ghost use Rattle.ob_store.specs.Stores.{area_of_store, kept_of, program_of, state_of, StandsOn};
-ghost use Rattle.ob_serve.specs.Items.{by_machine, by_source, item_of};
-ghost use Rattle.ob_serve.specs.Kept.{IsServable, IsSoundFor};
+ghost use Rattle.ob_serve.specs.Items.{by_machine, by_source, items_of_line};
+ghost use Rattle.ob_serve.specs.Kept.{AreLimits, IsServable, IsSoundFor};
 ghost use Rattle.ob_serve.specs.Served.{Ends};
 ghost use Rattle.ob_serve.specs.Standing.{StandsForStore, source_program};
 ghost use Rattle.ob_serve.specs.Stops.{reader, ReadsLine, IsStop};
 
-use crate::answering::{Ready, make_ready};
-use crate::committing::{KeepError, keep};
-use ob_base::{Failed, Memory};
+use crate::limits::Limits;
+use crate::lines::answer_line;
+use ob_base::Memory;
 use ob_disk::Disk;
 use ob_exec_entries::Names;
-use ob_io::{Lines, Next, Sink, Source, write_all};
+use ob_io::{Lines, Next, Sink, Source};
 use ob_store::Store;
 use ob_verify::Verified;
 use std::alloc::Global;
@@ -75,15 +75,17 @@ fn serve_lines<S: Source, K: Sink, D: Disk>(
     alloc: Global,
     code: &Verified,
     store: &mut Store,
-    fuel: u32,
+    limits: Limits,
     input: &mut S,
     output: &mut K,
     disk: &mut D,
 ) -> Served
     requires servable { IsServable code.now }
+    requires limits { AreLimits limits }
+    requires few_lanes { limits.lanes ≤ 8 }
     requires at_rest { IsStoreAtRest (table_of_image code.now) (content_of (kept_of store.old)) }
     requires stands { StandsOn (program_of code.now) store.old (D.view disk.old) }
-    ensures ends { Ends (item_of (by_machine code.now fuel (area_of_store store.old)))
+    ensures ends { Ends (items_of_line (by_machine code.now limits (area_of_store store.old)))
         (StandsForStore (program_of code.now) (area_of_store store.old)) (state_of store.old)
         (record { input = S.view input.old; output = K.view output.old; disk = D.view disk.old })
         (record { input = S.view input.new; output = K.view output.new; disk = D.view disk.new })
@@ -116,41 +118,36 @@ fn serve_lines<S: Source, K: Sink, D: Disk>(
             Ok(is_long) => is_long,
             Err(served) => return served,
         };
-        let ready = match make_ready(alloc, code, &names, fuel, store, is_long, &line) {
-            Ok(Some(ready)) => ready,
-            Ok(None) => continue 'lines,
-            Err(Memory) => return Served::Memory,
-        };
-        let Ready { reply, prepared } = ready;
-        match keep(store, disk, prepared) {
+        match answer_line(
+            alloc, code, &names, limits, store, is_long, &line, output, disk,
+        ) {
             Ok(()) => {}
-            Err(KeepError::Memory) => return Served::Memory,
-            Err(KeepError::DiskFault) => return Served::DiskFault,
-        }
-        match write_all(output, &reply) {
-            Ok(()) => {}
-            Err(Failed) => return Served::WriteFault,
+            Err(served) => return served,
         }
     }
 }
 
-/// Answers the lines of the input, one after another, by sound code and with so many units of fuel for each, on a store at rest. For
-/// each line the reply is built and all memory is taken, then what it changes is committed, then the reply is written.
+/// Answers the lines of the input, one after another, by sound code and with these limits, on a store at rest. For each request the reply
+/// is built and all memory is taken, then what it changes is committed, then the reply is written. The requests of a batch are answered as
+/// they end in their lanes.
 pub fn serve<S: Source, K: Sink, D: Disk>(
     alloc: Global,
     code: &Verified,
     store: &mut Store,
-    fuel: u32,
+    limits: Limits,
     input: &mut S,
     output: &mut K,
     disk: &mut D,
 ) -> Served
     requires servable { IsServable code.now }
+    requires lanes { 1 ≤ limits.lanes }
+    requires most_lanes { limits.lanes ≤ 8 }
+    requires slice { 1 ≤ limits.slice }
     requires at_rest { IsStoreAtRest (table_of_image code.now) (content_of (kept_of store.old)) }
     requires stands { StandsOn (program_of code.now) store.old (D.view disk.old) }
 
     // The row of each status, by the code.
-    ensures by_code { Ends (item_of (by_machine code.now fuel (area_of_store store.old)))
+    ensures by_code { Ends (items_of_line (by_machine code.now limits (area_of_store store.old)))
         (StandsForStore (program_of code.now) (area_of_store store.old)) (state_of store.old)
         (record { input = S.view input.old; output = K.view output.old; disk = D.view disk.old })
         (record { input = S.view input.new; output = K.view output.new; disk = D.view disk.new })
@@ -158,7 +155,7 @@ pub fn serve<S: Source, K: Sink, D: Disk>(
 
     // The same by the source meaning of each program of which this is sound code.
     ensures ends { (program : SilicaProgram) → IsSoundFor program code.now →
-        Ends (item_of (by_source (source_program program.table code.now) fuel (area_of_store store.old)))
+        Ends (items_of_line (by_source (source_program program.table code.now) code.now limits (area_of_store store.old)))
         (StandsForStore (source_program program.table code.now) (area_of_store store.old)) (state_of store.old)
         (record { input = S.view input.old; output = K.view output.old; disk = D.view disk.old })
         (record { input = S.view input.new; output = K.view output.new; disk = D.view disk.new })
@@ -189,5 +186,5 @@ pub fn serve<S: Source, K: Sink, D: Disk>(
     ensures once { (S.view input.new).faults + (K.view output.new).faults + (D.view disk.new).faults
         ≤ (S.view input.old).faults + (K.view output.old).faults + (D.view disk.old).faults + 1 }
 {
-    serve_lines(alloc, code, store, fuel, input, output, disk)
+    serve_lines(alloc, code, store, limits, input, output, disk)
 }

@@ -63,6 +63,15 @@ pub fn index_owners(
     })
 }
 
+impl Prepared {
+    /// The delta that was made ready.
+    pub fn delta(&self) -> &Delta
+        ensures { result.now ≡ delta_prepared self.now }
+    {
+        &self.delta
+    }
+}
+
 impl Store {
     /// An empty store of a program, in memory.
     ///

@@ -1,3 +1,4 @@
 pub mod ReadingLemmas
 pub mod RequestLaws
+pub mod IncomingLaws
 pub mod ReplyTexts

@@ -1,25 +1,24 @@
 -- What the members of a map say of the object, and one argument after another.
 use Rattle.std.proofs.Common.{◌≡◌, ℕ, suc, ◌+◌, ◌<◌, ◌==◌, Bool, true, false, ◌&&◌, List, [], ◌∷◌, ◌++◌, length, map, drop, get_or, Option, Some, None, refl, sym, ◌∙◌, ap, append_assoc, arith}
-use Rattle.std.specs.Prelude.{String, string_bytes, codes, Result, Ok, Err, if◌then◌else◌, nat_le}
+use Rattle.std.specs.Prelude.{String, string_bytes, codes, if◌then◌else◌, nat_le}
 use Rattle.std.specs.declared.alloc.Global.{Global}
 use Rattle.std.specs.List.{list_any, list_all}
 use Rattle.std.proofs.Common.{Ordering, Less, Equal, Greater, cond}
 use Rattle.std.specs.Ordering.{is_eq, nat_cmp, match_ordering}
 use Rattle.std.specs.Cmp.Lexicographic.{slice_cmp}
 use Rattle.std.specs.Str.{IsUtf8, is_utf8, bytes_eq}
-use Rattle.std.proofs.lemmas.Str.{is_utf8-from_IsUtf8, IsUtf8-from_is_utf8}
+use Rattle.std.proofs.lemmas.Str.{IsUtf8-from_is_utf8}
 use Rattle.std.proofs.lemmas.Bool.Decides.{nat_tests}
 use Rattle.std.proofs.lemmas.List.{drop_more}
-use Rattle.std.proofs.lemmas.Slice.Eq.{bytes_eq-Decides}
 use Rattle.std.proofs.lemmas.Map.Text.{is_eq-slice_cmp}
 use Rattle.serde_json.specs.Data.{Data, object, Members, no_members, member}
 use Rattle.serde_json.specs.Find.{get_member, as_str, as_object}
-use Rattle.serde_json.specs.View.{view, members_of, members_view, items_view}
+use Rattle.serde_json.specs.View.{view, members_view, items_view}
 use Rattle.serde_json.specs.declared.value.Value.{Value}
 use Rattle.ob_base.specs.Names.{is_label}
 use Rattle.ob_base.specs.Limits.{longest_name}
 use Rattle.ob_base.specs.Optional.{◌>>=◌}
-use Rattle.ob_base.proofs.OptionalLemmas.{by_cases, both_true}
+use Rattle.ob_base.proofs.OptionalLemmas.{both_true}
 use Rattle.ob_wire.specs.Requests.{argument_of, arguments_of, handle_named, handle_argument}
 use Rattle.ob_wire.specs.Reading.{only_keys, has_only, is_one, has_one, ref_in}
 use Rattle.ob_wire.specs.declared.request.Arg.{Arg}

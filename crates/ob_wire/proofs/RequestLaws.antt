@@ -1,24 +1,19 @@
 -- What is worked out of a value is what the value asks.
-use Rattle.std.proofs.Common.{rules, subst, ◌≡◌, ℕ, ℤ, pos, negsuc, Bool, true, false, cond, List, [], ◌∷◌, Option, Some, None, refl, sym, ◌∙◌, ap, ◌⊎◌, inl, inr}
-use Rattle.std.specs.Prelude.{codes, is_some, ◌≤ℤ◌, Result, Ok, Err, IfOk, IsErrOf, if◌then◌else◌}
+use Rattle.std.proofs.Common.{rules, subst, ◌≡◌, ℕ, ℤ, pos, negsuc, Bool, true, false, List, Option, Some, None, refl, sym, ◌∙◌, ap, ◌⊎◌, inl, inr}
+use Rattle.std.specs.Prelude.{codes, is_some, ◌≤ℤ◌, if◌then◌else◌}
 use Rattle.std.specs.List.{list_any}
-use Rattle.std.specs.Str.{IsUtf8, is_utf8, bytes_eq}
-use Rattle.std.proofs.lemmas.Str.{is_utf8-from_IsUtf8, IsUtf8-from_is_utf8}
+use Rattle.std.specs.Str.{bytes_eq}
 use Rattle.std.proofs.lemmas.Slice.Eq.{bytes_eq-Decides}
 use Rattle.serde_json.specs.Data.{Data, null, boolean, number, string, array, object, Members, no_members, member, Items}
 use Rattle.serde_json.specs.Find.{get, get_member, as_str, as_array}
-use Rattle.serde_json.specs.Read.{read}
 use Rattle.ob_base.specs.Names.{is_label}
 use Rattle.ob_base.specs.Optional.{◌>>=◌, where_true}
 use Rattle.ob_base.proofs.OptionalLemmas.{bind_some, where_some, both_true, by_cases}
 use Rattle.ob_base.specs.declared.permission.Mode.{Mode}
 use Rattle.ob_base.specs.declared.permission.Mode.TheVariants.{Owned, Shared, Unowned}
-use Rattle.ob_wire.specs.Requests.{keys_of, row_of, word_of, word_of_mode, HasOnly, LabelAt, LabelIfAt, whole, IdAt, arguments_of, AreArgs, ModeAt, HasParts, IsRequest, IsJson, Asks, IsNoJson, AsksNothing}
-use Rattle.ob_wire.specs.Reading.{only_keys, has_only, found_if, text_at, label_at, label_if_at, from_zero, id_at, args_in, args_at, mode_named, mode_at, new_in, call_in, give_in, on_in, op_named, op_in, request_in, Answers, Reads}
-use Rattle.ob_wire.specs.declared.reading.Row.{Row}
+use Rattle.ob_wire.specs.Requests.{keys_of, row_of, word_of, word_of_mode, HasOnly, LabelAt, LabelIfAt, whole, IdAt, arguments_of, AreArgs, ModeAt, HasParts, IsRequest, Asks}
+use Rattle.ob_wire.specs.Reading.{only_keys, has_only, found_if, text_at, label_at, label_if_at, from_zero, id_at, args_in, args_at, mode_named, mode_at, new_in, call_in, give_in, on_in, op_named, op_in, request_in}
 use Rattle.ob_wire.specs.declared.reading.Row.TheVariants as row
-use Rattle.ob_wire.specs.declared.reading.WireError.{WireError}
-use Rattle.ob_wire.specs.declared.reading.WireError.TheVariants.{Json, Shape, Memory}
 use Rattle.ob_wire.specs.declared.request.Arg.{Arg}
 use Rattle.ob_wire.specs.declared.request.Request.{Request}
 use Rattle.ob_wire.specs.declared.request.Op.{Op}
@@ -83,7 +78,7 @@ as_str-is (string t) text e = cc
 as_str-is (array ds) text e = absurd cc
 as_str-is (object ms) text e = absurd cc
 
-as_array-is : (value : Data) (items : Items) → as_array value ≡ Some items → value ≡ array items
+pub as_array-is : (value : Data) (items : Items) → as_array value ≡ Some items → value ≡ array items
 as_array-is null items e = absurd cc
 as_array-is (boolean b) items e = absurd cc
 as_array-is (number n) items e = absurd cc
@@ -333,30 +328,3 @@ asks_one line a b p q =
     let x = request_again p.0 a p.2 in
     let y = request_again q.0 b q.2 in
     cc
-
--- what a value asks is what its line asks
-pub reads_value : (line : List ℕ) (value : Data) (r : Result Request WireError) → IsUtf8 line → read line ≡ Some value → Answers r (request_in value) → Reads r line
-reads_value line value (Ok request) utf8 is h = (value, record { utf8 = utf8; json = is }, request_there value request h)
-reads_value line value (Err Shape) utf8 is h = (value, record { utf8 = utf8; json = is }, λ request asks. let x = request_again value request asks in absurd cc)
-reads_value line value (Err Json) utf8 is h = absurd h
-reads_value line value (Err Memory) utf8 is h = tt
-
--- a line that isn't read has no value
-pub reads_none : (line : List ℕ) → (IsUtf8 line → read line ≡ None) → IsNoJson line
-reads_none line none value is = let x = none is.utf8 in let y = is.json in cc
-
-pub asked_by : (line : List ℕ) (r : Result Request WireError) → Reads r line → IfOk r (λ request. Asks line request)
-asked_by line (Ok request) h = h
-asked_by line (Err e) h = tt
-
-pub no_json_by : (line : List ℕ) (r : Result Request WireError) → Reads r line → IsErrOf r Json → IsNoJson line
-no_json_by line (Ok request) h is = absurd cc
-no_json_by line (Err Json) h is = h
-no_json_by line (Err Shape) h is = absurd cc
-no_json_by line (Err Memory) h is = absurd cc
-
-pub no_request_by : (line : List ℕ) (r : Result Request WireError) → Reads r line → IsErrOf r Shape → AsksNothing line
-no_request_by line (Ok request) h is = absurd cc
-no_request_by line (Err Json) h is = absurd cc
-no_request_by line (Err Shape) h is = h
-no_request_by line (Err Memory) h is = absurd cc

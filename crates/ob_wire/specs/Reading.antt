@@ -1,23 +1,24 @@
--- The request that a line asks, worked out.
-use Rattle.std.specs.Prelude.{ℕ, ◌≡◌, ℤ, pos, negsuc, Bool, true, false, ◌&&◌, List, [], ◌∷◌, Option, Some, None, is_some, Result, Ok, Err, codes, if◌then◌else◌}
+-- What a line asks, worked out.
+use Rattle.std.specs.Prelude.{ℕ, ◌≡◌, ℤ, pos, negsuc, Bool, true, false, ◌&&◌, List, [], ◌∷◌, length, Option, Some, None, is_some, Result, Ok, Err, codes, if◌then◌else◌}
 use Rattle.std.specs.List.{list_any}
 use Rattle.std.specs.Str.{is_utf8, bytes_eq}
-use Rattle.serde_json.specs.Data.{Data, Members, no_members, member}
+use Rattle.serde_json.specs.Data.{Data, Items, no_items, item, Members, no_members, member}
 use Rattle.serde_json.specs.Find.{get, as_str, as_array, as_object}
 use Rattle.serde_json.specs.Read.{read}
 use Rattle.ob_base.specs.Names.{is_label}
 use Rattle.ob_base.specs.Optional.{◌>>=◌, where_true}
 use Rattle.ob_base.specs.declared.permission.Mode.{Mode}
 use Rattle.ob_base.specs.declared.permission.Mode.TheVariants.{Owned, Shared, Unowned}
-use Rattle.ob_wire.specs.Requests.{keys_of, whole, arguments_of, IsNoJson, AsksNothing, Asks}
-use Rattle.ob_wire.specs.declared.reading.Row.{Row}
+use Rattle.ob_wire.specs.Requests.{keys_of, whole, arguments_of, is_batch_size, IsNoJson, AsksNothing, AsksIncoming, AsksWrongCount}
 use Rattle.ob_wire.specs.declared.reading.Row.TheVariants as row
 use Rattle.ob_wire.specs.declared.request.Arg.{Arg}
 use Rattle.ob_wire.specs.declared.request.Request.{Request}
+use Rattle.ob_wire.specs.declared.request.Incoming.{Incoming}
+use Rattle.ob_wire.specs.declared.request.Incoming.TheVariants.{One, Batch}
 use Rattle.ob_wire.specs.declared.request.Op.{Op}
 use Rattle.ob_wire.specs.declared.request.Op.TheVariants.{New, Call, Disown, Give, See, Owner}
 use Rattle.ob_wire.specs.declared.reading.WireError.{WireError}
-use Rattle.ob_wire.specs.declared.reading.WireError.TheVariants.{Json, Shape, Memory}
+use Rattle.ob_wire.specs.declared.reading.WireError.TheVariants.{Json, Shape, BatchSize, Memory}
 
 -- no member has another key
 abbrev pub only_keys : List (List ℕ) → Members → Bool
@@ -128,6 +129,42 @@ op_in value = text_at (codes "op") value >>= λ op. op_named op value
 abbrev pub request_in : Data → Option Request
 request_in value = id_at value >>= λ id. label_at (codes "who") value >>= λ who. op_in value >>= λ op. Some (record { id = id; who = who; op = op })
 
+-- the requests that the items of an array ask, if each asks one
+abbrev pub requests_in : Items → Option (List Request)
+requests_in no_items = Some []
+requests_in (item value items) = request_in value >>= λ request. requests_in items >>= λ requests. Some (request ∷ requests)
+
+-- a request that is found
+abbrev pub one_of : Option Request → Result Incoming WireError
+one_of None = Err Shape
+one_of (Some request) = Ok (One request)
+
+-- requests as a batch, if there may be so many
+abbrev pub batch_of : List Request → Result Incoming WireError
+batch_of requests = if is_batch_size (length requests) then Ok (Batch requests) else Err BatchSize
+
+-- requests that are found, as a batch
+abbrev pub batch_if : Option (List Request) → Result Incoming WireError
+batch_if None = Err Shape
+batch_if (Some requests) = batch_of requests
+
+-- the request that a value asks, or why it asks none
+abbrev pub one_in : Data → Result Incoming WireError
+one_in value = one_of (request_in value)
+
+-- the batch of an array's items, or why they are none
+abbrev pub batch_in : Items → Result Incoming WireError
+batch_in items = batch_if (requests_in items)
+
+-- what a value asks that is an array of these items, if it is one
+abbrev pub incoming_by : Option Items → Data → Result Incoming WireError
+incoming_by None value = one_in value
+incoming_by (Some items) value = batch_in items
+
+-- what a value asks, or why it asks nothing
+abbrev pub incoming_in : Data → Result Incoming WireError
+incoming_in value = incoming_by (as_array value) value
+
 -- the JSON value of a line
 abbrev pub value_of : List ℕ → Option Data
 value_of line = if is_utf8 line then read line else None
@@ -137,11 +174,21 @@ abbrev pub Answers : {A : Type 0} → Result A WireError → Option A → Type 0
 Answers (Ok x) found = found ≡ Some x
 Answers (Err Shape) found = found ≡ None
 Answers (Err Json) found = ⊥
+Answers (Err BatchSize) found = ⊥
 Answers (Err Memory) found = Unit {0}
 
--- a line is read: its value asks this, or nothing, or the line has none; or memory ran out
-abbrev pub Reads : Result Request WireError → List ℕ → Type 0
-Reads (Ok request) line = Asks line request
+-- a call gives what is worked out of a value, unless memory ran out
+abbrev pub Gives : Result Incoming WireError → Result Incoming WireError → Type 0
+Gives (Ok incoming) found = found ≡ Ok incoming
+Gives (Err Shape) found = found ≡ Err Shape
+Gives (Err BatchSize) found = found ≡ Err BatchSize
+Gives (Err Json) found = ⊥
+Gives (Err Memory) found = Unit {0}
+
+-- a line is read: its value asks this, or nothing, or too few or too many requests, or the line has none; or memory ran out
+abbrev pub Reads : Result Incoming WireError → List ℕ → Type 0
+Reads (Ok incoming) line = AsksIncoming line incoming
 Reads (Err Json) line = IsNoJson line
 Reads (Err Shape) line = AsksNothing line
+Reads (Err BatchSize) line = AsksWrongCount line
 Reads (Err Memory) line = Unit {0}

@@ -4,11 +4,12 @@ use Rattle.ob_invocation_spec.specs.Replies as told
 use Rattle.ob_wire.specs.declared.refusal.Refusal.{Refusal}
 use Rattle.ob_wire.specs.declared.refusal.Refusal.TheVariants as refusal
 
--- the number of a refusal; 4 is kept for batches of requests
+-- the number of a refusal
 abbrev pub number_of : Refusal → ℕ
 number_of refusal.LongLine = 1
 number_of refusal.Json = 2
 number_of refusal.Shape = 3
+number_of refusal.BatchSize = 4
 number_of refusal.NoHandle = 5
 number_of refusal.NoContract = 6
 number_of refusal.NotMain = 7

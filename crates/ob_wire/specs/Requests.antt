@@ -1,5 +1,5 @@
--- What a line asks: a relation between its JSON value (RFC 8259) and a request.
-use Rattle.std.specs.Prelude.{ℕ, ◌≡◌, ℤ, pos, ◌≤ℤ◌, List, [], ◌∷◌, Option, Some, None, is_some, option_and_then, codes, IsTrue, if◌then◌else◌}
+-- What a line asks: a relation between its JSON value (RFC 8259) and a request, or a batch of them.
+use Rattle.std.specs.Prelude.{ℕ, ◌≡◌, ℤ, pos, ◌≤ℤ◌, nat_le, ◌&&◌, Bool, List, [], ◌∷◌, length, Option, Some, None, is_some, option_and_then, codes, IsTrue, if◌then◌else◌}
 use Rattle.std.specs.List.{list_any}
 use Rattle.std.specs.Str.{IsUtf8, bytes_eq}
 use Rattle.serde_json.specs.Data.{Data, null, boolean, number, string, array, object, Items, no_items, item, Members, no_members, member}
@@ -13,6 +13,8 @@ use Rattle.ob_wire.specs.declared.reading.Row.TheVariants as row
 use Rattle.ob_wire.specs.declared.request.Arg.{Arg}
 use Rattle.ob_wire.specs.declared.request.Arg.TheVariants as arg
 use Rattle.ob_wire.specs.declared.request.Request.{Request}
+use Rattle.ob_wire.specs.declared.request.Incoming.{Incoming}
+use Rattle.ob_wire.specs.declared.request.Incoming.TheVariants.{One, Batch}
 use Rattle.ob_wire.specs.declared.request.Op.{Op}
 use Rattle.ob_wire.specs.declared.request.Op.TheVariants.{New, Call, Disown, Give, See, Owner}
 
@@ -137,6 +139,38 @@ pub record IsRequest (value : Data) (request : Request) : Type 0 where
   pub op : get (codes "op") value ≡ Some (string (word_of request.op))
   pub parts : HasParts value request.op
 
+-- the most requests of a batch
+abbrev pub most_requests : ℕ
+most_requests = 64
+
+-- whether a batch may have so many requests
+abbrev pub is_batch_size : ℕ → Bool
+is_batch_size count = nat_le 1 count && nat_le count most_requests
+
+-- The items of an array ask these requests, one after another.
+abbrev pub AreRequests : Items → List Request → Type 0
+AreRequests no_items [] = Unit {0}
+AreRequests no_items (request ∷ requests) = ⊥
+AreRequests (item value items) [] = ⊥
+AreRequests (item value items) (request ∷ requests) = IsRequest value request × AreRequests items requests
+
+-- A value is an array of these requests.
+abbrev pub IsRequestArray : Data → List Request → Type 0
+IsRequestArray value requests = (items : Items) × (value ≡ array items) × AreRequests items requests
+
+-- A value asks this: a request, or a batch.
+abbrev pub IsIncoming : Data → Incoming → Type 0
+IsIncoming value (One request) = IsRequest value request
+IsIncoming value (Batch requests) = IsRequestArray value requests × IsTrue (is_batch_size (length requests))
+
+-- A value is an array of requests, but of so many that it is no batch.
+abbrev pub IsWrongCount : Data → Type 0
+IsWrongCount value = (requests : List Request) × IsRequestArray value requests × ¬ (IsTrue (is_batch_size (length requests)))
+
+-- A value is neither a request nor an array of requests.
+abbrev pub IsNoRequest : Data → Type 0
+IsNoRequest value = ((request : Request) → ¬ (IsRequest value request)) × ((requests : List Request) → ¬ (IsRequestArray value requests))
+
 -- A line is the JSON text of this value.
 pub record IsJson (line : List ℕ) (value : Data) : Type 0 where
   pub utf8 : IsUtf8 line
@@ -146,10 +180,22 @@ pub record IsJson (line : List ℕ) (value : Data) : Type 0 where
 abbrev pub Asks : List ℕ → Request → Type 0
 Asks line request = (value : Data) × IsJson line value × IsRequest value request
 
+-- The same, of a request or a batch.
+abbrev pub AsksIncoming : List ℕ → Incoming → Type 0
+AsksIncoming line incoming = (value : Data) × IsJson line value × IsIncoming value incoming
+
+-- A line is the JSON text of a batch of these requests.
+abbrev pub AsksBatch : List ℕ → List Request → Type 0
+AsksBatch line requests = AsksIncoming line (Batch requests)
+
 -- A line is no JSON text.
 abbrev pub IsNoJson : List ℕ → Type 0
 IsNoJson line = (value : Data) → ¬ (IsJson line value)
 
 -- A line is the JSON text of a value that asks nothing.
 abbrev pub AsksNothing : List ℕ → Type 0
-AsksNothing line = (value : Data) × IsJson line value × ((request : Request) → ¬ (IsRequest value request))
+AsksNothing line = (value : Data) × IsJson line value × IsNoRequest value
+
+-- A line is the JSON text of an array of none or of too many requests.
+abbrev pub AsksWrongCount : List ℕ → Type 0
+AsksWrongCount line = (value : Data) × IsJson line value × IsWrongCount value

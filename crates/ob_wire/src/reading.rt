@@ -1,14 +1,13 @@
-//! The request of a line.
-ghost use Rattle.std.specs.Prelude.{◌≡◌, ℕ, List, Some, option_copied, is_some, IfOk, IsErrOf};
+//! The request that a JSON value asks.
+ghost use Rattle.std.specs.Prelude.{◌≡◌, option_copied, IfOk};
 ghost use Rattle.std.specs.List.{list_any, list_all};
 ghost use Rattle.std.specs.BTreeMap.{keys};
 ghost use Rattle.std.specs.String.{string_bytes};
 ghost use Rattle.std.specs.Str.{bytes_eq};
-ghost use Rattle.serde_json.specs.Data.{Data};
 ghost use Rattle.serde_json.specs.View.{view, items_view, number_view};
 ghost use Rattle.serde_json.specs.Find.{as_i64};
-ghost use Rattle.ob_wire.specs.Requests.{keys_of, number_argument, text_argument, handle_named, argument_of, arguments_of, Asks, AsksNothing, IsNoJson, IsRequest};
-ghost use Rattle.ob_wire.specs.Reading.{has_only, has_one, ref_in, label_at, label_if_at, id_at, args_at, mode_named, mode_at, new_in, call_in, give_in, on_in, op_in, request_in, Answers, Reads};
+ghost use Rattle.ob_wire.specs.Requests.{keys_of, number_argument, text_argument, handle_named, argument_of, arguments_of};
+ghost use Rattle.ob_wire.specs.Reading.{has_only, has_one, ref_in, label_at, label_if_at, id_at, args_at, mode_named, mode_at, new_in, call_in, give_in, on_in, op_in, request_in, Answers};
 
 use crate::{Arg, Op, Request};
 use ob_base::{Items, Label, Memory, Mode, NameError, Text};
@@ -20,8 +19,10 @@ use std::alloc::{AllocError, Global};
 pub enum WireError {
     /// It is no JSON.
     Json,
-    /// It is JSON, but no request.
+    /// It is JSON, but neither a request nor an array of requests.
     Shape,
+    /// It is an array of none or of more than `MOST_REQUESTS` requests.
+    BatchSize,
     /// Memory ran out.
     Memory,
 }
@@ -314,7 +315,7 @@ fn op_in(alloc: Global, value: &Value) -> Result<Op, WireError>
     }
 }
 
-fn request_in(alloc: Global, value: &Value) -> Result<Request, WireError>
+pub fn request_in(alloc: Global, value: &Value) -> Result<Request, WireError>
     ensures { Answers result (request_in (view value.now)) }
 {
     let id = id_at(value)?;
@@ -322,33 +323,3 @@ fn request_in(alloc: Global, value: &Value) -> Result<Request, WireError>
     let op = op_in(alloc, value)?;
     Ok(Request { id, who, op })
 }
-
-fn find_request(alloc: Global, line: &[u8]) -> Result<Request, WireError>
-    ensures { Reads result line.now }
-{
-    match Value::from_slice(alloc, line) {
-        Ok(value) => request_in(alloc, &value),
-        Err(error) => {
-            if error.is_memory() {
-                return Err(WireError::Memory);
-            }
-            Err(WireError::Json)
-        }
-    }
-}
-
-/// The request that a line asks.
-pub fn read_request(alloc: Global, line: &[u8]) -> Result<Request, WireError>
-    ensures asked { IfOk result (λ request. Asks line.now request) }
-    ensures no_json { IsErrOf result WireError.Json → IsNoJson line.now }
-    ensures no_request { IsErrOf result WireError.Shape → AsksNothing line.now }
-{
-    find_request(alloc, line)
-}
-
-/// Laws: what a value asks can be worked out of it, and a line asks one request at most.
-pub fn requests_are_asked()
-    ensures worked_out { (value : Data) (request : Request) → request_in value ≡ Some request → IsRequest value request }
-    ensures found { (value : Data) (request : Request) → IsRequest value request → request_in value ≡ Some request }
-    ensures one { (line : List ℕ) (first second : Request) → Asks line first → Asks line second → first ≡ second }
-{}

@@ -9,8 +9,10 @@ pub enum Refusal {
     LongLine,
     /// It is no JSON.
     Json,
-    /// It is JSON, but no request.
+    /// It is JSON, but neither a request nor an array of requests.
     Shape,
+    /// It is an array of none or of more than `MOST_REQUESTS` requests.
+    BatchSize,
     /// A name is that of no handle of the client.
     NoHandle,
     /// There is no contract or interface of that name.
@@ -46,6 +48,7 @@ impl Refusal {
             Refusal::LongLine => 1,
             Refusal::Json => 2,
             Refusal::Shape => 3,
+            Refusal::BatchSize => 4,
             Refusal::NoHandle => 5,
             Refusal::NoContract => 6,
             Refusal::NotMain => 7,

@@ -5,6 +5,15 @@ ghost use Rattle.ob_wire.specs.declared.request.Op.TheVariants.{New, Call, Give}
 use ob_base::{Duplicate, Items, Label, Memory, Mode, Text, both, copy_items, copy_option};
 use std::alloc::Global;
 
+/// What a line asks.
+#[derive(Drop)]
+pub enum Incoming {
+    /// One request.
+    One(Request),
+    /// A batch of 1 to `MOST_REQUESTS` requests, in their order.
+    Batch(Items<Request>),
+}
+
 /// A request.
 #[derive(Drop)]
 pub struct Request {

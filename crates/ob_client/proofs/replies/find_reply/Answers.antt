@@ -1,4 +1,4 @@
-use Rattle.ob_wire.proofs.RequestLaws.{reads_none}
+use Rattle.ob_wire.proofs.IncomingLaws.{reads_none}
 use Rattle.ob_client.proofs.ReplyLines.{reads_value}
 use Rattle.ob_client.proofs.replies.find_reply.Goals as goal
 

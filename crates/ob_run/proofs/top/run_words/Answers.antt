@@ -4,10 +4,33 @@ use Rattle.ob_words.specs.Asked.{asked_of}
 use Rattle.ob_words.specs.AskedView.{asked_view}
 use Rattle.ob_run.specs.Outside.{told}
 use Rattle.ob_run.specs.FileAsks.{file_asked}
+use Rattle.ob_run.proofs.LimitLemmas.{in_range}
 use Rattle.ob_run.proofs.TopLemmas.{asks_nothing, treated, treated_own}
 use Rattle.ob_run.specs.Attaching.{store_asked}
 use Rattle.ob_run.proofs.AttachingLemmas.{uses_nothing, uses_asked}
 use Rattle.ob_run.proofs.top.run_words.Goals as goal
+
+-- ---- the settings are in their ranges
+
+pub treat-requires-clause-lanes : goal.treat-requires-clause-lanes
+treat-requires-clause-lanes g c = (in_range (map string_bytes c.args.words.now) (asked_view c.in-Ok.asked) c.in-Ok.ensures.ok).lanes
+
+pub treat-requires-clause-most_lanes : goal.treat-requires-clause-most_lanes
+treat-requires-clause-most_lanes g c = (in_range (map string_bytes c.args.words.now) (asked_view c.in-Ok.asked) c.in-Ok.ensures.ok).most_lanes
+
+pub treat-requires-clause-slice : goal.treat-requires-clause-slice
+treat-requires-clause-slice g c = (in_range (map string_bytes c.args.words.now) (asked_view c.in-Ok.asked) c.in-Ok.ensures.ok).slice
+
+pub treat-exit-requires-clause-lanes : goal.treat-exit-requires-clause-lanes
+treat-exit-requires-clause-lanes g c = (in_range (map string_bytes c.args.words.now) (asked_view c.in-Ok.asked) c.in-Ok.ensures.ok).lanes
+
+pub treat-exit-requires-clause-most_lanes : goal.treat-exit-requires-clause-most_lanes
+treat-exit-requires-clause-most_lanes g c = (in_range (map string_bytes c.args.words.now) (asked_view c.in-Ok.asked) c.in-Ok.ensures.ok).most_lanes
+
+pub treat-exit-requires-clause-slice : goal.treat-exit-requires-clause-slice
+treat-exit-requires-clause-slice g c = (in_range (map string_bytes c.args.words.now) (asked_view c.in-Ok.asked) c.in-Ok.ensures.ok).slice
+
+-- ---- what the status says
 
 -- the text of a trial is the command's own
 pub returns-in_default-clause-status : goal.returns-in_default-clause-status

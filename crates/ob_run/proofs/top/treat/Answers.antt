@@ -14,11 +14,11 @@ returns-in-Check-clause-treats g c =
     told_alone (asked_view c.args.asked) c.args.text.now old new c.check_text.result (rw c.in-Check.is (c.check_text.ensures.tells c.in-Check.field-0.now)) refl (spared old.disk)
 
 pub returns-in-Serve-clause-treats : goal.returns-in-Serve-clause-treats
-returns-in-Serve-clause-treats g c = rw c.in-Serve.is (c.serve_text.ensures.treats c.in-Serve.field-0.now c.args.asked.limits.lanes c.args.asked.limits.slice)
+returns-in-Serve-clause-treats g c = rw c.in-Serve.is (c.serve_text.ensures.treats c.in-Serve.field-0.now)
 
 pub returns-in-ServeStored-clause-treats : goal.returns-in-ServeStored-clause-treats
 returns-in-ServeStored-clause-treats g c =
-    rw c.in-ServeStored.is (c.serve_text_stored.ensures.treats c.in-ServeStored.field-0.now c.args.asked.limits.lanes c.args.asked.limits.slice)
+    rw c.in-ServeStored.is (c.serve_text_stored.ensures.treats c.in-ServeStored.field-0.now)
 
 pub returns-in-Audit-clause-treats : goal.returns-in-Audit-clause-treats
 returns-in-Audit-clause-treats g c =

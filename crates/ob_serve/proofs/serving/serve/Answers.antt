@@ -6,5 +6,5 @@ use Rattle.ob_serve.proofs.serving.serve.Goals as goal
 
 pub returns-clause-ends : goal.returns-clause-ends
 returns-clause-ends g c = λ program sound.
-    ends_by_source program c.args.code.now c.args.fuel (area_of_store c.args.store.now) sound (state_of c.args.store.now) _ _ c.serve_lines.result
+    ends_by_source program c.args.code.now c.args.limits (area_of_store c.args.store.now) sound (state_of c.args.store.now) _ _ c.serve_lines.result
     (rests_by_source program c.args.code.now sound (content_of (kept_of c.args.store.now)) c.requires.at_rest) c.serve_lines.ensures.ends

@@ -1,0 +1,13 @@
+pub mod Maps
+pub mod SliceLemmas
+pub mod Standing
+pub mod TurnLemmas
+pub mod Answering
+pub mod Changing
+pub mod Committing
+pub mod Counting
+pub mod Idle
+pub mod Lending
+pub mod Commits
+pub mod Seen
+pub mod CallerLemmas

@@ -1,0 +1,4 @@
+pub mod Starting
+pub mod Committing
+pub mod Standing
+pub mod Seen

@@ -1,0 +1,14 @@
+//! Batches of requests in lanes: each lane runs a request in slices, and what has read something that a commit changes runs again.
+#![tactic(auto)]
+
+mod entry;
+mod going;
+mod lanes;
+mod laws;
+mod slicing;
+mod stale;
+mod starting;
+mod turning;
+
+pub use lanes::{Lanes, Turn};
+pub use laws::schedules_are_seen;

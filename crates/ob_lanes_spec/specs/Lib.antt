@@ -1,6 +1,0 @@
-pub mod Schedule
-pub mod Serial
-pub mod Turns
-pub mod Measures
-pub mod Conflicts
-pub mod Requests

@@ -1,5 +1,0 @@
-mod CompactText
-mod KindLemmas
-mod LengthLemmas
-mod CountLemmas
-mod HoldingLemmas

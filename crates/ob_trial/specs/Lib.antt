@@ -1,4 +1,0 @@
-pub mod Counting
-pub mod Trials
-pub mod Kinds
-pub mod Holding

@@ -1,4 +1,0 @@
-pub mod Blind
-pub mod Runs
-pub mod Requests
-pub mod Unowned
