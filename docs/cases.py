@@ -48,9 +48,9 @@ OF_PROGRAM = {
     b"explain": (b"text", b"answer", ()),
     b"cuts": (b"text", b"answer", ()),
     b"run": (b"input", b"output", (b"text", b"words", b"status")),
-    b"store": (b"runs", b"answer", (b"text", b"input", b"output")),
+    b"store": (b"runs", b"answer", (b"text", b"options", b"input", b"output")),
     b"told": (b"words", b"answer", (b"text", b"input")),
-    b"told-of-store": (b"runs", b"answer", (b"text", b"input", b"output")),
+    b"told-of-store": (b"runs", b"answer", (b"text", b"options", b"input", b"output")),
     b"whole": (b"text", b"answer", ()),
     b"fronts": (b"text", b"answer", ()),
     b"code": (b"text", b"answer", ()),
@@ -83,6 +83,8 @@ class Case:
     kind: bytes
     title: bytes
     parts: dict = field(default_factory=dict)
+    # Of each line of the input, how many lines of the output stand before it.
+    firsts: list = field(default_factory=list)
     # Its row in a table.
     row: bytes = b""
 
@@ -160,11 +162,19 @@ class Sheet:
         elif word == b"-":
             self.is_table = True
             self.cases.append(self.row_of(rest))
-        elif word in MARKS or word == b"|":
-            self.case.add(MARKS.get(word, self.part), self.line_of(rest))
+        elif word in MARKS:
+            self.take_marked(MARKS[word], self.line_of(rest))
+        elif word == b"|":
+            self.case.add(self.part, self.line_of(rest))
         else:
             self.part = word
             self.case.add(word, bytes_of(rest))
+
+    def take_marked(self, name, text):
+        """Lines of the input, or of the output. The replies to a line stand behind it."""
+        if name == b"input":
+            self.case.firsts += [len(lines_of(self.case.part(b"output")))] * len(lines_of(text))
+        self.case.add(name, text)
 
     def line_of(self, text):
         """A line of a part, with its newline if it doesn't say that it has none."""
@@ -180,7 +190,7 @@ class Sheet:
             raise Trouble("no answer of this row")
         whole = case.part(b"answer-front") + bytes_of(answer) + case.part(b"answer-back") if arrow else case.part(b"every")
         sides = {asked: case.part(b"front") + bytes_of(text) + case.part(b"back"), wanted: whole + b"\n"}
-        return Case(case.kind, case.title, {**case.parts, **sides}, row)
+        return Case(case.kind, case.title, {**case.parts, **sides}, case.firsts, row)
 
     def end_case(self):
         if self.case and not self.is_table:
@@ -394,7 +404,8 @@ class Shelf(Room):
 
     def __init__(self, program, folder, case):
         super().__init__(program, folder, case.part(b"text"))
-        self.input, self.awaited = lines_of(case.part(b"input")), lines_of(case.part(b"output"))
+        self.words = [b"serve", *case.part(b"options").split(), b"p", b"s"]
+        self.input, self.awaited, self.firsts = lines_of(case.part(b"input")), lines_of(case.part(b"output")), case.firsts
         self.ended = None
 
     def store(self):
@@ -420,29 +431,24 @@ class Shelf(Room):
             file.seek(offset)
             file.write(data)
 
-    def put_record(self, objects, handles):
-        """Puts a record of these objects and handles behind the image, as the only one."""
-        parts = [b"".join([len(part).to_bytes(4, "big"), *part]) for part in (objects, handles)]
-        payload = b"".join(parts)
-        record = b"\1" + len(payload).to_bytes(4, "big") + payload + b"\0"
+    def put_record(self, record):
+        """Puts a record behind the image, as the only one."""
         self.put(self.gate(), b"0x" + record.hex().encode())
 
     def hold(self, count):
-        """A record with one object of the first contract, which is disowned, and so many Unowned handles on it."""
-        of_a = b"\0\0\0\1a\0\0\0\6"
-        self.put_record([bytes(8) + b"\xff\2"], [of_a + b"h%05d" % number + b"\1\0\0\0\0\2" for number in range(count)])
+        self.put_record(questions.record_held(count))
 
     def fill(self, count, size):
         """A record with so many objects of the first contract, whose only field is a string of so many bytes."""
         string = b"\2" + size.to_bytes(4, "big") + size * b"a"
-        self.put_record([number.to_bytes(4, "big") + b"\0\0\0\0\xff\0" + string for number in range(count)], [])
+        self.put_record(questions.record_of([number.to_bytes(4, "big") + b"\0\0\0\0\xff\0" + string for number in range(count)], []))
 
     def serve(self, lines):
         """A run over the store, of these lines of the input: `2 to 5`, `none`, or all."""
         first, _, last = lines.partition(b" to ")
         begin, end = (0, None) if not lines else (0, 0) if lines == b"none" else (int(first) - 1, int(last))
-        ended = self.ended = self.run([b"serve", b"p", b"s"], b"".join(self.input[begin:end]))
-        awaited, written = self.awaited[begin:], lines_of(ended.output)
+        ended = self.ended = self.run(self.words, b"".join(self.input[begin:end]))
+        awaited, written = self.awaited[(self.firsts[begin:] or [0])[0] :], lines_of(ended.output)
         if ended.output == b"".join(awaited[: len(written)]):
             return b" " + ended.end() + b", lines: %d" % len(written)
         return b" " + ended.end() + b"".join(b" " + line.rstrip(b"\n") for line in written)

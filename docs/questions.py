@@ -13,6 +13,8 @@ AREA = 1 << 26
 LATER = 100
 # How many units of fuel a run of code has that doesn't say it, and a request.
 FUEL, FUEL_OF_REQUESTS = 1000, 100_000
+# The options of a command line, and what each is where it isn't there.
+LIMITS = {b"--fuel": FUEL_OF_REQUESTS, b"--lanes": 1, b"--slice": 1000}
 NO_STATE, OTHER_STATE, BITS = 32, 33, 34
 
 
@@ -596,6 +598,18 @@ class Outside:
         return " ".join(",".join(map(str, calls)) or "-" for calls in self.calls.values())
 
 
+class Options:
+    """The options of a command line: `--fuel 6 --lanes 2 --slice 10`."""
+
+    def __init__(self, case):
+        self.words = case.part(b"options").split()
+        self.given = dict(zip(self.words[::2], self.words[1::2]))
+
+    def numbers(self):
+        """The units of fuel of a request, how many lanes there are, and the units of a slice."""
+        return " ".join(str(int(self.given.get(word, default))) for word, default in LIMITS.items())
+
+
 class Ended:
     """How a run ended, and what it left."""
 
@@ -671,6 +685,19 @@ def lines_of(data):
     return re.findall(rb"[^\n]*\n|[^\n]+", data)
 
 
+def record_of(objects, handles):
+    """A record of these objects and handles, with a closed gate behind it."""
+    parts = [b"".join([len(part).to_bytes(4, "big"), *part]) for part in (objects, handles)]
+    payload = b"".join(parts)
+    return b"\1" + len(payload).to_bytes(4, "big") + payload + b"\0"
+
+
+def record_held(count):
+    """A record with one object of the first contract, which is disowned, and so many Unowned handles on it."""
+    of_a = b"\0\0\0\1a\0\0\0\6"
+    return record_of([bytes(8) + b"\xff\2"], [of_a + b"h%05d" % number + b"\1\0\0\0\0\2" for number in range(count)])
+
+
 def lines_shown(output, count):
     """How many of the awaited lines were written, or the lines themselves."""
     return b", lines: %d" % count if count is not None else b"".join(b" " + line for line in output.splitlines())
@@ -696,6 +723,7 @@ class Shelf:
 
     def __init__(self, case):
         self.case, self.input, self.awaited = case, lines_of(case.part(b"input")), lines_of(case.part(b"output"))
+        self.options = Options(case)
         self.fails, self.given, self.steps, self.faults, self.size = [], Outside(), [], 0, None
 
     def add(self, question, shown=None):
@@ -704,7 +732,7 @@ class Shelf:
     def serve(self, lines):
         first, _, last = lines.partition(" to ")
         begin, end = (0, None) if not lines else (0, 0) if lines == "none" else (int(first) - 1, int(last))
-        given, awaited = b"".join(self.input[begin:end]), b"".join(self.awaited[begin:])
+        given, awaited = b"".join(self.input[begin:end]), b"".join(self.awaited[(self.case.firsts[begin:] or [0])[0] :])
         # The faults of the disk are those of all runs: what this one adds to them is its own.
         self.add("faults", lambda answer: setattr(self, "faults", answer.number()))
         if self.size:
@@ -714,11 +742,12 @@ class Shelf:
 
     def serve_in_areas(self, given, awaited):
         """Only opens the store and serves the lines, in areas of the size that was told."""
-        self.add(f"serve {told(self.case.part(b'text'))} {told(given)}", lambda answer: setattr(self, "run", answer))
+        asked = f"serve {told(self.case.part(b'text'))} {self.options.numbers()} {told(given)}"
+        self.add(asked, lambda answer: setattr(self, "run", answer))
         self.add("faults", lambda answer: served_shown(self.run, awaited, answer.number() - self.faults))
 
     def run_words(self, given, awaited):
-        words = [b"serve", b"p", b"s"]
+        words = [b"serve", *self.options.words, b"p", b"s"]
         run, self.given = f"run {handed(words, self.case.part(b'text'), given)} {self.given.numbers()} {self.given.room}", Outside()
         self.add(run, lambda answer: setattr(self, "run", answer))
         self.add("faults", lambda answer: self.told(Ended(self.run, given, words, False, answer.number() - self.faults), awaited))
@@ -785,12 +814,49 @@ def memory_store(case):
 
 def area(case):
     size, _, lines = case.asked().partition(b"\n")
-    _, answer = yield from asked_steps([f"area {int(size)}", f"serve {told(case.part(b'text'))} {told(lines)}"])
+    _, answer = yield from asked_steps([f"area {int(size)}", f"serve {told(case.part(b'text'))} {Options(case).numbers()} {told(lines)}"])
     if answer.next_is("Room"):
         return f"needs {answer.number()}\n".encode()
     if not answer.next_is("Done"):
         raise Unasked(f"not served: {' '.join(answer.words)}")
     return answer.end(answer.bytes())
+
+
+# ---- stores with a byte that is another one
+
+def ranges(numbers):
+    """Ascending numbers, those that follow one another as `5 to 12`."""
+    found = []
+    for number in numbers:
+        if found and found[-1][1] == number - 1:
+            found[-1][1] = number
+        else:
+            found.append([number, number])
+    return ", ".join(str(first) if first == last else f"{first} to {last}" for first, last in found)
+
+
+def opened_shown(answer):
+    """What requests are answered on a store, or why it is refused."""
+    word = answer.word()
+    if word in UNOPENED:
+        return " ".join([f"{UNOPENED[word]} {word}", *answer.words[answer.at:]])
+    if word != "Done":
+        raise Unasked(f"not served: {word}")
+    return " ".join(answer.bytes().decode().splitlines())
+
+
+def spoiled(case):
+    """What a store is opened as where one of its bytes is this one, for each of its bytes."""
+    area, served = f"area {int(case.part(b'size'))}", f"serve {told(case.part(b'text'))} {Options(case).numbers()}"
+    _, _, shown = yield from asked_steps([area, f"{served} {told(case.part(b'input'))}", "show"])
+    store, value, asked = shown.bytes(), int(case.asked()), f"{served} {told(case.part(b'ask'))}"
+    steps = [area, f"write 0 {told(store)}"]
+    for at, byte in enumerate(store):
+        steps += [f"write {at} {value:02x}", asked, f"write {at} {byte:02x}"]
+    found = {}
+    for at, answer in enumerate((yield from asked_steps(steps))[3::3]):
+        found.setdefault(opened_shown(answer), []).append(at)
+    return ("; ".join(f"{ranges(at)}: {told_of}" for told_of, at in found.items()) + "\n").encode()
 
 
 # ---- requests run in slices
@@ -876,7 +942,8 @@ def owners(case):
 
 def why(answer, shape):
     """What is said of a line that asks or tells nothing; `None` where it does."""
-    return b"no JSON\n" if answer.next_is("json") else shape if answer.next_is("shape") else None
+    said = {"json": b"no JSON\n", "size": b"wrong number of requests\n", "shape": shape}
+    return next((text for word, text in said.items() if answer.next_is(word)), None)
 
 
 def argument_shown(value):
@@ -899,12 +966,21 @@ def request_shown(line):
         "call": lambda: f"{asked['on']}.{asked['tx']}{arguments}{into}",
         "give": lambda: f"give {asked['on']} to {asked['to']}{into} as {asked['as']}",
     }.get(asked["op"], lambda: f"{asked['op']} {asked['on']}")
-    return f"{asked['id']} {asked['who']}: {what()}\n".encode()
+    return f"{asked['id']} {asked['who']}: {what()}"
+
+
+def batch_shown(answer):
+    lines = many(answer, Answer.bytes)
+    return f"{len(lines)} request{'s' * (len(lines) != 1)}: {'; '.join(map(request_shown, lines))}"
 
 
 def request(case):
     answer = Answer((yield f"request {told(case.asked())}"))
-    return why(answer, b"no request\n") or request_shown(answer.end(answer.bytes()))
+    said = why(answer, b"no request\n")
+    if said:
+        return said
+    shown = batch_shown(answer) if answer.next_is("batch") else request_shown(answer.bytes())
+    return answer.end(shown.encode() + b"\n")
 
 
 def sent(case):
@@ -1058,8 +1134,9 @@ KINDS = {
     b"disk": (b"text", b"answer", (), disk),
     b"outside": (b"given", b"answer", (b"text", b"words", b"input"), outside),
     b"failing-run": (b"input", b"output", (b"text", b"words", b"given", b"status"), run_given),
-    b"failing-store": (b"runs", b"answer", (b"text", b"input", b"output"), memory_store),
-    b"area": (b"runs", b"answer", (b"text",), area),
+    b"failing-store": (b"runs", b"answer", (b"text", b"options", b"input", b"output"), memory_store),
+    b"area": (b"runs", b"answer", (b"text", b"options"), area),
+    b"spoiled": (b"value", b"answer", (b"text", b"size", b"input", b"ask"), spoiled),
     b"slices": (b"input", b"output", (b"text", b"fuel"), sliced),
     b"owners": (b"input", b"output", (b"text",), owners),
     b"request": (b"text", b"answer", (), request),

@@ -12,13 +12,35 @@ use crate::question::Question;
 use ob_disk::{Disk, MemoryDisk};
 use ob_front::{Compiled, Seen, compile};
 use ob_io::{SureSink, SureSource};
-use ob_serve::{Served, serve};
+use ob_serve::{Limits, Served, serve};
 use ob_store::{OpenError, Store};
 use ob_verify::Verified;
 use std::alloc::Global;
 
-/// The units of fuel that each request has.
-const FUEL: u32 = 100_000;
+/// The most lanes that a session has.
+const MOST_LANES: u8 = 8;
+/// The limits of a session where none are told.
+const LIMITS: Limits = Limits {
+    fuel: 100_000,
+    lanes: 1,
+    slice: 1000,
+};
+
+/// The limits of a session: `FUEL LANES SLICE`.
+pub fn limits_in(asked: &mut Question<'_>, page: &mut Page) -> Limits
+    ensures lanes { 1 ≤ result.lanes }
+    ensures most_lanes { result.lanes ≤ 8 }
+    ensures slice { 1 ≤ result.slice }
+{
+    let fuel = u32::try_from(asked.number(page)).unwrap_or(0);
+    let lanes = u8::try_from(asked.number(page)).unwrap_or(0);
+    let slice = u32::try_from(asked.number(page)).unwrap_or(0);
+    if lanes == 0 || lanes > MOST_LANES || slice == 0 {
+        page.fail();
+        return LIMITS;
+    }
+    Limits { fuel, lanes, slice }
+}
 
 /// The program of a text, if it is accepted.
 pub fn program_of(alloc: Global, text: &[u8], seen: &mut Seen) -> Option<Compiled>
@@ -86,7 +108,7 @@ pub fn serve_line<D: Disk>(
 {
     let mut input = SureSource::new(lines);
     let mut output = SureSink::new(alloc, usize::MAX);
-    let served = serve(alloc, code, store, FUEL, &mut input, &mut output, disk);
+    let served = serve(alloc, code, store, LIMITS, &mut input, &mut output, disk);
     if !matches!(served, Served::Done) {
         page.fail();
     }
@@ -98,6 +120,7 @@ fn put_replies(
     code: &Verified,
     size: u64,
     disk: &mut MemoryDisk,
+    limits: Limits,
     input: Vec<u8>,
     page: &mut Page,
 )
@@ -105,6 +128,9 @@ fn put_replies(
     requires fits { image.fits code.now }
     requires some { 1 ≤ size }
     requires small { size ≤ 2 ^ 31 }
+    requires lanes { 1 ≤ limits.lanes }
+    requires most_lanes { limits.lanes ≤ 8 }
+    requires slice { 1 ≤ limits.slice }
 {
     let mut store = match Store::open_store(alloc, disk, code, size) {
         Ok(store) => store,
@@ -112,7 +138,15 @@ fn put_replies(
     };
     let mut input = SureSource::new(input);
     let mut output = SureSink::new(alloc, usize::MAX);
-    let served = serve(alloc, code, &mut store, FUEL, &mut input, &mut output, disk);
+    let served = serve(
+        alloc,
+        code,
+        &mut store,
+        limits,
+        &mut input,
+        &mut output,
+        disk,
+    );
     put_served(served, page);
     match output.bytes() {
         Some(replies) => page.bytes(replies),
@@ -120,7 +154,7 @@ fn put_replies(
     }
 }
 
-/// Serves lines over a store on a disk with areas of some size: `TEXT LINES`.
+/// Serves lines over a store on a disk with areas of some size: `TEXT FUEL LANES SLICE LINES`.
 pub fn serve_on(
     alloc: Global,
     asked: &mut Question<'_>,
@@ -132,10 +166,11 @@ pub fn serve_on(
     requires small { size ≤ 2 ^ 31 }
 {
     let text = asked.bytes(alloc, page);
+    let limits = limits_in(asked, page);
     let input = asked.bytes(alloc, page);
     let mut seen = Seen::new(alloc);
     match program_of(alloc, &text, &mut seen) {
-        Some(program) => put_replies(alloc, &program.code, size, disk, input, page),
+        Some(program) => put_replies(alloc, &program.code, size, disk, limits, input, page),
         None => page.fail(),
     }
 }

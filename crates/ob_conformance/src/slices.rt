@@ -27,7 +27,7 @@ use ob_heap::{Content, Delta, Handle};
 use ob_owners::Index;
 use ob_store::Store;
 use ob_verify::Verified;
-use ob_wire::{Reply, read_request, reply_bytes};
+use ob_wire::{Incoming, Reply, read_request, reply_bytes};
 use std::alloc::Global;
 
 /// How many units the slices have in which a request is run.
@@ -133,7 +133,7 @@ fn put_sliced<I: Index>(
     requires index { (n : ℕ) → I.owner index.now n ≡ owner_place (table_of_image code.now) (content_of content.now) n }
     requires right { (request : Request) → Asks line.now request → IsInLimits (machine_invocation code.now (content_of content.now) (request_of request) fuel) }
 {
-    let Ok(request) = read_request(alloc, line) else {
+    let Ok(Incoming::One(request)) = read_request(alloc, line) else {
         return page.fail();
     };
     match Run::start(alloc, code, names, content, index, request, fuel) {
@@ -157,7 +157,7 @@ fn put_whole<I: Index>(
     requires index { (n : ℕ) → I.owner index.now n ≡ owner_place (table_of_image code.now) (content_of content.now) n }
     requires right { (request : Request) → Asks line.now request → IsInLimits (machine_invocation code.now (content_of content.now) (request_of request) fuel) }
 {
-    let Ok(request) = read_request(alloc, line) else {
+    let Ok(Incoming::One(request)) = read_request(alloc, line) else {
         return page.fail();
     };
     match answer(alloc, code, names, content, index, &request, fuel) {

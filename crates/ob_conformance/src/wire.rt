@@ -1,9 +1,9 @@
 //! What a client sends and is answered, and what the words of a command line ask for.
 use crate::page::Page;
 use crate::question::Question;
-use ob_base::Duplicate;
+use ob_base::{Duplicate, Items};
 use ob_client::{read_reply, request_line, trial_lines};
-use ob_wire::{Reply, Request, WireError, read_request, reply_bytes};
+use ob_wire::{Incoming, Reply, Request, WireError, read_request, reply_bytes};
 use ob_words::{Asked, Command, WordsError, parse_words};
 use std::alloc::Global;
 
@@ -11,6 +11,7 @@ fn put_error(error: WireError, page: &mut Page) {
     match error {
         WireError::Json => page.word("json"),
         WireError::Shape => page.word("shape"),
+        WireError::BatchSize => page.word("size"),
         WireError::Memory => page.fail(),
     }
 }
@@ -23,11 +24,26 @@ fn put_request(alloc: Global, request: &Request, page: &mut Page) {
     }
 }
 
-/// The line by which the request that a line asks is sent, from a copy of it.
+fn put_batch(alloc: Global, batch: &Items<Request>, page: &mut Page) {
+    page.word("batch");
+    page.number(batch.as_slice().len() as u64);
+    for request in batch.as_slice() {
+        put_request(alloc, request, page);
+    }
+}
+
+fn put_incoming(alloc: Global, incoming: &Incoming, page: &mut Page) {
+    match incoming {
+        Incoming::One(request) => put_request(alloc, request, page),
+        Incoming::Batch(batch) => put_batch(alloc, batch, page),
+    }
+}
+
+/// The line by which the request that a line asks is sent, from a copy of it; of a batch, how many requests it has and the line of each.
 pub fn request(alloc: Global, asked: &mut Question<'_>, page: &mut Page) {
     let line = asked.bytes(alloc, page);
     match read_request(alloc, &line) {
-        Ok(request) => put_request(alloc, &request, page),
+        Ok(incoming) => put_incoming(alloc, &incoming, page),
         Err(error) => put_error(error, page),
     }
 }
