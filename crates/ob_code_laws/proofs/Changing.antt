@@ -24,7 +24,7 @@ use Rattle.ob_machine_steps.specs.Changing.{GivenSlots, edits_this, store_step, 
 use Rattle.ob_verify_spec.specs.Kinds.{kind_of_type}
 use Rattle.ob_verify_spec.specs.Frames.{CodeFrame, kind_of_field}
 use Rattle.ob_verify_spec.specs.Instructions.{fields_named, leads, Need, of_kind, need_of, needs_of_given, done, effect}
-use Rattle.ob_verify_spec.specs.Conditions.{bad_jump, bad_slot, bad_field, bad_call, may_go_on}
+use Rattle.ob_verify_spec.specs.Conditions.{bad_jump, bad_slot, bad_field, bad_call, no_fuel_mark, may_go_on}
 use Rattle.ob_verify_spec.specs.Ways.{IsAt}
 use Rattle.ob_verify_spec.proofs.Cells.{some_same, none_some}
 use Rattle.ob_verify_spec.proofs.Listed.{not_empty, head, behind, cases, each_passes}
@@ -36,12 +36,13 @@ use Rattle.ob_code_laws.proofs.Setting.{own_contract, own_fields}
 
 -- What an instruction names is there.
 
--- the last two tests of an instruction at which no condition holds
+-- the tests of fields and calls of an instruction at which no condition holds
 pub named_well : (f : CodeFrame) (i : ℕ) (x : Instruction) → may_go_on f i x ≡ true → (bad_field f x ≡ false) × (bad_call f x ≡ false)
 named_well f i x e =
-    let a = and_parts (not (bad_jump f i x) && not (bad_slot f i x) && not (bad_field f x)) (not (bad_call f x)) e in
-    let b = and_parts (not (bad_jump f i x) && not (bad_slot f i x)) (not (bad_field f x)) a.0 in
-    (not-true (bad_field f x) b.1, not-true (bad_call f x) a.1)
+    let a = and_parts (not (bad_jump f x) && not (bad_slot f i x) && not (bad_field f x) && not (bad_call f x)) (not (no_fuel_mark f i x)) e in
+    let b = and_parts (not (bad_jump f x) && not (bad_slot f i x) && not (bad_field f x)) (not (bad_call f x)) a.0 in
+    let c = and_parts (not (bad_jump f x) && not (bad_slot f i x)) (not (bad_field f x)) b.0 in
+    (not-true (bad_field f x) c.1, not-true (bad_call f x) b.1)
 
 within : {A : Type 0} (xs : List A) (k : ℕ) → k < length xs → (x : A) × (slice_get xs k ≡ Some x)
 within [] k lt = absurd (omega arith)

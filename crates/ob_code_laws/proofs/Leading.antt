@@ -1,5 +1,5 @@
--- The jumps of verified code lead ahead.
-use Rattle.std.proofs.Common.{◌≡◌, ℕ, ◌<◌, ◌+◌, [], ◌∷◌, Option, Some, None, Bool, true, false, slice_get, Contains, refl, ap, ◌∙◌}
+-- The jumps of verified code lead ahead, or to a `unit`.
+use Rattle.std.proofs.Common.{◌≡◌, ℕ, ◌+◌, [], ◌∷◌, Option, Some, None, Bool, true, false, slice_get, Contains, refl, ap, ◌∙◌, inl, inr}
 use Rattle.std.specs.Prelude.{if◌then◌else◌}
 use Rattle.std.proofs.lemmas.Bool.{true≢false}
 use Rattle.ob_base.specs.Optional.{◌>>=◌}
@@ -12,7 +12,7 @@ use Rattle.ob_code.specs.declared.instruction.Instruction.{Instruction}
 use Rattle.ob_code.specs.declared.instruction.Instruction.TheVariants as is
 use Rattle.ob_code.specs.Code.{is_interface, contract_code}
 use Rattle.ob_code_table.specs.Images.{instruction_of, instruction_at}
-use Rattle.ob_machine_steps.specs.Measures.{LeadsAhead}
+use Rattle.ob_machine_steps.specs.Measures.{IsAheadOrUnit, LeadsAhead}
 use Rattle.ob_verify_spec.specs.Verified.{IsVerified}
 use Rattle.ob_verify_spec.specs.Instructions.{leads}
 use Rattle.ob_verify_spec.specs.Laws.{frame_of, HasBody}
@@ -38,18 +38,21 @@ code_some : (interface : Bool) (o : Option Instruction) (x : Instruction) → (i
 code_some true o x e = absurd (none_some e)
 code_some false o x e = (refl, e)
 
--- where an instruction stands in verified code it leads ahead
+-- where an instruction stands in verified code it leads ahead, or to a `unit`
 leads_on : (image : Image) → IsVerified image → (contract : ContractId) (tx : TxId) (place : ℕ) (x : Instruction) (j : ℕ) → instruction_at image contract tx place ≡ Some x
-    → Contains (leads place x) j → place < j
+    → Contains (leads place x) j → IsAheadOrUnit image contract tx place j
 leads_on image v contract tx place x j e c =
     let own = then_some (contract_code image contract) _ x e in
     let code = code_some (is_interface own.0) _ x own.2 in
     let body = then_some (slice_get own.0.bodies tx.0) _ x code.1 in
     let there : HasBody image contract own.0 tx body.0 = record { contract = own.1; body = body.1 } in
     let f = frame_of image contract own.0 body.0 in
-    ((verified_keep f (has_verified_bodies image v contract own.0 tx body.0 there code.0)).ahead place j x body.2 c).0
+    elim (((verified_keep f (has_verified_bodies image v contract own.0 tx body.0 there code.0)).ahead place j x body.2 c).1) [
+      | inl lt ↦ inl lt
+      | inr unit ↦ inr (next_found image contract own.0 tx body.0 j there code.0 ∙ unit)
+    ]
 
--- in verified code each jump leads ahead
+-- in verified code each jump leads ahead, or to a `unit`
 pub leads_ahead : (image : Image) → IsVerified image → LeadsAhead image
 leads_ahead image v = record {
   jumps = λ contract tx place target e. leads_on image v contract tx place (is.Jump target) target e (head target []);

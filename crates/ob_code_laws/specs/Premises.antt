@@ -1,7 +1,6 @@
 -- When verified code may be run: what has to be so of the image, of the objects, and of the entry (this project's own).
 use Rattle.std.specs.Prelude.{◌≡◌, ℕ, Bool, true, false, not, ◌&&◌, List, [], ◌∷◌, Some, None, is_some, slice_get}
 use Rattle.ob_base.specs.declared.id.ContractId.{ContractId}
-use Rattle.ob_base.specs.declared.id.TxId.{TxId}
 use Rattle.ob_table.specs.declared.seen.Kind.{Kind}
 use Rattle.ob_table.specs.declared.seen.Kind.TheVariants as kind
 use Rattle.ob_heap_spec.specs.Values.{Value, int_value, bool_value, text_value, reference}

@@ -17,7 +17,7 @@ pub fn verified_code_goes_on()
     ensures { VerifiedCodeSteps }
 {}
 
-/// Each jump of verified code leads ahead, so that its runs end.
+/// Each jump of verified code leads ahead, or to a `unit`, so that its runs end.
 pub fn verified_jumps_lead_ahead()
     ensures { VerifiedJumpsLeadAhead }
 {}

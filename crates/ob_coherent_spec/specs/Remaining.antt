@@ -1,6 +1,7 @@
 -- What a frame has still to run is well-formed and derives (Coblenz et al., TOPLAS 42(3), 2020, "Silica"; that a body's rest
 -- lies in lists around one another is this project's own).
 use Rattle.std.specs.Prelude.{◌≡◌, ℕ, ◌<◌, ◌≤◌, Bool, true, false, List, [], ◌∷◌, Option, Some, None, Ok, All, IsSome, ⊤}
+use Rattle.ob_base.specs.declared.fault.Span.{Span}
 use Rattle.ob_base.specs.declared.id.ContractId.{ContractId}
 use Rattle.ob_base.specs.declared.id.TxId.{TxId}
 use Rattle.ob_perm.specs.Permissions.{Permission, owns, shared}
@@ -8,21 +9,23 @@ use Rattle.ob_table.specs.Tables.{ClassTable, contract_at, signature_at}
 use Rattle.ob_table.specs.declared.contract.Contract.{Contract}
 use Rattle.ob_table.specs.declared.contract.Signature.{Signature}
 use Rattle.ob_table.specs.declared.seen.Kind.{Kind}
-use Rattle.ob_table.specs.declared.seen.Kind.TheVariants.{Reference}
+use Rattle.ob_table.specs.declared.seen.Kind.TheVariants.{Bool as BoolKind, Reference}
 use Rattle.ob_table_spec.specs.Conditions.{IsClassTable}
 use Rattle.ob_table_spec.specs.WellFormed.{StaticFrame, frame_of, is_reference}
-use Rattle.ob_silica.specs.Terms.{SilicaForm, SilicaTerms, SilicaBody}
+use Rattle.ob_silica.specs.Terms.{SilicaForm, loop_form, SilicaTerms, and_term, SilicaBody}
+use Rattle.ob_silica.specs.declared.place.Operand.{Operand}
 use Rattle.ob_silica.specs.Slots.{slots_of_terms}
 use Rattle.ob_silica_places.specs.Known.{Known, known}
-use Rattle.ob_silica_places.specs.Places.{Location, slot, field, this}
+use Rattle.ob_silica_places.specs.Places.{Location, slot, field, this, located}
 use Rattle.ob_silica_steps.specs.Cells.{Cell}
-use Rattle.ob_silica_steps.specs.Configurations.{SilicaProgram, terms_at, SlotCells, SilicaFrame, Ends, plain_end, test_end, lock_end, Rest}
+use Rattle.ob_silica_steps.specs.Configurations.{SilicaProgram, terms_at, SlotCells, SilicaFrame, Ends, plain_end, test_end, lock_end, loop_end, Rest}
 use Rattle.ob_silica_formed.specs.Holdings.{SlotContent, Holdings, after_terms, Each}
-use Rattle.ob_silica_formed.specs.Points.{NamesWhatIsThere, HasKinds, TakesResult, LeavesParams, LosesNoReference, NamesBody, ReturnsResult}
+use Rattle.ob_silica_formed.specs.Points.{NamesWhatIsThere, HasKind, HasKinds, TakesResult, LeavesParams, LosesNoReference, NamesBody, ReturnsResult, TakesTurns}
 use Rattle.ob_silica_formed.specs.WellFormedTerms.{IsWellFormedTerms}
-use Rattle.ob_flow_spec.specs.Contexts.{BodyFrame, field_count, Context, now, permission_at, permission_on, is_owned_asset}
+use Rattle.ob_flow_spec.specs.Contexts.{BodyFrame, field_count, Context, TestedPlaces, now, permission_at, permission_on, is_owned_asset}
 use Rattle.ob_flow_spec.specs.Deriving.{derive_all, Derives}
 use Rattle.ob_flow_spec.specs.Joining.{same_mode}
+use Rattle.ob_flow_laws.specs.Uses.{CanUse}
 use Rattle.ob_coherent_spec.specs.Runs.{tested_places}
 use Rattle.ob_coherent_spec.specs.Saying.{Agrees}
 
@@ -80,6 +83,7 @@ pub record IsWellFormedForm (f : StaticFrame) (h : Holdings) (form : SilicaForm)
   pub references : LosesNoReference f h form
   pub bodies : NamesBody f h form
   pub returns : ReturnsResult f h form
+  pub turns : TakesTurns f h form
 
 -- each of these terms is well-formed, where slots hold this at first, and names slots of the body alone
 pub record AreWellFormedFrom (b : BodyFrame) (h : Holdings) (terms : SilicaTerms) : Type 0 where
@@ -126,26 +130,52 @@ abbrev pub at_end : Context → Ends → Context
 at_end g plain_end = g
 at_end g (test_end p) = now g p shared
 at_end g (lock_end p n) = now g p shared
+at_end g (loop_end first a body end) = g
 
 -- what is under test still owns at the end of the list
 abbrev pub StillOwns : Context → Ends → Type 0
 StillOwns g plain_end = ⊤
 StillOwns g (test_end p) = owns (permission_at g p) ≡ true
 StillOwns g (lock_end p n) = owns (permission_at g p) ≡ true
+StillOwns g (loop_end first a body end) = ⊤
 
 -- `this` is known, with its own kind
 abbrev pub KnowsThis : BodyFrame → Context → Type 0
 KnowsThis b g = (p : Permission) × (g this ≡ Some (known (Reference b.here) p))
 
--- Where the end of a list is reached with this context, the lists around go on: each with a context that may stand for it,
--- from which its terms derive, and with holdings under which they are well-formed.
+-- Where a list is left with this context, these terms go on, with these places under test: with a context that may stand
+-- for it, from which they derive, and with holdings under which they are well-formed. What is left after them goes on too.
+abbrev pub GoesOnBy : BodyFrame → TestedPlaces → (Option Context → Holdings → Type 0) → SilicaTerms → Option Context → Holdings
+    → Type 0
+GoesOnBy b ts Next terms None h = ⊤
+GoesOnBy b ts Next terms (Some g) h =
+    (j : Context) × (i : Holdings) × (left : Option Context) × Leads b g j × KnowsThis b j × HoldToo h i
+    × AreWellFormedFrom b i terms × (derive_all b ts terms j ≡ Ok left) × Next left (after_terms (static_of b) terms i)
+
+-- Where the first part of a Loop is left with this context, its operand can be used and is a `bool`, its body derives and
+-- is well-formed, and after it the same Loop goes on.
+pub record CanTurn (b : BodyFrame) (ts : TestedPlaces) (Next : Option Context → Holdings → Type 0) (first : SilicaTerms)
+    (a : Operand) (body : SilicaTerms) (end : Span) (rest : SilicaTerms) (g : Context) (h : Holdings) : Type 0 where
+  pub can : CanUse b g (located a)
+  pub kind : HasKind (static_of b) h BoolKind a
+  pub formed : AreWellFormedFrom b h body
+  pub turned : Option Context
+  pub derives : derive_all b ts body g ≡ Ok turned
+  pub again : GoesOnBy b ts Next (and_term (loop_form first a body end) end rest) turned (after_terms (static_of b) body h)
+
+-- what ends with a list may be the first part of a Loop, which can then turn
+abbrev pub MayTurn : BodyFrame → TestedPlaces → (Option Context → Holdings → Type 0) → SilicaTerms → Ends → Context → Holdings
+    → Type 0
+MayTurn b ts Next rest (loop_end first a body end) g h = CanTurn b ts Next first a body end rest g h
+MayTurn b ts Next rest ends g h = ⊤
+
+-- Where the end of a list is reached with this context, the lists around go on.
 abbrev pub GoOn : BodyFrame → Option Context → Holdings → List Rest → Type 0
 GoOn b None h outer = ⊤
 GoOn b (Some g) h [] = ⊥
 GoOn b (Some g) h (r ∷ outer) =
-    StillOwns g r.ends × (j : Context) × (i : Holdings) × (left : Option Context)
-    × Leads b (at_end g r.ends) j × KnowsThis b j × HoldToo h i × AreWellFormedFrom b i r.terms
-    × (derive_all b (tested_places outer) r.terms j ≡ Ok left) × GoOn b left (after_terms (static_of b) r.terms i) outer
+    StillOwns g r.ends × MayTurn b (tested_places outer) (λ left i. GoOn b left i outer) r.terms r.ends g h
+    × GoesOnBy b (tested_places outer) (λ left i. GoOn b left i outer) r.terms (Some (at_end g r.ends)) h
 
 -- What a frame has still to run: terms that are well-formed and derive, and after them the lists around.
 pub record Remains (b : BodyFrame) (h : Holdings) (g : Context) (terms : SilicaTerms) (outer : List Rest) : Type 0 where

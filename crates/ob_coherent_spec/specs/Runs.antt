@@ -2,7 +2,7 @@
 -- project's own).
 use Rattle.std.specs.Prelude.{ℕ, ◌+◌, Bool, true, false, nat_eq, List, [], ◌∷◌, Option, Some, None, if◌then◌else◌}
 use Rattle.ob_silica_places.specs.Places.{Location}
-use Rattle.ob_silica_steps.specs.Configurations.{SlotCells, How, by_receiver, by_this, by_new, SilicaFrame, Ends, plain_end, test_end, lock_end, Rest, Waiting, Control, runs, leaves, Configuration}
+use Rattle.ob_silica_steps.specs.Configurations.{SlotCells, How, by_receiver, by_this, by_new, SilicaFrame, Ends, plain_end, test_end, lock_end, loop_end, Rest, Waiting, Control, runs, leaves, Configuration}
 use Rattle.ob_silica_steps.specs.Here.{self_of}
 use Rattle.ob_coherent_spec.specs.Counting.{one_if}
 
@@ -56,6 +56,7 @@ constructions n c = constructing_at n c.frame.how c.frame.slots + constructing_a
 abbrev pub locks_at : ℕ → Ends → ℕ
 locks_at n plain_end = 0
 locks_at n (test_end p) = 0
+locks_at n (loop_end first a body end) = 0
 locks_at n (lock_end p m) = one_if (nat_eq m n)
 
 -- among the lists around
@@ -84,6 +85,7 @@ abbrev pub tests_at : ℕ → Ends → ℕ
 tests_at n plain_end = 0
 tests_at n (test_end p) = n
 tests_at n (lock_end p m) = 0
+tests_at n (loop_end first a body end) = 0
 
 -- this number for each among the lists around
 abbrev pub tests_around : ℕ → List Rest → ℕ
@@ -110,6 +112,7 @@ abbrev pub tested_before : Ends → List Location → List Location
 tested_before plain_end ps = ps
 tested_before (test_end p) ps = p ∷ ps
 tested_before (lock_end p n) ps = p ∷ ps
+tested_before (loop_end first a body end) ps = ps
 
 -- the places under test where these lists are around
 abbrev pub tested_places : List Rest → List Location

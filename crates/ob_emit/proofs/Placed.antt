@@ -1,23 +1,23 @@
 -- Code whose targets are written back is the code at its place.
 use Rattle.std.proofs.Common.{◌≡◌, ℕ, zero, suc, ◌+◌, Bool, true, false, nat_eq, List, [], ◌∷◌, ◌++◌, length, Option, Some, None, refl, sym, ap, ◌∙◌, arith, append_assoc, length-append}
-use Rattle.std.specs.Prelude.{slice_set, if◌then◌else◌}
+use Rattle.std.specs.Prelude.{not, slice_set, if◌then◌else◌}
 use Rattle.std.proofs.lemmas.List.{append-nil}
 use Rattle.std.proofs.Math.Path.{fun_ext}
 use Rattle.ob_base.specs.declared.id.ContractId.{ContractId}
 use Rattle.ob_table.specs.declared.contract.Param.{Param}
 use Rattle.ob_table.specs.declared.seen.Kind.{Kind}
 use Rattle.ob_table_spec.specs.WellFormed.{StaticFrame}
-use Rattle.ob_silica.specs.Terms.{SilicaForm, unit_form, const_form, op_form, copy_form, move_form, new_form, call_form, call_this_form, change_form, test_form, if_form, assert_form, disown_form, drop_form, return_form, revert_form, bad_row_form, SilicaTerms, no_terms, and_term}
+use Rattle.ob_silica.specs.Terms.{SilicaForm, unit_form, const_form, op_form, copy_form, move_form, new_form, call_form, call_this_form, change_form, test_form, if_form, loop_form, assert_form, disown_form, drop_form, return_form, revert_form, bad_row_form, SilicaTerms, no_terms, and_term}
 use Rattle.ob_silica.specs.declared.place.Operand.{Operand}
 use Rattle.ob_silica.specs.declared.place.Place.{Place}
 use Rattle.ob_silica.specs.declared.place.Place.TheVariants.{This, Slot, Field}
-use Rattle.ob_silica_formed.specs.Holdings.{Holdings, SlotContent, held, kind_of_place, with_slot_if, slot_written, kind_written, joined, terms_end, after_form, after_terms, held_at_start}
+use Rattle.ob_silica_formed.specs.Holdings.{Holdings, SlotContent, held, kind_of_place, with_slot_if, slot_written, kind_written, joined, terms_end, after_form, after_terms, at_head, held_at_start}
 use Rattle.ob_code.specs.declared.instruction.Instruction.{Instruction}
 use Rattle.ob_code.specs.declared.instruction.Instruction.TheVariants as instruction
 use Rattle.ob_emit_spec.specs.Operands.{slot_read, loads}
-use Rattle.ob_emit_spec.specs.Emission.{EmissionFrame, jumps_over, jump_if, after_branch, choice_code, form_code, terms_code, contract_referred, after_load}
+use Rattle.ob_emit_spec.specs.Emission.{EmissionFrame, jumps_over, jump_if, after_branch, choice_code, turn_code, form_code, terms_code, contract_referred, after_load}
 use Rattle.ob_emit.specs.Kinds.{holding, kinds_held, with_kind, joined_kinds, kinds_after_form, kinds_after}
-use Rattle.ob_emit.specs.Making.{chooses, jumps_over_terms, test_ended, between, landed, choice_made, choice_of_value, choice_of_state, with_operand, form_made, terms_made}
+use Rattle.ob_emit.specs.Making.{chooses, jumps_over_terms, test_ended, between, landed, choice_made, loop_made, choice_of_value, choice_of_state, with_operand, form_made, terms_made}
 use Rattle.ob_emit.specs.declared.code.Choice.{Choice}
 use Rattle.ob_emit.specs.declared.code.Choice.TheVariants as choice
 
@@ -67,6 +67,11 @@ mutual
       ap (λ a. joined_kinds (terms_end branch) (terms_end other) a (kinds_after f other (kinds_held h))) (terms_held f branch h)
       ∙ ap (λ b. joined_kinds (terms_end branch) (terms_end other) (kinds_held (after_terms f branch h)) b) (terms_held f other h)
       ∙ joined_held (terms_end branch) (terms_end other) (after_terms f branch h) (after_terms f other h)
+  form_held f (loop_form first o body end) h =
+      ap (λ x. kinds_after f first (joined_kinds false (terms_end body) (kinds_held h) (kinds_after f body x))) (terms_held f first h)
+      ∙ ap (λ x. kinds_after f first (joined_kinds false (terms_end body) (kinds_held h) x)) (terms_held f body (after_terms f first h))
+      ∙ ap (λ x. kinds_after f first x) (joined_held false (terms_end body) h (after_terms f body (after_terms f first h)))
+      ∙ terms_held f first (at_head f first body h)
   form_held f (assert_form o perm) h = refl
   form_held f (disown_form o) h = refl
   form_held f (drop_form k) h = slot_held (Some k) None h
@@ -80,6 +85,15 @@ mutual
   terms_held f no_terms h = refl
   terms_held f (and_term form span rest) h = ap (λ ks. kinds_after f rest ks) (form_held f form h)
       ∙ terms_held f rest (after_form f form h)
+
+-- and those at the head of a loop
+head_held : (f : StaticFrame) (h : Holdings) (first body : SilicaTerms)
+    → joined_kinds false (terms_end body) (kinds_held h) (kinds_after f body (kinds_after f first (kinds_held h)))
+    ≡ kinds_held (at_head f first body h)
+head_held f h first body =
+    ap (λ x. joined_kinds false (terms_end body) (kinds_held h) (kinds_after f body x)) (terms_held f first h)
+    ∙ ap (λ x. joined_kinds false (terms_end body) (kinds_held h) x) (terms_held f body (after_terms f first h))
+    ∙ joined_held false (terms_end body) h (after_terms f body (after_terms f first h))
 
 -- Choices.
 
@@ -110,14 +124,14 @@ length_first code x b jumps target =
     sum whole c m l j k a b d = omega (arith, a, b, d)
 
 -- between the branches: the target of the choice is known
-middle : (code : List Instruction) (c : Choice) (b : List Instruction) (jumps : Bool)
-    → between c jumps (length code) (code ++ (chooses c 0 ∷ b))
-    ≡ code ++ (chooses c (after_branch (length code + 1) b jumps) ∷ (b ++ jump_if jumps 0))
-middle code c b jumps =
-    ap (λ l. slice_set l (length code) (chooses c (length l))) (append_assoc code (chooses c 0 ∷ b) (jump_if jumps 0))
-    ∙ ap (λ n. slice_set (code ++ (chooses c 0 ∷ (b ++ jump_if jumps 0))) (length code) (chooses c n))
-    (length_first code (chooses c 0) b jumps 0)
-    ∙ set_behind code (chooses c 0) (chooses c (after_branch (length code + 1) b jumps)) (b ++ jump_if jumps 0) (length code) refl
+middle : (code : List Instruction) (c : Choice) (b : List Instruction) (jumps : Bool) (to : ℕ)
+    → between c jumps to (length code) (code ++ (chooses c 0 ∷ b))
+    ≡ code ++ (chooses c (after_branch (length code + 1) b jumps) ∷ (b ++ jump_if jumps to))
+middle code c b jumps to =
+    ap (λ l. slice_set l (length code) (chooses c (length l))) (append_assoc code (chooses c 0 ∷ b) (jump_if jumps to))
+    ∙ ap (λ n. slice_set (code ++ (chooses c 0 ∷ (b ++ jump_if jumps to))) (length code) (chooses c n))
+    (length_first code (chooses c 0) b jumps to)
+    ∙ set_behind code (chooses c 0) (chooses c (after_branch (length code + 1) b jumps)) (b ++ jump_if jumps to) (length code) refl
 
 -- after both branches: the target of the jump is known
 end : (code : List Instruction) (x : Instruction) (b o : List Instruction) (jumps : Bool) (place target : ℕ)
@@ -141,8 +155,8 @@ pub choice_placed : (c : Choice) (jumps : Bool) (branch other : List Instruction
     ≡ code ++ choice_code (length code) (chooses c) jumps (b (length code + 1))
     (o (after_branch (length code + 1) (b (length code + 1)) jumps))
 choice_placed c jumps branch other b o code pb po =
-    ap (λ l. landed jumps (length l) (other (between c jumps (length code) l))) first
-    ∙ ap (λ l. landed jumps (length (code ++ (chooses c 0 ∷ B))) (other l)) (middle code c B jumps)
+    ap (λ l. landed jumps (length l) (other (between c jumps 0 (length code) l))) first
+    ∙ ap (λ l. landed jumps (length (code ++ (chooses c 0 ∷ B))) (other l)) (middle code c B jumps 0)
     ∙ ap (λ l. landed jumps (length (code ++ (chooses c 0 ∷ B))) l) (po mid)
     ∙ ap (λ n. landed jumps (length (code ++ (chooses c 0 ∷ B))) (mid ++ o n)) (length_first code (chooses c T) B jumps 0)
     ∙ end code (chooses c T) B (o T) jumps (length (code ++ (chooses c 0 ∷ B))) (T + length (o T)) same_length whole
@@ -183,6 +197,35 @@ choice_after f place c jumps b o code =
 jumps_same : (branch other : SilicaTerms) → jumps_over_terms (terms_end branch) other ≡ jumps_over branch other
 jumps_same branch no_terms = refl
 jumps_same branch (and_term form span rest) = refl
+
+-- Loops.
+
+sum_of : (c w l m : ℕ) → w ≡ l + m → c + w ≡ c + l + m
+sum_of c w l m e = omega (arith, e)
+
+-- a loop whose parts put their code at its place
+loop_placed : (c : Choice) (again : Bool) (first body : List Instruction → List Instruction) (F B : ℕ → List Instruction)
+    (code : List Instruction)
+    → ((x : List Instruction) → first x ≡ x ++ F (length x)) → ((x : List Instruction) → body x ≡ x ++ B (length x))
+    → loop_made c again first body code
+    ≡ code ++ (F (length code) ++ (chooses c
+    (after_branch (length code + length (F (length code)) + 1) (B (length code + length (F (length code)) + 1)) again)
+    ∷ (B (length code + length (F (length code)) + 1) ++ jump_if again (length code))))
+loop_placed c again first body F B code pf pb =
+    ap (λ l. between c again (length code) (length l) (body (l ++ chooses c 0 ∷ []))) (pf code)
+    ∙ ap (λ l. between c again (length code) (length X) l) inside
+    ∙ middle X c (B (length X + 1)) again (length code)
+    ∙ ap (λ n. X ++ (chooses c (after_branch (n + 1) (B (n + 1)) again) ∷ (B (n + 1) ++ jump_if again (length code))))
+    (length-append code (F (length code)))
+    ∙ append_assoc code (F (length code)) _
+  where
+    X : List Instruction
+    X = code ++ F (length code)
+
+    inside : body (X ++ (chooses c 0 ∷ [])) ≡ X ++ (chooses c 0 ∷ B (length X + 1))
+    inside = pb (X ++ (chooses c 0 ∷ []))
+        ∙ ap (λ n. (X ++ (chooses c 0 ∷ [])) ++ B n) (length-append X (chooses c 0 ∷ []))
+        ∙ behind X (chooses c 0) (B (length X + 1))
 
 -- Terms.
 
@@ -230,6 +273,28 @@ mutual
       ∙ ap (λ jumps. code ++ (loads f.scratch 0 (o ∷ []) ++ chosen f o C jumps
       (λ n. terms_code f h branch n) (λ n. terms_code f h other n) (after_load f o (length code))))
       (jumps_same branch other)
+  form_placed f h (loop_form first o body end) code =
+      let again = not (terms_end body) in
+      let head = at_head f.static first body h in
+      let inside = after_terms f.static first head in
+      let a = slot_read f.scratch 0 o.place in
+      let L = loads f.scratch 0 (o ∷ []) in
+      let C = choice_of_value f o in
+      ap (λ ks. loop_made C again (λ x. with_operand f o (terms_made f ks first x))
+      (λ x. terms_made f (kinds_after f.static first ks) body x) code) (head_held f.static h first body)
+      ∙ ap (λ ks. loop_made C again (λ x. with_operand f o (terms_made f (kinds_held head) first x)) (λ x. terms_made f ks body x) code)
+      (terms_held f.static first head)
+      ∙ loop_placed C again (λ x. with_operand f o (terms_made f (kinds_held head) first x))
+      (λ x. terms_made f (kinds_held inside) body x) (λ n. terms_code f head first n ++ L) (λ n. terms_code f inside body n) code
+      (λ x. ap (λ l. l ++ L) (terms_placed f head first x) ∙ append_assoc x (terms_code f head first (length x)) L)
+      (λ x. terms_placed f inside body x)
+      ∙ ap (λ n. code ++ ((terms_code f head first (length code) ++ L)
+      ++ turn_code a (length code) again n (terms_code f inside body (n + 1))))
+      (sum_of (length code) (length (terms_code f head first (length code) ++ L)) (length (terms_code f head first (length code))) (length L)
+      (length-append (terms_code f head first (length code)) L))
+      ∙ ap (λ l. code ++ l) (append_assoc (terms_code f head first (length code)) L
+      (turn_code a (length code) again (after_load f o (length code + length (terms_code f head first (length code))))
+      (terms_code f inside body (after_load f o (length code + length (terms_code f head first (length code))) + 1))))
   form_placed f h (assert_form o perm) code = refl
   form_placed f h (disown_form o) code = refl
   form_placed f h (drop_form k) code = refl

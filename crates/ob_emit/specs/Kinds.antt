@@ -6,7 +6,7 @@ use Rattle.ob_table.specs.declared.contract.Param.{Param}
 use Rattle.ob_table.specs.declared.seen.Kind.{Kind}
 use Rattle.ob_table.specs.declared.seen.Kind.TheVariants.{Reference}
 use Rattle.ob_table_spec.specs.WellFormed.{StaticFrame, kind_of_resolved}
-use Rattle.ob_silica.specs.Terms.{SilicaForm, test_form, if_form, SilicaTerms, no_terms, and_term}
+use Rattle.ob_silica.specs.Terms.{SilicaForm, test_form, if_form, loop_form, SilicaTerms, no_terms, and_term}
 use Rattle.ob_silica_places.specs.Known.{at}
 use Rattle.ob_silica_formed.specs.Holdings.{Holdings, held, slot_written, kind_written, terms_end, common_kind}
 
@@ -61,9 +61,23 @@ abbrev mutual
       joined_kinds (terms_end branch) (terms_end other) (kinds_after f branch kinds) (kinds_after f other kinds)
   kinds_after_form f (if_form place branch other join) kinds =
       joined_kinds (terms_end branch) (terms_end other) (kinds_after f branch kinds) (kinds_after f other kinds)
+  kinds_after_form f (loop_form first a body end) kinds =
+      kinds_after f first (joined_kinds false (terms_end body) kinds (kinds_after f body (kinds_after f first kinds)))
   kinds_after_form f form kinds = with_kind (slot_written form) (kind_written f (holding kinds) form) kinds
 
   -- the kinds after terms
   pub kinds_after : StaticFrame → SilicaTerms → Kinds → Kinds
   kinds_after f no_terms kinds = kinds
   kinds_after f (and_term form span rest) kinds = kinds_after f rest (kinds_after_form f form kinds)
+
+-- the kinds at the head of a loop: those before it and after one turn; each other form changes none here
+abbrev pub kinds_at_head : StaticFrame → SilicaForm → Kinds → Kinds
+kinds_at_head f (loop_form first a body end) kinds =
+    joined_kinds false (terms_end body) kinds (kinds_after f body (kinds_after f first kinds))
+kinds_at_head f form kinds = kinds
+
+-- the kinds after a loop; each other form changes none here
+abbrev pub kinds_after_loop : StaticFrame → SilicaForm → Kinds → Kinds
+kinds_after_loop f (loop_form first a body end) kinds =
+    kinds_after f first (joined_kinds false (terms_end body) kinds (kinds_after f body (kinds_after f first kinds)))
+kinds_after_loop f form kinds = kinds

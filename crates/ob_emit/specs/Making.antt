@@ -1,7 +1,7 @@
 -- The code of terms as it is made: what there is so far is handed on, and the targets of jumps ahead are written back.
 use Rattle.std.specs.Prelude.{ℕ, Bool, true, false, not, List, [], ◌∷◌, ◌++◌, length, slice_set, if◌then◌else◌, None}
 use Rattle.ob_base.specs.declared.id.StateId.{StateId}
-use Rattle.ob_silica.specs.Terms.{SilicaForm, new_form, call_form, call_this_form, test_form, if_form, return_form, revert_form}
+use Rattle.ob_silica.specs.Terms.{SilicaForm, new_form, call_form, call_this_form, test_form, if_form, loop_form, return_form, revert_form}
 use Rattle.ob_silica.specs.Terms.{SilicaTerms, no_terms, and_term}
 use Rattle.ob_silica.specs.declared.place.Operand.{Operand}
 use Rattle.ob_silica_formed.specs.Holdings.{kind_of_operand, terms_end}
@@ -9,7 +9,7 @@ use Rattle.ob_code.specs.declared.instruction.Instruction.{Instruction}
 use Rattle.ob_code.specs.declared.instruction.Instruction.TheVariants as instruction
 use Rattle.ob_emit_spec.specs.Operands.{slot_read, loads}
 use Rattle.ob_emit_spec.specs.Emission.{EmissionFrame, contract_referred, jump_if, new_code, call_code, call_this_code, form_code}
-use Rattle.ob_emit.specs.Kinds.{Kinds, holding, kinds_after_form}
+use Rattle.ob_emit.specs.Kinds.{Kinds, holding, joined_kinds, kinds_after_form, kinds_after}
 use Rattle.ob_emit.specs.declared.code.Choice.{Choice}
 use Rattle.ob_emit.specs.declared.code.Choice.TheVariants as choice
 
@@ -28,10 +28,11 @@ entering_code f (call_form k receiver contract tx args) = call_code f k receiver
 entering_code f (call_this_form k tx args) = call_this_code f k tx args
 entering_code f form = []
 
--- The code of a form that has no branches, for which neither kinds nor the place count; of one that has, none.
+-- The code of a form that has no branches and is no loop, for which neither kinds nor the place count; of one that has or is, none.
 abbrev pub straight_code : EmissionFrame → SilicaForm → List Instruction
 straight_code f (test_form o state branch other join) = []
 straight_code f (if_form o branch other join) = []
+straight_code f (loop_form first o body end) = []
 straight_code f form = form_code f (holding (λ k. None)) form 0
 
 -- whether nothing is reached after a form that has no branches
@@ -59,9 +60,10 @@ abbrev pub branch_ended : Choice → Bool → List Instruction
 branch_ended (choice.Value a) ends = []
 branch_ended (choice.State a contract state) ends = test_ended ends
 
--- Between two branches: the jump over the other one, if there is one, and the target of the choice, whose place this is.
-abbrev pub between : Choice → Bool → ℕ → List Instruction → List Instruction
-between c jumps start code = slice_set (code ++ jump_if jumps 0) start (chooses c (length (code ++ jump_if jumps 0)))
+-- Behind the first branch, or the body of a loop: the jump, if there is one, with this target for now, and the target of the choice,
+-- whose place this is.
+abbrev pub between : Choice → Bool → ℕ → ℕ → List Instruction → List Instruction
+between c jumps to start code = slice_set (code ++ jump_if jumps to) start (chooses c (length (code ++ jump_if jumps to)))
 
 -- after both branches: the target of the jump over the other one, if there is one, whose place this is
 abbrev pub landed : Bool → ℕ → List Instruction → List Instruction
@@ -73,7 +75,13 @@ abbrev pub choice_made : Choice → Bool → (List Instruction → List Instruct
     → List Instruction → List Instruction
 choice_made c jumps branch other code =
     landed jumps (length (branch (code ++ chooses c 0 ∷ [])))
-    (other (between c jumps (length code) (branch (code ++ chooses c 0 ∷ []))))
+    (other (between c jumps 0 (length code) (branch (code ++ chooses c 0 ∷ []))))
+
+-- a loop, from what its first part with the operand, and its body, make of the code before them
+abbrev pub loop_made : Choice → Bool → (List Instruction → List Instruction) → (List Instruction → List Instruction)
+    → List Instruction → List Instruction
+loop_made c again first body code =
+    between c again (length code) (length (first code)) (body (first code ++ chooses c 0 ∷ []))
 
 -- the operand of a choice is loaded
 abbrev pub with_operand : EmissionFrame → Operand → List Instruction → List Instruction
@@ -110,6 +118,10 @@ abbrev mutual
   form_made f kinds (if_form o branch other join) code =
       choice_made (choice_of_value f o) (jumps_over_terms (terms_end branch) other)
       (λ x. terms_made f kinds branch x) (λ x. terms_made f kinds other x) (with_operand f o code)
+  form_made f kinds (loop_form first o body end) code =
+      let head = joined_kinds false (terms_end body) kinds (kinds_after f.static body (kinds_after f.static first kinds)) in
+      loop_made (choice_of_value f o) (not (terms_end body)) (λ x. with_operand f o (terms_made f head first x))
+      (λ x. terms_made f (kinds_after f.static first head) body x) code
   form_made f kinds form code = code ++ form_code f (holding kinds) form (length code)
 
   -- the code after terms
@@ -117,3 +129,8 @@ abbrev mutual
   terms_made f kinds no_terms code = code
   terms_made f kinds (and_term form span rest) code =
       terms_made f (kinds_after_form f.static form kinds) rest (form_made f kinds form code)
+
+-- the code after a loop; each other form adds none here
+abbrev pub with_loop : EmissionFrame → Kinds → SilicaForm → List Instruction → List Instruction
+with_loop f kinds (loop_form first o body end) code = form_made f kinds (loop_form first o body end) code
+with_loop f kinds form code = code

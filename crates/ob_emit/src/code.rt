@@ -111,21 +111,27 @@ impl Code {
         self.put(Instruction::EndTest)
     }
 
-    // A jump whose target isn't known yet, or none.
-    fn put_jump_if(&mut self, jumps: bool) -> Result<(), Memory>
-        ensures { OnOk result (self.new ≡ self.old ++ jump_if jumps 0) }
+    // A jump, or none.
+    fn put_jump_if(&mut self, jumps: bool, target: u32) -> Result<(), Memory>
+        ensures { OnOk result (self.new ≡ self.old ++ jump_if jumps target) }
     {
         if jumps {
-            return self.put(Instruction::Jump { target: 0 });
+            return self.put(Instruction::Jump { target });
         }
         Ok(())
     }
 
-    /// Between the branches of a choice that stands at this place.
-    pub fn put_between(&mut self, choice: Choice, jumps: bool, start: u32) -> Result<(), Memory>
-        ensures { OnOk result (self.new ≡ between choice jumps start self.old) }
+    /// Behind the first branch of a choice that stands at this place, or the body of a loop: a jump to a place, if there is one.
+    pub fn put_between(
+        &mut self,
+        choice: Choice,
+        jumps: bool,
+        to: u32,
+        start: u32,
+    ) -> Result<(), Memory>
+        ensures { OnOk result (self.new ≡ between choice jumps to start self.old) }
     {
-        self.put_jump_if(jumps)?;
+        self.put_jump_if(jumps, to)?;
         let target = self.here();
         self.set(start, chooses(choice, target));
         Ok(())

@@ -9,6 +9,7 @@ mod forms;
 mod frame;
 mod kinds;
 mod operands;
+mod passing;
 mod scratch;
 mod straight;
 mod terms;

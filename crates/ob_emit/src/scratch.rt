@@ -79,6 +79,12 @@ fn of_form(form: &Form) -> Result<usize, Memory>
             then,
             otherwise,
             ..
+        }
+        | Form::Loop {
+            a,
+            first: then,
+            body: otherwise,
+            ..
         } => {
             let branches = of_terms(then.as_slice())?.max(of_terms(otherwise.as_slice())?);
             Ok(of_place(0, a.place)?.max(branches))

@@ -89,7 +89,7 @@ fn put_entering(form: &Form, frame: &EmissionFrame<'_>, out: &mut Code) -> Resul
     }
 }
 
-// The code of a form that has no branches; one that has them has none here.
+// The code of a form that has no branches and is no loop; one that has or is has none here.
 #[tactic(auto, using(ob_silica::specs::TermsView::term_views, crate::proofs::CodeLemmas::codes))]
 fn put_straight(form: &Form, frame: &EmissionFrame<'_>, out: &mut Code) -> Result<(), Memory>
     ensures { OnOk result (out.new ≡ out.old ++ straight_code frame.now (form_of form.now)) }
@@ -116,6 +116,7 @@ fn put_straight(form: &Form, frame: &EmissionFrame<'_>, out: &mut Code) -> Resul
         }
         Form::Test { .. }
         | Form::If { .. }
+        | Form::Loop { .. }
         | Form::Assert { .. }
         | Form::Drop { .. }
         | Form::BadRow => Ok(()),
@@ -133,8 +134,23 @@ fn straight_ends(form: &Form) -> bool
     }
 }
 
-/// A form that has no branches: its code, the kind of the slot that it sets, and whether nothing is reached after it. One
-/// that has them changes nothing.
+/// A form that has no branches and is no loop: the kind of the slot that it sets, and whether nothing is reached after it.
+pub fn pass_straight(
+    form: &Form,
+    frame: &EmissionFrame<'_>,
+    kinds: &mut Kinds,
+) -> Result<bool, Memory>
+    ensures ends { IfOk result (λ ends. ends ≡ straight_ends (form_of form.now)) }
+    ensures kinds { OnOk result (kinds_of kinds.new.slots ≡ with_kind (slot_written (form_of form.now))
+        (kind_written frame.now.static (holding (kinds_of kinds.old.slots)) (form_of form.now)) (kinds_of kinds.old.slots)) }
+{
+    let slot = slot_written(form);
+    let kind = kind_written(form, frame, kinds);
+    kinds.put(slot, kind)?;
+    Ok(straight_ends(form))
+}
+
+/// A form that has no branches and is no loop: its code, and what `pass_straight` says. One that has or is changes nothing.
 pub fn emit_straight(
     form: &Form,
     frame: &EmissionFrame<'_>,
@@ -146,9 +162,6 @@ pub fn emit_straight(
         (kind_written frame.now.static (holding (kinds_of kinds.old.slots)) (form_of form.now)) (kinds_of kinds.old.slots)) }
     ensures code { OnOk result (out.new ≡ out.old ++ straight_code frame.now (form_of form.now)) }
 {
-    let slot = slot_written(form);
-    let kind = kind_written(form, frame, kinds);
     put_straight(form, frame, out)?;
-    kinds.put(slot, kind)?;
-    Ok(straight_ends(form))
+    pass_straight(form, frame, kinds)
 }

@@ -3,14 +3,15 @@ ghost use Rattle.std.specs.Prelude.{◌≡◌, ◌++◌, ◌||◌, length, OnOk,
 ghost use Rattle.ob_silica.specs.TermsView.{form_of, terms_of};
 ghost use Rattle.ob_silica_formed.specs.Holdings.{form_ends, terms_end};
 ghost use Rattle.ob_emit_spec.specs.Emission.{contract_referred};
-ghost use Rattle.ob_emit.specs.Kinds.{kinds_of, kinds_after_form, kinds_after};
+ghost use Rattle.ob_emit.specs.Kinds.{kinds_of, kinds_after_form, kinds_after, kinds_after_loop};
 ghost use Rattle.ob_emit.specs.Making.{choice_of_value, choice_of_state, with_operand, jumps_over_terms, branch_ended};
-ghost use Rattle.ob_emit.specs.Making.{choice_of_form, with_operand_of, between, form_made, terms_made};
+ghost use Rattle.ob_emit.specs.Making.{choice_of_form, with_operand_of, between, with_loop, form_made, terms_made};
 
 use crate::code::{Choice, Code};
 use crate::frame::EmissionFrame;
 use crate::kinds::Kinds;
 use crate::operands::load;
+use crate::passing::pass_turn;
 use crate::straight::emit_straight;
 use ob_base::{ContractId, Duplicate, Memory, StateId};
 use ob_silica::{Form, Operand, Term};
@@ -112,12 +113,41 @@ fn end_first_branch(
     out: &mut Code,
 ) -> Result<u32, Memory>
     ensures place { IfOk result (λ place. place ≡ length (out.old ++ branch_ended choice ends)) }
-    ensures code { OnOk result (out.new ≡ between choice jumps start (out.old ++ branch_ended choice ends)) }
+    ensures code { OnOk result (out.new ≡ between choice jumps 0 start (out.old ++ branch_ended choice ends)) }
 {
     put_branch_end(choice, ends, out)?;
     let place = out.here();
-    out.put_between(choice, jumps, start)?;
+    out.put_between(choice, jumps, 0, start)?;
     Ok(place)
+}
+
+// A loop: its code, and what is known after it. Each other form is left alone.
+#[cycle(emit)]
+#[tactic(auto, using(ob_silica::specs::TermsView::term_views, crate::proofs::CodeLemmas::codes))]
+fn emit_loop(
+    form: &Form,
+    frame: &EmissionFrame<'_>,
+    kinds: &mut Kinds,
+    out: &mut Code,
+) -> Result<(), Memory>
+    ensures kinds { OnOk result (kinds_of kinds.new.slots
+        ≡ kinds_after_loop frame.now.static (form_of form.now) (kinds_of kinds.old.slots)) }
+    ensures code { OnOk result (out.new ≡ with_loop frame.now (kinds_of kinds.old.slots) (form_of form.now) out.old) }
+{
+    match form {
+        Form::Loop { first, a, body, .. } => {
+            let start = out.here();
+            pass_turn(out.alloc(), form, frame, kinds)?;
+            emit_terms(first.as_slice(), frame, kinds, out)?;
+            let choice = choose_by_value(frame, *a, out)?;
+            let place = out.here();
+            out.put_choice(choice)?;
+            let mut inside = kinds.copy(out.alloc())?;
+            let ends = emit_terms(body.as_slice(), frame, &mut inside, out)?;
+            out.put_between(choice, !ends, start, place)
+        }
+        _ => Ok(()),
+    }
 }
 
 // A form: its code, and whether nothing is reached after it.
@@ -156,6 +186,10 @@ fn emit_form(
             out.land(jumps, middle);
             kinds.join(out.alloc(), ends, other_ends, other)?;
             Ok(ends && other_ends)
+        }
+        Form::Loop { .. } => {
+            emit_loop(form, frame, kinds, out)?;
+            Ok(false)
         }
         Form::Unit
         | Form::Const { .. }

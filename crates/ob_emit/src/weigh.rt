@@ -195,6 +195,10 @@ fn spend_form(form: &Form, left: usize) -> Option<usize>
             let left = spend_terms(then.as_slice(), left)?;
             spend_terms(otherwise.as_slice(), left)
         }
+        Form::Loop { first, body, .. } => {
+            let left = spend_terms(first.as_slice(), left)?;
+            spend_terms(body.as_slice(), left)
+        }
         Form::Op { line, .. } => {
             let _line = *line;
             Some(left)

@@ -13,9 +13,9 @@ use Rattle.ob_table.specs.declared.seen.Kind.TheVariants.{Reference}
 use Rattle.ob_table_spec.specs.WellFormed.{StaticFrame, frame_of, kind_of_resolved}
 use Rattle.ob_heap_spec.specs.Values.{Value, reference, referred}
 use Rattle.ob_silica.specs.Slots.{slots_of_terms}
-use Rattle.ob_silica.specs.Terms.{SilicaForm, test_form, if_form, SilicaTerms, no_terms, and_term, SilicaBody}
+use Rattle.ob_silica.specs.Terms.{SilicaForm, test_form, if_form, loop_form, SilicaTerms, no_terms, and_term, SilicaBody}
 use Rattle.ob_silica_formed.specs.Holdings.{Holdings, held, params_held, held_at_start, after_form, after_terms, EachWithin, Each}
-use Rattle.ob_silica_formed.specs.Points.{NamesWhatIsThere, HasKinds, TakesResult, LeavesParams, LosesNoReference, NamesBody, ReturnsResult}
+use Rattle.ob_silica_formed.specs.Points.{NamesWhatIsThere, HasKinds, TakesResult, LeavesParams, LosesNoReference, NamesBody, ReturnsResult, TakesTurns}
 use Rattle.ob_silica_formed.specs.WellFormedTerms.{AreWellFormed}
 use Rattle.ob_silica_places.specs.Known.{at}
 use Rattle.ob_silica_places.specs.Parameters.{Parameter, parameter_of}
@@ -39,23 +39,26 @@ use Rattle.ob_lower_correct.proofs.Standing.{at_same, at_other, none_some, some_
 mutual
   each_formed : (f : StaticFrame) (h : Holdings) (terms : SilicaTerms) → Each NamesWhatIsThere f h terms → Each HasKinds f h terms
       → Each TakesResult f h terms → Each LeavesParams f h terms → Each LosesNoReference f h terms → Each NamesBody f h terms
-      → Each ReturnsResult f h terms → Each IsWellFormedForm f h terms
-  each_formed f h no_terms n k t p l b r = tt
-  each_formed f h (and_term form span rest) n k t p l b r = (
-    record { numbers = n.0; kinds = k.0; results = t.0; params = p.0; references = l.0; bodies = b.0; returns = r.0 },
-    within_formed f h form n.1 k.1 t.1 p.1 l.1 b.1 r.1,
-    each_formed f (after_form f form h) rest n.2 k.2 t.2 p.2 l.2 b.2 r.2,
+      → Each ReturnsResult f h terms → Each TakesTurns f h terms → Each IsWellFormedForm f h terms
+  each_formed f h no_terms n k t p l b r u = tt
+  each_formed f h (and_term form span rest) n k t p l b r u = (
+    record { numbers = n.0; kinds = k.0; results = t.0; params = p.0; references = l.0; bodies = b.0; returns = r.0; turns = u.0 },
+    within_formed f h form n.1 k.1 t.1 p.1 l.1 b.1 r.1 u.1,
+    each_formed f (after_form f form h) rest n.2 k.2 t.2 p.2 l.2 b.2 r.2 u.2,
   )
 
   within_formed : (f : StaticFrame) (h : Holdings) (form : SilicaForm) → EachWithin NamesWhatIsThere f h form
       → EachWithin HasKinds f h form
       → EachWithin TakesResult f h form → EachWithin LeavesParams f h form → EachWithin LosesNoReference f h form
-      → EachWithin NamesBody f h form → EachWithin ReturnsResult f h form → EachWithin IsWellFormedForm f h form
-  within_formed f h (test_form place state branch other join) n k t p l b r =
-      (each_formed f h branch n.0 k.0 t.0 p.0 l.0 b.0 r.0, each_formed f h other n.1 k.1 t.1 p.1 l.1 b.1 r.1)
-  within_formed f h (if_form a branch other join) n k t p l b r =
-      (each_formed f h branch n.0 k.0 t.0 p.0 l.0 b.0 r.0, each_formed f h other n.1 k.1 t.1 p.1 l.1 b.1 r.1)
-  within_formed f h form n k t p l b r = tt
+      → EachWithin NamesBody f h form → EachWithin ReturnsResult f h form → EachWithin TakesTurns f h form
+      → EachWithin IsWellFormedForm f h form
+  within_formed f h (test_form place state branch other join) n k t p l b r u =
+      (each_formed f h branch n.0 k.0 t.0 p.0 l.0 b.0 r.0 u.0, each_formed f h other n.1 k.1 t.1 p.1 l.1 b.1 r.1 u.1)
+  within_formed f h (if_form a branch other join) n k t p l b r u =
+      (each_formed f h branch n.0 k.0 t.0 p.0 l.0 b.0 r.0 u.0, each_formed f h other n.1 k.1 t.1 p.1 l.1 b.1 r.1 u.1)
+  within_formed f h (loop_form first a body end) n k t p l b r u =
+      (each_formed f _ first n.0 k.0 t.0 p.0 l.0 b.0 r.0 u.0, each_formed f _ body n.1 k.1 t.1 p.1 l.1 b.1 r.1 u.1)
+  within_formed f h form n k t p l b r u = tt
 
 -- what is found is one of these, and passes
 found_passes : (p : SilicaBody → Bool) (bodies : List SilicaBody) (body : SilicaBody) → find p bodies ≡ Some body
@@ -127,7 +130,7 @@ module _ (program : SilicaProgram) (checked : IsCheckedProgram program) (id : Co
       forms = each_formed (frame_of program.table id b.own b.signature) (held_at_start id b.signature.params) b.body.terms
           body_formed.numbers.forms body_formed.kinds body_formed.results body_formed.params body_formed.references
           body_formed.bodies
-          body_formed.returns;
+          body_formed.returns body_formed.turns;
       slots = body_slots.1;
       scratch = omega arith;
       follows = body_formed.reached;

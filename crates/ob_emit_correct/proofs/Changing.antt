@@ -50,7 +50,7 @@ use Rattle.ob_emit_spec.specs.Operands.{slot_read, slots_read, loads, values_giv
 use Rattle.ob_lower_correct.proofs.Calling.{read_values}
 use Rattle.ob_lower_correct.proofs.Changes.{at_alike, quiet_into, quiet_later, later_edit}
 use Rattle.ob_lower_correct.proofs.Filling.{ReadBy, Filled, Fills, fills, lacks, fill_runs}
-use Rattle.ob_lower_correct.proofs.Standing.{shape, Later, none_some, some_same}
+use Rattle.ob_lower_correct.proofs.Standing.{shape, Later, later_self, none_some, some_same}
 use Rattle.ob_lower_correct.proofs.Values.{there}
 use Rattle.ob_emit_correct.specs.Law.{code_of}
 use Rattle.ob_emit_correct.proofs.Agreeing.{contract_found, fields_agree}
@@ -291,7 +291,7 @@ later_field : (own : Contract) (k : ℕ) (v : Value) (w : World) → Later w (co
 later_field own k v w = go (slice_get own.fields k)
   where
     go : (o : Option Field) → Later w (option_map_or (λ (fd : Field). comes_into fd.of v w) o w)
-    go None = record { by = λ n o e. (o, e, refl) }
+    go None = later_self w
     go (Some fd) = quiet_later (quiet_into fd.of v w)
 
 -- a row of marks of what comes into fields

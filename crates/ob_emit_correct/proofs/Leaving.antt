@@ -19,7 +19,7 @@ use Rattle.ob_silica.specs.Terms.{SilicaTerms}
 use Rattle.ob_silica_places.specs.Known.{at}
 use Rattle.ob_silica_places.specs.Places.{slot, field}
 use Rattle.ob_silica_steps.specs.Cells.{Cell, noted, value_in}
-use Rattle.ob_silica_steps.specs.Configurations.{SilicaProgram, SlotCells, How, by_receiver, by_this, by_new, SilicaFrame, Ends, plain_end, test_end, lock_end, Rest, Loan, Waiting, runs, leaves, Configuration, goes}
+use Rattle.ob_silica_steps.specs.Configurations.{SilicaProgram, SlotCells, How, by_receiver, by_this, by_new, SilicaFrame, Ends, plain_end, test_end, lock_end, loop_end, Rest, Loan, Waiting, runs, leaves, Configuration, goes}
 use Rattle.ob_silica_steps.specs.Here.{Here, here, self_of}
 use Rattle.ob_silica_steps.specs.Returning.{leaves_progress, left_world, with_result, resumes, without_owner, returned_to, unlends, gives_back, goes_back, leave_step}
 use Rattle.ob_silica_steps.specs.Steps.{control_step, step}
@@ -89,6 +89,7 @@ end_alike : (e : Ends) (h : Here) → Alike h (end_branch e h)
 end_alike plain_end h = alike_self h
 end_alike (test_end p) h = permission_alike p _ h
 end_alike (lock_end p n) h = record { slots = (permission_alike p _ h).slots; notes = (permission_alike p _ h).notes }
+end_alike (loop_end first a body end) h = alike_self h
 
 -- what ends with a list, in the world
 pub end_world : (e : Ends) (h : Here) → (end_branch e h).world ≡ world_after_end e h.world
@@ -97,6 +98,7 @@ end_world (test_end (slot k)) h = refl
 end_world (test_end (field k)) h = refl
 end_world (lock_end (slot k) n) h = refl
 end_world (lock_end (field k) n) h = refl
+end_world (loop_end first a body end) h = refl
 
 -- The world that a frame leaves.
 

@@ -15,7 +15,7 @@ use Rattle.ob_heap_spec.specs.Marks.{unlock}
 use Rattle.ob_silica.specs.Terms.{SilicaTerms, SilicaBody}
 use Rattle.ob_silica_formed.specs.Holdings.{Holdings}
 use Rattle.ob_silica_steps.specs.Cells.{Cell, value_in}
-use Rattle.ob_silica_steps.specs.Configurations.{SilicaProgram, is_terms_of, How, by_receiver, by_this, by_new, SilicaFrame, SlotCells, Ends, plain_end, test_end, lock_end, Rest, Waiting, runs, leaves, Configuration, NextStep, goes, ended, aborted, stuck}
+use Rattle.ob_silica_steps.specs.Configurations.{SilicaProgram, is_terms_of, How, by_receiver, by_this, by_new, SilicaFrame, SlotCells, Ends, plain_end, test_end, lock_end, loop_end, Rest, Waiting, runs, leaves, Configuration, NextStep, goes, ended, aborted, stuck}
 use Rattle.ob_silica_steps.specs.Here.{self_of}
 use Rattle.ob_code.specs.declared.instruction.Instruction.{Instruction}
 use Rattle.ob_code.specs.declared.instruction.Instruction.TheVariants as instruction
@@ -129,6 +129,7 @@ abbrev pub world_after_end : Ends → World → World
 world_after_end plain_end w = w
 world_after_end (test_end p) w = w
 world_after_end (lock_end p n) w = unlock n w
+world_after_end (loop_end first a body end) w = w
 
 -- what ends with lists, the innermost first
 abbrev pub world_after_ends : List Rest → World → World

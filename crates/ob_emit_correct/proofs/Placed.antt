@@ -21,7 +21,7 @@ use Rattle.ob_emit_spec.specs.Emission.{EmissionFrame, form_code, terms_code}
 use Rattle.ob_lower_correct.proofs.Standing.{some_same}
 use Rattle.ob_emit_correct.specs.Law.{code_of}
 use Rattle.ob_emit_correct.proofs.Placing.{HasAt, AreEmitted, Around, Stands, KindsHold}
-use Rattle.ob_emit_correct.proofs.Matching.{HasBody, frame_in, code_in, slots_in, SameSlots, GoesOnWith, kind_given_by, AllWaitFor, as_running, Does}
+use Rattle.ob_emit_correct.proofs.Matching.{HasBody, SameFrame, frame_in, code_in, slots_in, SameSlots, GoesOnWith, kind_given_by, AllWaitFor, as_running, Does}
 use Rattle.ob_emit_correct.proofs.Agreeing.{instruction_found}
 use Rattle.ob_emit_correct.proofs.Stepping.{Reaches, reaches_by, does_reached}
 
@@ -75,6 +75,31 @@ stands_rest {f} {count} {code} {at} {h} {form} {span} {rest} s e =
 -- the innermost frame goes on at a place with these slots, in a world
 abbrev pub machine_at : machine.Configuration → ℕ → Slots → World → machine.Configuration
 machine_at m place slots w = record { top = record m.top { at = place; slots = slots }; below = m.below; world = w }
+
+-- a frame of the machine that runs the body of one of the terms
+pub record Framed (program : SilicaProgram) (c : Configuration) (m : machine.Configuration) : Type 0 where
+  pub frame : SameFrame c.frame m.top
+  pub has : HasBody program c.frame.contract c.frame.tx
+
+module _ {program : SilicaProgram} {c : Configuration} {m : machine.Configuration} (y : Framed program c m) where
+  -- the code of the body
+  abbrev pub code_framed : List Instruction
+  code_framed = code_in program c.frame.contract c.frame.tx y.has
+
+  -- the instruction at a place of the code is next there
+  pub instruction_framed : (place : ℕ) (slots : Slots) (w : World) (i : Instruction) → slice_get code_framed place ≡ Some i
+      → next_instruction (code_of program) (machine_at m place slots w) ≡ Some i
+  instruction_framed place slots w i e =
+      ap (λ id. instruction_at (code_of program) id m.top.tx place) y.frame.contract
+      ∙ ap (λ tx. instruction_at (code_of program) c.frame.contract tx place) y.frame.tx
+      ∙ instruction_found program c.frame.contract c.frame.tx y.has place i e
+
+  -- the machine takes a step by the instruction at a place
+  pub steps_framed : (place : ℕ) (slots : Slots) (w : World) (n : machine.Configuration) (i : Instruction)
+      → slice_get code_framed place ≡ Some i
+      → act (code_of program) i (machine_at m place slots w) ≡ Some (machine.goes n)
+      → Reaches program (machine_at m place slots w) n
+  steps_framed place slots w n i e a = reaches_by program (machine_at m place slots w) n i (instruction_framed place slots w i e) a
 
 -- Where a form is about to be run.
 
@@ -132,6 +157,9 @@ module _ {program : SilicaProgram} {form : SilicaForm} {span : Span} {rest : Sil
   abbrev pub slot_count : ℕ
   slot_count = slots_in program c.frame.contract c.frame.tx x.goes_on.has
 
+  abbrev pub framed : Framed program c m
+  framed = record { frame = x.goes_on.frame; has = x.goes_on.has }
+
   -- the code of the form
   abbrev pub own_code : List Instruction
   own_code = form_code around_forms x.goes_on.holdings form m.top.at
@@ -147,17 +175,14 @@ module _ {program : SilicaProgram} {form : SilicaForm} {span : Span} {rest : Sil
   -- the instruction at a place of the code is next there
   pub instruction_here : (place : ℕ) (slots : Slots) (w : World) (i : Instruction) → slice_get code_here place ≡ Some i
       → next_instruction (code_of program) (machine_at m place slots w) ≡ Some i
-  instruction_here place slots w i e =
-      ap (λ id. instruction_at (code_of program) id m.top.tx place) x.goes_on.frame.contract
-      ∙ ap (λ tx. instruction_at (code_of program) c.frame.contract tx place) x.goes_on.frame.tx
-      ∙ instruction_found program c.frame.contract c.frame.tx x.goes_on.has place i e
+  instruction_here place slots w i e = instruction_framed framed place slots w i e
 
   -- the machine takes a step by the instruction at a place
   pub steps_here : (place : ℕ) (slots : Slots) (w : World) (n : machine.Configuration) (i : Instruction)
       → slice_get code_here place ≡ Some i
       → act (code_of program) i (machine_at m place slots w) ≡ Some (machine.goes n)
       → Reaches program (machine_at m place slots w) n
-  steps_here place slots w n i e a = reaches_by program (machine_at m place slots w) n i (instruction_here place slots w i e) a
+  steps_here place slots w n i e a = steps_framed framed place slots w n i e a
 
   -- after the form the frame is left with this, and the machine with these slots, in this world
   pub record LeftWith (h : Here) (slots : Slots) (w : World) : Type 0 where

@@ -3,10 +3,12 @@ use Rattle.std.proofs.Common.{◌≡◌, ℕ, ◌+◌, ◌≤◌, true, false, B
 use Rattle.std.specs.Prelude.{◌||◌, slice_get, ⊤}
 use Rattle.ob_table.specs.declared.seen.Kind.{Kind}
 use Rattle.ob_silica.specs.Slots.{slots_of_terms}
-use Rattle.ob_silica.specs.Terms.{SilicaTerms}
-use Rattle.ob_silica_formed.specs.Holdings.{Holdings, Each, terms_end, after_terms}
+use Rattle.ob_base.specs.declared.fault.Span.{Span}
+use Rattle.ob_silica.specs.declared.place.Operand.{Operand}
+use Rattle.ob_silica.specs.Terms.{loop_form, SilicaTerms, and_term}
+use Rattle.ob_silica_formed.specs.Holdings.{Holdings, Each, terms_end, after_terms, at_head}
 use Rattle.ob_silica_formed.specs.Points.{NoneFollows}
-use Rattle.ob_silica_steps.specs.Configurations.{Rest, Ends, plain_end, test_end, lock_end, SlotCells}
+use Rattle.ob_silica_steps.specs.Configurations.{Rest, Ends, plain_end, test_end, lock_end, loop_end, SlotCells}
 use Rattle.ob_silica_steps.specs.Cells.{Cell}
 use Rattle.ob_coherent_spec.specs.Remaining.{IsWellFormedForm}
 use Rattle.ob_code.specs.declared.instruction.Instruction.{Instruction}
@@ -35,11 +37,12 @@ pub data LeadsTo (code : List Instruction) : ℕ → ℕ → Type 0 where
 abbrev pub KindsToo : Holdings → Holdings → Type 0
 KindsToo h i = (k : ℕ) (x : Kind) → (i k).kind ≡ Some x → (h k).kind ≡ Some x
 
--- how code notes what ends with a list: a lock with its object, and any other test without one
+-- how code notes what ends with a list: a lock with its object, any other test without one, and the first part of a loop not at all
 abbrev pub IsNotedAs : Ends → Option ℕ → Type 0
 IsNotedAs plain_end t = t ≡ None
 IsNotedAs (test_end p) t = t ≡ None
 IsNotedAs (lock_end p n) t = t ≡ Some n
+IsNotedAs (loop_end first a body end) t = ⊥
 
 -- Where the list inside comes to its end at a place, with slots holding this, the terms around go on at another place, with their
 -- holdings; where its end is never reached, nothing is asked of the two.
@@ -54,7 +57,8 @@ pub record EndsTestAndGoesTo (code : List Instruction) (ended : Bool) (at to : �
   pub kinds : ended ≡ false → KindsToo h i
 
 -- What is around a list that comes to its end at a place, or whose end is never reached: the code of each list around it, and the
--- tests that are noted. Where the end of a list is never reached, neither is that of one around it.
+-- tests that are noted. Where the end of a list is never reached, neither is that of one around it. Where the first part of a loop is
+-- the list, its end is behind the code of that part, and the loop stands with what is around it.
 pub data Around (f : EmissionFrame) (count : ℕ) (code : List Instruction) : ℕ → Bool → Holdings → List Rest → List (Option ℕ) → Type 0 where
   outermost : {at : ℕ} {h : Holdings} → Around f count code at true h [] []
   plain : {at : ℕ} {ended : Bool} {h : Holdings} {r : Rest} {outer : List Rest} {tests : List (Option ℕ)} (to : ℕ) (i : Holdings)
@@ -65,6 +69,15 @@ pub data Around (f : EmissionFrame) (count : ℕ) (code : List Instruction) : �
       → IsNotedAs r.ends t → EndsTestAndGoesTo code ended at to h i → HasAt code to (terms_code f i r.terms to) → AreEmitted f count i r.terms
       → Around f count code (to + length (terms_code f i r.terms to)) (ended || terms_end r.terms) (after_terms f.static r.terms i) outer tests
       → Around f count code at ended h (r ∷ outer) (t ∷ tests)
+  turning : {at : ℕ} {ended : Bool} {h : Holdings} {r : Rest} {outer : List Rest} {tests : List (Option ℕ)}
+      (first : SilicaTerms) (o : Operand) (body : SilicaTerms) (end : Span) (start : ℕ) (i : Holdings)
+      → r.ends ≡ loop_end first o body end → at ≡ start + length (terms_code f (at_head f.static first body i) first start)
+      → h ≡ after_terms f.static first (at_head f.static first body i)
+      → HasAt code start (terms_code f i (and_term (loop_form first o body end) end r.terms) start)
+      → AreEmitted f count i (and_term (loop_form first o body end) end r.terms)
+      → Around f count code (start + length (terms_code f i (and_term (loop_form first o body end) end r.terms) start)) (terms_end r.terms)
+      (after_terms f.static (and_term (loop_form first o body end) end r.terms) i) outer tests
+      → Around f count code at ended h (r ∷ outer) tests
 
 -- the code of terms stands at a place, and what is around them after it
 pub record Stands (f : EmissionFrame) (count : ℕ) (code : List Instruction) (at : ℕ) (h : Holdings) (terms : SilicaTerms)

@@ -22,7 +22,7 @@ use Rattle.ob_silica_formed.specs.Points.{HasKind, IsReturnedAs}
 use Rattle.ob_silica_places.specs.Places.{this, located}
 use Rattle.ob_silica_steps.specs.Binding.{bound_cell}
 use Rattle.ob_silica_steps.specs.Cells.{Cell, value_in}
-use Rattle.ob_silica_steps.specs.Configurations.{SilicaProgram, How, by_receiver, by_this, by_new, Ends, plain_end, test_end, lock_end, Rest, Configuration, NextStep, stuck}
+use Rattle.ob_silica_steps.specs.Configurations.{SilicaProgram, How, by_receiver, by_this, by_new, Ends, plain_end, test_end, lock_end, loop_end, Rest, Configuration, NextStep, stuck}
 use Rattle.ob_silica_steps.specs.Here.{Here, here, self_of, self, read, hand}
 use Rattle.ob_silica_steps.specs.Returning.{exits_are_within, leaves_with, gives_this, gives_value, gives_none, gives_result}
 use Rattle.ob_silica_steps.specs.Steps.{act}
@@ -42,7 +42,7 @@ use Rattle.ob_emit_correct.proofs.Handing.{may_come}
 use Rattle.ob_emit_correct.proofs.Marks.{MayCome, IsMarked, IsCodeOf, are_in, marks_one}
 use Rattle.ob_emit_correct.proofs.Matching.{entered_as, Returns, as_leaving, world_after_end, world_after_ends, Does}
 use Rattle.ob_emit_correct.proofs.Placed.{has_front, has_back, place_after, machine_at, FormStep, code_here, around_forms, slot_count, form_placed, form_formed, instruction_here}
-use Rattle.ob_emit_correct.proofs.Placing.{HasAt, IsNotedAs, Around, outermost, plain, tested}
+use Rattle.ob_emit_correct.proofs.Placing.{HasAt, IsNotedAs, Around, outermost, plain, tested, turning}
 use Rattle.ob_emit_correct.proofs.Slots.{Loaded, loads_run, scratch, form_scratch, self_alike}
 use Rattle.ob_emit_correct.proofs.Stepping.{Reaches, reaches_here, reaches_then, does_reached, does_there}
 
@@ -65,6 +65,7 @@ ended_same plain_end t w v is s = subst (λ o. SameWorld w (without_lock o v)) (
 ended_same (test_end p) t w v is s = subst (λ o. SameWorld w (without_lock o v)) (sym is) s
 ended_same (lock_end p n) t w v is s =
     subst (λ o. SameWorld (world_after_end (lock_end p n) w) (without_lock o v)) (sym is) (same_unlock n w v s)
+ended_same (loop_end first a body end) t w v is s = absurd is
 
 -- the locks of the lists around are those of the noted tests
 around_world : {f : EmissionFrame} {count : ℕ} {code : List Instruction} {at : ℕ} {ended : Bool} {h : Holdings} {outer : List
@@ -73,6 +74,8 @@ around_world : {f : EmissionFrame} {count : ℕ} {code : List Instruction} {at :
     → SameWorld (world_after_ends outer w) (without_locks tests v)
 around_world outermost w v s = s
 around_world (plain {r = r} to i e g has em a) w v s =
+    around_world a (world_after_end r.ends w) v (subst (λ z. SameWorld (world_after_end z w) v) (sym e) s)
+around_world (turning {r = r} first o body end start i e at h has em a) w v s =
     around_world a (world_after_end r.ends w) v (subst (λ z. SameWorld (world_after_end z w) v) (sym e) s)
 around_world (tested {r = r} to i t e g has em a) w v s =
     around_world a (world_after_end r.ends w) (without_lock t v) (ended_same r.ends t w v e s)

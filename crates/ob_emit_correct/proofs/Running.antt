@@ -2,7 +2,7 @@
 use Rattle.std.proofs.Common.{◌≡◌, ℕ, zero, suc, ◌+◌, List, Option, Some, refl, sym, ap, ◌∙◌, subst}
 use Rattle.ob_base.specs.declared.fault.Span.{Span}
 use Rattle.ob_heap_spec.specs.Worlds.{SameWorld}
-use Rattle.ob_silica.specs.Terms.{SilicaForm, unit_form, const_form, op_form, copy_form, move_form, new_form, call_form, call_this_form, change_form, test_form, if_form, assert_form, disown_form, drop_form, return_form, revert_form, bad_row_form, SilicaTerms, no_terms, and_term}
+use Rattle.ob_silica.specs.Terms.{SilicaForm, unit_form, const_form, op_form, copy_form, move_form, new_form, call_form, call_this_form, change_form, test_form, if_form, loop_form, assert_form, disown_form, drop_form, return_form, revert_form, bad_row_form, SilicaTerms, no_terms, and_term}
 use Rattle.ob_silica_steps.specs.Calling.{constructor_id}
 use Rattle.ob_silica_steps.specs.Configurations.{SilicaProgram, Rest, runs, Configuration, NextStep, goes, ended, aborted, stuck}
 use Rattle.ob_silica_steps.specs.Starting.{first_notes, started_call, started_new}
@@ -14,7 +14,7 @@ use Rattle.ob_machine_steps.specs.Entries.{Phase, starting, running, marked_worl
 use Rattle.ob_machine_steps.specs.Outcomes.{entry_of_constructor, entry_of_transaction}
 use Rattle.ob_machine_steps.specs.Runs.{paused, after_steps}
 use Rattle.ob_emit_correct.specs.Law.{code_of, EndsAlike, CallsEndAlike, NewsEndAlike}
-use Rattle.ob_emit_correct.proofs.Branching.{if_does, pop_does}
+use Rattle.ob_emit_correct.proofs.Branching.{if_does, loop_does, pop_does}
 use Rattle.ob_emit_correct.proofs.Calling.{call_does, call_this_does, new_does}
 use Rattle.ob_emit_correct.proofs.Changing.{change_does}
 use Rattle.ob_emit_correct.proofs.Leaving.{leave_does}
@@ -44,6 +44,7 @@ form_does program (call_this_form k tx args) span rest outer c m x = call_this_d
 form_does program (change_form state given) span rest outer c m x = change_does x
 form_does program (test_form o state branch other join) span rest outer c m x = test_does x
 form_does program (if_form o branch other join) span rest outer c m x = if_does x
+form_does program (loop_form first o body end) span rest outer c m x = loop_does x
 form_does program (assert_form o perm) span rest outer c m x = assert_does x
 form_does program (disown_form o) span rest outer c m x = disown_does x
 form_does program (drop_form k) span rest outer c m x = drop_does x

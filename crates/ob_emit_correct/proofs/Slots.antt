@@ -34,9 +34,9 @@ use Rattle.ob_machine_steps.specs.Straight.{load_step}
 use Rattle.ob_emit_spec.specs.Emission.{scratch_of_form}
 use Rattle.ob_emit_spec.specs.Operands.{slot_read, load, slots_read, loads, scratch_slots, all_scratch_slots}
 use Rattle.ob_emit_correct.proofs.Placing.{HasAt, KindsHold}
-use Rattle.ob_emit_correct.proofs.Matching.{SameSlots}
+use Rattle.ob_emit_correct.proofs.Matching.{SameSlots, slots_in}
 use Rattle.ob_emit_correct.proofs.Stepping.{Reaches, reaches_here, reaches_then}
-use Rattle.ob_emit_correct.proofs.Placed.{has_front, has_back, place_after, machine_at, FormStep, code_here, slot_count, steps_here}
+use Rattle.ob_emit_correct.proofs.Placed.{has_front, has_back, place_after, machine_at, Framed, code_framed, steps_framed, FormStep, framed, code_here, slot_count}
 
 -- Lists.
 
@@ -203,9 +203,134 @@ pub field_read : (table : ClassTable) (h : Here) (k : ℕ) (v : Value) → value
     → (o : Object) × (self h ≡ Some o) × (o.fields k ≡ Some v)
 field_read table h k v e = field_from table (self h) k v (value_of_cells _ _ v (λ u. refl) e)
 
+module _ {program : SilicaProgram} {c : Configuration} {m : machine.Configuration} (y : Framed program c m) where
+  -- the number of the first scratch slot, and how many slots there are
+  abbrev pub scratch_framed : ℕ
+  scratch_framed = y.has.body.slots
+
+  abbrev pub count_framed : ℕ
+  count_framed = slots_in program c.frame.contract c.frame.tx y.has
+
+  -- slots of the machine that stand for those of the frame
+  abbrev pub StandingFor : Slots → Type 0
+  StandingFor slots = SameSlots scratch_framed count_framed c.frame.slots slots
+
+  -- from a place with these slots, in a world, the operand of a number is loaded
+  record LoadedOne (place : ℕ) (slots : Slots) (w : World) (n : ℕ) (p : Place) (v : Value) : Type 0 where
+    into : Slots
+    same : StandingFor into
+    reaches : Reaches program (machine_at m place slots w) (machine_at m (place + length (load scratch_framed n p)) into w)
+    kept : (k : ℕ) → k < scratch_framed + n → value_at into k ≡ value_at slots k
+    value : value_at into (slot_read scratch_framed n p) ≡ Some v
+    low : slot_read scratch_framed n p < scratch_framed + (n + 1)
+
+  -- nothing is loaded
+  as_it_is : (place : ℕ) (slots : Slots) (w : World) (n k : ℕ) (p : Place) (v : Value) → load scratch_framed n p ≡ []
+      → slot_read scratch_framed n p ≡ k → value_in (c.frame.slots k) ≡ Some v → StandingFor slots
+      → LoadedOne place slots w n p v
+  as_it_is place slots w n k p v none is e s =
+      let d = there (c.frame.slots k) v e in
+      let lt = s.within k d.0 d.1 in
+      let same_place : place ≡ place + length (load scratch_framed n p) = omega (arith, ap length none) in
+      record {
+        into = slots;
+        same = s;
+        reaches = subst (λ q. Reaches program (machine_at m place slots w) (machine_at m q slots w)) same_place
+            (reaches_here program (machine_at m place slots w));
+        kept = λ j h. refl;
+        value = ap (value_at slots) is ∙ s.same k d.0 d.1 ∙ ap Some d.2;
+        low = omega (arith, lt, is);
+      }
+
+  -- a field is loaded into a scratch slot
+  pub loads_field_from : (place : ℕ) (slots : Slots) (w : World) (k : ℕ) (id : FieldId) (v : Value)
+      → slice_get (code_framed y) place ≡ Some (instruction.Load k id) → k < length slots
+      → SameWorld c.world w → value_in (read program.table (here c) (field id.0)) ≡ Some v
+      → Reaches program (machine_at m place slots w) (machine_at m (place + 1) (set_in slots k v) w)
+  loads_field_from place slots w k id v i lt same e =
+      let o = field_read program.table (here c) id.0 v e in
+      let this : object_at w.objects m.top.this ≡ Some o.0 =
+      ap (λ os. object_at os m.top.this) same.objects ∙ ap (object_at c.world.objects) y.frame.this ∙ o.1 in
+      let acts : load_step k id (machine_at m place slots w) ≡ Some
+      (machine.goes (machine_at m (place + 1) (set_in slots k v) w)) =
+      ap (λ o. o >>= λ (o : Object). o.fields id.0 >>= λ u. sets k u (machine_at m place slots w)) this
+      ∙ ap (λ o. o >>= λ u. sets k u (machine_at m place slots w)) o.2
+      ∙ sets_slot (machine_at m place slots w) k v lt in
+      steps_framed y place slots w (machine_at m (place + 1) (set_in slots k v) w) (instruction.Load k id) i acts
+
+  load_one : (place : ℕ) (slots : Slots) (w : World) (n : ℕ) (p : Place) (v : Value)
+      → HasAt (code_framed y) place (load scratch_framed n p) → scratch_framed + scratch_slots n p ≤ count_framed
+      → StandingFor slots → SameWorld c.world w → value_in (read program.table (here c) (location_of p)) ≡ Some v
+      → LoadedOne place slots w n p v
+  load_one place slots w n This v h le s same e = as_it_is place slots w n 0 This v refl refl e s
+  load_one place slots w n (Slot k) v h le s same e = as_it_is place slots w n k (Slot k) v refl refl e s
+  load_one place slots w n (Field id) v h le s same e =
+      let lt : scratch_framed + n < length slots = omega (arith, le, s.many) in
+      record {
+        into = set_in slots (scratch_framed + n) v;
+        same = same_scratch (scratch_framed + n) v (omega arith) s;
+        reaches = loads_field_from place slots w (scratch_framed + n) id v h.0 lt same e;
+        kept = λ j below. value_kept slots (scratch_framed + n) j v (λ is. absurd (omega (arith, below, is)));
+        value = value_set slots (scratch_framed + n) v lt;
+        low = omega arith;
+      }
+
+  -- From a place with these slots, in a world, operands are loaded, of which the first has this number: then these are their values,
+  -- slots below theirs are as they were, and those of the machine stand for those of the frame.
+  pub record LoadedFrom (place : ℕ) (slots : Slots) (w : World) (n : ℕ) (os : List Operand) (vs : List Value) : Type 0 where
+    pub into : Slots
+    pub same : StandingFor into
+    pub reaches : Reaches program (machine_at m place slots w) (machine_at m (place + length (loads scratch_framed n os)) into w)
+    pub kept : (k : ℕ) → k < scratch_framed + n → value_at into k ≡ value_at slots k
+    pub values : values_at into (slots_read scratch_framed n os) ≡ Some vs
+
+  -- one value, and then others
+  value_more : (slots : Slots) (k : ℕ) (ks : List ℕ) (v : Value) (vs : List Value) → value_at slots k ≡ Some v
+      → values_at slots ks ≡ Some vs → values_at slots (k ∷ ks) ≡ Some (v ∷ vs)
+  value_more slots k ks v vs e f =
+      ap (λ o. o >>= λ v. values_at slots ks >>= λ vs. Some (v ∷ vs)) e ∙ ap (λ o. o >>= λ vs. Some (v ∷ vs)) f
+
+  pub loads_from : (place : ℕ) (slots : Slots) (w : World) (n : ℕ) (os : List Operand) (vs : List Value)
+      → HasAt (code_framed y) place (loads scratch_framed n os)
+      → scratch_framed + all_scratch_slots n os ≤ count_framed → StandingFor slots → SameWorld c.world w
+      → read_values program.table (here c) (all_located os) ≡ Some vs
+      → LoadedFrom place slots w n os vs
+  loads_from place slots w n [] vs h le s same e =
+      let same_place : place ≡ place + 0 = omega arith in
+      record {
+        into = slots;
+        same = s;
+        reaches = subst (λ q. Reaches program (machine_at m place slots w) (machine_at m q slots w)) same_place
+            (reaches_here program (machine_at m place slots w));
+        kept = λ j h. refl;
+        values = e;
+      }
+  loads_from place slots w n (o ∷ os) vs h le s same e =
+      let first = load scratch_framed n o.place in
+      let more = loads scratch_framed (n + 1) os in
+      let parts =
+      split_values (value_in (read program.table (here c) (located o)))
+      (read_values program.table (here c) (all_located os)) vs e in
+      let a =
+      load_one place slots w n o.place parts.0 (has_front (code_framed y) place first more h)
+      (omega (arith, le)) s same parts.2 in
+      let b =
+      loads_from (place + length first) a.into w (n + 1) os parts.1 (has_back (code_framed y) place first more h)
+      (omega (arith, le)) a.same same parts.3 in
+      record {
+        into = b.into;
+        same = b.same;
+        reaches = reaches_then a.reaches
+            (subst (λ q. Reaches program (machine_at m (place + length first) a.into w) (machine_at m q b.into w))
+            (sym (place_after place first more)) b.reaches);
+        kept = λ k lt. b.kept k (omega (arith, lt)) ∙ a.kept k lt;
+        values = value_more b.into (slot_read scratch_framed n o.place) (slots_read scratch_framed (n + 1) os) parts.0 parts.1
+            (b.kept (slot_read scratch_framed n o.place) a.low ∙ a.value) b.values ∙ ap Some parts.4;
+      }
+
 module _ {program : SilicaProgram} {form : SilicaForm} {span : Span} {rest : SilicaTerms} {outer : List Rest} {c : Configuration}
     {m : machine.Configuration} (x : FormStep program form span rest outer c m) where
-  -- the number of the first scratch slot
+  -- the number of the first scratch slot of the body
   abbrev pub scratch : ℕ
   scratch = x.goes_on.has.body.slots
 
@@ -220,115 +345,19 @@ module _ {program : SilicaProgram} {form : SilicaForm} {span : Span} {rest : Sil
   abbrev pub Standing : Slots → Type 0
   Standing slots = SameSlots scratch (slot_count x) c.frame.slots slots
 
-  -- from a place with these slots, in a world, the operand of a number is loaded
-  record LoadedOne (place : ℕ) (slots : Slots) (w : World) (n : ℕ) (p : Place) (v : Value) : Type 0 where
-    into : Slots
-    same : Standing into
-    reaches : Reaches program (machine_at m place slots w) (machine_at m (place + length (load scratch n p)) into w)
-    kept : (k : ℕ) → k < scratch + n → value_at into k ≡ value_at slots k
-    value : value_at into (slot_read scratch n p) ≡ Some v
-    low : slot_read scratch n p < scratch + (n + 1)
+  -- where operands are loaded, and then
+  abbrev pub Loaded : ℕ → Slots → World → ℕ → List Operand → List Value → Type 0
+  Loaded place slots w n os vs = LoadedFrom (framed x) place slots w n os vs
 
-  -- nothing is loaded
-  as_it_is : (place : ℕ) (slots : Slots) (w : World) (n k : ℕ) (p : Place) (v : Value) → load scratch n p ≡ []
-      → slot_read scratch n p ≡ k → value_in (c.frame.slots k) ≡ Some v → Standing slots
-      → LoadedOne place slots w n p v
-  as_it_is place slots w n k p v none is e s =
-      let d = there (c.frame.slots k) v e in
-      let lt = s.within k d.0 d.1 in
-      let same_place : place ≡ place + length (load scratch n p) = omega (arith, ap length none) in
-      record {
-        into = slots;
-        same = s;
-        reaches = subst (λ q. Reaches program (machine_at m place slots w) (machine_at m q slots w)) same_place
-            (reaches_here program (machine_at m place slots w));
-        kept = λ j h. refl;
-        value = ap (value_at slots) is ∙ s.same k d.0 d.1 ∙ ap Some d.2;
-        low = omega (arith, lt, is);
-      }
-
-  -- a field is loaded into a scratch slot
   pub loads_field : (place : ℕ) (slots : Slots) (w : World) (k : ℕ) (id : FieldId) (v : Value)
       → slice_get (code_here x) place ≡ Some (instruction.Load k id) → k < length slots
       → SameWorld c.world w → value_in (read program.table (here c) (field id.0)) ≡ Some v
       → Reaches program (machine_at m place slots w) (machine_at m (place + 1) (set_in slots k v) w)
-  loads_field place slots w k id v i lt same e =
-      let o = field_read program.table (here c) id.0 v e in
-      let this : object_at w.objects m.top.this ≡ Some o.0 =
-      ap (λ os. object_at os m.top.this) same.objects ∙ ap (object_at c.world.objects) x.goes_on.frame.this ∙ o.1 in
-      let acts : load_step k id (machine_at m place slots w) ≡ Some
-      (machine.goes (machine_at m (place + 1) (set_in slots k v) w)) =
-      ap (λ o. o >>= λ (o : Object). o.fields id.0 >>= λ u. sets k u (machine_at m place slots w)) this
-      ∙ ap (λ o. o >>= λ u. sets k u (machine_at m place slots w)) o.2
-      ∙ sets_slot (machine_at m place slots w) k v lt in
-      steps_here x place slots w (machine_at m (place + 1) (set_in slots k v) w) (instruction.Load k id) i acts
-
-  load_one : (place : ℕ) (slots : Slots) (w : World) (n : ℕ) (p : Place) (v : Value)
-      → HasAt (code_here x) place (load scratch n p) → scratch + scratch_slots n p ≤ slot_count x
-      → Standing slots → SameWorld c.world w → value_in (read program.table (here c) (location_of p)) ≡ Some v
-      → LoadedOne place slots w n p v
-  load_one place slots w n This v h le s same e = as_it_is place slots w n 0 This v refl refl e s
-  load_one place slots w n (Slot k) v h le s same e = as_it_is place slots w n k (Slot k) v refl refl e s
-  load_one place slots w n (Field id) v h le s same e =
-      let lt : scratch + n < length slots = omega (arith, le, s.many) in
-      record {
-        into = set_in slots (scratch + n) v;
-        same = same_scratch (scratch + n) v (omega arith) s;
-        reaches = loads_field place slots w (scratch + n) id v h.0 lt same e;
-        kept = λ j below. value_kept slots (scratch + n) j v (λ is. absurd (omega (arith, below, is)));
-        value = value_set slots (scratch + n) v lt;
-        low = omega arith;
-      }
-
-  -- From a place with these slots, in a world, operands are loaded, of which the first has this number: then these are their values,
-  -- slots below theirs are as they were, and those of the machine stand for those of the frame.
-  pub record Loaded (place : ℕ) (slots : Slots) (w : World) (n : ℕ) (os : List Operand) (vs : List Value) : Type 0 where
-    pub into : Slots
-    pub same : Standing into
-    pub reaches : Reaches program (machine_at m place slots w) (machine_at m (place + length (loads scratch n os)) into w)
-    pub kept : (k : ℕ) → k < scratch + n → value_at into k ≡ value_at slots k
-    pub values : values_at into (slots_read scratch n os) ≡ Some vs
-
-  -- one value, and then others
-  value_more : (slots : Slots) (k : ℕ) (ks : List ℕ) (v : Value) (vs : List Value) → value_at slots k ≡ Some v
-      → values_at slots ks ≡ Some vs → values_at slots (k ∷ ks) ≡ Some (v ∷ vs)
-  value_more slots k ks v vs e f =
-      ap (λ o. o >>= λ v. values_at slots ks >>= λ vs. Some (v ∷ vs)) e ∙ ap (λ o. o >>= λ vs. Some (v ∷ vs)) f
+  loads_field = loads_field_from (framed x)
 
   pub loads_run : (place : ℕ) (slots : Slots) (w : World) (n : ℕ) (os : List Operand) (vs : List Value)
       → HasAt (code_here x) place (loads scratch n os)
       → scratch + all_scratch_slots n os ≤ slot_count x → Standing slots → SameWorld c.world w
       → read_values program.table (here c) (all_located os) ≡ Some vs
       → Loaded place slots w n os vs
-  loads_run place slots w n [] vs h le s same e =
-      let same_place : place ≡ place + 0 = omega arith in
-      record {
-        into = slots;
-        same = s;
-        reaches = subst (λ q. Reaches program (machine_at m place slots w) (machine_at m q slots w)) same_place
-            (reaches_here program (machine_at m place slots w));
-        kept = λ j h. refl;
-        values = e;
-      }
-  loads_run place slots w n (o ∷ os) vs h le s same e =
-      let first = load scratch n o.place in
-      let more = loads scratch (n + 1) os in
-      let parts =
-      split_values (value_in (read program.table (here c) (located o)))
-      (read_values program.table (here c) (all_located os)) vs e in
-      let a =
-      load_one place slots w n o.place parts.0 (has_front (code_here x) place first more h)
-      (omega (arith, le)) s same parts.2 in
-      let b =
-      loads_run (place + length first) a.into w (n + 1) os parts.1 (has_back (code_here x) place first more h)
-      (omega (arith, le)) a.same same parts.3 in
-      record {
-        into = b.into;
-        same = b.same;
-        reaches = reaches_then a.reaches
-            (subst (λ q. Reaches program (machine_at m (place + length first) a.into w) (machine_at m q b.into w))
-            (sym (place_after place first more)) b.reaches);
-        kept = λ k lt. b.kept k (omega (arith, lt)) ∙ a.kept k lt;
-        values = value_more b.into (slot_read scratch n o.place) (slots_read scratch (n + 1) os) parts.0 parts.1
-            (b.kept (slot_read scratch n o.place) a.low ∙ a.value) b.values ∙ ap Some parts.4;
-      }
+  loads_run = loads_from (framed x)

@@ -12,7 +12,8 @@ pub fn invocations_ignore_names()
     ensures { InvocationsIgnoreNames }
 {}
 
-/// Each jump of an emitted image leads ahead, so that no run of it lasts longer than its units and its longest body say.
+/// Each jump of an emitted image leads ahead, or to the `unit` of a loop's next turn, so that no run of it lasts longer than its units
+/// and its longest body say.
 pub fn emitted_jumps_lead_ahead()
     ensures { EmittedJumpsLeadAhead }
 {}

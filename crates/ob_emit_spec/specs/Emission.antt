@@ -20,7 +20,7 @@ use Rattle.ob_table.specs.declared.operator.UnaryOperator.TheVariants as unary
 use Rattle.ob_table.specs.declared.seen.Kind.{Kind}
 use Rattle.ob_table.specs.declared.seen.Kind.TheVariants.{Reference}
 use Rattle.ob_table_spec.specs.WellFormed.{StaticFrame, constructor_at}
-use Rattle.ob_silica.specs.Terms.{SilicaForm, unit_form, const_form, op_form, copy_form, move_form, new_form, call_form, call_this_form, change_form, test_form, if_form, assert_form, disown_form, drop_form, return_form, revert_form, bad_row_form, SilicaTerms, no_terms, and_term}
+use Rattle.ob_silica.specs.Terms.{SilicaForm, unit_form, const_form, op_form, copy_form, move_form, new_form, call_form, call_this_form, change_form, test_form, if_form, loop_form, assert_form, disown_form, drop_form, return_form, revert_form, bad_row_form, SilicaTerms, no_terms, and_term}
 use Rattle.ob_silica.specs.declared.place.Constant.{Constant}
 use Rattle.ob_silica.specs.declared.place.Constant.TheVariants as constant
 use Rattle.ob_silica.specs.declared.place.Given.{Given}
@@ -30,7 +30,7 @@ use Rattle.ob_silica.specs.declared.place.Place.TheVariants.{This, Slot, Field}
 use Rattle.ob_silica.specs.declared.term.SilicaOperator.{SilicaOperator}
 use Rattle.ob_silica.specs.declared.term.SilicaOperator.TheVariants.{Unary, Binary}
 use Rattle.ob_silica_places.specs.Parameters.{Parameter, all_parameters, parameters}
-use Rattle.ob_silica_formed.specs.Holdings.{Holdings, kind_of_operand, terms_end, after_form}
+use Rattle.ob_silica_formed.specs.Holdings.{Holdings, kind_of_operand, terms_end, after_form, after_terms, at_head}
 use Rattle.ob_code.specs.Code.{no_result}
 use Rattle.ob_code.specs.declared.instruction.Instruction.{Instruction}
 use Rattle.ob_code.specs.declared.instruction.Instruction.TheVariants as instruction
@@ -229,6 +229,18 @@ choose_code f o chooses jumps branch other at =
     (branch (after_load f o at + 1))
     (other (after_branch (after_load f o at + 1) (branch (after_load f o at + 1)) jumps))
 
+-- what is behind the operand of a loop, at a place: an instruction that leaves the loop where the operand is false, the body, and a
+-- jump back to the place where the loop begins, where the body's end is reached
+abbrev pub turn_code : ℕ → ℕ → Bool → ℕ → List Instruction → List Instruction
+turn_code a start again at body = instruction.Unless a (after_branch (at + 1) body again) ∷ (body ++ jump_if again start)
+
+-- the code of a loop at a place, from that of its first part, and that of its body by its place
+abbrev pub loop_code : EmissionFrame → Operand → Bool → List Instruction → (ℕ → List Instruction) → ℕ → List Instruction
+loop_code f o again first body start =
+    first ++ (loads f.scratch 0 (o ∷ [])
+    ++ turn_code (slot_read f.scratch 0 o.place) start again (after_load f o (start + length first))
+    (body (after_load f o (start + length first) + 1)))
+
 abbrev mutual
   -- the code of a form at a place, where slots hold this
   pub form_code : EmissionFrame → Holdings → SilicaForm → ℕ → List Instruction
@@ -247,6 +259,9 @@ abbrev mutual
   form_code f h (if_form o branch other join) at =
       choose_code f o (λ a target. instruction.Unless a target)
       (jumps_over branch other) (λ place. terms_code f h branch place) (λ place. terms_code f h other place) at
+  form_code f h (loop_form first o body end) at =
+      loop_code f o (not (terms_end body)) (terms_code f (at_head f.static first body h) first at)
+      (λ place. terms_code f (after_terms f.static first (at_head f.static first body h)) body place) at
   form_code f h (assert_form o perm) at = []
   form_code f h (disown_form o) at =
       loads f.scratch 0 (o ∷ []) ++ instruction.Disown (slot_read f.scratch 0 o.place) ∷ []
@@ -281,6 +296,8 @@ abbrev mutual
       max (all_scratch_slots 0 (o ∷ [])) (max (scratch_of_terms branch) (scratch_of_terms other))
   scratch_of_form (if_form o branch other join) =
       max (all_scratch_slots 0 (o ∷ [])) (max (scratch_of_terms branch) (scratch_of_terms other))
+  scratch_of_form (loop_form first o body end) =
+      max (all_scratch_slots 0 (o ∷ [])) (max (scratch_of_terms first) (scratch_of_terms body))
   scratch_of_form (assert_form o perm) = 0
   scratch_of_form (disown_form o) = all_scratch_slots 0 (o ∷ [])
   scratch_of_form (drop_form k) = 0

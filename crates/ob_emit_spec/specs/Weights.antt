@@ -4,7 +4,7 @@ use Rattle.ob_base.specs.Faults.{limit}
 use Rattle.ob_base.specs.declared.fault.ProgramFault.{ProgramFault}
 use Rattle.ob_base.specs.declared.fault.Span.{Span}
 use Rattle.ob_table.specs.Tables.{ClassTable}
-use Rattle.ob_silica.specs.Terms.{SilicaForm, const_form, new_form, call_form, call_this_form, change_form, test_form, if_form, SilicaTerms, no_terms, and_term, SilicaBody}
+use Rattle.ob_silica.specs.Terms.{SilicaForm, const_form, new_form, call_form, call_this_form, change_form, test_form, if_form, loop_form, SilicaTerms, no_terms, and_term, SilicaBody}
 use Rattle.ob_silica.specs.declared.place.Constant.{Constant}
 use Rattle.ob_silica.specs.declared.place.Constant.TheVariants as constant
 use Rattle.ob_code.specs.Images.{image}
@@ -48,7 +48,7 @@ weight_of_constant (constant.Bool b) = 0
 weight_of_constant (constant.Text bytes) = length bytes
 
 abbrev mutual
-  -- what a form weighs, with those in its branches
+  -- what a form weighs, with those in its branches or in the parts of a loop
   pub weight_of_form : SilicaForm → ℕ
   weight_of_form (const_form k value) = form_weight + weight_of_constant value
   weight_of_form (new_form k contract args) = form_weight + argument_weight * length args
@@ -57,6 +57,7 @@ abbrev mutual
   weight_of_form (change_form state given) = form_weight + argument_weight * length given
   weight_of_form (test_form place state branch other join) = form_weight + (weight_of_terms branch + weight_of_terms other)
   weight_of_form (if_form a branch other join) = form_weight + (weight_of_terms branch + weight_of_terms other)
+  weight_of_form (loop_form first a body end) = form_weight + (weight_of_terms first + weight_of_terms body)
   weight_of_form form = form_weight
 
   -- what terms weigh

@@ -17,9 +17,9 @@ use Rattle.ob_table.specs.declared.seen.Kind.TheVariants as kind
 use Rattle.ob_table_spec.specs.Conditions.{IsClassTable}
 use Rattle.ob_table_spec.specs.WellFormed.{StaticFrame, frame_of, kind_of_resolved}
 use Rattle.ob_silica.specs.Slots.{slots_of_terms}
-use Rattle.ob_silica.specs.Terms.{SilicaForm, test_form, if_form, SilicaTerms, no_terms, and_term, SilicaBody}
+use Rattle.ob_silica.specs.Terms.{SilicaForm, test_form, if_form, loop_form, SilicaTerms, no_terms, and_term, SilicaBody}
 use Rattle.ob_silica_formed.specs.Holdings.{Holdings, params_held, held_at_start, after_form, after_terms, EachWithin, Each}
-use Rattle.ob_silica_formed.specs.Points.{NamesWhatIsThere, HasKinds, TakesResult, LeavesParams, LosesNoReference, NamesBody, ReturnsResult}
+use Rattle.ob_silica_formed.specs.Points.{NamesWhatIsThere, HasKinds, TakesResult, LeavesParams, LosesNoReference, NamesBody, ReturnsResult, TakesTurns}
 use Rattle.ob_silica_formed.specs.WellFormedTerms.{AreWellFormed}
 use Rattle.ob_coherent_spec.specs.Remaining.{IsWellFormedForm}
 use Rattle.ob_silica_steps.specs.Configurations.{is_terms_of}
@@ -95,27 +95,31 @@ mutual
   pub each_formed : (f : StaticFrame) (h : Holdings) (terms : SilicaTerms) → Each NamesWhatIsThere f h terms
       → Each HasKinds f h terms
       → Each TakesResult f h terms → Each LeavesParams f h terms → Each LosesNoReference f h terms → Each NamesBody f h terms
-      → Each ReturnsResult f h terms → Each IsWellFormedForm f h terms
-  each_formed f h no_terms n k t p l b r = tt
-  each_formed f h (and_term form span rest) n k t p l b r = (
-    record { numbers = n.0; kinds = k.0; results = t.0; params = p.0; references = l.0; bodies = b.0; returns = r.0 },
-    within_formed f h form n.1 k.1 t.1 p.1 l.1 b.1 r.1,
-    each_formed f (after_form f form h) rest n.2 k.2 t.2 p.2 l.2 b.2 r.2,
+      → Each ReturnsResult f h terms → Each TakesTurns f h terms → Each IsWellFormedForm f h terms
+  each_formed f h no_terms n k t p l b r u = tt
+  each_formed f h (and_term form span rest) n k t p l b r u = (
+    record { numbers = n.0; kinds = k.0; results = t.0; params = p.0; references = l.0; bodies = b.0; returns = r.0; turns = u.0 },
+    within_formed f h form n.1 k.1 t.1 p.1 l.1 b.1 r.1 u.1,
+    each_formed f (after_form f form h) rest n.2 k.2 t.2 p.2 l.2 b.2 r.2 u.2,
   )
 
   within_formed : (f : StaticFrame) (h : Holdings) (form : SilicaForm) → EachWithin NamesWhatIsThere f h form
       → EachWithin HasKinds f h form → EachWithin TakesResult f h form → EachWithin LeavesParams f h form
-      → EachWithin LosesNoReference f h form → EachWithin NamesBody f h form → EachWithin ReturnsResult f h form
+      → EachWithin LosesNoReference f h form → EachWithin NamesBody f h form → EachWithin ReturnsResult f h form → EachWithin TakesTurns f h form
       → EachWithin IsWellFormedForm f h form
-  within_formed f h (test_form place state branch other join) n k t p l b r = (
-    each_formed f h branch n.0 k.0 t.0 p.0 l.0 b.0 r.0,
-    each_formed f h other n.1 k.1 t.1 p.1 l.1 b.1 r.1,
+  within_formed f h (test_form place state branch other join) n k t p l b r u = (
+    each_formed f h branch n.0 k.0 t.0 p.0 l.0 b.0 r.0 u.0,
+    each_formed f h other n.1 k.1 t.1 p.1 l.1 b.1 r.1 u.1,
   )
-  within_formed f h (if_form a branch other join) n k t p l b r = (
-    each_formed f h branch n.0 k.0 t.0 p.0 l.0 b.0 r.0,
-    each_formed f h other n.1 k.1 t.1 p.1 l.1 b.1 r.1,
+  within_formed f h (if_form a branch other join) n k t p l b r u = (
+    each_formed f h branch n.0 k.0 t.0 p.0 l.0 b.0 r.0 u.0,
+    each_formed f h other n.1 k.1 t.1 p.1 l.1 b.1 r.1 u.1,
   )
-  within_formed f h form n k t p l b r = tt
+  within_formed f h (loop_form first a body end) n k t p l b r u = (
+    each_formed f _ first n.0 k.0 t.0 p.0 l.0 b.0 r.0 u.0,
+    each_formed f _ body n.1 k.1 t.1 p.1 l.1 b.1 r.1 u.1,
+  )
+  within_formed f h form n k t p l b r u = tt
 
 -- The entry.
 
@@ -178,7 +182,7 @@ certified_body table bodies is_table id tx b =
     let of = code_of table bodies is_table id tx b in
     let enough : max (length b.signature.params + 1) (slots_of_terms b.body.terms) ≤ b.body.slots = b.formed.numbers.slots in
     let low = le-max_right (length b.signature.params + 1) (slots_of_terms b.body.terms) in
-    let each = each_formed f.static h b.body.terms b.formed.numbers.forms b.formed.kinds b.formed.results b.formed.params b.formed.references b.formed.bodies b.formed.returns in
+    let each = each_formed f.static h b.body.terms b.formed.numbers.forms b.formed.kinds b.formed.results b.formed.params b.formed.references b.formed.bodies b.formed.returns b.formed.turns in
     let room : HasRoom c f (slots_of_terms b.body.terms) (scratch_of_terms b.body.terms) = record { low = omega arith; room = omega arith } in
     let code = certified_terms c f of h refl b.body.terms 0 each room b.formed.reached in
     record {

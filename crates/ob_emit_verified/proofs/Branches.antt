@@ -49,7 +49,7 @@ common_self p q x e g = ap (λ z. common_kind z q) e ∙ ap (common_kind (Some x
 abbrev either : Holdings → Holdings → Holdings
 either a b = λ k. either_way (a k) (b k)
 
-fits_first : (c : CodeFrame) (scratch : ℕ) (a b : Holdings) → Fit c.image (known_of scratch (either a b)) (known_of scratch a)
+pub fits_first : (c : CodeFrame) (scratch : ℕ) (a b : Holdings) → Fit c.image (known_of scratch (either a b)) (known_of scratch a)
 fits_first c scratch a b = known_fits c scratch (either a b) (known_of scratch a)
     (λ k x lt e. (x, knows_itself scratch a k lt ∙ (common_parts (a k).kind (b k).kind x e).0, fits_self c.image x))
 

@@ -1,12 +1,13 @@
 -- Certificates of choices: an instruction that names a place further on, a branch, and the other branch at that place.
-use Rattle.std.proofs.Common.{◌≡◌, ℕ, ◌+◌, ◌<◌, List, [], ◌∷◌, ◌++◌, length, Some, Bool, false, Contains, refl, sym, ap, subst, arith, inl, inr, length-append}
+use Rattle.std.proofs.Common.{◌≡◌, ℕ, ◌+◌, ◌<◌, List, [], ◌∷◌, ◌++◌, length, Some, Bool, true, false, Contains, refl, sym, ap, subst, arith, inl, inr, length-append}
 use Rattle.ob_code.specs.declared.instruction.Instruction.{Instruction}
 use Rattle.ob_code.specs.declared.instruction.Instruction.TheVariants as is
+use Rattle.ob_verify_spec.specs.Conditions.{is_fuelled}
 use Rattle.ob_verify_spec.specs.Frames.{CodeFrame}
 use Rattle.ob_verify_spec.specs.Instructions.{KindsOfSlots, targets, leads, keeps, done, effect}
 use Rattle.ob_verify_spec.specs.Calling.{ImplementsInterfacesAlone}
 use Rattle.ob_verify_spec.proofs.Listed.{not_empty, cases, only}
-use Rattle.ob_emit_verified.proofs.Flows.{Fit, fit_self, Table, KnownAt, MayCome, IsSound, IsChecked, IsCertified, come_to, come_less, known_split, checked_both}
+use Rattle.ob_emit_verified.proofs.Flows.{Fit, fit_self, stands_front, stands_back, fuelled_ahead, Table, KnownAt, MayCome, IsSound, IsChecked, IsCertified, come_to, come_less, known_split, checked_both}
 
 -- an instruction leads to a place that it names, or to the next one, and leaves the slots as they are
 pub record IsChoice (f : CodeFrame) (x : Instruction) (to : ℕ) : Type 0 where
@@ -23,7 +24,7 @@ checked_choice f t at to x before choice sound ahead there next other =
       known = before;
       there = there;
       sound = sound;
-      ahead = λ j c. let d : Contains (to ∷ []) j = subst (λ z. Contains z j) choice.target c in subst (λ z. at < z) (only to j d) ahead;
+      fuelled = λ j c. let d : Contains (to ∷ []) j = subst (λ z. Contains z j) choice.target c in fuelled_ahead f at j (subst (λ z. at < z) (only to j d) ahead);
       leads_on = λ j c.
           let d : Contains (to ∷ (at + 1) ∷ []) j = subst (λ z. Contains z j) (choice.leads_to at) c in
           subst (λ z. MayCome f.image t j z) (sym same)
@@ -57,22 +58,24 @@ certified_choice f alone at x branch other before first between second after bra
       known = before ∷ h.known ++ g.known;
       long = let e = length-append h.known g.known in let d = length-append branch other in let p = h.long in let q = g.long in omega arith;
       enters = λ t k end. record { known = before; there = k.0; fit = fit_self f.image before };
-      checks = λ t k end. (
+      checks = λ t s k end. (
         checked_choice f t at (at + 1 + length branch) x before choice sound (omega arith) k.0
             (come_less f.image alone t (at + 1) first before fit_first (h.enters t (one t k) (after_branch t k end)))
             (come_less f.image alone t (at + 1 + length branch) second before fit_second (to_other t k end)),
-        checked_both f t (at + 1) branch other (h.checks t (one t k) (after_branch t k end)) (g.checks t (two t k) (last t end)),
+        checked_both f t (at + 1) branch other
+            (h.checks t (stands_front f.body.instructions (at + 1) branch other s.1) (one t k) (after_branch t k end))
+            (g.checks t (stands_back f.body.instructions (at + 1) branch other s.1) (two t k) (last t end)),
       );
     }
 
-jump_checked : (f : CodeFrame) (t : Table) (at to : ℕ) (held : KindsOfSlots) → IsSound f held (is.Jump to) → t at ≡ Some held
-    → at < to
+pub jump_checked : (f : CodeFrame) (t : Table) (at to : ℕ) (held : KindsOfSlots) → IsSound f held (is.Jump to) → t at ≡ Some held
+    → is_fuelled f at to ≡ true
     → MayCome f.image t to held → IsChecked f t at (is.Jump to)
-jump_checked f t at to held sound there ahead come = record {
+jump_checked f t at to held sound there fuelled come = record {
   known = held;
   there = there;
   sound = sound;
-  ahead = λ j c. subst (λ z. at < z) (only to j c) ahead;
+  fuelled = λ j c. subst (λ z. is_fuelled f at z ≡ true) (only to j c) fuelled;
   leads_on = λ j c. come_to f.image t to j held (only to j c) come;
 }
 
@@ -107,14 +110,16 @@ certified_jump f alone at x branch other before first between second left after 
       known = kinds;
       long = let e = length-append h.known (between ∷ g.known) in let d = length-append branch (jump ∷ other) in let p = h.long in let q = g.long in omega arith;
       enters = λ t k end. record { known = before; there = k.0; fit = fit_self f.image before };
-      checks = λ t k end. (
+      checks = λ t s k end. (
         checked_choice f t at (at + 1 + length branch + 1) x before choice sound (omega arith) k.0
             (come_less f.image alone t (at + 1) first before fit_first (h.enters t (one t k) (to_jump t k)))
             (come_less f.image alone t (at + 1 + length branch + 1) second before fit_second (g.enters t (two t k).1 (left_there t end))),
-        checked_both f t (at + 1) branch (jump ∷ other) (h.checks t (one t k) (to_jump t k)) (
-          jump_checked f t (at + 1 + length branch) (at + 1 + length branch + 1 + length other) between (sound_jump f between (at + 1 + length branch + 1 + length other)) (two t k).0 (omega arith)
-              (come_less f.image alone t (at + 1 + length branch + 1 + length other) after between fit_between (at_end t end)),
-          g.checks t (two t k).1 (left_there t end),
-        ),
+        checked_both f t (at + 1) branch (jump ∷ other)
+            (h.checks t (stands_front f.body.instructions (at + 1) branch (jump ∷ other) s.1) (one t k) (to_jump t k)) (
+              jump_checked f t (at + 1 + length branch) (at + 1 + length branch + 1 + length other) between (sound_jump f between (at + 1 + length branch + 1 + length other)) (two t k).0
+                  (fuelled_ahead f (at + 1 + length branch) (at + 1 + length branch + 1 + length other) (omega arith))
+                  (come_less f.image alone t (at + 1 + length branch + 1 + length other) after between fit_between (at_end t end)),
+              g.checks t (stands_back f.body.instructions (at + 1) branch (jump ∷ other) s.1).1 (two t k).1 (left_there t end),
+            ),
       );
     }

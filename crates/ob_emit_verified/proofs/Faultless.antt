@@ -1,5 +1,5 @@
 -- A body whose code is certified: what ways hold fits what is known, and no condition holds.
-use Rattle.std.proofs.Common.{◌≡◌, ◌≢◌, ℕ, zero, suc, ◌+◌, ◌<◌, List, [], ◌∷◌, length, Option, Some, Bool, true, false, not, nat_lt, Contains, slice_get, refl, sym, ap, ◌∙◌, subst, arith, inl, inr}
+use Rattle.std.proofs.Common.{◌≡◌, ◌≢◌, ℕ, zero, suc, ◌+◌, ◌<◌, List, [], ◌∷◌, length, Option, Some, Bool, true, false, not, Contains, slice_get, refl, sym, ap, ◌∙◌, subst, arith, inl, inr}
 use Rattle.std.specs.List.{list_all}
 use Rattle.std.specs.Option.{option_map_or, option_and_then}
 use Rattle.std.specs.Prelude.{◌==◌, ◌&&◌, None, if◌then◌else◌}
@@ -16,11 +16,11 @@ use Rattle.ob_code.specs.declared.image.Image.{Image}
 use Rattle.ob_code.specs.declared.instruction.Instruction.{Instruction}
 use Rattle.ob_code.specs.declared.instruction.Instruction.TheVariants as is
 use Rattle.ob_verify_spec.specs.declared.CodeFault.{CodeFault}
-use Rattle.ob_verify_spec.specs.declared.CodeFault.TheVariants.{BadJump, BadSlot, KindMismatch, BadField, BadCall, FallsOff}
+use Rattle.ob_verify_spec.specs.declared.CodeFault.TheVariants.{BadJump, BadSlot, KindMismatch, BadField, BadCall, FallsOff, NoFuelMark}
 use Rattle.ob_verify_spec.specs.Kinds.{implements_number, fits, is_plain_interface, interface_declared, interface_of_contract, BelongsTo}
 use Rattle.ob_verify_spec.specs.Frames.{CodeFrame}
 use Rattle.ob_verify_spec.specs.Instructions.{KindsOfSlots, targets, leads, Need, slots_needed, meets, needs, done, effect}
-use Rattle.ob_verify_spec.specs.Conditions.{is_ahead, bad_jump, lacks_slots}
+use Rattle.ob_verify_spec.specs.Conditions.{is_within, is_fuelled, bad_jump, no_fuel_mark, lacks_slots}
 use Rattle.ob_verify_spec.specs.Calling.{ImplementsInterfacesAlone, ImplementsWhatIsThere}
 use Rattle.ob_verify_spec.specs.Ways.{IsAt, at_entry, Way, start, step, Mismatch, unmet, differs, Holds, IsFaultless}
 use Rattle.ob_verify_spec.proofs.Cells.{none_some, some_same}
@@ -29,7 +29,7 @@ use Rattle.ob_verify_spec.proofs.Naming.{needs_below}
 use Rattle.ob_verify_spec.proofs.Needs.{meets_set}
 use Rattle.ob_verify_spec.proofs.Fitting.{meet_too}
 use Rattle.ob_verify_spec.proofs.Meeting.{HoldsOne, both_least}
-use Rattle.ob_emit_verified.proofs.Flows.{Serves, Fit, fit_done, Table, KnownAt, MayCome, IsChecked, AreChecked, IsCertified, come_less}
+use Rattle.ob_emit_verified.proofs.Flows.{StandsAt, Serves, Fit, fit_done, Table, KnownAt, MayCome, IsChecked, AreChecked, IsCertified, come_less}
 
 -- A body of which all the code is certified: what is known at first the entry holds, and the end is never reached.
 pub record IsCertifiedBody (f : CodeFrame) : Type 0 where
@@ -47,6 +47,15 @@ all_known t at [] h = tt
 all_known t at (k ∷ ks) h =
     let first : at ≡ 0 + at = omega arith in
     (ap t first ∙ h 0, all_known t (at + 1) ks (λ n. let e : n + (at + 1) ≡ suc n + at = omega arith in ap t e ∙ h (suc n)))
+
+-- the whole of code stands in itself
+all_stand : (code xs : List Instruction) (at : ℕ) → ((n : ℕ) → slice_get code (n + at) ≡ slice_get xs n) → StandsAt code at xs
+all_stand code [] at h = tt
+all_stand code (x ∷ xs) at h =
+    let first : at ≡ 0 + at = omega arith in (
+      ap (slice_get code) first ∙ h 0,
+      all_stand code xs (at + 1) (λ n. let e : n + (at + 1) ≡ suc n + at = omega arith in ap (slice_get code) e ∙ h (suc n)),
+    )
 
 checked_in : (f : CodeFrame) (t : Table) (at : ℕ) (code : List Instruction) (n : ℕ) (x : Instruction) → AreChecked f t at code
     → slice_get code n ≡ Some x
@@ -72,7 +81,9 @@ within_body f c i s e = subst (λ z. i < z) c.code.long (slice_get_within c.code
 
 pub checked_at : (f : CodeFrame) (c : IsCertifiedBody f) (i : ℕ) (x : Instruction) → IsAt f i x → IsChecked f (table_of f c) i x
 checked_at f c i x at =
-    let all = c.code.checks (table_of f c) (known_in f c) (λ e. absurd (true≢false e)) in
+    let whole = all_stand f.body.instructions f.body.instructions 0
+    (λ n. let e : n + 0 ≡ n = omega arith in ap (slice_get f.body.instructions) e) in
+    let all = c.code.checks (table_of f c) whole (known_in f c) (λ e. absurd (true≢false e)) in
     let place : 0 + i ≡ i = omega arith in
     subst (λ z. IsChecked f (table_of f c) z x) place (checked_in f (table_of f c) 0 f.body.instructions i x all at)
 
@@ -88,14 +99,15 @@ target_led i (is.Unless a u) t c = elim (cases u t [] c) [ inl e ↦ subst (λ z
 target_led i (is.Test a d s u) t c = elim (cases u t [] c) [ inl e ↦ subst (λ z. Contains (u ∷ (i + 1) ∷ []) z) e (head u ((i + 1) ∷ [])) | inr h ↦ absurd (not_empty t h) ]
 target_led i x t c = absurd (not_empty t c)
 
-jumps_well : (f : CodeFrame) (c : IsCertifiedBody f) (i : ℕ) (x : Instruction) → IsAt f i x → bad_jump f i x ≡ false
+jumps_well : (f : CodeFrame) (c : IsCertifiedBody f) (i : ℕ) (x : Instruction) → IsAt f i x → bad_jump f x ≡ false
 jumps_well f c i x at =
     let h = checked_at f c i x at in
-    ap not (all_pass (is_ahead f i) (targets x) (λ t d.
+    ap not (all_pass (is_within f) (targets x) (λ t d.
     let come = h.leads_on t (target_led i x t d) in
-    let ahead : nat_lt i t ≡ true = lt-ltb i t (h.ahead t d) in
-    let within : nat_lt t (length f.body.instructions) ≡ true = lt-ltb t (length f.body.instructions) (within_body f c t come.known come.there) in
-    rw (ahead, within) refl))
+    lt-ltb t (length f.body.instructions) (within_body f c t come.known come.there)))
+
+jumps_fuelled : (f : CodeFrame) (c : IsCertifiedBody f) (i : ℕ) (x : Instruction) → IsAt f i x → no_fuel_mark f i x ≡ false
+jumps_fuelled f c i x at = ap not (all_pass (is_fuelled f i) (targets x) (checked_at f c i x at).fuelled)
 
 enough_at : (f : CodeFrame) (i : ℕ) → lacks_slots f 0 ≡ false → lacks_slots f i ≡ false
 enough_at f zero e = e
@@ -222,6 +234,7 @@ none_but_kinds f c i BadSlot other (inr h) = true≢false (sym h.so ∙ (checked
 none_but_kinds f c i KindMismatch other h = other refl
 none_but_kinds f c i BadField other h = true≢false (sym h.so ∙ (checked_at f c i h.instruction h.at).sound.fields)
 none_but_kinds f c i BadCall other h = true≢false (sym h.so ∙ (checked_at f c i h.instruction h.at).sound.calls)
+none_but_kinds f c i NoFuelMark other h = true≢false (sym h.so ∙ jumps_fuelled f c i h.instruction h.at)
 none_but_kinds f c i FallsOff other (e, (s, w)) =
     let come = way_fits f c i s w in
     let lt : i < length f.body.instructions = within_body f c i come.known come.there in
@@ -234,4 +247,5 @@ faultless f has c i BadSlot h = none_but_kinds f c i BadSlot (λ e. absurd (cc))
 faultless f has c i KindMismatch h = no_mismatch f has c i h.instruction h.need h.at h.needed h.so
 faultless f has c i BadField h = none_but_kinds f c i BadField (λ e. absurd (cc)) h
 faultless f has c i BadCall h = none_but_kinds f c i BadCall (λ e. absurd (cc)) h
+faultless f has c i NoFuelMark h = none_but_kinds f c i NoFuelMark (λ e. absurd (cc)) h
 faultless f has c i FallsOff h = none_but_kinds f c i FallsOff (λ e. absurd (cc)) h

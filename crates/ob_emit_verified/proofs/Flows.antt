@@ -1,14 +1,17 @@
 -- Certificates of code: what is known of the slots before each instruction, segment by segment.
 use Rattle.std.proofs.Common.{◌≡◌, ℕ, ◌+◌, ◌<◌, List, [], ◌∷◌, ◌++◌, length, Option, Some, Bool, true, false, Contains, refl, ap, subst, arith, inl, inr, length-append}
-use Rattle.std.specs.Prelude.{⊤}
+use Rattle.std.specs.Prelude.{⊤, ◌||◌, nat_lt, slice_get}
+use Rattle.std.specs.Option.{option_map_or}
+use Rattle.std.proofs.lemmas.Bool.{lt-ltb}
 use Rattle.std.proofs.lemmas.Bool.Decides.{eqb_tells}
 use Rattle.ob_table.specs.declared.seen.Kind.{Kind}
 use Rattle.ob_code.specs.declared.image.Image.{Image}
 use Rattle.ob_code.specs.declared.instruction.Instruction.{Instruction}
+use Rattle.ob_code.specs.declared.instruction.Instruction.TheVariants as is
 use Rattle.ob_verify_spec.specs.Kinds.{fits}
 use Rattle.ob_verify_spec.specs.Frames.{CodeFrame}
 use Rattle.ob_verify_spec.specs.Instructions.{KindsOfSlots, targets, leads, Need, meets, needs, Effect, keeps, sets, copies, set_slot, done, effect}
-use Rattle.ob_verify_spec.specs.Conditions.{names_bad_slot, bad_field, bad_call}
+use Rattle.ob_verify_spec.specs.Conditions.{names_bad_slot, bad_field, bad_call, is_unit, is_fuelled}
 use Rattle.ob_verify_spec.specs.Calling.{ImplementsInterfacesAlone}
 use Rattle.ob_verify_spec.proofs.Listed.{not_empty, only}
 use Rattle.ob_verify_spec.proofs.Fitting.{fits_self, fits_all}
@@ -46,6 +49,37 @@ fit_done m keeps known s fit = fit
 fit_done m (sets k held) known s fit = fit_set m k held held known s (λ x e. (x, e, fits_self m x)) fit
 fit_done m (copies k a) known s fit = fit_set m k (known a) (s a) known s (λ x e. fit a x e) fit
 
+-- Places of code.
+
+-- these instructions stand at a place of code
+abbrev pub StandsAt : List Instruction → ℕ → List Instruction → Type 0
+StandsAt code at [] = ⊤
+StandsAt code at (x ∷ xs) = (slice_get code at ≡ Some x) × StandsAt code (at + 1) xs
+
+pub stands_front : (code : List Instruction) (at : ℕ) (a b : List Instruction) → StandsAt code at (a ++ b) → StandsAt code at a
+stands_front code at [] b h = tt
+stands_front code at (i ∷ a) b h = (h.0, stands_front code (at + 1) a b h.1)
+
+pub stands_back : (code : List Instruction) (at : ℕ) (a b : List Instruction) → StandsAt code at (a ++ b)
+    → StandsAt code (at + length a) b
+stands_back code at [] b h = let e : at ≡ at + 0 = omega arith in subst (λ n. StandsAt code n b) e h
+stands_back code at (i ∷ a) b h =
+    let e : at + 1 + length a ≡ at + length (i ∷ a) = omega arith in
+    subst (λ n. StandsAt code n b) e (stands_back code (at + 1) a b h.1)
+
+-- a place ahead needs no unit
+pub fuelled_ahead : (f : CodeFrame) (i j : ℕ) → i < j → is_fuelled f i j ≡ true
+fuelled_ahead f i j lt = ap (λ b. b || option_map_or is_unit (slice_get f.body.instructions j) false) (lt-ltb i j lt)
+
+or_second : (a b : Bool) → b ≡ true → (a || b) ≡ true
+or_second true b e = refl
+or_second false b e = e
+
+-- nor does one where a unit stands
+pub fuelled_unit : (f : CodeFrame) (i j : ℕ) → slice_get f.body.instructions j ≡ Some is.Unit → is_fuelled f i j ≡ true
+fuelled_unit f i j e =
+    or_second (nat_lt i j) (option_map_or is_unit (slice_get f.body.instructions j) false) (ap (λ x. option_map_or is_unit x false) e)
+
 -- Certificates.
 
 -- what is known of the slots at places
@@ -70,12 +104,12 @@ pub record IsSound (f : CodeFrame) (known : KindsOfSlots) (x : Instruction) : Ty
   pub calls : bad_call f x ≡ false
   pub met : (n : Need) → Contains (needs f x) n → meets f.image known n ≡ true
 
--- an instruction at a place is sound, and leads ahead to places where what is known holds
+-- an instruction at a place is sound, and leads to places where what is known holds, ahead or to a unit
 pub record IsChecked (f : CodeFrame) (t : Table) (at : ℕ) (x : Instruction) : Type 0 where
   pub known : KindsOfSlots
   pub there : t at ≡ Some known
   pub sound : IsSound f known x
-  pub ahead : (j : ℕ) → Contains (targets x) j → at < j
+  pub fuelled : (j : ℕ) → Contains (targets x) j → is_fuelled f at j ≡ true
   pub leads_on : (j : ℕ) → Contains (leads at x) j → MayCome f.image t j (done (effect f x) known)
 
 -- the same of instructions from a place on
@@ -84,15 +118,15 @@ AreChecked f t at [] = ⊤
 AreChecked f t at (x ∷ xs) = IsChecked f t at x × AreChecked f t (at + 1) xs
 
 -- A segment of code at a place is certified. There are kinds for each of its places; wherever they are known, and what holds after the
--- segment holds at its end unless that is never reached, slots that hold what holds before it may come to its beginning, and each of
--- its instructions is checked.
+-- segment holds at its end unless that is never reached, slots that hold what holds before it may come to its beginning, and, where the
+-- segment stands in the body, each of its instructions is checked.
 pub record IsCertified (f : CodeFrame) (at : ℕ) (code : List Instruction) (before : KindsOfSlots) (ended : Bool) (after : KindsOfSlots) : Type 0 where
   pub known : List KindsOfSlots
   pub long : length known ≡ length code
   pub enters : (t : Table) → KnownAt t at known → (ended ≡ false → MayCome f.image t (at + length code) after)
       → MayCome f.image t at before
-  pub checks : (t : Table) → KnownAt t at known → (ended ≡ false → MayCome f.image t (at + length code) after)
-      → AreChecked f t at code
+  pub checks : (t : Table) → StandsAt f.body.instructions at code → KnownAt t at known
+      → (ended ≡ false → MayCome f.image t (at + length code) after) → AreChecked f t at code
 
 -- Segments.
 
@@ -127,7 +161,7 @@ certified_none f alone at before after fit = record {
   known = [];
   long = refl;
   enters = λ t k end. let e : at + 0 ≡ at = omega arith in come_less f.image alone t at after before fit (come_to f.image t (at + 0) at after e (end refl));
-  checks = λ t k end. tt;
+  checks = λ t s k end. tt;
 }
 
 -- an instruction leads to the next one and nowhere else
@@ -140,12 +174,12 @@ certified_one f at x before plain sound = record {
   known = before ∷ [];
   long = refl;
   enters = λ t k end. record { known = before; there = k.0; fit = fit_self f.image before };
-  checks = λ t k end. (
+  checks = λ t s k end. (
     record {
       known = before;
       there = k.0;
       sound = sound;
-      ahead = λ j c. let d : Contains [] j = subst (λ z. Contains z j) plain.0 c in absurd (not_empty j d);
+      fuelled = λ j c. let d : Contains [] j = subst (λ z. Contains z j) plain.0 c in absurd (not_empty j d);
       leads_on = λ j c.
           let d : Contains ((at + 1) ∷ []) j = subst (λ z. Contains z j) (plain.1 at) c in
           come_to f.image t (at + 1) j (done (effect f x) before) (only (at + 1) j d) (end refl);
@@ -164,12 +198,12 @@ certified_last f at x before after plain sound = record {
   known = before ∷ [];
   long = refl;
   enters = λ t k end. record { known = before; there = k.0; fit = fit_self f.image before };
-  checks = λ t k end. (
+  checks = λ t s k end. (
     record {
       known = before;
       there = k.0;
       sound = sound;
-      ahead = λ j c. let d : Contains [] j = subst (λ z. Contains z j) plain.0 c in absurd (not_empty j d);
+      fuelled = λ j c. let d : Contains [] j = subst (λ z. Contains z j) plain.0 c in absurd (not_empty j d);
       leads_on = λ j c. let d : Contains [] j = subst (λ z. Contains z j) (plain.1 at) c in absurd (not_empty j d);
     },
     tt,
@@ -191,8 +225,9 @@ certified_both f at xs ys before between after ended h g =
       known = h.known ++ g.known;
       long = let e = length-append h.known g.known in let d = length-append xs ys in let p = h.long in let q = g.long in omega arith;
       enters = λ t k end. h.enters t (known_split t at h.known g.known k).0 (λ e. g.enters t (second t k) (last t end));
-      checks = λ t k end. checked_both f t at xs ys (h.checks t (known_split t at h.known g.known k).0 (λ e. g.enters t (second t k) (last t end)))
-          (g.checks t (second t k) (last t end));
+      checks = λ t s k end. checked_both f t at xs ys
+          (h.checks t (stands_front f.body.instructions at xs ys s) (known_split t at h.known g.known k).0 (λ e. g.enters t (second t k) (last t end)))
+          (g.checks t (stands_back f.body.instructions at xs ys s) (second t k) (last t end));
     }
 
 -- what is known after may be less
@@ -203,5 +238,16 @@ certified_after f alone at code before after less ended fit h = record {
   known = h.known;
   long = h.long;
   enters = λ t k end. h.enters t k (λ e. come_less f.image alone t (at + length code) less after fit (end e));
-  checks = λ t k end. h.checks t k (λ e. come_less f.image alone t (at + length code) less after fit (end e));
+  checks = λ t s k end. h.checks t s k (λ e. come_less f.image alone t (at + length code) less after fit (end e));
+}
+
+-- what is known before may be more
+pub certified_before : (f : CodeFrame) → ImplementsInterfacesAlone f.image
+    → (at : ℕ) (code : List Instruction) (less before after : KindsOfSlots) (ended : Bool)
+    → Fit f.image less before → IsCertified f at code less ended after → IsCertified f at code before ended after
+certified_before f alone at code less before after ended fit h = record {
+  known = h.known;
+  long = h.long;
+  enters = λ t k end. come_less f.image alone t at less before fit (h.enters t k end);
+  checks = h.checks;
 }

@@ -6,6 +6,7 @@ pub mod Operands
 pub mod Marks
 pub mod Straight
 pub mod Calls
+pub mod Turns
 pub mod Branches
 pub mod Terms
 pub mod Images

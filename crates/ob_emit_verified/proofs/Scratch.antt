@@ -13,7 +13,7 @@ use Rattle.ob_table.specs.Tables.{contract_at, field_at, signature_of}
 use Rattle.ob_table.specs.declared.contract.Param.{Param}
 use Rattle.ob_table.specs.declared.contract.Signature.{Signature}
 use Rattle.ob_table_spec.specs.WellFormed.{StaticFrame, constructor_at}
-use Rattle.ob_silica.specs.Terms.{SilicaForm, unit_form, const_form, op_form, copy_form, move_form, new_form, call_form, call_this_form, change_form, test_form, if_form, assert_form, disown_form, drop_form, return_form, revert_form, bad_row_form, SilicaTerms, no_terms, and_term}
+use Rattle.ob_silica.specs.Terms.{SilicaForm, unit_form, const_form, op_form, copy_form, move_form, new_form, call_form, call_this_form, change_form, test_form, if_form, loop_form, assert_form, disown_form, drop_form, return_form, revert_form, bad_row_form, SilicaTerms, no_terms, and_term}
 use Rattle.ob_silica.specs.declared.place.Given.{Given}
 use Rattle.ob_silica.specs.declared.place.Operand.{Operand}
 use Rattle.ob_silica.specs.declared.place.Place.{Place}
@@ -131,6 +131,8 @@ mutual
       max-le (one_operand o) (max-le (terms_few f few h branch within.0) (terms_few f few h other within.1))
   form_few f few h (if_form o branch other join) formed within =
       max-le (one_operand o) (max-le (terms_few f few h branch within.0) (terms_few f few h other within.1))
+  form_few f few h (loop_form first o body end) formed within =
+      max-le (one_operand o) (max-le (terms_few f few _ first within.0) (terms_few f few _ body within.1))
   form_few f few h (disown_form o) formed within = one_operand o
   form_few f few h (return_form (Some o)) formed within = one_operand o
   form_few f few h (return_form None) formed within = omega arith

@@ -43,7 +43,7 @@ body_fits : (table : ClassTable) → IsClassTable table → (id : ContractId) (t
 body_fits table is id tx b =
     let f = frame_of table id b.own b.signature in
     let h = held_at_start id b.signature.params in
-    let each = each_formed f h b.body.terms b.formed.numbers.forms b.formed.kinds b.formed.results b.formed.params b.formed.references b.formed.bodies b.formed.returns in
+    let each = each_formed f h b.body.terms b.formed.numbers.forms b.formed.kinds b.formed.results b.formed.params b.formed.references b.formed.bodies b.formed.returns b.formed.turns in
     let slots = few_slots b.body.slots b.formed.numbers.few in
     let scratch = terms_few f (has_few table is id b.own b.signature b.is_own) h b.body.terms each in
     omega arith

@@ -1,5 +1,5 @@
 -- The code of well-formed terms is certified.
-use Rattle.std.proofs.Common.{◌≡◌, ℕ, ◌+◌, ◌<◌, ◌≤◌, List, [], ◌∷◌, ◌++◌, length, Option, Some, None, Bool, true, false, not, ◌&&◌, ◌||◌, refl, sym, ap, ◌∙◌, subst, arith, inl, inr}
+use Rattle.std.proofs.Common.{◌≡◌, ℕ, ◌+◌, ◌<◌, ◌≤◌, List, [], ◌∷◌, ◌++◌, length, Option, Some, None, Bool, true, false, not, ◌&&◌, ◌||◌, slice_get, refl, sym, ap, ◌∙◌, subst, arith, inl, inr}
 use Rattle.std.specs.Prelude.{⊤, IsSomeAnd, IfSome, max}
 use Rattle.std.proofs.lemmas.Bool.{true≢false, not-true}
 use Rattle.std.proofs.lemmas.Bool.Decides.{eqb_tells}
@@ -12,27 +12,30 @@ use Rattle.ob_table.specs.declared.seen.Kind.{Kind}
 use Rattle.ob_table.specs.declared.seen.Kind.TheVariants as kind
 use Rattle.ob_table_spec.specs.WellFormed.{StaticFrame, RefersTo, serves_as}
 use Rattle.ob_silica.specs.Slots.{slots_of_operand, slots_of_operands, slots_of_given, slots_of_result, slots_of_form, slots_of_terms}
-use Rattle.ob_silica.specs.Terms.{SilicaForm, unit_form, const_form, op_form, copy_form, move_form, new_form, call_form, call_this_form, change_form, test_form, if_form, assert_form, disown_form, drop_form, return_form, revert_form, bad_row_form, SilicaTerms, no_terms, and_term}
+use Rattle.ob_silica.specs.Terms.{SilicaForm, unit_form, const_form, op_form, copy_form, move_form, new_form, call_form, call_this_form, change_form, test_form, if_form, loop_form, assert_form, disown_form, drop_form, return_form, revert_form, bad_row_form, SilicaTerms, no_terms, and_term}
 use Rattle.ob_silica.specs.declared.place.Given.{Given}
 use Rattle.ob_silica.specs.declared.place.Operand.{Operand}
 use Rattle.ob_silica.specs.declared.place.Place.TheVariants.{This, Slot, Field as FieldPlace}
-use Rattle.ob_silica_formed.specs.Holdings.{SlotContent, Holdings, with_slot_if, kind_of_operand, slot_written, kind_written, written, held, joined, form_ends, terms_end, after_form, after_terms, EachWithin, Each}
-use Rattle.ob_silica_formed.specs.Points.{ArePlaces, AreFields, HasKind, NoneFollows, NoneFollowsWithin}
+use Rattle.ob_silica_formed.specs.Holdings.{SlotContent, Holdings, with_slot_if, kind_of_operand, slot_written, kind_written, written, held, joined, form_ends, terms_end, after_form, after_terms, at_head, EachWithin, Each}
+use Rattle.ob_silica_formed.specs.Points.{ArePlaces, AreFields, HasKind, HasKinds, BeginsWithUnit, NoneFollows, NoneFollowsWithin}
+use Rattle.ob_coherent_spec.proofs.Heads.{turn_holds}
 use Rattle.ob_coherent_spec.specs.Remaining.{IsWellFormedForm}
 use Rattle.ob_places_laws.proofs.Tables.{there_is, if_there_so}
+use Rattle.ob_code.specs.declared.instruction.Instruction.{Instruction}
 use Rattle.ob_code.specs.declared.instruction.Instruction.TheVariants as is
 use Rattle.ob_verify_spec.specs.Frames.{CodeFrame}
 use Rattle.ob_verify_spec.specs.Instructions.{KindsOfSlots, of_kind}
 use Rattle.ob_verify_spec.proofs.Cells.{none_some, some_same}
 use Rattle.ob_verify_spec.proofs.Fitting.{fits_self}
 use Rattle.ob_emit_spec.specs.Emission.{EmissionFrame, after_branch, after_load, jumps_over, end_test, contract_referred, choice_code, form_code, terms_code, scratch_of_form, scratch_of_terms}
-use Rattle.ob_emit_spec.specs.Operands.{slot_read, all_scratch_slots, values_given}
-use Rattle.ob_emit_verified.proofs.Flows.{Serves, fit_self, IsCertified, certified_none, certified_one, certified_both}
-use Rattle.ob_emit_verified.proofs.Operands.{known_of, knows_itself, below_fits, drop_fits, IsCodeOf, HoldsThis, good_slots, one_read, none_needed, one_needed, HaveRoom, is_there}
-use Rattle.ob_emit_verified.proofs.Marks.{kind_met, operand_met, KnowsOperands, loaded_then}
+use Rattle.ob_emit_spec.specs.Operands.{slot_read, loads, all_scratch_slots, values_given}
+use Rattle.ob_emit_verified.proofs.Flows.{StandsAt, Serves, Fit, fit_self, IsCertified, certified_none, certified_one, certified_both, certified_before}
+use Rattle.ob_emit_verified.proofs.Operands.{known_of, knows_itself, known_fits, below_fits, drop_fits, IsCodeOf, HoldsThis, good_slots, one_read, none_needed, one_needed, HaveRoom, is_there}
+use Rattle.ob_emit_verified.proofs.Marks.{kind_met, operand_met, KnowsOperands, operands_known, loaded_then}
 use Rattle.ob_emit_verified.proofs.Straight.{IsOwnSlot, max_parts, one_room, certified_constant, certified_operation, certified_fetch, certified_store, certified_store_reference, certified_disown, certified_revert}
 use Rattle.ob_emit_verified.proofs.Calls.{certified_new, IsResultSlot, certified_call, certified_call_here, certified_change, certified_return}
-use Rattle.ob_emit_verified.proofs.Branches.{common_self, certified_tested, Chooses, IsEmpty, certified_branches}
+use Rattle.ob_emit_verified.proofs.Branches.{common_self, fits_first, certified_tested, Chooses, IsEmpty, certified_branches}
+use Rattle.ob_emit_verified.proofs.Turns.{certified_turns}
 
 -- Forms.
 
@@ -49,26 +52,65 @@ joined_keeps true second a b x p q = q
 joined_keeps false true a b x p q = p
 joined_keeps false false a b x p q = common_self (a 0).kind (b 0).kind x p q
 
-written_keeps : (f : StaticFrame) (h : Holdings) (form : SilicaForm) (x : Kind) → IsWellFormedForm f h form → (h 0).kind ≡ Some x
+written_keeps : (f : StaticFrame) (h : Holdings) (form : SilicaForm) (x : Kind) → IfSome (slot_written form) (λ k. f.params < k)
+    → (h 0).kind ≡ Some x
     → (written f form h 0).kind ≡ Some x
-written_keeps f h form x formed e = ap (λ (z : SlotContent). z.kind) (with_other f (slot_written form) (held (kind_written f h form)) h formed.params) ∙ e
+written_keeps f h form x past e = ap (λ (z : SlotContent). z.kind) (with_other f (slot_written form) (held (kind_written f h form)) h past) ∙ e
 
 mutual
-  pub form_keeps_this : (f : StaticFrame) (h : Holdings) (form : SilicaForm) (x : Kind) → IsWellFormedForm f h form
-      → EachWithin IsWellFormedForm f h form → (h 0).kind ≡ Some x
+  -- also from other holdings than those for which the terms are well-formed
+  pub form_keeps_this : (f : StaticFrame) (w h : Holdings) (form : SilicaForm) (x : Kind) → IsWellFormedForm f w form
+      → EachWithin IsWellFormedForm f w form → (h 0).kind ≡ Some x
       → (after_form f form h 0).kind ≡ Some x
-  form_keeps_this f h (test_form o state branch other join) x formed within e =
-      joined_keeps (terms_end branch) (terms_end other) (after_terms f branch h) (after_terms f other h) x (terms_keep_this f h branch x within.0 e) (terms_keep_this f h other x within.1 e)
-  form_keeps_this f h (if_form o branch other join) x formed within e =
-      joined_keeps (terms_end branch) (terms_end other) (after_terms f branch h) (after_terms f other h) x (terms_keep_this f h branch x within.0 e) (terms_keep_this f h other x within.1 e)
-  form_keeps_this f h form x formed within e = written_keeps f h form x formed e
+  form_keeps_this f w h (test_form o state branch other join) x formed within e =
+      joined_keeps (terms_end branch) (terms_end other) (after_terms f branch h) (after_terms f other h) x (terms_keep_this f w h branch x within.0 e) (terms_keep_this f w h other x within.1 e)
+  form_keeps_this f w h (if_form o branch other join) x formed within e =
+      joined_keeps (terms_end branch) (terms_end other) (after_terms f branch h) (after_terms f other h) x (terms_keep_this f w h branch x within.0 e) (terms_keep_this f w h other x within.1 e)
+  form_keeps_this f w h (loop_form first o body end) x formed within e =
+      terms_keep_this f (at_head f first body w) (at_head f first body h) first x within.0
+      (joined_keeps false (terms_end body) h (after_terms f body (after_terms f first h)) x e
+      (terms_keep_this f (after_terms f first (at_head f first body w)) (after_terms f first h) body x within.1
+      (terms_keep_this f (at_head f first body w) h first x within.0 e)))
+  form_keeps_this f w h form x formed within e = written_keeps f h form x formed.params e
 
-  pub terms_keep_this : (f : StaticFrame) (h : Holdings) (terms : SilicaTerms) (x : Kind) → Each IsWellFormedForm f h terms
+  pub terms_keep_this : (f : StaticFrame) (w h : Holdings) (terms : SilicaTerms) (x : Kind) → Each IsWellFormedForm f w terms
       → (h 0).kind ≡ Some x
       → (after_terms f terms h 0).kind ≡ Some x
-  terms_keep_this f h no_terms x each e = e
-  terms_keep_this f h (and_term form span rest) x each e =
-      terms_keep_this f (after_form f form h) rest x each.2 (form_keeps_this f h form x each.0 each.1 e)
+  terms_keep_this f w h no_terms x each e = e
+  terms_keep_this f w h (and_term form span rest) x each e =
+      terms_keep_this f (after_form f form w) (after_form f form h) rest x each.2 (form_keeps_this f w h form x each.0 each.1 e)
+
+-- Loops.
+
+-- what slots hold at the head of a loop keeps `this`
+head_keeps : (f : StaticFrame) (h : Holdings) (first body : SilicaTerms) (x : Kind) → Each IsWellFormedForm f (at_head f first body h) first
+    → Each IsWellFormedForm f (after_terms f first (at_head f first body h)) body → (h 0).kind ≡ Some x
+    → (at_head f first body h 0).kind ≡ Some x
+head_keeps f h first body x one two e =
+    joined_keeps false (terms_end body) h (after_terms f body (after_terms f first h)) x e
+    (terms_keep_this f (after_terms f first (at_head f first body h)) (after_terms f first h) body x two
+    (terms_keep_this f (at_head f first body h) h first x one e))
+
+mutual
+  each_kinds : (f : StaticFrame) (h : Holdings) (terms : SilicaTerms) → Each IsWellFormedForm f h terms → Each HasKinds f h terms
+  each_kinds f h no_terms each = tt
+  each_kinds f h (and_term form span rest) each =
+      (each.0.kinds, kinds_within f h form each.1, each_kinds f (after_form f form h) rest each.2)
+
+  kinds_within : (f : StaticFrame) (h : Holdings) (form : SilicaForm) → EachWithin IsWellFormedForm f h form
+      → EachWithin HasKinds f h form
+  kinds_within f h (test_form o state branch other join) within = (each_kinds f h branch within.0, each_kinds f h other within.1)
+  kinds_within f h (if_form o branch other join) within = (each_kinds f h branch within.0, each_kinds f h other within.1)
+  kinds_within f h (loop_form first o body end) within =
+      (each_kinds f (at_head f first body h) first within.0, each_kinds f (after_terms f first (at_head f first body h)) body within.1)
+  kinds_within f h form within = tt
+
+-- where code of terms that begin by taking a unit stands, a `unit` does
+begins_with_unit : (code : List Instruction) (f : EmissionFrame) (h : Holdings) (first : SilicaTerms) (at : ℕ) → BeginsWithUnit first
+    → StandsAt code at (terms_code f h first at) → slice_get code at ≡ Some is.Unit
+begins_with_unit code f h (and_term unit_form span rest) at begins s = s.0
+begins_with_unit code f h no_terms at begins s = absurd begins
+begins_with_unit code f h (and_term form span rest) at begins s = absurd begins
 
 -- Bounds.
 
@@ -215,10 +257,11 @@ no_code : (c : CodeFrame) (f : EmissionFrame) → IsCodeOf c f → (h : Holdings
     → IsCertified c at [] (known_of f.scratch h) false (known_of f.scratch h)
 no_code c f of h at = certified_none c of.says.alone at (known_of f.scratch h) (known_of f.scratch h) (fit_self c.image (known_of f.scratch h))
 
--- a form has no branches
+-- a form has no branches and is no loop
 abbrev IsStraight : SilicaForm → Type 0
 IsStraight (test_form o state branch other join) = ⊥
 IsStraight (if_form o branch other join) = ⊥
+IsStraight (loop_form first o body end) = ⊥
 IsStraight form = ⊤
 
 -- a form without branches
@@ -288,6 +331,7 @@ straight c f of h this (change_form state given) at formed room is_straight =
     (record { places = given_places f.static given formed.numbers.1; low = subst (λ z. z ≤ f.scratch) (sym (given_low given)) room.low; room = room.room })
 straight c f of h this (test_form o state branch other join) at formed room is_straight = absurd is_straight
 straight c f of h this (if_form o branch other join) at formed room is_straight = absurd is_straight
+straight c f of h this (loop_form first o body end) at formed room is_straight = absurd is_straight
 straight c f of h this (assert_form o perm) at formed room is_straight = no_code c f of h at
 straight c f of h this (disown_form o) at formed room is_straight = certified_disown c f of h this at o formed.kinds (one_room c f o formed.numbers room.low room.room)
 straight c f of h this (drop_form k) at formed room is_straight =
@@ -298,6 +342,23 @@ straight c f of h this (return_form (Some o)) at formed room is_straight =
     (λ p e. subst (λ (z : Operand). HaveRoom c f 0 (z ∷ [])) (some_same e) (one_room c f o formed.numbers room.low room.room))
 straight c f of h this (revert_form o) at formed room is_straight = certified_revert c f of h h this at o formed.kinds (one_room c f o formed.numbers room.low room.room)
 straight c f of h this bad_row_form at formed room is_straight = no_code c f of h at
+
+-- What is known at the head of a loop is known before it, and after a turn.
+
+head_fits : (c : CodeFrame) (scratch : ℕ) (e : Bool) (h u : Holdings) → Fit c.image (known_of scratch (joined false e h u)) (known_of scratch h)
+head_fits c scratch true h u = fit_self c.image (known_of scratch h)
+head_fits c scratch false h u = fits_first c scratch h u
+
+turn_fits : (c : CodeFrame) (f : EmissionFrame) (h : Holdings) (first body : SilicaTerms)
+    → Each HasKinds f.static (at_head f.static first body h) first
+    → Each HasKinds f.static (after_terms f.static first (at_head f.static first body h)) body → terms_end body ≡ false
+    → Fit c.image (known_of f.scratch (at_head f.static first body h))
+    (known_of f.scratch (after_terms f.static body (after_terms f.static first (at_head f.static first body h))))
+turn_fits c f h first body one two e =
+    let head = at_head f.static first body h in
+    let turned = after_terms f.static body (after_terms f.static first head) in
+    known_fits c f.scratch head (known_of f.scratch turned)
+    (λ k x lt known. (x, knows_itself f.scratch turned k lt ∙ (turn_holds f.static first body h one two e k).kind x known, fits_self c.image x))
 
 -- Forms and terms.
 
@@ -345,6 +406,30 @@ mutual
   certified_form c f of h this (call_form k receiver contract tx args) at formed within room follows = straight c f of h this (call_form k receiver contract tx args) at formed room tt
   certified_form c f of h this (call_this_form k tx args) at formed within room follows = straight c f of h this (call_this_form k tx args) at formed room tt
   certified_form c f of h this (change_form state given) at formed within room follows = straight c f of h this (change_form state given) at formed room tt
+  certified_form c f of h this (loop_form first o body end) at formed within room follows =
+      let low = max_parts (slots_of_terms first) (max (slots_of_operand o) (slots_of_terms body)) f.scratch room.low in
+      let low_both = max_parts (slots_of_operand o) (slots_of_terms body) f.scratch low.1 in
+      let more = test_room c f o first body room.room in
+      let head = at_head f.static first body h in
+      let inside = after_terms f.static first head in
+      let this_head = head_keeps f.static h first body (kind.Reference f.static.here) within.0 within.1 this in
+      let this_inside = terms_keep_this f.static head head first (kind.Reference f.static.here) within.0 this_head in
+      let one = certified_terms c f of head this_head first at within.0 (record { low = low.0; room = more.1 }) follows.0 in
+      let loaded = operands_known c f of inside this_inside (at + length (terms_code f head first at)) (o ∷ []) (one_room c f o formed.numbers low_both.0 more.0) in
+      let place = after_load f o (at + length (terms_code f head first at)) in
+      let two = certified_terms c f of inside this_inside body (place + 1) within.1 (record { low = low_both.1; room = more.2 }) follows.1 in
+      let chooses = chooses_if c f of inside loaded.0.after o formed.kinds loaded.1 in
+      let exit = after_branch (place + 1) (terms_code f inside body (place + 1)) (not (terms_end body)) in
+      certified_before c of.says.alone at (form_code f h (loop_form first o body end) at) (known_of f.scratch head) (known_of f.scratch h) (known_of f.scratch inside) false
+      (head_fits c f.scratch (terms_end body) h (after_terms f.static body (after_terms f.static first h)))
+      (certified_turns c of.says.alone at (terms_code f head first at) (loads f.scratch 0 (o ∷ [])) (terms_code f inside body (place + 1))
+      (slot_read f.scratch 0 o.place) (known_of f.scratch head) (known_of f.scratch inside) loaded.0.after (known_of f.scratch inside)
+      (known_of f.scratch (after_terms f.static body inside)) (terms_end body)
+      (chooses.choice exit) (chooses.sound exit) (below_fits c f.scratch inside loaded.0.after loaded.1.below) (below_fits c f.scratch inside loaded.0.after loaded.1.below)
+      (λ e. turn_fits c f h first body (each_kinds f.static head first within.0) (each_kinds f.static inside body within.1) e)
+      (λ s. begins_with_unit c.body.instructions f head first at formed.turns.0 s)
+      (subst (λ z. IsCertified c at (terms_code f head first at) (known_of f.scratch head) z (known_of f.scratch inside)) formed.turns.1 one)
+      loaded.0.code two)
   certified_form c f of h this (assert_form o perm) at formed within room follows = straight c f of h this (assert_form o perm) at formed room tt
   certified_form c f of h this (disown_form o) at formed within room follows = straight c f of h this (disown_form o) at formed room tt
   certified_form c f of h this (drop_form k) at formed within room follows = straight c f of h this (drop_form k) at formed room tt
@@ -361,5 +446,5 @@ mutual
       let more = rest_room c f form rest room in
       then_rest c f h at form rest (form_ends form) refl follows.0
       (certified_form c f of h this form at each.0 each.1 more.0 follows.1)
-      (certified_terms c f of (after_form f.static form h) (form_keeps_this f.static h form (kind.Reference f.static.here) each.0 each.1 this) rest
+      (certified_terms c f of (after_form f.static form h) (form_keeps_this f.static h h form (kind.Reference f.static.here) each.0 each.1 this) rest
       (at + length (form_code f h form at)) each.2 more.1 follows.2)

@@ -5,6 +5,7 @@ pub mod Lights
 pub mod Reentry
 pub mod Arithmetic
 pub mod Lamp
+pub mod Summing
 pub mod Switches
 pub mod Mistakes
 pub mod ConstructorMistakes
@@ -14,6 +15,7 @@ pub mod LightsTerms
 pub mod ReentryTerms
 pub mod ArithmeticTerms
 pub mod LampTerms
+pub mod SummingTerms
 pub mod Shop
 pub mod BuyBodies
 pub mod Depot

@@ -54,11 +54,11 @@ told_steps table (ended result w) = Some (tells result (map (told_object table) 
 told_steps table (aborted cause s) = Some (tells_abort cause s)
 told_steps table stuck = Some tells_wrong
 
--- what is told of the run of a transaction of an object of a contract on a store, with so many units, by at most 60
+-- what is told of the run of a transaction of an object of a contract on a store, with so many units, by at most 100
 -- steps
 abbrev pub steps_on_store : SilicaProgram → ℕ → List Object → ℕ → ℕ → ℕ → List Value → Option Told
 steps_on_store program units objects contract n tx args = told_steps program.table
     (then_steps
     (started_call program (contract_number contract) (transaction_number tx) n args
     (first_notes program.table objects []) (first_world objects units))
-    (steps program 60))
+    (steps program 100))

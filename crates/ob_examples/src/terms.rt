@@ -11,6 +11,8 @@ ghost use Rattle.ob_examples.specs.ReentryTerms.{reentry_terms};
 ghost use Rattle.ob_examples.specs.ArithmeticTerms.{arithmetic_terms};
 ghost use Rattle.ob_examples.specs.Lamp.{lamp, by_meaning, number_and_truth, lit_with, reverted};
 ghost use Rattle.ob_examples.specs.LampTerms.{lamp_terms, by_steps};
+ghost use Rattle.ob_examples.specs.Summing.{summing, sum_of_four, gives_ten, lacks_a_unit};
+ghost use Rattle.ob_examples.specs.SummingTerms.{summing_terms, sum_by_steps};
 ghost use Rattle.ob_lower_spec.specs.BodyTerms.{AllLower};
 ghost use Rattle.ob_examples.specs.BuyBodies.{buy_lowered, buy_short, buy_dropping, buy_losing, buy_large, buy_returning};
 ghost use Rattle.ob_silica_formed.specs.WellFormedTerms.{IsWellFormedTerms};
@@ -35,6 +37,16 @@ pub fn lamp_lowers()
     ensures steps_fail { by_steps 3 [] ≡ Some reverted }
     ensures refused { by_meaning 4 [] ≡ tells_wrong }
     ensures steps_refused { by_steps 4 [] ≡ Some tells_wrong }
+{}
+
+/// A loop that adds the numbers up to one: its body may be lowered to its terms. With 17 units it gives the sum of the
+/// numbers up to four, by the source meaning and by steps, and with 16 it aborts.
+pub fn sums_lower()
+    ensures lowers { AllLower summing summing.bodies summing_terms.bodies }
+    ensures enough { sum_of_four 17 ≡ gives_ten }
+    ensures steps_enough { sum_by_steps 17 ≡ Some gives_ten }
+    ensures too_few { sum_of_four 16 ≡ lacks_a_unit }
+    ensures steps_too_few { sum_by_steps 16 ≡ Some lacks_a_unit }
 {}
 
 /// The terms of the vending machine's `buy` are well-formed. They aren't with a slot too few; nor is a body that drops

@@ -1,5 +1,5 @@
 -- A first slice of no units.
-use Rattle.std.proofs.Common.{◌≡◌, ℕ, suc, Bool, true, false, List, [], Option, Some, None, refl, sym, ap, ◌∙◌, arith, ltb-false}
+use Rattle.std.proofs.Common.{◌≡◌, ℕ, suc, ◌*◌, Bool, true, false, List, [], Option, Some, None, refl, sym, ap, ◌∙◌, arith, ltb-false}
 use Rattle.std.specs.Prelude.{◌&&◌, nat_eq, nat_lt, if◌then◌else◌}
 use Rattle.ob_heap_spec.specs.Contents.{Content}
 use Rattle.ob_heap_spec.specs.Worlds.{World, ReadItem, by_fuel, spent}
@@ -13,6 +13,7 @@ use Rattle.ob_code.specs.declared.image.Image.{Image}
 use Rattle.ob_code_table.specs.ImageTables.{table_of_image}
 use Rattle.ob_machine_steps.specs.Configurations.{aborted}
 use Rattle.ob_machine_steps.specs.Entries.{MachineEntry, starting, started, entry_world, enters, next_step}
+use Rattle.ob_machine_steps.specs.Measures.{longest}
 use Rattle.ob_machine_steps.specs.Parts.{with_units}
 use Rattle.ob_machine_steps.specs.Runs.{over, after_step, run_in, left_after}
 use Rattle.ob_machine_steps.specs.Runs as machine
@@ -45,6 +46,10 @@ aborts_first image m w n units e =
 no_fuel : (f : ℕ) → nat_lt 0 f ≡ false → f ≡ 0
 no_fuel f e = let l = ltb-false 0 f e in omega (arith, l)
 
+-- how many steps an entry has after its first, at most
+abbrev later_steps : Image → World → ℕ
+later_steps image w = suc (w.fuel * longest image)
+
 started_by : (image : Image) (fuel : ℕ) (c : Content) (units : ℕ) (q : Request) (e : Entry) (reads : List ReadItem) (m : MachineEntry) (b : Bool)
     → entry_of (table_of_image image) c q.who q.operation ≡ Some e → nat_lt 0 (entry_world image m c.objects fuel).fuel ≡ b
     → slice image fuel c units (sliced image c 0 q e reads (started image m c.objects fuel)) ≡ sliced image c units q e reads (started image m c.objects fuel)
@@ -55,13 +60,13 @@ started_by image fuel c units q e reads m true is has =
     let ys = laid_over c.objects (held_by w) in
     let back : phase_onto ys (phase_onto [] p) ≡ p =
     phase_twice p ys [] ∙ ap (λ zs. phase_onto zs p) (laid_back c.objects w stands.good stands.kept) ∙ onto_self p in
-    ap (λ o. slice image fuel c units (stops_so (table_of_image image) c q e reads o)) (waits_first image m w _ has)
+    ap (λ o. slice image fuel c units (stops_so (table_of_image image) c q e reads o)) (waits_first image m w (later_steps image w) has)
     ∙ ap (λ o. with_thing o (λ x. sliced image c units q x reads (phase_onto ys (phase_onto [] p)))) is
     ∙ ap (sliced image c units q e reads) back
 started_by image fuel c units q e reads m false is has =
     let w = entry_world image m c.objects fuel in
-    ap (λ o. slice image fuel c units (stops_so (table_of_image image) c q e reads o)) (aborts_first image m w _ 0 (no_fuel w.fuel has))
-    ∙ sym (ap (stops_so (table_of_image image) c q e reads) (aborts_first image m w _ units (no_fuel w.fuel has)))
+    ap (λ o. slice image fuel c units (stops_so (table_of_image image) c q e reads o)) (aborts_first image m w (later_steps image w) 0 (no_fuel w.fuel has))
+    ∙ sym (ap (stops_so (table_of_image image) c q e reads) (aborts_first image m w (later_steps image w) units (no_fuel w.fuel has)))
 
 -- What leads there.
 

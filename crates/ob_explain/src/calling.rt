@@ -158,6 +158,15 @@ fn stmt_way(stmt: &ResolvedStmt, own: Own) -> Way {
             let branches = both_ways(block_way(then, own), otherwise_way(otherwise, own));
             behind(own_call(condition, own), branches)
         }
+        // Its block may be left out.
+        ResolvedStmt::While {
+            condition,
+            body,
+            ..
+        } => {
+            let turn = both_ways(block_way(body, own), Way::GoesOn);
+            behind(own_call(condition, own), turn)
+        }
         _ => plain_way(stmt, own),
     }
 }

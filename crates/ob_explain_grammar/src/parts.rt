@@ -38,7 +38,7 @@ pub const PARTS: [Part; 10] = [
     Part {
         said: "a statement",
         marks: "if return disown",
-        begins: "if return disown revert [ -> new this int bool string x",
+        begins: "if while return disown revert [ -> new this int bool string x",
     },
     Part {
         said: "a member (a field, a state, a constructor or a transaction)",

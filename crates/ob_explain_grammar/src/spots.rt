@@ -148,7 +148,7 @@ fn level_of(open: usize, member: &str) -> &'static str {
 }
 
 /// The tokens that begin or end something else than an expression.
-const BEGINNING: &str = "} return if int bool string -> disown transaction state";
+const BEGINNING: &str = "} return if while int bool string -> disown transaction state";
 
 impl<'a> Spot<'a> {
     /// Around a place before which so many of the tokens stand.

@@ -40,6 +40,7 @@ pub fn expr_of(stmt: &Stmt) -> Option<&Expr> {
         Stmt::Stage { value, .. } => Some(value),
         Stmt::Call { value, .. } => Some(value),
         Stmt::If { condition, .. } => Some(condition),
+        Stmt::While { condition, .. } => Some(condition),
         Stmt::Return { value, .. } => value.as_ref(),
         Stmt::Revert { text, .. } => text.as_ref(),
         _ => None,
@@ -291,7 +292,7 @@ fn kind_wanted(site: &Site<'_>, stmt: &Stmt) -> InferredKind {
             kind_of_variable(&site.around, &site.scope, name.name.as_bytes())
         }
         Stmt::Stage { field, .. } => site.around.kind_of_field(field.name.as_bytes()),
-        Stmt::If { .. } => InferredKind::Bool,
+        Stmt::If { .. } | Stmt::While { .. } => InferredKind::Bool,
         Stmt::Revert { .. } => InferredKind::Text,
         _ => InferredKind::Unknown,
     }

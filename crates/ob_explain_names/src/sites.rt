@@ -56,6 +56,7 @@ fn span_of_stmt(stmt: &Stmt) -> Span {
         Stmt::Call { span, .. } => *span,
         Stmt::Test { span, .. } => *span,
         Stmt::If { span, .. } => *span,
+        Stmt::While { span, .. } => *span,
         Stmt::Return { span, .. } => *span,
         Stmt::Revert { span, .. } => *span,
         Stmt::Disown { span, .. } => *span,
@@ -92,6 +93,14 @@ fn body_of(member: Option<&Member>) -> Option<&Block> {
         Some(Member::Constructor { body, .. }) => Some(body),
         Some(Member::Transaction { body, .. }) => body.as_ref(),
         _ => None,
+    }
+}
+
+/// Whether the last statement of a transaction or constructor is a `while`.
+pub fn ends_with_while(member: Option<&Member>) -> bool {
+    match body_of(member) {
+        Some(body) => matches!(body.statements.as_slice().last(), Some(Stmt::While { .. })),
+        None => false,
     }
 }
 
@@ -192,19 +201,20 @@ fn is_inside(block: &Block, place: u32) -> bool {
     false
 }
 
-// The branches of a statement.
-fn branches_of(stmt: &Stmt) -> Option<(&Block, &Option<Block>)> {
+// The blocks of a statement.
+fn blocks_of(stmt: &Stmt) -> Option<(&Block, Option<&Block>)> {
     match stmt {
         Stmt::Test {
             then,
             otherwise,
             ..
-        } => Some((then, otherwise)),
+        } => Some((then, otherwise.as_ref())),
         Stmt::If {
             then,
             otherwise,
             ..
-        } => Some((then, otherwise)),
+        } => Some((then, otherwise.as_ref())),
+        Stmt::While { body, .. } => Some((body, None)),
         _ => None,
     }
 }
@@ -220,7 +230,7 @@ fn if_inside(block: &Block, place: u32) -> Option<&Block> {
 
 // The block of a statement in which a place is.
 fn block_at(stmt: &Stmt, place: u32) -> Option<&Block> {
-    match branches_of(stmt) {
+    match blocks_of(stmt) {
         Some((then, Some(otherwise))) => if_inside(then, place).or(if_inside(otherwise, place)),
         Some((then, None)) => if_inside(then, place),
         None => None,

@@ -9,7 +9,7 @@ use crate::interfaces::explain_interface;
 use crate::mismatches::{explain_mismatch, put_returns};
 use crate::naming::{explain_kind, explain_unknown};
 use crate::near::Near;
-use crate::sites::{Site, View, around_at, number_at, number_of_fault};
+use crate::sites::{Site, View, around_at, ends_with_while, number_at, number_of_fault};
 use crate::types::{
     explain_argument_count, explain_bound, explain_bound_name, explain_instances, is_bound,
 };
@@ -33,6 +33,9 @@ fn explain_end(told: &mut Explanation, site: &Site<'_>) {
     told.help.put(
         "end each way through it with `return ..;` or `revert;`, each branch of an `if` too.",
     );
+    if ends_with_while(site.member) {
+        told.note.put("what follows a `while` can be reached, whatever its condition is.");
+    }
 }
 
 // A statement behind one that doesn't go on.

@@ -4,3 +4,4 @@ pub mod CallLemmas
 pub mod OutcomeLemmas
 pub mod TermLemmas
 pub mod BodyLemmas
+pub mod LoopLemmas

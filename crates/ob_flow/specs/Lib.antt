@@ -1,3 +1,4 @@
 pub mod Forms
 pub mod Changes
 pub mod Outcomes
+pub mod Loops

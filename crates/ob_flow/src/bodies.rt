@@ -11,9 +11,12 @@ ghost use Rattle.ob_flow_spec.specs.Testing.{tested_with};
 ghost use Rattle.ob_flow_spec.specs.Deriving.{derive, derive_all, Derives, IsFlowFault};
 ghost use Rattle.ob_flow_context.specs.View.{context_of, tested_of};
 ghost use Rattle.ob_base.specs.TextErrors.{OnFault};
-ghost use Rattle.ob_flow.specs.Outcomes.{DerivesTo};
+ghost use Rattle.ob_flow.specs.Loops.{derive_turn};
+ghost use Rattle.ob_flow.specs.Outcomes.{reached, DerivesTo};
 
-use crate::branches::{Flow, end_branch, join_branches, tested_with, this_left};
+use crate::branches::{
+    Flow, begin_turn, end_branch, end_turn, join_branches, tested_with, this_left,
+};
 use crate::calling::{call, call_this, make};
 use crate::changing::change;
 use crate::returning::leave;
@@ -156,6 +159,19 @@ fn check_form(
                 alloc, frame, under, first, context, second, other, *join, trace,
             )
         }
+        Form::Loop {
+            first,
+            a,
+            body,
+            end,
+        } => {
+            let head = begin_turn(alloc, frame, context)?;
+            let flow = check_terms(first.as_slice(), frame, tested, context, alloc, trace)?;
+            let body = body.as_slice();
+            check_turn(
+                flow, *a, body, *end, head, frame, tested, context, alloc, trace,
+            )
+        }
         Form::Assert { place, perm } => {
             assert_held(frame, context, *place, *perm)?;
             Ok(Flow::On)
@@ -202,6 +218,36 @@ fn check_branch(
 {
     let tested = tested_with(alloc, permission, place.place, tested)?;
     check_terms(terms, frame, tested.as_slice(), context, alloc, trace)
+}
+
+// A turn of a loop with this head, from where its first part ends.
+#[cycle(check)]
+#[tactic(auto, using(crate::proofs::OutcomeLemmas::outcomes))]
+fn check_turn(
+    flow: Flow,
+    a: Operand,
+    body: &[Term],
+    end: Span,
+    head: Context,
+    frame: &BodyFrame<'_>,
+    tested: &[Place],
+    context: &mut Context,
+    alloc: Global,
+    trace: &mut Trace,
+) -> Result<Flow, FlowError>
+    requires { AllNameStates (terms_of body.now) }
+    ensures { DerivesTo result (context_of context.new) (derive_turn frame.now (tested_of tested.now) (context_of head) a
+        (terms_of body.now) end (reached flow (context_of context.old))) }
+{
+    match flow {
+        Flow::Ended => Ok(Flow::Ended),
+        Flow::On => {
+            uses_place(frame, context, a)?;
+            let mut turned = context.copy(alloc)?;
+            let flow = check_terms(body, frame, tested, &mut turned, alloc, trace)?;
+            end_turn(frame, context, head, flow, turned, end, trace)
+        }
+    }
 }
 
 // Forms one after another; after one that ends nothing is looked at.

@@ -1,8 +1,10 @@
-//! Where forms end, and what follows after branches.
-ghost use Rattle.std.specs.Prelude.{◌≡◌, IfOk};
+//! Where forms end, and what follows after branches and turns.
+ghost use Rattle.std.specs.Prelude.{◌≡◌, Some, IfOk, OnOk};
 ghost use Rattle.ob_perm.specs.Masks.{permission_of};
 ghost use Rattle.ob_silica_places.specs.Places.{location_of};
 ghost use Rattle.ob_flow_spec.specs.Joining.{joined_branches};
+ghost use Rattle.ob_flow_spec.specs.Looping.{head_context, turns_back_if};
+ghost use Rattle.ob_flow_spec.specs.Premises.{checked};
 ghost use Rattle.ob_flow_spec.specs.Testing.{tested_with, first_branch_ended, this_left};
 ghost use Rattle.ob_flow_context.specs.View.{context_of, tested_of};
 ghost use Rattle.ob_flow.specs.Outcomes.{reached, DerivesTo};
@@ -10,8 +12,9 @@ ghost use Rattle.ob_flow.specs.Outcomes.{reached, DerivesTo};
 use crate::joining::join;
 use crate::testing::end_test;
 use crate::trace::Trace;
-use ob_base::{Items, Memory, Mode, Perm, Span};
+use ob_base::{Duplicate, Items, Memory, Mode, Perm, Span};
 use ob_flow_context::{BodyFrame, Context, FlowError};
+use ob_flow_premises::{head_context, turns_back};
 use ob_perm::unowned;
 use ob_silica::{Operand, Place};
 use std::alloc::Global;
@@ -104,6 +107,48 @@ pub(crate) fn join_branches(
             Ok(()) => Ok(Flow::On),
             Err(error) => {
                 trace.part(other);
+                Err(error)
+            }
+        },
+    }
+}
+
+/// Goes to the head of a loop, and gives what is known there.
+pub(crate) fn begin_turn(
+    alloc: Global,
+    frame: &BodyFrame<'_>,
+    context: &mut Context,
+) -> Result<Context, Memory>
+    ensures head { IfOk result (λ head. context_of head ≡ head_context frame.now (context_of context.old)) }
+    ensures here { OnOk result (context_of context.new ≡ head_context frame.now (context_of context.old)) }
+{
+    let head = head_context(alloc, frame, context)?;
+    *context = head.copy(alloc)?;
+    Ok(head)
+}
+
+/// Ends a turn of a loop, where this is known; it must be as at the head.
+#[tactic(auto, using(crate::proofs::OutcomeLemmas::outcomes))]
+pub(crate) fn end_turn(
+    frame: &BodyFrame<'_>,
+    context: &mut Context,
+    head: Context,
+    flow: Flow,
+    turned: Context,
+    end: Span,
+    trace: &mut Trace,
+) -> Result<Flow, FlowError>
+    ensures { DerivesTo result (context_of context.new)
+        (checked (turns_back_if frame.now (context_of head) (reached flow (context_of turned)) end)
+        (Some (context_of context.old))) }
+{
+    match flow {
+        Flow::Ended => Ok(Flow::On),
+        Flow::On => match turns_back(frame, &head, &turned, end) {
+            Ok(()) => Ok(Flow::On),
+            Err(error) => {
+                *context = head;
+                trace.part(turned);
                 Err(error)
             }
         },

@@ -14,4 +14,5 @@ mod trace;
 
 pub use bodies::check;
 pub use ob_flow_context::FlowError;
+pub use ob_flow_premises::is_as_at_head;
 pub use trace::{Letting, LettingAt, Stop, Trace};

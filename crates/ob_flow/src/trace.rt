@@ -34,7 +34,8 @@ pub struct Stop {
     pub term: Term,
     /// The places under test there; the innermost stands last.
     pub tested: Items<Place>,
-    /// What is known of each place there; of branches that don't join, what is known after the first.
+    /// What is known of each place there; of branches that don't join, what is known after the first, and of a turn that
+    /// ends otherwise than it began, what is known at the head of the loop.
     pub context: Context,
 }
 
@@ -50,7 +51,7 @@ pub struct Trace {
     pub bodies: usize,
     /// Where a premise of the last body failed.
     pub stop: Option<Stop>,
-    /// Where that is a join of branches: what is known after the second.
+    /// Where that is a join of branches: what is known after the second; where it is the end of a turn, what is known there.
     pub other: Option<Context>,
     /// For each slot, the place of the term of the last body that set it last.
     pub set: Vec<Option<Span>>,
@@ -167,7 +168,7 @@ impl Trace {
         }
     }
 
-    // Branches don't join: what is known after the second.
+    // Branches don't join, or a turn ends otherwise than it began: what is known after the second branch, or after the turn.
     pub(crate) fn part(&mut self, other: Context) {
         self.other = Some(other);
     }

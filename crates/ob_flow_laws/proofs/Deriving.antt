@@ -6,7 +6,7 @@ use Rattle.ob_base.specs.declared.id.StateId.{StateId}
 use Rattle.ob_perm.specs.Permissions.{unowned}
 use Rattle.ob_table.specs.Tables.{ClassTable, signature_at, signature_of}
 use Rattle.ob_table.specs.declared.contract.Signature.{Signature}
-use Rattle.ob_silica.specs.Terms.{SilicaForm, unit_form, const_form, op_form, copy_form, move_form, new_form, call_form, call_this_form, change_form, test_form, if_form, assert_form, disown_form, drop_form, return_form, revert_form, bad_row_form, SilicaTerms, no_terms, and_term, then_terms, SilicaBody}
+use Rattle.ob_silica.specs.Terms.{SilicaForm, unit_form, const_form, op_form, copy_form, move_form, new_form, call_form, call_this_form, change_form, test_form, if_form, loop_form, assert_form, disown_form, drop_form, return_form, revert_form, bad_row_form, SilicaTerms, no_terms, and_term, then_terms, SilicaBody}
 use Rattle.ob_silica.specs.declared.place.Operand.{Operand}
 use Rattle.ob_silica_places.specs.Known.{kind_of_constant, kind_of_operator}
 use Rattle.ob_silica_places.specs.Places.{slot, located, location_of}
@@ -19,9 +19,10 @@ use Rattle.ob_flow_spec.specs.Calling.{makes_object, after_new, calls_object, af
 use Rattle.ob_flow_spec.specs.Changing.{changes_state, after_change}
 use Rattle.ob_flow_spec.specs.Returning.{returns_result}
 use Rattle.ob_flow_spec.specs.Testing.{tests_state, in_tested_state, in_other_state, tested_with, first_branch_ended, this_left}
+use Rattle.ob_flow_spec.specs.Looping.{head_context, turns_back_if}
 use Rattle.ob_flow_spec.specs.Deriving.{Derived, constructor, if_reached, derive, derive_all, derive_in, body_frame, Derives}
 use Rattle.ob_flow_laws.specs.Premises.{Hold}
-use Rattle.ob_flow_laws.specs.Deriving.{PassesSigned, PassesTest, PassesIf, Passes, RestDerives, PassesAll}
+use Rattle.ob_flow_laws.specs.Deriving.{PassesSigned, PassesTest, PassesIf, PassesTurnIf, PassesLoop, Passes, RestDerives, PassesAll}
 use Rattle.ob_flow_laws.specs.Calling.{CanMake, CanCall, CanCallThis}
 use Rattle.ob_flow_laws.proofs.Premises.{checked_holds, checked_then, bind_ok, ok_same}
 use Rattle.ob_flow_laws.proofs.Outcomes.{in_turn}
@@ -31,6 +32,7 @@ use Rattle.ob_flow_laws.proofs.Calling.{can_make, can_call, can_call_this}
 use Rattle.ob_flow_laws.proofs.Changing.{can_change}
 use Rattle.ob_flow_laws.proofs.Testing.{can_test, branch_ended}
 use Rattle.ob_flow_laws.proofs.Joining.{both_left}
+use Rattle.ob_flow_laws.proofs.Looping.{turn_ends_if}
 use Rattle.ob_flow_laws.proofs.Returning.{can_return}
 
 -- checked premises hold, and what stands beside them is left
@@ -89,6 +91,30 @@ passes_if b ts a branch other join at g left e =
       joins = both_left b (this_left c.0) c.0 d.0 join left d.2;
     }
 
+passes_turn : (b : BodyFrame) (ts : TestedPlaces) (a : Operand) (body : SilicaTerms) (end : Span) (head : Context) (after left : Option Context)
+    → if_reached after (λ h. checked (uses_place b h (read_of a)) h >>= (λ h. derive_all b ts body h
+    >>= (λ turned. checked (turns_back_if b head turned end) (Some h)))) ≡ Ok left
+    → PassesTurnIf b ts a body head after left
+passes_turn b ts a body end head None left e = sym (ok_same None left e)
+passes_turn b ts a body end head (Some h) left e =
+    let u = checked_then (uses_place b h (read_of a)) h _ left e in
+    let c = bind_ok (derive_all b ts body h) _ left u.1 in
+    let d = checked_leaves (turns_back_if b head c.0 end) (Some h) left c.2 in
+    record {
+      can = can_use b h (read_of a) u.0;
+      turned = c.0;
+      body_derives = c.1;
+      turns = turn_ends_if b head c.0 end d.0;
+      leaves = d.1;
+    }
+
+passes_loop : (b : BodyFrame) (ts : TestedPlaces) (first : SilicaTerms) (a : Operand) (body : SilicaTerms) (end at : Span)
+    (g : Context) (left : Option Context) → derive b ts (loop_form first a body end) at g ≡ Ok left
+    → PassesLoop b ts first a body g left
+passes_loop b ts first a body end at g left e =
+    let c = bind_ok (derive_all b ts first (head_context b g)) _ left e in
+    record { after = c.0; first_derives = c.1; turn = passes_turn b ts a body end (head_context b g) c.0 left c.2 }
+
 -- a form that derives is passed
 pub passes : (b : BodyFrame) (ts : TestedPlaces) (form : SilicaForm) (at : Span) (g : Context) (left : Option Context)
     → derive b ts form at g ≡ Ok left → Passes b ts form at g left
@@ -120,6 +146,7 @@ passes b ts (change_form state given) at g left e =
     (can_change b ts g at state given r.0, r.1)
 passes b ts (test_form o state branch other join) at g left e = passes_test b ts o state branch other join at g left e
 passes b ts (if_form a branch other join) at g left e = passes_if b ts a branch other join at g left e
+passes b ts (loop_form first a body end) at g left e = passes_loop b ts first a body end at g left e
 passes b ts (assert_form o perm) at g left e =
     let r = checked_leaves (asserts_permission b g o perm) (Some g) left e in
     (is_asserted b g o perm r.0, r.1)

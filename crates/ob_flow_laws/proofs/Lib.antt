@@ -9,6 +9,7 @@ pub mod Filling
 pub mod Straight
 pub mod Testing
 pub mod Joining
+pub mod Looping
 pub mod Calling
 pub mod Changing
 pub mod Exits

@@ -6,13 +6,14 @@ use Rattle.ob_base.specs.declared.id.StateId.{StateId}
 use Rattle.ob_perm.specs.Permissions.{unowned}
 use Rattle.ob_table.specs.Tables.{signature_at, signature_of}
 use Rattle.ob_table.specs.declared.contract.Signature.{Signature}
-use Rattle.ob_silica.specs.Terms.{SilicaForm, unit_form, const_form, op_form, copy_form, move_form, new_form, call_form, call_this_form, change_form, test_form, if_form, assert_form, disown_form, drop_form, return_form, revert_form, bad_row_form, SilicaTerms, no_terms, and_term}
+use Rattle.ob_silica.specs.Terms.{SilicaForm, unit_form, const_form, op_form, copy_form, move_form, new_form, call_form, call_this_form, change_form, test_form, if_form, loop_form, assert_form, disown_form, drop_form, return_form, revert_form, bad_row_form, SilicaTerms, no_terms, and_term}
 use Rattle.ob_silica.specs.declared.place.Operand.{Operand}
 use Rattle.ob_silica_places.specs.Known.{kind_of_constant, kind_of_operator}
 use Rattle.ob_silica_places.specs.Places.{slot, located, location_of}
 use Rattle.ob_flow_spec.specs.Contexts.{BodyFrame, Context, put, now, counted, TestedPlaces}
 use Rattle.ob_flow_spec.specs.Straight.{put_value, after_copy, after_move}
 use Rattle.ob_flow_spec.specs.Testing.{in_tested_state, in_other_state, tested_with, this_left}
+use Rattle.ob_flow_spec.specs.Looping.{head_context}
 use Rattle.ob_flow_spec.specs.Calling.{after_new, after_call, after_call_on_this}
 use Rattle.ob_flow_spec.specs.Changing.{after_change}
 use Rattle.ob_flow_spec.specs.Deriving.{derive, derive_all, constructor}
@@ -21,6 +22,7 @@ use Rattle.ob_flow_laws.specs.Filling.{CanGiveUp}
 use Rattle.ob_flow_laws.specs.Straight.{CanOperate, CanCopy, CanMove, IsAsserted, CanDrop}
 use Rattle.ob_flow_laws.specs.Testing.{CanTest, EndsFirstBranch}
 use Rattle.ob_flow_laws.specs.Joining.{LeavesBoth}
+use Rattle.ob_flow_laws.specs.Looping.{TurnsBackIf}
 use Rattle.ob_flow_laws.specs.Calling.{CanMake, CanCall, CanCallThis}
 use Rattle.ob_flow_laws.specs.Changing.{CanChange}
 use Rattle.ob_flow_laws.specs.Returning.{CanReturn}
@@ -56,6 +58,28 @@ pub record PassesIf (b : BodyFrame) (ts : TestedPlaces) (a : Operand) (branch ot
   pub other_derives : derive_all b ts other g ≡ Ok second
   pub joins : LeavesBoth b (this_left first) first second left
 
+-- A turn of a Loop is passed, from this head: its operand can be used after the first part, from where its body derives, and
+-- where the body's end is reached all is as at the head; what is known after the first part is left.
+pub record PassesTurn (b : BodyFrame) (ts : TestedPlaces) (a : Operand) (body : SilicaTerms) (head h : Context)
+    (left : Option Context) : Type 0 where
+  pub can : CanUse b h (located a)
+  pub turned : Option Context
+  pub body_derives : derive_all b ts body h ≡ Ok turned
+  pub turns : TurnsBackIf b head turned
+  pub leaves : left ≡ Some h
+
+-- the same, if the end of the first part is reached
+abbrev pub PassesTurnIf : BodyFrame → TestedPlaces → Operand → SilicaTerms → Context → Option Context → Option Context → Type 0
+PassesTurnIf b ts a body head None left = left ≡ None
+PassesTurnIf b ts a body head (Some h) left = PassesTurn b ts a body head h left
+
+-- a Loop is passed: its first part derives from the head, and a turn is passed
+pub record PassesLoop (b : BodyFrame) (ts : TestedPlaces) (first : SilicaTerms) (a : Operand) (body : SilicaTerms) (g : Context)
+    (left : Option Context) : Type 0 where
+  pub after : Option Context
+  pub first_derives : derive_all b ts first (head_context b g) ≡ Ok after
+  pub turn : PassesTurnIf b ts a body (head_context b g) after left
+
 -- a form is passed in this context: its condition holds, and this is left after it
 abbrev pub Passes : BodyFrame → TestedPlaces → SilicaForm → Span → Context → Option Context → Type 0
 Passes b ts unit_form at g left = left ≡ Some g
@@ -79,6 +103,7 @@ Passes b ts (change_form state given) at g left =
     CanChange b ts g state given × (left ≡ Some (after_change b g state given))
 Passes b ts (test_form o state branch other join) at g left = PassesTest b ts o state branch other g left
 Passes b ts (if_form a branch other join) at g left = PassesIf b ts a branch other g left
+Passes b ts (loop_form first a body end) at g left = PassesLoop b ts first a body g left
 Passes b ts (assert_form o perm) at g left = IsAsserted b g o perm × (left ≡ Some g)
 Passes b ts (disown_form o) at g left = CanGiveUp b ts g (located o) × (left ≡ Some (now g (located o) unowned))
 Passes b ts (drop_form k) at g left = CanDrop b ts g k × (left ≡ Some (put g (slot k) None))

@@ -3,3 +3,4 @@ pub mod GivenLemmas
 pub mod JoinLemmas
 pub mod StateLemmas
 pub mod ParamLemmas
+pub mod LoopLemmas

@@ -2,3 +2,4 @@ pub mod Forms
 pub mod Calls
 pub mod Changes
 pub mod Joins
+pub mod Loops

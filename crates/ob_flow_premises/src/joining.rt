@@ -18,7 +18,8 @@ use ob_silica::Place;
 use ob_table::Kind;
 use std::alloc::Global;
 
-fn same_kind(a: Kind, b: Kind) -> bool
+/// Whether two kinds are the same.
+pub(crate) fn same_kind(a: Kind, b: Kind) -> bool
     ensures { result ≡ same_kind a b }
 {
     match (a, b) {

@@ -7,7 +7,7 @@ use Rattle.ob_base.specs.declared.fault.ProgramFault.{ProgramFault}
 use Rattle.ob_base.specs.declared.fault.Span.{Span}
 use Rattle.ob_base.specs.declared.id.TxId.{TxId}
 use Rattle.ob_table.specs.Tables.{ClassTable, contract_at, signature_at, signature_of}
-use Rattle.ob_silica.specs.Terms.{SilicaForm, unit_form, const_form, op_form, copy_form, move_form, new_form, call_form, call_this_form, change_form, test_form, if_form, assert_form, disown_form, drop_form, return_form, revert_form, bad_row_form, SilicaTerms, no_terms, and_term, SilicaBody}
+use Rattle.ob_silica.specs.Terms.{SilicaForm, unit_form, const_form, op_form, copy_form, move_form, new_form, call_form, call_this_form, change_form, test_form, if_form, loop_form, assert_form, disown_form, drop_form, return_form, revert_form, bad_row_form, SilicaTerms, no_terms, and_term, SilicaBody}
 use Rattle.ob_silica_places.specs.Known.{kind_of_constant, kind_of_operator}
 use Rattle.ob_silica_places.specs.Places.{slot, located, location_of}
 use Rattle.ob_flow_spec.specs.Premises.{checked, ◌>>=◌}
@@ -19,6 +19,7 @@ use Rattle.ob_flow_spec.specs.Calling.{makes_object, after_new, calls_object, af
 use Rattle.ob_flow_spec.specs.Changing.{changes_state, after_change}
 use Rattle.ob_flow_spec.specs.Returning.{returns_result}
 use Rattle.ob_flow_spec.specs.Joining.{joined_branches}
+use Rattle.ob_flow_spec.specs.Looping.{head_context, turns_back_if}
 use Rattle.ob_flow_spec.specs.Testing.{tests_state, in_tested_state, in_other_state, tested_with, first_branch_ended, this_left}
 use Rattle.ob_perm.specs.Permissions.{unowned}
 
@@ -70,6 +71,11 @@ abbrev mutual
       >>= (λ h. derive_all b ts branch h
       >>= (λ first. derive_all b ts other h
       >>= (λ second. joined_branches b (this_left first) first second join)))
+  derive b ts (loop_form first a body end) at g =
+      derive_all b ts first (head_context b g)
+      >>= (λ left. if_reached left (λ h. checked (uses_place b h (read_of a)) h
+      >>= (λ h. derive_all b ts body h
+      >>= (λ turned. checked (turns_back_if b (head_context b g) turned end) (Some h)))))
   derive b ts (assert_form o perm) at g = checked (asserts_permission b g o perm) (Some g)
   derive b ts (disown_form o) at g = checked (disowns_place b ts g o) (Some (now g (located o) unowned))
   derive b ts (drop_form k) at g = checked (drops_slot b ts g at k) (Some (put g (slot k) None))

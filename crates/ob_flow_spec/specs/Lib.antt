@@ -9,5 +9,6 @@ pub mod Changing
 pub mod Returning
 pub mod Joining
 pub mod Testing
+pub mod Looping
 pub mod Deriving
 pub mod Numbered

@@ -1,4 +1,5 @@
 pub mod Stages
+pub mod Loops
 pub mod Programs
 pub mod Compiled
 pub mod Lowered

@@ -2,6 +2,7 @@
 #![tactic(auto)]
 
 mod checking;
+mod loops;
 mod lowering;
 mod programs;
 mod seen;

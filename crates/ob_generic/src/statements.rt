@@ -1,7 +1,7 @@
 //! Statements in the tree of the instances.
 ghost use Rattle.std.specs.Prelude.{◌≡◌, map, option_map, IfOk};
 ghost use Rattle.ob_tree.specs.ExprsView.{expr_of};
-ghost use Rattle.ob_tree.specs.Stmts.{declare_stmt, assign_stmt, stage_stmt, change_stmt, call_stmt, test_stmt, if_stmt, return_stmt, revert_stmt, assert_stmt};
+ghost use Rattle.ob_tree.specs.Stmts.{declare_stmt, assign_stmt, stage_stmt, change_stmt, call_stmt, test_stmt, if_stmt, while_stmt, return_stmt, revert_stmt, assert_stmt};
 ghost use Rattle.ob_tree.specs.StmtsView.{local_of, given_of, stmt_of, block_of, else_of};
 ghost use Rattle.ob_generic_spec.specs.InstanceBodies.{expr_in, stmt_in, block_in, else_in};
 
@@ -189,6 +189,26 @@ fn if_with(
     })
 }
 
+// A loop with this block.
+#[tactic(auto, using(ob_tree::specs::StmtsView::stmt_views))]
+fn while_with(
+    condition: &Expr,
+    body: Block,
+    span: Span,
+    alloc: Global,
+    own: &Option<OwnInstance<'_>>,
+) -> Result<Stmt, Memory>
+    ensures { IfOk result (λ s. stmt_of s
+        ≡ while_stmt (expr_in own.now (expr_of condition.now)) (block_of body) span) }
+{
+    let condition = expr_in(condition, alloc, own)?;
+    Ok(Stmt::While {
+        condition,
+        body,
+        span,
+    })
+}
+
 #[cycle(instance)]
 #[tactic(auto, using(ob_tree::specs::StmtsView::stmt_views, crate::proofs::Turns::turns))]
 fn stmt_in(statement: &Stmt, alloc: Global, own: &Option<OwnInstance<'_>>) -> Result<Stmt, Memory>
@@ -236,6 +256,14 @@ fn stmt_in(statement: &Stmt, alloc: Global, own: &Option<OwnInstance<'_>>) -> Re
                 otherwise_in(otherwise, alloc, own),
             )?;
             if_with(condition, branches, *span, alloc, own)
+        }
+        Stmt::While {
+            condition,
+            body,
+            span,
+        } => {
+            let body = block_in(body, alloc, own)?;
+            while_with(condition, body, *span, alloc, own)
         }
         Stmt::Return { value, span } => return_in(value, *span, alloc, own),
         Stmt::Revert { text, span } => revert_in(text, *span, alloc, own),

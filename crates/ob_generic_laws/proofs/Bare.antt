@@ -5,7 +5,7 @@ use Rattle.std.specs.Option.{option_map_or}
 use Rattle.std.proofs.lemmas.List.Elements.{All-from_recursion}
 use Rattle.ob_tree.specs.Names.{Named, Ref, ref_with, TypeExpr, int_type, bool_type, text_type, ref_type}
 use Rattle.ob_tree.specs.Exprs.{Expr, number_expr, text_expr, bool_expr, name_expr, this_expr, unary_expr, binary_expr, call_expr, new_expr, Call, call_with, Exprs, no_exprs, and_expr}
-use Rattle.ob_tree.specs.Stmts.{Local, int_local, bool_local, text_local, named_local, GivenExpr, Stmt, declare_stmt, assign_stmt, stage_stmt, change_stmt, call_stmt, test_stmt, if_stmt, return_stmt, revert_stmt, disown_stmt, assert_stmt, Block, block_with, Else, no_else, else_with, Stmts, no_stmts, and_stmt}
+use Rattle.ob_tree.specs.Stmts.{Local, int_local, bool_local, text_local, named_local, GivenExpr, Stmt, declare_stmt, assign_stmt, stage_stmt, change_stmt, call_stmt, test_stmt, if_stmt, while_stmt, return_stmt, revert_stmt, disown_stmt, assert_stmt, Block, block_with, Else, no_else, else_with, Stmts, no_stmts, and_stmt}
 use Rattle.ob_tree.specs.Members.{Field, Formal, Listed, Member, state_member, field_member, constructor_member, transaction_member, Contract}
 use Rattle.ob_resolve_spec.specs.Declarations.{Program, declared_contract}
 use Rattle.ob_resolve_spec.specs.Generics.{argument_of, argument_in_ref, argument_in_type, argument_in_local, arguments_in_expr, arguments_in_call, arguments_in_exprs, arguments_in_stmt, arguments_in_block, arguments_in_else, arguments_in_stmts, arguments_in_member, arguments_in_contract, HasNoGenerics}
@@ -89,6 +89,9 @@ mutual
       (none_of_both (arguments_in_expr (expr_in own condition)) (arguments_in_block (block_in own branch))
       (expr_bare own condition) (block_bare own branch))
       (else_bare own otherwise)
+  stmt_bare own (while_stmt condition body span) =
+      none_of_both (arguments_in_expr (expr_in own condition)) (arguments_in_block (block_in own body))
+      (expr_bare own condition) (block_bare own body)
   stmt_bare own (return_stmt value span) = maybe_bare own value
   stmt_bare own (revert_stmt text span) = maybe_bare own text
   stmt_bare own (disown_stmt name span) = refl

@@ -5,7 +5,7 @@ use Rattle.std.specs.List.{flat_map}
 use Rattle.std.specs.Option.{option_map_or}
 use Rattle.ob_tree.specs.Names.{Named, bare_name, name_with, Ref, ref_with, TypeExpr, int_type, bool_type, text_type, ref_type}
 use Rattle.ob_tree.specs.Exprs.{Expr, number_expr, text_expr, bool_expr, name_expr, this_expr, unary_expr, binary_expr, call_expr, new_expr, Call, call_with, Exprs, no_exprs, and_expr}
-use Rattle.ob_tree.specs.Stmts.{Local, int_local, bool_local, text_local, named_local, GivenExpr, Stmt, declare_stmt, assign_stmt, stage_stmt, change_stmt, call_stmt, test_stmt, if_stmt, return_stmt, revert_stmt, disown_stmt, assert_stmt, Block, block_with, Else, no_else, else_with, Stmts, no_stmts, and_stmt}
+use Rattle.ob_tree.specs.Stmts.{Local, int_local, bool_local, text_local, named_local, GivenExpr, Stmt, declare_stmt, assign_stmt, stage_stmt, change_stmt, call_stmt, test_stmt, if_stmt, while_stmt, return_stmt, revert_stmt, disown_stmt, assert_stmt, Block, block_with, Else, no_else, else_with, Stmts, no_stmts, and_stmt}
 use Rattle.ob_tree.specs.Members.{Field, Formal, Listed, Member, state_member, field_member, constructor_member, transaction_member, Contract}
 use Rattle.ob_tree.specs.declared.name.Subject.{Subject}
 use Rattle.ob_tree.specs.declared.name.Subject.TheVariants.{This, Name as NameSubject}
@@ -122,6 +122,10 @@ mutual
       (expr_met condition (no_front (arguments_in_expr condition) (arguments_in_block branch) first))
       (block_met branch (no_back (arguments_in_expr condition) (arguments_in_block branch) first)))
       (else_met otherwise (no_back front (arguments_in_else otherwise) k))
+  stmt_met (while_stmt condition body span) k =
+      each_both IsBareUse (types_in_expr condition) (types_in_block body)
+      (expr_met condition (no_front (arguments_in_expr condition) (arguments_in_block body) k))
+      (block_met body (no_back (arguments_in_expr condition) (arguments_in_block body) k))
   stmt_met (return_stmt value span) k = maybe_met value k
   stmt_met (revert_stmt text span) k = maybe_met text k
   stmt_met (disown_stmt name span) k = tt

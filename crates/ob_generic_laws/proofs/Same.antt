@@ -6,7 +6,7 @@ use Rattle.std.proofs.lemmas.List.{map-append}
 use Rattle.std.proofs.lemmas.List.Elements.{recursion_from_All}
 use Rattle.ob_tree.specs.Names.{Named, bare_name, name_with, Ref, ref_with, TypeExpr, int_type, bool_type, text_type, ref_type}
 use Rattle.ob_tree.specs.Exprs.{Expr, number_expr, text_expr, bool_expr, name_expr, this_expr, unary_expr, binary_expr, call_expr, new_expr, Call, call_with, Exprs, no_exprs, and_expr}
-use Rattle.ob_tree.specs.Stmts.{Local, int_local, bool_local, text_local, named_local, GivenExpr, Stmt, declare_stmt, assign_stmt, stage_stmt, change_stmt, call_stmt, test_stmt, if_stmt, return_stmt, revert_stmt, disown_stmt, assert_stmt, Block, block_with, Else, no_else, else_with, Stmts, no_stmts, and_stmt}
+use Rattle.ob_tree.specs.Stmts.{Local, int_local, bool_local, text_local, named_local, GivenExpr, Stmt, declare_stmt, assign_stmt, stage_stmt, change_stmt, call_stmt, test_stmt, if_stmt, while_stmt, return_stmt, revert_stmt, disown_stmt, assert_stmt, Block, block_with, Else, no_else, else_with, Stmts, no_stmts, and_stmt}
 use Rattle.ob_tree.specs.Members.{Field, Formal, Listed, Member, state_member, field_member, constructor_member, transaction_member, Contract}
 use Rattle.ob_tree.specs.declared.name.PermNode.{PermNode}
 use Rattle.ob_tree.specs.declared.contract.ParamNode.{ParamNode}
@@ -116,6 +116,10 @@ mutual
       (expr_same condition (no_front (arguments_in_expr condition) (arguments_in_block branch) first))
       (block_same branch (no_back (arguments_in_expr condition) (arguments_in_block branch) first))
       ∙ ap (λ e. if_stmt condition branch e span) (else_same otherwise (no_back front (arguments_in_else otherwise) k))
+  stmt_same (while_stmt condition body span) k =
+      ap₂ (λ c b. while_stmt c b span)
+      (expr_same condition (no_front (arguments_in_expr condition) (arguments_in_block body) k))
+      (block_same body (no_back (arguments_in_expr condition) (arguments_in_block body) k))
   stmt_same (return_stmt value span) k = ap (λ o. return_stmt o span) (maybe_same value k)
   stmt_same (revert_stmt text span) k = ap (λ o. revert_stmt o span) (maybe_same text k)
   stmt_same (disown_stmt name span) k = refl

@@ -8,7 +8,7 @@ use Rattle.std.proofs.lemmas.Str.{IsUtf8-nil, is_utf8-from_IsUtf8}
 use Rattle.ob_base.specs.Names.{is_name, is_text}
 use Rattle.ob_base.specs.Limits.{longest_string}
 use Rattle.ob_tree.specs.Exprs.{Expr, number_expr, text_expr, bool_expr, name_expr, this_expr, unary_expr, binary_expr, call_expr, new_expr, Call, call_with, Exprs, no_exprs, and_expr}
-use Rattle.ob_tree.specs.Stmts.{GivenExpr, Stmt, declare_stmt, assign_stmt, stage_stmt, change_stmt, call_stmt, test_stmt, if_stmt, return_stmt, revert_stmt, disown_stmt, assert_stmt, Block, block_with, Else, no_else, else_with, Stmts, no_stmts, and_stmt}
+use Rattle.ob_tree.specs.Stmts.{GivenExpr, Stmt, declare_stmt, assign_stmt, stage_stmt, change_stmt, call_stmt, test_stmt, if_stmt, while_stmt, return_stmt, revert_stmt, disown_stmt, assert_stmt, Block, block_with, Else, no_else, else_with, Stmts, no_stmts, and_stmt}
 use Rattle.ob_tree.specs.Members.{Field, Listed, Member, state_member, field_member, constructor_member, transaction_member, Contract}
 use Rattle.ob_tree.specs.declared.name.NamePart.{NamePart}
 use Rattle.ob_resolve_spec.specs.Declarations.{Program, declared_contract}
@@ -63,6 +63,7 @@ mutual
       (block_shape own branch h.0, else_shape own otherwise h.1)
   stmt_shape own (if_stmt condition branch otherwise span) h =
       (expr_shape own condition h.0, block_shape own branch h.1, else_shape own otherwise h.2)
+  stmt_shape own (while_stmt condition body span) h = (expr_shape own condition h.0, block_shape own body h.1)
   stmt_shape own (return_stmt value span) h = maybe_shape own value h
   stmt_shape own (revert_stmt text span) h = maybe_shape own text h
   stmt_shape own (disown_stmt name span) h = h

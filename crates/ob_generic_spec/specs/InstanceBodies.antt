@@ -1,7 +1,7 @@
 -- Expressions and statements in the tree of the instances: only their types and permissions change (this project's own).
 use Rattle.std.specs.Prelude.{map, Option, option_map}
 use Rattle.ob_tree.specs.Exprs.{Expr, number_expr, text_expr, bool_expr, name_expr, this_expr, unary_expr, binary_expr, call_expr, new_expr, Call, call_with, Exprs, no_exprs, and_expr}
-use Rattle.ob_tree.specs.Stmts.{GivenExpr, Stmt, declare_stmt, assign_stmt, stage_stmt, change_stmt, call_stmt, test_stmt, if_stmt, return_stmt, revert_stmt, disown_stmt, assert_stmt, Block, block_with, Else, no_else, else_with, Stmts, no_stmts, and_stmt}
+use Rattle.ob_tree.specs.Stmts.{GivenExpr, Stmt, declare_stmt, assign_stmt, stage_stmt, change_stmt, call_stmt, test_stmt, if_stmt, while_stmt, return_stmt, revert_stmt, disown_stmt, assert_stmt, Block, block_with, Else, no_else, else_with, Stmts, no_stmts, and_stmt}
 use Rattle.ob_generic_spec.specs.Substitution.{Own, perm_in}
 use Rattle.ob_generic_spec.specs.InstanceTypes.{named_in, local_in}
 use Rattle.ob_generic_spec.specs.declared.role.Role.TheVariants.{Anywhere}
@@ -45,6 +45,7 @@ abbrev mutual
       test_stmt subject state (block_in own branch) (else_in own otherwise) span
   stmt_in own (if_stmt condition branch otherwise span) =
       if_stmt (expr_in own condition) (block_in own branch) (else_in own otherwise) span
+  stmt_in own (while_stmt condition body span) = while_stmt (expr_in own condition) (block_in own body) span
   stmt_in own (return_stmt value span) = return_stmt (option_map (expr_in own) value) span
   stmt_in own (revert_stmt text span) = revert_stmt (option_map (expr_in own) text) span
   stmt_in own (disown_stmt name span) = disown_stmt name span

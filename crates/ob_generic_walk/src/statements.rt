@@ -96,6 +96,14 @@ fn walk_stmt(
             walk_block(then, alloc, around, found)?;
             walk_else(otherwise, alloc, around, found)
         }
+        Stmt::While {
+            condition,
+            body,
+            ..
+        } => {
+            walk_expr(condition, alloc, around, found)?;
+            walk_block(body, alloc, around, found)
+        }
         Stmt::Return { value, .. } => walk_value(value, alloc, around, found),
         Stmt::Revert { text, .. } => walk_value(text, alloc, around, found),
         Stmt::Disown { .. } | Stmt::Assert { .. } => Ok(()),

@@ -101,7 +101,7 @@ unless_nearer image fuel most cs f h = refused_nearer image fuel most (refusal_o
 
 -- the most steps that are left to a run at its opening
 abbrev all_steps : Image → ℕ → ℕ
-all_steps image fuel = suc (fuel * longest image)
+all_steps image fuel = suc (suc (fuel * longest image))
 
 tested_nearer : (image : Image) (fuel : ℕ) (c : Content) (units : ℕ) (q : Request) (e : Entry) (reads : List ReadItem) (o : Option HandleUse) → LeadsAhead image → 0 < units → IsNearer image fuel (all_steps image fuel) (after_entry_test image fuel c units q e reads o)
 tested_nearer image fuel c units q e reads (Some v) ahead u = λ g. absurd (true≢false g)
@@ -148,6 +148,6 @@ request_distances stores image fuel ahead = record {
 }
 
 -- the most that a run of a request is from its end
-pub request_most : {S L : Type 0} (stores : Stores S L) (image : Image) (fuel : ℕ) (ahead : LeadsAhead image) → (request_distances stores image fuel ahead).most ≡ suc (fuel * longest image)
+pub request_most : {S L : Type 0} (stores : Stores S L) (image : Image) (fuel : ℕ) (ahead : LeadsAhead image) → (request_distances stores image fuel ahead).most ≡ suc (suc (fuel * longest image))
 unfolding request_distances
 request_most stores image fuel ahead = refl

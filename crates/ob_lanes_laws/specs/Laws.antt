@@ -81,8 +81,8 @@ after_request_events stores image fuel batch s count events =
 
 -- Whatever events come, from every store at rest: replies and changes are those of the invocation by code, where the store has room for
 -- them, of one request after another in the order of commits; each client's requests are answered in their order; and the store stays at
--- rest. So it is by each image whose jumps lead ahead, and by whose code no request on a store at rest goes wrong, or leaves it not at
--- rest.
+-- rest. So it is by each image whose jumps lead ahead, or to a `unit`, and by whose code no request on a store at rest goes wrong, or
+-- leaves it not at rest.
 abbrev pub RequestsAreSerializable : Type 0 → Type 0 → Type 0
 RequestsAreSerializable S L =
     (stores : Stores S L) (image : Image) (fuel : ℕ) (batch : List Request) (s : S) (count : ℕ) (events : List Event)

@@ -75,7 +75,7 @@ request_rules stores image fuel = record {
 
 -- how many steps are left to a run, at most
 abbrev pub steps_of_run : Image → ℕ → Run → ℕ
-steps_of_run image fuel (opened q) = suc (fuel * longest image)
+steps_of_run image fuel (opened q) = suc (suc (fuel * longest image))
 steps_of_run image fuel (paused q reads p h) = steps_left image p
 steps_of_run image fuel (answered a) = 0
 steps_of_run image fuel lost = 0

@@ -2,10 +2,10 @@
 use Rattle.std.proofs.Common.{◌≡◌, ℕ, ◌-◌, List, [], ◌∷◌, ◌++◌, length, drop, refl, ap, sym, ◌∙◌, subst, arith, append_assoc, length-append}
 use Rattle.std.specs.Prelude.{Option, Some, None, Result, Ok, Err, ⊤}
 use Rattle.ob_base.specs.declared.fault.Span.{Span}
-use Rattle.ob_table.specs.Statements.{GivenField, Statement, resolved_declare, resolved_assign, resolved_stage, resolved_change, resolved_discard, resolved_test, resolved_if, resolved_return, resolved_revert, resolved_disown, resolved_assert, Statements, no_statements, and_statement}
+use Rattle.ob_table.specs.Statements.{GivenField, Statement, resolved_declare, resolved_assign, resolved_stage, resolved_change, resolved_discard, resolved_test, resolved_if, resolved_while, resolved_return, resolved_revert, resolved_disown, resolved_assert, Statements, no_statements, and_statement}
 use Rattle.ob_table_spec.specs.WellFormed.{StaticFrame}
-use Rattle.ob_silica.specs.Terms.{SilicaTerms, unit_form, test_form, if_form}
-use Rattle.ob_lower_spec.specs.Forms.{set_slot, join_of, SlotVariable, refused_at}
+use Rattle.ob_silica.specs.Terms.{SilicaTerms, no_terms, unit_form, test_form, if_form, loop_form}
+use Rattle.ob_lower_spec.specs.Forms.{set_slot, block_end, join_of, SlotVariable, refused_at}
 use Rattle.ob_lower_functions.specs.ExpressionCode.{value_code}
 use Rattle.ob_silica.specs.declared.place.Given.{Given}
 use Rattle.ob_lower_functions.specs.Progress.{Stop, ◌>>=◌, Slots, slots_from, next_slot, with_term, ended}
@@ -84,6 +84,10 @@ statement_keeps f (resolved_if condition branch other span) rest q out =
     through q.variables (condition_code f condition span q out) _ (λ c. through q.variables
     (block_code f branch (settled q)) _ (λ x. through q.variables (otherwise_code f other (settled q)) _ (λ y.
     same (settled q) (with_term c.0 (if_form c.1 x y (join_of branch other)) span) q.variables refl)))
+statement_keeps f (resolved_while condition body span) rest q out =
+    through q.variables (condition_code f condition span q no_terms) _ (λ c. through q.variables
+    (block_code f body (settled q)) _ (λ x.
+    same (settled q) (with_term out (loop_form c.0 c.1 x (block_end body)) (block_end body)) q.variables refl))
 statement_keeps f (resolved_return value span) rest q out = through q.variables _ _ (λ x. same _ _ q.variables refl)
 statement_keeps f (resolved_revert text span) rest q out = through q.variables _ _ (λ x. same _ _ q.variables refl)
 statement_keeps f (resolved_disown subject span) rest q out = through q.variables _ _ (λ o. same _ _ q.variables refl)

@@ -12,12 +12,13 @@ use Rattle.ob_lower_spec.specs.Forms.{slot_operand, AroundExpression, locals_of,
 use Rattle.ob_lower_functions.specs.Progress.{Stop, ◌>>=◌, found, slots_from, with_term}
 use Rattle.ob_lower_functions.specs.ExpressionCode.{value_code}
 use Rattle.ob_lower_functions.specs.StatementCode.{BlockPosition, around_at, begun, named_code, past_statement}
-use Rattle.ob_table.specs.Statements.{Statement, resolved_declare, resolved_assign, resolved_stage, resolved_change, resolved_discard, resolved_test, resolved_if, resolved_return, resolved_revert, resolved_disown, resolved_assert}
+use Rattle.ob_table.specs.Statements.{Statement, resolved_declare, resolved_assign, resolved_stage, resolved_change, resolved_discard, resolved_test, resolved_if, resolved_while, resolved_return, resolved_revert, resolved_disown, resolved_assert}
 
 -- a statement in which no block stands
 abbrev pub HasNoBlock : Statement → Type 0
 HasNoBlock (resolved_test subject state branch other span) = ⊥
 HasNoBlock (resolved_if condition branch other span) = ⊥
+HasNoBlock (resolved_while condition body span) = ⊥
 HasNoBlock (resolved_declare local name of value span) = ⊤
 HasNoBlock (resolved_assign target value span) = ⊤
 HasNoBlock (resolved_stage state given span) = ⊤

@@ -135,7 +135,7 @@ fn lower_discard(
     Ok(())
 }
 
-/// The condition of an `if`, whose temporaries end before the branches.
+/// The condition of an `if` or a `while`, whose temporaries end before it is used.
 pub fn lower_condition(
     condition: &ResolvedExpr,
     span: Span,
@@ -337,7 +337,9 @@ fn put_plain(
             perm,
             span,
         } => lower_assert(*subject, *perm, *span, position, out),
-        ResolvedStmt::Test { .. } | ResolvedStmt::If { .. } => unreachable!(),
+        ResolvedStmt::Test { .. } | ResolvedStmt::If { .. } | ResolvedStmt::While { .. } => {
+            unreachable!()
+        }
     }
 }
 

@@ -1,8 +1,9 @@
 //! Statements and blocks (the Obsidian language documentation, "Statements").
-ghost use Rattle.std.specs.Prelude.{◌≡◌, ◌&&◌, Ok, IfOk, OnOk};
+ghost use Rattle.std.specs.Prelude.{◌≡◌, ◌&&◌, false, Ok, IfOk, OnOk};
 ghost use Rattle.ob_table.specs.Statements.{resolved_block};
 ghost use Rattle.ob_table.specs.StatementsView.{statement_of, statements_of, resolved_block_of, otherwise_of};
 ghost use Rattle.ob_table_spec.specs.WellFormed.{ends_there, one_ends_there, block_ends_there, other_ends_there};
+ghost use Rattle.ob_silica.specs.Terms.{loop_form};
 ghost use Rattle.ob_silica.specs.TermsView.{form_of, terms_of};
 ghost use Rattle.ob_lower_spec.specs.Forms.{join_of};
 ghost use Rattle.ob_lower_functions.specs.Progress.{with_term};
@@ -14,7 +15,7 @@ use crate::position::BlockPosition;
 use crate::simple::{begin_named, lower_condition, lower_plain};
 use ob_base::{Items, Span};
 use ob_lower_parts::{Code, StaticFrame, Stopped, end_block};
-use ob_silica::{Form, Term};
+use ob_silica::{Form, Operand, Term};
 use ob_table::{ResolvedBlock, ResolvedStmt};
 use std::alloc::Global;
 
@@ -51,6 +52,27 @@ fn put_branches(
 {
     out.put(form, span)?;
     Ok(first_ends && second_ends)
+}
+
+// A loop of these parts, whose closing brace is its place: something is reached after it.
+fn put_loop(
+    first: Code,
+    a: Operand,
+    body: Items<Term>,
+    end: Span,
+    out: &mut Code,
+) -> Result<bool, Stopped>
+    ensures code { Makes result (λ _. out.new) (Ok (with_term out.old (loop_form first a (terms_of body) end) end)) }
+    ensures ends { IfOk result (λ ends. ends ≡ false) }
+{
+    let form = Form::Loop {
+        first: first.into_terms(),
+        a,
+        body,
+        end,
+    };
+    out.put(form, end)?;
+    Ok(false)
 }
 
 // A statement before these: whether nothing is reached after it.
@@ -103,6 +125,16 @@ fn lower_statement(
                 join: join_of(then, otherwise),
             };
             put_branches(form, yes.ends, no.ends, *span, out)
+        }
+        ResolvedStmt::While {
+            condition,
+            body,
+            span,
+        } => {
+            let mut first = Code::new(out.alloc());
+            let a = lower_condition(condition, *span, frame, position, &mut first)?;
+            let block = lower_block(body, frame, position, out.alloc())?;
+            put_loop(first, a, block.terms, body.end, out)
         }
         _ => lower_plain(statement, rest, frame, position, out),
     }

@@ -1,5 +1,5 @@
 -- Branches: what ends with them, and tests of states.
-use Rattle.std.proofs.Common.{◌≡◌, ℕ, ◌≤◌, Bool, true, false, List, ◌∷◌, length, Option, Some, None, refl, sym, ap, ◌∙◌, subst}
+use Rattle.std.proofs.Common.{◌≡◌, ℕ, ◌≤◌, Bool, true, false, List, ◌∷◌, length, Option, Some, None, refl, sym, ap, ◌∙◌, subst, le_of_eq}
 use Rattle.std.specs.Prelude.{option_map, if◌then◌else◌}
 use Rattle.ob_table.specs.Tables.{ClassTable, contract_at}
 use Rattle.ob_table_spec.specs.WellFormed as made
@@ -12,8 +12,8 @@ use Rattle.ob_source_meaning.specs.Frames.{Calls, Flow, goes_on, returns, known,
 use Rattle.ob_silica.specs.Terms.{SilicaTerms, no_terms}
 use Rattle.ob_silica_places.specs.Places.{Location}
 use Rattle.ob_silica_steps.specs.Configurations.{SilicaProgram, SlotCells, Rest, runs, leaves, Configuration, goes}
-use Rattle.ob_silica_steps.specs.Here.{Here}
-use Rattle.ob_silica_steps.specs.Steps.{step}
+use Rattle.ob_silica_steps.specs.Here.{Here, here, goes_to}
+use Rattle.ob_silica_steps.specs.Steps.{step, end_step}
 use Rattle.ob_lower_spec.specs.Points.{Point, passed}
 use Rattle.ob_lower_correct.proofs.Slots.{Used, Within, within_self}
 use Rattle.ob_lower_correct.proofs.Runs.{Ends, leads_on, one_step, ends_map, ends_then}
@@ -34,6 +34,7 @@ use Rattle.ob_heap_spec.specs.Worlds.{read_object, is_made, with_read, object_it
 
 -- at the end of a branch only permissions change, and the world so
 pub record EndsTo (e : BranchEnds) (change : World → World) : Type 0 where
+  pub steps_so : (program : SilicaProgram) (rest : SilicaTerms) (outer : List Rest) (c : Configuration) → end_step program e rest outer c ≡ goes_to c (end_branch e (here c)) (runs rest outer)
   pub alike : (t : Here) → Alike t (end_branch e t)
   pub world : (t : Here) → (end_branch e t).world ≡ change t.world
 
@@ -81,13 +82,14 @@ module _ (program : SilicaProgram) (most : ℕ) (calls : Calls) (called : CallsR
   Places p ws = Placed (length s.signature.params) fixed p ws
 
   pub plain_ends : EndsTo plain_end (λ w. w)
-  plain_ends = record { alike = λ t. alike_self t; world = λ t. refl }
+  plain_ends = record { steps_so = λ program rest outer c. refl; alike = λ t. alike_self t; world = λ t. refl }
 
   pub test_ends : (place : Location) → EndsTo (test_end place) (λ w. w)
-  test_ends place = record { alike = λ t. permission_alike place shared t; world = λ t. moved_world program most place shared t }
+  test_ends place = record { steps_so = λ program rest outer c. refl; alike = λ t. permission_alike place shared t; world = λ t. moved_world program most place shared t }
 
   pub lock_ends : (place : Location) (n : ℕ) → EndsTo (lock_end place n) (unlock n)
   lock_ends place n = record {
+    steps_so = λ program rest outer c. refl;
     alike = λ t. let a = permission_alike place shared t in record { slots = a.slots; notes = a.notes };
     world = λ t. ap (unlock n) (moved_world program most place shared t);
   }
@@ -101,7 +103,7 @@ module _ (program : SilicaProgram) (most : ℕ) (calls : Calls) (called : CallsR
       let t2 = end_branch e t in
       let comes : Comes table most p.used t (record { slots = t2.slots; notes = t2.notes; world = change w }) = record {
         kept = record { by = λ n u. (ends.alike t).slots n };
-        later = record { by = λ n o eo. (o, ap (λ xs. object_at xs n) (same w).0 ∙ eo, refl) };
+        later = record { by = λ n o eo. (o, ap (λ xs. object_at xs n) (same w).0 ∙ eo, refl); fuel = le_of_eq (same w).1 };
         noted = noted_quiet {w = w} {v = change w} r.by.comes.noted (quiet_same w (change w) (same w).0 (same w).1) (ends.alike t).notes;
         fuel = subst (λ n. n ≤ most) (sym (same w).1) r.by.comes.fuel;
       } in
@@ -111,7 +113,8 @@ module _ (program : SilicaProgram) (most : ℕ) (calls : Calls) (called : CallsR
           notes = t2.notes;
           comes = comes_on table most r.by.comes (comes_fewer table most within comes);
           holds = at_on program most calls called s found start finish fixed zero_fixed within (within_self p.used) r.by.holds comes;
-          leads = leads_on program r.by.leads (one_step program (ap (λ v. goes (config s (record { slots = t2.slots; notes = t2.notes; world = v }) (runs rest outer))) (ends.world t)));
+          leads = leads_on program r.by.leads (one_step program (ends.steps_so program rest outer (config s t (runs no_terms (record { terms = rest; ends = e } ∷ outer)))
+              ∙ ap (λ v. goes (config s (record { slots = t2.slots; notes = t2.notes; world = v }) (runs rest outer))) (ends.world t)));
         };
       }
   flow_ended p rest outer h e change c ends same commutes within (returns v) w r =
@@ -128,7 +131,7 @@ module _ (program : SilicaProgram) (most : ℕ) (calls : Calls) (called : CallsR
                 answers = l.answers;
                 comes = record {
                   kept = kept_on l.comes.kept (record { by = λ n z. (ends.alike t).slots n });
-                  later = later_on l.comes.later (record { by = λ n o eo. (o, ap (λ xs. object_at xs n) (same w1).0 ∙ eo, refl) });
+                  later = later_on l.comes.later (record { by = λ n o eo. (o, ap (λ xs. object_at xs n) (same w1).0 ∙ eo, refl); fuel = le_of_eq (same w1).1 });
                   noted = noted_quiet {w = w1} {v = change w1} l.comes.noted (quiet_same w1 (change w1) (same w1).0 (same w1).1) (ends.alike t).notes;
                   fuel = subst (λ n. n ≤ most) (sym (same w1).1) l.comes.fuel;
                 };

@@ -105,7 +105,7 @@ module _ (program : SilicaProgram) (n : ℕ) (inner : Calls) (inner_runs : (m : 
     signed : signature_of table contract constructor_id ≡ Some g
     signed = ap (option_and_then (λ c. signature_at c constructor_id)) eown ∙ eg
 
-    module _ (m j : ℕ) (d : Bound) (en : n ≡ suc m) (le : j ≤ m) (over : HandedOver (unbound h) d 1 (parameters g) vs) where
+    module _ (m j : ℕ) (d : Bound) (en : n ≡ suc m) (le : j ≤ m) (fewer : j ≤ h.world.fuel) (over : HandedOver (unbound h) d 1 (parameters g) vs) where
       abbrev w1 : World
       w1 = with_unit_taken d.from.world j
 
@@ -157,7 +157,7 @@ module _ (program : SilicaProgram) (n : ℕ) (inner : Calls) (inner_runs : (m : 
       less_most = omega (arith, en)
 
       later : Later h.world h0.world
-      later = record { by = λ a o eo. let x = (quiet_later quiet).by a o eo in (x.0, before_end d.from.world.objects (unfinished contract) x.0 a x.1, x.2) }
+      later = record { by = λ a o eo. let x = (quiet_later quiet).by a o eo in (x.0, before_end d.from.world.objects (unfinished contract) x.0 a x.1, x.2); fuel = fewer }
 
       pub made : (b c : Bool) → nat_le most_objects i ≡ b → may_pass table w2.objects g.params vs ≡ c → step program C ≡ makes_object program (E w1) contract constructor_id g
           → Ends program (Called program n ⊤ (Some k) s h (runs rest outer)) C (new_after_unit table inner contract own g vs w1)
@@ -189,7 +189,7 @@ module _ (program : SilicaProgram) (n : ℕ) (inner : Calls) (inner_runs : (m : 
         (rw (come_args g.params vs h.world, sym over.world)
         (unit_called program n d.from.world.fuel d.from.world after (λ w. new_after_unit table inner contract own g vs w) C refl (subst (λ z. z ≤ n) (sym fuel_is) st.fuel)
         (ap (λ o. if_there o (λ x. bind_all table (unbound h) (all_located args) 1 (parameters x) (λ b. with_unit b.from.world (λ w. makes_object program (entered_with C b rest outer (Some k) w) contract constructor_id x)))) ec ∙ go _)
-        (λ m j en le e. made m j d en le over (nat_le most_objects (length d.from.world.objects)) (may_pass table d.from.world.objects g.params vs) refl refl e)))
+        (λ m j en le ef e. made m j d en le (omega (arith, ef, fuel_is)) over (nat_le most_objects (length d.from.world.objects)) (may_pass table d.from.world.objects g.params vs) refl refl e)))
 
   -- a `new` does what the source's does
   pub new_runs : (s : Setting) (h : Here) (k : ℕ) (contract : ContractId) (args : List Operand) (span : Span) (rest : SilicaTerms) (outer : List Rest)

@@ -46,7 +46,7 @@ use Rattle.ob_lower_correct.proofs.Entering.{BodyPair, fixed_slots, zero_fixed, 
 use Rattle.ob_table_spec.specs.Conditions.{asked_of}
 use Rattle.ob_lower_correct.proofs.CallsThis.{first_read, parameters_length, located_length, waiting}
 use Rattle.ob_lower_correct.proofs.Changes.{quiet_read}
-use Rattle.ob_lower_correct.proofs.Standing.{at_other, later_on}
+use Rattle.ob_lower_correct.proofs.Standing.{at_other}
 use Rattle.ob_lower_correct.proofs.Binding.{holds_on}
 use Rattle.ob_lower_correct.proofs.Values.{there, not_there}
 
@@ -75,7 +75,7 @@ module _ (program : SilicaProgram) (n : ℕ) (inner : Calls) (inner_runs : (m : 
     abbrev ps : List Parameter
     ps = map parameter_of asked.params
 
-    module _ (m j : ℕ) (d : Bound) (en : n ≡ suc m) (le : j ≤ m) (over : HandedOver (unbound h) d 0 (all_parameters declared asked) (reference i ∷ vs)) where
+    module _ (m j : ℕ) (d : Bound) (en : n ≡ suc m) (le : j ≤ m) (fewer : j ≤ h.world.fuel) (over : HandedOver (unbound h) d 0 (all_parameters declared asked) (reference i ∷ vs)) where
       abbrev w1 : World
       w1 = with_unit_taken d.from.world j
 
@@ -138,7 +138,10 @@ module _ (program : SilicaProgram) (n : ℕ) (inner : Calls) (inner_runs : (m : 
         answers a = inl (subst IsSome (sym (agrees declared tx asked o.contract own t g eown eg et esg).1) (subst (λ z. IsSomeAnd z (λ x. IsSome x.result)) eg a))
 
         later : Later h.world (enter i w2)
-        later = record { by = (later_on {w = h.world} {v = d.from.world} {u = w2} (quiet_later quiet) (record { by = (quiet_later read_quiet).by })).by }
+        later = record {
+          by = λ a x ex. let y = (quiet_later quiet).by a x ex in let z = (quiet_later read_quiet).by a y.0 y.1 in (z.0, z.1, z.2 ∙ y.2);
+          fuel = subst (λ x. x ≤ h.world.fuel) (sym read_quiet.fuel) fewer;
+        }
 
         begun : (b : Bool) → may_begin table w2.objects o.contract g i vs ≡ b → step program C ≡ begins_on program (E w2) i o t g
             → Ends program (Called program n (Answers table declared tx) k s h (runs rest outer)) C (run_on inner (entered_frame table i o own g) t g vs w2)
@@ -199,7 +202,7 @@ module _ (program : SilicaProgram) (n : ℕ) (inner : Calls) (inner_runs : (m : 
         ∙ ap (λ o. if_there o (λ x. if_there (referred x.value) (λ i. bind_all table (unbound h) (located receiver ∷ all_located args) 0 (all_parameters declared asked) (λ b. with_unit b.from.world (λ w. calls_object program (entered_with C b rest outer k w) declared tx asked i))))) ex
         ∙ ap (λ v. if_there (referred v) (λ i. bind_all table (unbound h) (located receiver ∷ all_located args) 0 (all_parameters declared asked) (λ b. with_unit b.from.world (λ w. calls_object program (entered_with C b rest outer k w) declared tx asked i)))) ev
         ∙ go _)
-        (λ m j en le e. by_progress m j d en le over (is_in_progress (read_object (with_unit_taken d.from.world j) i) i) refl e)))
+        (λ m j en le ef e. by_progress m j d en le (omega (arith, ef, fuel_is)) over (is_in_progress (read_object (with_unit_taken d.from.world j) i) i) refl e)))
 
   -- a call with a receiver does what the source's does
   pub object_runs : (s : Setting) (h : Here) (k : Option ℕ) (receiver : Operand) (declared : ContractId) (tx : TxId) (args : List Operand) (span : Span) (rest : SilicaTerms) (outer : List Rest)

@@ -77,7 +77,7 @@ module _ (program : SilicaProgram) (n : ℕ) (inner : Calls) (inner_runs : (m : 
     abbrev ps : List Parameter
     ps = map parameter_of g.params
 
-    module _ (m j : ℕ) (d : Bound) (en : n ≡ suc m) (le : j ≤ m) (over : HandedOver (unbound h) d 0 (all_parameters s.here g) (reference s.this ∷ vs)) where
+    module _ (m j : ℕ) (d : Bound) (en : n ≡ suc m) (le : j ≤ m) (fewer : j ≤ h.world.fuel) (over : HandedOver (unbound h) d 0 (all_parameters s.here g) (reference s.this ∷ vs)) where
       abbrev w1 : World
       w1 = with_unit_taken d.from.world j
 
@@ -134,7 +134,7 @@ module _ (program : SilicaProgram) (n : ℕ) (inner : Calls) (inner_runs : (m : 
           let o = body_ends program m inner run cs found (gives_back table cs vs) vs w1 in
           rw (eb, transaction_is table inner cs vs w1, sym (then_gives o))
           (called_from program n m inner run cs found h0.slots (gives_back table cs vs) (fixed_slots g) (zero_fixed g) (Answers table s.here tx) s h d.from rest outer k (without_field_loans d).loans h0 C o
-          less_most over.alike.slots stands (record { by = (quiet_later quiet).by }) answers refl
+          less_most over.alike.slots stands (record { by = (quiet_later quiet).by; fuel = fewer }) answers refl
           (entered_runs program m inner run cs found (gives_back table cs vs) vs h0 C (bodies s.here s.own tx g found own_g) stands holds
           (plain_finishes program m inner run cs found h0.slots vs (fixed_slots g) (zero_fixed g) refl eg holds no_new)
           (e ∙ ap (λ b. if b then enters program (entered_with C (without_field_loans d) rest outer k w1) s.here tx by_this s.share_entered else stuck) (within ∙ eb))))
@@ -147,7 +147,7 @@ module _ (program : SilicaProgram) (n : ℕ) (inner : Calls) (inner_runs : (m : 
         rw (own_g, come_args g.params vs (comes_into (typed.Reference s.here g.entry) (reference s.this) h.world), sym over.world)
         (unit_called program n d.from.world.fuel d.from.world after (λ w. call_on_this inner (frame_in table s) tx g vs w) C refl (subst (λ i. i ≤ n) (sym fuel_is) st.fuel)
         (ap (λ o. if_there o (λ x. bind_all table (unbound h) (this ∷ all_located args) 0 (all_parameters s.here x) (λ b. with_unit b.from.world (λ w. calls_this program (entered_with C (without_field_loans b) rest outer k w) C.frame tx x)))) eg ∙ go _)
-        (λ m j en le e. entered m j d en le over (may_begin table (with_unit_taken d.from.world j).objects s.here g s.this vs) refl e))
+        (λ m j en le ef e. entered m j d en le (omega (arith, ef, fuel_is)) over (may_begin table (with_unit_taken d.from.world j).objects s.here g s.this vs) refl e))
 
   -- a call on `this` does what the source's does
   pub same_runs : (s : Setting) (h : Here) (k : Option ℕ) (tx : TxId) (args : List Operand) (span : Span) (rest : SilicaTerms) (outer : List Rest)

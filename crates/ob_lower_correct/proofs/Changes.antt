@@ -1,5 +1,5 @@
 -- What marks, sets of fields and handing over leave as it was.
-use Rattle.std.proofs.Common.{◌≡◌, ◌≢◌, ℕ, zero, suc, Bool, true, false, List, [], ◌∷◌, Option, Some, None, refl, sym, ap, ◌∙◌, subst, eq-eqb, eqb-true, true≢false, ◌⊎◌, inl, inr}
+use Rattle.std.proofs.Common.{◌≡◌, ◌≢◌, ℕ, zero, suc, Bool, true, false, List, [], ◌∷◌, Option, Some, None, refl, sym, ap, ◌∙◌, subst, eq-eqb, eqb-true, true≢false, ◌⊎◌, inl, inr, le_of_eq}
 use Rattle.std.specs.Prelude.{option_map, option_and_then, slice_get, slice_set, nat_eq, if◌then◌else◌}
 use Rattle.std.specs.Option.{option_map_or}
 use Rattle.ob_base.specs.declared.id.ContractId.{ContractId}
@@ -154,7 +154,7 @@ pub quiet_back : {w v : World} → Quiet w v → Quiet v w
 quiet_back q = record { by = λ n. sym (q.by n); fuel = sym q.fuel }
 
 pub quiet_later : {w v : World} → Quiet w v → Later w v
-quiet_later q = record { by = λ n o e. let x = quiet_object q n o e in (x.0, x.1, ap (λ y. y.0) x.2) }
+quiet_later q = record { by = λ n o e. let x = quiet_object q n o e in (x.0, x.1, ap (λ y. y.0) x.2); fuel = le_of_eq q.fuel }
 
 -- What is noted.
 
@@ -195,7 +195,7 @@ noted_quiet {table} {w = w} a q same = record {
 
 -- contracts stay
 pub later_edit : (g : Object → Object) → ((o : Object) → (g o).contract ≡ o.contract) → (n : ℕ) (w : World) → Later w (edit_object g n w)
-later_edit g same n w = record { by = λ m o e. at_number m o e (same_or m n) }
+later_edit g same n w = record { by = λ m o e. at_number m o e (same_or m n); fuel = le_of_eq (edited_fuel g n w) }
   where
     at_number : (m : ℕ) (o : Object) → object_at w.objects m ≡ Some o → (m ≡ n) ⊎ (m ≢ n) → (p : Object) × (object_at (edit_object g n w).objects m ≡ Some p) × (p.contract ≡ o.contract)
     at_number m o e (inl h) = (g o, ap (λ i. object_at (edit_object g n w).objects i) h ∙ edited g n w o (ap (λ i. object_at w.objects i) (sym h) ∙ e), same o)

@@ -38,7 +38,7 @@ use Rattle.ob_lower_correct.proofs.Values.{read_one, not_there}
 use Rattle.ob_lower_correct.proofs.Setting.{placed_passed}
 use Rattle.ob_lower_correct.proofs.Plain.{seen_agree, serves_plain}
 use Rattle.ob_table.specs.declared.seen.Kind.TheVariants.{Bool as BoolKind, Reference}
-use Rattle.ob_table.specs.Statements.{GivenField, resolved_stage, resolved_change, resolved_test, resolved_if, no_statements, Block, Otherwise}
+use Rattle.ob_table.specs.Statements.{GivenField, resolved_stage, resolved_change, resolved_test, resolved_if, resolved_while, no_statements, Block, Otherwise}
 use Rattle.ob_table_spec.specs.WellFormed.{kind_of_expression, ServesAs, serves_as, locals_after, ends_there, IsStatement, IsValue}
 use Rattle.ob_source_meaning.specs.Statements.{choose, run_block, run_otherwise}
 use Rattle.ob_silica.specs.Terms.{if_form}
@@ -114,6 +114,7 @@ accepted (and_statement (resolved_assign target value span) xs) state at e = abs
 accepted (and_statement (resolved_discard value span) xs) state at e = absurd (true≢false (sym e))
 accepted (and_statement (resolved_test subject st b o span) xs) state at e = absurd (true≢false (sym e))
 accepted (and_statement (resolved_if c b o span) xs) state at e = absurd (true≢false (sym e))
+accepted (and_statement (resolved_while c b span) xs) state at e = absurd (true≢false (sym e))
 accepted (and_statement (resolved_return v span) xs) state at e = absurd (true≢false (sym e))
 accepted (and_statement (resolved_revert v span) xs) state at e = absurd (true≢false (sym e))
 accepted (and_statement (resolved_disown subject span) xs) state at e = absurd (true≢false (sym e))
@@ -132,6 +133,7 @@ refused (and_statement (resolved_assign target value span) xs) state at e = (at,
 refused (and_statement (resolved_discard value span) xs) state at e = (at, refl)
 refused (and_statement (resolved_test subject st b o span) xs) state at e = (at, refl)
 refused (and_statement (resolved_if c b o span) xs) state at e = (at, refl)
+refused (and_statement (resolved_while c b span) xs) state at e = (at, refl)
 refused (and_statement (resolved_return v span) xs) state at e = (at, refl)
 refused (and_statement (resolved_revert v span) xs) state at e = (at, refl)
 refused (and_statement (resolved_disown subject span) xs) state at e = (at, refl)

@@ -106,8 +106,8 @@ transaction_is table calls cs args w = by_body (body_at table cs.here cs.tx)
 
 pub unit_called : (program : SilicaProgram) {A : Type 0} {R : A → World → Configuration → Type 0} (n k : ℕ) (w : World) (after : World → NextStep) (go : World → RunOutcome A) (c : Configuration)
     → w.fuel ≡ k → k ≤ n → step program c ≡ with_fuel_left k w after
-    → ((m j : ℕ) → n ≡ suc m → j ≤ m → step program c ≡ after (with_unit_taken w j) → Ends program R c (go (with_unit_taken w j)))
+    → ((m j : ℕ) → n ≡ suc m → j ≤ m → w.fuel ≡ suc j → step program c ≡ after (with_unit_taken w j) → Ends program R c (go (with_unit_taken w j)))
     → Ends program R c (with_fuel k w go)
 unit_called program n zero w after go c ek le e next = record { by = one_step program e }
 unit_called program zero (suc k) w after go c ek le e next = absurd (omega (arith, le))
-unit_called program (suc n) (suc k) w after go c ek le e next = next n k refl (omega (arith, le)) e
+unit_called program (suc n) (suc k) w after go c ek le e next = next n k refl (omega (arith, le)) ek e

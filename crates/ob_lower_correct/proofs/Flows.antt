@@ -163,23 +163,30 @@ module _ (program : SilicaProgram) (most : ℕ) (calls : Calls) (called : CallsR
 
   unit_by : (n : ℕ) (p q : Point) (ls : meaning.Locals) (h : Here) (span : Span) (ts rest : SilicaTerms) (outer outer2 : List Rest) (go : World → RunOutcome Flow)
       → h.world.fuel ≡ n → Within fixed p.used → At p ls h
-      → ((w : World) → Comes table most (used_at p) h (record h { world = w }) → At p ls (record h { world = w }) → Ends program (Flows q rest outer2 (record h { world = w })) (config s (record h { world = w }) (runs ts outer)) (go w))
+      → ((w : World) → w.fuel < h.world.fuel → Comes table most (used_at p) h (record h { world = w }) → At p ls (record h { world = w }) → Ends program (Flows q rest outer2 (record h { world = w })) (config s (record h { world = w }) (runs ts outer)) (go w))
       → Ends program (Flows q rest outer2 h) (config s h (runs (and_term unit_form span ts) outer)) (with_fuel n h.world go)
   unit_by zero p q ls h span ts rest outer outer2 go e f a next =
       record { by = one_step program (ap (λ n. with_fuel_left n h.world (λ w. goes (config s (record h { world = w }) (runs ts outer)))) e) }
   unit_by (suc n) p q ls h span ts rest outer outer2 go e f a next =
       let w = with_unit_taken h.world n in
       let comes : Comes table most (used_at p) h (record h { world = w }) =
-      record { kept = kept_self (used_at p) h.slots; later = record { by = λ m o eo. (o, eo, refl) }; noted = a.stands.noted; fuel = omega (arith, e, a.stands.fuel) } in
+      record { kept = kept_self (used_at p) h.slots; later = record { by = λ m o eo. (o, eo, refl); fuel = omega (arith, e) }; noted = a.stands.noted; fuel = omega (arith, e, a.stands.fuel) } in
       step_flows (go w) (comes_fewer table most (within_on f (within_use (made_before p.row) p.used)) comes)
       (ap (λ n. with_fuel_left n h.world (λ w. goes (config s (record h { world = w }) (runs ts outer)))) e)
-      (next w comes (at_world w f a comes))
+      (next w (omega (arith, e)) comes (at_world w f a comes))
 
   pub unit_flows : (p q : Point) (ls : meaning.Locals) (h : Here) (span : Span) (ts rest : SilicaTerms) (outer outer2 : List Rest) (go : World → RunOutcome Flow)
       → Within fixed p.used → At p ls h
       → ((w : World) → Comes table most (used_at p) h (record h { world = w }) → At p ls (record h { world = w }) → Ends program (Flows q rest outer2 (record h { world = w })) (config s (record h { world = w }) (runs ts outer)) (go w))
       → Ends program (Flows q rest outer2 h) (config s h (runs (and_term unit_form span ts) outer)) (unit h.world go)
-  unit_flows p q ls h span ts rest outer outer2 go f a next = unit_by h.world.fuel p q ls h span ts rest outer outer2 go refl f a next
+  unit_flows p q ls h span ts rest outer outer2 go f a next = unit_by h.world.fuel p q ls h span ts rest outer outer2 go refl f a (λ w fewer comes at_w. next w comes at_w)
+
+  -- the same, where it counts that fewer are left
+  pub fewer_flows : (p q : Point) (ls : meaning.Locals) (h : Here) (span : Span) (ts rest : SilicaTerms) (outer outer2 : List Rest) (go : World → RunOutcome Flow)
+      → Within fixed p.used → At p ls h
+      → ((w : World) → w.fuel < h.world.fuel → Comes table most (used_at p) h (record h { world = w }) → At p ls (record h { world = w }) → Ends program (Flows q rest outer2 (record h { world = w })) (config s (record h { world = w }) (runs ts outer)) (go w))
+      → Ends program (Flows q rest outer2 h) (config s h (runs (and_term unit_form span ts) outer)) (unit h.world go)
+  fewer_flows p q ls h span ts rest outer outer2 go f a next = unit_by h.world.fuel p q ls h span ts rest outer outer2 go refl f a next
 
   -- Values.
 

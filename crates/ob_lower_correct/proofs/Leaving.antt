@@ -1,5 +1,5 @@
 -- How a call comes back: what was lent goes back, and the caller goes on.
-use Rattle.std.proofs.Common.{◌≡◌, ◌≢◌, ℕ, ◌≤◌, List, [], ◌∷◌, Option, Some, None, refl, sym, ap, ◌∙◌, subst, arith, ◌⊎◌}
+use Rattle.std.proofs.Common.{◌≡◌, ◌≢◌, ℕ, ◌≤◌, List, [], ◌∷◌, Option, Some, None, refl, sym, ap, ◌∙◌, subst, arith, ◌⊎◌, le_of_eq}
 use Rattle.std.specs.Prelude.{option_map, IsSome}
 use Rattle.ob_perm.specs.Permissions.{unowned}
 use Rattle.ob_table.specs.Tables.{contract_at}
@@ -112,7 +112,7 @@ module _ (program : SilicaProgram) (most less : ℕ) (calls : Calls) (called : C
           notes = back.notes;
           kept = λ n d. result_others k l.by.cell back.after n d ∙ back.same n ∙ same n;
           value = λ n e. ap value_in (result_there k l.by.cell back.after n e) ∙ l.by.value;
-          later = later_on (later_on later l.by.comes.later) (record { by = λ n o eo. (o, ap (λ xs. object_at xs n) objects.0 ∙ eo, refl) });
+          later = later_on (later_on later l.by.comes.later) (record { by = λ n o eo. (o, ap (λ xs. object_at xs n) objects.0 ∙ eo, refl); fuel = le_of_eq objects.1 });
           noted = noted_quiet {w = w} {v = leaves_progress cs.how cs.this w} l.by.comes.noted (quiet_same w (leaves_progress cs.how cs.this w) objects.0 objects.1) back.kinds;
           fuel = subst (λ n. n ≤ most) (sym objects.1) (at_most l.by.comes.fuel le);
           answers = λ m. l.by.answers (answers m);

@@ -22,6 +22,7 @@ pub mod Changing
 pub mod Branches
 pub mod Testing
 pub mod Choosing
+pub mod Turning
 pub mod Statements
 pub mod Binding
 pub mod Stopping

@@ -55,3 +55,7 @@ module _ (program : SilicaProgram) where
 pub join : (a b c : SilicaTerms) → then_terms (then_terms a b) c ≡ then_terms a (then_terms b c)
 join no_terms b c = refl
 join (and_term form span a) b c = ap (and_term form span) (join a b c)
+
+pub none_after : (ts : SilicaTerms) → then_terms ts no_terms ≡ ts
+none_after no_terms = refl
+none_after (and_term form span ts) = ap (and_term form span) (none_after ts)

@@ -1,5 +1,5 @@
 -- What a frame of the meaning and one of the steps have to do with one another.
-use Rattle.std.proofs.Common.{◌≡◌, ◌≢◌, ℕ, ◌≤◌, Bool, List, Option, Some, None, refl, sym, ap, ◌∙◌, eq-eqb, true≢false}
+use Rattle.std.proofs.Common.{◌≡◌, ◌≢◌, ℕ, ◌≤◌, Bool, List, Option, Some, None, refl, sym, ap, ◌∙◌, eq-eqb, true≢false, arith}
 use Rattle.std.proofs.lemmas.Bool.{ne_eqb}
 use Rattle.std.specs.Prelude.{option_map, unwrap_or, is_some}
 use Rattle.ob_base.specs.declared.id.ContractId.{ContractId}
@@ -57,10 +57,11 @@ config s h control = record {
 pub record Kept (used : List ℕ) (s t : SlotCells) : Type 0 where
   pub by : (n : ℕ) → Used n used → shape (t n) ≡ shape (s n)
 
--- objects stay, and keep their contracts
+-- objects stay, and keep their contracts, and no unit comes back
 pub record Later (w v : World) : Type 0 where
   pub by : (n : ℕ) (o : Object) → object_at w.objects n ≡ Some o
       → (p : Object) × (object_at v.objects n ≡ Some p) × (p.contract ≡ o.contract)
+  pub fuel : v.fuel ≤ w.fuel
 
 -- a frame stands so in a configuration
 pub record Stands (table : ClassTable) (most : ℕ) (s : Setting) (h : Here) : Type 0 where
@@ -77,10 +78,10 @@ pub record Comes (table : ClassTable) (most : ℕ) (used : List ℕ) (h t : Here
   pub fuel : t.world.fuel ≤ most
 
 pub later_self : (w : World) → Later w w
-later_self w = record { by = λ n o e. (o, e, refl) }
+later_self w = record { by = λ n o e. (o, e, refl); fuel = omega arith }
 
 pub later_on : {w v u : World} → Later w v → Later v u → Later w u
-later_on a b = record { by = λ n o e. let x = a.by n o e in let y = b.by n x.0 x.1 in (y.0, y.1, y.2 ∙ x.2) }
+later_on a b = record { by = λ n o e. let x = a.by n o e in let y = b.by n x.0 x.1 in (y.0, y.1, y.2 ∙ x.2); fuel = omega (arith, a.fuel, b.fuel) }
 
 pub kept_self : (used : List ℕ) (s : SlotCells) → Kept used s s
 kept_self used s = record { by = λ n u. refl }

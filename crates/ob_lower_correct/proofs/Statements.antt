@@ -1,5 +1,5 @@
 -- Statements, blocks and lists of statements by their terms.
-use Rattle.std.proofs.Common.{◌≡◌, ℕ, Bool, true, false, List, [], ◌∷◌, ◌++◌, length, Option, Some, None, refl, sym, ap, ◌∙◌, subst, true≢false, ◌⊎◌, inl, inr}
+use Rattle.std.proofs.Common.{◌≡◌, ℕ, suc, Bool, true, false, List, [], ◌∷◌, ◌++◌, length, Option, Some, None, refl, sym, ap, ◌∙◌, subst, true≢false, ◌⊎◌, inl, inr, arith}
 use Rattle.std.proofs.lemmas.Bool.{ne_eqb}
 use Rattle.std.specs.Prelude.{nat_eq, if◌then◌else◌}
 use Rattle.ob_base.specs.declared.fault.Span.{Span}
@@ -15,18 +15,18 @@ use Rattle.ob_source_meaning.specs.Frames as meaning
 use Rattle.ob_source_meaning.specs.Frames.{Calls, Flow, goes_on, returns, known, named, SourceGiven}
 use Rattle.ob_heap_spec.specs.GoingWrong.{is_row}
 use Rattle.ob_source_meaning.specs.Statements.{run}
-use Rattle.ob_silica.specs.Terms.{SilicaTerms, no_terms, and_term, then_terms}
+use Rattle.ob_silica.specs.Terms.{SilicaTerms, no_terms, then_terms}
 use Rattle.ob_silica_steps.specs.Configurations.{SilicaProgram, SlotCells, Rest, runs, Configuration}
 use Rattle.ob_silica_steps.specs.Here.{Here}
 use Rattle.ob_silica_places.specs.Known.{at}
 use Rattle.ob_silica_steps.specs.Steps.{step}
-use Rattle.ob_lower_spec.specs.Forms.{drops, SlotVariable, locals_of, slot_of, refused_at, given_from, join_of}
+use Rattle.ob_lower_spec.specs.Forms.{drops, SlotVariable, locals_of, slot_of, refused_at, given_from, block_end, join_of}
 use Rattle.ob_lower_spec.specs.Points.{around, declares, IsFree, in_use, StagedRow, no_row, staged_row, refused_row, made_before, Point, passed}
 use Rattle.ob_lower_spec.specs.ExpressionTerms.{kind_around}
 use Rattle.ob_lower_spec.specs.GivenTerms.{with_unit}
 use Rattle.ob_lower_spec.specs.StatementTerms.{ended_by, LowersStatement}
 use Rattle.ob_lower_correct.proofs.Slots.{Used, free_within, Within, within_self}
-use Rattle.ob_lower_correct.proofs.Runs.{Ends, stays, leads_on, one_step, ends_map, ends_later, ends_then, join}
+use Rattle.ob_lower_correct.proofs.Runs.{Ends, stays, leads_on, one_step, ends_map, ends_later, ends_then, join, none_after}
 use Rattle.ob_lower_correct.proofs.Standing.{Setting, frame_in, made_in, config, Comes, later_self, none_some, comes_self, comes_on, comes_fewer}
 use Rattle.ob_lower_correct.proofs.Calling.{CallsRun}
 use Rattle.ob_lower_correct.proofs.Fresh.{Fresh}
@@ -34,7 +34,7 @@ use Rattle.ob_lower_correct.proofs.Flows.{Gave, RowStands, RowOpen, Placed, At, 
 use Rattle.ob_lower_correct.proofs.Fresh.{expression_fresh}
 use Rattle.ob_lower_correct.proofs.Setting.{placed_passed}
 use Rattle.ob_lower_correct.proofs.Expressions.{called_so}
-use Rattle.ob_table.specs.Statements.{GivenField, resolved_stage, resolved_change, resolved_test, resolved_if, no_statements, Block, Otherwise}
+use Rattle.ob_table.specs.Statements.{GivenField, resolved_stage, resolved_change, resolved_test, resolved_if, resolved_while, no_statements, Block, Otherwise}
 use Rattle.ob_table_spec.specs.WellFormed.{kind_of_expression, ServesAs, serves_as, locals_after, ends_there, IsStatement, IsValue}
 use Rattle.ob_heap_spec.specs.GoingWrong.{is_followed}
 use Rattle.ob_source_meaning.specs.Statements.{run_block, run_otherwise}
@@ -45,6 +45,7 @@ use Rattle.ob_lower_spec.specs.GivenTerms.{LoweredGiven, LowersGiven, LowersStag
 use Rattle.ob_lower_correct.proofs.Setting.{placed_declares}
 use Rattle.ob_lower_correct.proofs.Fresh.{Fresh, fresh_append}
 use Rattle.ob_lower_correct.proofs.Choosing.{accepted, refused, rest_of_row as after_row, if_runs}
+use Rattle.ob_lower_correct.proofs.Turning.{turns_run}
 use Rattle.ob_lower_correct.proofs.Setting.{row_passed, declare_runs}
 use Rattle.ob_lower_correct.proofs.Assigning.{assign_runs}
 use Rattle.ob_lower_correct.proofs.Ending.{Finishes, discard_runs, return_runs, revert_runs, disown_runs, assert_runs}
@@ -156,6 +157,7 @@ module _ (program : SilicaProgram) (most : ℕ) (calls : Calls) (called : CallsR
   after_statement (resolved_discard value span) xs p q ws row ts (x, lx, ets, eq) ok open' placed = after_passed params fixed p q ws xs placed eq
   after_statement (resolved_test subject state branch other span) xs p q ws row ts (o, named_o, x, lx, y, ly, ets, eq) ok open' placed = after_passed params fixed p q ws xs placed eq
   after_statement (resolved_if condition branch other span) xs p q ws row ts (c, lc, x, lx, y, ly, ets, eq) ok open' placed = after_passed params fixed p q ws xs placed eq
+  after_statement (resolved_while condition body span) xs p q ws row ts (c, lc, x, lx, ets, eq) ok open' placed = after_passed params fixed p q ws xs placed eq
   after_statement (resolved_return value span) xs p q ws row ts (x, lx, ets, eq) ok open' placed = after_passed params fixed p q ws xs placed eq
   after_statement (resolved_revert text span) xs p q ws row ts (x, lx, ets, eq) ok open' placed = after_passed params fixed p q ws xs placed eq
   after_statement (resolved_disown subject span) xs p q ws row ts (o, named_o, ets, eq) ok open' placed = after_passed params fixed p q ws xs placed eq
@@ -212,10 +214,6 @@ module _ (program : SilicaProgram) (most : ℕ) (calls : Calls) (called : CallsR
   block_closes p ls rest outer h c true declared end wf free (returns v) w r = record { by = r.by }
   block_closes p ls rest outer h c false declared end wf free (returns v) w r = record { by = r.by }
 
-  none_after : (ts : SilicaTerms) → then_terms ts no_terms ≡ ts
-  none_after no_terms = refl
-  none_after (and_term form span ts) = ap (and_term form span) (none_after ts)
-
   -- a row that isn't followed has no step
   unfollowed : (x : Statement) (xs : Statements) (p q : Point) (ls : meaning.Locals) (h : Here) (ts rest : SilicaTerms) (outer : List Rest) → LowersStatement F p x xs ts q → RowOpen p.row (and_statement x xs) → Stand p ls h → is_followed x xs ≡ false
       → step program (config s h (runs (then_terms ts rest) outer)) ≡ stuck
@@ -233,6 +231,7 @@ module _ (program : SilicaProgram) (most : ℕ) (calls : Calls) (called : CallsR
   unfollowed (resolved_discard value span) xs p q ls h ts rest outer low open' a e = absurd (true≢false e)
   unfollowed (resolved_test subject st b o span) xs p q ls h ts rest outer low open' a e = absurd (true≢false e)
   unfollowed (resolved_if c b o span) xs p q ls h ts rest outer low open' a e = absurd (true≢false e)
+  unfollowed (resolved_while c b span) xs p q ls h ts rest outer low open' a e = absurd (true≢false e)
   unfollowed (resolved_return v span) xs p q ls h ts rest outer low open' a e = absurd (true≢false e)
   unfollowed (resolved_revert v span) xs p q ls h ts rest outer low open' a e = absurd (true≢false e)
   unfollowed (resolved_disown subject span) xs p q ls h ts rest outer low open' a e = absurd (true≢false e)
@@ -316,6 +315,11 @@ module _ (program : SilicaProgram) (most : ℕ) (calls : Calls) (called : CallsR
           (λ t around at_t. rw (sym (none_after x)) (block_runs branch p ws x ls t no_terms around lx ok.1 placed at_t))
           (λ t around at_t. rw (sym (none_after y)) (otherwise_runs other p ws y ls t no_terms around ly ok.2 placed at_t))
           (row_passed program most calls called s found start finish fixed zero_fixed p (and_statement (resolved_if condition branch other span) xs) ls h (λ st. refl) open' a))
+      statement_runs (resolved_while condition body span) xs p q ws row ts ls h rest outer (c, lc, x, lx, ets, eq) ok open' follows placed a =
+          rw (ets, eq) (turns_run program most calls called s found start finish fixed zero_fixed p ws rest outer condition body span (block_end body) c x lc ok.0 placed
+          (λ us t around at_t. rw (sym (none_after x)) (block_runs body p ws x us t no_terms around lx ok.1 placed at_t))
+          (suc h.world.fuel) ls h (omega arith)
+          (row_passed program most calls called s found start finish fixed zero_fixed p (and_statement (resolved_while condition body span) xs) ls h (λ st. refl) open' a))
       statement_runs (resolved_return value span) xs p q ws row ts ls h rest outer (x, lx, ets, eq) ok open' follows placed a =
           rw (ets, eq) (return_runs program most calls called s found start finish fixed zero_fixed finishes p ws ls h rest outer value span x s.signature.result refl lx ok placed (row_passed program most calls called s found start finish fixed zero_fixed p (and_statement (resolved_return value span) xs) ls h (λ st. refl) open' a))
       statement_runs (resolved_revert text span) xs p q ws row ts ls h rest outer (x, lx, ets, eq) ok open' follows placed a =

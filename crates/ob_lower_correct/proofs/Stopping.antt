@@ -2,7 +2,7 @@
 use Rattle.std.proofs.Common.{◌≡◌, ℕ, zero, suc, Bool, true, false, ◌&&◌, ◌||◌, Option, Some, None, refl, sym, ap, ◌∙◌, true≢false}
 use Rattle.std.specs.Prelude.{⊤}
 use Rattle.ob_table.specs.Expressions.{Expression}
-use Rattle.ob_table.specs.Statements.{Statement, resolved_declare, resolved_assign, resolved_stage, resolved_change, resolved_discard, resolved_test, resolved_if, resolved_return, resolved_revert, resolved_disown, resolved_assert, Block, resolved_block, Otherwise, no_otherwise, otherwise_block, Statements, no_statements, and_statement}
+use Rattle.ob_table.specs.Statements.{Statement, resolved_declare, resolved_assign, resolved_stage, resolved_change, resolved_discard, resolved_test, resolved_if, resolved_while, resolved_return, resolved_revert, resolved_disown, resolved_assert, Block, resolved_block, Otherwise, no_otherwise, otherwise_block, Statements, no_statements, and_statement}
 use Rattle.ob_table_spec.specs.WellFormed.{ends_there, block_ends_there, other_ends_there, one_ends_there}
 use Rattle.ob_heap_spec.specs.Values.{Value, int_value, bool_value, text_value, reference}
 use Rattle.ob_heap_spec.specs.Worlds.{World, RunOutcome, gives, aborts, wrong, ◌>>=◌, if_right, unit, with_fuel, with_unit_taken}
@@ -102,6 +102,7 @@ mutual
   statement_stops calls f (resolved_stage s g sp) ls w h = absurd (true≢false (sym h))
   statement_stops calls f (resolved_change s g sp) ls w h = absurd (true≢false (sym h))
   statement_stops calls f (resolved_discard value sp) ls w h = absurd (true≢false (sym h))
+  statement_stops calls f (resolved_while c b sp) ls w h = absurd (true≢false (sym h))
   statement_stops calls f (resolved_disown subject sp) ls w h = absurd (true≢false (sym h))
   statement_stops calls f (resolved_assert subject perm sp) ls w h = absurd (true≢false (sym h))
 

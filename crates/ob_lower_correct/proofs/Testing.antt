@@ -183,7 +183,7 @@ module _ (program : SilicaProgram) (most : ℕ) (calls : Calls) (called : CallsR
         let w : World = lock n (read_object t.world n) in
         let comes : Comes table most p.used t (record { slots = h2.slots; notes = h2.notes; world = w }) = record {
           kept = record { by = λ m u. al.slots m };
-          later = record { by = (quiet_later (quiet_read t.world n)).by };
+          later = record { by = (quiet_later (quiet_read t.world n)).by; fuel = (quiet_later (quiet_read t.world n)).fuel };
           noted = noted_quiet {w = t.world} {v = w} a.stands.noted (record { by = (quiet_read t.world n).by; fuel = (quiet_read t.world n).fuel }) al.notes;
           fuel = subst (λ i. i ≤ most) (sym (quiet_read t.world n).fuel) a.stands.fuel;
         } in

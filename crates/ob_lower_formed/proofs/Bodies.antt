@@ -15,7 +15,7 @@ use Rattle.ob_table_spec.specs.WellFormed as typing
 use Rattle.ob_table_spec.specs.WellFormed.{StaticFrame, frame_of, local_kind, kind_of_resolved, one_ends_there, IsBodyOf, AreStatements, IsWellFormed}
 use Rattle.ob_silica.specs.Terms.{SilicaTerms, no_terms, one_term, then_terms, return_form, SilicaBody}
 use Rattle.ob_silica_formed.specs.Holdings.{SlotContent, held, Holdings, params_held, held_at_start, after_terms, terms_end, Each}
-use Rattle.ob_silica_formed.specs.Points.{NamesWhatIsThere, HasKinds, TakesResult, LeavesParams, LosesNoReference, NamesBody, ReturnsResult, IsReturnedAs, NoneFollows}
+use Rattle.ob_silica_formed.specs.Points.{NamesWhatIsThere, HasKinds, TakesResult, LeavesParams, LosesNoReference, NamesBody, ReturnsResult, TakesTurns, IsReturnedAs, NoneFollows}
 use Rattle.ob_silica_formed.specs.WellFormedTerms.{AreWellFormed}
 use Rattle.ob_lower_spec.specs.Forms.{locals_of, slot_of, params_from}
 use Rattle.ob_lower_spec.specs.StatementTerms.{LowersBlock}
@@ -188,6 +188,7 @@ module _ (table : ClassTable) (here : ContractId) (own : Contract) (s : Signatur
         references = each_map IsWellFormedForm LosesNoReference frame (λ h form x. x.references) start lowered.terms m.each;
         bodies = each_map IsWellFormedForm NamesBody frame (λ h form x. x.bodies) start lowered.terms m.each;
         returns = each_map IsWellFormedForm ReturnsResult frame (λ h form x. x.returns) start lowered.terms m.each;
+        turns = each_map IsWellFormedForm TakesTurns frame (λ h form x. x.turns) start lowered.terms m.each;
         ends = m.ends;
         reached = m.follows;
       }

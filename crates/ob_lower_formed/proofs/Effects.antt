@@ -5,9 +5,9 @@ use Rattle.ob_base.specs.declared.fault.Span.{Span}
 use Rattle.ob_table.specs.declared.seen.Kind.{Kind}
 use Rattle.ob_table.specs.declared.seen.Kind.TheVariants.{Int, Bool as BoolKind, Text, Reference}
 use Rattle.ob_table_spec.specs.WellFormed.{StaticFrame}
-use Rattle.ob_silica.specs.Terms.{SilicaForm, test_form, if_form, drop_form, SilicaTerms, no_terms, one_term, then_terms}
+use Rattle.ob_silica.specs.Terms.{SilicaForm, test_form, if_form, loop_form, drop_form, SilicaTerms, no_terms, one_term, then_terms}
 use Rattle.ob_silica.specs.declared.place.Operand.{Operand}
-use Rattle.ob_silica_formed.specs.Holdings.{SlotContent, held, Holdings, with_slot, with_slot_if, written, slot_written, kind_written, after_form, after_terms, form_ends, terms_end, kinds_equal, common_kind, either_way, joined, Each, EachWithin}
+use Rattle.ob_silica_formed.specs.Holdings.{SlotContent, held, Holdings, with_slot, with_slot_if, written, slot_written, kind_written, after_form, at_head, after_terms, form_ends, terms_end, kinds_equal, common_kind, either_way, joined, Each, EachWithin}
 use Rattle.ob_silica_formed.specs.Points.{NoneFollows, NoneFollowsWithin}
 use Rattle.ob_lower_spec.specs.Forms.{drops}
 use Rattle.ob_lower_formed.proofs.Sets.{among, by_bool, nat_same, apart_parts, Within, apart_within}
@@ -207,6 +207,22 @@ module _ (f : StaticFrame) where
     after = λ e. after_joined (terms_end x) (terms_end y) r.after s.after (or_parts (terms_end x && terms_end y) false e).0;
   }
 
+  -- what slots hold at the head of a loop, where a turn leaves those in use as they were and no other that refers
+  pub head_after : {h : Holdings} (first body : SilicaTerms) (used : List ℕ) → Quiet used [] h → (terms_end body ≡ false → After used [] h (after_terms f body (after_terms f first h)))
+      → After used [] h (at_head f first body h)
+  head_after {h} first body used quiet turn = after_joined false (terms_end body) (λ e. record { kept = kept_self used h; quiet = quiet }) turn refl
+
+  -- a loop
+  pub loop_leaves : {h : Holdings} (first : SilicaTerms) (a : Operand) (body : SilicaTerms) (end span : Span) (used : List ℕ)
+      → IsWellFormedForm f h (loop_form first a body end) → After used [] h (at_head f first body h) → Leaves (at_head f first body h) first used []
+      → Runs (after_terms f first (at_head f first body h)) body used [] → Leaves h (one_term (loop_form first a body end) span) used []
+  loop_leaves {h} first a body end span used m head r s = record {
+    each = (m, (r.each, s.each), tt);
+    follows = ((λ t. absurd (true≢false (sym t))), (r.follows, s.follows), tt);
+    goes_on = refl;
+    after = record { kept = kept_on head.kept (record { by = λ j e. e }) r.after.kept; quiet = r.after.quiet };
+  }
+
   -- Drops.
 
   -- once a slot is dropped it doesn't refer
@@ -219,7 +235,7 @@ module _ (f : StaticFrame) where
       go j u l (inr d) = ap (λ c. (if c then held None else h j).refers) d ∙ q.by j u (or_from (nat_eq j k) (among j ks) d l)
 
   pub drop_made : (h : Holdings) (k : ℕ) → f.params < k → IsWellFormedForm f h (drop_form k)
-  drop_made h k own = record { numbers = tt; kinds = tt; results = tt; params = own; references = tt; bodies = tt; returns = tt }
+  drop_made h k own = record { numbers = tt; kinds = tt; results = tt; params = own; references = tt; bodies = tt; returns = tt; turns = tt }
 
   -- slots that aren't in use are dropped
   pub drops_leave : (span : Span) (used ks : List ℕ) (h : Holdings) → ((k : ℕ) → among k used ≡ false → f.params < k)

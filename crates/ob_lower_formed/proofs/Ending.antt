@@ -63,14 +63,14 @@ returned_none f ws h (Some kind) e = absurd e
 pub return_runs : {f : StaticFrame} {g : Holdings} (o : Option Operand) (span : Span) (used : List ℕ) → IfSome o (λ x. IsPlace f x.place) → IsReturnedAs f g f.result o
     → Runs f g (one_term (return_form o) span) used []
 return_runs o span used there r = record {
-  each = (record { numbers = there; kinds = tt; results = tt; params = tt; references = tt; bodies = tt; returns = r }, tt, tt);
+  each = (record { numbers = there; kinds = tt; results = tt; params = tt; references = tt; bodies = tt; returns = r; turns = tt }, tt, tt);
   follows = ((λ t. refl), tt, tt);
   after = λ d. absurd (true≢false (or_parts true false d).0);
 }
 
 revert_runs : {f : StaticFrame} {g : Holdings} (o : Operand) (span : Span) (used : List ℕ) → IsPlace f o.place → HasKind f g Text o → Runs f g (one_term (revert_form o) span) used []
 revert_runs o span used there k = record {
-  each = (record { numbers = there; kinds = k; results = tt; params = tt; references = tt; bodies = tt; returns = tt }, tt, tt);
+  each = (record { numbers = there; kinds = k; results = tt; params = tt; references = tt; bodies = tt; returns = tt; turns = tt }, tt, tt);
   follows = ((λ t. refl), tt, tt);
   after = λ d. absurd (true≢false (or_parts true false d).0);
 }
@@ -218,7 +218,7 @@ module _ (f : StaticFrame) (outer : List ℕ) (p : Point) (ws : LocalKinds) (row
   disown_did subject o is et eq refers =
       let n = named (λ c. ⊤) subject o is refers in
       let plain : Plain f h (disown_form o) = record {
-        well_formed = record { numbers = n.there; kinds = n.reference; results = tt; params = tt; references = tt; bodies = tt; returns = tt };
+        well_formed = record { numbers = n.there; kinds = n.reference; results = tt; params = tt; references = tt; bodies = tt; returns = tt; turns = tt };
         within = tt;
         follows = tt;
         after = refl;
@@ -233,7 +233,7 @@ module _ (f : StaticFrame) (outer : List ℕ) (p : Point) (ws : LocalKinds) (row
   assert_did subject perm o is et eq refers =
       let n = named (λ c. IsPermOn c perm) subject o is refers in
       let plain : Plain f h (assert_form o perm) = record {
-        well_formed = record { numbers = (n.there, n.refers); kinds = n.reference; results = tt; params = tt; references = tt; bodies = tt; returns = tt };
+        well_formed = record { numbers = (n.there, n.refers); kinds = n.reference; results = tt; params = tt; references = tt; bodies = tt; returns = tt; turns = tt };
         within = tt;
         follows = tt;
         after = refl;
@@ -249,17 +249,17 @@ module _ (f : StaticFrame) (outer : List ℕ) (p : Point) (ws : LocalKinds) (row
       → IsWellFormedBlock f h p.used x (block_ends_there branch) → IsWellFormedBlock f h p.used y (other_ends_there other) → Done (resolved_test subject state branch other span)
   test_did subject state branch other o x y is et eq refers bx by' =
       let n = named (λ c. state.0 < length c.states) subject o is refers in
-      let made : IsWellFormedForm f h (test_form o state x y (join_of branch other)) = record { numbers = (n.there, n.refers); kinds = n.reference; results = tt; params = tt; references = tt; bodies = tt; returns = tt } in
+      let made : IsWellFormedForm f h (test_form o state x y (join_of branch other)) = record { numbers = (n.there, n.refers); kinds = n.reference; results = tt; params = tt; references = tt; bodies = tt; returns = tt; turns = tt } in
       subst (λ ts. Did f outer p q ws row (resolved_test subject state branch other span) rest ts h) (sym et)
       (did_passed s low agree b refl refl eq (unit_runs f span (test_runs f o state x y (join_of branch other) span p.used [] made bx.runs by'.runs))
       (or_false (terms_end x && terms_end y) ∙ ap (λ t. t && terms_end y) bx.ends_so ∙ ap (λ t. block_ends_there branch && t) by'.ends_so))
 
   -- the temporaries of a condition end, and its truth stands
-  record Condition (c : Lowered) : Type 0 where
-    leaves : Leaves f h (then_terms c.terms (drops_of c.made span)) p.used []
-    holds : kind_of_place f (after_terms f (then_terms c.terms (drops_of c.made span)) h) c.operand.place ≡ Some BoolKind
+  pub record Condition (c : Lowered) : Type 0 where
+    pub leaves : Leaves f h (then_terms c.terms (drops_of c.made span)) p.used []
+    pub holds : kind_of_place f (after_terms f (then_terms c.terms (drops_of c.made span)) h) c.operand.place ≡ Some BoolKind
 
-  condition_gave : (c : Lowered) → Gave f h p.used c BoolKind → Condition c
+  pub condition_gave : (c : Lowered) → Gave f h p.used c BoolKind → Condition c
   condition_gave c gx =
       let v = gx.value refl in
       let k = v.slot in
@@ -307,6 +307,7 @@ module _ (f : StaticFrame) (outer : List ℕ) (p : Point) (ws : LocalKinds) (row
         references = tt;
         bodies = tt;
         returns = tt;
+        turns = tt;
       } in
       let whole : Runs f h (then_terms (then_terms c.terms (drops_of c.made span)) (one_term form span)) p.used [] =
       same_runs f first.leaves (if_runs f c.operand x y (join_of branch other) span p.used [] form_well_formed bx.runs by'.runs) in

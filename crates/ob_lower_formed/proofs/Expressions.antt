@@ -95,6 +95,7 @@ new_plain {f} {h} {used} k contract os s there args own quiet = record {
     references = quiet;
     bodies = no_interface (contract_at f.table contract) there;
     returns = tt;
+    turns = tt;
   };
   within = tt;
   follows = tt;
@@ -136,6 +137,7 @@ call_made {f} {vs} ws {used} {h} at agree k receiver contract tx os form s (call
           references = quiet;
           bodies = ap (λ c. is_constructor f.table c tx.0) (sym is) ∙ apart;
           returns = tt;
+          turns = tt;
         };
         within = tt;
         follows = tt;
@@ -158,6 +160,7 @@ call_made {f} {vs} ws {used} {h} at agree k (Some receiver) contract tx os form 
       references = quiet;
       bodies = (if_so (signature_of f.table contract tx) (λ s. s.private ≡ false) s sig is.1, apart);
       returns = tt;
+      turns = tt;
     };
     within = tt;
     follows = tt;
@@ -256,6 +259,7 @@ module _ (f : StaticFrame) (vs : List SlotVariable) (at : Span) where
     references = tt;
     bodies = tt;
     returns = tt;
+    turns = tt;
   }
 
   -- the left side's temporary holds its truth
@@ -312,7 +316,7 @@ parts_leave {f} {h} {x} {y} used a b l m =
 op_plain : {f : StaticFrame} {g : Holdings} (k : ℕ) (o : SilicaOperator) (a b : Operand) (line : ℕ) → IsPlace f a.place → IsPlace f b.place → HaveOperands f g o a b
     → f.params < k → (g k).refers ≡ false → Plain f g (op_form k o a b line)
 op_plain k o a b line pa pb have own quiet = record {
-  well_formed = record { numbers = (pa, pb); kinds = have; results = tt; params = own; references = quiet; bodies = tt; returns = tt };
+  well_formed = record { numbers = (pa, pb); kinds = have; results = tt; params = own; references = quiet; bodies = tt; returns = tt; turns = tt };
   within = tt;
   follows = tt;
   after = refl;
@@ -321,7 +325,7 @@ op_plain k o a b line pa pb have own quiet = record {
 
 pub const_plain : {f : StaticFrame} {g : Holdings} (k : ℕ) (value : _) → IsConstant value → f.params < k → (g k).refers ≡ false → Plain f g (const_form k value)
 const_plain k value is own quiet = record {
-  well_formed = record { numbers = tt; kinds = is; results = tt; params = own; references = quiet; bodies = tt; returns = tt };
+  well_formed = record { numbers = tt; kinds = is; results = tt; params = own; references = quiet; bodies = tt; returns = tt; turns = tt };
   within = tt;
   follows = tt;
   after = refl;

@@ -6,6 +6,7 @@ mod Expressions
 mod Points
 mod Setting
 mod Ending
+mod Turning
 mod Staging
 mod Statements
 mod Bodies

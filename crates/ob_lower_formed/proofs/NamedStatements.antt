@@ -7,7 +7,7 @@ use Rattle.ob_base.specs.declared.fault.Span.{Span}
 use Rattle.ob_base.specs.declared.id.ContractId.{ContractId}
 use Rattle.ob_base.specs.declared.id.StateId.{StateId}
 use Rattle.ob_table.specs.Expressions.{Expression}
-use Rattle.ob_table.specs.Statements.{GivenField, Statement, resolved_declare, resolved_assign, resolved_stage, resolved_change, resolved_discard, resolved_test, resolved_if, resolved_return, resolved_revert, resolved_disown, resolved_assert, Block, resolved_block, Otherwise, no_otherwise, otherwise_block, Statements, no_statements, and_statement}
+use Rattle.ob_table.specs.Statements.{GivenField, Statement, resolved_declare, resolved_assign, resolved_stage, resolved_change, resolved_discard, resolved_test, resolved_if, resolved_while, resolved_return, resolved_revert, resolved_disown, resolved_assert, Block, resolved_block, Otherwise, no_otherwise, otherwise_block, Statements, no_statements, and_statement}
 use Rattle.ob_table.specs.Tables.{contract_at}
 use Rattle.ob_table.specs.declared.contract.Contract.{Contract}
 use Rattle.ob_table.specs.declared.seen.Kind.{Kind}
@@ -110,6 +110,9 @@ mutual
             (both (drops_of is.0.made span) (one_term (if_form is.0.operand is.2 is.4 (join_of branch other)) span) (dropped (references is.0.made) span)
             ((of_block f few ls branch made.1 p is.2 is.3, of_otherwise f few ls other made.2 p is.4 is.5), tt)),
       )
+  of_statement f few ls row (resolved_while condition body span) made p rest ts q is =
+      subst AllNameStates (sym is.4)
+      (((tt, both is.0.terms (drops_of is.0.made span) (of_expression _ _ condition is.0 is.1) (dropped (references is.0.made) span)), of_block f few ls body made.1 p is.2 is.3), tt)
   of_statement f few ls row (resolved_return value span) made p rest ts q is = subst AllNameStates (sym is.2) (tt, of_return _ _ value is.0 is.1)
   of_statement f few ls row (resolved_revert text span) made p rest ts q is = subst AllNameStates (sym is.2) (tt, of_revert _ _ text is.0 is.1)
   of_statement f few ls row (resolved_disown subject span) made p rest ts q is = subst AllNameStates (sym is.2) (tt, (tt, tt))

@@ -286,6 +286,7 @@ copy_plain {f} {h} k o kind is plain own quiet = record {
     references = quiet;
     bodies = tt;
     returns = tt;
+    turns = tt;
   };
   within = tt;
   follows = tt;

@@ -29,7 +29,7 @@ pub if_refers_apart : (j k : ℕ) (b : Bool) → nat_eq j k ≡ false → among 
 if_refers_apart j k true e = or_from (nat_eq j k) false e refl
 if_refers_apart j k false e = refl
 
-after_same : {used left more : List ℕ} {h g i : Holdings} → After used left h g → After used more g i → After used more h i
+pub after_same : {used left more : List ℕ} {h g i : Holdings} → After used left h g → After used more g i → After used more h i
 after_same a b = record { kept = kept_on a.kept (record { by = λ j e. e }) b.kept; quiet = b.quiet }
 
 module _ (f : StaticFrame) where
@@ -48,7 +48,7 @@ module _ (f : StaticFrame) where
   same_leaves {h} {x} {y} a b = leaves_of f (same_runs a (runs_of f b)) (end_then x y ∙ or_from (terms_end x) (terms_end y) a.goes_on b.goes_on)
 
   unit_made : (h : Holdings) → IsWellFormedForm f h unit_form
-  unit_made h = record { numbers = tt; kinds = tt; results = tt; params = tt; references = tt; bodies = tt; returns = tt }
+  unit_made h = record { numbers = tt; kinds = tt; results = tt; params = tt; references = tt; bodies = tt; returns = tt; turns = tt }
 
   pub unit_runs : {h : Holdings} {x : SilicaTerms} {used left : List ℕ} (span : Span) → Runs f h x used left → Runs f h (with_unit span x) used left
   unit_runs {h} span r = record {

@@ -79,6 +79,7 @@ slot_sets {f} {g} {used} (Reference c) k o s real own quiet = record {
       references = tt;
       bodies = tt;
       returns = tt;
+      turns = tt;
     };
     within = tt;
     follows = tt;
@@ -122,6 +123,7 @@ copy_field_plain {f} {g} of id o e s plain = record {
     references = tt;
     bodies = tt;
     returns = tt;
+    turns = tt;
   };
   within = tt;
   follows = tt;
@@ -146,6 +148,7 @@ field_plain {f} {g} (Reference c) id o e s = record {
     references = tt;
     bodies = tt;
     returns = tt;
+    turns = tt;
   };
   within = tt;
   follows = tt;

@@ -133,7 +133,7 @@ module _ (f : StaticFrame) (outer : List ℕ) (p : Point) (ws : LocalKinds) (row
     first_did (Some at) eo er (et, eq) =
         let s : Stands f p.variables p.used h = closed_stands a (ap made_before er) in
         let plain : Plain f h bad_row_form = record {
-          well_formed = record { numbers = tt; kinds = tt; results = tt; params = tt; references = tt; bodies = tt; returns = tt };
+          well_formed = record { numbers = tt; kinds = tt; results = tt; params = tt; references = tt; bodies = tt; returns = tt; turns = tt };
           within = tt;
           follows = tt;
           after = refl;
@@ -259,7 +259,7 @@ module _ (f : StaticFrame) (outer : List ℕ) (p : Point) (ws : LocalKinds) (row
       let once : Once (fields_of (given_before p.row ++ x.given)) = subst Once (sym (fields_append_names (given_before p.row) x.given ∙ ap (λ l. fields_of (given_before p.row) ++ l) gg.names))
       (once_given f ws (fields_of (given_before p.row)) row given a.once (λ y e. row_apart p.row row y a.row_is e) made) in
       let plain : Plain f g form = record {
-        well_formed = record { numbers = (there, fields_there all); kinds = (fields_served all, once_pairs (fields_of (given_before p.row ++ x.given)) once); results = tt; params = tt; references = tt; bodies = tt; returns = tt };
+        well_formed = record { numbers = (there, fields_there all); kinds = (fields_served all, once_pairs (fields_of (given_before p.row ++ x.given)) once); results = tt; params = tt; references = tt; bodies = tt; returns = tt; turns = tt };
         within = tt;
         follows = tt;
         after = refl;

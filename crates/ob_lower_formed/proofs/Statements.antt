@@ -2,7 +2,7 @@
 use Rattle.std.proofs.Common.{◌≡◌, ℕ, ◌<◌, Bool, true, false, ◌||◌, List, [], Some, refl, sym, ap, ◌∙◌, subst, ◌⊎◌, inl, inr, true≢false, if◌then◌else◌}
 use Rattle.std.proofs.lemmas.Bool.{or_parts, or_left}
 use Rattle.ob_base.specs.declared.fault.Span.{Span}
-use Rattle.ob_table.specs.Statements.{Statement, resolved_declare, resolved_assign, resolved_stage, resolved_change, resolved_discard, resolved_test, resolved_if, resolved_return, resolved_revert, resolved_disown, resolved_assert, Block, resolved_block, Otherwise, no_otherwise, otherwise_block, Statements, no_statements, and_statement}
+use Rattle.ob_table.specs.Statements.{Statement, resolved_declare, resolved_assign, resolved_stage, resolved_change, resolved_discard, resolved_test, resolved_if, resolved_while, resolved_return, resolved_revert, resolved_disown, resolved_assert, Block, resolved_block, Otherwise, no_otherwise, otherwise_block, Statements, no_statements, and_statement}
 use Rattle.ob_table_spec.specs.WellFormed.{StaticFrame, LocalKinds, local_kind, locals_after, rest_of_row, ends_there, one_ends_there, block_ends_there, other_ends_there, IsStatement, IsBlock, IsOtherwise, AreStatements}
 use Rattle.ob_silica.specs.Terms.{SilicaTerms, no_terms, and_term, then_terms}
 use Rattle.ob_silica_formed.specs.Holdings.{Holdings, after_terms, terms_end, Each}
@@ -17,6 +17,7 @@ use Rattle.ob_lower_formed.proofs.Operands.{none_some, Stands, own_slot, fresh_n
 use Rattle.ob_lower_formed.proofs.Points.{Low, RowOpen, At, row_closed, closed_stands, Blocked, Did}
 use Rattle.ob_lower_formed.proofs.Setting.{declare_did, assign_did}
 use Rattle.ob_lower_formed.proofs.Ending.{IsWellFormedBlock, discard_did, return_did, revert_did, disown_did, assert_did, test_did, if_did}
+use Rattle.ob_lower_formed.proofs.Turning.{while_did}
 use Rattle.ob_lower_formed.proofs.Staging.{stage_did, change_did}
 
 -- what statements of a block do
@@ -119,6 +120,9 @@ module _ (f : StaticFrame) where
     statement_did outer p ws row (resolved_if condition branch other span) rest ts q h (c, lc, x, lx, y, ly, et, eq) made a b =
         if_did f outer p ws row h (closed (resolved_if condition branch other span) rest a (λ state at. refl)) a.low a.agree b span rest ts q condition branch other c x y lc et eq made.0
         (λ g s. block_did p ws branch x g lx made.1 s a.low a.agree) (λ g s. otherwise_did p ws other y g ly made.2 s a.low a.agree)
+    statement_did outer p ws row (resolved_while condition body span) rest ts q h (c, lc, x, lx, et, eq) made a b =
+        while_did f outer p ws row h (closed (resolved_while condition body span) rest a (λ state at. refl)) a.low a.agree b span rest ts q condition body c x lc et eq made.0
+        (λ g s. block_did p ws body x g lx made.1 s a.low a.agree)
     statement_did outer p ws row (resolved_return value span) rest ts q h (x, lx, et, eq) made a b =
         return_did f outer p ws row h (closed (resolved_return value span) rest a (λ state at. refl)) a.low a.agree b span rest ts q value x lx et eq made
     statement_did outer p ws row (resolved_revert text span) rest ts q h (x, lx, et, eq) made a b =

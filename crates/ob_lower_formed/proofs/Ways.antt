@@ -2,9 +2,9 @@
 use Rattle.std.proofs.Common.{◌≡◌, Bool, true, false, ◌||◌, refl, sym, ap, ◌∙◌, true≢false}
 use Rattle.std.proofs.lemmas.Bool.{or_parts}
 use Rattle.ob_table_spec.specs.WellFormed.{StaticFrame}
-use Rattle.ob_silica.specs.Terms.{SilicaForm, unit_form, const_form, op_form, copy_form, move_form, new_form, call_form, call_this_form, change_form, test_form, if_form, assert_form, disown_form, drop_form, return_form, revert_form, bad_row_form, SilicaTerms, no_terms, and_term, then_terms}
-use Rattle.ob_silica_formed.specs.Holdings.{Holdings, after_form, after_terms, form_ends, terms_end, Each, EachWithin}
-use Rattle.ob_silica_formed.specs.Points.{NoneFollows, NamesWhatIsThere, HasKinds, TakesResult, LeavesParams, LosesNoReference, NamesBody, ReturnsResult}
+use Rattle.ob_silica.specs.Terms.{SilicaForm, unit_form, const_form, op_form, copy_form, move_form, new_form, call_form, call_this_form, change_form, test_form, if_form, loop_form, assert_form, disown_form, drop_form, return_form, revert_form, bad_row_form, SilicaTerms, no_terms, and_term, then_terms}
+use Rattle.ob_silica_formed.specs.Holdings.{Holdings, after_form, at_head, after_terms, form_ends, terms_end, Each, EachWithin}
+use Rattle.ob_silica_formed.specs.Points.{NoneFollows, NamesWhatIsThere, HasKinds, TakesResult, LeavesParams, LosesNoReference, NamesBody, ReturnsResult, TakesTurns}
 
 -- all that is asked of a form where it stands
 pub record IsWellFormedForm (f : StaticFrame) (h : Holdings) (form : SilicaForm) : Type 0 where
@@ -15,12 +15,15 @@ pub record IsWellFormedForm (f : StaticFrame) (h : Holdings) (form : SilicaForm)
   pub references : LosesNoReference f h form
   pub bodies : NamesBody f h form
   pub returns : ReturnsResult f h form
+  pub turns : TakesTurns f h form
 
 module _ (P Q : StaticFrame → Holdings → SilicaForm → Type 0) (f : StaticFrame) (g : (h : Holdings) (form : SilicaForm) → P f h form → Q f h form) where
   mutual
     each_within_map : (h : Holdings) (form : SilicaForm) → EachWithin P f h form → EachWithin Q f h form
     each_within_map h (test_form place state branch other join) e = (each_map h branch e.0, each_map h other e.1)
     each_within_map h (if_form a branch other join) e = (each_map h branch e.0, each_map h other e.1)
+    each_within_map h (loop_form first a body end) e =
+        (each_map (at_head f first body h) first e.0, each_map (after_terms f first (at_head f first body h)) body e.1)
     each_within_map h unit_form e = tt
     each_within_map h (const_form k value) e = tt
     each_within_map h (op_form k operator a b line) e = tt

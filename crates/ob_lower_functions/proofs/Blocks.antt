@@ -1,7 +1,7 @@
 -- What statements and blocks come to.
 use Rattle.std.proofs.Common.{◌≡◌, ℕ, ◌≤◌, List, [], refl, sym, arith}
 use Rattle.ob_base.specs.Limits.{most_slots}
-use Rattle.ob_table.specs.Statements.{Statement, resolved_declare, resolved_assign, resolved_stage, resolved_change, resolved_discard, resolved_test, resolved_if, resolved_return, resolved_revert, resolved_disown, resolved_assert, Block, resolved_block, Otherwise, no_otherwise, otherwise_block, Statements, no_statements, and_statement}
+use Rattle.ob_table.specs.Statements.{Statement, resolved_declare, resolved_assign, resolved_stage, resolved_change, resolved_discard, resolved_test, resolved_if, resolved_while, resolved_return, resolved_revert, resolved_disown, resolved_assert, Block, resolved_block, Otherwise, no_otherwise, otherwise_block, Statements, no_statements, and_statement}
 use Rattle.ob_table_spec.specs.WellFormed.{StaticFrame}
 use Rattle.ob_silica.specs.Terms.{SilicaTerms, no_terms}
 use Rattle.ob_lower_spec.specs.Forms.{locals_of}
@@ -15,7 +15,7 @@ use Rattle.ob_lower_functions.proofs.Settling.{Stands, waits_none, point, Done}
 use Rattle.ob_lower_functions.proofs.Assigning.{assign_comes, disown_comes, assert_comes}
 use Rattle.ob_lower_functions.proofs.Declaring.{declare_comes, discard_comes, return_comes, revert_comes}
 use Rattle.ob_lower_functions.proofs.Staging.{change_comes, stage_done}
-use Rattle.ob_lower_functions.proofs.Branches.{Ended, Blocked, Elsewhere, block_ends, statements_end, test_comes, if_comes}
+use Rattle.ob_lower_functions.proofs.Branches.{Ended, Blocked, Elsewhere, block_ends, statements_end, test_comes, if_comes, while_comes}
 
 -- slots of a position
 pub record Room (q : BlockPosition) (used : List ℕ) : Type 0 where
@@ -67,6 +67,9 @@ module _ (f : StaticFrame) where
         if_comes f start q used own row staged rest out st condition branch other span (block_code f branch (settled q)) (otherwise_code f other (settled q))
         (block_comes branch (settled q) used (point q used own row) refl (room_of start q used own row staged st))
         (otherwise_comes other (settled q) used (point q used own row) refl (room_of start q used own row staged st))
+    statement_comes (resolved_while condition body span) rest start q used own row staged out st =
+        while_comes f start q used own row staged rest out st condition body span (block_code f body (settled q))
+        (block_comes body (settled q) used (point q used own row) refl (room_of start q used own row staged st))
     statement_comes (resolved_return e span) rest start q used own row staged out st = return_comes f start q used own row staged rest out st e span
     statement_comes (resolved_revert e span) rest start q used own row staged out st = revert_comes f start q used own row staged rest out st e span
     statement_comes (resolved_disown subject span) rest start q used own row staged out st = disown_comes f start q used own row staged rest out st subject span

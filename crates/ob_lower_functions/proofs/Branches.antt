@@ -5,16 +5,16 @@ use Rattle.ob_base.specs.Limits.{most_slots}
 use Rattle.ob_base.specs.declared.fault.Span.{Span}
 use Rattle.ob_base.specs.declared.id.StateId.{StateId}
 use Rattle.ob_table.specs.Expressions.{Expression}
-use Rattle.ob_table.specs.Statements.{Statements, and_statement, Statement, resolved_test, resolved_if, Block, resolved_block, Otherwise}
+use Rattle.ob_table.specs.Statements.{Statements, and_statement, Statement, resolved_test, resolved_if, resolved_while, Block, resolved_block, Otherwise}
 use Rattle.ob_table.specs.declared.seen.SeenAt.{SeenAt}
 use Rattle.ob_table_spec.specs.WellFormed.{StaticFrame, one_ends_there}
-use Rattle.ob_silica.specs.Terms.{unit_form, test_form, if_form, SilicaTerms, no_terms, one_term, then_terms}
+use Rattle.ob_silica.specs.Terms.{unit_form, test_form, if_form, loop_form, SilicaTerms, no_terms, one_term, then_terms}
 use Rattle.ob_silica.specs.Slots.{slots_of_terms, slots_of_operand}
 use Rattle.ob_silica.specs.declared.place.Operand.{Operand}
-use Rattle.ob_lower_spec.specs.Forms.{drops, locals_of, join_of}
+use Rattle.ob_lower_spec.specs.Forms.{drops, locals_of, block_end, join_of}
 use Rattle.ob_lower_spec.specs.Points.{references, drops_of, StagedRow, no_row, Point, inside}
 use Rattle.ob_lower_spec.specs.GivenTerms.{with_unit}
-use Rattle.ob_lower_spec.specs.StatementTerms.{LowersStatements, LowersBlock, LowersOtherwise}
+use Rattle.ob_lower_spec.specs.StatementTerms.{LowersStatements, LowersBlock, LowersOtherwise, turn_of}
 use Rattle.ob_lower_spec.specs.SlotNeeds.{needs, needs_of_block, needs_of_otherwise, needs_of_statement, needs_of_statements, Staged, visible_after, in_use_after, staged_after}
 use Rattle.ob_lower_functions.specs.Progress.{Stop, ◌>>=◌, slots_from, Progress, with_term}
 use Rattle.ob_lower_functions.specs.ExpressionCode.{value_code}
@@ -188,3 +188,46 @@ module _ (f : StaticFrame) (start : ℕ) (q : BlockPosition) (used own : List �
         subst (λ c. Done f start q used own row staged whole rest out (settled q, with_term c.0 (if_form c.1 x y (join_of branch other)) span)) (sym d.is)
             (if_done condition branch other span d.x x y d.value b e),
       )))))
+
+-- Loops: a turn begins with terms of its own.
+
+module _ (f : StaticFrame) (start : ℕ) (q : BlockPosition) (used own : List ℕ) (row : StagedRow) (staged : Staged) (rest : Statements) (out : SilicaTerms)
+    (st : Stands start q used own row staged) where
+  while_done : (condition : Expression) (body : Block) (span : Span) (x : Progress × Operand) (t : SilicaTerms)
+      → Value f start q used own row staged rest no_terms st condition span x → Blocked f (point q used own row) body t
+      → Done f start q used own row staged (resolved_while condition body span) rest out
+      (settled q, with_term out (loop_form (then_terms x.0.terms (drops x.0.slots.references span)) x.1 t (block_end body)) (block_end body))
+  while_done condition body span x t v b =
+      let end = block_end body in
+      let first = turn_of span v.l in
+      let form = loop_form first v.l.operand t end in
+      straight_done f start q used own row staged (resolved_while condition body span) rest out _ st refl refl refl (record {
+        ts = one_term form end;
+        lowers = (v.l, v.lowers, t, b.lowers, refl, refl);
+        is = ap (λ o. with_term out (loop_form (then_terms x.0.terms (drops x.0.slots.references span)) o t end) end) v.is
+            ∙ ap (λ ts. with_term out (loop_form ts v.l.operand t end) end)
+            (drops_is no_terms (with_unit span v.l.terms) x.0.terms x.0.slots.references v.l.made span
+            (value_is f start q used own row staged rest no_terms st condition span x v) v.grown.listed);
+        few = slots_one form end most_slots (three_most (slots_of_terms first) (slots_of_operand v.l.operand) (slots_of_terms t) most_slots
+            (unit_few span (then_terms v.l.terms (drops_of v.l.made span)) (slots_then v.l.terms (drops_of v.l.made span) most_slots v.grown.few
+            (slots_drops (references v.l.made) span most_slots v.grown.dropped)))
+            (value_few f start q used own row staged rest no_terms st condition span x v) b.few);
+      })
+
+  pub while_comes : (condition : Expression) (body : Block) (span : Span) (rb : Result SilicaTerms Stop)
+      → Comes (needs_of_block f (locals_of q.variables) q.slots body) (Blocked f (point q used own row) body) rb
+      → Comes (needs f (locals_of q.variables) q.slots condition ++ needs_of_block f (locals_of q.variables) q.slots body)
+      (Done f start q used own row staged (resolved_while condition body span) rest out)
+      (condition_code f condition span q no_terms >>= (λ c. rb >>= (λ x. past_statement q (with_term out (loop_form c.0 c.1 x (block_end body)) (block_end body)))))
+  while_comes condition body span rb cb =
+      let whole = resolved_while condition body span in
+      let nc = needs f (locals_of q.variables) q.slots condition in
+      let nb = needs_of_block f (locals_of q.variables) q.slots body in
+      comes_bind nc nb (Conditioned f start q used own row staged rest no_terms st condition span) (Done f start q used own row staged whole rest out)
+      (condition_code f condition span q no_terms) _ (condition_comes f start q used own row staged rest no_terms st condition span)
+      (λ c d. comes_then nb (Blocked f (point q used own row) body) (Done f start q used own row staged whole rest out) rb _ cb
+      (λ x b. (
+        refl,
+        subst (λ c. Done f start q used own row staged whole rest out (settled q, with_term out (loop_form c.0 c.1 x (block_end body)) (block_end body))) (sym d.is)
+            (while_done condition body span d.x x d.value b),
+      )))

@@ -4,7 +4,7 @@ use Rattle.std.specs.Prelude.{⊤}
 use Rattle.ob_base.specs.declared.fault.Span.{Span}
 use Rattle.ob_base.specs.declared.id.StateId.{StateId}
 use Rattle.ob_table.specs.Expressions.{Expression}
-use Rattle.ob_table.specs.Statements.{GivenField, Statement, resolved_declare, resolved_assign, resolved_stage, resolved_change, resolved_discard, resolved_test, resolved_if, resolved_return, resolved_revert, resolved_disown, resolved_assert, Block, resolved_block, Otherwise, no_otherwise, otherwise_block, Statements, no_statements, and_statement}
+use Rattle.ob_table.specs.Statements.{GivenField, Statement, resolved_declare, resolved_assign, resolved_stage, resolved_change, resolved_discard, resolved_test, resolved_if, resolved_while, resolved_return, resolved_revert, resolved_disown, resolved_assert, Block, resolved_block, Otherwise, no_otherwise, otherwise_block, Statements, no_statements, and_statement}
 use Rattle.ob_table.specs.Tables.{field_at}
 use Rattle.ob_table.specs.declared.contract.Contract.{Contract}
 use Rattle.ob_table.specs.declared.contract.Field.{Field}
@@ -148,6 +148,9 @@ module _ (f : StaticFrame) where
         keeps_bind (λ o. ⊤) (λ x. Names ls x.0.variables) (condition_code f condition span q out) _ (condition_keeps f ls q names BoolKind condition span out is.0)
         (λ o t. keeps_bind (λ b. ⊤) (λ x. Names ls x.0.variables) (block_code f branch (settled q)) _ (block_keeps branch ls (settled q) names is.1)
         (λ b t. keeps_bind (λ b. ⊤) (λ x. Names ls x.0.variables) (otherwise_code f other (settled q)) _ (otherwise_keeps other ls (settled q) names is.2) (λ b t. names)))
+    statement_keeps (resolved_while condition body span) rest ls line q out names is =
+        keeps_bind (λ o. ⊤) (λ x. Names ls x.0.variables) (condition_code f condition span q no_terms) _ (condition_keeps f ls q names BoolKind condition span no_terms is.0)
+        (λ o t. keeps_bind (λ b. ⊤) (λ x. Names ls x.0.variables) (block_code f body (settled q)) _ (block_keeps body ls (settled q) names is.1) (λ b t. names))
     statement_keeps (resolved_return e span) rest ls line q out names is = settles f ls q names _ (return_keeps f ls q names f.result e span out is)
     statement_keeps (resolved_revert e span) rest ls line q out names is = settles f ls q names _ (revert_keeps f ls q names Text e span out is)
     statement_keeps (resolved_disown subject span) rest ls line q out names is =

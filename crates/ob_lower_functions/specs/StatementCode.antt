@@ -3,15 +3,15 @@ use Rattle.std.specs.Prelude.{ℕ, zero, suc, ◌+◌, List, [], ◌∷◌, ◌+
 use Rattle.ob_base.specs.declared.fault.Span.{Span}
 use Rattle.ob_base.specs.declared.id.StateId.{StateId}
 use Rattle.ob_table.specs.Expressions.{Expression}
-use Rattle.ob_table.specs.Statements.{GivenField, Statement, resolved_declare, resolved_assign, resolved_stage, resolved_change, resolved_discard, resolved_test, resolved_if, resolved_return, resolved_revert, resolved_disown, resolved_assert, Block, resolved_block, Otherwise, no_otherwise, otherwise_block, Statements, no_statements, and_statement}
+use Rattle.ob_table.specs.Statements.{GivenField, Statement, resolved_declare, resolved_assign, resolved_stage, resolved_change, resolved_discard, resolved_test, resolved_if, resolved_while, resolved_return, resolved_revert, resolved_disown, resolved_assert, Block, resolved_block, Otherwise, no_otherwise, otherwise_block, Statements, no_statements, and_statement}
 use Rattle.ob_table.specs.declared.seen.Kind.{Kind}
 use Rattle.ob_table.specs.declared.seen.SeenAt.{SeenAt}
 use Rattle.ob_table_spec.specs.WellFormed.{StaticFrame, kind_of_seen, one_ends_there}
-use Rattle.ob_silica.specs.Terms.{const_form, unit_form, change_form, test_form, if_form, assert_form, disown_form, return_form, revert_form, bad_row_form, SilicaTerms, no_terms, then_terms}
+use Rattle.ob_silica.specs.Terms.{const_form, unit_form, change_form, test_form, if_form, loop_form, assert_form, disown_form, return_form, revert_form, bad_row_form, SilicaTerms, no_terms, then_terms}
 use Rattle.ob_silica.specs.declared.place.Constant.TheVariants.{Text}
 use Rattle.ob_silica.specs.declared.place.Given.{Given}
 use Rattle.ob_silica.specs.declared.place.Operand.{Operand}
-use Rattle.ob_lower_spec.specs.Forms.{SlotVariable, AroundExpression, locals_of, place_seen, drops, refused_at, operand, slot_operand, given_from, set_slot, set_place, join_of}
+use Rattle.ob_lower_spec.specs.Forms.{SlotVariable, AroundExpression, locals_of, place_seen, drops, refused_at, operand, slot_operand, given_from, set_slot, set_place, block_end, join_of}
 use Rattle.ob_lower_functions.specs.Progress.{Stop, ◌>>=◌, found, Slots, slots_from, next_slot, Progress, with_term, ended}
 use Rattle.ob_lower_functions.specs.ExpressionCode.{expression_code, value_code}
 
@@ -109,7 +109,7 @@ discard_code f e span q out =
     expression_code (around_at f q span) e (begun (slots_from q.slots) span out)
     >>= (λ x. Ok (then_terms x.0.terms (drops x.0.slots.references span)))
 
--- the condition of an `if`, whose temporaries end before the branches
+-- the condition of an `if` or a `while`, whose temporaries end before it is used
 abbrev pub condition_code : StaticFrame → Expression → Span → BlockPosition → SilicaTerms → Result (SilicaTerms × Operand) Stop
 condition_code f e span q out =
     value_code (around_at f q span) e (begun (slots_from q.slots) span out)
@@ -172,6 +172,10 @@ abbrev mutual
       >>= (λ c. block_code f branch (settled q)
       >>= (λ x. otherwise_code f other (settled q)
       >>= (λ y. past_statement q (with_term c.0 (if_form c.1 x y (join_of branch other)) span))))
+  statement_code f (resolved_while condition body span) rest q out =
+      condition_code f condition span q no_terms
+      >>= (λ c. block_code f body (settled q)
+      >>= (λ x. past_statement q (with_term out (loop_form c.0 c.1 x (block_end body)) (block_end body))))
   statement_code f (resolved_return value span) rest q out = return_code f value span q out >>= past_statement q
   statement_code f (resolved_revert text span) rest q out = revert_code f text span q out >>= past_statement q
   statement_code f (resolved_disown subject span) rest q out =

@@ -102,6 +102,10 @@ fn of_form(form: &Form) -> usize
             let branches = of_terms(then.as_slice()).max(of_terms(otherwise.as_slice()));
             of_operand(*a).max(branches)
         }
+        Form::Loop { first, a, body, .. } => {
+            let rest = of_operand(*a).max(of_terms(body.as_slice()));
+            of_terms(first.as_slice()).max(rest)
+        }
         Form::Assert { place: a, .. } | Form::Disown { place: a } | Form::Revert { text: a } => {
             of_operand(*a)
         }

@@ -8,7 +8,7 @@ use Rattle.ob_base.specs.Faults.{limit}
 use Rattle.ob_base.specs.declared.fault.ProgramFault.{ProgramFault}
 use Rattle.ob_base.specs.declared.fault.Span.{Span}
 use Rattle.ob_table.specs.Expressions.{Expression, resolved_number, resolved_text, resolved_bool, resolved_seen, resolved_unary, resolved_binary, resolved_logical, resolved_call, resolved_new, Arguments, no_arguments, and_argument}
-use Rattle.ob_table.specs.Statements.{GivenField, Statement, resolved_declare, resolved_assign, resolved_stage, resolved_change, resolved_discard, resolved_test, resolved_if, resolved_return, resolved_revert, resolved_disown, resolved_assert, Block, resolved_block, Otherwise, no_otherwise, otherwise_block, Statements, no_statements, and_statement, ResolvedBody}
+use Rattle.ob_table.specs.Statements.{GivenField, Statement, resolved_declare, resolved_assign, resolved_stage, resolved_change, resolved_discard, resolved_test, resolved_if, resolved_while, resolved_return, resolved_revert, resolved_disown, resolved_assert, Block, resolved_block, Otherwise, no_otherwise, otherwise_block, Statements, no_statements, and_statement, ResolvedBody}
 use Rattle.ob_table.specs.Tables.{ClassTable, contract_at, signature_at}
 use Rattle.ob_table.specs.declared.contract.Contract.{Contract}
 use Rattle.ob_table.specs.declared.contract.Signature.{Signature}
@@ -157,6 +157,8 @@ abbrev mutual
       needs_of_block f ls n branch ++ needs_of_otherwise f ls n other
   needs_of_statement f ls n row (resolved_if condition branch other span) rest =
       needs f ls n condition ++ needs_of_block f ls n branch ++ needs_of_otherwise f ls n other
+  needs_of_statement f ls n row (resolved_while condition body span) rest =
+      needs f ls n condition ++ needs_of_block f ls n body
   needs_of_statement f ls n row (resolved_return value span) rest = needs_of_value f ls n value
   needs_of_statement f ls n row (resolved_revert text span) rest = needs_of_revert f ls n text span
   needs_of_statement f ls n row (resolved_disown subject span) rest = []

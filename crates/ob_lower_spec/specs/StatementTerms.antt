@@ -1,17 +1,17 @@
 -- To which terms statements may be lowered (this project's own). Each statement takes a unit of fuel first, and drops
--- its temporaries at its end.
+-- its temporaries at its end. A `while` is one loop, each turn of which takes a unit.
 use Rattle.std.specs.Prelude.{◌≡◌, ℕ, List, [], ◌∷◌, ◌++◌, Option, Some, None, if◌then◌else◌}
 use Rattle.ob_base.specs.declared.fault.Span.{Span}
 use Rattle.ob_table.specs.Expressions.{Expression}
-use Rattle.ob_table.specs.Statements.{Statement, resolved_declare, resolved_assign, resolved_stage, resolved_change, resolved_discard, resolved_test, resolved_if, resolved_return, resolved_revert, resolved_disown, resolved_assert, Block, resolved_block, Otherwise, no_otherwise, otherwise_block, Statements, no_statements, and_statement}
+use Rattle.ob_table.specs.Statements.{Statement, resolved_declare, resolved_assign, resolved_stage, resolved_change, resolved_discard, resolved_test, resolved_if, resolved_while, resolved_return, resolved_revert, resolved_disown, resolved_assert, Block, resolved_block, Otherwise, no_otherwise, otherwise_block, Statements, no_statements, and_statement}
 use Rattle.ob_table.specs.declared.seen.Kind.{Kind}
 use Rattle.ob_table.specs.declared.seen.SeenAt.{SeenAt}
 use Rattle.ob_table_spec.specs.WellFormed.{StaticFrame, kind_of_seen, one_ends_there}
-use Rattle.ob_silica.specs.Terms.{SilicaForm, const_form, change_form, test_form, if_form, assert_form, disown_form, return_form, revert_form, SilicaTerms, no_terms, and_term, one_term, then_terms}
+use Rattle.ob_silica.specs.Terms.{SilicaForm, const_form, change_form, test_form, if_form, loop_form, assert_form, disown_form, return_form, revert_form, SilicaTerms, no_terms, and_term, one_term, then_terms}
 use Rattle.ob_silica.specs.declared.place.Constant.TheVariants.{Text as TextConstant}
 use Rattle.ob_silica.specs.declared.place.Operand.{Operand}
 use Rattle.ob_silica.specs.declared.place.Place.{Place}
-use Rattle.ob_lower_spec.specs.Forms.{locals_of, place_seen, AroundExpression, operand, slot_operand, drops, set_slot, set_place, refused_at, join_of}
+use Rattle.ob_lower_spec.specs.Forms.{locals_of, place_seen, AroundExpression, operand, slot_operand, drops, set_slot, set_place, refused_at, block_end, join_of}
 use Rattle.ob_lower_spec.specs.Points.{IsFree, drops_of, Temporary, span_of_terms, given_before, made_before, Point, passed, declares, used_at, inside, around}
 use Rattle.ob_lower_spec.specs.ExpressionTerms.{Lowered, LoweredCall, kind_around, LowersExpression, LowersDiscarded}
 use Rattle.ob_lower_spec.specs.GivenTerms.{with_unit, LoweredGiven, LowersGiven, LowersStage}
@@ -42,6 +42,10 @@ LowersRevert a used (Some e) ts =
 -- the slots of a block's own variables are dropped where its end is reached, the last declared first
 abbrev pub closing : Statements → List ℕ → Span → SilicaTerms
 closing statements declared end = if one_ends_there statements then no_terms else drops declared end
+
+-- what a turn of a `while` begins with: a unit, and the condition, whose temporaries end before it is used
+abbrev pub turn_of : Span → Lowered → SilicaTerms
+turn_of span condition = with_unit span (then_terms condition.terms (drops_of condition.made span))
 
 abbrev mutual
   -- a statement with the statements after it: its terms, and the point after it
@@ -77,6 +81,11 @@ abbrev mutual
       × (y : SilicaTerms) × LowersOtherwise f p other y
       × (ts ≡ with_unit span (then_terms c.terms (then_terms (drops_of c.made span)
       (one_term (if_form c.operand x y (join_of branch other)) span))))
+      × (q ≡ passed p)
+  LowersStatement f p (resolved_while condition body span) rest ts q =
+      (c : Lowered) × LowersExpression (around f p span) p.used condition c
+      × (x : SilicaTerms) × LowersBlock f p body x
+      × (ts ≡ one_term (loop_form (turn_of span c) c.operand x (block_end body)) (block_end body))
       × (q ≡ passed p)
   LowersStatement f p (resolved_return value span) rest ts q =
       (x : SilicaTerms) × LowersReturn (around f p span) p.used value x × (ts ≡ with_unit span x) × (q ≡ passed p)

@@ -182,9 +182,9 @@ pub lower : (image : Image) (q : Phase) (c : Configuration) → LeadsAhead image
 lower image q c ahead f =
     let step : GoesTo (next_step image q) c = next_to (next_step image q) c f in
     let e : steps_left image (running c) ≡ steps_left image (running step.to) =
-    ap (λ t. (rest image t + rests image c.below) + c.world.fuel * longest image) step.same.top
-    ∙ ap (λ b. (rest image step.to.top + rests image b) + c.world.fuel * longest image) step.same.below
-    ∙ ap (λ n. (rest image step.to.top + rests image step.to.below) + n * longest image) step.same.world.fuel in
+    ap (λ t. suc ((rest image t + rests image c.below) + c.world.fuel * longest image)) step.same.top
+    ∙ ap (λ b. suc ((rest image step.to.top + rests image b) + c.world.fuel * longest image)) step.same.below
+    ∙ ap (λ n. suc ((rest image step.to.top + rests image step.to.below) + n * longest image)) step.same.world.fuel in
     subst (λ n. n < steps_left image q) (sym e) (lowers image q step.to ahead step.is)
 
 world_itself : (w : World) → SameWorld w w

@@ -1,20 +1,15 @@
 -- Where runs are over.
-use Rattle.std.proofs.Common.{◌≡◌, ℕ, zero, suc, ◌<◌, ◌≤◌, ◌+◌, ◌-◌, ◌*◌, Option, Some, None, Bool, true, false, refl, sym, ap, ◌∙◌, subst, arith, true≢false}
+use Rattle.std.proofs.Common.{◌≡◌, ℕ, zero, suc, ◌<◌, ◌≤◌, ◌+◌, ◌*◌, Option, Some, None, Bool, true, false, refl, sym, ap, ◌∙◌, subst, arith, true≢false}
 use Rattle.std.specs.Prelude.{is_some, if◌then◌else◌}
-use Rattle.ob_base.specs.Optional.{◌>>=◌}
 use Rattle.ob_heap_spec.specs.Worlds.{World}
 use Rattle.ob_code.specs.declared.image.Image.{Image}
-use Rattle.ob_code.specs.declared.instruction.Instruction.{Instruction}
-use Rattle.ob_code.specs.Code.{body_code}
-use Rattle.ob_machine_steps.specs.Configurations.{Configuration, End, Next, goes, stops}
-use Rattle.ob_machine_steps.specs.Steps.{act, next_instruction}
+use Rattle.ob_machine_steps.specs.Configurations.{End, Next, goes, stops}
 use Rattle.ob_machine_steps.specs.Entries.{MachineEntry, Phase, starting, running, next_step, HasStep}
 use Rattle.ob_machine_steps.specs.Runs.{Stop, paused, over, after_step, after_steps, GoesNoFurther, pays, waits, left_after, run_in, Slices}
-use Rattle.ob_machine_steps.specs.Measures.{length_of, longest, steps_left, rests, LeadsAhead}
+use Rattle.ob_machine_steps.specs.Measures.{longest, rest, rests, steps_left, LeadsAhead}
 use Rattle.ob_machine_steps.specs.Outcomes.{outcome_of, outcome_at, outcome}
 use Rattle.ob_machine_laws.specs.Laws.{IsSoundRun, IsOverAfter}
-use Rattle.ob_machine_laws.proofs.Fetching.{instruction_in_body}
-use Rattle.ob_machine_laws.proofs.Measuring.{lowers, within_body}
+use Rattle.ob_machine_laws.proofs.Measuring.{lowers}
 
 abbrev IsOver : Option Stop → Type 0
 IsOver None = ⊥
@@ -30,20 +25,14 @@ paused_over e = subst IsOver (sym e) tt
 none_has : (image : Image) (p : Phase) → next_step image p ≡ None → HasStep image p → ⊥
 none_has image p e h = true≢false (sym h ∙ ap is_some e)
 
--- What has a step has steps before it.
+-- A step is always before what isn't over.
 
-sub_some : (l a r f : ℕ) → a < l → 0 < ((l - a) + r) + f
-sub_some l a r f h = omega arith
+some_steps : (n : ℕ) → 0 < suc n
+some_steps n = omega arith
 
-next_left : (image : Image) (c : Configuration) (i : Option Instruction) (x : Next) → next_instruction image c ≡ i → (i >>= λ y. act image y c) ≡ Some x → 0 < steps_left image (running c)
-next_left image c None x e f = absurd (true≢false (sym (ap is_some f)))
-next_left image c (Some i) x e f =
-    sub_some (length_of (body_code image c.top.contract c.top.tx)) c.top.at (rests image c.below) (c.world.fuel * longest image)
-    (within_body (body_code image c.top.contract c.top.tx) c.top.at i (instruction_in_body image c.top.contract c.top.tx c.top.at i e))
-
-step_left : (image : Image) (p : Phase) (x : Next) → next_step image p ≡ Some x → 0 < steps_left image p
-step_left image (starting e w) x f = omega arith
-step_left image (running c) x f = next_left image c (next_instruction image c) x refl f
+step_left : (image : Image) (p : Phase) → 0 < steps_left image p
+step_left image (starting e w) = some_steps (suc (w.fuel * longest image))
+step_left image (running c) = some_steps ((rest image c.top + rests image c.below) + c.world.fuel * longest image)
 
 -- No further.
 
@@ -69,7 +58,7 @@ over_by image k p end None m ahead e f h ih = absurd (none_over f)
 over_by image k p end (Some (goes c)) zero ahead e f h ih = absurd (let less : steps_left image (running c) < steps_left image p = lowers image p c ahead e in omega (arith, h, less))
 over_by image k p end (Some (goes c)) (suc m) ahead e f h ih =
     rw e (ih (running c) m f (let less : steps_left image (running c) < steps_left image p = lowers image p c ahead e in omega (arith, h, less)))
-over_by image k p end (Some (stops x)) zero ahead e f h ih = absurd (let some : 0 < steps_left image p = step_left image p (stops x) e in omega (arith, h, some))
+over_by image k p end (Some (stops x)) zero ahead e f h ih = absurd (let some : 0 < steps_left image p = step_left image p in omega (arith, h, some))
 over_by image k p end (Some (stops x)) (suc m) ahead e f h ih = rw e f
 
 pub over_in : (image : Image) (k : ℕ) (p : Phase) (end : End) (m : ℕ) → LeadsAhead image → after_steps image k p ≡ Some (over end) → steps_left image p ≤ m → after_steps image m p ≡ Some (over end)
@@ -87,22 +76,18 @@ sound_by image p m (Some (goes c)) ahead sound e h ih =
     record { end = later.end; by = rw e later.by }
 sound_by image p m (Some (stops end)) ahead sound e h ih = record { end = end; by = rw e refl }
 
-has_left : (image : Image) (p : Phase) (r : Option Next) → next_step image p ≡ r → HasStep image p → 0 < steps_left image p
-has_left image p None e h = absurd (none_has image p e h)
-has_left image p (Some x) e h = step_left image p x e
-
 sound_over : (n : ℕ) (image : Image) (p : Phase) → LeadsAhead image → IsSoundRun image p → steps_left image p ≤ n → IsOverAfter image n p
-sound_over zero image p ahead sound h = absurd (let some : 0 < steps_left image p = has_left image p (next_step image p) refl (sound.at 0 p refl) in omega (arith, h, some))
+sound_over zero image p ahead sound h = absurd (let some : 0 < steps_left image p = step_left image p in omega (arith, h, some))
 sound_over (suc m) image p ahead sound h = sound_by image p m (next_step image p) ahead sound refl h (λ q s k. sound_over m image q ahead s k)
 
 pub run_ends : (image : Image) (p : Phase) → LeadsAhead image → IsSoundRun image p → IsOverAfter image (steps_left image p) p
 run_ends image p ahead sound = sound_over (steps_left image p) image p ahead sound (omega arith)
 
-entry_sums : (f m : ℕ) → 0 < m → suc (f * m) ≤ suc f * m
+entry_sums : (f m : ℕ) → 0 < m → suc (suc (f * m)) ≤ suc (suc f) * m
 entry_sums f m h = grind arith
 
-pub entry_ends : (image : Image) (e : MachineEntry) (w : World) → LeadsAhead image → 0 < longest image → IsSoundRun image (starting e w) → IsOverAfter image (suc w.fuel * longest image) (starting e w)
-entry_ends image e w ahead some sound = sound_over (suc w.fuel * longest image) image (starting e w) ahead sound (entry_sums w.fuel (longest image) some)
+pub entry_ends : (image : Image) (e : MachineEntry) (w : World) → LeadsAhead image → 0 < longest image → IsSoundRun image (starting e w) → IsOverAfter image (suc (suc w.fuel) * longest image) (starting e w)
+entry_ends image e w ahead some sound = sound_over (suc (suc w.fuel) * longest image) image (starting e w) ahead sound (entry_sums w.fuel (longest image) some)
 
 -- Slices that stop with the run.
 

@@ -1,5 +1,5 @@
 -- Each step leaves fewer steps that can still come.
-use Rattle.std.proofs.Common.{◌≡◌, ℕ, zero, suc, ◌<◌, ◌≤◌, ◌+◌, ◌-◌, ◌*◌, List, [], ◌∷◌, length, Option, Some, None, Bool, true, false, refl, sym, ap, ◌∙◌, subst, arith}
+use Rattle.std.proofs.Common.{◌≡◌, ℕ, zero, suc, ◌<◌, ◌≤◌, ◌+◌, ◌-◌, ◌*◌, List, [], ◌∷◌, length, Option, Some, None, Bool, true, false, refl, sym, ap, ◌∙◌, subst, arith, inl, inr}
 use Rattle.std.specs.Prelude.{slice_get, ◌==◌, nat_le, if◌then◌else◌}
 use Rattle.std.proofs.lemmas.Option.{slice_get_within}
 use Rattle.ob_base.specs.Optional.{◌>>=◌}
@@ -20,7 +20,7 @@ use Rattle.ob_code.specs.declared.image.Image.{Image}
 use Rattle.ob_code.specs.declared.instruction.Instruction.{Instruction}
 use Rattle.ob_code.specs.declared.instruction.Instruction.TheVariants as ins
 use Rattle.ob_code.specs.Code.{contract_code, body_code, is_shared_at_entry}
-use Rattle.ob_code_table.specs.Images.{constructor_of, callee, CalleeId, has_field_code}
+use Rattle.ob_code_table.specs.Images.{constructor_of, callee, CalleeId, has_field_code, instruction_at}
 use Rattle.ob_machine_steps.specs.Slots.{Slots, value_at, truth_at, text_at, reference_at, values_at, with_value_at}
 use Rattle.ob_machine_steps.specs.Configurations.{Entered, on_receiver, on_this, on_new, MachineFrame, Configuration, Next, goes, stops}
 use Rattle.ob_machine_steps.specs.Parts.{moved_to, with_world, goes_on, sets, with_units, with_unit, this_object, waiting}
@@ -31,7 +31,7 @@ use Rattle.ob_machine_steps.specs.Calling.{Caller, caller, begun, calls_object, 
 use Rattle.ob_machine_steps.specs.Returning.{with_result, world_left, resumes, returns}
 use Rattle.ob_machine_steps.specs.Steps.{act, next_instruction}
 use Rattle.ob_machine_steps.specs.Entries.{MachineEntry, Phase, starting, running, nobody, enters, next_step}
-use Rattle.ob_machine_steps.specs.Measures.{length_of, longest_body, longest_of, longest, rest, rests, steps_most, steps_left, LeadsAhead}
+use Rattle.ob_machine_steps.specs.Measures.{length_of, longest_body, longest_of, longest, left_of_round, rest, rests, steps_most, steps_left, IsAheadOrUnit, LeadsAhead}
 use Rattle.ob_machine_laws.proofs.Fetching.{none_is_some, instruction_in_body}
 use Rattle.ob_machine_laws.proofs.Fuel.{read_fuel, edit_fuel, shared_fuel, disowned_fuel, lock_fuel, unlock_fuel, left_fuel}
 
@@ -58,49 +58,64 @@ unit_below image n w go h = units_below image n w.fuel w go refl h
 
 -- Frames that go on.
 
--- the innermost frame has an instruction before it
-abbrev HasNext : Image → MachineFrame → Type 0
-HasNext image f = f.at < length_of (body_code image f.contract f.tx)
+-- how many instructions a round has still before it at a place of a body, at most
+abbrev rest_from : Image → ContractId → TxId → ℕ → ℕ
+rest_from image contract tx place = left_of_round (instruction_at image contract tx place) (length_of (body_code image contract tx) - place)
 
-sub_less : (l a b : ℕ) → a < b → a < l → l - b < l - a
-sub_less l a b h k = omega arith
+round_le : (i : Option Instruction) (n : ℕ) → left_of_round i n ≤ n
+round_le (Some ins.Unit) n = omega arith
+round_le i n = omega arith
+
+rest_le : (image : Image) (contract : ContractId) (tx : TxId) (place : ℕ) → rest_from image contract tx place ≤ length_of (body_code image contract tx) - place
+rest_le image contract tx place = round_le (instruction_at image contract tx place) (length_of (body_code image contract tx) - place)
+
+-- the innermost frame has this instruction before it
+abbrev IsBefore : Image → Instruction → MachineFrame → Type 0
+IsBefore image i f = (f.at < length_of (body_code image f.contract f.tx)) × (rest image f ≡ left_of_round (Some i) (length_of (body_code image f.contract f.tx) - f.at))
+
+-- the innermost frame has an instruction before it that is no `unit`
+abbrev HasNext : Image → MachineFrame → Type 0
+HasNext image f = (f.at < length_of (body_code image f.contract f.tx)) × (rest image f ≡ length_of (body_code image f.contract f.tx) - f.at)
+
+sub_some : (l a : ℕ) → a < l → 0 < l - a
+sub_some l a h = omega arith
+
+-- so something is left of its round
+some_left : (image : Image) (f : MachineFrame) → HasNext image f → 0 < rest image f
+some_left image f k = subst (λ x. 0 < x) (sym k.1) (sub_some (length_of (body_code image f.contract f.tx)) f.at k.0)
+
+sub_less : (l a b x : ℕ) → x ≤ l - b → a < b → a < l → x < l - a
+sub_less l a b x e h k = omega arith
 
 next_less : (a : ℕ) → a < a + 1
 next_less a = omega arith
 
-sums_less : (x y r f g m : ℕ) → x < y → f ≡ g → (x + r) + f * m < (y + r) + g * m
-sums_less x y r f g m h e = subst (λ k. (x + r) + f * m < (y + r) + k * m) e (omega (arith, h))
+-- and less of it is left at a place ahead, or at a `unit`
+less_left : (image : Image) (f : MachineFrame) (place : ℕ) → HasNext image f → IsAheadOrUnit image f.contract f.tx f.at place
+    → rest_from image f.contract f.tx place < rest image f
+less_left image f place k (inl h) = subst (λ x. rest_from image f.contract f.tx place < x) (sym k.1)
+    (sub_less (length_of (body_code image f.contract f.tx)) f.at place (rest_from image f.contract f.tx place) (rest_le image f.contract f.tx place) h k.0)
+less_left image f place k (inr h) = subst (λ x. x < rest image f) (sym (ap (λ i. left_of_round i (length_of (body_code image f.contract f.tx) - place)) h)) (some_left image f k)
 
--- the innermost frame goes on ahead, with as much fuel
-ahead_below : (image : Image) (c : Configuration) (f : MachineFrame) (w : World) → HasNext image c.top → f.contract ≡ c.top.contract → f.tx ≡ c.top.tx → c.top.at < f.at → w.fuel ≡ c.world.fuel
-    → Below image (steps_most image c) (Some (goes (record { top = f; below = c.below; world = w })))
-ahead_below image c f w k e g h u =
-    let same : rest image f ≡ length_of (body_code image c.top.contract c.top.tx) - f.at = ap (λ x. length_of (body_code image x f.tx) - f.at) e
-    ∙ ap (λ x. length_of (body_code image c.top.contract x) - f.at) g in
-    let less : rest image f < rest image c.top = subst (λ x. x < rest image c.top) (sym same) (sub_less (length_of (body_code image c.top.contract c.top.tx)) c.top.at f.at h k) in
-    sums_less (rest image f) (rest image c.top) (rests image c.below) w.fuel c.world.fuel (longest image) less u
+sums_less : (x y r f g m : ℕ) → x < y → f ≡ g → suc ((x + r) + f * m) < suc ((y + r) + g * m)
+sums_less x y r f g m h e = subst (λ k. suc ((x + r) + f * m) < suc ((y + r) + k * m)) e (omega (arith, h))
 
 -- the next instruction follows
 on_below : (image : Image) (c : Configuration) (slots : Slots) (tests : List (Option ℕ)) (w : World) → HasNext image c.top → w.fuel ≡ c.world.fuel
     → Below image (steps_most image c) (goes_on (record c { top = record c.top { slots = slots; tests = tests }; world = w }))
-on_below image c slots tests w k u = ahead_below image c (record c.top { at = c.top.at + 1; slots = slots; tests = tests }) w k refl refl (next_less c.top.at) u
+on_below image c slots tests w k u =
+    sums_less (rest_from image c.top.contract c.top.tx (c.top.at + 1)) (rest image c.top) (rests image c.below) w.fuel c.world.fuel (longest image)
+    (less_left image c.top (c.top.at + 1) k (inl (next_less c.top.at))) u
 
 -- an instruction at a place follows
-to_below : (image : Image) (c : Configuration) (place : ℕ) (w : World) → HasNext image c.top → c.top.at < place → w.fuel ≡ c.world.fuel
+to_below : (image : Image) (c : Configuration) (place : ℕ) (w : World) → HasNext image c.top → IsAheadOrUnit image c.top.contract c.top.tx c.top.at place → w.fuel ≡ c.world.fuel
     → Below image (steps_most image c) (Some (goes (moved_to place (with_world w c))))
-to_below image c place w k h u = ahead_below image c (record c.top { at = place }) w k refl refl h u
+to_below image c place w k h u =
+    sums_less (rest_from image c.top.contract c.top.tx place) (rest image c.top) (rests image c.below) w.fuel c.world.fuel (longest image)
+    (less_left image c.top place k h) u
 
 sets_below : (image : Image) (c : Configuration) (k : ℕ) (v : Value) → HasNext image c.top → Below image (steps_most image c) (sets k v c)
 sets_below image c k v h = then_below image _ (with_value_at c.top.slots k v) _ (λ slots. on_below image c slots c.top.tests c.world h refl)
-
--- a unit less
-spent_less : (x y r f g m : ℕ) → x < y → suc f ≡ g → (x + r) + f * m < (y + r) + g * m
-spent_less x y r f g m h e = subst (λ k. (x + r) + f * m < (y + r) + k * m) e (grind arith)
-
-unit_step_below : (image : Image) (c : Configuration) → HasNext image c.top → Below image (steps_most image c) (with_unit c.world (λ w. goes_on (with_world w c)))
-unit_step_below image c k =
-    unit_below image _ c.world _ (λ v e. spent_less (length_of (body_code image c.top.contract c.top.tx) - (c.top.at + 1)) (rest image c.top) (rests image c.below) v.fuel c.world.fuel
-    (longest image) (sub_less _ c.top.at (c.top.at + 1) (next_less c.top.at) k) e)
 
 operated_below : (image : Image) (c : Configuration) (k line : ℕ) (x : Operated) → HasNext image c.top → Below image (steps_most image c) (with_operated line c.world x (λ v. sets k v c))
 operated_below image c k line (operated v) h = sets_below image c k v h
@@ -122,17 +137,29 @@ contracts_le (c ∷ cs) (suc n) k = let h : length_of (slice_get cs n >>= λ (c 
 pub body_le : (image : Image) (contract : ContractId) (tx : TxId) → length_of (body_code image contract tx) ≤ longest image
 body_le image contract tx = contracts_le image.contracts contract.0 tx.0
 
+-- a unit less, for which a round begins behind the `unit`
+spent_less : (l a x y r f g m : ℕ) → a < l → l ≤ m → x ≤ l - (a + 1) → suc f ≡ g → suc ((x + r) + f * m) < suc ((y + r) + g * m)
+spent_less l a x y r f g m h k b e = subst (λ n. suc ((x + r) + f * m) < suc ((y + r) + n * m)) e (grind arith)
+
+unit_step_below : (image : Image) (c : Configuration) → c.top.at < length_of (body_code image c.top.contract c.top.tx)
+    → Below image (steps_most image c) (with_unit c.world (λ w. goes_on (with_world w c)))
+unit_step_below image c k =
+    let contract = c.top.contract in
+    let tx = c.top.tx in
+    unit_below image _ c.world _ (λ v e. spent_less (length_of (body_code image contract tx)) c.top.at (rest_from image contract tx (c.top.at + 1)) (rest image c.top) (rests image c.below)
+    v.fuel c.world.fuel (longest image) k (body_le image contract tx) (rest_le image contract tx (c.top.at + 1)) e)
+
 -- what a body may take that begins for these frames, with this fuel
 abbrev MayBegin : Image → ℕ → List MachineFrame → ℕ → Type 0
-MayBegin image n frames fuel = (longest image + rests image frames) + fuel * longest image < n
+MayBegin image n frames fuel = suc ((longest image + rests image frames) + fuel * longest image) < n
 
-begun_sums : (l m r f g n : ℕ) → l ≤ m → g ≡ f → (m + r) + f * m < n → ((l - 0) + r) + g * m < n
-begun_sums l m r f g n h e k = subst (λ x. ((l - 0) + r) + x * m < n) (sym e) (omega (arith, h, k))
+begun_sums : (l x m r f g n : ℕ) → x ≤ l - 0 → l ≤ m → g ≡ f → suc ((m + r) + f * m) < n → suc ((x + r) + g * m) < n
+begun_sums l x m r f g n b h e k = subst (λ y. suc ((x + r) + y * m) < n) (sym e) (omega (arith, b, h, k))
 
 begun_below : (image : Image) (n : ℕ) (by : Caller) (id : CalleeId) (b : BodyCode) (this : ℕ) (args : List Value) (entered : Entered) (share_entered : Bool) (w : World) (fuel : ℕ)
     → w.fuel ≡ fuel → MayBegin image n by.frames fuel → Below image n (Some (goes (begun by id b this args entered share_entered w)))
 begun_below image n by id b this args entered share_entered w fuel e h =
-    begun_sums (length_of (body_code image id.0 id.1)) (longest image) (rests image by.frames) fuel w.fuel n (body_le image id.0 id.1) e h
+    begun_sums (length_of (body_code image id.0 id.1)) (rest_from image id.0 id.1 0) (longest image) (rests image by.frames) fuel w.fuel n (rest_le image id.0 id.1 0) (body_le image id.0 id.1) e h
 
 object_below : (image : Image) (n : ℕ) (by : Caller) (contract : ContractId) (tx : TxId) (this : ℕ) (args : List Value) (w : World) → MayBegin image n by.frames w.fuel
     → Below image n (calls_object image by contract tx this args w)
@@ -153,36 +180,38 @@ this_below : (image : Image) (n : ℕ) (c : Configuration) (k : ℕ) (tx : TxId)
 this_below image n c k tx args w h =
     then_below image n (body_code image c.top.contract tx) _ (λ b. begun_below image n (caller c k) (c.top.contract, tx) b c.top.this args on_this c.top.share_entered w w.fuel refl h)
 
-waiting_sums : (l a r m f g : ℕ) → a < l → suc f ≡ g → (m + ((l - (a + 1)) + r)) + f * m < ((l - a) + r) + g * m
-waiting_sums l a r m f g h e = subst (λ k. (m + ((l - (a + 1)) + r)) + f * m < ((l - a) + r) + k * m) e (grind arith)
+waiting_sums : (x y r m f g : ℕ) → x < y → suc f ≡ g → suc ((m + (x + r)) + f * m) < suc ((y + r) + g * m)
+waiting_sums x y r m f g h e = subst (λ k. suc ((m + (x + r)) + f * m) < suc ((y + r) + k * m)) e (grind arith)
 
 -- a caller may begin a body with one unit less
 may_begin : (image : Image) (c : Configuration) (fuel : ℕ) → HasNext image c.top → suc fuel ≡ c.world.fuel → MayBegin image (steps_most image c) (waiting c) fuel
-may_begin image c fuel k e = waiting_sums (length_of (body_code image c.top.contract c.top.tx)) c.top.at (rests image c.below) (longest image) fuel c.world.fuel k e
+may_begin image c fuel k e =
+    waiting_sums (rest_from image c.top.contract c.top.tx (c.top.at + 1)) (rest image c.top) (rests image c.below) (longest image) fuel c.world.fuel
+    (less_left image c.top (c.top.at + 1) k (inl (next_less c.top.at))) e
 
 -- Returns.
 
-leave_sums : (l a s r f g m : ℕ) → a < l → f ≡ g → (s + r) + f * m < ((l - a) + (s + r)) + g * m
-leave_sums l a s r f g m h e = subst (λ k. (s + r) + f * m < ((l - a) + (s + r)) + k * m) e (omega (arith, h))
+leave_sums : (x s r f g m : ℕ) → 0 < x → f ≡ g → suc ((s + r) + f * m) < suc ((x + (s + r)) + g * m)
+leave_sums x s r f g m h e = subst (λ k. suc ((s + r) + f * m) < suc ((x + (s + r)) + k * m)) e (omega (arith, h))
 
 resumes_below : (image : Image) (c : Configuration) (fs : List MachineFrame) (into : ℕ) (result : Option Value) (w : World) → HasNext image c.top → c.below ≡ fs → w.fuel ≡ c.world.fuel
     → Below image (steps_most image c) (resumes fs into result w)
 resumes_below image c [] into result w k e u = tt
 resumes_below image c (f ∷ fs) into result w k e u = then_below image _ (with_result f.slots into result) _ (λ slots.
-    subst (λ x. (rest image f + rests image fs) + w.fuel * longest image < (rest image c.top + rests image x) + c.world.fuel * longest image) (sym e)
-    (leave_sums (length_of (body_code image c.top.contract c.top.tx)) c.top.at (rest image f) (rests image fs) w.fuel c.world.fuel (longest image) k u))
+    subst (λ x. suc ((rest image f + rests image fs) + w.fuel * longest image) < suc ((rest image c.top + rests image x) + c.world.fuel * longest image)) (sym e)
+    (leave_sums (rest image c.top) (rest image f) (rests image fs) w.fuel c.world.fuel (longest image) (some_left image c.top k) u))
 
 returns_below : (image : Image) (c : Configuration) (result : Option Value) → HasNext image c.top → Below image (steps_most image c) (returns result c)
 returns_below image c result k = resumes_below image c c.below c.top.into _ (world_left c.top c.world) k refl (left_fuel c.top c.world)
 
 -- Tests, changes and marks.
 
-branches_below : (image : Image) (c : Configuration) (w : World) (t : Option ℕ) (target : ℕ) (holds : Bool) → HasNext image c.top → c.top.at < target → w.fuel ≡ c.world.fuel
+branches_below : (image : Image) (c : Configuration) (w : World) (t : Option ℕ) (target : ℕ) (holds : Bool) → HasNext image c.top → IsAheadOrUnit image c.top.contract c.top.tx c.top.at target → w.fuel ≡ c.world.fuel
     → Below image (steps_most image c) (branches t target (with_world w c) holds)
 branches_below image c w t target true k h u = on_below image c c.top.slots (t ∷ c.top.tests) (with_lock t w) k (lock_fuel t w ∙ u)
 branches_below image c w t target false k h u = to_below image c target w k h u
 
-test_below : (image : Image) (c : Configuration) (a : ℕ) (of : ContractId) (state : StateId) (target : ℕ) → HasNext image c.top → c.top.at < target
+test_below : (image : Image) (c : Configuration) (a : ℕ) (of : ContractId) (state : StateId) (target : ℕ) → HasNext image c.top → IsAheadOrUnit image c.top.contract c.top.tx c.top.at target
     → Below image (steps_most image c) (test_step image a of state target c)
 test_below image c a of state target k h = then_below image _ (reference_at c.top.slots a) _ (λ n. then_below image _ (object_at c.world.objects n) _ (λ o.
     let d = with_world (read_object c.world n) c in
@@ -213,8 +242,8 @@ marks_below image c mark a k same =
 
 -- Instructions.
 
-act_below : (image : Image) (i : Instruction) (c : Configuration) → LeadsAhead image → next_instruction image c ≡ Some i → HasNext image c.top → Below image (steps_most image c) (act image i c)
-act_below image ins.Unit c ahead e k = unit_step_below image c k
+act_below : (image : Image) (i : Instruction) (c : Configuration) → LeadsAhead image → next_instruction image c ≡ Some i → IsBefore image i c.top → Below image (steps_most image c) (act image i c)
+act_below image ins.Unit c ahead e k = unit_step_below image c k.0
 act_below image (ins.Int to z) c ahead e k = sets_below image c to _ k
 act_below image (ins.Bool to b) c ahead e k = sets_below image c to _ k
 act_below image (ins.Text to bytes) c ahead e k = sets_below image c to _ k
@@ -250,11 +279,16 @@ within_body (Some b) place i e = slice_get_within b.instructions place i e
 
 step_below : (image : Image) (c : Configuration) (i : Option Instruction) → LeadsAhead image → next_instruction image c ≡ i → Below image (steps_most image c) (i >>= λ x. act image x c)
 step_below image c None ahead e = tt
-step_below image c (Some i) ahead e = act_below image i c ahead e (within_body (body_code image c.top.contract c.top.tx) c.top.at i
-    (instruction_in_body image c.top.contract c.top.tx c.top.at i e))
+step_below image c (Some i) ahead e =
+    let contract = c.top.contract in
+    let tx = c.top.tx in
+    act_below image i c ahead e (
+      within_body (body_code image contract tx) c.top.at i (instruction_in_body image contract tx c.top.at i e),
+      ap (λ x. left_of_round x (length_of (body_code image contract tx) - c.top.at)) e,
+    )
 
-start_sums : (m f g : ℕ) → suc f ≡ g → (m + 0) + f * m < suc (g * m)
-start_sums m f g e = subst (λ k. (m + 0) + f * m < suc (k * m)) e (grind arith)
+start_sums : (m f g : ℕ) → suc f ≡ g → suc ((m + 0) + f * m) < suc (suc (g * m))
+start_sums m f g e = subst (λ k. suc ((m + 0) + f * m) < suc (suc (k * m))) e (grind arith)
 
 enters_below : (image : Image) (e : MachineEntry) (receiver : Option ℕ) (n : ℕ) (w : World) → MayBegin image n [] w.fuel → Below image n (enters image e receiver w)
 enters_below image e None n w h = made_below image n nobody e.contract (Some e.tx) e.args w h

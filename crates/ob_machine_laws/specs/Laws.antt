@@ -65,12 +65,12 @@ pub record IsOverAfter (image : Image) (n : ℕ) (p : Phase) : Type 0 where
 abbrev pub RunsEnd : Type 0
 RunsEnd = (image : Image) (p : Phase) → LeadsAhead image → IsSoundRun image p → IsOverAfter image (steps_left image p) p
 
--- Such a run from an entry is over after at most one more than its units times the instructions of the longest body, where some
+-- Such a run from an entry is over after at most two more than its units times the instructions of the longest body, where some
 -- body has an instruction.
 abbrev pub EntriesEnd : Type 0
 EntriesEnd =
     (image : Image) (e : MachineEntry) (w : World) → LeadsAhead image → 0 < longest image
-    → IsSoundRun image (starting e w) → IsOverAfter image (suc w.fuel * longest image) (starting e w)
+    → IsSoundRun image (starting e w) → IsOverAfter image (suc (suc w.fuel) * longest image) (starting e w)
 
 -- What was read before.
 

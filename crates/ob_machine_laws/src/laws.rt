@@ -13,12 +13,12 @@ pub fn slices_add_up()
     ensures whole { WholeSlicesEnd }
 {}
 
-/// Where jumps lead ahead, each step leaves fewer steps that can still come.
+/// Where jumps lead ahead, or to a `unit`, each step leaves fewer steps that can still come.
 pub fn steps_lower_the_measure()
     ensures { StepsLowerTheMeasure }
 {}
 
-/// Where jumps lead ahead, a run is over after at most so many steps as its units and the longest body say.
+/// Where jumps lead ahead, or to a `unit`, a run is over after at most so many steps as its units and the longest body say.
 pub fn runs_end()
     ensures further { RunsGoNoFurther }
     ensures runs { RunsEnd }

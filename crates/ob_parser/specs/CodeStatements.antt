@@ -4,10 +4,11 @@ use Rattle.ob_tree.specs.ExprsView.{expr_of}
 use Rattle.ob_tree.specs.StmtsView.{block_of, else_of}
 use Rattle.ob_tree.specs.declared.expr.Expr.{Expr as ExprNode}
 use Rattle.ob_tree.specs.declared.name.NamePart.{NamePart}
-use Rattle.ob_parser_spec.specs.StmtReaders.{Question, tested, asked, Branches}
+use Rattle.ob_parser_spec.specs.StmtReaders.{Question, tested, asked, Branches, Loop}
 use Rattle.ob_parser.specs.declared.statements.QuestionPart.{QuestionPart}
 use Rattle.ob_parser.specs.declared.statements.QuestionPart.TheVariants as part
 use Rattle.ob_parser.specs.declared.statements.BranchesPart.{BranchesPart}
+use Rattle.ob_parser.specs.declared.statements.LoopPart.{LoopPart}
 
 -- a name, and the value that it is given
 abbrev pub named_value : NamePart × ExprNode → NamePart × Expr
@@ -21,3 +22,7 @@ question_of (part.Condition condition) = asked (expr_of condition)
 -- what stands after `if`
 abbrev pub branches_of : BranchesPart → Branches
 branches_of part = (question_of part.question, (block_of part.then, else_of part.otherwise))
+
+-- what stands after `while`
+abbrev pub loop_of : LoopPart → Loop
+loop_of part = (expr_of part.condition, block_of part.body)

@@ -4,19 +4,21 @@
 //! block = "{" {stmt} "}"
 //! stmt  = "if" "(" (NAME | "this") "in" NAME ")" block ["else" (block | if)]
 //!       | "if" "(" expr ")" block ["else" (block | if)]
+//!       | "while" "(" expr ")" block
 //!       | a statement that has no blocks
 //! ```
 //!
 //! `else if` stands for a block with that `if`, which is open from its `if` up to the end of that statement.
 
 ghost use Rattle.std.specs.Prelude.{◌≡◌, IfOk, IfErr};
-ghost use Rattle.ob_tree.specs.Stmts.{block_with, and_stmt, no_stmts};
+ghost use Rattle.ob_tree.specs.Stmts.{while_stmt, block_with, and_stmt, no_stmts};
+ghost use Rattle.ob_tree.specs.ExprsView.{expr_of};
 ghost use Rattle.ob_tree.specs.StmtsView.{stmt_of, stmts_of, block_of, else_of};
 ghost use Rattle.ob_parser_spec.specs.StmtRows.{end_of_else};
-ghost use Rattle.ob_parser_spec.specs.StmtReaders.{read_tested, read_question, if_with, read_if, read_chained, read_block_or_if, read_alternative, read_stmt};
-ghost use Rattle.ob_parser_spec.specs.AllReaders.{all_refs, all_counted, all_exprs, all_branches, all_stmts, all_blocks};
+ghost use Rattle.ob_parser_spec.specs.StmtReaders.{read_tested, read_question, if_with, read_if, read_chained, read_block_or_if, read_alternative, read_while, read_stmt};
+ghost use Rattle.ob_parser_spec.specs.AllReaders.{all_refs, all_counted, all_exprs, all_branches, all_loops, all_stmts, all_blocks};
 ghost use Rattle.ob_parser_expressions.specs.Answering.{Answers};
-ghost use Rattle.ob_parser.specs.CodeStatements.{question_of, branches_of};
+ghost use Rattle.ob_parser.specs.CodeStatements.{question_of, branches_of, loop_of};
 ghost use Rattle.ob_parser_expressions.specs.declared.halt.Halt.TheVariants.{Memory};
 
 use crate::simple::simple;
@@ -42,6 +44,13 @@ struct BranchesPart {
     question: QuestionPart,
     then: Block,
     otherwise: Option<Block>,
+}
+
+/// What stands after `while`.
+#[derive(Drop)]
+struct LoopPart {
+    condition: Expr,
+    body: Block,
 }
 
 // ---- nodes
@@ -79,6 +88,18 @@ fn asked(branches: BranchesPart, span: Span) -> Stmt
             otherwise,
             span,
         },
+    }
+}
+
+/// A `while` at this place.
+fn repeated(turns: LoopPart, span: Span) -> Stmt
+    ensures { stmt_of result ≡ while_stmt (expr_of turns.condition) (block_of turns.body) span }
+{
+    let LoopPart { condition, body } = turns;
+    Stmt::While {
+        condition,
+        body,
+        span,
     }
 }
 
@@ -121,8 +142,9 @@ fn question(alloc: Global, room: u8, tokens: &[Token]) -> Result<(QuestionPart, 
 // ---- statements with blocks
 
 /// What a statement begins with.
-const STATEMENT_FIRST: [Symbol; 12] = [
+const STATEMENT_FIRST: [Symbol; 13] = [
     Symbol::Word(Word::If),
+    Symbol::Word(Word::While),
     Symbol::Name,
     Symbol::Word(Word::Int),
     Symbol::Word(Word::Bool),
@@ -170,10 +192,13 @@ fn statement_list(
 /// `stmt`
 #[cycle(stmt)]
 fn statement(alloc: Global, room: u8, tokens: &[Token]) -> Result<(Stmt, &[Token]), Halt>
-    ensures { Answers stmt_of result (read_stmt all_refs all_counted all_branches room tokens.now) }
+    ensures { Answers stmt_of result (read_stmt all_refs all_counted all_branches all_loops room tokens.now) }
 {
     if starts_with(tokens, Symbol::Word(Word::If)) {
         return if_statement(alloc, room, tokens);
+    }
+    if starts_with(tokens, Symbol::Word(Word::While)) {
+        return while_statement(alloc, room, tokens);
     }
     simple(alloc, room, tokens)
 }
@@ -207,6 +232,28 @@ fn after_if(alloc: Global, room: u8, tokens: &[Token]) -> Result<(BranchesPart, 
         },
         rest,
     ))
+}
+
+/// `"while" "(" expr ")" block`
+#[cycle(stmt)]
+fn while_statement(alloc: Global, room: u8, tokens: &[Token]) -> Result<(Stmt, &[Token]), Halt>
+    ensures { Answers stmt_of result (read_while all_loops room tokens.now) }
+{
+    let (_, rest) = fixed(Symbol::Word(Word::While), tokens)?;
+    let (turns, rest) = after_while(alloc, room, rest)?;
+    Ok((repeated(turns, span_between(tokens, rest)), rest))
+}
+
+/// `"(" expr ")" block`
+#[cycle(stmt)]
+fn after_while(alloc: Global, room: u8, tokens: &[Token]) -> Result<(LoopPart, &[Token]), Halt>
+    ensures { Answers loop_of result (all_loops room tokens.now) }
+{
+    let (_, rest) = fixed(Symbol::Sign(Sign::OpenParen), tokens)?;
+    let (condition, rest) = expression(alloc, room, rest)?;
+    let (condition, rest) = before(condition, Symbol::Sign(Sign::CloseParen), rest)?;
+    let (condition, body, rest) = with(condition, block(alloc, room, rest))?;
+    Ok((LoopPart { condition, body }, rest))
 }
 
 /// `["else" (block | if)]`

@@ -5,7 +5,7 @@ use Rattle.ob_base.specs.declared.fault.Span.{Span}
 use Rattle.ob_lexer.specs.declared.token.Sign.TheVariants as sign'
 use Rattle.ob_tree.specs.Exprs.{Expr, number_expr, text_expr, bool_expr, name_expr, this_expr, unary_expr, binary_expr, call_expr, new_expr, Call, call_with, Exprs, no_exprs, and_expr}
 use Rattle.ob_tree.specs.Operators.{left_span, right_span, operand_span}
-use Rattle.ob_tree.specs.Stmts.{Local, int_local, bool_local, text_local, named_local, GivenExpr, Stmt, declare_stmt, assign_stmt, stage_stmt, change_stmt, call_stmt, test_stmt, if_stmt, return_stmt, revert_stmt, disown_stmt, assert_stmt, Block, block_with, Else, no_else, else_with, Stmts, no_stmts, and_stmt}
+use Rattle.ob_tree.specs.Stmts.{Local, int_local, bool_local, text_local, named_local, GivenExpr, Stmt, declare_stmt, assign_stmt, stage_stmt, change_stmt, call_stmt, test_stmt, if_stmt, while_stmt, return_stmt, revert_stmt, disown_stmt, assert_stmt, Block, block_with, Else, no_else, else_with, Stmts, no_stmts, and_stmt}
 use Rattle.ob_parser_spec.specs.Rows.{maybe}
 use Rattle.ob_parser_spec.specs.ExprRows.{placed, spelled, call, arguments, more_arguments, expr}
 use Rattle.ob_parser_spec.specs.StmtRows.{local, given, all_given, call_or_new, stmt, stmts, block, alternative, chained}
@@ -100,6 +100,9 @@ mutual
       (both_say_texts (types_in_expr condition) (types_in_block then)
       (first_says (expr_says condition)) (then_says (then_says (first_says (block_says then)))))
       (then_says (then_says (then_says (else_says otherwise)))))))
+  stmt_says (while_stmt condition body span) =
+      spanning_says (then_says (then_says (both_say_texts (types_in_expr condition) (types_in_block body)
+      (first_says (expr_says condition)) (then_says (then_says (block_says body))))))
   stmt_says (return_stmt value span) = spanning_says (then_says (first_says (maybe_says value)))
   stmt_says (revert_stmt text span) = spanning_says (then_says (first_says (maybe_says text)))
   stmt_says (disown_stmt part span) = holds tt

@@ -2,7 +2,7 @@
 use Rattle.std.proofs.Common.{List, [], ◌∷◌, Option, Some, None}
 use Rattle.ob_base.specs.declared.fault.Span.{Span}
 use Rattle.ob_tree.specs.Exprs.{Expr, call_expr, new_expr}
-use Rattle.ob_tree.specs.Stmts.{GivenExpr, Stmt, declare_stmt, assign_stmt, stage_stmt, change_stmt, call_stmt, test_stmt, if_stmt, return_stmt, revert_stmt, disown_stmt, assert_stmt, Block, block_with, Else, no_else, else_with, Stmts, no_stmts, and_stmt}
+use Rattle.ob_tree.specs.Stmts.{GivenExpr, Stmt, declare_stmt, assign_stmt, stage_stmt, change_stmt, call_stmt, test_stmt, if_stmt, while_stmt, return_stmt, revert_stmt, disown_stmt, assert_stmt, Block, block_with, Else, no_else, else_with, Stmts, no_stmts, and_stmt}
 use Rattle.ob_lexer.specs.declared.token.Sign.TheVariants as sign'
 use Rattle.ob_parser_spec.specs.Rows.{Row, ◌⨟◌, sign, each, maybe}
 use Rattle.ob_parser_spec.specs.ExprRows.{expr}
@@ -51,6 +51,9 @@ mutual
       spanning_says (then_says (then_says (so_says (λ known. (known.0, known.1.0, known.1.1)) (both_say
       (first_says (expr_says condition))
       (then_says (then_says (both_say (first_says (block_says then)) (then_says (else_says otherwise)))))))))
+  stmt_says (while_stmt condition body span) =
+      spanning_says (then_says (then_says (both_say (first_says (expr_says condition))
+      (then_says (then_says (block_says body))))))
   stmt_says (return_stmt value span) = spanning_says (then_says (first_says (maybe_says value)))
   stmt_says (revert_stmt text span) = spanning_says (then_says (first_says (maybe_says text)))
   stmt_says (disown_stmt part span) = holds tt

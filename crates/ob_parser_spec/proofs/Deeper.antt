@@ -16,8 +16,8 @@ use Rattle.ob_parser_spec.specs.Operators.{operator_if, signs_of_level}
 use Rattle.ob_parser_spec.specs.ExprReaders.{unary_if, unary_signs, negated, read_row_6, read_row_5, read_row_4, read_row_3, read_row_2, read_row_1}
 use Rattle.ob_parser_spec.specs.Primaries.{expr_first, uncounted, grouped, read_group, arguments_of, read_arguments, read_applied, new_of, read_new, read_method, this_of, read_this, method_of, applied, read_tail, name_with_tail, read_name, read_primary}
 use Rattle.ob_parser_spec.specs.Expressions.{read_unary}
-use Rattle.ob_parser_spec.specs.StmtReaders.{read_word, read_sign, read_question, stmt_first, block_of, read_block, if_of, chained_of, else_of, read_alternative, branches_of, Branches, read_branches, read_stmts, read_after_if}
-use Rattle.ob_parser_spec.specs.AllReaders.{all_refs, all_unary, all_counted, all_exprs, all_branches, all_stmts}
+use Rattle.ob_parser_spec.specs.StmtReaders.{read_word, read_sign, read_question, stmt_first, block_of, read_block, if_of, chained_of, else_of, read_alternative, branches_of, Branches, read_branches, Loop, while_of, loop_of, read_loop, read_stmts, read_after_if, read_after_while}
+use Rattle.ob_parser_spec.specs.AllReaders.{all_refs, all_unary, all_counted, all_exprs, all_branches, all_loops, all_stmts}
 use Rattle.ob_parser_spec.proofs.Same.{Same, itself, as_same, then_same, both_same, either_same, maybe_same, spanned_same, opened_same, counted_same, many_from_same, many_same, parted_same}
 
 -- ---- types
@@ -130,47 +130,67 @@ one_unary (suc d) room less =
     (λ some. refs_same d (suc d) (room - 1) (omega (arith, some, less)) (omega (arith, less)))
     (λ r few. unary_same d (suc d) r (omega (arith, few, less)) (omega (arith, few, less)))
 
--- ---- what stands after `if`
+-- ---- what stands after `if` and after `while`
 
-pub stmts_same : (refs : ℕ → Reader Ref) (exprs : ℕ → Reader Counted) (p q : ℕ → Reader Branches) (room : ℕ) → Same (p room) (q room) →
-    Same (read_stmts refs exprs p room) (read_stmts refs exprs q room)
-stmts_same refs exprs p q room same =
-    let ifs = as_same if_of (spanned_same (both_same (itself (read_word word'.If)) same)) in
-    as_same stmts (many_same stmt_first (either_same (number (a_word word'.If) ∷ []) ifs (λ ts. refl)))
+-- in this room these answer alike
+abbrev SameAfter : ℕ → (p q : ℕ → Reader Branches) → (m n : ℕ → Reader Loop) → Type 0
+SameAfter room p q m n = Same (p room) (q room) × Same (m room) (n room)
+
+pub stmts_same : (refs : ℕ → Reader Ref) (exprs : ℕ → Reader Counted) (p q : ℕ → Reader Branches) (m n : ℕ → Reader Loop) (room : ℕ) → SameAfter room p q m n →
+    Same (read_stmts refs exprs p m room) (read_stmts refs exprs q n room)
+stmts_same refs exprs p q m n room same =
+    let ifs = as_same if_of (spanned_same (both_same (itself (read_word word'.If)) same.0)) in
+    let whiles = as_same while_of (spanned_same (both_same (itself (read_word word'.While)) same.1)) in
+    as_same stmts (many_same stmt_first (either_same (number (a_word word'.If) ∷ []) ifs (either_same (number (a_word word'.While) ∷ []) whiles (λ ts. refl))))
+
+module _ (body other : ℕ → Reader Stmts) (room : ℕ) (bodies : 1 ≤ room → Same (body (room - 1)) (other (room - 1))) where
+  block_same : Same (read_block body room) (read_block other room)
+  block_same = as_same block_of (both_same (opened_same (span_if (a_sign sign'.OpenBrace)) 1 room body other bodies) (λ ts. refl))
+
+  pub loop_with_same : (expr : Reader Expr) → Same (read_loop expr body room) (read_loop expr other room)
+  loop_with_same expr =
+      as_same loop_of (both_same (itself (read_sign sign'.OpenParen)) (both_same (itself expr) (both_same (itself (read_sign sign'.CloseParen)) block_same)))
 
 module _ (expr : Reader Expr) (body other : ℕ → Reader Stmts) (p q : ℕ → Reader Branches) (room : ℕ) (bodies : 1 ≤ room → Same (body (room - 1)) (other (room - 1)))
     (same : 1 ≤ room → Same (p (room - 1)) (q (room - 1))) where
-  block_same : Same (read_block body room) (read_block other room)
-  block_same = as_same block_of (both_same (opened_same (span_if (a_sign sign'.OpenBrace)) 1 room body other bodies) (λ ts. refl))
+  blocks : Same (read_block body room) (read_block other room)
+  blocks = block_same body other room bodies
 
   alternative_same : Same (read_alternative body p room) (read_alternative other q room)
   alternative_same =
       let chained = as_same chained_of (spanned_same (opened_same (span_if (a_word word'.If)) 1 room p q same)) in
       as_same else_of (maybe_same (number (a_word word'.Else) ∷ [])
-      (as_same second (both_same (itself (read_word word'.Else)) (either_same (on sign'.OpenBrace) block_same chained))))
+      (as_same second (both_same (itself (read_word word'.Else)) (either_same (on sign'.OpenBrace) blocks chained))))
 
   pub branches_with_same : Same (read_branches expr body p room) (read_branches expr other q room)
   branches_with_same =
       as_same branches_of (both_same (itself (read_sign sign'.OpenParen)) (both_same (itself (read_question expr))
-      (both_same (itself (read_sign sign'.CloseParen)) (both_same block_same alternative_same))))
+      (both_same (itself (read_sign sign'.CloseParen)) (both_same blocks alternative_same))))
 
 module _ (refs : ℕ → Reader Ref) (exprs : ℕ → Reader Counted) where
-  abbrev after : ℕ → ℕ → Reader Branches
-  after = read_after_if refs exprs
+  abbrev SameDeep : ℕ → ℕ → ℕ → Type 0
+  SameDeep room d e = SameAfter room (read_after_if refs exprs d) (read_after_if refs exprs e) (read_after_while refs exprs d) (read_after_while refs exprs e)
 
-  within_same : (p q : ℕ → Reader Branches) (room : ℕ) → (1 ≤ room → Same (p (room - 1)) (q (room - 1))) →
-      Same (read_branches (read_as uncounted (exprs room)) (read_stmts refs exprs p) p room) (read_branches (read_as uncounted (exprs room)) (read_stmts refs exprs q) q room)
-  within_same p q room same =
-      branches_with_same (read_as uncounted (exprs room)) (read_stmts refs exprs p) (read_stmts refs exprs q) p q room (λ some. stmts_same refs exprs p q (room - 1) (same some)) same
+  -- statements with at most so many blocks inside one another
+  abbrev within : ℕ → ℕ → Reader Stmts
+  within depth = read_stmts refs exprs (read_after_if refs exprs depth) (read_after_while refs exprs depth)
 
-  pub branches_same : (d e room : ℕ) → room < d → room < e → Same (read_after_if refs exprs d room) (read_after_if refs exprs e room)
-  branches_same zero e room less below = absurd (omega (arith, less))
-  branches_same (suc d) zero room less below = absurd (omega (arith, below))
-  branches_same (suc d) (suc e) room less below = within_same (after d) (after e) room (λ some. branches_same d e (room - 1) (omega (arith, some, less)) (omega (arith, some, below)))
+  within_same : (d e room : ℕ) → (1 ≤ room → SameDeep (room - 1) d e) → SameDeep room (suc d) (suc e)
+  within_same d e room same =
+      let value = read_as uncounted (exprs room) in
+      let bodies : 1 ≤ room → Same (within d (room - 1)) (within e (room - 1)) =
+      λ some. stmts_same refs exprs (read_after_if refs exprs d) (read_after_if refs exprs e) (read_after_while refs exprs d) (read_after_while refs exprs e) (room - 1) (same some) in (
+        branches_with_same value (within d) (within e) (read_after_if refs exprs d) (read_after_if refs exprs e) room bodies (λ some. (same some).0),
+        loop_with_same (within d) (within e) room bodies value,
+      )
 
-  one_after : (d room : ℕ) → room < d → Same (after d room) (read_branches (read_as uncounted (exprs room)) (read_stmts refs exprs (after d)) (after d) room)
-  one_after zero room less = absurd (omega (arith, less))
-  one_after (suc d) room less = within_same (after d) (after (suc d)) room (λ some. branches_same d (suc d) (room - 1) (omega (arith, some, less)) (omega (arith, less)))
+  pub after_same : (d e room : ℕ) → room < d → room < e → SameDeep room d e
+  after_same zero e room less below = absurd (omega (arith, less))
+  after_same (suc d) zero room less below = absurd (omega (arith, below))
+  after_same (suc d) (suc e) room less below = within_same d e room (λ some. after_same d e (room - 1) (omega (arith, some, less)) (omega (arith, some, below)))
+
+  one_after : (d room : ℕ) → room < d → SameDeep room d (suc d)
+  one_after d room less = after_same d (suc d) room less (omega (arith, less))
 
 -- ---- the deepest ones
 
@@ -184,5 +204,9 @@ unfolding all_refs all_unary
 unary_step room less ts = one_unary 256 room less ts
 
 pub branches_step : (room : ℕ) → room < 256 → (ts : List Token) → all_branches room ts ≡ read_branches (all_exprs room) all_stmts all_branches room ts
-unfolding all_branches
-branches_step room less ts = one_after all_refs all_counted 256 room less ts
+unfolding all_branches all_loops
+branches_step room less ts = (one_after all_refs all_counted 256 room less).0 ts
+
+pub loops_step : (room : ℕ) → room < 256 → (ts : List Token) → all_loops room ts ≡ read_loop (all_exprs room) all_stmts room ts
+unfolding all_branches all_loops
+loops_step room less ts = (one_after all_refs all_counted 256 room less).1 ts

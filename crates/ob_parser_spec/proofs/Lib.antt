@@ -39,6 +39,7 @@ mod NamedStmts
 mod SimpleLaws
 mod QuestionLaws
 mod IfLaws
+mod WhileLaws
 pub mod BlockLaws
 pub mod ProgramLaws
 pub mod Outcomes

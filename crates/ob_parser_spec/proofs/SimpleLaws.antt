@@ -3,7 +3,7 @@ use Rattle.std.proofs.Common.{ℕ, ◌≡◌, false, List, [], Some, None, inl, 
 use Rattle.ob_base.specs.declared.fault.Span.{Span}
 use Rattle.ob_tree.specs.Names.{Ref}
 use Rattle.ob_tree.specs.Exprs.{Expr, call_expr, new_expr, call_with}
-use Rattle.ob_tree.specs.Stmts.{Local, int_local, bool_local, text_local, named_local, Stmt, declare_stmt, assign_stmt, stage_stmt, change_stmt, call_stmt, test_stmt, if_stmt, return_stmt, revert_stmt, disown_stmt, assert_stmt}
+use Rattle.ob_tree.specs.Stmts.{Local, int_local, bool_local, text_local, named_local, Stmt, declare_stmt, assign_stmt, stage_stmt, change_stmt, call_stmt, test_stmt, if_stmt, while_stmt, return_stmt, revert_stmt, disown_stmt, assert_stmt}
 use Rattle.ob_tree.specs.declared.name.Subject.TheVariants as subject'
 use Rattle.ob_parser_spec.specs.Rows.{Row, Loaded, never}
 use Rattle.ob_parser_spec.specs.ExprRows.{expr}
@@ -27,10 +27,11 @@ use Rattle.ob_parser_spec.proofs.GivenLaws.{changes, change_laws}
 use Rattle.ob_parser_spec.proofs.CallLaws.{call_on, name_called, this_called, new_called, name_called_to, applied_from, method_from, this_called_to, this_from, new_called_to, calls, calls_to, calls_from, call_this_laws, call_new_laws}
 use Rattle.ob_parser_spec.proofs.NamedStmts.{named_locals, begins_with_name, seconds, named_stmt_laws}
 
--- a statement other than an `if`
+-- a statement other than an `if` and a `while`
 abbrev pub simple : Stmt → Row
 simple (test_stmt of state then otherwise span) = never
 simple (if_stmt condition then otherwise span) = never
+simple (while_stmt condition body span) = never
 simple s = stmt s
 
 -- ---- what each row says

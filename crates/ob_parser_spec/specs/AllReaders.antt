@@ -10,7 +10,7 @@ use Rattle.ob_parser_spec.specs.Chains.{Counted}
 use Rattle.ob_parser_spec.specs.ExprReaders.{read_row_1}
 use Rattle.ob_parser_spec.specs.Primaries.{uncounted}
 use Rattle.ob_parser_spec.specs.Expressions.{read_unary}
-use Rattle.ob_parser_spec.specs.StmtReaders.{Branches, read_stmts, read_after_if, read_block}
+use Rattle.ob_parser_spec.specs.StmtReaders.{Branches, Loop, read_stmts, read_after_if, read_after_while, read_block}
 use Rattle.ob_parser_spec.specs.ContractReaders.{read_program}
 
 -- types of references
@@ -27,12 +27,15 @@ all_counted room = read_row_1 all_unary room
 abbrev pub all_exprs : ℕ → Reader Expr
 all_exprs room = read_as uncounted (all_counted room)
 
--- what stands after `if`, statements and blocks
+-- what stands after `if` and after `while`, statements and blocks
 unfoldable pub all_branches : ℕ → Reader Branches
 all_branches room = read_after_if all_refs all_counted 256 room
 
+unfoldable pub all_loops : ℕ → Reader Loop
+all_loops room = read_after_while all_refs all_counted 256 room
+
 abbrev pub all_stmts : ℕ → Reader Stmts
-all_stmts room = read_stmts all_refs all_counted all_branches room
+all_stmts room = read_stmts all_refs all_counted all_branches all_loops room
 
 abbrev pub all_blocks : ℕ → Reader Block
 all_blocks room = read_block all_stmts room

@@ -10,7 +10,7 @@ use Rattle.ob_lexer.specs.declared.token.Sign.{Sign}
 use Rattle.ob_lexer.specs.declared.token.Sign.TheVariants as sign'
 use Rattle.ob_tree.specs.Names.{Ref}
 use Rattle.ob_tree.specs.Exprs.{Expr, call_expr, call_with, Exprs}
-use Rattle.ob_tree.specs.Stmts.{Local, int_local, bool_local, text_local, named_local, GivenExpr, Stmt, declare_stmt, assign_stmt, stage_stmt, change_stmt, call_stmt, test_stmt, if_stmt, return_stmt, revert_stmt, disown_stmt, assert_stmt, Block, block_with, Else, no_else, else_with, Stmts, no_stmts, and_stmt, stmts}
+use Rattle.ob_tree.specs.Stmts.{Local, int_local, bool_local, text_local, named_local, GivenExpr, Stmt, declare_stmt, assign_stmt, stage_stmt, change_stmt, call_stmt, test_stmt, if_stmt, while_stmt, return_stmt, revert_stmt, disown_stmt, assert_stmt, Block, block_with, Else, no_else, else_with, Stmts, no_stmts, and_stmt, stmts}
 use Rattle.ob_tree.specs.declared.name.NamePart.{NamePart}
 use Rattle.ob_tree.specs.declared.name.PermNode.{PermNode}
 use Rattle.ob_tree.specs.declared.name.Subject.{Subject}
@@ -243,6 +243,24 @@ read_branches expr body after room =
     read_as branches_of (read_both (read_sign sign'.OpenParen) (read_both (read_question expr) (read_both (read_sign sign'.CloseParen)
     (read_both (read_block body room) (read_alternative body after room)))))
 
+-- what stands after `while`: the condition and the block
+abbrev pub Loop : Type 0
+Loop = Expr × Block
+
+-- a `while`, after its first word, with the place of the whole
+abbrev pub while_of : (Span × Loop) × Span → Stmt
+while_of parts = while_stmt parts.0.1.0 parts.0.1.1 parts.1
+
+abbrev pub read_while : (ℕ → Reader Loop) → ℕ → Reader Stmt
+read_while after room = read_as while_of (read_spanned (read_both (read_word word'.While) (after room)))
+
+-- what is made of the parts of: "(" expr ")" block
+abbrev pub loop_of : Span × (Expr × (Span × Block)) → Loop
+loop_of parts = (parts.1.0, parts.1.1.1)
+
+abbrev pub read_loop : Reader Expr → (ℕ → Reader Stmts) → ℕ → Reader Loop
+read_loop expr body room = read_as loop_of (read_both (read_sign sign'.OpenParen) (read_both expr (read_both (read_sign sign'.CloseParen) (read_block body room))))
+
 -- what a statement without blocks begins with
 abbrev pub simple_first : List ℕ
 simple_first =
@@ -251,17 +269,28 @@ simple_first =
 
 -- what a statement begins with
 abbrev pub stmt_first : List ℕ
-stmt_first = number (a_word word'.If) ∷ simple_first
+stmt_first = number (a_word word'.If) ∷ number (a_word word'.While) ∷ simple_first
 
 -- a statement
-abbrev pub read_stmt : (ℕ → Reader Ref) → (ℕ → Reader Counted) → (ℕ → Reader Branches) → ℕ → Reader Stmt
-read_stmt refs exprs after room = read_either (number (a_word word'.If) ∷ []) (read_if after room) (read_simple refs exprs room)
+abbrev pub read_stmt : (ℕ → Reader Ref) → (ℕ → Reader Counted) → (ℕ → Reader Branches) → (ℕ → Reader Loop) → ℕ → Reader Stmt
+read_stmt refs exprs after_if after_while room =
+    read_either (number (a_word word'.If) ∷ []) (read_if after_if room)
+    (read_either (number (a_word word'.While) ∷ []) (read_while after_while room) (read_simple refs exprs room))
 
 -- {stmt}
-abbrev pub read_stmts : (ℕ → Reader Ref) → (ℕ → Reader Counted) → (ℕ → Reader Branches) → ℕ → Reader Stmts
-read_stmts refs exprs after room = read_as stmts (read_many stmt_first (read_stmt refs exprs after room))
+abbrev pub read_stmts : (ℕ → Reader Ref) → (ℕ → Reader Counted) → (ℕ → Reader Branches) → (ℕ → Reader Loop) → ℕ → Reader Stmts
+read_stmts refs exprs after_if after_while room = read_as stmts (read_many stmt_first (read_stmt refs exprs after_if after_while room))
 
--- what stands after `if`, with at most so many blocks inside one another
-abbrev pub read_after_if : (ℕ → Reader Ref) → (ℕ → Reader Counted) → ℕ → ℕ → Reader Branches
-read_after_if refs exprs zero room = λ ts. stop ts
-read_after_if refs exprs (suc depth) room = read_branches (read_as uncounted (exprs room)) (read_stmts refs exprs (read_after_if refs exprs depth)) (read_after_if refs exprs depth) room
+abbrev mutual
+  -- what stands after `if`, with at most so many blocks inside one another
+  pub read_after_if : (ℕ → Reader Ref) → (ℕ → Reader Counted) → ℕ → ℕ → Reader Branches
+  read_after_if refs exprs zero room = λ ts. stop ts
+  read_after_if refs exprs (suc depth) room =
+      read_branches (read_as uncounted (exprs room)) (read_stmts refs exprs (read_after_if refs exprs depth) (read_after_while refs exprs depth))
+      (read_after_if refs exprs depth) room
+
+  -- what stands after `while`
+  pub read_after_while : (ℕ → Reader Ref) → (ℕ → Reader Counted) → ℕ → ℕ → Reader Loop
+  read_after_while refs exprs zero room = λ ts. stop ts
+  read_after_while refs exprs (suc depth) room =
+      read_loop (read_as uncounted (exprs room)) (read_stmts refs exprs (read_after_if refs exprs depth) (read_after_while refs exprs depth)) room

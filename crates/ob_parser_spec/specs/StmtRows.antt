@@ -5,7 +5,7 @@ use Rattle.ob_lexer.specs.declared.token.TokenKind.TheVariants as kind
 use Rattle.ob_lexer.specs.declared.token.Word.TheVariants as word'
 use Rattle.ob_lexer.specs.declared.token.Sign.TheVariants as sign'
 use Rattle.ob_tree.specs.Exprs.{Expr, call_expr, new_expr}
-use Rattle.ob_tree.specs.Stmts.{Local, int_local, bool_local, text_local, named_local, GivenExpr, Stmt, declare_stmt, assign_stmt, stage_stmt, change_stmt, call_stmt, test_stmt, if_stmt, return_stmt, revert_stmt, disown_stmt, assert_stmt, Block, block_with, Else, no_else, else_with, Stmts, no_stmts, and_stmt}
+use Rattle.ob_tree.specs.Stmts.{Local, int_local, bool_local, text_local, named_local, GivenExpr, Stmt, declare_stmt, assign_stmt, stage_stmt, change_stmt, call_stmt, test_stmt, if_stmt, while_stmt, return_stmt, revert_stmt, disown_stmt, assert_stmt, Block, block_with, Else, no_else, else_with, Stmts, no_stmts, and_stmt}
 use Rattle.ob_parser_spec.specs.Rows.{Row, never, nothing, either, provided, ◌⨟◌, token_at, word, sign, name, opening, raised, maybe, parted, spanning}
 use Rattle.ob_parser_spec.specs.NameRows.{subject, perm, named}
 use Rattle.ob_parser_spec.specs.ExprRows.{spelled, expr}
@@ -61,6 +61,8 @@ abbrev mutual
   stmt (test_stmt of state then otherwise span) = spanning span (word word'.If ⨟ sign sign'.OpenParen ⨟ subject of ⨟ word word'.In ⨟ name state ⨟ sign sign'.CloseParen ⨟ block then ⨟ alternative otherwise)
   -- "if" "(" expr ")" block ["else" (block | if)]
   stmt (if_stmt condition then otherwise span) = spanning span (word word'.If ⨟ sign sign'.OpenParen ⨟ expr condition ⨟ sign sign'.CloseParen ⨟ block then ⨟ alternative otherwise)
+  -- "while" "(" expr ")" block
+  stmt (while_stmt condition body span) = spanning span (word word'.While ⨟ sign sign'.OpenParen ⨟ expr condition ⨟ sign sign'.CloseParen ⨟ block body)
   -- "return" [expr] ";"
   stmt (return_stmt value span) = spanning span (word word'.Return ⨟ maybe expr value ⨟ sign sign'.Semicolon)
   -- "revert" [expr] ";"

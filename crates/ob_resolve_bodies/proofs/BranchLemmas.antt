@@ -4,7 +4,7 @@ use Rattle.ob_base.specs.declared.fault.Span.{Span}
 use Rattle.ob_base.specs.declared.id.StateId.{StateId}
 use Rattle.ob_base.specs.declared.cause.Memory.{Memory}
 use Rattle.ob_table.specs.Expressions.{Expression}
-use Rattle.ob_table.specs.Statements.{Block, Otherwise, resolved_test, resolved_if}
+use Rattle.ob_table.specs.Statements.{Block, Otherwise, resolved_test, resolved_if, resolved_while}
 use Rattle.ob_table.specs.ExpressionsView.{expression_of}
 use Rattle.ob_table.specs.StatementsView.{statement_of, resolved_block_of, otherwise_of}
 use Rattle.ob_table.specs.declared.expr.ResolvedExpr.{ResolvedExpr}
@@ -23,6 +23,16 @@ after_branches A C D (Ok x) (Err e) branch other P made p q f = absurd made
 after_branches A C D (Ok x) (Ok t) (Err e) other P made p q f = absurd made
 after_branches A C D (Ok x) (Ok t) (Ok b) (Err e) P made p q f = absurd made
 after_branches A C D (Ok x) (Ok t) (Ok b) (Ok o) P made p q f = f p q
+
+-- after a `while` is what is after its block
+pub after_loop : {X T B : Type 0} {E : Type 0} (A D : Type 0) (r : Result X E) (first : Result T E)
+    (body : Result B E) (P : X → T → B → Type 0)
+    → IfOk r (λ x. IsOkAnd first (λ t. IsOkAnd body (λ b. P x t b)))
+    → OnOk body A → (A → D) → OnOk r D
+after_loop A D (Err e) first body P made p f = tt
+after_loop A D (Ok x) (Err e) body P made p f = absurd made
+after_loop A D (Ok x) (Ok t) (Err e) P made p f = absurd made
+after_loop A D (Ok x) (Ok t) (Ok b) P made p f = f p
 
 pub test_made : (r : Result ResolvedStmt Memory) (tested : Result (SeenAt × StateId) Memory)
     (branch : Result ResolvedBlock Memory) (other : Result (Option ResolvedBlock) Memory) (seen : SeenAt)
@@ -53,3 +63,14 @@ if_made (Ok x) (Err e) branch other asked block otherwise s u span made p b h o 
 if_made (Ok x) (Ok t) (Err e) other asked block otherwise s u span made p b h o = absurd made
 if_made (Ok x) (Ok t) (Ok y) (Err e) asked block otherwise s u span made p b h o = absurd made
 if_made (Ok x) (Ok t) (Ok y) (Ok z) asked block otherwise s u span made p b h o = cc
+
+pub while_made : (r : Result ResolvedStmt Memory) (condition : Result ResolvedExpr Memory)
+    (body : Result ResolvedBlock Memory) (asked : Expression) (block : Block) (span : Span)
+    → IfOk r (λ x. IsOkAnd condition (λ e. IsOkAnd body (λ b.
+    statement_of x ≡ resolved_while (expression_of e) (resolved_block_of b) span)))
+    → IfOk condition (λ e. expression_of e ≡ asked) → IfOk body (λ b. resolved_block_of b ≡ block)
+    → IfOk r (λ x. statement_of x ≡ resolved_while asked block span)
+while_made (Err e) condition body asked block span made p b = tt
+while_made (Ok x) (Err e) body asked block span made p b = absurd made
+while_made (Ok x) (Ok t) (Err e) asked block span made p b = absurd made
+while_made (Ok x) (Ok t) (Ok y) asked block span made p b = cc

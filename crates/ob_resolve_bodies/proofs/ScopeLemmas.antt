@@ -2,7 +2,7 @@
 use Rattle.std.proofs.Common.{◌≡◌, ℕ, List, [], ◌++◌, take, length, refl, ap, sym, ◌∙◌, ◌+◌, append_assoc, add_assoc, add-zero}
 use Rattle.std.proofs.lemmas.List.{append-nil}
 use Rattle.std.proofs.Math.Seq.{take-append_seam}
-use Rattle.ob_tree.specs.Stmts.{Stmt, declare_stmt, assign_stmt, stage_stmt, change_stmt, call_stmt, test_stmt, if_stmt, return_stmt, revert_stmt, disown_stmt, assert_stmt, Stmts, no_stmts, and_stmt}
+use Rattle.ob_tree.specs.Stmts.{Stmt, declare_stmt, assign_stmt, stage_stmt, change_stmt, call_stmt, test_stmt, if_stmt, while_stmt, return_stmt, revert_stmt, disown_stmt, assert_stmt, Stmts, no_stmts, and_stmt}
 use Rattle.ob_tree.specs.StmtsView.{stmt_views}
 use Rattle.ob_tree.specs.MembersView.{views}
 use Rattle.ob_table.specs.StatementsView.{statement_views, resolved_views}
@@ -34,6 +34,7 @@ stmt_extends a s (change_stmt state given span) = same_variables s
 stmt_extends a s (call_stmt value span) = same_variables s
 stmt_extends a s (test_stmt subject state branch otherwise span) = same_variables s
 stmt_extends a s (if_stmt condition branch otherwise span) = same_variables s
+stmt_extends a s (while_stmt condition body span) = same_variables s
 stmt_extends a s (return_stmt value span) = same_variables s
 stmt_extends a s (revert_stmt text span) = same_variables s
 stmt_extends a s (disown_stmt name span) = same_variables s
@@ -53,6 +54,7 @@ stmt_counts a s (change_stmt state given span) = refl
 stmt_counts a s (call_stmt value span) = refl
 stmt_counts a s (test_stmt subject state branch otherwise span) = refl
 stmt_counts a s (if_stmt condition branch otherwise span) = refl
+stmt_counts a s (while_stmt condition body span) = refl
 stmt_counts a s (return_stmt value span) = refl
 stmt_counts a s (revert_stmt text span) = refl
 stmt_counts a s (disown_stmt name span) = refl

@@ -3,7 +3,7 @@ ghost use Rattle.std.specs.Prelude.{◌≡◌, ◌+◌, map, option_map, IfOk, I
 ghost use Rattle.ob_tree.specs.ExprsView.{expr_of};
 ghost use Rattle.ob_tree.specs.Stmts.{declare_stmt, assign_stmt, stage_stmt, change_stmt, call_stmt, return_stmt, revert_stmt, disown_stmt, assert_stmt};
 ghost use Rattle.ob_tree.specs.StmtsView.{local_of, given_of, stmt_of, stmts_of, block_of, else_of};
-ghost use Rattle.ob_table.specs.Statements.{resolved_test, resolved_if};
+ghost use Rattle.ob_table.specs.Statements.{resolved_test, resolved_if, resolved_while};
 ghost use Rattle.ob_table.specs.ExpressionsView.{expression_of};
 ghost use Rattle.ob_table.specs.StatementsView.{given_field_of, statement_of, statements_of, resolved_block_of};
 ghost use Rattle.ob_table.specs.StatementsView.{otherwise_of};
@@ -320,6 +320,26 @@ fn if_with(
     }
 }
 
+// A `while` with these parts, if each of them could be made.
+#[tactic(auto, using(ob_table::specs::StatementsView::statement_views))]
+fn while_with(
+    condition: Result<ResolvedExpr, Memory>,
+    body: Result<ResolvedBlock, Memory>,
+    span: Span,
+) -> Result<ResolvedStmt, Memory>
+    ensures { IfOk result (λ x. IsOkAnd condition (λ e. IsOkAnd body (λ b.
+        statement_of x ≡ resolved_while (expression_of e) (resolved_block_of b) span))) }
+{
+    match (condition, body) {
+        (Ok(condition), Ok(body)) => Ok(ResolvedStmt::While {
+            condition,
+            body,
+            span,
+        }),
+        _ => Err(Memory),
+    }
+}
+
 /// A statement.
 #[cycle(resolve_stmt)]
 #[tactic(auto, using(crate::proofs::ScopeLemmas::statement))]
@@ -375,6 +395,15 @@ fn resolve_stmt(
             let then = resolve_block(then, around, scope, alloc);
             let otherwise = resolve_else(otherwise, around, scope, alloc);
             if_with(condition, then, otherwise, *span)
+        }
+        Stmt::While {
+            condition,
+            body,
+            span,
+        } => {
+            let condition = resolve_expr(condition, around, scope, alloc);
+            let body = resolve_block(body, around, scope, alloc);
+            while_with(condition, body, *span)
         }
         Stmt::Return { value, span } => resolve_return(value, *span, around, scope, alloc),
         Stmt::Revert { text, span } => resolve_revert(text, *span, around, scope, alloc),

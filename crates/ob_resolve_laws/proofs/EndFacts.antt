@@ -1,7 +1,7 @@
 -- What ends a block ends it with numbers too.
 use Rattle.std.proofs.Common.{◌≡◌, Bool, refl, ap, ◌∙◌}
 use Rattle.std.specs.Prelude.{◌&&◌, ◌||◌}
-use Rattle.ob_tree.specs.Stmts.{Stmt, declare_stmt, assign_stmt, stage_stmt, change_stmt, call_stmt, test_stmt, if_stmt, return_stmt, revert_stmt, disown_stmt, assert_stmt, Block, block_with, Else, no_else, else_with, Stmts, no_stmts, and_stmt}
+use Rattle.ob_tree.specs.Stmts.{Stmt, declare_stmt, assign_stmt, stage_stmt, change_stmt, call_stmt, test_stmt, if_stmt, while_stmt, return_stmt, revert_stmt, disown_stmt, assert_stmt, Block, block_with, Else, no_else, else_with, Stmts, no_stmts, and_stmt}
 use Rattle.ob_resolve_spec.specs.Scopes.{AroundBody, Scope, locals_in_block, past, after_stmt}
 use Rattle.ob_resolve_spec.specs.Reached.{ends, block_ends, else_ends, one_ends}
 use Rattle.ob_resolve_spec.specs.Bodies.{resolved_stmt, block_resolved, else_resolved, resolved_stmts}
@@ -21,6 +21,7 @@ mutual
       both_same (block_ends_same a s branch) (else_ends_same a (past s (locals_in_block branch)) otherwise)
   ends_same a s (if_stmt condition branch otherwise span) =
       both_same (block_ends_same a s branch) (else_ends_same a (past s (locals_in_block branch)) otherwise)
+  ends_same a s (while_stmt condition body span) = refl
   ends_same a s (declare_stmt of name value span) = refl
   ends_same a s (assign_stmt name value span) = refl
   ends_same a s (stage_stmt state field value span) = refl

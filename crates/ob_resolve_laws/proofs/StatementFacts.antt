@@ -6,7 +6,7 @@ use Rattle.std.specs.Option.{option_map_or}
 use Rattle.ob_base.specs.declared.fault.Span.{Span}
 use Rattle.ob_tree.specs.Names.{Named}
 use Rattle.ob_tree.specs.Exprs.{Expr}
-use Rattle.ob_tree.specs.Stmts.{Local, int_local, bool_local, text_local, named_local, GivenExpr, Stmt, declare_stmt, assign_stmt, stage_stmt, change_stmt, call_stmt, test_stmt, if_stmt, return_stmt, revert_stmt, disown_stmt, assert_stmt, Block, block_with, Else, no_else, else_with, Stmts, no_stmts, and_stmt}
+use Rattle.ob_tree.specs.Stmts.{Local, int_local, bool_local, text_local, named_local, GivenExpr, Stmt, declare_stmt, assign_stmt, stage_stmt, change_stmt, call_stmt, test_stmt, if_stmt, while_stmt, return_stmt, revert_stmt, disown_stmt, assert_stmt, Block, block_with, Else, no_else, else_with, Stmts, no_stmts, and_stmt}
 use Rattle.ob_tree.specs.Members.{Contract}
 use Rattle.ob_tree.specs.declared.name.NamePart.{NamePart}
 use Rattle.ob_tree.specs.declared.name.PermNode.{PermNode}
@@ -428,6 +428,12 @@ mutual
         block_fact h q s branch shape.1 g (each_right Clean V B vb),
         else_fact h q (past s (locals_in_block branch)) otherwise shape.2
             (good_past (program h) h.params s (locals_in_block branch) g) (each_right Clean (V ++ B) E c),
+      )
+  stmt_fact h q s row (while_stmt condition body span) shape g r c =
+      let V = value_sites h.around s a_bool condition in
+      let B = block_sites h.around s body in (
+        value_fact h s a_bool condition tt shape.0 g (each_left Clean V B c),
+        block_fact h q s body shape.1 g (each_right Clean V B c),
       )
   stmt_fact h q s row (return_stmt value span) shape g r c =
       subst (λ k. IsReturned (frame h) (by_number s.variables) k (option_map (resolved_expr h.around s) value))

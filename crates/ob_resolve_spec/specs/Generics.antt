@@ -4,7 +4,7 @@ use Rattle.std.specs.Prelude.{◌≡◌, List, [], ◌∷◌, ◌++◌, flat_map
 use Rattle.std.specs.Option.{option_map_or}
 use Rattle.ob_tree.specs.Names.{Named, bare_name, name_with, Ref, ref_with, TypeExpr, int_type, bool_type, text_type, ref_type}
 use Rattle.ob_tree.specs.Exprs.{Expr, number_expr, text_expr, bool_expr, name_expr, this_expr, unary_expr, binary_expr, call_expr, new_expr, Call, call_with, Exprs, no_exprs, and_expr}
-use Rattle.ob_tree.specs.Stmts.{Local, int_local, bool_local, text_local, named_local, Stmt, declare_stmt, assign_stmt, stage_stmt, change_stmt, call_stmt, test_stmt, if_stmt, return_stmt, revert_stmt, disown_stmt, assert_stmt, Block, block_with, Else, no_else, else_with, Stmts, no_stmts, and_stmt}
+use Rattle.ob_tree.specs.Stmts.{Local, int_local, bool_local, text_local, named_local, Stmt, declare_stmt, assign_stmt, stage_stmt, change_stmt, call_stmt, test_stmt, if_stmt, while_stmt, return_stmt, revert_stmt, disown_stmt, assert_stmt, Block, block_with, Else, no_else, else_with, Stmts, no_stmts, and_stmt}
 use Rattle.ob_tree.specs.Members.{Member, state_member, field_member, constructor_member, transaction_member, Contract}
 use Rattle.ob_resolve_spec.specs.Declarations.{Program}
 
@@ -65,6 +65,7 @@ abbrev mutual
       arguments_in_block branch ++ arguments_in_else otherwise
   arguments_in_stmt (if_stmt condition branch otherwise span) =
       arguments_in_expr condition ++ arguments_in_block branch ++ arguments_in_else otherwise
+  arguments_in_stmt (while_stmt condition body span) = arguments_in_expr condition ++ arguments_in_block body
   arguments_in_stmt (return_stmt value span) = option_map_or arguments_in_expr value []
   arguments_in_stmt (revert_stmt text span) = option_map_or arguments_in_expr text []
   arguments_in_stmt (disown_stmt name span) = []

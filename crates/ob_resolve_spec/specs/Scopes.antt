@@ -6,7 +6,7 @@ use Rattle.ob_base.specs.declared.operator.Operator.{Operator}
 use Rattle.ob_base.specs.declared.operator.Operator.TheVariants.{Add, Sub, Mul, Div, Rem, Not}
 use Rattle.ob_tree.specs.Names.{Named}
 use Rattle.ob_tree.specs.Exprs.{Expr, number_expr, text_expr, bool_expr, name_expr, this_expr, unary_expr, binary_expr, call_expr, new_expr, call_with}
-use Rattle.ob_tree.specs.Stmts.{Stmt, declare_stmt, assign_stmt, stage_stmt, change_stmt, call_stmt, test_stmt, if_stmt, return_stmt, revert_stmt, disown_stmt, assert_stmt, Block, block_with, Else, no_else, else_with, Stmts, no_stmts, and_stmt}
+use Rattle.ob_tree.specs.Stmts.{Stmt, declare_stmt, assign_stmt, stage_stmt, change_stmt, call_stmt, test_stmt, if_stmt, while_stmt, return_stmt, revert_stmt, disown_stmt, assert_stmt, Block, block_with, Else, no_else, else_with, Stmts, no_stmts, and_stmt}
 use Rattle.ob_tree.specs.Members.{Contract, Formal}
 use Rattle.ob_tree.specs.declared.name.Subject.{Subject}
 use Rattle.ob_tree.specs.declared.name.Subject.TheVariants.{This, Name as NameSubject}
@@ -74,6 +74,7 @@ abbrev mutual
   locals_in (call_stmt value span) = 0
   locals_in (test_stmt subject state branch otherwise span) = locals_in_block branch + locals_in_else otherwise
   locals_in (if_stmt condition branch otherwise span) = locals_in_block branch + locals_in_else otherwise
+  locals_in (while_stmt condition body span) = locals_in_block body
   locals_in (return_stmt value span) = 0
   locals_in (revert_stmt text span) = 0
   locals_in (disown_stmt name span) = 0

@@ -6,7 +6,7 @@ use Rattle.ob_base.specs.Names.{is_name, is_text}
 use Rattle.ob_base.specs.Numbers.{is_int}
 use Rattle.ob_tree.specs.Members.{Listed, Member, state_member, field_member, constructor_member, transaction_member, Contract}
 use Rattle.ob_tree.specs.Exprs.{Expr, number_expr, text_expr, bool_expr, name_expr, this_expr, unary_expr, binary_expr, call_expr, new_expr, Call, call_with, Exprs, no_exprs, and_expr}
-use Rattle.ob_tree.specs.Stmts.{GivenExpr, Stmt, declare_stmt, assign_stmt, stage_stmt, change_stmt, call_stmt, test_stmt, if_stmt, return_stmt, revert_stmt, disown_stmt, assert_stmt, Block, block_with, Else, no_else, else_with, Stmts, no_stmts, and_stmt}
+use Rattle.ob_tree.specs.Stmts.{GivenExpr, Stmt, declare_stmt, assign_stmt, stage_stmt, change_stmt, call_stmt, test_stmt, if_stmt, while_stmt, return_stmt, revert_stmt, disown_stmt, assert_stmt, Block, block_with, Else, no_else, else_with, Stmts, no_stmts, and_stmt}
 use Rattle.ob_tree.specs.declared.name.NamePart.{NamePart}
 use Rattle.ob_resolve_spec.specs.Declarations.{Program}
 use Rattle.ob_resolve_spec.specs.Operators.{has_one_operand}
@@ -57,6 +57,7 @@ abbrev mutual
   HasStmtShape (test_stmt subject state branch otherwise span) = HasBlockShape branch × HasElseShape otherwise
   HasStmtShape (if_stmt condition branch otherwise span) =
       HasExprShape condition × HasBlockShape branch × HasElseShape otherwise
+  HasStmtShape (while_stmt condition body span) = HasExprShape condition × HasBlockShape body
   HasStmtShape (return_stmt value span) = HasShapeIf value
   HasStmtShape (revert_stmt text span) = HasShapeIf text
   HasStmtShape (disown_stmt name span) = ⊤

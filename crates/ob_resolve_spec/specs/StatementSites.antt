@@ -3,7 +3,7 @@ use Rattle.std.specs.Prelude.{Bool, false, ◌||◌, List, [], ◌∷◌, ◌++�
 use Rattle.std.specs.Option.{option_map_or}
 use Rattle.ob_base.specs.declared.fault.Span.{Span}
 use Rattle.ob_tree.specs.Exprs.{Expr}
-use Rattle.ob_tree.specs.Stmts.{GivenExpr, Stmt, declare_stmt, assign_stmt, stage_stmt, change_stmt, call_stmt, test_stmt, if_stmt, return_stmt, revert_stmt, disown_stmt, assert_stmt, Block, block_with, Else, no_else, else_with, Stmts, no_stmts, and_stmt}
+use Rattle.ob_tree.specs.Stmts.{GivenExpr, Stmt, declare_stmt, assign_stmt, stage_stmt, change_stmt, call_stmt, test_stmt, if_stmt, while_stmt, return_stmt, revert_stmt, disown_stmt, assert_stmt, Block, block_with, Else, no_else, else_with, Stmts, no_stmts, and_stmt}
 use Rattle.ob_tree.specs.Members.{Contract}
 use Rattle.ob_tree.specs.declared.name.NamePart.{NamePart}
 use Rattle.ob_tree.specs.declared.name.Subject.{Subject}
@@ -30,6 +30,7 @@ span_of_stmt (change_stmt state given span) = span
 span_of_stmt (call_stmt value span) = span
 span_of_stmt (test_stmt subject state branch otherwise span) = span
 span_of_stmt (if_stmt condition branch otherwise span) = span
+span_of_stmt (while_stmt condition body span) = span
 span_of_stmt (return_stmt value span) = span
 span_of_stmt (revert_stmt text span) = span
 span_of_stmt (disown_stmt name span) = span
@@ -98,6 +99,7 @@ abbrev mutual
   stmt_sites a s row (if_stmt condition branch otherwise span) =
       value_sites a s a_bool condition ++ block_sites a s branch
       ++ else_sites a (past s (locals_in_block branch)) otherwise
+  stmt_sites a s row (while_stmt condition body span) = value_sites a s a_bool condition ++ block_sites a s body
   stmt_sites a s row (return_stmt value span) = returned_sites a s value span
   stmt_sites a s row (revert_stmt text span) = option_map_or (value_sites a s a_text) text []
   stmt_sites a s row (disown_stmt name span) = reference_sites a s name name.span

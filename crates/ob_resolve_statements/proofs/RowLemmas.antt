@@ -6,7 +6,7 @@ use Rattle.std.specs.Cmp.Lexicographic.{same_text}
 use Rattle.ob_base.specs.declared.fault.ProgramFault.{ProgramFault}
 use Rattle.ob_tree.specs.Exprs.{Expr}
 use Rattle.ob_tree.specs.ExprsView.{expr_of}
-use Rattle.ob_tree.specs.Stmts.{GivenExpr, Stmt, declare_stmt, assign_stmt, stage_stmt, change_stmt, call_stmt, test_stmt, if_stmt, return_stmt, revert_stmt, disown_stmt, assert_stmt, Stmts, no_stmts, and_stmt}
+use Rattle.ob_tree.specs.Stmts.{GivenExpr, Stmt, declare_stmt, assign_stmt, stage_stmt, change_stmt, call_stmt, test_stmt, if_stmt, while_stmt, return_stmt, revert_stmt, disown_stmt, assert_stmt, Stmts, no_stmts, and_stmt}
 use Rattle.ob_tree.specs.StmtsView.{given_of}
 use Rattle.ob_tree.specs.declared.name.NamePart.{NamePart}
 use Rattle.ob_tree.specs.declared.stmt.GivenNode.{GivenNode}
@@ -137,6 +137,7 @@ stmt_same a s xs ys l (assign_stmt name value span) e = refl
 stmt_same a s xs ys l (call_stmt value span) e = refl
 stmt_same a s xs ys l (test_stmt subject state branch otherwise span) e = refl
 stmt_same a s xs ys l (if_stmt condition branch otherwise span) e = refl
+stmt_same a s xs ys l (while_stmt condition body span) e = refl
 stmt_same a s xs ys l (return_stmt value span) e = refl
 stmt_same a s xs ys l (revert_stmt text span) e = refl
 stmt_same a s xs ys l (disown_stmt name span) e = refl
@@ -150,6 +151,7 @@ after_same xs ys (assign_stmt name value span) e = λ name. refl
 after_same xs ys (call_stmt value span) e = λ name. refl
 after_same xs ys (test_stmt subject state branch otherwise span) e = λ name. refl
 after_same xs ys (if_stmt condition branch otherwise span) e = λ name. refl
+after_same xs ys (while_stmt condition body span) e = λ name. refl
 after_same xs ys (return_stmt value span) e = λ name. refl
 after_same xs ys (revert_stmt text span) e = λ name. refl
 after_same xs ys (disown_stmt name span) e = λ name. refl
@@ -179,6 +181,7 @@ same_after row (assign_stmt name value span) = λ name. refl
 same_after row (call_stmt value span) = λ name. refl
 same_after row (test_stmt subject state branch otherwise span) = λ name. refl
 same_after row (if_stmt condition branch otherwise span) = λ name. refl
+same_after row (while_stmt condition body span) = λ name. refl
 same_after row (return_stmt value span) = λ name. refl
 same_after row (revert_stmt text span) = λ name. refl
 same_after row (disown_stmt name span) = λ name. refl

@@ -214,6 +214,7 @@ pub fn span_of_stmt(statement: &Stmt) -> Span
         Stmt::Call { span, .. } => *span,
         Stmt::Test { span, .. } => *span,
         Stmt::If { span, .. } => *span,
+        Stmt::While { span, .. } => *span,
         Stmt::Return { span, .. } => *span,
         Stmt::Revert { span, .. } => *span,
         Stmt::Disown { span, .. } => *span,

@@ -85,6 +85,16 @@ fn goes_on(walked: Result<(), Memory>) -> Result<bool, Memory>
     }
 }
 
+// A `while`, which doesn't end even where its block does, exactly if the block could be walked over.
+fn past_loop(block: Result<bool, Memory>) -> Result<bool, Memory>
+    ensures { MatchResult result (λ ends. IsOkAnd block (λ _. ends ≡ false)) (λ _. is_ok block ≡ false) }
+{
+    match block {
+        Ok(_) => Ok(false),
+        Err(error) => Err(error),
+    }
+}
+
 fn either(a: bool, b: bool) -> bool
     ensures { result ≡ a || b }
 {
@@ -158,6 +168,15 @@ fn walk_stmt(
             let then = walk_block(then, around, alloc, scope, least);
             let otherwise = walk_else(otherwise, around, alloc, scope, least);
             both_end(then, otherwise)
+        }
+        Stmt::While {
+            condition,
+            body,
+            ..
+        } => {
+            walk_value(InferredKind::Bool, condition, around, scope, least);
+            let body = walk_block(body, around, alloc, scope, least);
+            past_loop(body)
         }
         Stmt::Return { value, span } => {
             walk_return(value, *span, around, scope, least);

@@ -97,7 +97,7 @@ pub told_blank : (program : StoreProgram) (area : ℕ) (v : DiskView) (s : Store
     → IsStoreOf program area [] s
 told_blank program area v s blank told = subst (λ (bytes : List ℕ). IsStoreOf program area bytes s) (same_bytes told.0 [] (sym told.1 ∙ blank)) told.2
 
-no_rise : Rose 0 0 → ⊥
+pub no_rise : Rose 0 0 → ⊥
 no_rise rose = omega (arith, rose)
 
 -- no cause but want of memory is left

@@ -16,7 +16,7 @@ use Rattle.ob_silica.specs.Terms.{SilicaBody}
 use Rattle.ob_table.specs.Tables.{ClassTable}
 use Rattle.ob_words.specs.Asked.{Command, check, serve, serve_stored, audit, trial, Asked}
 use Rattle.ob_run.specs.Attaching.{UsesDisk, store_of, store_asked}
-use Rattle.ob_run.specs.Faults.{EndsAtFault}
+use Rattle.ob_run.specs.Faults.{EndsAtFault, NamesFault}
 use Rattle.ob_run.specs.Auditing.{AuditsStore}
 use Rattle.ob_run.specs.FileAsks.{AsksOnce, AsksAtMostOnce, AsksFor}
 use Rattle.ob_run.specs.Commands.{file_of, text_in}
@@ -282,6 +282,30 @@ has_reason words old new e h = record {
   faulty = λ smooth. refused words old new smooth e h;
 }
 
+-- a status that names a fault has it for its cause
+module _ (asked : Asked) (text : List ℕ) (old new : OutsideView) where
+  write_named : Treats asked text (devices old) (devices new) WriteFault → Rose old.output.faults new.output.faults
+  write_named (inl h) = h.output.cause
+  write_named (inr (inl h)) = h.line.cause
+  write_named (inr (inr (inl h))) = h.numbers.cause
+  write_named (inr (inr (inr h))) = h.ends.cause
+
+  disk_named : Treats asked text (devices old) (devices new) DiskFault → Rose old.disk.faults new.disk.faults
+  disk_named (inl h) = h.1
+  disk_named (inr h) = h.ends.cause
+
+names_fault : (words : Option Asked) (old new : OutsideView) (e : Exit) → MeetsStatus words old new e → NamesFault e old new
+names_fault words old new Done h = tt
+names_fault words old new Refused h = tt
+names_fault words old new Usage h = tt
+names_fault words old new ReadFault h = h.treats.ends.cause
+names_fault words old new WriteFault h = write_named h.asked h.text old new h.treats
+names_fault words old new DiskFault h = disk_named h.asked h.text old new h.treats
+names_fault words old new StoreRefused h = tt
+names_fault words old new FileFault h = h.cause
+names_fault words old new Memory h = tt
+names_fault words old new Long h = tt
+
 -- what is said of the words, the files, the streams and the disk is what a run promises
 pub is_run : (words : Option Asked) (old new : OutsideView) (e : Exit) → MeetsStatus words old new e → AsksFor words old.files.asks new.files.asks → UsesDisk (store_asked words) old.disk new.disk
     → EndsAtFault old new e → IsRun words old new e
@@ -293,4 +317,5 @@ is_run words old new e status asks disk faults = record {
   disk = disk;
   kept = keeps_unless_served words old new e status disk;
   faults = faults;
+  named = names_fault words old new e status;
 }

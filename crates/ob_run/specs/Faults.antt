@@ -1,5 +1,6 @@
--- How faults are counted: a run ends at its first.
-use Rattle.std.specs.Prelude.{ℕ, ◌≡◌, ◌≢◌, ◌+◌, ◌≤◌}
+-- How faults are counted: a run ends at its first, which its status names.
+use Rattle.std.specs.Prelude.{ℕ, ⊤, ◌≡◌, ◌≢◌, ◌+◌, ◌≤◌}
+use Rattle.ob_io.specs.Causes.{Rose}
 use Rattle.ob_run.specs.Outside.{OutsideView}
 use Rattle.ob_run.specs.declared.exit.Exit.{Exit}
 use Rattle.ob_run.specs.declared.exit.Exit.TheVariants.{ReadFault, WriteFault, DiskFault, FileFault}
@@ -25,6 +26,22 @@ pub record EndsAtFault (before after : OutsideView) (exit : Exit) : Type 0 where
   -- all together rise by one at most, and each is as it was where the status names no fault of a call
   pub once : faults_of after ≤ faults_of before + 1
   pub calm : exit ≢ ReadFault → exit ≢ WriteFault → exit ≢ DiskFault → exit ≢ FileFault → IsCalm before after
+
+-- a status that names a fault comes only where the count of that fault rose
+abbrev pub NamesFault : Exit → OutsideView → OutsideView → Type 0
+NamesFault ReadFault before after = Rose before.input.faults after.input.faults
+NamesFault WriteFault before after = Rose before.output.faults after.output.faults
+NamesFault DiskFault before after = Rose before.disk.faults after.disk.faults
+NamesFault FileFault before after = Rose before.files.faults after.files.faults
+NamesFault exit before after = ⊤
+
+-- the status names no fault of a call
+abbrev pub NamesNone : Exit → Type 0
+NamesNone ReadFault = ⊥
+NamesNone WriteFault = ⊥
+NamesNone DiskFault = ⊥
+NamesNone FileFault = ⊥
+NamesNone exit = ⊤
 
 -- One count: it doesn't fall, rises by one at most, and is as it was where no call failed. For private clauses.
 pub record CountsFault (failed : Type 0) (before after : ℕ) : Type 0 where

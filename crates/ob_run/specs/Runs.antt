@@ -4,7 +4,7 @@ use Rattle.ob_words.specs.Asked.{Asked}
 use Rattle.ob_run.specs.Answering.{AnswersWhatItTook}
 use Rattle.ob_run.specs.Attaching.{UsesDisk, KeepsUnlessAsked, store_asked}
 use Rattle.ob_run.specs.FileAsks.{AsksFor}
-use Rattle.ob_run.specs.Faults.{EndsAtFault}
+use Rattle.ob_run.specs.Faults.{EndsAtFault, NamesFault}
 use Rattle.ob_run.specs.Outside.{OutsideView}
 use Rattle.ob_run.specs.Reasons.{HasReason}
 use Rattle.ob_run.specs.Statuses.{MeetsStatus}
@@ -27,3 +27,5 @@ pub record IsRun (words : Option Asked) (before after : OutsideView) (exit : Exi
   pub kept : KeepsUnlessAsked words before.disk after.disk
   -- the run ends at the first fault
   pub faults : EndsAtFault before after exit
+  -- and a status that names a fault comes only where its count rose
+  pub named : NamesFault exit before after

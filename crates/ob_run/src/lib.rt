@@ -23,4 +23,4 @@ pub use fault::fault_line;
 pub use outside::Outside;
 pub use refusal::{StoreRefusal, store_line};
 pub use serving::AREA;
-pub use top::run;
+pub use top::{run, sure_runs_name_no_fault};

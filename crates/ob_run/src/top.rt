@@ -1,16 +1,24 @@
 //! The top call.
-ghost use Rattle.std.specs.Prelude.{◌≡◌, ◌≤◌, Some, map, option_map, string_bytes, IfOk, IsErrOf};
+ghost use Rattle.std.specs.Prelude.{◌≡◌, ◌≤◌, Option, Some, map, option_map, string_bytes, IfOk, IsErrOf};
 ghost use Rattle.ob_io.specs.Causes.{Rose};
+ghost use Rattle.ob_disk.specs.Sure.{sure_disk_view};
 ghost use Rattle.ob_io.specs.Files.{NotesAsk};
-ghost use Rattle.ob_words.specs.Asked.{asked_of};
+ghost use Rattle.ob_io.specs.Sure.{sure_files_view, sure_source_view, sure_sink_view};
+ghost use Rattle.ob_words.specs.Asked.{Asked as AskedWords, asked_of};
 ghost use Rattle.ob_words.specs.AskedView.{asked_view, command_view};
 ghost use Rattle.ob_run.specs.Attaching.{UsesDisk, store_of, store_asked};
 ghost use Rattle.ob_run.specs.Commands.{file_of};
 ghost use Rattle.ob_run.specs.Corollary.{ServesObservable};
-ghost use Rattle.ob_run.specs.Faults.{CountsFault, EndsAtFault};
+ghost use Rattle.ob_run.specs.Faults.{CountsFault, EndsAtFault, NamesNone};
 ghost use Rattle.ob_run.specs.FileAsks.{AsksFor, program_ask};
 ghost use Rattle.ob_run.specs.Outside.{told, devices};
 ghost use Rattle.ob_run.specs.Runs.{IsRun};
+ghost use Rattle.ob_run.specs.declared.exit.Exit.{Exit};
+ghost use Rattle.ob_run.specs.declared.outside.Outside.{Outside};
+ghost use Rattle.ob_disk.specs.declared.sure.SureDisk.{SureDisk};
+ghost use Rattle.ob_io.specs.declared.sure.SureFiles.{SureFiles};
+ghost use Rattle.ob_io.specs.declared.sure.SureSink.{SureSink};
+ghost use Rattle.ob_io.specs.declared.sure.SureSource.{SureSource};
 ghost use Rattle.ob_run.specs.Statuses.{Treats, MeetsStatus};
 ghost use Rattle.ob_run.specs.TextRead.{IsReadOf};
 
@@ -155,3 +163,12 @@ pub fn run<F: Files, S: Source, K: Sink, D: Disk>(
 {
     run_words(alloc, words, outside, examined)
 }
+
+/// Over files, a source, a sink and a disk that never fail, a run names no fault of a call: it ends with none of `ReadFault`,
+/// `WriteFault`, `DiskFault` and `FileFault`.
+pub fn sure_runs_name_no_fault()
+    ensures { (words : Option AskedWords) (before after : Outside SureFiles SureSource SureSink SureDisk) (exit : Exit)
+        → IsRun words (told sure_files_view sure_source_view sure_sink_view sure_disk_view before)
+        (told sure_files_view sure_source_view sure_sink_view sure_disk_view after) exit
+        → NamesNone exit }
+{}

@@ -8,7 +8,6 @@ use Rattle.std.proofs.lemmas.List.Elements.{Contains-push, Contains-append_left}
 use Rattle.std.proofs.lemmas.Option.{slice_get-map}
 use Rattle.std.proofs.lemmas.Slice.Eq.{bytes_eq-Decides}
 use Rattle.ob_code.specs.declared.image.Image.{Image}
-use Rattle.ob_emit_laws.proofs.Ahead.{jumps_lead_ahead}
 use Rattle.ob_invocation_spec.specs.Requests as asked
 use Rattle.ob_invocation_spec.specs.Requests.{HasLabels}
 use Rattle.ob_lanes_laws.specs.Laws.{OfEach}
@@ -18,7 +17,6 @@ use Rattle.ob_lanes_laws.specs.Requests.{Answer}
 use Rattle.ob_lanes_laws.specs.Schedule.{Done, is_done}
 use Rattle.ob_lanes_laws.specs.Serial.{AreSerial, AreInOrder, AreEarlierDone}
 use Rattle.ob_lanes_laws.specs.Turns.{are_done_from}
-use Rattle.ob_machine_steps.specs.Measures.{LeadsAhead}
 use Rattle.ob_silica_steps.specs.Configurations.{SilicaProgram}
 use Rattle.ob_store_spec.specs.Stores.{StoreState}
 use Rattle.ob_store.specs.Stores.{program_of}
@@ -169,7 +167,7 @@ map_labels batch labels = λ n q is.
 pub keeps_orders : (program : SilicaProgram) (image : Image) (limits : Limits) → IsSoundFor program image → AreLimits limits → KeepsOrders (source_program program.table image) image limits
 keeps_orders program image limits sound are = λ area s line batch rests asks.
     batch_order (batch_on image limits area s batch) (record {
-      ahead = subst LeadsAhead (sym sound.emitted) (jumps_lead_ahead program.table program.bodies);
+      ahead = sound.sound.ahead;
       sound = sound.sound.alone;
       labels = map_labels batch (subst (λ r. IfOk r HasAllLabels) asks (asked_labels line));
       at_rest = rests_by_image program image sound s.content rests;

@@ -30,7 +30,7 @@ batch_rules program code limits area = request_rules (session_stores program are
 
 -- more turns than a batch of so many requests takes, each of which has so many units of fuel, in so many lanes
 abbrev pub enough_turns : Image → Limits → ℕ → ℕ
-enough_turns code limits requests = suc requests * most_until (suc (limits.fuel * longest code)) limits.lanes
+enough_turns code limits requests = suc requests * most_until (suc (suc (limits.fuel * longest code))) limits.lanes
 
 -- the schedule of a batch on a store, and whose turn is next, after so many turns
 abbrev pub batch_after : StoreProgram → Image → Limits → Option ℕ → StoreState → List Request → ℕ → Round StoreState Request Run (Answer (ℕ × ℕ))

@@ -71,8 +71,8 @@ all_items b = items_of_asked (by_machine b.code b.limits b.area) b.start (Ok (Ba
 abbrev pub turns_of : BatchOn → ℕ
 turns_of b = enough_turns b.code b.limits (length (asked_in b))
 
--- It can be answered: the code is sound, its jumps lead ahead, the names in the requests are labels, the store is at rest, there is a
--- lane, and a slice has a unit.
+-- It can be answered: the code is sound, its jumps lead ahead or to a `unit`, the names in the requests are labels, the store is at
+-- rest, there is a lane, and a slice has a unit.
 pub record CanBeAnswered (b : BatchOn) : Type 0 where
   pub ahead : LeadsAhead b.code
   pub sound : IsSoundImage b.code

@@ -1,13 +1,13 @@
 -- No part of a term is lost on the way to plain data.
 use Rattle.std.proofs.Common.{◌≡◌, List, [], ◌∷◌, map, ap, sym, ◌∙◌, refl, subst}
 use Rattle.ob_silica.specs.Terms.{and_term}
-use Rattle.ob_silica.specs.TermsView.{form_of, terms_of, silica_body_of, form_of-Unit, form_of-Const, form_of-Op, form_of-Copy, form_of-Move, form_of-New, form_of-Call, form_of-CallThis, form_of-Change, form_of-Test, form_of-If, form_of-Assert, form_of-Disown, form_of-Drop, form_of-Return, form_of-Revert, form_of-BadRow, term_of-fields}
+use Rattle.ob_silica.specs.TermsView.{form_of, terms_of, silica_body_of, form_of-Unit, form_of-Const, form_of-Op, form_of-Copy, form_of-Move, form_of-New, form_of-Call, form_of-CallThis, form_of-Change, form_of-Test, form_of-If, form_of-Loop, form_of-Assert, form_of-Disown, form_of-Drop, form_of-Return, form_of-Revert, form_of-BadRow, term_of-fields}
 use Rattle.ob_silica.specs.TermsBack.{form_back, terms_back, silica_body_back}
 use Rattle.ob_silica.specs.declared.body.TermBody.{TermBody}
 use Rattle.ob_silica.specs.declared.term.Term.{Term, roll-Term}
 use Rattle.ob_silica.specs.declared.term.Form as made
 use Rattle.ob_silica.specs.declared.term.Form.TheOpen as open'
-use Rattle.ob_silica.specs.declared.term.Form.TheVariants.{rolls-Unit, rolls-Const, rolls-Op, rolls-Copy, rolls-Move, rolls-New, rolls-Call, rolls-CallThis, rolls-Change, rolls-Test, rolls-If, rolls-Assert, rolls-Disown, rolls-Drop, rolls-Return, rolls-Revert, rolls-BadRow}
+use Rattle.ob_silica.specs.declared.term.Form.TheVariants.{rolls-Unit, rolls-Const, rolls-Op, rolls-Copy, rolls-Move, rolls-New, rolls-Call, rolls-CallThis, rolls-Change, rolls-Test, rolls-If, rolls-Loop, rolls-Assert, rolls-Disown, rolls-Drop, rolls-Return, rolls-Revert, rolls-BadRow}
 
 abbrev IsBack : made.Form → Type 0
 IsBack form = form_back (form_of form) ≡ form
@@ -44,6 +44,11 @@ step (open'.If a branch other join) f g terms =
     (ap form_back (form_of-If a (map g branch) (map g other) join)
     ∙ ap (λ ts. made.If a ts (terms_back (terms_of (map g other))) join) (all_back g terms branch)
     ∙ ap (λ ts. made.If a (map g branch) ts join) (all_back g terms other))
+step (open'.Loop first a body end) f g terms =
+    subst IsBack (sym (rolls-Loop (map g first) a (map g body) end))
+    (ap form_back (form_of-Loop (map g first) a (map g body) end)
+    ∙ ap (λ ts. made.Loop ts a (terms_back (terms_of (map g body))) end) (all_back g terms first)
+    ∙ ap (λ ts. made.Loop (map g first) a ts end) (all_back g terms body))
 step (open'.Assert place perm) f g terms = subst IsBack (sym (rolls-Assert place perm)) (ap form_back (form_of-Assert place perm))
 step (open'.Disown place) f g terms = subst IsBack (sym (rolls-Disown place)) (ap form_back (form_of-Disown place))
 step (open'.Drop slot) f g terms = subst IsBack (sym (rolls-Drop slot)) (ap form_back (form_of-Drop slot))

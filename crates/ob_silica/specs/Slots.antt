@@ -1,6 +1,6 @@
 -- The slots of a body (this project's own).
 use Rattle.std.specs.Prelude.{ℕ, ◌+◌, max, List, [], ◌∷◌, Option, Some, None}
-use Rattle.ob_silica.specs.Terms.{SilicaForm, unit_form, const_form, op_form, copy_form, move_form, new_form, call_form, call_this_form, change_form, test_form, if_form, assert_form, disown_form, drop_form, return_form, revert_form, bad_row_form, SilicaTerms, no_terms, and_term}
+use Rattle.ob_silica.specs.Terms.{SilicaForm, unit_form, const_form, op_form, copy_form, move_form, new_form, call_form, call_this_form, change_form, test_form, if_form, loop_form, assert_form, disown_form, drop_form, return_form, revert_form, bad_row_form, SilicaTerms, no_terms, and_term}
 use Rattle.ob_silica.specs.declared.place.Place.{Place}
 use Rattle.ob_silica.specs.declared.place.Place.TheVariants.{This, Slot, Field}
 use Rattle.ob_silica.specs.declared.place.Operand.{Operand}
@@ -53,6 +53,8 @@ abbrev mutual
       max (slots_of_operand place) (max (slots_of_terms branch) (slots_of_terms other))
   slots_of_form (if_form a branch other join) =
       max (slots_of_operand a) (max (slots_of_terms branch) (slots_of_terms other))
+  slots_of_form (loop_form first a body end) =
+      max (slots_of_terms first) (max (slots_of_operand a) (slots_of_terms body))
   slots_of_form (assert_form place perm) = slots_of_operand place
   slots_of_form (disown_form place) = slots_of_operand place
   slots_of_form (drop_form k) = k + 1

@@ -1,6 +1,6 @@
 -- The terms of Silica as plain data, with each part and place, in their order (Coblenz et al., TOPLAS 42(3), 2020,
 -- "Silica"; that they stand in lists and name places is this project's own).
-use Rattle.std.specs.Prelude.{ℕ, List, [], ◌∷◌, Option}
+use Rattle.std.specs.Prelude.{ℕ, List, [], ◌∷◌, Option, ⊤}
 use Rattle.ob_base.specs.declared.fault.Span.{Span}
 use Rattle.ob_base.specs.declared.id.ContractId.{ContractId}
 use Rattle.ob_base.specs.declared.id.StateId.{StateId}
@@ -29,6 +29,8 @@ mutual
     -- the place, the state, the two branches, the span where they join
     test_form : Operand → StateId → SilicaTerms → SilicaTerms → Span → SilicaForm
     if_form : Operand → SilicaTerms → SilicaTerms → Span → SilicaForm
+    -- the first part of a turn, the operand that is true where the body runs, the body, the span of the body's end
+    loop_form : SilicaTerms → Operand → SilicaTerms → Span → SilicaForm
     assert_form : Operand → Perm → SilicaForm
     disown_form : Operand → SilicaForm
     drop_form : ℕ → SilicaForm
@@ -54,6 +56,19 @@ then_terms (and_term form span rest) others = and_term form span (then_terms res
 -- one term
 abbrev pub one_term : SilicaForm → Span → SilicaTerms
 one_term form span = and_term form span no_terms
+
+abbrev mutual
+  -- a form is no Loop, and none is in its branches
+  pub HasNoLoopWithin : SilicaForm → Type 0
+  HasNoLoopWithin (test_form place state branch other join) = HasNoLoop branch × HasNoLoop other
+  HasNoLoopWithin (if_form a branch other join) = HasNoLoop branch × HasNoLoop other
+  HasNoLoopWithin (loop_form first a body end) = ⊥
+  HasNoLoopWithin form = ⊤
+
+  -- none of these terms is a Loop, and none is in their branches
+  pub HasNoLoop : SilicaTerms → Type 0
+  HasNoLoop no_terms = ⊤
+  HasNoLoop (and_term form span rest) = HasNoLoopWithin form × HasNoLoop rest
 
 -- the body of a transaction or a constructor as terms, with the number of its slots and the place of its closing brace
 pub record SilicaBody : Type 0 where

@@ -2,8 +2,8 @@
 use Rattle.std.specs.Prelude.{◌≡◌, List, [], ◌∷◌}
 use Rattle.std.specs.Coded.{Coded, coded_list, code_by}
 use Rattle.std.proofs.Common.{ap, ◌∙◌, refl}
-use Rattle.ob_silica.specs.Terms.{SilicaForm, unit_form, const_form, op_form, copy_form, move_form, new_form, call_form, call_this_form, change_form, test_form, if_form, assert_form, disown_form, drop_form, return_form, revert_form, bad_row_form, SilicaTerms, no_terms, and_term, SilicaBody}
-use Rattle.ob_silica.specs.TermsView.{form_of, terms_of, silica_body_of, form_of-Unit, form_of-Const, form_of-Op, form_of-Copy, form_of-Move, form_of-New, form_of-Call, form_of-CallThis, form_of-Change, form_of-Test, form_of-If, form_of-Assert, form_of-Disown, form_of-Drop, form_of-Return, form_of-Revert, form_of-BadRow, term_of-fields}
+use Rattle.ob_silica.specs.Terms.{SilicaForm, unit_form, const_form, op_form, copy_form, move_form, new_form, call_form, call_this_form, change_form, test_form, if_form, loop_form, assert_form, disown_form, drop_form, return_form, revert_form, bad_row_form, SilicaTerms, no_terms, and_term, SilicaBody}
+use Rattle.ob_silica.specs.TermsView.{form_of, terms_of, silica_body_of, form_of-Unit, form_of-Const, form_of-Op, form_of-Copy, form_of-Move, form_of-New, form_of-Call, form_of-CallThis, form_of-Change, form_of-Test, form_of-If, form_of-Loop, form_of-Assert, form_of-Disown, form_of-Drop, form_of-Return, form_of-Revert, form_of-BadRow, term_of-fields}
 use Rattle.ob_silica.specs.declared.body.TermBody.{TermBody}
 use Rattle.ob_silica.specs.declared.term.Term.{Term}
 use Rattle.ob_silica.specs.declared.term.Form as made
@@ -22,6 +22,7 @@ abbrev mutual
   form_back (change_form state given) = made.Change state given
   form_back (test_form place state branch other join) = made.Test place state (terms_back branch) (terms_back other) join
   form_back (if_form a branch other join) = made.If a (terms_back branch) (terms_back other) join
+  form_back (loop_form first a body end) = made.Loop (terms_back first) a (terms_back body) end
   form_back (assert_form place perm) = made.Assert place perm
   form_back (disown_form place) = made.Disown place
   form_back (drop_form slot) = made.Drop slot
@@ -58,6 +59,10 @@ mutual
       form_of-If a (terms_back branch) (terms_back other) join
       ∙ ap (λ ts. if_form a ts (terms_of (terms_back other)) join) (terms_of-back branch)
       ∙ ap (λ ts. if_form a branch ts join) (terms_of-back other)
+  form_of-back (loop_form first a body end) =
+      form_of-Loop (terms_back first) a (terms_back body) end
+      ∙ ap (λ ts. loop_form ts a (terms_of (terms_back body)) end) (terms_of-back first)
+      ∙ ap (λ ts. loop_form first a ts end) (terms_of-back body)
   form_of-back (assert_form place perm) = form_of-Assert place perm
   form_of-back (disown_form place) = form_of-Disown place
   form_of-back (drop_form slot) = form_of-Drop slot

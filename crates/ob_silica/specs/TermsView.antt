@@ -6,7 +6,7 @@ use Rattle.ob_base.specs.declared.id.ContractId.{ContractId}
 use Rattle.ob_base.specs.declared.id.StateId.{StateId}
 use Rattle.ob_base.specs.declared.id.TxId.{TxId}
 use Rattle.ob_base.specs.declared.permission.Perm.{Perm}
-use Rattle.ob_silica.specs.Terms.{SilicaForm, unit_form, const_form, op_form, copy_form, move_form, new_form, call_form, call_this_form, change_form, test_form, if_form, assert_form, disown_form, drop_form, return_form, revert_form, bad_row_form, SilicaTerms, silica_terms, SilicaBody}
+use Rattle.ob_silica.specs.Terms.{SilicaForm, unit_form, const_form, op_form, copy_form, move_form, new_form, call_form, call_this_form, change_form, test_form, if_form, loop_form, assert_form, disown_form, drop_form, return_form, revert_form, bad_row_form, SilicaTerms, silica_terms, SilicaBody}
 use Rattle.ob_silica.specs.declared.place.Place.{Place}
 use Rattle.ob_silica.specs.declared.place.Operand.{Operand}
 use Rattle.ob_silica.specs.declared.place.Given.{Given}
@@ -16,7 +16,7 @@ use Rattle.ob_silica.specs.declared.term.SilicaOperator.{SilicaOperator}
 use Rattle.ob_silica.specs.declared.term.Term.{Term, Term-F, fold-Term, fold_out-Term}
 use Rattle.ob_silica.specs.declared.term.Form as made
 use Rattle.ob_silica.specs.declared.term.Form.TheOpen as open'
-use Rattle.ob_silica.specs.declared.term.Form.TheVariants.{rolls-Unit, rolls-Const, rolls-Op, rolls-Copy, rolls-Move, rolls-New, rolls-Call, rolls-CallThis, rolls-Change, rolls-Test, rolls-If, rolls-Assert, rolls-Disown, rolls-Drop, rolls-Return, rolls-Revert, rolls-BadRow}
+use Rattle.ob_silica.specs.declared.term.Form.TheVariants.{rolls-Unit, rolls-Const, rolls-Op, rolls-Copy, rolls-Move, rolls-New, rolls-Call, rolls-CallThis, rolls-Change, rolls-Test, rolls-If, rolls-Loop, rolls-Assert, rolls-Disown, rolls-Drop, rolls-Return, rolls-Revert, rolls-BadRow}
 
 -- a form whose branches are plain data already
 abbrev pub form_step : made.Form-F SilicaForm (SilicaForm × Span) → SilicaForm
@@ -31,6 +31,7 @@ form_step (open'.CallThis slot tx args) = call_this_form slot tx args
 form_step (open'.Change state given) = change_form state given
 form_step (open'.Test place state branch other join) = test_form place state (silica_terms branch) (silica_terms other) join
 form_step (open'.If a branch other join) = if_form a (silica_terms branch) (silica_terms other) join
+form_step (open'.Loop first a body end) = loop_form (silica_terms first) a (silica_terms body) end
 form_step (open'.Assert place perm) = assert_form place perm
 form_step (open'.Disown place) = disown_form place
 form_step (open'.Drop slot) = drop_form slot
@@ -91,6 +92,9 @@ form_of-Test place state branch other join = ap form_of (sym (rolls-Test place s
 pub form_of-If : (a : Operand) (branch other : List Term) (join : Span) → form_of (made.If a branch other join) ≡ if_form a (terms_of branch) (terms_of other) join
 form_of-If a branch other join = ap form_of (sym (rolls-If a branch other join)) ∙ made.fold-roll-Form SilicaForm (SilicaForm × Span) form_step term_step (open'.If a branch other join)
 
+pub form_of-Loop : (first : List Term) (a : Operand) (body : List Term) (end : Span) → form_of (made.Loop first a body end) ≡ loop_form (terms_of first) a (terms_of body) end
+form_of-Loop first a body end = ap form_of (sym (rolls-Loop first a body end)) ∙ made.fold-roll-Form SilicaForm (SilicaForm × Span) form_step term_step (open'.Loop first a body end)
+
 pub form_of-Assert : (place : Operand) (perm : Perm) → form_of (made.Assert place perm) ≡ assert_form place perm
 form_of-Assert place perm = ap form_of (sym (rolls-Assert place perm)) ∙ made.fold-roll-Form SilicaForm (SilicaForm × Span) form_step term_step (open'.Assert place perm)
 
@@ -112,4 +116,4 @@ form_of-BadRow = ap form_of (sym rolls-BadRow) ∙ made.fold-roll-Form SilicaFor
 pub term_of-fields : (node : Term) → term_of node ≡ (form_of node.form, node.span)
 term_of-fields = fold_out-Term SilicaForm (SilicaForm × Span) form_step term_step
 
-pub ruleset term_views = (form_of-Unit, form_of-Const, form_of-Op, form_of-Copy, form_of-Move, form_of-New, form_of-Call, form_of-CallThis, form_of-Change, form_of-Test, form_of-If, form_of-Assert, form_of-Disown, form_of-Drop, form_of-Return, form_of-Revert, form_of-BadRow, term_of-fields)
+pub ruleset term_views = (form_of-Unit, form_of-Const, form_of-Op, form_of-Copy, form_of-Move, form_of-New, form_of-Call, form_of-CallThis, form_of-Change, form_of-Test, form_of-If, form_of-Loop, form_of-Assert, form_of-Disown, form_of-Drop, form_of-Return, form_of-Revert, form_of-BadRow, term_of-fields)

@@ -105,6 +105,15 @@ pub enum Form {
         /// The span where the branches join.
         join: Span,
     },
+    /// Runs its first part. Where the `bool` is then true its body is run, and the Loop once more; where it is false,
+    /// what follows.
+    Loop {
+        first: Items<Term>,
+        a: Operand,
+        body: Items<Term>,
+        /// The span of the body's end.
+        end: Span,
+    },
     /// Says what a place holds, and does nothing.
     Assert {
         place: Operand,
@@ -247,6 +256,23 @@ impl Duplicate for Form {
                     then,
                     otherwise,
                     join: *join,
+                })
+            }
+            Form::Loop {
+                first,
+                a,
+                body,
+                end,
+            } => {
+                let (first, body) = both(
+                    copy_terms(first.as_slice(), alloc),
+                    copy_terms(body.as_slice(), alloc),
+                )?;
+                Ok(Form::Loop {
+                    first,
+                    a: *a,
+                    body,
+                    end: *end,
                 })
             }
             Form::Assert { place, perm } => Ok(Form::Assert {

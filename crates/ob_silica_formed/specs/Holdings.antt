@@ -9,7 +9,7 @@ use Rattle.ob_table.specs.declared.contract.Param.{Param}
 use Rattle.ob_table.specs.declared.seen.Kind.{Kind}
 use Rattle.ob_table.specs.declared.seen.Kind.TheVariants.{Int, Bool as BoolKind, Text, Reference}
 use Rattle.ob_table_spec.specs.WellFormed.{StaticFrame, kind_of_resolved, is_reference}
-use Rattle.ob_silica.specs.Terms.{SilicaForm, const_form, op_form, copy_form, move_form, new_form, call_form, call_this_form, test_form, if_form, drop_form, return_form, revert_form, SilicaTerms, no_terms, and_term}
+use Rattle.ob_silica.specs.Terms.{SilicaForm, const_form, op_form, copy_form, move_form, new_form, call_form, call_this_form, test_form, if_form, loop_form, drop_form, return_form, revert_form, SilicaTerms, no_terms, and_term}
 use Rattle.ob_silica.specs.declared.place.Operand.{Operand}
 use Rattle.ob_silica.specs.declared.place.Place.{Place}
 use Rattle.ob_silica.specs.declared.place.Place.TheVariants.{This, Slot, Field}
@@ -107,7 +107,7 @@ written f form h = with_slot_if (slot_written form) (held (kind_written f h form
 -- Ends.
 
 abbrev mutual
-  -- whether nothing is reached after a form: a `Return`, a `Revert`, or two branches that end so
+  -- whether nothing is reached after a form: a `Return`, a `Revert`, or two branches that end so; a Loop may run no turn
   pub form_ends : SilicaForm → Bool
   form_ends (return_form place) = true
   form_ends (revert_form text) = true
@@ -152,6 +152,9 @@ abbrev mutual
       joined (terms_end branch) (terms_end other) (after_terms f branch h) (after_terms f other h)
   after_form f (if_form a branch other join) h =
       joined (terms_end branch) (terms_end other) (after_terms f branch h) (after_terms f other h)
+  -- a Loop is left at the end of its first part, from the head
+  after_form f (loop_form first a body end) h =
+      after_terms f first (joined false (terms_end body) h (after_terms f body (after_terms f first h)))
   after_form f form h = written f form h
 
   -- what slots hold after terms
@@ -159,11 +162,18 @@ abbrev mutual
   after_terms f no_terms h = h
   after_terms f (and_term form span rest) h = after_terms f rest (after_form f form h)
 
+-- What slots hold at the head of a Loop: what they hold before it and after one turn, where the body doesn't end. Further
+-- turns tell no more, since what a form copies is known to be of one kind.
+abbrev pub at_head : StaticFrame → SilicaTerms → SilicaTerms → Holdings → Holdings
+at_head f first body h = joined false (terms_end body) h (after_terms f body (after_terms f first h))
+
 abbrev mutual
   -- this is so of each form of the branches of a form, with what slots hold where it stands
   pub EachWithin : (StaticFrame → Holdings → SilicaForm → Type 0) → StaticFrame → Holdings → SilicaForm → Type 0
   EachWithin P f h (test_form place state branch other join) = Each P f h branch × Each P f h other
   EachWithin P f h (if_form a branch other join) = Each P f h branch × Each P f h other
+  EachWithin P f h (loop_form first a body end) =
+      Each P f (at_head f first body h) first × Each P f (after_terms f first (at_head f first body h)) body
   EachWithin P f h form = ⊤
 
   -- this is so of each form of terms, with what slots hold where it stands

@@ -11,7 +11,7 @@ use Rattle.ob_table.specs.declared.seen.Kind.{Kind}
 use Rattle.ob_table.specs.declared.seen.Kind.TheVariants.{Int, Bool as BoolKind, Text, Reference}
 use Rattle.ob_table_spec.specs.Conditions.{IsPermOn}
 use Rattle.ob_table_spec.specs.WellFormed.{StaticFrame, kind_of_resolved, kind_of_unary, is_reference, is_constructor, serves_as, RefersTo, constructor_at}
-use Rattle.ob_silica.specs.Terms.{SilicaForm, const_form, op_form, copy_form, move_form, new_form, call_form, call_this_form, change_form, test_form, if_form, assert_form, disown_form, return_form, revert_form, SilicaTerms, no_terms, and_term}
+use Rattle.ob_silica.specs.Terms.{SilicaForm, unit_form, const_form, op_form, copy_form, move_form, new_form, call_form, call_this_form, change_form, test_form, if_form, loop_form, assert_form, disown_form, return_form, revert_form, SilicaTerms, no_terms, and_term}
 use Rattle.ob_silica.specs.declared.place.Constant.{Constant}
 use Rattle.ob_silica.specs.declared.place.Constant.TheVariants as constant
 use Rattle.ob_silica.specs.declared.place.Given.{Given}
@@ -20,7 +20,7 @@ use Rattle.ob_silica.specs.declared.place.Place.{Place}
 use Rattle.ob_silica.specs.declared.place.Place.TheVariants.{This, Slot, Field}
 use Rattle.ob_silica.specs.declared.term.SilicaOperator.{SilicaOperator}
 use Rattle.ob_silica.specs.declared.term.SilicaOperator.TheVariants.{Unary, Binary}
-use Rattle.ob_silica_formed.specs.Holdings.{Holdings, kind_of_place, kind_of_operand, slot_set, slot_written, form_ends}
+use Rattle.ob_silica_formed.specs.Holdings.{Holdings, kind_of_place, kind_of_operand, slot_set, slot_written, form_ends, terms_end, after_form}
 
 -- Numbers.
 
@@ -56,6 +56,7 @@ NamesWhatIsThere f h (test_form place state branch other join) =
     IsPlace f place.place
     × IsSomeAnd (kind_of_operand f h place) (RefersTo f.table (λ c. state.0 < length c.states))
 NamesWhatIsThere f h (if_form a branch other join) = IsPlace f a.place
+NamesWhatIsThere f h (loop_form first a body end) = IsPlace f a.place
 NamesWhatIsThere f h (assert_form place perm) =
     IsPlace f place.place × IsSomeAnd (kind_of_operand f h place) (RefersTo f.table (λ c. IsPermOn c perm))
 NamesWhatIsThere f h (disown_form place) = IsPlace f place.place
@@ -139,6 +140,7 @@ HasKinds f h (call_this_form k tx args) =
 HasKinds f h (change_form state given) = AreServed f h given × AreGivenOnce given
 HasKinds f h (test_form place state branch other join) = IsReference f h place
 HasKinds f h (if_form a branch other join) = HasKind f h BoolKind a
+HasKinds f h (loop_form first a body end) = HasKind f (after_form f (loop_form first a body end) h) BoolKind a
 HasKinds f h (assert_form place perm) = IsReference f h place
 HasKinds f h (disown_form place) = IsReference f h place
 HasKinds f h (revert_form text) = HasKind f h Text text
@@ -185,6 +187,18 @@ abbrev pub ReturnsResult : StaticFrame → Holdings → SilicaForm → Type 0
 ReturnsResult f h (return_form place) = IsReturnedAs f h f.result place
 ReturnsResult f h form = ⊤
 
+-- Turns.
+
+-- terms begin by taking a unit
+abbrev pub BeginsWithUnit : SilicaTerms → Type 0
+BeginsWithUnit (and_term unit_form span rest) = ⊤
+BeginsWithUnit terms = ⊥
+
+-- each turn of a Loop takes a unit at first, and the end of the Loop's first part can be reached
+abbrev pub TakesTurns : StaticFrame → Holdings → SilicaForm → Type 0
+TakesTurns f h (loop_form first a body end) = BeginsWithUnit first × (terms_end first ≡ false)
+TakesTurns f h form = ⊤
+
 -- Ends.
 
 abbrev mutual
@@ -192,6 +206,7 @@ abbrev mutual
   pub NoneFollowsWithin : SilicaForm → Type 0
   NoneFollowsWithin (test_form place state branch other join) = NoneFollows branch × NoneFollows other
   NoneFollowsWithin (if_form a branch other join) = NoneFollows branch × NoneFollows other
+  NoneFollowsWithin (loop_form first a body end) = NoneFollows first × NoneFollows body
   NoneFollowsWithin form = ⊤
 
   -- none follows a `Return` or a `Revert`, and none a form whose two branches end so

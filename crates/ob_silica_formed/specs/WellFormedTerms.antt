@@ -7,7 +7,7 @@ use Rattle.ob_table_spec.specs.WellFormed.{StaticFrame, frame_of}
 use Rattle.ob_silica.specs.Terms.{SilicaBody}
 use Rattle.ob_silica.specs.Slots.{slots_of}
 use Rattle.ob_silica_formed.specs.Holdings.{Holdings, held_at_start, terms_end, Each}
-use Rattle.ob_silica_formed.specs.Points.{NamesWhatIsThere, HasKinds, TakesResult, LeavesParams, LosesNoReference, NamesBody, ReturnsResult, NoneFollows}
+use Rattle.ob_silica_formed.specs.Points.{NamesWhatIsThere, HasKinds, TakesResult, LeavesParams, LosesNoReference, NamesBody, ReturnsResult, TakesTurns, NoneFollows}
 
 -- Each number that a form names is that of something that there is. The slot of `this`, of a parameter, and each that a
 -- form names, is below the number of the body's slots, of which there are few.
@@ -33,6 +33,8 @@ pub record AreWellFormed (f : StaticFrame) (h : Holdings) (body : SilicaBody) : 
   pub bodies : Each NamesBody f h body.terms
   -- a `return` has a place exactly where the body has a result, and its value serves as that
   pub returns : Each ReturnsResult f h body.terms
+  -- each turn of a Loop takes a unit, and the end of its first part can be reached
+  pub turns : Each TakesTurns f h body.terms
   -- each way ends in a `return` or a `revert`
   pub ends : terms_end body.terms ≡ true
   -- no form follows an end

@@ -1,5 +1,5 @@
 -- What each effect of a step keeps of a world.
-use Rattle.std.proofs.Common.{◌≡◌, ℕ, zero, suc, ◌+◌, Bool, true, false, Option, Some, None, refl, ◌∙◌, arith}
+use Rattle.std.proofs.Common.{◌≡◌, ℕ, zero, suc, ◌+◌, ◌≤◌, Bool, true, false, Option, Some, None, refl, ◌∙◌, arith}
 use Rattle.std.specs.Prelude.{if◌then◌else◌}
 use Rattle.ob_table.specs.declared.contract.ResolvedType.{ResolvedType}
 use Rattle.ob_heap_spec.specs.Values.{Value}
@@ -11,7 +11,7 @@ use Rattle.ob_source_laws.proofs.Follows.{Follows, Tells, grows_none, grows_on, 
 use Rattle.ob_source_laws.proofs.Marking.{follows_into}
 use Rattle.ob_silica_steps.specs.Cells.{Cell}
 use Rattle.ob_silica_places.specs.Places.{Location, slot, field}
-use Rattle.ob_silica_steps.specs.Configurations.{Configuration, Control, Ends, plain_end, test_end, lock_end, How, by_receiver, by_this, by_new, NextStep, goes, ended, abort_step, stuck}
+use Rattle.ob_silica_steps.specs.Configurations.{Configuration, Control, Ends, plain_end, test_end, lock_end, loop_end, How, by_receiver, by_this, by_new, NextStep, goes, ended, abort_step, stuck}
 use Rattle.ob_perm.specs.Permissions.{Permission}
 use Rattle.ob_silica_steps.specs.Here.{Here, if_there, with_fuel_left, with_unit, set_permission, set_field, hand, self_of, goes_to}
 use Rattle.ob_silica_steps.specs.Testing.{end_branch}
@@ -20,6 +20,7 @@ use Rattle.ob_silica_laws.specs.Laws.{LeadsSo}
 
 -- all that steps keep of a world
 pub record Keeps (w v : World) : Type 0 where
+  pub fuel : v.fuel ≤ w.fuel
   pub units : v.fuel + v.taken ≡ w.fuel + w.taken
   pub reads : Grows w.reads v.reads
   pub objects : KeepsObjects w v
@@ -29,17 +30,17 @@ pub record Leads (w : World) (next : NextStep) : Type 0 where
   pub by : LeadsSo (Keeps w) (Tells w) next
 
 pub keeps_self : (w : World) → Keeps w w
-keeps_self w = record { units = refl; reads = grows_none w.reads; objects = keeps_all w }
+keeps_self w = record { fuel = omega arith; units = refl; reads = grows_none w.reads; objects = keeps_all w }
 
 pub keeps_then : {w v u : World} → Keeps w v → Keeps v u → Keeps w u
-keeps_then a b = record { units = b.units ∙ a.units; reads = grows_on a.reads b.reads; objects = keeps_on a.objects b.objects }
+keeps_then a b = record { fuel = omega (arith, a.fuel, b.fuel); units = b.units ∙ a.units; reads = grows_on a.reads b.reads; objects = keeps_on a.objects b.objects }
 
 pub then_follows : {w v u : World} → Keeps w v → Follows None v u → Keeps w u
-then_follows a b = record { units = b.units ∙ a.units; reads = grows_on a.reads b.reads; objects = keeps_on a.objects b.objects }
+then_follows a b = record { fuel = omega (arith, a.fuel, b.fuel); units = b.units ∙ a.units; reads = grows_on a.reads b.reads; objects = keeps_on a.objects b.objects }
 
 -- the object of this number is edited
 pub then_edits : {w v u : World} (n : ℕ) → Keeps w v → Follows (Some n) v u → Keeps w u
-then_edits n a b = record { units = b.units ∙ a.units; reads = grows_on a.reads b.reads; objects = keeps_on a.objects b.objects }
+then_edits n a b = record { fuel = omega (arith, a.fuel, b.fuel); units = b.units ∙ a.units; reads = grows_on a.reads b.reads; objects = keeps_on a.objects b.objects }
 
 pub tells_then : {w v : World} {s : Spent} → Keeps w v → Tells v s → Tells w s
 tells_then a b = record { units = omega (arith, a.units, b.units); reads = grows_on a.reads b.reads }
@@ -47,6 +48,7 @@ tells_then a b = record { units = omega (arith, a.units, b.units); reads = grows
 -- what is neither units nor reads nor objects doesn't matter
 pub keeps_lock : {w v : World} (n : ℕ) → Keeps w v → Keeps w (lock n v)
 keeps_lock n a = record {
+  fuel = a.fuel;
   units = a.units;
   reads = a.reads;
   objects = record { same = a.objects.same; more = a.objects.more; made = a.objects.made; count = a.objects.count };
@@ -54,6 +56,7 @@ keeps_lock n a = record {
 
 pub keeps_unlock : {w v : World} (n : ℕ) → Keeps w v → Keeps w (unlock n v)
 keeps_unlock n a = record {
+  fuel = a.fuel;
   units = a.units;
   reads = a.reads;
   objects = record { same = a.objects.same; more = a.objects.more; made = a.objects.made; count = a.objects.count };
@@ -61,6 +64,7 @@ keeps_unlock n a = record {
 
 pub keeps_enter : {w v : World} (n : ℕ) → Keeps w v → Keeps w (enter n v)
 keeps_enter n a = record {
+  fuel = a.fuel;
   units = a.units;
   reads = a.reads;
   objects = record { same = a.objects.same; more = a.objects.more; made = a.objects.made; count = a.objects.count };
@@ -68,6 +72,7 @@ keeps_enter n a = record {
 
 pub keeps_leave : {w v : World} (n : ℕ) → Keeps w v → Keeps w (leave n v)
 keeps_leave n a = record {
+  fuel = a.fuel;
   units = a.units;
   reads = a.reads;
   objects = record { same = a.objects.same; more = a.objects.more; made = a.objects.made; count = a.objects.count };
@@ -125,4 +130,5 @@ keeps_hand of place c h a = keeps_permission place _ (record h { world = comes_i
 pub keeps_end : {w : World} (ends : Ends) (h : Here) → Keeps w h.world → Keeps w (end_branch ends h).world
 keeps_end plain_end h a = a
 keeps_end (test_end place) h a = keeps_permission place _ h a
+keeps_end (loop_end first x body end) h a = a
 keeps_end (lock_end place n) h a = keeps_unlock n (keeps_permission place _ h a)

@@ -1,12 +1,12 @@
--- How many steps a run can still take: each step leaves fewer.
+-- How many steps a run can still take: each step leaves fewer, or a unit is taken.
 use Rattle.std.proofs.Common.{◌≡◌, ℕ, zero, suc, ◌+◌, ◌<◌, ◌≤◌, Bool, true, false, List, [], ◌∷◌, ◌++◌, length, Option, Some, None, refl, sym, ap, ◌∙◌, subst, arith, length-append}
 use Rattle.std.specs.Prelude.{find, option_map, cond, nat_le, if◌then◌else◌, slice_get, ◌||◌, ⊤}
 use Rattle.std.specs.Option.{option_map_or}
 use Rattle.ob_base.specs.Limits.{most_objects}
+use Rattle.ob_base.specs.declared.fault.Span.{Span}
 use Rattle.ob_base.specs.declared.id.ContractId.{ContractId}
 use Rattle.ob_base.specs.declared.id.StateId.{StateId}
 use Rattle.ob_base.specs.declared.id.TxId.{TxId}
-use Rattle.ob_base.specs.declared.permission.Perm.{Perm}
 use Rattle.ob_perm.specs.Masks.{permission_of}
 use Rattle.ob_perm.specs.Permissions.{Permission, owned, shared, unowned, owns, is_shared, kept}
 use Rattle.ob_perm.specs.States.{only}
@@ -26,36 +26,42 @@ use Rattle.ob_heap_spec.specs.Objects.{Object, has_field, has_all_values, with_f
 use Rattle.ob_heap_spec.specs.Operations.{Operated, operated, overflows, other_kinds}
 use Rattle.ob_heap_spec.specs.Values.{Value, int_value, bool_value, text_value, reference, referred, Numbered, nothing, put}
 use Rattle.ob_heap_spec.specs.Worlds.{World, by_full, is_made, object_item, next_item, with_read, with_unit_taken, read_object, set_object, edit_object}
-use Rattle.ob_silica.specs.Terms.{SilicaForm, unit_form, const_form, op_form, copy_form, move_form, new_form, call_form, call_this_form, change_form, test_form, if_form, assert_form, disown_form, drop_form, return_form, revert_form, bad_row_form, SilicaTerms, no_terms, and_term, SilicaBody}
+use Rattle.ob_silica.specs.Terms.{SilicaForm, unit_form, const_form, op_form, copy_form, move_form, new_form, call_form, call_this_form, change_form, test_form, if_form, loop_form, assert_form, disown_form, drop_form, return_form, revert_form, bad_row_form, SilicaTerms, no_terms, and_term, SilicaBody}
 use Rattle.ob_silica.specs.declared.place.Given.{Given}
+use Rattle.ob_silica.specs.declared.place.Operand.{Operand}
+use Rattle.ob_silica_formed.specs.Points.{BeginsWithUnit}
 use Rattle.ob_silica_places.specs.Converting.{converted}
-use Rattle.ob_silica_places.specs.Known.{Known, permission_of_type, kind_of_operator, at}
+use Rattle.ob_silica_places.specs.Known.{Known, permission_of_type, kind_of_operator}
 use Rattle.ob_silica_places.specs.Parameters.{Parameter, parameters, all_parameters}
 use Rattle.ob_silica_places.specs.Places.{Location, slot, field, located, all_located, location_of, this, same_location}
 use Rattle.ob_silica_steps.specs.Binding.{bound_cell, loan_of, Bound, bind_one, bind_all, unbound, if_slot, slot_loans, without_field_loans}
 use Rattle.ob_silica_steps.specs.Calling.{entered_with, constructor_id, call_step, call_this_step, new_step}
 use Rattle.ob_silica_steps.specs.Cells.{Cell, cell, plain_cell, noted, constant_cell}
 use Rattle.ob_silica_steps.specs.Changing.{all_there, fill_all, changed_object, changed_here, is_locked_out, change_with, change_step}
-use Rattle.ob_silica_steps.specs.Configurations.{SilicaProgram, is_terms_of, Ends, plain_end, test_end, lock_end, Rest, Loan, Waiting, Control, runs, leaves, How, by_receiver, by_this, by_new, SilicaFrame, Configuration, NextStep, goes, ended, aborted, abort_step, stuck}
-use Rattle.ob_silica_steps.specs.Entering.{Entered, are_within, enters, entered_on, begins_on, entered_new, calls_object, calls_this, makes_object}
+use Rattle.ob_silica_steps.specs.Configurations.{SilicaProgram, is_terms_of, Ends, plain_end, test_end, lock_end, loop_end, Rest, Loan, Waiting, Control, runs, leaves, How, by_receiver, by_this, by_new, SilicaFrame, Configuration, NextStep, goes, ended, aborted, abort_step, stuck}
+use Rattle.ob_silica_steps.specs.Entering.{Entered, are_within, enters, entered_on, entered_new, calls_object, calls_this, makes_object}
 use Rattle.ob_silica_steps.specs.Getting.{got_from}
-use Rattle.ob_silica_steps.specs.Here.{Here, here, goes_to, self_of, self, read, counted, if_there, with_fuel_left, with_unit, set_slot, set_permission, set_field, hand}
-use Rattle.ob_silica_steps.specs.Returning.{exits_are_within, gives_this, gives_none, gives_result, return_step, gives_back, goes_back, leave_step, leaves_progress, left_world}
-use Rattle.ob_silica_steps.specs.Steps.{act, pop_step, run_step, control_step, step, then_steps, steps}
-use Rattle.ob_silica_steps.specs.Straight.{operate, with_operated, with_truth, with_text, available_field, copy_to, move_to_slot, move_to, disowns_object}
-use Rattle.ob_silica_steps.specs.Testing.{StateTest, branch_of, narrowed, into_branch, tells, tests_from, test_shared_this, test_this_as, test_this, test_shared, test_other, test_object, is_in, reads_object, test_step, end_branch}
-use Rattle.ob_silica_laws.specs.Laws.{IsOver, RunsEnd}
+use Rattle.ob_silica_steps.specs.Here.{Here, here, goes_to, self_of, self, read, counted, if_there, with_fuel_left, set_slot, set_permission, set_field, hand}
+use Rattle.ob_silica_steps.specs.Returning.{exits_are_within, gives_this, gives_none, gives_result, return_step, gives_back, goes_back, leaves_progress}
+use Rattle.ob_silica_steps.specs.Steps.{act, end_step, control_step, step, then_steps, steps}
+use Rattle.ob_silica_steps.specs.Straight.{operate, with_operated, with_truth, with_text, available_field, copy_to, move_to, disowns_object}
+use Rattle.ob_silica_steps.specs.Testing.{StateTest, narrowed, into_branch, tells, tests_from, test_shared_this, test_this_as, test_shared, test_object, is_in, reads_object, test_step, end_branch}
+use Rattle.ob_silica_laws.specs.Laws.{PaysTurn, PaysTurns, IsOver, RunsEnd}
+use Rattle.ob_silica_laws.proofs.Keeping.{Leads}
+use Rattle.ob_silica_laws.proofs.StepsKeep.{step_keeps}
 
 -- The measure.
 
 abbrev mutual
-  -- how many steps a form takes at most in its own frame, and one more for each loan that it gives
+  -- how many steps a form takes at most in its own frame, and one more for each loan that it gives; of a Loop only the one
+  -- with which a turn begins
   size_of_form : SilicaForm → ℕ
   size_of_form (new_form k contract args) = 3 + length (all_located args)
   size_of_form (call_form k receiver contract tx args) = 3 + length (all_located args)
   size_of_form (call_this_form k tx args) = 3 + length (all_located args)
   size_of_form (test_form place state branch other join) = 2 + (size_of branch + size_of other)
   size_of_form (if_form a branch other join) = 2 + (size_of branch + size_of other)
+  size_of_form (loop_form first a body end) = 1
   size_of_form unit_form = 1
   size_of_form (const_form k value) = 1
   size_of_form (op_form k operator a b line) = 1
@@ -74,10 +80,16 @@ abbrev mutual
   size_of no_terms = 0
   size_of (and_term form span rest) = size_of_form form + size_of rest
 
+-- how many steps come with the end of a list, where this many come after it: after the first part of a Loop its body, and
+-- the Loop again
+abbrev size_at_end : Ends → ℕ → ℕ
+size_at_end (loop_end first a body end) n = 2 + (size_of body + n)
+size_at_end ends n = n
+
 -- the same of lists around one another: each takes a step for its end
 abbrev size_of_lists : List Rest → ℕ
 size_of_lists [] = 0
-size_of_lists (r ∷ outer) = suc (size_of r.terms + size_of_lists outer)
+size_of_lists (r ∷ outer) = suc (size_at_end r.ends (size_of r.terms + size_of_lists outer))
 
 -- the same of what a frame is about to do
 abbrev size_of_control : Control → ℕ
@@ -148,6 +160,7 @@ end_fuel : (ends : Ends) (h : Here) → (end_branch ends h).world.fuel ≡ h.wor
 end_fuel plain_end h = refl
 end_fuel (test_end place) h = permission_fuel place shared h
 end_fuel (lock_end place n) h = permission_fuel place shared h
+end_fuel (loop_end first x body end) h = refl
 
 left_fuel : (how : How) (n : ℕ) (w : World) → (leaves_progress how n w).fuel ≡ w.fuel
 left_fuel by_receiver n w = refl
@@ -162,11 +175,17 @@ straight_less k r o w e = omega arith
 return_less : (k r o w e : ℕ) → (o + w) + e < (((suc k + r) + o) + w) + e
 return_less k r o w e = omega arith
 
-first_less : (a b r o w e : ℕ) → ((a + suc (r + o)) + w) + e < ((((2 + (a + b)) + r) + o) + w) + e
-first_less a b r o w e = omega arith
+first_less : (a b r o w e x : ℕ) → x ≡ r + o → ((a + suc x) + w) + e < ((((2 + (a + b)) + r) + o) + w) + e
+first_less a b r o w e x h = omega (arith, h)
 
-second_less : (a b r o w e : ℕ) → ((b + suc (r + o)) + w) + e < ((((2 + (a + b)) + r) + o) + w) + e
-second_less a b r o w e = omega arith
+second_less : (a b r o w e x : ℕ) → x ≡ r + o → ((b + suc x) + w) + e < ((((2 + (a + b)) + r) + o) + w) + e
+second_less a b r o w e x h = omega (arith, h)
+
+turn_less : (b r o w e : ℕ) → ((b + suc ((1 + r) + o)) + w) + e < ((0 + suc (2 + (b + (r + o)))) + w) + e
+turn_less b r o w e = omega arith
+
+left_less : (b r o w e : ℕ) → ((r + o) + w) + e < ((0 + suc (2 + (b + (r + o)))) + w) + e
+left_less b r o w e = omega arith
 
 unit_less : (k r o w m e : ℕ) → ((r + o) + w) + e < (((suc k + r) + o) + w) + (m + e)
 unit_less k r o w m e = omega arith
@@ -181,8 +200,14 @@ body_less x m s e n h k = omega (arith, h, k)
 pop_less : (r o w e : ℕ) → ((r + o) + w) + e < ((0 + suc (r + o)) + w) + e
 pop_less r o w e = omega arith
 
-end_less : (r o w e : ℕ) → (o + w) + e < (suc (r + o) + w) + e
-end_less r o w e = omega arith
+end_less : (r o w e x : ℕ) → r + o ≤ x → (o + w) + e < (suc x + w) + e
+end_less r o w e x h = omega (arith, h)
+
+at_most : (ends : Ends) (n : ℕ) → n ≤ size_at_end ends n
+at_most (loop_end first a body end) n = omega arith
+at_most plain_end n = omega arith
+at_most (test_end place) n = omega arith
+at_most (lock_end place k) n = omega arith
 
 resume_less : (r o w e : ℕ) → ((r + o) + w) + e < (0 + (suc ((r + o) + 0) + w)) + e
 resume_less r o w e = omega arith
@@ -191,6 +216,30 @@ loan_less : (r l w e : ℕ) → (0 + (suc (r + l) + w)) + e < (0 + (suc (r + suc
 loan_less r l w e = omega arith
 
 -- Steps that leave fewer.
+
+-- what a step leads to: its units, and what the frame is about to do
+abbrev fuel_of : NextStep → ℕ
+fuel_of (goes d) = d.world.fuel
+fuel_of (ended result w) = 0
+fuel_of (aborted cause s) = 0
+fuel_of stuck = 0
+
+abbrev control_of : NextStep → Control
+control_of (goes d) = d.control
+control_of (ended result w) = runs no_terms []
+control_of (aborted cause s) = runs no_terms []
+control_of stuck = runs no_terms []
+
+-- this is so, unless the form is a Loop
+abbrev UnlessLoop : SilicaForm → Type 0 → Type 0
+UnlessLoop (loop_form first a body end) P = ⊤
+UnlessLoop form P = P
+
+-- this is so, unless a turn of a Loop begins
+abbrev UnlessTurn : Control → Type 0 → Type 0
+UnlessTurn (runs no_terms outer) P = P
+UnlessTurn (runs (and_term form span rest) outer) P = UnlessLoop form P
+UnlessTurn (leaves result outer) P = P
 
 -- where a step goes on, fewer steps than so many can still come
 abbrev Below : SilicaProgram → ℕ → NextStep → Type 0
@@ -465,19 +514,20 @@ module _ (program : SilicaProgram) where
     test_left = ((((2 + (size_of t.branch + size_of t.other)) + size_of t.rest) + size_of_lists t.outer) + size_of_stack c.stack)
         + size_of_units most c.world.fuel
 
-    into_below : (h : Here) (holds : Bool) (ends : Ends) → h.world.fuel ≡ c.world.fuel → Below program test_left (into_branch c h t holds ends)
-    into_below h true ends e = goes_below test_left c h (runs t.branch (record { terms = t.rest; ends = ends } ∷ t.outer)) e
-        (first_less (size_of t.branch) (size_of t.other) (size_of t.rest) (size_of_lists t.outer) (size_of_stack c.stack) (size_of_units most c.world.fuel))
-    into_below h false ends e = goes_below test_left c h (runs t.other (record { terms = t.rest; ends = ends } ∷ t.outer)) e
-        (second_less (size_of t.branch) (size_of t.other) (size_of t.rest) (size_of_lists t.outer) (size_of_stack c.stack) (size_of_units most c.world.fuel))
+    into_below : (h : Here) (holds : Bool) (ends : Ends) → ((n : ℕ) → size_at_end ends n ≡ n) → h.world.fuel ≡ c.world.fuel
+        → Below program test_left (into_branch c h t holds ends)
+    into_below h true ends plain e = goes_below test_left c h (runs t.branch (record { terms = t.rest; ends = ends } ∷ t.outer)) e
+        (first_less (size_of t.branch) (size_of t.other) (size_of t.rest) (size_of_lists t.outer) (size_of_stack c.stack) (size_of_units most c.world.fuel) _ (plain _))
+    into_below h false ends plain e = goes_below test_left c h (runs t.other (record { terms = t.rest; ends = ends } ∷ t.outer)) e
+        (second_less (size_of t.branch) (size_of t.other) (size_of t.rest) (size_of_lists t.outer) (size_of_stack c.stack) (size_of_units most c.world.fuel) _ (plain _))
 
     tells_below : (h : Here) (x : Cell) (holds : Bool) → h.world.fuel ≡ c.world.fuel → Below program test_left (tells c h t x holds)
-    tells_below h x holds e = into_below (set_permission t.place (narrowed x.note.permission t.state holds) h) holds plain_end
+    tells_below h x holds e = into_below (set_permission t.place (narrowed x.note.permission t.state holds) h) holds plain_end (λ n. refl)
         (permission_fuel t.place (narrowed x.note.permission t.state holds) h ∙ e)
 
     shared_this_below : (h : Here) (holds : Bool) → h.world.fuel ≡ c.world.fuel → Below program test_left (test_shared_this c h t holds)
-    shared_this_below h true e = into_below (tests_from h t) true (test_end t.place) (permission_fuel t.place (owned (only t.state)) h ∙ e)
-    shared_this_below h false e = into_below h false plain_end e
+    shared_this_below h true e = into_below (tests_from h t) true (test_end t.place) (λ n. refl) (permission_fuel t.place (owned (only t.state)) h ∙ e)
+    shared_this_below h false e = into_below h false plain_end (λ n. refl) e
 
     this_as_below : (p : Permission) (h : Here) (x : Cell) (holds : Bool) → h.world.fuel ≡ c.world.fuel → Below program test_left (test_this_as p c h t x holds)
     this_as_below shared h x holds e = shared_this_below h holds e
@@ -485,9 +535,9 @@ module _ (program : SilicaProgram) where
     this_as_below unowned h x holds e = tells_below h x holds e
 
     shared_below : (h : Here) (n : ℕ) (holds : Bool) → h.world.fuel ≡ c.world.fuel → Below program test_left (test_shared c h t n holds)
-    shared_below h n true e = into_below (record (tests_from h t) { world = lock n (tests_from h t).world }) true (lock_end t.place n)
+    shared_below h n true e = into_below (record (tests_from h t) { world = lock n (tests_from h t).world }) true (lock_end t.place n) (λ m. refl)
         (permission_fuel t.place (owned (only t.state)) h ∙ e)
-    shared_below h n false e = into_below h false plain_end e
+    shared_below h n false e = into_below h false plain_end (λ m. refl) e
 
     object_below : (h : Here) (x : Cell) (n : ℕ) (o : Object) (holds : Bool) → h.world.fuel ≡ c.world.fuel → Below program test_left (test_object c h t x n o holds)
     object_below h x n o holds e =
@@ -519,8 +569,8 @@ module _ (program : SilicaProgram) where
   text_below n (reference m) go each = tt
 
   act_below : (form : SilicaForm) (rest : SilicaTerms) (outer : List Rest) (c : Configuration)
-      → Below program ((((size_of_form form + size_of rest) + size_of_lists outer) + size_of_stack c.stack) + size_of_units most c.world.fuel)
-      (act program form rest outer c)
+      → UnlessLoop form (Below program ((((size_of_form form + size_of rest) + size_of_lists outer) + size_of_stack c.stack) + size_of_units most c.world.fuel)
+      (act program form rest outer c))
   act_below unit_form rest outer c = unit_form_below c rest outer c.world.fuel refl
   act_below (const_form k value) rest outer c = on_below c rest outer 0 (set_slot k (Some (constant_cell value)) (here c)) refl
   act_below (op_form k operator a b line) rest outer c =
@@ -542,9 +592,10 @@ module _ (program : SilicaProgram) where
       let n : ℕ = ((((2 + (size_of branch + size_of other)) + size_of rest) + size_of_lists outer) + size_of_stack c.stack) + size_of_units most c.world.fuel in
       there_below n (read program.table (here c) (located a)) _ (λ x. truth_below n x.value _ _
       (goes_below n c (here c) (runs branch (record { terms = rest; ends = plain_end } ∷ outer)) refl
-      (first_less (size_of branch) (size_of other) (size_of rest) (size_of_lists outer) (size_of_stack c.stack) (size_of_units most c.world.fuel)))
+      (first_less (size_of branch) (size_of other) (size_of rest) (size_of_lists outer) (size_of_stack c.stack) (size_of_units most c.world.fuel) _ refl))
       (goes_below n c (here c) (runs other (record { terms = rest; ends = plain_end } ∷ outer)) refl
-      (second_less (size_of branch) (size_of other) (size_of rest) (size_of_lists outer) (size_of_stack c.stack) (size_of_units most c.world.fuel))))
+      (second_less (size_of branch) (size_of other) (size_of rest) (size_of_lists outer) (size_of_stack c.stack) (size_of_units most c.world.fuel) _ refl)))
+  act_below (loop_form first a body end) rest outer c = tt
   act_below (assert_form place perm) rest outer c = on_below c rest outer 0 (here c) refl
   act_below (disown_form place) rest outer c =
       there_below (here_left c rest outer 0) (read program.table (here c) (located place)) _ (λ x. disown_below c rest outer (located place) x)
@@ -572,38 +623,138 @@ module _ (program : SilicaProgram) where
   goes_back_below [] result c = tt
   goes_back_below (h ∷ stack) result c = back_below h.loans result h stack c
 
+  -- how many steps are left where a list ends so
+  abbrev ended_left : Ends → SilicaTerms → List Rest → Configuration → ℕ
+  ended_left ends rest outer c = (size_of_control (runs no_terms (record { terms = rest; ends = ends } ∷ outer)) + size_of_stack c.stack)
+      + size_of_units most c.world.fuel
+
+  end_below : (ends : Ends) (rest : SilicaTerms) (outer : List Rest) (c : Configuration)
+      → Below program (ended_left ends rest outer c) (end_step program ends rest outer c)
+  end_below plain_end rest outer c = goes_below (ended_left plain_end rest outer c) c (here c) (runs rest outer) refl
+      (pop_less (size_of rest) (size_of_lists outer) (size_of_stack c.stack) (size_of_units most c.world.fuel))
+  end_below (test_end place) rest outer c = goes_below (ended_left (test_end place) rest outer c) c (end_branch (test_end place) (here c)) (runs rest outer)
+      (end_fuel (test_end place) (here c)) (pop_less (size_of rest) (size_of_lists outer) (size_of_stack c.stack) (size_of_units most c.world.fuel))
+  end_below (lock_end place n) rest outer c = goes_below (ended_left (lock_end place n) rest outer c) c (end_branch (lock_end place n) (here c)) (runs rest outer)
+      (end_fuel (lock_end place n) (here c)) (pop_less (size_of rest) (size_of_lists outer) (size_of_stack c.stack) (size_of_units most c.world.fuel))
+  end_below (loop_end first a body end) rest outer c =
+      let n = ended_left (loop_end first a body end) rest outer c in
+      there_below n (read program.table (here c) (located a)) _ (λ x. truth_below n x.value _ _
+      (goes_below n c (here c) (runs body (record { terms = and_term (loop_form first a body end) end rest; ends = plain_end } ∷ outer)) refl
+      (turn_less (size_of body) (size_of rest) (size_of_lists outer) (size_of_stack c.stack) (size_of_units most c.world.fuel)))
+      (goes_below n c (here c) (runs rest outer) refl
+      (left_less (size_of body) (size_of rest) (size_of_lists outer) (size_of_stack c.stack) (size_of_units most c.world.fuel))))
+
   control_below : (control : Control) (c : Configuration)
-      → Below program ((size_of_control control + size_of_stack c.stack) + size_of_units most c.world.fuel) (control_step program control c)
+      → UnlessTurn control (Below program ((size_of_control control + size_of_stack c.stack) + size_of_units most c.world.fuel) (control_step program control c))
   control_below (runs no_terms []) c = tt
-  control_below (runs no_terms (r ∷ outer)) c = goes_below
-      ((size_of_control (runs no_terms (r ∷ outer)) + size_of_stack c.stack) + size_of_units most c.world.fuel) c (end_branch r.ends (here c)) (runs r.terms outer) (end_fuel r.ends (here c))
-      (pop_less (size_of r.terms) (size_of_lists outer) (size_of_stack c.stack) (size_of_units most c.world.fuel))
+  control_below (runs no_terms (r ∷ outer)) c = end_below r.ends r.terms outer c
   control_below (runs (and_term form span rest) outer) c = act_below form rest outer c
   control_below (leaves result []) c = goes_back_below c.stack result c
   control_below (leaves result (r ∷ outer)) c = goes_below
       ((size_of_control (leaves result (r ∷ outer)) + size_of_stack c.stack) + size_of_units most c.world.fuel) c (end_branch r.ends (here c)) (leaves result outer) (end_fuel r.ends (here c))
-      (end_less (size_of r.terms) (size_of_lists outer) (size_of_stack c.stack) (size_of_units most c.world.fuel))
+      (end_less (size_of r.terms) (size_of_lists outer) (size_of_stack c.stack) (size_of_units most c.world.fuel) _ (at_most r.ends _))
 
-  -- each step leaves fewer
-  step_below : (c : Configuration) → Below program (steps_left program c) (step program c)
+  -- each step leaves fewer, unless a turn of a Loop begins
+  step_below : (c : Configuration) → UnlessTurn c.control (Below program (steps_left program c) (step program c))
   step_below c = control_below c.control c
 
   -- Runs.
 
-  step_over : (n m : ℕ) (next : NextStep) → Below program m next → m < suc n → ((c : Configuration) → steps_left program c < n → IsOver (steps program n c))
-      → IsOver (then_steps next (steps program n))
-  step_over n m (goes c) below few each = each c (let a : steps_left program c < m = below in omega (arith, a, few))
-  step_over n m (ended result w) below few each = tt
-  step_over n m (aborted cause s) below few each = tt
-  step_over n m stuck below few each = tt
+  -- the run from here comes to an end
+  abbrev Ends' : Configuration → Type 0
+  Ends' c = (n : ℕ) × IsOver (steps program n c)
 
-  -- after more steps than can still come, none follows
-  over_after : (n : ℕ) (c : Configuration) → steps_left program c < n → IsOver (steps program n c)
-  over_after zero c less = absurd (omega (arith, less))
-  over_after (suc n) c less = step_over n (steps_left program c) (step program c) (step_below c) less (over_after n)
+  -- in the run from here each turn of a Loop takes a unit
+  abbrev Pays : Configuration → Type 0
+  Pays c = (n : ℕ) → PaysTurns (steps program n c)
+
+  pays_on : (c d : Configuration) → step program c ≡ goes d → Pays c → Pays d
+  pays_on c d e pays n = subst (λ next. PaysTurns (then_steps next (steps program n))) e (pays (suc n))
+
+  -- a run ends where what comes after its first step does
+  ends_after : (c : Configuration) (next : NextStep) → step program c ≡ next → ((d : Configuration) → next ≡ goes d → Ends' d) → Ends' c
+  ends_after c (goes d) e go =
+      let o = go d refl in (suc o.0, subst (λ next. IsOver (then_steps next (steps program o.0))) (sym e) o.1)
+  ends_after c (ended result w) e go = (1, subst (λ next. IsOver (then_steps next (steps program 0))) (sym e) tt)
+  ends_after c (aborted cause s) e go = (1, subst (λ next. IsOver (then_steps next (steps program 0))) (sym e) tt)
+  ends_after c stuck e go = (1, subst (λ next. IsOver (then_steps next (steps program 0))) (sym e) tt)
+
+  no_more_units : (c d : Configuration) → step program c ≡ goes d → d.world.fuel ≤ c.world.fuel
+  no_more_units c d e = let k : Leads c.world (goes d) = subst (Leads c.world) e (step_keeps program c) in k.by.fuel
+
+  begins_so : (first : SilicaTerms) → BeginsWithUnit first → (span : Span) × (more : SilicaTerms) × (first ≡ and_term unit_form span more)
+  begins_so (and_term unit_form span more) h = (span, more, refl)
+  begins_so terms h = absurd h
+
+  -- runs with at most so many units end, if those with fewer do
+  module _ (f : ℕ) (fewer : (d : Configuration) → d.world.fuel < f → Pays d → Ends' d) where
+    -- where a unit is taken
+    takes_unit : (c : Configuration) (span : Span) (more : SilicaTerms) (outer : List Rest) → c.control ≡ runs (and_term unit_form span more) outer
+        → c.world.fuel ≤ f → Pays c → Ends' c
+    takes_unit c span more outer is few pays = by_fuel c.world.fuel refl
+      where
+        takes : ℕ → NextStep
+        takes n = with_fuel_left n c.world (λ w. goes_to c (record (here c) { world = w }) (runs more outer))
+
+        steps_so : (n : ℕ) → c.world.fuel ≡ n → step program c ≡ takes n
+        steps_so n e = ap (λ control. control_step program control c) is ∙ ap takes e
+
+        by_fuel : (n : ℕ) → c.world.fuel ≡ n → Ends' c
+        by_fuel zero e = ends_after c (takes zero) (steps_so zero e) (λ d z. absurd (cc))
+        by_fuel (suc n) e = ends_after c (takes (suc n)) (steps_so (suc n) e) (λ d z. fewer d
+            (let one : n ≡ d.world.fuel = ap fuel_of z in omega (arith, one, few, e))
+            (pays_on c d (steps_so (suc n) e ∙ z) pays))
+
+    -- where a turn of a Loop begins
+    begins_turn : (c : Configuration) (first : SilicaTerms) (a : Operand) (body : SilicaTerms) (end span : Span) (rest : SilicaTerms) (outer : List Rest)
+        → c.control ≡ runs (and_term (loop_form first a body end) span rest) outer → c.world.fuel ≤ f → Pays c → Ends' c
+    begins_turn c first a body end span rest outer is few pays =
+        let starts = begins_so first (subst PaysTurn is (pays 0)) in
+        ends_after c (goes begun) steps_so (λ d z. takes_unit d starts.0 starts.1 around
+        (sym (ap control_of z) ∙ ap (λ ts. runs ts around) starts.2)
+        (let same : c.world.fuel ≡ d.world.fuel = ap fuel_of z in omega (arith, same, few))
+        (pays_on c d (steps_so ∙ z) pays))
+      where
+        around : List Rest
+        around = record { terms = rest; ends = loop_end first a body end } ∷ outer
+
+        begun : Configuration
+        begun = record { frame = record c.frame { slots = c.frame.slots }; control = runs first around; stack = c.stack; notes = c.notes; world = c.world }
+
+        steps_so : step program c ≡ goes begun
+        steps_so = ap (λ control. control_step program control c) is
+
+    -- a step that leaves fewer, where runs with fewer steps end
+    straight : (c : Configuration) → ((d : Configuration) → steps_left program d < steps_left program c → d.world.fuel ≤ f → Pays d → Ends' d)
+        → c.world.fuel ≤ f → Pays c → Below program (steps_left program c) (step program c) → Ends' c
+    straight c shorter few pays below = ends_after c (step program c) refl (λ d z. shorter d
+        (subst (Below program (steps_left program c)) z below)
+        (let units = no_more_units c d z in omega (arith, units, few))
+        (pays_on c d z pays))
+
+    by_form : (c : Configuration) → ((d : Configuration) → steps_left program d < steps_left program c → d.world.fuel ≤ f → Pays d → Ends' d)
+        → c.world.fuel ≤ f → Pays c → (form : SilicaForm) (span : Span) (rest : SilicaTerms) (outer : List Rest) → c.control ≡ runs (and_term form span rest) outer
+        → UnlessLoop form (Below program (steps_left program c) (step program c)) → Ends' c
+    by_form c shorter few pays (loop_form first a body end) span rest outer is below = begins_turn c first a body end span rest outer is few pays
+    by_form c shorter few pays form span rest outer is below = straight c shorter few pays below
+
+    by_control : (c : Configuration) → ((d : Configuration) → steps_left program d < steps_left program c → d.world.fuel ≤ f → Pays d → Ends' d)
+        → c.world.fuel ≤ f → Pays c → (control : Control) → c.control ≡ control
+        → UnlessTurn control (Below program (steps_left program c) (step program c)) → Ends' c
+    by_control c shorter few pays (runs no_terms outer) is below = straight c shorter few pays below
+    by_control c shorter few pays (runs (and_term form span rest) outer) is below = by_form c shorter few pays form span rest outer is below
+    by_control c shorter few pays (leaves result outer) is below = straight c shorter few pays below
+
+    by_size : (s : ℕ) (c : Configuration) → steps_left program c < s → c.world.fuel ≤ f → Pays c → Ends' c
+    by_size zero c less few pays = absurd (omega (arith, less))
+    by_size (suc s) c less few pays = by_control c (λ d fewer_left. by_size s d (omega (arith, fewer_left, less))) few pays c.control refl (step_below c)
+
+  by_units : (f : ℕ) (c : Configuration) → c.world.fuel < f → Pays c → Ends' c
+  by_units zero c less pays = absurd (omega (arith, less))
+  by_units (suc f) c less pays = by_size f (by_units f) (suc (steps_left program c)) c (omega arith) (omega (arith, less)) pays
 
 pub runs_end : RunsEnd
-runs_end program (goes c) = (suc (steps_left program c), over_after program (suc (steps_left program c)) c (omega arith))
-runs_end program (ended result w) = (0, tt)
-runs_end program (aborted cause s) = (0, tt)
-runs_end program stuck = (0, tt)
+runs_end program (goes c) pays = by_units program (suc c.world.fuel) c (omega arith) pays
+runs_end program (ended result w) pays = (0, tt)
+runs_end program (aborted cause s) pays = (0, tt)
+runs_end program stuck pays = (0, tt)

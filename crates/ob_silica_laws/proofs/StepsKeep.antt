@@ -23,11 +23,11 @@ use Rattle.ob_heap_spec.specs.Objects.{unfinished}
 use Rattle.ob_heap_spec.specs.GoingWrong.{is_within, is_finished}
 use Rattle.ob_source_laws.proofs.Follows.{follows_read, follows_read_object, follows_edit, follows_make, spared_this}
 use Rattle.ob_source_laws.proofs.Marking.{follows_into, follows_mark_disowned}
-use Rattle.ob_silica.specs.Terms.{SilicaForm, unit_form, const_form, op_form, copy_form, move_form, new_form, call_form, call_this_form, change_form, test_form, if_form, assert_form, disown_form, drop_form, return_form, revert_form, bad_row_form, SilicaTerms, no_terms, and_term}
+use Rattle.ob_silica.specs.Terms.{SilicaForm, unit_form, const_form, op_form, copy_form, move_form, new_form, call_form, call_this_form, change_form, test_form, if_form, loop_form, assert_form, disown_form, drop_form, return_form, revert_form, bad_row_form, SilicaTerms, no_terms, and_term}
 use Rattle.ob_silica.specs.declared.place.Given.{Given}
 use Rattle.ob_silica_steps.specs.Cells.{Cell, plain_cell}
 use Rattle.ob_silica_places.specs.Places.{Location, slot, field, located, all_located, location_of, this, same_location}
-use Rattle.ob_silica_steps.specs.Configurations.{SilicaProgram, SlotCells, Notes, Rest, Loan, Waiting, Control, runs, leaves, How, by_receiver, by_this, by_new, SilicaFrame, Configuration, NextStep, goes, ended, aborted, stuck}
+use Rattle.ob_silica_steps.specs.Configurations.{SilicaProgram, SlotCells, Notes, Ends, plain_end, test_end, lock_end, loop_end, Rest, Loan, Waiting, Control, runs, leaves, How, by_receiver, by_this, by_new, SilicaFrame, Configuration, NextStep, goes, ended, aborted, stuck}
 use Rattle.ob_silica_steps.specs.Here.{Here, here, goes_to, self_of, self, read, hand}
 use Rattle.ob_silica_places.specs.Known.{at}
 use Rattle.ob_silica_steps.specs.Getting.{got_from}
@@ -39,7 +39,7 @@ use Rattle.ob_silica_steps.specs.Testing.{StateTest, tells, test_shared_this, te
 use Rattle.ob_silica_steps.specs.Returning.{exits_are_within, gives_this, gives_none, gives_result, return_step, gives_back, goes_back, leave_step, left_world}
 use Rattle.ob_silica_steps.specs.Straight.{with_operated, with_truth, with_text, available_field, copy_to, move_to_slot, move_to, disowns_object}
 use Rattle.ob_silica_steps.specs.Calling.{entered_with, constructor_id, call_step, call_this_step, new_step}
-use Rattle.ob_silica_steps.specs.Steps.{act, pop_step, run_step, control_step, step, then_steps, steps}
+use Rattle.ob_silica_steps.specs.Steps.{act, end_step, pop_step, run_step, control_step, step, then_steps, steps}
 use Rattle.ob_silica_steps.specs.Starting.{pass_all, alone, started_call, started_new}
 use Rattle.ob_silica_laws.proofs.Keeping.{Keeps, Leads, tells_then, keeps_self, keeps_then, then_follows, then_edits, keeps_lock, keeps_enter, keeps_progress, leads_abort, leads_there, leads_if, leads_unit, leads_goes, leads_to, leads_ended, leads_stuck, keeps_permission, keeps_field, keeps_hand, keeps_end}
 
@@ -257,6 +257,7 @@ act_keeps program (change_form state given) rest outer c = change_keeps program.
 act_keeps program (test_form place state branch other join) rest outer c = test_keeps program.table _ state c
 act_keeps program (if_form a branch other join) rest outer c =
     leads_there (read program.table (here c) (located a)) _ (λ x. truth_keeps x.value _ _ (leads_goes _ (keeps_self c.world)) (leads_goes _ (keeps_self c.world)))
+act_keeps program (loop_form first a body end) rest outer c = leads_goes _ (keeps_self c.world)
 act_keeps program (assert_form place perm) rest outer c = leads_goes _ (keeps_self c.world)
 act_keeps program (disown_form place) rest outer c =
     leads_there (read program.table (here c) (located place)) _ (λ x. disowns_keep (located place) x (here c) _ (keeps_self c.world) (λ i k. leads_to c i (runs rest outer) k))
@@ -266,12 +267,19 @@ act_keeps program (revert_form text) rest outer c =
     leads_there (read program.table (here c) (located text)) _ (λ x. text_keeps x.value _ (λ bytes. leads_abort _ (keeps_self c.world)))
 act_keeps program bad_row_form rest outer c = leads_stuck _
 
-pop_keeps : (outer : List Rest) (c : Configuration) → Leads c.world (pop_step outer c)
-pop_keeps [] c = leads_stuck _
-pop_keeps (r ∷ outer) c = leads_goes _ (keeps_end r.ends (here c) (keeps_self c.world))
+end_keeps : (program : SilicaProgram) (ends : Ends) (rest : SilicaTerms) (outer : List Rest) (c : Configuration) → Leads c.world (end_step program ends rest outer c)
+end_keeps program plain_end rest outer c = leads_goes _ (keeps_self c.world)
+end_keeps program (test_end place) rest outer c = leads_goes _ (keeps_end (test_end place) (here c) (keeps_self c.world))
+end_keeps program (lock_end place n) rest outer c = leads_goes _ (keeps_end (lock_end place n) (here c) (keeps_self c.world))
+end_keeps program (loop_end first a body end) rest outer c =
+    leads_there (read program.table (here c) (located a)) _ (λ x. truth_keeps x.value _ _ (leads_goes _ (keeps_self c.world)) (leads_goes _ (keeps_self c.world)))
+
+pop_keeps : (program : SilicaProgram) (outer : List Rest) (c : Configuration) → Leads c.world (pop_step program outer c)
+pop_keeps program [] c = leads_stuck _
+pop_keeps program (r ∷ outer) c = end_keeps program r.ends r.terms outer c
 
 run_keeps : (program : SilicaProgram) (terms : SilicaTerms) (outer : List Rest) (c : Configuration) → Leads c.world (run_step program terms outer c)
-run_keeps program no_terms outer c = pop_keeps outer c
+run_keeps program no_terms outer c = pop_keeps program outer c
 run_keeps program (and_term form span rest) outer c = act_keeps program form rest outer c
 
 control_keeps : (program : SilicaProgram) (control : Control) (c : Configuration) → Leads c.world (control_step program control c)

@@ -2,7 +2,9 @@
 use Rattle.std.specs.Prelude.{◌≡◌, ℕ, ◌+◌, ◌≤◌, ⊤}
 use Rattle.ob_heap_spec.specs.Worlds.{World, Spent}
 use Rattle.ob_source_laws.specs.Laws.{Grows, KeepsObjects}
-use Rattle.ob_silica_steps.specs.Configurations.{SilicaProgram, NextStep, goes, ended, aborted, stuck}
+use Rattle.ob_silica.specs.Terms.{loop_form, and_term}
+use Rattle.ob_silica_formed.specs.Points.{BeginsWithUnit}
+use Rattle.ob_silica_steps.specs.Configurations.{SilicaProgram, Control, runs, NextStep, goes, ended, aborted, stuck}
 use Rattle.ob_silica_steps.specs.Steps.{then_steps, steps}
 
 -- where steps lead to a world, the first holds of it; where they abort, the second of what the run has spent
@@ -31,6 +33,18 @@ IsOver (ended result w) = ⊤
 IsOver (aborted cause s) = ⊤
 IsOver stuck = ⊤
 
--- Each run comes to an end: after some number of steps no further step follows, whatever the program.
+-- where a Loop begins, its turn takes a unit at first
+abbrev pub PaysTurn : Control → Type 0
+PaysTurn (runs (and_term (loop_form first a body end) span rest) outer) = BeginsWithUnit first
+PaysTurn control = ⊤
+
+-- the same of what a step leads to
+abbrev pub PaysTurns : NextStep → Type 0
+PaysTurns (goes c) = PaysTurn c.control
+PaysTurns next = ⊤
+
+-- Each run in which each turn of a Loop takes a unit comes to an end: after some number of steps no further step follows,
+-- whatever the program.
 abbrev pub RunsEnd : Type 0
-RunsEnd = (program : SilicaProgram) (start : NextStep) → (n : ℕ) × IsOver (then_steps start (steps program n))
+RunsEnd = (program : SilicaProgram) (start : NextStep) → ((n : ℕ) → PaysTurns (then_steps start (steps program n)))
+    → (n : ℕ) × IsOver (then_steps start (steps program n))

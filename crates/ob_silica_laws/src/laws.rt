@@ -49,8 +49,8 @@ pub fn objects_stay()
         (w : World) → ObjectsStay w (then_steps (started_new program contract args notes w) (steps program most)) }
 {}
 
-/// Each run comes to an end, whatever its program: a form takes as many steps as its parts say, each loan of a call takes one to go back,
-/// and each body that is entered takes a unit.
+/// Each run in which each turn of a Loop takes a unit at first comes to an end, whatever its program: a form takes as many
+/// steps as its parts say, each loan of a call takes one to go back, and each body that is entered takes a unit.
 pub fn runs_end()
     ensures { RunsEnd }
 {}

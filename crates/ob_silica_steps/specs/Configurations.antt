@@ -1,6 +1,7 @@
 -- The configurations of a run of terms (this project's own; Coblenz et al., TOPLAS 42(3), 2020, "Silica", for the
 -- frames).
 use Rattle.std.specs.Prelude.{ℕ, Bool, ◌&&◌, nat_eq, List, find, Option, option_map}
+use Rattle.ob_base.specs.declared.fault.Span.{Span}
 use Rattle.ob_base.specs.declared.id.ContractId.{ContractId}
 use Rattle.ob_base.specs.declared.id.TxId.{TxId}
 use Rattle.ob_perm.specs.Permissions.{Permission}
@@ -8,6 +9,7 @@ use Rattle.ob_table.specs.Tables.{ClassTable}
 use Rattle.ob_heap_spec.specs.Values.{Value, Numbered}
 use Rattle.ob_heap_spec.specs.Worlds.{World, AbortCause, Spent, spent}
 use Rattle.ob_silica.specs.Terms.{SilicaTerms, SilicaBody}
+use Rattle.ob_silica.specs.declared.place.Operand.{Operand}
 use Rattle.ob_silica_steps.specs.Cells.{Cell}
 use Rattle.ob_silica_places.specs.Known.{Known}
 use Rattle.ob_silica_places.specs.Places.{Location}
@@ -49,11 +51,12 @@ pub record SilicaFrame : Type 0 where
   pub share_entered : Bool
 
 -- What ends where a list of terms ends: nothing more; the test of a place; the test of a place with the lock of an
--- object.
+-- object; the first part of a Loop, with its operand, its body and the span of the body's end.
 pub data Ends : Type 0 where
   plain_end : Ends
   test_end : Location → Ends
   lock_end : Location → ℕ → Ends
+  loop_end : SilicaTerms → Operand → SilicaTerms → Span → Ends
 
 -- the terms around a list, which go on where it ends, and what ends there
 pub record Rest : Type 0 where

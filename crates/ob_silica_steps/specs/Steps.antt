@@ -2,11 +2,11 @@
 -- is read are this project's own).
 use Rattle.std.specs.Prelude.{ℕ, zero, suc, List, [], ◌∷◌, Some, None, option_map}
 use Rattle.ob_heap_spec.specs.Worlds.{by_revert}
-use Rattle.ob_silica.specs.Terms.{SilicaForm, unit_form, const_form, op_form, copy_form, move_form, new_form, call_form, call_this_form, change_form, test_form, if_form, assert_form, disown_form, drop_form, return_form, revert_form, bad_row_form, SilicaTerms, no_terms, and_term}
+use Rattle.ob_silica.specs.Terms.{SilicaForm, unit_form, const_form, op_form, copy_form, move_form, new_form, call_form, call_this_form, change_form, test_form, if_form, loop_form, assert_form, disown_form, drop_form, return_form, revert_form, bad_row_form, SilicaTerms, no_terms, and_term}
 use Rattle.ob_silica_steps.specs.Cells.{plain_cell, constant_cell}
 use Rattle.ob_silica_places.specs.Known.{kind_of_operator}
 use Rattle.ob_silica_places.specs.Places.{location_of, located, all_located}
-use Rattle.ob_silica_steps.specs.Configurations.{SilicaProgram, plain_end, Rest, Control, runs, leaves, Configuration, NextStep, goes, ended, aborted, abort_step, stuck}
+use Rattle.ob_silica_steps.specs.Configurations.{SilicaProgram, Ends, plain_end, loop_end, Rest, Control, runs, leaves, Configuration, NextStep, goes, ended, aborted, abort_step, stuck}
 use Rattle.ob_silica_steps.specs.Here.{here, goes_to, if_there, with_unit, read, set_slot}
 use Rattle.ob_silica_steps.specs.Changing.{change_step}
 use Rattle.ob_silica_steps.specs.Testing.{test_step, end_branch}
@@ -50,6 +50,8 @@ act program (if_form a branch other join) rest outer c =
     if_there (read program.table (here c) (located a)) (λ x. with_truth x.value
     (goes_to c (here c) (runs branch (record { terms = rest; ends = plain_end } ∷ outer)))
     (goes_to c (here c) (runs other (record { terms = rest; ends = plain_end } ∷ outer))))
+act program (loop_form first a body end) rest outer c =
+    goes_to c (here c) (runs first (record { terms = rest; ends = loop_end first a body end } ∷ outer))
 act program (assert_form place perm) rest outer c = goes_to c (here c) (runs rest outer)
 act program (disown_form place) rest outer c =
     if_there (read program.table (here c) (located place)) (λ x.
@@ -63,14 +65,23 @@ act program bad_row_form rest outer c = stuck
 
 -- Steps.
 
+-- Where a list is at its end, what is after it goes on. After the first part of a Loop its body runs where the operand is
+-- true, and then the same Loop.
+abbrev pub end_step : SilicaProgram → Ends → SilicaTerms → List Rest → Configuration → NextStep
+end_step program (loop_end first a body end) rest outer c =
+    if_there (read program.table (here c) (located a)) (λ x. with_truth x.value
+    (goes_to c (here c) (runs body (record { terms = and_term (loop_form first a body end) end rest; ends = plain_end } ∷ outer)))
+    (goes_to c (here c) (runs rest outer)))
+end_step program ends rest outer c = goes_to c (end_branch ends (here c)) (runs rest outer)
+
 -- where the current list is at its end, the one around it goes on
-abbrev pub pop_step : List Rest → Configuration → NextStep
-pop_step [] c = stuck
-pop_step (r ∷ outer) c = goes_to c (end_branch r.ends (here c)) (runs r.terms outer)
+abbrev pub pop_step : SilicaProgram → List Rest → Configuration → NextStep
+pop_step program [] c = stuck
+pop_step program (r ∷ outer) c = end_step program r.ends r.terms outer c
 
 -- the step of a frame that runs this list
 abbrev pub run_step : SilicaProgram → SilicaTerms → List Rest → Configuration → NextStep
-run_step program no_terms outer c = pop_step outer c
+run_step program no_terms outer c = pop_step program outer c
 run_step program (and_term form span rest) outer c = act program form rest outer c
 
 -- the step of what a frame is about to do

@@ -15,7 +15,7 @@ use Rattle.ob_heap_spec.specs.Marks.{is_locked, is_in_progress, lock, unlock}
 use Rattle.ob_silica.specs.Terms.{SilicaTerms}
 use Rattle.ob_silica_steps.specs.Cells.{Cell}
 use Rattle.ob_silica_places.specs.Places.{Location, this, same_location}
-use Rattle.ob_silica_steps.specs.Configurations.{Ends, plain_end, test_end, lock_end, Rest, runs, Configuration, NextStep, abort_step}
+use Rattle.ob_silica_steps.specs.Configurations.{Ends, plain_end, test_end, lock_end, loop_end, Rest, runs, Configuration, NextStep, abort_step}
 use Rattle.ob_silica_steps.specs.Here.{Here, here, goes_to, if_there, read, set_permission}
 use Rattle.ob_silica_steps.specs.Changing.{is_locked_out}
 
@@ -104,6 +104,7 @@ test_step table t state c = if_there (read table (here c) t.place) (λ x. if_the
 -- what ends with a branch: a place that was under test is Shared again, and a lock is taken off
 abbrev pub end_branch : Ends → Here → Here
 end_branch plain_end h = h
+end_branch (loop_end first a body end) h = h
 end_branch (test_end place) h = set_permission place shared h
 end_branch (lock_end place n) h =
     record (set_permission place shared h) { world = unlock n (set_permission place shared h).world }

@@ -13,7 +13,7 @@ use Rattle.ob_heap_spec.specs.Worlds.{World, Spent, SameWorld, SameSpent, RunOut
 use Rattle.ob_source_meaning.proofs.Same.{same_world, same_world_back, same_world_on, same_spent, same_spent_back, same_spent_on}
 use Rattle.ob_silica_steps.specs.Configurations.{SilicaProgram, NextStep, goes, ended, aborted, stuck}
 use Rattle.ob_silica_steps.specs.Steps.{then_steps, steps}
-use Rattle.ob_silica_laws.specs.Laws.{IsOver}
+use Rattle.ob_silica_laws.specs.Laws.{PaysTurns, IsOver}
 use Rattle.ob_silica_laws.proofs.Lasting.{runs_end}
 use Rattle.ob_lower_correct.specs.Law.{IsLoweredProgram, EndsAs}
 use Rattle.ob_rest_spec.specs.AtRest.{IsStoreAtRest}
@@ -31,6 +31,7 @@ use Rattle.ob_soundness_laws.proofs.Entries.{enters_new, enters_call}
 use Rattle.ob_soundness_laws.proofs.Keeping.{steps_keep}
 use Rattle.ob_soundness_laws.proofs.Many.{then_keep}
 use Rattle.ob_soundness_laws.proofs.Together.{runs_begin, none_is_wrong_by}
+use Rattle.ob_soundness_laws.proofs.Turns.{turns_taken}
 use Rattle.ob_soundness_laws.proofs.Whole.{ends_as}
 use Rattle.ob_code.specs.declared.image.Image.{Image}
 use Rattle.ob_machine_steps.specs.Configurations as machine
@@ -157,8 +158,8 @@ module _ (program : SilicaProgram) (checked : IsCheckedProgram program) where
   abbrev image : Image
   image = code_of program
 
-  ahead : LeadsAhead (code_of program)
-  ahead = jumps_lead_ahead program.table program.bodies
+  pub ahead : LeadsAhead (code_of program)
+  ahead = jumps_lead_ahead program.table program.bodies (λ k d lt. (checked.bodies k d lt).well_formed)
 
   module _ (content : Content) (fuel : ℕ) (e : Entry) (rests : IsStoreAtRest program.table content) (entered : IsEntered program.table content e) where
     -- where the machine is at the start
@@ -206,15 +207,18 @@ module _ (program : SilicaProgram) (checked : IsCheckedProgram program) where
         (sym (same_lock content.objects fuel e.receiver))
         (ends_unlocked image (entry_of_request content e) _ source (source_end program _ (start_with e.receiver) source ends never alike))
 
+    pays : (n : ℕ) → PaysTurns (then_steps (start_with e.receiver) (steps program n))
+    pays n = turns_taken program.table (entry_lock e.receiver) (beginning_of content e) _ (so_with e.receiver refl n)
+
     -- where the run of terms is over, and what it has come to
     abbrev enough : ℕ
-    enough = (runs_end program (start_with e.receiver)).0
+    enough = (runs_end program (start_with e.receiver) pays).0
 
     abbrev outcome_by_terms : RunOutcome (Option Value)
     outcome_by_terms = come_to (then_steps (start_with e.receiver) (steps program enough))
 
     ends_by_terms : EndsAs program (start_with e.receiver) outcome_by_terms
-    ends_by_terms = terms_end program (start_with e.receiver) enough _ refl (runs_end program (start_with e.receiver)).1 (never enough)
+    ends_by_terms = terms_end program (start_with e.receiver) enough _ refl (runs_end program (start_with e.receiver) pays).1 (never enough)
 
     pub runs_sound : IsSoundRun image phase
     runs_sound = ends_sound image phase outcome_by_terms (ends_alike outcome_by_terms ends_by_terms)

@@ -12,7 +12,7 @@ use Rattle.ob_emit_laws.proofs.Tables.{tables_agree}
 use Rattle.ob_sound_code.proofs.Emitted.{by_emitted_code}
 use Rattle.ob_sound_code.specs.SoundCode.{SameInvocation, IsSoundBy, CheckedImagesAreSound, CheckedCodeIsSound, CompiledCodeIsSound}
 use Rattle.ob_sound_code.proofs.Naming.{sound_without_names}
-use Rattle.ob_sound_code.proofs.Sound.{runs_sound, requests_alike, requests_rest}
+use Rattle.ob_sound_code.proofs.Sound.{ahead, runs_sound, requests_alike, requests_rest}
 
 pub checked_code_sound : CheckedCodeIsSound
 checked_code_sound program checked = record {
@@ -45,4 +45,5 @@ compiled_code_sound table bodies lowered each bodies_checked =
             (sym (by_emitted_code table bodies lowered.table content request fuel))
             (requests_alike program checked lowered content request fuel rests labels);
       };
+      ahead = ahead program checked;
     }

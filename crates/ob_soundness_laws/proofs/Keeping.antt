@@ -1,7 +1,7 @@
 -- Each step from a coherent configuration comes to another one, to an end, or to an abort.
 use Rattle.std.proofs.Common.{◌≡◌, ℕ, List, [], Option, refl, sym, ◌∙◌}
 use Rattle.ob_base.specs.declared.fault.Span.{Span}
-use Rattle.ob_silica.specs.Terms.{SilicaForm, unit_form, const_form, op_form, copy_form, move_form, new_form, call_form, call_this_form, change_form, test_form, if_form, assert_form, disown_form, drop_form, return_form, revert_form, bad_row_form, SilicaTerms, no_terms, and_term}
+use Rattle.ob_silica.specs.Terms.{SilicaForm, unit_form, const_form, op_form, copy_form, move_form, new_form, call_form, call_this_form, change_form, test_form, if_form, loop_form, assert_form, disown_form, drop_form, return_form, revert_form, bad_row_form, SilicaTerms, no_terms, and_term}
 use Rattle.ob_silica_steps.specs.Cells.{Cell}
 use Rattle.ob_silica_steps.specs.Configurations.{SilicaProgram, Rest, Control, runs, leaves, Configuration}
 use Rattle.ob_silica_steps.specs.Steps.{act, run_step, control_step}
@@ -11,6 +11,7 @@ use Rattle.ob_soundness_laws.proofs.forms.Straight.{const_keeps, op_keeps, drop_
 use Rattle.ob_soundness_laws.proofs.forms.Moving.{disown_keeps}
 use Rattle.ob_soundness_laws.proofs.forms.Forms.{copy_keeps, move_keeps}
 use Rattle.ob_soundness_laws.proofs.tests.Conditions.{if_keeps}
+use Rattle.ob_soundness_laws.proofs.tests.Loops.{loop_keeps}
 use Rattle.ob_soundness_laws.proofs.tests.Testing.{test_keeps}
 use Rattle.ob_soundness_laws.proofs.tests.Popping.{pop_keeps}
 use Rattle.ob_soundness_laws.proofs.changes.Changing.{change_keeps}
@@ -44,6 +45,7 @@ module _ (program : SilicaProgram) (is : IsCheckedProgram program) (entry : Opti
   form_keeps (return_form value) span rest outer k so = return_keeps program entry beginning c value span rest outer is k so
   form_keeps (revert_form text) span rest outer k so = revert_keeps program is entry beginning c k span rest outer text so
   form_keeps bad_row_form span rest outer k so = bad_row_keeps program is entry beginning c k span rest outer so
+  form_keeps (loop_form first a body end) span rest outer k so = loop_keeps program entry beginning c first a body end span rest outer is k so
 
   -- the current list
   terms_keep : (terms : SilicaTerms) (outer : List Rest) → IsRunning program.table entry beginning c → c.control ≡ runs terms outer

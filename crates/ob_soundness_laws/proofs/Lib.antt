@@ -33,3 +33,4 @@ pub mod Marked
 pub mod Again
 pub mod Rests
 pub mod Together
+pub mod Turns

@@ -20,7 +20,7 @@ use Rattle.ob_heap_spec.specs.Objects.{Object, with_field, unfinished}
 use Rattle.ob_heap_spec.specs.Worlds.{World, next_item, read_object, with_read, with_unit_taken, edit_object, make_object, by_full}
 use Rattle.ob_heap_spec.specs.Marks.{comes_into, mark_disowned, lock, enter}
 use Rattle.ob_heap_spec.specs.Operations.{Operated, operated, overflows, other_kinds}
-use Rattle.ob_silica.specs.Terms.{SilicaForm, unit_form, const_form, op_form, copy_form, move_form, new_form, call_form, call_this_form, change_form, test_form, if_form, assert_form, disown_form, drop_form, return_form, revert_form, bad_row_form, SilicaTerms, no_terms, and_term}
+use Rattle.ob_silica.specs.Terms.{SilicaForm, unit_form, const_form, op_form, copy_form, move_form, new_form, call_form, call_this_form, change_form, test_form, if_form, loop_form, assert_form, disown_form, drop_form, return_form, revert_form, bad_row_form, SilicaTerms, no_terms, and_term}
 use Rattle.ob_silica.specs.declared.place.Given.{Given}
 use Rattle.ob_silica_places.specs.Places.{Location, slot, field, this, located}
 use Rattle.ob_silica_places.specs.Parameters.{Parameter, parameters}
@@ -28,12 +28,12 @@ use Rattle.ob_silica_steps.specs.Binding.{Bound, bind_one, bind_all, slot_loans,
 use Rattle.ob_silica_steps.specs.Calling.{entered_with, constructor_id}
 use Rattle.ob_silica_steps.specs.Cells.{Cell, plain_cell, constant_cell}
 use Rattle.ob_silica_steps.specs.Changing.{fill_all, change_with, changed_here, changed_object}
-use Rattle.ob_silica_steps.specs.Configurations.{SilicaProgram, SlotCells, Ends, plain_end, test_end, lock_end, Rest, Loan, Waiting, How, by_receiver, by_this, by_new, SilicaFrame, HandleNote, Notes, Control, runs, leaves, Configuration, NextStep, goes, ended, aborted, stuck, abort_step}
+use Rattle.ob_silica_steps.specs.Configurations.{SilicaProgram, SlotCells, Ends, plain_end, test_end, lock_end, loop_end, Rest, Loan, Waiting, How, by_receiver, by_this, by_new, SilicaFrame, HandleNote, Notes, Control, runs, leaves, Configuration, NextStep, goes, ended, aborted, stuck, abort_step}
 use Rattle.ob_silica_steps.specs.Entering.{Entered, enters, entered_on, entered_new, are_within, calls_object, calls_this, makes_object}
 use Rattle.ob_silica_steps.specs.Getting.{got_from}
 use Rattle.ob_silica_steps.specs.Here.{Here, here, self_of, goes_to, set_slot, if_there, with_fuel_left, with_unit, read, set_permission, set_field, hand}
 use Rattle.ob_silica_steps.specs.Returning.{gives_none, gives_result, gives_back, goes_back, leaves_progress}
-use Rattle.ob_silica_steps.specs.Steps.{act, run_step, control_step, step}
+use Rattle.ob_silica_steps.specs.Steps.{act, run_step, end_step, control_step, step}
 use Rattle.ob_silica_steps.specs.Straight.{with_operated, with_truth, with_text, copy_to, move_to}
 use Rattle.ob_silica_steps.specs.Testing.{StateTest, narrowed, test_object, test_this_as, test_shared, tells, end_branch, tests_from, reads_object}
 use Rattle.ob_coherent_spec.specs.Counting.{nth_object}
@@ -138,6 +138,7 @@ module _ (hs : List HandleNote) (objects : List Object) where
       → Kept hs objects (end_branch e h).notes (end_branch e h).world
   kept_end plain_end h kept = kept
   kept_end (test_end p) h kept = kept_permission p shared h kept
+  kept_end (loop_end first a body end) h kept = kept
   kept_end (lock_end p n) h kept =
       kept_objects _ (set_permission p shared h).world _ refl (kept_permission p shared h kept)
 
@@ -467,10 +468,19 @@ module _ (program : SilicaProgram) (c : Configuration) where
   on_act (return_form place) rest outer = search (there, either, on_gives) depth 8
   on_act (revert_form text) rest outer = search (there, on_text hs objects entered) depth 8
   on_act bad_row_form rest outer = tt
+  on_act (loop_form first a body end) rest outer = goes_on (here c) _ so
+
+  on_end : (e : Ends) (rest : SilicaTerms) (outer : List Rest) → On (end_step program e rest outer c)
+  on_end plain_end rest outer = goes_on (here c) _ so
+  on_end (test_end p) rest outer = goes_on (end_branch (test_end p) (here c)) _ (kept_end hs objects (test_end p) (here c) so)
+  on_end (lock_end p n) rest outer = goes_on (end_branch (lock_end p n) (here c)) _ (kept_end hs objects (lock_end p n) (here c) so)
+  on_end (loop_end first a body end) rest outer =
+      let on : (control : Control) → On (goes_to c (here c) control) = λ control. goes_on (here c) control so in
+      search (there, on_truth hs objects entered, on) depth 8
 
   on_run : (terms : SilicaTerms) (outer : List Rest) → On (run_step program terms outer c)
   on_run no_terms [] = tt
-  on_run no_terms (r ∷ outer) = goes_on (end_branch r.ends (here c)) _ (kept_end hs objects r.ends (here c) so)
+  on_run no_terms (r ∷ outer) = on_end r.ends r.terms outer
   on_run (and_term form span rest) outer = on_act form rest outer
 
   on_back : (loans : List Loan) (r : Option Cell) (h : Waiting) (stack : List Waiting) → c.stack ≡ h ∷ stack

@@ -2,5 +2,6 @@ pub mod Joins
 pub mod Knowing
 pub mod Remaining
 pub mod Branches
+pub mod Looping
 pub mod Following
 pub mod Programs

@@ -2,6 +2,7 @@ pub mod Finding
 pub mod Unchanged
 pub mod Operands
 pub mod Conditions
+pub mod Loops
 pub mod Permitted
 pub mod Ending
 pub mod Locking

@@ -4,4 +4,5 @@ pub mod Marking
 pub mod ExpressionParts
 pub mod StatementParts
 pub mod CallParts
+pub mod Turns
 pub mod EachPart

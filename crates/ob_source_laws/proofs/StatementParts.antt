@@ -1,23 +1,24 @@
 -- Statements, by the calls in them.
-use Rattle.std.proofs.Common.{ℕ, ◌<◌, true, false, ◌&&◌, List, [], ◌∷◌, ◌++◌, Option, Some, None, refl}
+use Rattle.std.proofs.Common.{ℕ, zero, suc, ◌<◌, true, false, ◌&&◌, List, [], ◌∷◌, ◌++◌, Option, Some, None, refl}
 use Rattle.std.specs.List.{list_all}
 use Rattle.ob_base.specs.declared.id.ContractId.{ContractId}
 use Rattle.ob_base.specs.declared.id.StateId.{StateId}
 use Rattle.ob_table.specs.Expressions.{Expression}
-use Rattle.ob_table.specs.Statements.{GivenField, Statement, resolved_declare, resolved_assign, resolved_stage, resolved_change, resolved_discard, resolved_test, resolved_if, resolved_return, resolved_revert, resolved_disown, resolved_assert, Block, resolved_block, Otherwise, no_otherwise, otherwise_block, Statements, no_statements, and_statement}
+use Rattle.ob_table.specs.Statements.{GivenField, Statement, resolved_declare, resolved_assign, resolved_stage, resolved_change, resolved_discard, resolved_test, resolved_if, resolved_while, resolved_return, resolved_revert, resolved_disown, resolved_assert, Block, resolved_block, Otherwise, no_otherwise, otherwise_block, Statements, no_statements, and_statement}
 use Rattle.ob_table.specs.declared.seen.Seen.{Seen}
 use Rattle.ob_table.specs.declared.seen.Seen.TheVariants.{This, Local, Field as FieldSeen}
 use Rattle.ob_heap_spec.specs.Values.{Value, int_value, bool_value, text_value, reference}
 use Rattle.ob_heap_spec.specs.Objects.{has_all_values}
-use Rattle.ob_heap_spec.specs.Worlds.{World, by_revert, by_state, RunOutcome, read_object, edit_object}
+use Rattle.ob_heap_spec.specs.Worlds.{World, by_revert, by_state, by_fuel, RunOutcome, read_object, edit_object}
 use Rattle.ob_heap_spec.specs.Marks.{is_locked, lock}
 use Rattle.ob_source_meaning.specs.Frames.{SourceFrame, SourceGiven, Locals, Calls, Flow, goes_on, returns}
 use Rattle.ob_heap_spec.specs.GoingWrong.{is_assignable, is_givable, is_followed}
 use Rattle.ob_source_meaning.specs.Naming.{object_seen, contract_seen, values_given}
+use Rattle.ob_source_meaning.specs.Expressions.{value_of}
 use Rattle.ob_source_meaning.specs.Fields.{comes_into_field, assign_field, given_of, moved_to, come_into_fields, move_this, change_state}
 use Rattle.ob_heap_spec.specs.Objects.{with_field}
 use Rattle.ob_source_meaning.specs.StateTests.{TestOutcome, holds, holds_locking, fails, test_this, is_barred, test_object, test_other, test_seen, branch}
-use Rattle.ob_source_meaning.specs.Statements.{after, assign, choose, return_with, abort_with, revert_with, run, run_block, run_otherwise, run_all}
+use Rattle.ob_source_meaning.specs.Statements.{after, assign, choose, turns, return_with, abort_with, revert_with, run, run_block, run_otherwise, run_all}
 use Rattle.ob_source_laws.proofs.Follows.{follows_on, follows_edit, follows_read_object, spared_this}
 use Rattle.ob_source_laws.proofs.Marking.{follows_mark_disowned, follows_field, follows_fields}
 use Rattle.ob_source_laws.proofs.Alike.{Alike as AlikeFor, later, alike_gives, alike_here, alike_aborts, alike_wrong, alike_right, alike_some, alike_object, alike_unless, alike_then, alike_unit, ends_lock, CallsAlike}
@@ -85,7 +86,7 @@ text_aborts (int_value z) w = alike_wrong w
 text_aborts (bool_value b) w = alike_wrong w
 text_aborts (reference n) w = alike_wrong w
 
-chosen : {t : Option ℕ} {w : World} (v : Value) {o p x y : RunOutcome Flow} → AlikeFor t w o p → AlikeFor t w x y
+pub chosen : {t : Option ℕ} {w : World} (v : Value) {o p x y : RunOutcome Flow} → AlikeFor t w o p → AlikeFor t w x y
     → AlikeFor t w (choose v o x) (choose v p y)
 chosen (bool_value true) a b = a
 chosen (bool_value false) a b = b
@@ -123,11 +124,21 @@ module _ (m : ℕ) (c d : Calls) (called : CallsAlike m c d) (f : SourceFrame) w
   branched (holds_locking n) w o p x y lt a b = ends_lock n (a (lock n w) lt)
   branched fails w o p x y lt a b = b w lt
 
-  after_alike : (flow : Flow) (w : World) (o p : Locals → World → RunOutcome Flow) → w.fuel < m
+  pub after_alike : (flow : Flow) (w : World) (o p : Locals → World → RunOutcome Flow) → w.fuel < m
       → ((ls : Locals) (v : World) → v.fuel < m → Alike v (o ls v) (p ls v))
       → Alike w (after flow w o) (after flow w p)
   after_alike (goes_on ls) w o p lt a = a ls w lt
   after_alike (returns result) w o p lt a = alike_here w _
+
+  turned : (n : ℕ) (e : Expression) (o p : Locals → World → RunOutcome Flow)
+      → ((ls : Locals) (v : World) → v.fuel < m → Alike v (o ls v) (p ls v)) → (ls : Locals) (w : World) → w.fuel < m
+      → Alike w (turns n (value_of c f e) o ls w) (turns n (value_of d f e) p ls w)
+  turned zero e o p a ls w lt = alike_aborts w by_fuel
+  turned (suc n) e o p a ls w lt =
+      alike_unit m w _ _ lt
+      (λ w0 lt0. alike_then m _ _ (value_alike m c d called f e ls w0 lt0) lt0
+      (λ v w1 lt1. chosen v (alike_then m _ _ (a ls w1 lt1) lt1
+      (λ flow w2 lt2. after_alike flow w2 _ _ lt2 (turned n e o p a))) (alike_here w1 _)))
 
   mutual
     pub run_alike : (s : Statement) (ls : Locals) (w : World) → w.fuel < m → Alike w (run c f s ls w) (run d f s ls w)
@@ -156,6 +167,7 @@ module _ (m : ℕ) (c d : Calls) (called : CallsAlike m c d) (f : SourceFrame) w
         alike_unit m w _ _ lt
         (λ w0 lt0. alike_then m _ _ (value_alike m c d called f e ls w0 lt0) lt0
         (λ v w1 lt1. chosen v (block_alike a ls w1 lt1) (otherwise_alike b ls w1 lt1)))
+    run_alike (resolved_while e b span) ls w lt = turned (suc w.fuel) e _ _ (λ ls v ltv. block_alike b ls v ltv) ls w lt
     run_alike (resolved_return e span) ls w lt = alike_unit m w _ _ lt (λ w0 lt0. returned e ls w0 lt0)
     run_alike (resolved_revert e span) ls w lt = alike_unit m w _ _ lt (λ w0 lt0. reverted e ls w0 lt0)
     run_alike (resolved_disown subject span) ls w lt =

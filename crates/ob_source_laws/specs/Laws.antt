@@ -1,18 +1,19 @@
 -- What is kept by each part of a run (this project's own).
 use Rattle.std.specs.Prelude.{◌≡◌, ◌≢◌, ℕ, ◌+◌, ◌<◌, ◌≤◌, true, List, ◌++◌, length, Option, Some, None, Contains, IsTrue, IsSomeAnd, ⊤}
+use Rattle.ob_base.specs.declared.fault.Span.{Span}
 use Rattle.ob_base.specs.declared.id.TxId.{TxId}
 use Rattle.ob_table.specs.Expressions.{Expression}
-use Rattle.ob_table.specs.Statements.{Statement, Statements, and_statement, ResolvedBody}
+use Rattle.ob_table.specs.Statements.{Statement, resolved_while, Block, Statements, and_statement, ResolvedBody}
 use Rattle.ob_table.specs.Tables.{ClassTable, body_at}
 use Rattle.ob_table.specs.declared.contract.Signature.{Signature}
 use Rattle.ob_heap_spec.specs.Values.{Value}
 use Rattle.ob_heap_spec.specs.Objects.{Object}
 use Rattle.ob_heap_spec.specs.Contents.{object_at}
-use Rattle.ob_heap_spec.specs.Worlds.{object_item, World, AbortCause, Spent, RunOutcome, gives, aborts, wrong}
-use Rattle.ob_source_meaning.specs.Frames.{SourceFrame, Locals, first_locals, Callee, of_object, of_this, of_new, Calls, Flow}
+use Rattle.ob_heap_spec.specs.Worlds.{object_item, World, AbortCause, Spent, RunOutcome, gives, aborts, wrong, ◌>>=◌, unit}
+use Rattle.ob_source_meaning.specs.Frames.{SourceFrame, Locals, first_locals, Callee, of_object, of_this, of_new, Calls, Flow, goes_on}
 use Rattle.ob_heap_spec.specs.GoingWrong.{is_followed}
 use Rattle.ob_source_meaning.specs.Expressions.{value_of}
-use Rattle.ob_source_meaning.specs.Statements.{run, run_all}
+use Rattle.ob_source_meaning.specs.Statements.{after, choose, run, run_block, run_all}
 use Rattle.ob_source_meaning.specs.Bodies.{run_body}
 use Rattle.ob_source_meaning.specs.Calls.{call_at}
 
@@ -132,6 +133,24 @@ abbrev pub DepthIsEnoughForStatements : Type 0
 DepthIsEnoughForStatements =
     (table : ClassTable) (f : SourceFrame) (ss : Statements) (ls : Locals)
     → DepthIsEnough (λ depth w. run_all (call_at table depth) f ss ls w)
+
+-- Turns.
+
+-- A turn of a `while`: it takes a unit and evaluates the condition; where that is true the block runs, and where the block
+-- goes on this is done again.
+abbrev pub turn : Calls → SourceFrame → Expression → Block → (Locals → World → RunOutcome Flow) → Locals → World
+    → RunOutcome Flow
+turn calls f condition block again ls w =
+    unit w
+    (λ w0. value_of calls f condition ls w0
+    >>= (λ v w1. choose v (run_block calls f block ls w1 >>= (λ flow w2. after flow w2 again)) (gives (goes_on ls) w1)))
+
+-- A `while` is a turn, after which the same `while` is done again: no run meets the bound of its turns.
+abbrev pub IsDoneAgain : Type 0
+IsDoneAgain =
+    (table : ClassTable) (depth : ℕ) (f : SourceFrame) (condition : Expression) (block : Block) (span : Span) (ls : Locals) (w : World)
+    → run (call_at table depth) f (resolved_while condition block span) ls w
+    ≡ turn (call_at table depth) f condition block (run (call_at table depth) f (resolved_while condition block span)) ls w
 
 -- Aborts.
 

@@ -1,12 +1,12 @@
--- What statements do; each takes a unit at its start (the Obsidian language documentation, "Statements"; units are this
--- project's own).
-use Rattle.std.specs.Prelude.{ℕ, true, false, [], ◌∷◌, ◌++◌, Option, Some, None}
+-- What statements do; each takes a unit at its start, and a `while` one at the start of each turn (the Obsidian language
+-- documentation, "Statements"; units and `while` are this project's own).
+use Rattle.std.specs.Prelude.{ℕ, zero, suc, true, false, [], ◌∷◌, ◌++◌, Option, Some, None}
 use Rattle.ob_table.specs.Expressions.{Expression}
-use Rattle.ob_table.specs.Statements.{Statement, resolved_declare, resolved_assign, resolved_stage, resolved_change, resolved_discard, resolved_test, resolved_if, resolved_return, resolved_revert, resolved_disown, resolved_assert, Block, resolved_block, Otherwise, no_otherwise, otherwise_block, Statements, no_statements, and_statement}
+use Rattle.ob_table.specs.Statements.{Statement, resolved_declare, resolved_assign, resolved_stage, resolved_change, resolved_discard, resolved_test, resolved_if, resolved_while, resolved_return, resolved_revert, resolved_disown, resolved_assert, Block, resolved_block, Otherwise, no_otherwise, otherwise_block, Statements, no_statements, and_statement}
 use Rattle.ob_table.specs.declared.seen.Seen.{Seen}
 use Rattle.ob_table.specs.declared.seen.Seen.TheVariants.{This, Local, Field as FieldSeen}
 use Rattle.ob_heap_spec.specs.Values.{Value, bool_value, text_value, put}
-use Rattle.ob_heap_spec.specs.Worlds.{World, by_revert, RunOutcome, gives, abort, wrong, ◌>>=◌, if_right, with_some, unit}
+use Rattle.ob_heap_spec.specs.Worlds.{World, by_revert, by_fuel, RunOutcome, gives, abort, wrong, ◌>>=◌, if_right, with_some, unit}
 use Rattle.ob_heap_spec.specs.Marks.{mark_disowned}
 use Rattle.ob_source_meaning.specs.Frames.{SourceFrame, SourceVariable, SourceGiven, Locals, Calls, Flow, goes_on, returns}
 use Rattle.ob_heap_spec.specs.GoingWrong.{is_followed}
@@ -37,6 +37,16 @@ choose (bool_value true) then_go else_go = then_go
 choose (bool_value false) then_go else_go = else_go
 choose v then_go else_go = wrong
 
+-- The turns of a `while`, so many at most. A turn takes a unit and evaluates the condition. Where that is true, the block
+-- runs, and where the block goes on, so do the turns. With `suc w.fuel` for the bound, fuel is out before it is met.
+abbrev pub turns : ℕ → (Locals → World → RunOutcome Value) → (Locals → World → RunOutcome Flow) → Locals → World
+    → RunOutcome Flow
+turns zero condition block ls w = abort by_fuel w
+turns (suc n) condition block ls w =
+    unit w
+    (λ w0. condition ls w0
+    >>= (λ v w1. choose v (block ls w1 >>= (λ flow w2. after flow w2 (turns n condition block))) (gives (goes_on ls) w1)))
+
 -- a return, with the value of an expression if there is one
 abbrev pub return_with : Calls → SourceFrame → Option Expression → Locals → World → RunOutcome Flow
 return_with calls f None ls w = gives (returns None) w
@@ -57,7 +67,7 @@ abbrev pub with_staged : SourceGiven → Locals → Locals
 with_staged given ls = record ls { staged = ls.staged ++ given ∷ [] }
 
 abbrev mutual
-  -- what a statement does: it takes a unit, and then does its work
+  -- what a statement does: it takes a unit, and then does its work; a `while` takes one at each turn
   pub run : Calls → SourceFrame → Statement → Locals → World → RunOutcome Flow
   run calls f (resolved_declare n name kind e span) ls w =
       unit w
@@ -81,6 +91,8 @@ abbrev mutual
       unit w
       (λ w0. value_of calls f e ls w0
       >>= (λ v w1. choose v (run_block calls f block ls w1) (run_otherwise calls f otherwise ls w1)))
+  run calls f (resolved_while e block span) ls w =
+      turns (suc w.fuel) (value_of calls f e) (run_block calls f block) ls w
   run calls f (resolved_return e span) ls w = unit w (λ w0. return_with calls f e ls w0)
   run calls f (resolved_revert e span) ls w = unit w (λ w0. revert_with calls f e ls w0)
   run calls f (resolved_disown subject span) ls w =

@@ -2,7 +2,7 @@
 use Rattle.std.proofs.Common.{◌≡◌, List, [], ◌∷◌, Some, None, map, ap, sym, ◌∙◌, refl, subst}
 use Rattle.ob_table.specs.ExpressionsView.{expression_of}
 use Rattle.ob_table.specs.ExpressionsBack.{expression_back}
-use Rattle.ob_table.specs.StatementsView.{given_field_of, statement_of, resolved_block_of, statements_of, resolved_body_of, statement_of-Declare, statement_of-Assign, statement_of-Stage, statement_of-Change, statement_of-Call, statement_of-Test, statement_of-If, statement_of-Return, statement_of-Revert, statement_of-Disown, statement_of-Assert, resolved_block_of-fields}
+use Rattle.ob_table.specs.StatementsView.{given_field_of, statement_of, resolved_block_of, statements_of, resolved_body_of, statement_of-Declare, statement_of-Assign, statement_of-Stage, statement_of-Change, statement_of-Call, statement_of-Test, statement_of-If, statement_of-While, statement_of-Return, statement_of-Revert, statement_of-Disown, statement_of-Assert, resolved_block_of-fields}
 use Rattle.ob_table.specs.StatementsBack.{given_field_back, statement_back, block_back, statements_back, body_back, option_there, list_there}
 use Rattle.ob_table.proofs.ExpressionsLost.{expression_back-of}
 use Rattle.ob_table.specs.declared.body.Body.{Body}
@@ -10,7 +10,7 @@ use Rattle.ob_table.specs.declared.stmt.ResolvedGiven.{ResolvedGiven}
 use Rattle.ob_table.specs.declared.stmt.ResolvedBlock.{ResolvedBlock, ResolvedBlock-F, map-ResolvedBlock, roll-ResolvedBlock}
 use Rattle.ob_table.specs.declared.stmt.ResolvedStmt as made
 use Rattle.ob_table.specs.declared.stmt.ResolvedStmt.TheOpen as open'
-use Rattle.ob_table.specs.declared.stmt.ResolvedStmt.TheVariants.{rolls-Declare, rolls-Assign, rolls-Stage, rolls-Change, rolls-Call, rolls-Test, rolls-If, rolls-Return, rolls-Revert, rolls-Disown, rolls-Assert}
+use Rattle.ob_table.specs.declared.stmt.ResolvedStmt.TheVariants.{rolls-Declare, rolls-Assign, rolls-Stage, rolls-Change, rolls-Call, rolls-Test, rolls-If, rolls-While, rolls-Return, rolls-Revert, rolls-Disown, rolls-Assert}
 
 given_field_back-of : (node : ResolvedGiven) → given_field_back (given_field_of node) ≡ node
 given_field_back-of node = ap (λ value. record { field = node.field; span = node.span; value = value }) (expression_back-of node.value)
@@ -48,6 +48,9 @@ step (open'.If condition then None span) f g blocks =
 step (open'.If condition then (Some block) span) f g blocks =
     subst IsBack (sym (rolls-If condition (g then) (Some (g block)) span))
     (ap statement_back (statement_of-If condition (g then) (Some (g block)) span) ∙ ap (λ e. made.If e (block_back (resolved_block_of (g then))) (Some (block_back (resolved_block_of (g block)))) span) (expression_back-of condition) ∙ ap (λ b. made.If condition b (Some (block_back (resolved_block_of (g block)))) span) (blocks then) ∙ ap (λ b. made.If condition (g then) (Some b) span) (blocks block))
+step (open'.While condition body span) f g blocks =
+    subst IsBack (sym (rolls-While condition (g body) span))
+    (ap statement_back (statement_of-While condition (g body) span) ∙ ap (λ e. made.While e (block_back (resolved_block_of (g body))) span) (expression_back-of condition) ∙ ap (λ b. made.While condition b span) (blocks body))
 step (open'.Return value span) f g blocks =
     subst IsBack (sym (rolls-Return value span)) (ap statement_back (statement_of-Return value span) ∙ ap (λ e. made.Return e span) (option_there expression_of expression_back expression_back-of value))
 step (open'.Revert text span) f g blocks =

@@ -29,6 +29,7 @@ mutual
     resolved_discard : Expression → Span → Statement
     resolved_test : SeenAt → StateId → Block → Otherwise → Span → Statement
     resolved_if : Expression → Block → Otherwise → Span → Statement
+    resolved_while : Expression → Block → Span → Statement
     resolved_return : Option Expression → Span → Statement
     resolved_revert : Option Expression → Span → Statement
     resolved_disown : SeenAt → Span → Statement

@@ -4,12 +4,12 @@ use Rattle.std.specs.Coded.{Coded, coded_list, code_by}
 use Rattle.std.proofs.Common.{ap, ◌∙◌, refl}
 use Rattle.ob_table.specs.ExpressionsView.{expression_of}
 use Rattle.ob_table.specs.ExpressionsBack.{expression_back, expression_of-back}
-use Rattle.ob_table.specs.Statements.{GivenField, Statement, resolved_declare, resolved_assign, resolved_stage, resolved_change, resolved_discard, resolved_test, resolved_if, resolved_return, resolved_revert, resolved_disown, resolved_assert, Block, resolved_block, Otherwise, no_otherwise, otherwise_block, Statements, no_statements, and_statement, ResolvedBody}
-use Rattle.ob_table.specs.StatementsView.{given_field_of, statement_of, statements_of, resolved_block_of, otherwise_of, resolved_body_of, statement_of-Declare, statement_of-Assign, statement_of-Stage, statement_of-Change, statement_of-Call, statement_of-Test, statement_of-If, statement_of-Return, statement_of-Revert, statement_of-Disown, statement_of-Assert, resolved_block_of-fields}
+use Rattle.ob_table.specs.Statements.{GivenField, Statement, resolved_declare, resolved_assign, resolved_stage, resolved_change, resolved_discard, resolved_test, resolved_if, resolved_while, resolved_return, resolved_revert, resolved_disown, resolved_assert, Block, resolved_block, Otherwise, no_otherwise, otherwise_block, Statements, no_statements, and_statement, ResolvedBody}
+use Rattle.ob_table.specs.StatementsView.{given_field_of, statement_of, statements_of, resolved_block_of, otherwise_of, resolved_body_of, statement_of-Declare, statement_of-Assign, statement_of-Stage, statement_of-Change, statement_of-Call, statement_of-Test, statement_of-If, statement_of-While, statement_of-Return, statement_of-Revert, statement_of-Disown, statement_of-Assert, resolved_block_of-fields}
 use Rattle.ob_table.specs.declared.body.Body.{Body}
 use Rattle.ob_table.specs.declared.stmt.ResolvedGiven.{ResolvedGiven}
 use Rattle.ob_table.specs.declared.stmt.ResolvedBlock.{ResolvedBlock}
-use Rattle.ob_table.specs.declared.stmt.ResolvedStmt.{ResolvedStmt, Declare, Assign, Stage, Change, Call, Test, If, Return, Revert, Disown, Assert}
+use Rattle.ob_table.specs.declared.stmt.ResolvedStmt.{ResolvedStmt, Declare, Assign, Stage, Change, Call, Test, If, While, Return, Revert, Disown, Assert}
 
 -- a field and the value that it is given
 abbrev pub given_field_back : GivenField → ResolvedGiven
@@ -25,6 +25,7 @@ abbrev mutual
   statement_back (resolved_discard value span) = Call (expression_back value) span
   statement_back (resolved_test subject state then other span) = Test subject state (block_back then) (otherwise_back other) span
   statement_back (resolved_if condition then other span) = If (expression_back condition) (block_back then) (otherwise_back other) span
+  statement_back (resolved_while condition body span) = While (expression_back condition) (block_back body) span
   statement_back (resolved_return value span) = Return (option_map expression_back value) span
   statement_back (resolved_revert text span) = Revert (option_map expression_back text) span
   statement_back (resolved_disown subject span) = Disown subject span
@@ -82,6 +83,10 @@ mutual
       ∙ ap (λ e. resolved_if e (resolved_block_of (block_back then)) (otherwise_of (otherwise_back other)) span) (expression_of-back condition)
       ∙ ap (λ b. resolved_if condition b (otherwise_of (otherwise_back other)) span) (block_of-back then)
       ∙ ap (λ o. resolved_if condition then o span) (otherwise_of-back other)
+  statement_of-back (resolved_while condition body span) =
+      statement_of-While (expression_back condition) (block_back body) span
+      ∙ ap (λ e. resolved_while e (resolved_block_of (block_back body)) span) (expression_of-back condition)
+      ∙ ap (λ b. resolved_while condition b span) (block_of-back body)
   statement_of-back (resolved_return value span) =
       statement_of-Return (option_map expression_back value) span ∙ ap (λ e. resolved_return e span) (option_there expression_back expression_of expression_of-back value)
   statement_of-back (resolved_revert text span) =

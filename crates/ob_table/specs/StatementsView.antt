@@ -4,7 +4,7 @@ use Rattle.std.proofs.Common.{ap, sym, ◌∙◌}
 use Rattle.ob_base.specs.declared.fault.Span.{Span}
 use Rattle.ob_base.specs.declared.id.StateId.{StateId}
 use Rattle.ob_base.specs.declared.permission.Perm.{Perm}
-use Rattle.ob_table.specs.Statements.{GivenField, Statement, resolved_declare, resolved_assign, resolved_stage, resolved_change, resolved_discard, resolved_test, resolved_if, resolved_return, resolved_revert, resolved_disown, resolved_assert, Block, resolved_block, Otherwise, no_otherwise, otherwise_block, Statements, statements, ResolvedBody}
+use Rattle.ob_table.specs.Statements.{GivenField, Statement, resolved_declare, resolved_assign, resolved_stage, resolved_change, resolved_discard, resolved_test, resolved_if, resolved_while, resolved_return, resolved_revert, resolved_disown, resolved_assert, Block, resolved_block, Otherwise, no_otherwise, otherwise_block, Statements, statements, ResolvedBody}
 use Rattle.ob_table.specs.ExpressionsView.{expression_of, expression_views}
 use Rattle.ob_table.specs.declared.seen.SeenAt.{SeenAt}
 use Rattle.ob_table.specs.declared.seen.Kind.{Kind}
@@ -14,7 +14,7 @@ use Rattle.ob_table.specs.declared.stmt.ResolvedGiven.{ResolvedGiven}
 use Rattle.ob_table.specs.declared.stmt.ResolvedBlock.{ResolvedBlock, ResolvedBlock-F, fold-ResolvedBlock, fold_out-ResolvedBlock}
 use Rattle.ob_table.specs.declared.stmt.ResolvedStmt as made
 use Rattle.ob_table.specs.declared.stmt.ResolvedStmt.TheOpen as open'
-use Rattle.ob_table.specs.declared.stmt.ResolvedStmt.TheVariants.{rolls-Declare, rolls-Assign, rolls-Stage, rolls-Change, rolls-Call, rolls-Test, rolls-If, rolls-Return, rolls-Revert, rolls-Disown, rolls-Assert}
+use Rattle.ob_table.specs.declared.stmt.ResolvedStmt.TheVariants.{rolls-Declare, rolls-Assign, rolls-Stage, rolls-Change, rolls-Call, rolls-Test, rolls-If, rolls-While, rolls-Return, rolls-Revert, rolls-Disown, rolls-Assert}
 
 -- a field and the value that it is given
 abbrev pub given_field_of : ResolvedGiven → GivenField
@@ -34,6 +34,7 @@ statement_step (open'.Change state given span) = resolved_change state (map give
 statement_step (open'.Call value span) = resolved_discard (expression_of value) span
 statement_step (open'.Test subject state then other span) = resolved_test subject state then (otherwise other) span
 statement_step (open'.If condition then other span) = resolved_if (expression_of condition) then (otherwise other) span
+statement_step (open'.While condition body span) = resolved_while (expression_of condition) body span
 statement_step (open'.Return value span) = resolved_return (option_map expression_of value) span
 statement_step (open'.Revert text span) = resolved_revert (option_map expression_of text) span
 statement_step (open'.Disown subject span) = resolved_disown subject span
@@ -86,6 +87,9 @@ pub statement_of-If : (condition : ResolvedExpr) (then : ResolvedBlock) (other :
 statement_of-If condition then None span = ap statement_of (sym (rolls-If condition then None span)) ∙ made.fold-roll-ResolvedStmt Statement Block statement_step block_step (open'.If condition then None span)
 statement_of-If condition then (Some block) span = ap statement_of (sym (rolls-If condition then (Some block) span)) ∙ made.fold-roll-ResolvedStmt Statement Block statement_step block_step (open'.If condition then (Some block) span)
 
+pub statement_of-While : (condition : ResolvedExpr) (body : ResolvedBlock) (span : Span) → statement_of (made.While condition body span) ≡ resolved_while (expression_of condition) (resolved_block_of body) span
+statement_of-While condition body span = ap statement_of (sym (rolls-While condition body span)) ∙ made.fold-roll-ResolvedStmt Statement Block statement_step block_step (open'.While condition body span)
+
 pub statement_of-Return : (value : Option ResolvedExpr) (span : Span) → statement_of (made.Return value span) ≡ resolved_return (option_map expression_of value) span
 statement_of-Return value span = ap statement_of (sym (rolls-Return value span)) ∙ made.fold-roll-ResolvedStmt Statement Block statement_step block_step (open'.Return value span)
 
@@ -101,6 +105,6 @@ statement_of-Assert subject perm span = ap statement_of (sym (rolls-Assert subje
 pub resolved_block_of-fields : (block : ResolvedBlock) → resolved_block_of block ≡ resolved_block (statements_of block.statements) block.end
 resolved_block_of-fields = fold_out-ResolvedBlock Statement Block statement_step block_step
 
-pub ruleset statement_views = (statement_of-Declare, statement_of-Assign, statement_of-Stage, statement_of-Change, statement_of-Call, statement_of-Test, statement_of-If, statement_of-Return, statement_of-Revert, statement_of-Disown, statement_of-Assert, resolved_block_of-fields)
+pub ruleset statement_views = (statement_of-Declare, statement_of-Assign, statement_of-Stage, statement_of-Change, statement_of-Call, statement_of-Test, statement_of-If, statement_of-While, statement_of-Return, statement_of-Revert, statement_of-Disown, statement_of-Assert, resolved_block_of-fields)
 
 pub ruleset resolved_views = (expression_views, statement_views)

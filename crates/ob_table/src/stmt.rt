@@ -92,6 +92,12 @@ pub enum ResolvedStmt {
         otherwise: Option<ResolvedBlock>,
         span: Span,
     },
+    /// `while (condition) { .. }`
+    While {
+        condition: ResolvedExpr,
+        body: ResolvedBlock,
+        span: Span,
+    },
     /// `return value;`
     Return {
         value: Option<ResolvedExpr>,
@@ -222,6 +228,18 @@ impl Duplicate for ResolvedStmt {
                     condition,
                     then,
                     otherwise,
+                    span: *span,
+                })
+            }
+            ResolvedStmt::While {
+                condition,
+                body,
+                span,
+            } => {
+                let (condition, body) = both(condition.copy(alloc), body.copy(alloc))?;
+                Ok(ResolvedStmt::While {
+                    condition,
+                    body,
                     span: *span,
                 })
             }

@@ -7,7 +7,7 @@ use Rattle.ob_base.specs.Names.{is_text}
 use Rattle.ob_base.specs.Numbers.{is_int}
 use Rattle.ob_base.specs.declared.id.ContractId.{ContractId}
 use Rattle.ob_table.specs.Expressions.{Expression, resolved_number, resolved_text, resolved_bool, resolved_seen, resolved_unary, resolved_binary, resolved_logical, resolved_call, resolved_new, Arguments, no_arguments, and_argument}
-use Rattle.ob_table.specs.Statements.{GivenField, Statement, resolved_declare, resolved_assign, resolved_stage, resolved_change, resolved_discard, resolved_test, resolved_if, resolved_return, resolved_revert, resolved_disown, resolved_assert, Block, resolved_block, Otherwise, no_otherwise, otherwise_block, Statements, no_statements, and_statement, ResolvedBody}
+use Rattle.ob_table.specs.Statements.{GivenField, Statement, resolved_declare, resolved_assign, resolved_stage, resolved_change, resolved_discard, resolved_test, resolved_if, resolved_while, resolved_return, resolved_revert, resolved_disown, resolved_assert, Block, resolved_block, Otherwise, no_otherwise, otherwise_block, Statements, no_statements, and_statement, ResolvedBody}
 use Rattle.ob_table.specs.Tables.{ClassTable, contract_at, field_at, signature_at, signature_of}
 use Rattle.ob_table.specs.declared.operator.UnaryOperator.{UnaryOperator}
 use Rattle.ob_table.specs.declared.operator.UnaryOperator.TheVariants.{Not, Negate}
@@ -175,6 +175,7 @@ abbrev mutual
   ends_there (resolved_revert text span) = true
   ends_there (resolved_test subject state branch other span) = block_ends_there branch && other_ends_there other
   ends_there (resolved_if condition branch other span) = block_ends_there branch && other_ends_there other
+  ends_there (resolved_while condition body span) = false
   ends_there (resolved_declare local name of value span) = false
   ends_there (resolved_assign target value span) = false
   ends_there (resolved_stage state given span) = false
@@ -260,6 +261,7 @@ abbrev mutual
       Refers f ls subject.of (λ c. state.0 < length c.states) × IsBlock f ls branch × IsOtherwise f ls other
   IsStatement f ls row (resolved_if condition branch other span) =
       IsValue f ls BoolKind condition × IsBlock f ls branch × IsOtherwise f ls other
+  IsStatement f ls row (resolved_while condition body span) = IsValue f ls BoolKind condition × IsBlock f ls body
   IsStatement f ls row (resolved_return value span) = IsReturned f ls f.result value
   IsStatement f ls row (resolved_revert text span) = IfSome text (IsValue f ls Text)
   IsStatement f ls row (resolved_disown subject span) = Refers f ls subject.of (λ c. ⊤)

@@ -1,7 +1,7 @@
 -- From plain data back to the statements of a tree.
 use Rattle.std.proofs.Common.{◌≡◌, List, [], ◌∷◌, Option, Some, None, map, option_map, ap, sym, ◌∙◌, refl, subst}
-use Rattle.ob_tree.specs.Stmts.{Local, int_local, bool_local, text_local, named_local, GivenExpr, Stmt, declare_stmt, assign_stmt, stage_stmt, change_stmt, call_stmt, test_stmt, if_stmt, return_stmt, revert_stmt, disown_stmt, assert_stmt, Block, block_with, Else, no_else, else_with, Stmts, no_stmts, and_stmt}
-use Rattle.ob_tree.specs.StmtsView.{local_of, given_of, stmt_of, block_of, stmts_of, stmt_of-Declare, stmt_of-Assign, stmt_of-Stage, stmt_of-Change, stmt_of-Call, stmt_of-Test, stmt_of-If, stmt_of-Return, stmt_of-Revert, stmt_of-Disown, stmt_of-Assert, block_of-fields}
+use Rattle.ob_tree.specs.Stmts.{Local, int_local, bool_local, text_local, named_local, GivenExpr, Stmt, declare_stmt, assign_stmt, stage_stmt, change_stmt, call_stmt, test_stmt, if_stmt, while_stmt, return_stmt, revert_stmt, disown_stmt, assert_stmt, Block, block_with, Else, no_else, else_with, Stmts, no_stmts, and_stmt}
+use Rattle.ob_tree.specs.StmtsView.{local_of, given_of, stmt_of, block_of, stmts_of, stmt_of-Declare, stmt_of-Assign, stmt_of-Stage, stmt_of-Change, stmt_of-Call, stmt_of-Test, stmt_of-If, stmt_of-While, stmt_of-Return, stmt_of-Revert, stmt_of-Disown, stmt_of-Assert, block_of-fields}
 use Rattle.ob_tree.specs.ExprsView.{expr_of}
 use Rattle.ob_tree.proofs.BackLemmas.{map_back, option_back}
 use Rattle.ob_tree.proofs.NamesBack.{named_back, named_back-of}
@@ -12,7 +12,7 @@ use Rattle.ob_tree.specs.declared.stmt.LocalType.TheVariants as local
 use Rattle.ob_tree.specs.declared.stmt.Block.{Block as BlockNode, Block-F, map-Block, roll-Block}
 use Rattle.ob_tree.specs.declared.stmt.Stmt as made
 use Rattle.ob_tree.specs.declared.stmt.Stmt.TheOpen as open'
-use Rattle.ob_tree.specs.declared.stmt.Stmt.TheVariants.{rolls-Declare, rolls-Assign, rolls-Stage, rolls-Change, rolls-Call, rolls-Test, rolls-If, rolls-Return, rolls-Revert, rolls-Disown, rolls-Assert}
+use Rattle.ob_tree.specs.declared.stmt.Stmt.TheVariants.{rolls-Declare, rolls-Assign, rolls-Stage, rolls-Change, rolls-Call, rolls-Test, rolls-If, rolls-While, rolls-Return, rolls-Revert, rolls-Disown, rolls-Assert}
 
 abbrev pub local_back : Local → LocalType
 local_back (int_local span) = local.Int span
@@ -41,6 +41,7 @@ abbrev mutual
   stmt_back (call_stmt value span) = made.Call (expr_back value) span
   stmt_back (test_stmt subject state then otherwise span) = made.Test subject state (block_back then) (else_back otherwise) span
   stmt_back (if_stmt condition then otherwise span) = made.If (expr_back condition) (block_back then) (else_back otherwise) span
+  stmt_back (while_stmt condition body span) = made.While (expr_back condition) (block_back body) span
   stmt_back (return_stmt value span) = made.Return (option_map expr_back value) span
   stmt_back (revert_stmt text span) = made.Revert (option_map expr_back text) span
   stmt_back (disown_stmt name span) = made.Disown name span
@@ -91,6 +92,9 @@ stmt_step (open'.If condition then None span) f g blocks =
 stmt_step (open'.If condition then (Some block) span) f g blocks =
     subst IsStmtBack (sym (rolls-If condition (g then) (Some (g block)) span))
     (ap stmt_back (stmt_of-If condition (g then) (Some (g block)) span) ∙ ap (λ e. made.If e (block_back (block_of (g then))) (Some (block_back (block_of (g block)))) span) (expr_back-of condition) ∙ ap (λ b. made.If condition b (Some (block_back (block_of (g block)))) span) (blocks then) ∙ ap (λ b. made.If condition (g then) (Some b) span) (blocks block))
+stmt_step (open'.While condition body span) f g blocks =
+    subst IsStmtBack (sym (rolls-While condition (g body) span))
+    (ap stmt_back (stmt_of-While condition (g body) span) ∙ ap (λ e. made.While e (block_back (block_of (g body))) span) (expr_back-of condition) ∙ ap (λ b. made.While condition b span) (blocks body))
 stmt_step (open'.Return value span) f g blocks =
     subst IsStmtBack (sym (rolls-Return value span)) (ap stmt_back (stmt_of-Return value span) ∙ ap (λ e. made.Return e span) (option_back expr_of expr_back expr_back-of value))
 stmt_step (open'.Revert text span) f g blocks =

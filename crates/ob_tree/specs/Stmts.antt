@@ -30,6 +30,7 @@ mutual
     call_stmt : Expr → Span → Stmt
     test_stmt : Subject → NamePart → Block → Else → Span → Stmt
     if_stmt : Expr → Block → Else → Span → Stmt
+    while_stmt : Expr → Block → Span → Stmt
     return_stmt : Option Expr → Span → Stmt
     revert_stmt : Option Expr → Span → Stmt
     disown_stmt : NamePart → Span → Stmt

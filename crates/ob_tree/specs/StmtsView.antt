@@ -2,7 +2,7 @@
 use Rattle.std.specs.Prelude.{◌≡◌, List, map, Option, Some, None, option_map}
 use Rattle.std.proofs.Common.{ap, sym, ◌∙◌}
 use Rattle.ob_base.specs.declared.fault.Span.{Span}
-use Rattle.ob_tree.specs.Stmts.{Local, int_local, bool_local, text_local, named_local, GivenExpr, Stmt, declare_stmt, assign_stmt, stage_stmt, change_stmt, call_stmt, test_stmt, if_stmt, return_stmt, revert_stmt, disown_stmt, assert_stmt, Block, block_with, Else, no_else, else_with, Stmts, stmts}
+use Rattle.ob_tree.specs.Stmts.{Local, int_local, bool_local, text_local, named_local, GivenExpr, Stmt, declare_stmt, assign_stmt, stage_stmt, change_stmt, call_stmt, test_stmt, if_stmt, while_stmt, return_stmt, revert_stmt, disown_stmt, assert_stmt, Block, block_with, Else, no_else, else_with, Stmts, stmts}
 use Rattle.ob_tree.specs.NamesView.{named_of}
 use Rattle.ob_tree.specs.ExprsView.{expr_of}
 use Rattle.ob_tree.specs.declared.name.NamePart.{NamePart}
@@ -15,7 +15,7 @@ use Rattle.ob_tree.specs.declared.stmt.LocalType.TheVariants as local
 use Rattle.ob_tree.specs.declared.stmt.Block.{Block as BlockNode, Block-F, fold-Block, fold_out-Block}
 use Rattle.ob_tree.specs.declared.stmt.Stmt as made
 use Rattle.ob_tree.specs.declared.stmt.Stmt.TheOpen as open'
-use Rattle.ob_tree.specs.declared.stmt.Stmt.TheVariants.{rolls-Declare, rolls-Assign, rolls-Stage, rolls-Change, rolls-Call, rolls-Test, rolls-If, rolls-Return, rolls-Revert, rolls-Disown, rolls-Assert}
+use Rattle.ob_tree.specs.declared.stmt.Stmt.TheVariants.{rolls-Declare, rolls-Assign, rolls-Stage, rolls-Change, rolls-Call, rolls-Test, rolls-If, rolls-While, rolls-Return, rolls-Revert, rolls-Disown, rolls-Assert}
 
 -- the type of a local variable
 abbrev pub local_of : LocalType → Local
@@ -42,6 +42,7 @@ stmt_step (open'.Change state given span) = change_stmt state (map given_of give
 stmt_step (open'.Call value span) = call_stmt (expr_of value) span
 stmt_step (open'.Test subject state then otherwise span) = test_stmt subject state then (else_block otherwise) span
 stmt_step (open'.If condition then otherwise span) = if_stmt (expr_of condition) then (else_block otherwise) span
+stmt_step (open'.While condition body span) = while_stmt (expr_of condition) body span
 stmt_step (open'.Return value span) = return_stmt (option_map expr_of value) span
 stmt_step (open'.Revert text span) = revert_stmt (option_map expr_of text) span
 stmt_step (open'.Disown name span) = disown_stmt name span
@@ -90,6 +91,9 @@ pub stmt_of-If : (condition : ExprNode) (then : BlockNode) (otherwise : Option B
 stmt_of-If condition then None span = ap stmt_of (sym (rolls-If condition then None span)) ∙ made.fold-roll-Stmt Stmt Block stmt_step block_step (open'.If condition then None span)
 stmt_of-If condition then (Some block) span = ap stmt_of (sym (rolls-If condition then (Some block) span)) ∙ made.fold-roll-Stmt Stmt Block stmt_step block_step (open'.If condition then (Some block) span)
 
+pub stmt_of-While : (condition : ExprNode) (body : BlockNode) (span : Span) → stmt_of (made.While condition body span) ≡ while_stmt (expr_of condition) (block_of body) span
+stmt_of-While condition body span = ap stmt_of (sym (rolls-While condition body span)) ∙ made.fold-roll-Stmt Stmt Block stmt_step block_step (open'.While condition body span)
+
 pub stmt_of-Return : (value : Option ExprNode) (span : Span) → stmt_of (made.Return value span) ≡ return_stmt (option_map expr_of value) span
 stmt_of-Return value span = ap stmt_of (sym (rolls-Return value span)) ∙ made.fold-roll-Stmt Stmt Block stmt_step block_step (open'.Return value span)
 
@@ -105,4 +109,4 @@ stmt_of-Assert subject perm span = ap stmt_of (sym (rolls-Assert subject perm sp
 pub block_of-fields : (block : BlockNode) → block_of block ≡ block_with (stmts_of block.statements) block.end
 block_of-fields = fold_out-Block Stmt Block stmt_step block_step
 
-pub ruleset stmt_views = (stmt_of-Declare, stmt_of-Assign, stmt_of-Stage, stmt_of-Change, stmt_of-Call, stmt_of-Test, stmt_of-If, stmt_of-Return, stmt_of-Revert, stmt_of-Disown, stmt_of-Assert, block_of-fields)
+pub ruleset stmt_views = (stmt_of-Declare, stmt_of-Assign, stmt_of-Stage, stmt_of-Change, stmt_of-Call, stmt_of-Test, stmt_of-If, stmt_of-While, stmt_of-Return, stmt_of-Revert, stmt_of-Disown, stmt_of-Assert, block_of-fields)

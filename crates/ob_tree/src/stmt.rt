@@ -106,6 +106,12 @@ pub enum Stmt {
         otherwise: Option<Block>,
         span: Span,
     },
+    /// `while (condition) { .. }`
+    While {
+        condition: Expr,
+        body: Block,
+        span: Span,
+    },
     /// `return value;`
     Return {
         value: Option<Expr>,
@@ -322,6 +328,18 @@ impl Duplicate for Stmt {
                     condition,
                     then,
                     otherwise,
+                    span: *span,
+                })
+            }
+            Stmt::While {
+                condition,
+                body,
+                span,
+            } => {
+                let (condition, body) = both(condition.copy(alloc), body.copy(alloc))?;
+                Ok(Stmt::While {
+                    condition,
+                    body,
                     span: *span,
                 })
             }

@@ -5,7 +5,7 @@ use Rattle.ob_lexer.specs.declared.token.TokenKind.TheVariants as kind
 use Rattle.ob_lexer.specs.declared.token.Word.TheVariants as word
 use Rattle.ob_lexer.specs.declared.token.Sign.TheVariants as sign
 use Rattle.ob_tree.specs.Exprs.{Expr}
-use Rattle.ob_tree.specs.Stmts.{Local, int_local, bool_local, text_local, named_local, GivenExpr, Stmt, declare_stmt, assign_stmt, stage_stmt, change_stmt, call_stmt, test_stmt, if_stmt, return_stmt, revert_stmt, disown_stmt, assert_stmt, Block, block_with, Else, no_else, else_with, Stmts, no_stmts, and_stmt}
+use Rattle.ob_tree.specs.Stmts.{Local, int_local, bool_local, text_local, named_local, GivenExpr, Stmt, declare_stmt, assign_stmt, stage_stmt, change_stmt, call_stmt, test_stmt, if_stmt, while_stmt, return_stmt, revert_stmt, disown_stmt, assert_stmt, Block, block_with, Else, no_else, else_with, Stmts, no_stmts, and_stmt}
 use Rattle.ob_tree_print.specs.NameTokens.{sign_unless, if_empty, token_of_name, token_of_subject, tokens_of_named, tokens_of_perm}
 use Rattle.ob_tree_print.specs.ExprTokens.{tokens_of_expr}
 use Rattle.ob_tree.specs.declared.name.NamePart.{NamePart}
@@ -49,6 +49,10 @@ tokens_of_test subject state = kind.Word word.If ∷ kind.Sign sign.OpenParen �
 unfoldable pub tokens_of_condition : Expr → List TokenKind
 tokens_of_condition condition = kind.Word word.If ∷ kind.Sign sign.OpenParen ∷ (tokens_of_expr condition ++ (kind.Sign sign.CloseParen ∷ []))
 
+-- "while" "(" expr ")"
+unfoldable pub tokens_of_while : Expr → List TokenKind
+tokens_of_while condition = kind.Word word.While ∷ kind.Sign sign.OpenParen ∷ (tokens_of_expr condition ++ (kind.Sign sign.CloseParen ∷ []))
+
 -- "[" (NAME|"this") "@" perm "]"
 unfoldable pub tokens_of_claim : Subject → PermNode → List TokenKind
 tokens_of_claim subject perm = kind.Sign sign.OpenBracket ∷ token_of_subject subject ∷ kind.Sign sign.At ∷ (tokens_of_perm perm ++ (kind.Sign sign.CloseBracket ∷ []))
@@ -62,6 +66,7 @@ abbrev mutual
   tokens_of_stmt (call_stmt value span) = tokens_of_expr value ++ (kind.Sign sign.Semicolon ∷ [])
   tokens_of_stmt (test_stmt subject state then otherwise span) = tokens_of_test subject state ++ (tokens_of_block then ++ tokens_of_else otherwise)
   tokens_of_stmt (if_stmt condition then otherwise span) = tokens_of_condition condition ++ (tokens_of_block then ++ tokens_of_else otherwise)
+  tokens_of_stmt (while_stmt condition body span) = tokens_of_while condition ++ tokens_of_block body
   tokens_of_stmt (return_stmt value span) = kind.Word word.Return ∷ (tokens_of_value value ++ (kind.Sign sign.Semicolon ∷ []))
   tokens_of_stmt (revert_stmt text span) = kind.Word word.Revert ∷ (tokens_of_value text ++ (kind.Sign sign.Semicolon ∷ []))
   tokens_of_stmt (disown_stmt name span) = kind.Word word.Disown ∷ token_of_name name ∷ kind.Sign sign.Semicolon ∷ []

@@ -5,7 +5,7 @@ use Rattle.std.proofs.lemmas.List.{at_drop_more, drop_all}
 use Rattle.std.proofs.lemmas.List.Concat.{flat_map-append}
 use Rattle.ob_lexer.specs.declared.token.TokenKind.{TokenKind}
 use Rattle.ob_tree.specs.ExprsView.{expr_views}
-use Rattle.ob_tree.specs.StmtsView.{stmt_of-Declare, stmt_of-Assign, stmt_of-Stage, stmt_of-Change, stmt_of-Call, stmt_of-Test, stmt_of-If, stmt_of-Return, stmt_of-Revert, stmt_of-Disown, stmt_of-Assert, block_of-fields}
+use Rattle.ob_tree.specs.StmtsView.{stmt_of-Declare, stmt_of-Assign, stmt_of-Stage, stmt_of-Change, stmt_of-Call, stmt_of-Test, stmt_of-If, stmt_of-While, stmt_of-Return, stmt_of-Revert, stmt_of-Disown, stmt_of-Assert, block_of-fields}
 use Rattle.ob_tree.specs.MembersView.{views}
 use Rattle.ob_tree_print.specs.NameTokens.{if_empty}
 use Rattle.ob_tree_print.specs.Layout.{laid_out, layout}
@@ -43,7 +43,7 @@ pub ruleset expr_prints = (expr_views, writes)
 
 pub ruleset block_prints = (block_of-fields, writes)
 
-pub ruleset stmt_prints = (stmt_of-Declare, stmt_of-Assign, stmt_of-Stage, stmt_of-Change, stmt_of-Call, stmt_of-Test, stmt_of-If, stmt_of-Return, stmt_of-Revert, stmt_of-Disown, stmt_of-Assert, writes)
+pub ruleset stmt_prints = (stmt_of-Declare, stmt_of-Assign, stmt_of-Stage, stmt_of-Change, stmt_of-Call, stmt_of-Test, stmt_of-If, stmt_of-While, stmt_of-Return, stmt_of-Revert, stmt_of-Disown, stmt_of-Assert, writes)
 
 pub if_empty-none : {A : Type 0} (xs : List A) (none some : List TokenKind) → length xs < 1 → if_empty xs none some ≡ none
 unfolding if_empty

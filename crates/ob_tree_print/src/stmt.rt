@@ -2,7 +2,7 @@
 ghost use Rattle.std.specs.Prelude.{◌≡◌, true, map, option_map, OnOk, string_bytes};
 ghost use Rattle.ob_tree.specs.ExprsView.{expr_of};
 ghost use Rattle.ob_tree.specs.StmtsView.{local_of, given_of, stmt_of, stmts_of, block_of, else_of};
-ghost use Rattle.ob_tree_print.specs.StmtTokens.{tokens_of_local, tokens_of_setting, tokens_of_value, tokens_of_given, tokens_of_change, tokens_of_membership, tokens_of_test, tokens_of_claim, tokens_of_condition, tokens_of_stmt, tokens_of_block, tokens_of_else, tokens_of_stmts};
+ghost use Rattle.ob_tree_print.specs.StmtTokens.{tokens_of_local, tokens_of_setting, tokens_of_value, tokens_of_given, tokens_of_change, tokens_of_membership, tokens_of_test, tokens_of_claim, tokens_of_condition, tokens_of_while, tokens_of_stmt, tokens_of_block, tokens_of_else, tokens_of_stmts};
 ghost use Rattle.ob_tree_print.specs.Written.{written};
 
 use crate::expr::put_expr;
@@ -96,6 +96,16 @@ fn put_condition(out: &mut String, condition: &Expr) -> Result<(), Memory>
     ensures { OnOk result (string_bytes out.new ≡ written (string_bytes out.old) (tokens_of_condition (expr_of condition.now))) }
 {
     put_word(out, Word::If)?;
+    put_sign(out, Sign::OpenParen)?;
+    put_expr(condition, out)?;
+    put_sign(out, Sign::CloseParen)
+}
+
+#[tactic(auto, using(crate::specs::Written::writes), unfolding(crate::specs::StmtTokens::tokens_of_while))]
+fn put_while(out: &mut String, condition: &Expr) -> Result<(), Memory>
+    ensures { OnOk result (string_bytes out.new ≡ written (string_bytes out.old) (tokens_of_while (expr_of condition.now))) }
+{
+    put_word(out, Word::While)?;
     put_sign(out, Sign::OpenParen)?;
     put_expr(condition, out)?;
     put_sign(out, Sign::CloseParen)
@@ -209,6 +219,14 @@ fn put_stmt(statement: &Stmt, out: &mut String) -> Result<(), Memory>
             put_condition(out, condition)?;
             put_block(then, out)?;
             put_else(otherwise, out)
+        }
+        Stmt::While {
+            condition,
+            body,
+            ..
+        } => {
+            put_while(out, condition)?;
+            put_block(body, out)
         }
         Stmt::Return { value, .. } => {
             put_word(out, Word::Return)?;

@@ -7,10 +7,10 @@ use Rattle.ob_lexer.specs.declared.token.TokenKind.TheVariants as kind
 use Rattle.ob_lexer.specs.declared.token.Word.TheVariants as word'
 use Rattle.ob_lexer.specs.declared.token.Sign.TheVariants as sign'
 use Rattle.ob_tree.specs.Exprs.{Expr, call_expr, new_expr}
-use Rattle.ob_tree.specs.Stmts.{int_local, bool_local, text_local, named_local, GivenExpr, Stmt, declare_stmt, assign_stmt, stage_stmt, change_stmt, call_stmt, test_stmt, if_stmt, return_stmt, revert_stmt, disown_stmt, assert_stmt, block_with, no_else, else_with, Stmts, no_stmts, and_stmt}
+use Rattle.ob_tree.specs.Stmts.{int_local, bool_local, text_local, named_local, GivenExpr, Stmt, declare_stmt, assign_stmt, stage_stmt, change_stmt, call_stmt, test_stmt, if_stmt, while_stmt, return_stmt, revert_stmt, disown_stmt, assert_stmt, block_with, no_else, else_with, Stmts, no_stmts, and_stmt}
 use Rattle.ob_tree_print.specs.NameTokens.{if_empty, token_of_name, token_of_subject, tokens_of_perm}
 use Rattle.ob_tree_print.specs.ExprTokens.{tokens_of_expr}
-use Rattle.ob_tree_print.specs.StmtTokens.{tokens_of_local, tokens_of_value, tokens_of_given, tokens_of_change, tokens_of_membership, tokens_of_test, tokens_of_condition, tokens_of_claim, tokens_of_stmt, tokens_of_block, tokens_of_else, tokens_of_stmts}
+use Rattle.ob_tree_print.specs.StmtTokens.{tokens_of_local, tokens_of_value, tokens_of_given, tokens_of_change, tokens_of_membership, tokens_of_test, tokens_of_condition, tokens_of_while, tokens_of_claim, tokens_of_stmt, tokens_of_block, tokens_of_else, tokens_of_stmts}
 use Rattle.ob_parser_spec.specs.Rows.{Loaded, Covers, either, ◌⨟◌, word, sign, raised, counted, maybe, parted}
 use Rattle.ob_parser_spec.specs.ExprRows.{spelled, expr}
 use Rattle.ob_parser_spec.specs.StmtRows.{local, given, all_given, call_or_new, braced, stmt, stmts, block, alternative, chained}
@@ -119,7 +119,7 @@ alternative_laid body end a = said_laid says (word_laid word'.Else before enclos
 -- ---- statements
 
 mutual
-  unfolding tokens_of_test tokens_of_membership tokens_of_condition tokens_of_claim
+  unfolding tokens_of_test tokens_of_membership tokens_of_condition tokens_of_while tokens_of_claim
 
   pub stmt_again : Again stmt unplaced_stmt tokens_of_stmt
   stmt_again (declare_stmt of part value span) = said_laid (λ read (s, (c, (f, b, e, (l, is, same), (f₁, b₁, e₁, (p, is₁, same₁), (f₂, b₂, e₂, equals, (f₃, b₃, e₃, (v, is₂, same₂), end)))))). (declare_stmt l p v s, (c, (f, b, e, is, (f₁, b₁, e₁, is₁, (f₂, b₂, e₂, equals, (f₃, b₃, e₃, is₂, end))))), cc)) (spanned_laid span (filled_after _ _ _) (local_again of before name_again part before sign_laid sign'.Equals before expr_again value before sign_laid sign'.Semicolon))
@@ -129,6 +129,7 @@ mutual
   stmt_again (call_stmt value span) = said_laid (λ read (s, (c, (f, b, e, (v, is, same), end))). (call_stmt v s, (c, (f, b, e, is, end)), ap (λ x. call_stmt x nowhere) same)) (spanned_laid span (filled_after _ _ _) (called_again value before sign_laid sign'.Semicolon))
   stmt_again (test_stmt of state then otherwise span) = said_laid (λ read (s, (c, (f, b, e, first, (f₁, b₁, e₁, left, (f₂, b₂, e₂, (o, is, same), (f₃, b₃, e₃, is_in, (f₄, b₄, e₄, (p, is₁, same₁), (f₅, b₅, e₅, right, (f₆, b₆, e₆, (t, is₂, same₂), (d, is₃, same₃)))))))))). (test_stmt o p t d s, (c, (f, b, e, first, (f₁, b₁, e₁, left, (f₂, b₂, e₂, is, (f₃, b₃, e₃, is_in, (f₄, b₄, e₄, is₁, (f₅, b₅, e₅, right, (f₆, b₆, e₆, is₂, is₃)))))))), cc)) (spanned_laid span tt (word_laid word'.If before sign_laid sign'.OpenParen before subject_again of before word_laid word'.In before name_again state before sign_laid sign'.CloseParen before block_again then before else_again otherwise))
   stmt_again (if_stmt condition then otherwise span) = said_laid (λ read (s, (c, (f, b, e, first, (f₁, b₁, e₁, left, (f₂, b₂, e₂, (q, is, same), (f₃, b₃, e₃, right, (f₄, b₄, e₄, (t, is₁, same₁), (d, is₂, same₂)))))))). (if_stmt q t d s, (c, (f, b, e, first, (f₁, b₁, e₁, left, (f₂, b₂, e₂, is, (f₃, b₃, e₃, right, (f₄, b₄, e₄, is₁, is₂)))))), cc)) (spanned_laid span tt (layout_laid (ap (λ ks. kind.Word word'.If ∷ kind.Sign sign'.OpenParen ∷ ks) (sym (append_assoc (tokens_of_expr condition) (kind.Sign sign'.CloseParen ∷ []) (tokens_of_block then ++ tokens_of_else otherwise)))) (word_laid word'.If before sign_laid sign'.OpenParen before expr_again condition before sign_laid sign'.CloseParen before block_again then before else_again otherwise)))
+  stmt_again (while_stmt condition body span) = said_laid (λ read (s, (c, (f, b, e, first, (f₁, b₁, e₁, left, (f₂, b₂, e₂, (q, is, same), (f₃, b₃, e₃, right, (t, is₁, same₁))))))). (while_stmt q t s, (c, (f, b, e, first, (f₁, b₁, e₁, left, (f₂, b₂, e₂, is, (f₃, b₃, e₃, right, is₁))))), ap₂ (λ x y. while_stmt x y nowhere) same same₁)) (spanned_laid span tt (layout_laid (ap (λ ks. kind.Word word'.While ∷ kind.Sign sign'.OpenParen ∷ ks) (sym (append_assoc (tokens_of_expr condition) (kind.Sign sign'.CloseParen ∷ []) (tokens_of_block body)))) (word_laid word'.While before sign_laid sign'.OpenParen before expr_again condition before sign_laid sign'.CloseParen before block_again body)))
   stmt_again (return_stmt value span) = said_laid (λ read (s, (c, (f, b, e, return, (f₁, b₁, e₁, (v, is, same), end)))). (return_stmt v s, (c, (f, b, e, return, (f₁, b₁, e₁, is, end))), ap (λ x. return_stmt x nowhere) same)) (spanned_laid span tt (word_laid word'.Return before value_again value before sign_laid sign'.Semicolon))
   stmt_again (revert_stmt text span) = said_laid (λ read (s, (c, (f, b, e, revert, (f₁, b₁, e₁, (v, is, same), end)))). (revert_stmt v s, (c, (f, b, e, revert, (f₁, b₁, e₁, is, end))), ap (λ x. revert_stmt x nowhere) same)) (spanned_laid span tt (word_laid word'.Revert before value_again text before sign_laid sign'.Semicolon))
   stmt_again (disown_stmt part span) = said_laid (λ read (s, (c, (f, b, e, disown, (f₁, b₁, e₁, (p, is, same), end)))). (disown_stmt p s, (c, (f, b, e, disown, (f₁, b₁, e₁, is, end))), ap (λ x. disown_stmt x nowhere) same)) (spanned_laid span tt (word_laid word'.Disown before name_again part before sign_laid sign'.Semicolon))

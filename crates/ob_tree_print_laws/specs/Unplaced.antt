@@ -4,7 +4,7 @@ use Rattle.ob_base.specs.declared.fault.Span.{Span}
 use Rattle.ob_base.specs.declared.permission.Mode.{Mode}
 use Rattle.ob_tree.specs.Names.{Named, bare_name, name_with, Ref, ref_with, TypeExpr, int_type, bool_type, text_type, ref_type}
 use Rattle.ob_tree.specs.Exprs.{Expr, number_expr, text_expr, bool_expr, name_expr, this_expr, unary_expr, binary_expr, call_expr, new_expr, Call, call_with, Exprs, no_exprs, and_expr}
-use Rattle.ob_tree.specs.Stmts.{Local, int_local, bool_local, text_local, named_local, GivenExpr, Stmt, declare_stmt, assign_stmt, stage_stmt, change_stmt, call_stmt, test_stmt, if_stmt, return_stmt, revert_stmt, disown_stmt, assert_stmt, Block, block_with, Else, no_else, else_with, Stmts, no_stmts, and_stmt}
+use Rattle.ob_tree.specs.Stmts.{Local, int_local, bool_local, text_local, named_local, GivenExpr, Stmt, declare_stmt, assign_stmt, stage_stmt, change_stmt, call_stmt, test_stmt, if_stmt, while_stmt, return_stmt, revert_stmt, disown_stmt, assert_stmt, Block, block_with, Else, no_else, else_with, Stmts, no_stmts, and_stmt}
 use Rattle.ob_tree.specs.Members.{Field, Formal, Listed, Member, state_member, field_member, constructor_member, transaction_member, Contract}
 use Rattle.ob_tree.specs.declared.name.NamePart.{NamePart}
 use Rattle.ob_tree.specs.declared.name.PermNode.{PermNode}
@@ -85,6 +85,7 @@ abbrev mutual
   unplaced_stmt (call_stmt value span) = call_stmt (unplaced_expr value) nowhere
   unplaced_stmt (test_stmt of state then otherwise span) = test_stmt (unplaced_subject of) (unplaced_name state) (unplaced_block then) (unplaced_else otherwise) nowhere
   unplaced_stmt (if_stmt condition then otherwise span) = if_stmt (unplaced_expr condition) (unplaced_block then) (unplaced_else otherwise) nowhere
+  unplaced_stmt (while_stmt condition body span) = while_stmt (unplaced_expr condition) (unplaced_block body) nowhere
   unplaced_stmt (return_stmt value span) = return_stmt (option_map unplaced_expr value) nowhere
   unplaced_stmt (revert_stmt text span) = revert_stmt (option_map unplaced_expr text) nowhere
   unplaced_stmt (disown_stmt part span) = disown_stmt (unplaced_name part) nowhere

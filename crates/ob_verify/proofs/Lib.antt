@@ -5,3 +5,4 @@ pub mod ImageLoops
 pub mod PlaceLemmas
 pub mod SurveyLoops
 pub mod SlotLoops
+pub mod KnownLoops

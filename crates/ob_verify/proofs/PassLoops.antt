@@ -6,7 +6,7 @@ use Rattle.ob_code.specs.declared.image.Image.{Image}
 use Rattle.ob_code.specs.declared.instruction.Instruction.{Instruction}
 use Rattle.ob_verify_spec.specs.declared.CodeFault.{CodeFault}
 use Rattle.ob_verify_spec.specs.Frames.{CodeFrame}
-use Rattle.ob_verify_spec.specs.Conditions.{bad_jump, bad_slot, bad_field, bad_call, may_go_on}
+use Rattle.ob_verify_spec.specs.Conditions.{bad_jump, bad_slot, bad_field, bad_call, no_fuel_mark, may_go_on}
 use Rattle.ob_verify_spec.specs.Passing.{KindRow, KindRows, no_rows, held_at, joined, put_row, mismatched, fault_at, fault_at_end, found, passed, FaultAt, first_fault_from}
 
 -- The rows before the pass.
@@ -21,7 +21,7 @@ rows_more all rows next n i lt e f =
 
 -- One more way.
 
-set_twice : {A : Type 0} (xs : List A) (i : ℕ) (x y : A) → slice_set (slice_set xs i x) i y ≡ slice_set xs i y
+pub set_twice : {A : Type 0} (xs : List A) (i : ℕ) (x y : A) → slice_set (slice_set xs i x) i y ≡ slice_set xs i y
 set_twice [] i x y = refl
 set_twice (z ∷ xs) zero x y = refl
 set_twice (z ∷ xs) (suc i) x y = ap (λ zs. z ∷ zs) (set_twice xs i x y)
@@ -43,18 +43,20 @@ pub ruleset putting = (put_past, put_again)
 
 -- The pass.
 
-sound_of : (a b c d e : Bool) (p q r s t : CodeFault) → (if a then Some p else if b then Some q else if c then Some r else if d then Some s else if e then Some t else None) ≡ None
-    → (not a && not b && not d && not e) ≡ true
-sound_of true b c d e p q r s t h = absurd cc
-sound_of false true c d e p q r s t h = absurd cc
-sound_of false false true d e p q r s t h = absurd cc
-sound_of false false false true e p q r s t h = absurd cc
-sound_of false false false false true p q r s t h = absurd cc
-sound_of false false false false false p q r s t h = refl
+sound_of : (a b c d e g : Bool) (p q r s t u : CodeFault)
+    → (if a then Some p else if b then Some q else if c then Some r else if d then Some s else if e then Some t else if g then Some u else None) ≡ None
+    → (not a && not b && not d && not e && not g) ≡ true
+sound_of true b c d e g p q r s t u h = absurd cc
+sound_of false true c d e g p q r s t u h = absurd cc
+sound_of false false true d e g p q r s t u h = absurd cc
+sound_of false false false true e g p q r s t u h = absurd cc
+sound_of false false false false true g p q r s t u h = absurd cc
+sound_of false false false false false true p q r s t u h = absurd cc
+sound_of false false false false false false p q r s t u h = refl
 
 -- where an instruction has no fault, ways go on after it
 pub sound : (f : CodeFrame) (i : ℕ) (x : Instruction) (row : Option KindRow) → fault_at f i x row ≡ None → may_go_on f i x ≡ true
-sound f i x row h = sound_of (bad_jump f i x) (bad_slot f i x) (mismatched f x row) (bad_field f x) (bad_call f x) _ _ _ _ _ h
+sound f i x row h = sound_of (bad_jump f x) (bad_slot f i x) (mismatched f x row) (bad_field f x) (bad_call f x) (no_fuel_mark f i x) _ _ _ _ _ _ h
 
 from_here : (f : CodeFrame) (xs : List Instruction) (rows : KindRows) (i : ℕ) (d : Instruction) → i < length xs
     → first_fault_from f i (drop i xs) rows ≡ found i (fault_at f i (get_or xs i d) (held_at rows i)) (first_fault_from f (i + 1) (drop (i + 1) xs) (passed f i (get_or xs i d) rows))

@@ -4,3 +4,4 @@ pub mod Answering
 pub mod Named
 pub mod Surveys
 pub mod Slots
+pub mod Changing

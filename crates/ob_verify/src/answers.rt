@@ -24,7 +24,8 @@ fn same_params(asked: &[ParamCode], given: &[ParamCode]) -> bool
     true
 }
 
-fn same_result(asked: Option<Kind>, given: Option<Kind>) -> bool
+/// Whether two kinds, where there are any, are one.
+pub fn same_result(asked: Option<Kind>, given: Option<Kind>) -> bool
     ensures { result ≡ same_result asked given }
 {
     match (asked, given) {

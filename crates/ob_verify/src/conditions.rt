@@ -3,27 +3,58 @@ ghost use Rattle.std.specs.Prelude.{◌≡◌, true, nat_lt, length};
 ghost use Rattle.std.specs.List.{list_all};
 ghost use Rattle.std.specs.Option.{option_map_or};
 ghost use Rattle.ob_verify_spec.specs.Instructions.{reads, slot_set};
-ghost use Rattle.ob_verify_spec.specs.Conditions.{is_ahead, bad_jump, lacks_slots, may_set, bad_slot, bad_field};
+ghost use Rattle.ob_verify_spec.specs.Conditions.{is_within, bad_jump, lacks_slots, may_set, bad_slot, bad_field, is_unit, is_fuelled, no_fuel_mark};
 
 use crate::frame::CodeFrame;
 use ob_base::FieldId;
 use ob_code::{Instruction, NO_RESULT};
 
-fn is_ahead(frame: &CodeFrame<'_>, place: usize, target: u32) -> bool
-    ensures { result ≡ is_ahead frame.now place target }
+fn is_within(frame: &CodeFrame<'_>, target: u32) -> bool
+    ensures { result ≡ is_within frame.now target }
 {
-    let target = target as usize;
-    place < target && target < frame.body.instructions.len()
+    (target as usize) < frame.body.instructions.len()
 }
 
-/// Whether an instruction at a place leads to one that isn't ahead, or isn't in the body.
-pub fn bad_jump(frame: &CodeFrame<'_>, place: usize, instruction: &Instruction) -> bool
-    ensures { result ≡ bad_jump frame.now place instruction.now }
+/// Whether an instruction leads to a place that isn't in the body.
+pub fn bad_jump(frame: &CodeFrame<'_>, instruction: &Instruction) -> bool
+    ensures { result ≡ bad_jump frame.now instruction.now }
 {
     match instruction {
-        Instruction::Jump { target } => !is_ahead(frame, place, *target),
-        Instruction::Unless { target, .. } => !is_ahead(frame, place, *target),
-        Instruction::Test { target, .. } => !is_ahead(frame, place, *target),
+        Instruction::Jump { target } => !is_within(frame, *target),
+        Instruction::Unless { target, .. } => !is_within(frame, *target),
+        Instruction::Test { target, .. } => !is_within(frame, *target),
+        _ => false,
+    }
+}
+
+fn is_unit(instruction: &Instruction) -> bool
+    ensures { result ≡ is_unit instruction.now }
+{
+    matches!(instruction, Instruction::Unit)
+}
+
+// Whether a target is ahead of a place, or a `unit` stands there.
+fn is_fuelled(frame: &CodeFrame<'_>, place: usize, target: u32) -> bool
+    ensures { result ≡ is_fuelled frame.now place target }
+{
+    let target = target as usize;
+    if place < target {
+        return true;
+    }
+    match frame.body.instructions.get(target) {
+        Some(instruction) => is_unit(instruction),
+        None => false,
+    }
+}
+
+/// Whether an instruction at a place leads to one that isn't ahead and is no `unit`.
+pub fn no_fuel_mark(frame: &CodeFrame<'_>, place: usize, instruction: &Instruction) -> bool
+    ensures { result ≡ no_fuel_mark frame.now place instruction.now }
+{
+    match instruction {
+        Instruction::Jump { target } => !is_fuelled(frame, place, *target),
+        Instruction::Unless { target, .. } => !is_fuelled(frame, place, *target),
+        Instruction::Test { target, .. } => !is_fuelled(frame, place, *target),
         _ => false,
     }
 }

@@ -9,6 +9,7 @@ mod frame;
 mod image;
 mod interfaces;
 mod kinds;
+mod known;
 mod needs;
 mod numbers;
 mod pass;
@@ -19,6 +20,7 @@ mod transactions;
 mod verifying;
 
 pub use numbers::{
-    BAD_CALL, BAD_FIELD, BAD_JUMP, BAD_SLOT, FALLS_OFF, KIND_MISMATCH, fault_of, name_of, number_of,
+    BAD_CALL, BAD_FIELD, BAD_JUMP, BAD_SLOT, FALLS_OFF, KIND_MISMATCH, NO_FUEL_MARK, fault_of,
+    name_of, number_of,
 };
 pub use verifying::{Verified, VerifyError, verify};

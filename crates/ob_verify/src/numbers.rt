@@ -6,7 +6,7 @@ ghost use Rattle.ob_verify.specs.Names.{name_of};
 
 use ob_verify_spec::CodeFault;
 
-/// An instruction leads to a place outside the body, or to one that isn't ahead.
+/// An instruction leads to a place outside the body.
 pub const BAD_JUMP: u16 = 511;
 /// A slot that the body doesn't have is named, or that of `this` is set; or the body lacks slots for its parameters.
 pub const BAD_SLOT: u16 = 512;
@@ -19,6 +19,8 @@ pub const BAD_FIELD: u16 = 514;
 pub const BAD_CALL: u16 = 515;
 /// A way leads to the end of the body.
 pub const FALLS_OFF: u16 = 516;
+/// An instruction leads behind, or to itself, and no `unit` stands there.
+pub const NO_FUEL_MARK: u16 = 517;
 
 /// The number of a fault.
 pub fn number_of(fault: CodeFault) -> u16
@@ -31,6 +33,7 @@ pub fn number_of(fault: CodeFault) -> u16
         CodeFault::BadField => BAD_FIELD,
         CodeFault::BadCall => BAD_CALL,
         CodeFault::FallsOff => FALLS_OFF,
+        CodeFault::NoFuelMark => NO_FUEL_MARK,
     }
 }
 
@@ -46,6 +49,7 @@ pub fn fault_of(number: u16) -> Option<CodeFault>
         BAD_FIELD => Some(CodeFault::BadField),
         BAD_CALL => Some(CodeFault::BadCall),
         FALLS_OFF => Some(CodeFault::FallsOff),
+        NO_FUEL_MARK => Some(CodeFault::NoFuelMark),
         _ => None,
     }
 }
@@ -61,5 +65,6 @@ pub fn name_of(fault: CodeFault) -> &'static str
         CodeFault::BadField => "BadField",
         CodeFault::BadCall => "BadCall",
         CodeFault::FallsOff => "FallsOff",
+        CodeFault::NoFuelMark => "NoFuelMark",
     }
 }

@@ -1,16 +1,17 @@
-//! The first fault of a body, found on one pass over its instructions in their order. A row is kept only as long as the pass
-//! hasn't come to its place, and copied only where an instruction leads to two places.
+//! The first fault of a body, found on one pass over its instructions in their order, with the rows that are known before it. A row is
+//! kept only as long as the pass hasn't come to its place, and copied only where an instruction leads to two places.
 ghost use Rattle.std.specs.Prelude.{◌≡◌, ◌<◌, true, None, slice_set, OnOk, IfOk};
 ghost use Rattle.std.specs.Option.{option_copied, option_flatten};
 ghost use Rattle.ob_verify_spec.specs.Instructions.{leads};
 ghost use Rattle.ob_verify_spec.specs.Conditions.{may_go_on};
-ghost use Rattle.ob_verify_spec.specs.Passing.{held_at, first_rows, put_row, put_rows, passed, mismatched, fault_at, fault_at_end, first_fault};
+ghost use Rattle.ob_verify_spec.specs.Passing.{held_at, put_row, put_rows, passed, mismatched, fault_at, fault_at_end, first_fault};
 
 use crate::calls::bad_call;
-use crate::conditions::{bad_field, bad_jump, bad_slot, lacks_slots};
+use crate::conditions::{bad_field, bad_jump, bad_slot, lacks_slots, no_fuel_mark};
 use crate::frame::CodeFrame;
+use crate::known::known_rows;
 use crate::needs::meets_needs;
-use crate::rows::{KindRow, apply, entry_row, meet_with};
+use crate::rows::{KindRow, apply, meet_with};
 use crate::survey::Surveyed;
 use ob_base::{Items, Memory};
 use ob_code::Instruction;
@@ -36,23 +37,8 @@ impl Model for FaultAt {
     ghost view = { λ f. record { instruction = f.instruction; fault = f.fault } };
 }
 
-// The rows that are known before the pass: that of the entry. (Where jumps may lead behind, this is what changes.)
-#[tactic(auto, using(crate::proofs::PassLoops::rows_more))]
-fn first_rows(alloc: Global, frame: &CodeFrame<'_>) -> Result<Vec<Option<KindRow>>, Memory>
-    ensures { IfOk result (λ rows. rows.items ≡ first_rows frame.now) }
-{
-    let row = entry_row(alloc, frame)?;
-    let places = frame.body.instructions.len().saturating_add(1);
-    let mut rows = Vec::with_capacity(alloc, places)?;
-    rows.push(Some(row))?;
-    for _i in 0..frame.body.instructions.len() {
-        rows.push(None)?;
-    }
-    Ok(rows)
-}
-
-// Takes the row of a place out.
-fn take_row(rows: &mut [Option<KindRow>], place: usize) -> Option<KindRow>
+/// Takes the row of a place out.
+pub fn take_row(rows: &mut [Option<KindRow>], place: usize) -> Option<KindRow>
     ensures value { result ≡ held_at rows.old place }
     ensures rest { rows.new ≡ slice_set rows.old place None }
 {
@@ -128,8 +114,8 @@ fn put_rows(
     Ok(())
 }
 
-// Passes an instruction at which no condition holds that doesn't speak of what slots hold.
-fn pass(
+/// Passes an instruction at which no condition holds that doesn't speak of what slots hold.
+pub fn pass(
     alloc: Global,
     frame: &CodeFrame<'_>,
     place: usize,
@@ -172,7 +158,7 @@ fn fault_at(
 ) -> Option<CodeFault>
     ensures { result ≡ fault_at frame.now place instruction.now (held_at rows.now place) }
 {
-    if bad_jump(frame, place, instruction) {
+    if bad_jump(frame, instruction) {
         Some(CodeFault::BadJump)
     } else if bad_slot(frame, place, instruction) {
         Some(CodeFault::BadSlot)
@@ -182,6 +168,8 @@ fn fault_at(
         Some(CodeFault::BadField)
     } else if bad_call(frame, instruction) {
         Some(CodeFault::BadCall)
+    } else if no_fuel_mark(frame, place, instruction) {
+        Some(CodeFault::NoFuelMark)
     } else {
         None
     }
@@ -205,7 +193,7 @@ fn fault_at_end(frame: &CodeFrame<'_>, place: usize, rows: &[Option<KindRow>]) -
 pub fn first_fault(alloc: Global, frame: &CodeFrame<'_>) -> Result<Option<FaultAt>, Memory>
     ensures { IfOk result (λ found. found ≡ first_fault frame.now) }
 {
-    let mut rows = first_rows(alloc, frame)?;
+    let mut rows = known_rows(alloc, frame)?;
     let instructions = frame.body.instructions.as_slice();
     for place in 0..instructions.len() {
         if let Some(fault) = fault_at(frame, place, &instructions[place], rows.as_slice()) {

@@ -17,7 +17,7 @@ use std::marker::Model;
 pub enum VerifyError {
     /// It has a fault, and this is the first.
     Fault {
-        /// Which fault it is, from `BAD_JUMP` to `FALLS_OFF`: the least number of those that stand there.
+        /// Which fault it is, from `BAD_JUMP` to `NO_FUEL_MARK`: the least number of those that stand there.
         number: u16,
         /// The number of its body in the image's order, from 0; the bodies of interfaces count too.
         body: u32,
@@ -89,9 +89,10 @@ impl Duplicate for Verified {
 /// none, and of its first instruction that has one, and there the least number. A fault whose body or instruction has a number
 /// of 2^32 or more counts as want of memory.
 ///
-/// It takes time in proportion to the image where each contract that implements an interface has its transactions: they are
-/// asked once, before the bodies are passed. It keeps what slots hold only for places that some instruction has led to and that
-/// it hasn't come to yet.
+/// A body is passed once; one in which some instruction leads behind again as long as that changes what slots are known to hold at
+/// the places behind. Each pass takes time in proportion to the body, and so does all else to the image, where each contract that
+/// implements an interface has its transactions: they are asked once, before the bodies are passed. It keeps what slots hold only for
+/// places behind, and for those that some instruction has led to and that it hasn't come to yet.
 #[tactic(auto, using(ob_verify_spec::proofs::Images::tells_of_image))]
 pub fn verify(alloc: Global, image: Image) -> Result<Verified, VerifyError>
     ensures kept { IfOk result (λ v. v ≡ image) }

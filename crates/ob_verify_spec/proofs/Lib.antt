@@ -4,6 +4,7 @@ pub mod Listed
 pub mod Naming
 pub mod Rows
 pub mod Pass
+pub mod Passes
 pub mod Needs
 pub mod Faults
 pub mod Verdict

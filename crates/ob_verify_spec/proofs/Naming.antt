@@ -1,5 +1,5 @@
 -- What an instruction at which no condition holds names: where it leads, the slots that it needs, and those that it copies.
-use Rattle.std.proofs.Common.{◌≡◌, ℕ, ◌+◌, ◌<◌, List, [], ◌∷◌, length, map, Option, Some, None, Bool, true, false, ◌&&◌, not, nat_lt, Contains, slice_get, refl, sym, subst, arith, inl, inr}
+use Rattle.std.proofs.Common.{◌≡◌, ℕ, ◌+◌, ◌<◌, List, [], ◌∷◌, length, map, Option, Some, None, Bool, true, false, ◌&&◌, not, nat_lt, Contains, slice_get, refl, sym, subst, arith, ◌⊎◌, inl, inr}
 use Rattle.std.specs.List.{list_all}
 use Rattle.std.proofs.lemmas.Bool.{and_parts, or_parts, ltb-true, not-true, not-false}
 use Rattle.std.proofs.lemmas.List.Elements.{Contains-append_cases}
@@ -14,21 +14,21 @@ use Rattle.ob_code.specs.declared.instruction.Instruction.TheVariants as is
 use Rattle.ob_code.specs.Code.{body_code}
 use Rattle.ob_verify_spec.specs.Frames.{CodeFrame, constructor_code, kinds_of_params, kind_of_result, kind_of_field}
 use Rattle.ob_verify_spec.specs.Instructions.{reads, targets, goes_on, after_it, leads, Need, of_kind, any_value, any_reference, alike, slots_needed, needs_of_args, needs_of_call, need_of, needs_of_given, needs_of_operator, needs_of_receiver, needs, Effect, keeps, sets, copies, effect_of_call, slot_of_result, effect}
-use Rattle.ob_verify_spec.specs.Conditions.{is_ahead, bad_jump, lacks_slots, names_bad_slot, bad_slot, bad_field, bad_call, may_go_on}
+use Rattle.ob_verify_spec.specs.Conditions.{is_within, bad_jump, lacks_slots, names_bad_slot, bad_slot, bad_field, bad_call, no_fuel_mark, may_go_on}
 use Rattle.ob_verify_spec.proofs.Listed.{not_empty, head, behind, cases, only, only_head, each_passes}
 
 -- The tests one by one.
 
 passed_tests : (f : CodeFrame) (i : ℕ) (x : Instruction) → may_go_on f i x ≡ true
-    → (not (bad_jump f i x) ≡ true) × (not (bad_slot f i x) ≡ true) × (not (bad_field f x) ≡ true) × (not (bad_call f x) ≡ true)
+    → (not (bad_jump f x) ≡ true) × (not (bad_slot f i x) ≡ true)
 passed_tests f i x e =
-    let a = and_parts (not (bad_jump f i x) && not (bad_slot f i x) && not (bad_field f x)) (not (bad_call f x)) e in
-    let b = and_parts (not (bad_jump f i x) && not (bad_slot f i x)) (not (bad_field f x)) a.0 in
-    let c = and_parts (not (bad_jump f i x)) (not (bad_slot f i x)) b.0 in
-    (c.0, c.1, b.1, a.1)
+    let a = and_parts (not (bad_jump f x) && not (bad_slot f i x) && not (bad_field f x) && not (bad_call f x)) (not (no_fuel_mark f i x)) e in
+    let b = and_parts (not (bad_jump f x) && not (bad_slot f i x) && not (bad_field f x)) (not (bad_call f x)) a.0 in
+    let c = and_parts (not (bad_jump f x) && not (bad_slot f i x)) (not (bad_field f x)) b.0 in
+    and_parts (not (bad_jump f x)) (not (bad_slot f i x)) c.0
 
-pub goes_jump : (f : CodeFrame) (i : ℕ) (x : Instruction) → may_go_on f i x ≡ true → bad_jump f i x ≡ false
-goes_jump f i x e = not-true (bad_jump f i x) (passed_tests f i x e).0
+pub goes_jump : (f : CodeFrame) (i : ℕ) (x : Instruction) → may_go_on f i x ≡ true → bad_jump f x ≡ false
+goes_jump f i x e = not-true (bad_jump f x) (passed_tests f i x e).0
 
 pub goes_slot : (f : CodeFrame) (i : ℕ) (x : Instruction) → may_go_on f i x ≡ true → bad_slot f i x ≡ false
 goes_slot f i x e = not-true (bad_slot f i x) (passed_tests f i x e).1
@@ -39,38 +39,31 @@ names_no_bad_slot f i x e = (or_parts (lacks_slots f i) (names_bad_slot f x) e).
 pub goes_names : (f : CodeFrame) (i : ℕ) (x : Instruction) → may_go_on f i x ≡ true → names_bad_slot f x ≡ false
 goes_names f i x e = names_no_bad_slot f i x (goes_slot f i x e)
 
-pub may_go : (f : CodeFrame) (i : ℕ) (x : Instruction) → bad_jump f i x ≡ false → bad_slot f i x ≡ false → bad_field f x ≡ false → bad_call f x ≡ false → may_go_on f i x ≡ true
-may_go f i x p q r s = rw (p, q, r, s) refl
+pub may_go : (f : CodeFrame) (i : ℕ) (x : Instruction) → bad_jump f x ≡ false → bad_slot f i x ≡ false → bad_field f x ≡ false → bad_call f x ≡ false → no_fuel_mark f i x ≡ false
+    → may_go_on f i x ≡ true
+may_go f i x p q r s t = rw (p, q, r, s, t) refl
 
 -- Where it leads.
 
-target_ahead : (f : CodeFrame) (i : ℕ) (x : Instruction) (t : ℕ) → bad_jump f i x ≡ false → Contains (targets x) t → (i < t) × (t < length f.body.instructions)
-target_ahead f i x t e c =
-    let passes = each_passes (is_ahead f i) (targets x) t (not-false (list_all (is_ahead f i) (targets x)) e) c in
-    let parts = and_parts (nat_lt i t) (nat_lt t (length f.body.instructions)) passes in
-    (ltb-true i t parts.0, ltb-true t (length f.body.instructions) parts.1)
+target_or_next : (i t j : ℕ) → Contains (t ∷ (i + 1) ∷ []) j → (i + 1 ≡ j) ⊎ Contains (t ∷ []) j
+target_or_next i t j c = elim (cases t j ((i + 1) ∷ []) c) [ inl e ↦ inr (subst (Contains (t ∷ [])) e (head t [])) | inr h ↦ inl (only (i + 1) j h) ]
 
--- a place ahead, in a body of so many instructions or at its end
-abbrev pub IsAheadIn : ℕ → ℕ → ℕ → Type 0
-IsAheadIn n i j = (i < j) × (j < n + 1)
+next_place : (goes : Bool) (i j : ℕ) → Contains (after_it goes i) j → i + 1 ≡ j
+next_place true i j c = only (i + 1) j c
+next_place false i j c = absurd (not_empty j c)
 
-next_ahead : (goes : Bool) (n i j : ℕ) → i < n → Contains (after_it goes i) j → IsAheadIn n i j
-next_ahead true n i j lt c = let e : i + 1 ≡ j = only (i + 1) j c in (omega arith, omega arith)
-next_ahead false n i j lt c = absurd (not_empty j c)
+-- a place is the next one, or a target
+pub next_or_target : (i : ℕ) (x : Instruction) (j : ℕ) → Contains (leads i x) j → (i + 1 ≡ j) ⊎ Contains (targets x) j
+next_or_target i (is.Jump t) j c = inr c
+next_or_target i (is.Unless a t) j c = target_or_next i t j c
+next_or_target i (is.Test a k s t) j c = target_or_next i t j c
+next_or_target i x j c = inl (next_place (goes_on x) i j c)
 
-target_or_next : (f : CodeFrame) (i t j : ℕ) → i < length f.body.instructions → (i < t) × (t < length f.body.instructions) → Contains (t ∷ (i + 1) ∷ []) j
-    → IsAheadIn (length f.body.instructions) i j
-target_or_next f i t j lt (a, b) c = elim (cases t j ((i + 1) ∷ []) c) [
-  | inl e ↦ subst (λ z. IsAheadIn (length f.body.instructions) i z) e (a, omega arith)
-  | inr h ↦ next_ahead true (length f.body.instructions) i j lt h
+pub leads_within : (f : CodeFrame) (i : ℕ) (x : Instruction) (j : ℕ) → i < length f.body.instructions → bad_jump f x ≡ false → Contains (leads i x) j → j < length f.body.instructions + 1
+leads_within f i x j lt e c = elim (next_or_target i x j c) [
+  | inl same ↦ let next : i + 1 ≡ j = same in omega arith
+  | inr h ↦ let within : j < length f.body.instructions = ltb-true j (length f.body.instructions) (each_passes (is_within f) (targets x) j (not-false (list_all (is_within f) (targets x)) e) h) in omega arith
 ]
-
-pub leads_ahead : (f : CodeFrame) (i : ℕ) (x : Instruction) (j : ℕ) → i < length f.body.instructions → bad_jump f i x ≡ false → Contains (leads i x) j
-    → IsAheadIn (length f.body.instructions) i j
-leads_ahead f i (is.Jump t) j lt e c = let a : (i < j) × (j < length f.body.instructions) = target_ahead f i (is.Jump t) j e c in let b : j < length f.body.instructions = a.1 in (a.0, omega arith)
-leads_ahead f i (is.Unless a t) j lt e c = target_or_next f i t j lt (target_ahead f i (is.Unless a t) t e (head t [])) c
-leads_ahead f i (is.Test a k s t) j lt e c = target_or_next f i t j lt (target_ahead f i (is.Test a k s t) t e (head t [])) c
-leads_ahead f i x j lt e c = next_ahead (goes_on x) (length f.body.instructions) i j lt c
 
 -- Slots.
 

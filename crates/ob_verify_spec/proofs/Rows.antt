@@ -1,5 +1,5 @@
 -- The rows of a pass: each says of each slot what two ways to its place both hold there, and what is so on all.
-use Rattle.std.proofs.Common.{◌≡◌, ℕ, ◌≤◌, ◌<◌, List, [], ◌∷◌, length, Option, Some, None, true, slice_set, Contains, refl, sym, ap, ◌∙◌, subst, inl, inr}
+use Rattle.std.proofs.Common.{◌≡◌, ℕ, ◌<◌, List, [], ◌∷◌, length, Option, Some, None, true, slice_set, Contains, refl, sym, ap, ◌∙◌, subst, inl, inr}
 use Rattle.std.proofs.lemmas.Bool.Decides.{eqb_tells}
 use Rattle.ob_table.specs.declared.seen.Kind.{Kind}
 use Rattle.ob_code.specs.declared.image.Image.{Image}
@@ -40,17 +40,17 @@ pub record GoodRow (f : CodeFrame) (j : ℕ) (r : KindRow) : Type 0 where
   pub long : length r ≡ f.body.slots
   pub two : (k : ℕ) → k < f.body.slots → Two f.image (OnSomeWay f j k) (held_at r k)
 
--- from a place on, each row is such a one
-abbrev pub AllGood : CodeFrame → ℕ → KindRows → Type 0
-AllGood f i t = (j : ℕ) (r : KindRow) → i ≤ j → held_at t j ≡ Some r → GoodRow f j r
+-- each row is such a one
+abbrev pub AllGood : CodeFrame → KindRows → Type 0
+AllGood f t = (j : ℕ) (r : KindRow) → held_at t j ≡ Some r → GoodRow f j r
 
 -- One more way leads to a place.
 
-joined_new : (m : Image) (o : Option KindRow) (r : KindRow) → Below m (held_at (joined m o r)) (held_at r)
+pub joined_new : (m : Image) (o : Option KindRow) (r : KindRow) → Below m (held_at (joined m o r)) (held_at r)
 joined_new m None r = below_self m (held_at r)
 joined_new m (Some known) r = record { keeps = λ k x e. both_right m (held_at known k) (held_at r k) x (sym (cell-meet m known r k) ∙ e) }
 
-joined_known : (m : Image) (o : Option KindRow) (known r : KindRow) → o ≡ Some known → Below m (held_at (joined m o r)) (held_at known)
+pub joined_known : (m : Image) (o : Option KindRow) (known r : KindRow) → o ≡ Some known → Below m (held_at (joined m o r)) (held_at known)
 joined_known m None known r e = absurd (none_some e)
 joined_known m (Some p) known r e =
     subst (λ z. Below m (held_at (meet m p r)) (held_at z)) (some_same e) (record { keeps = λ k x w. both_left m (held_at p k) (held_at r k) x (sym (cell-meet m p r k) ∙ w) })
@@ -85,7 +85,7 @@ has_put m t (x ∷ js) j r lt c = elim (cases x j js c) [
   | inr h ↦ has_put m (put_row m t x r) js j r (subst (λ z. j < z) (sym (put_row-length m t x r)) lt) h
 ]
 
-good_joined : (f : CodeFrame) (j : ℕ) (o : Option KindRow) (r : KindRow) → ((known : KindRow) → o ≡ Some known → GoodRow f j known) → GoodRow f j r → GoodRow f j (joined f.image o r)
+pub good_joined : (f : CodeFrame) (j : ℕ) (o : Option KindRow) (r : KindRow) → ((known : KindRow) → o ≡ Some known → GoodRow f j known) → GoodRow f j r → GoodRow f j (joined f.image o r)
 good_joined f j None r all g = g
 good_joined f j (Some known) r all g = let a = all known refl in record {
   reached = g.reached;
@@ -93,18 +93,17 @@ good_joined f j (Some known) r all g = let a = all known refl in record {
   two = λ k lt. subst (Two f.image (OnSomeWay f j k)) (sym (cell-meet f.image known r k)) (two_meet f.image (OnSomeWay f j k) (held_at known k) (held_at r k) (a.two k lt) (g.two k lt));
 }
 
-good_put : (f : CodeFrame) (i : ℕ) (t : KindRows) (j : ℕ) (r : KindRow) → AllGood f i t → GoodRow f j r → AllGood f i (put_row f.image t j r)
-good_put f i t j r all g h l le e = elim (eqb_tells h j) [
+good_put : (f : CodeFrame) (t : KindRows) (j : ℕ) (r : KindRow) → AllGood f t → GoodRow f j r → AllGood f (put_row f.image t j r)
+good_put f t j r all g h l e = elim (eqb_tells h j) [
   | inl w ↦ let lt : j < length t = subst (λ z. z < length t) w.1 (subst (λ z. h < z) (put_row-length f.image t j r) (cell_within (put_row f.image t j r) h l e)) in
-      let ahead : i ≤ j = subst (λ z. i ≤ z) w.1 le in
       let same : joined f.image (held_at t j) r ≡ l = some_same (sym (cell-set_same t j (Some (joined f.image (held_at t j) r)) lt) ∙ ap (held_at (put_row f.image t j r)) (sym w.1) ∙ e) in
-      subst (GoodRow f h) same (subst (λ z. GoodRow f z (joined f.image (held_at t j) r)) (sym w.1) (good_joined f j (held_at t j) r (λ known a. all j known ahead a) g))
-  | inr w ↦ all h l le (sym (cell-set_other t j h (Some (joined f.image (held_at t j) r)) w.1) ∙ e)
+      subst (GoodRow f h) same (subst (λ z. GoodRow f z (joined f.image (held_at t j) r)) (sym w.1) (good_joined f j (held_at t j) r (λ known a. all j known a) g))
+  | inr w ↦ all h l (sym (cell-set_other t j h (Some (joined f.image (held_at t j) r)) w.1) ∙ e)
 ]
 
-pub good_puts : (f : CodeFrame) (i : ℕ) (t : KindRows) (js : List ℕ) (r : KindRow) → AllGood f i t → ((j : ℕ) → Contains js j → GoodRow f j r) → AllGood f i (put_rows f.image t js r)
-good_puts f i t [] r all g = all
-good_puts f i t (j ∷ js) r all g = good_puts f i (put_row f.image t j r) js r (good_put f i t j r all (g j (head j js))) (λ h c. g h (behind j h js c))
+pub good_puts : (f : CodeFrame) (t : KindRows) (js : List ℕ) (r : KindRow) → AllGood f t → ((j : ℕ) → Contains js j → GoodRow f j r) → AllGood f (put_rows f.image t js r)
+good_puts f t [] r all g = all
+good_puts f t (j ∷ js) r all g = good_puts f (put_row f.image t j r) js r (good_put f t j r all (g j (head j js))) (λ h c. g h (behind j h js c))
 
 -- After an effect.
 

@@ -1,28 +1,30 @@
 -- The slot kinds of a body are the same however they are found, and where no condition holds they hold on.
-use Rattle.std.proofs.Common.{◌≡◌, ◌≢◌, ℕ, ◌+◌, ◌<◌, ◌≤◌, length, Option, Some, None, true, false, not, nat_lt, ◌==◌, Contains, refl, sym, ap, ◌∙◌, subst, arith, ◌⊎◌, inl, inr}
+use Rattle.std.proofs.Common.{◌≡◌, ◌≢◌, ℕ, ◌+◌, ◌<◌, ◌≤◌, length, Option, Some, None, true, false, not, nat_lt, ◌==◌, Contains, slice_get, refl, sym, ap, ◌∙◌, subst, arith, ◌⊎◌, inl, inr}
 use Rattle.std.specs.Option.{option_map_or}
 use Rattle.std.specs.List.{list_all}
-use Rattle.std.proofs.lemmas.Bool.{false_from_ne_true, true_from_ne_false, not-true, not-false, and_parts, or_parts, or_from, ltb-true, eqb-false}
+use Rattle.std.proofs.lemmas.Bool.{true≢false, or_cases, false_from_ne_true, true_from_ne_false, not-true, not-false, and_parts, or_parts, or_from, ltb-true, eqb-false}
 use Rattle.std.proofs.lemmas.Bool.Decides.{eqb_tells}
 use Rattle.std.proofs.lemmas.Option.{slice_get_within}
 use Rattle.ob_table.specs.declared.seen.Kind.{Kind}
 use Rattle.ob_code.specs.declared.image.Image.{Image}
 use Rattle.ob_code.specs.declared.instruction.Instruction.{Instruction}
-use Rattle.ob_verify_spec.specs.declared.CodeFault.TheVariants.{BadJump, BadSlot, KindMismatch, BadField, BadCall, FallsOff}
+use Rattle.ob_code.specs.declared.instruction.Instruction.TheVariants as is
+use Rattle.ob_verify_spec.specs.declared.CodeFault.TheVariants.{BadJump, BadSlot, KindMismatch, BadField, BadCall, FallsOff, NoFuelMark}
 use Rattle.ob_verify_spec.specs.Kinds.{fits, both_hold}
 use Rattle.ob_verify_spec.specs.Frames.{CodeFrame}
-use Rattle.ob_verify_spec.specs.Instructions.{KindsOfSlots, reads, slot_set, leads, Need, slots_needed, meets, needs, Effect, keeps, sets, copies, set_slot, done, effect}
-use Rattle.ob_verify_spec.specs.Conditions.{bad_jump, lacks_slots, bad_slot, bad_field, bad_call, may_set, names_bad_slot, may_go_on}
+use Rattle.ob_verify_spec.specs.Instructions.{KindsOfSlots, reads, slot_set, targets, leads, Need, slots_needed, meets, needs, Effect, keeps, sets, copies, set_slot, done, effect}
+use Rattle.ob_verify_spec.specs.Conditions.{bad_jump, lacks_slots, bad_slot, bad_field, bad_call, may_set, names_bad_slot, is_unit, is_fuelled, no_fuel_mark, may_go_on}
 use Rattle.ob_verify_spec.specs.Ways.{IsAt, at_entry, Way, start, step, IsReached, IsFaultless}
 use Rattle.ob_verify_spec.specs.Verified.{HoldsOnAllWays, AreSlotKinds, IsVerifiedBody}
 use Rattle.ob_verify_spec.specs.Passing.{held_at, KindRow}
 use Rattle.ob_verify_spec.specs.Running.{AreKnownAt, KeepsKinds}
 use Rattle.ob_verify_spec.specs.Laws.{AreSameKinds, HasOneSlotKinds}
 use Rattle.ob_verify_spec.proofs.Cells.{some_same, none_some}
+use Rattle.ob_verify_spec.proofs.Listed.{each_passes}
 use Rattle.ob_verify_spec.proofs.Meeting.{HoldsOne, Two, both_self}
 use Rattle.ob_verify_spec.proofs.Rows.{OnSomeWay}
-use Rattle.ob_verify_spec.proofs.Naming.{may_go, leads_ahead, reads_below, needs_below, EffectFits, effect_fits}
-use Rattle.ob_verify_spec.proofs.Pass.{Entered, begins, comes, entered, Agrees, AgreesAt}
+use Rattle.ob_verify_spec.proofs.Naming.{may_go, next_or_target, leads_within, reads_below, needs_below, EffectFits, effect_fits}
+use Rattle.ob_verify_spec.proofs.Pass.{Agrees, AgreesAt}
 use Rattle.ob_verify_spec.proofs.Needs.{meets_alike, row_mismatch}
 use Rattle.ob_verify_spec.proofs.SlotKinds.{at_within, reached_within, row_at, two_least, held_by, slot_kinds}
 use Rattle.ob_verify_spec.proofs.Fitting.{belongs_fits}
@@ -56,8 +58,11 @@ one_slot_kinds f = record { some = slot_kinds f; same = same_kinds f }
 
 -- Where no condition holds.
 
-jump_well : (f : CodeFrame) → IsFaultless f → (i : ℕ) (x : Instruction) → IsAt f i x → bad_jump f i x ≡ false
-jump_well f n i x at = false_from_ne_true (bad_jump f i x) (λ e. n i BadJump (record { instruction = x; at = at; so = e }))
+jump_well : (f : CodeFrame) → IsFaultless f → (i : ℕ) (x : Instruction) → IsAt f i x → bad_jump f x ≡ false
+jump_well f n i x at = false_from_ne_true (bad_jump f x) (λ e. n i BadJump (record { instruction = x; at = at; so = e }))
+
+mark_well : (f : CodeFrame) → IsFaultless f → (i : ℕ) (x : Instruction) → IsAt f i x → no_fuel_mark f i x ≡ false
+mark_well f n i x at = false_from_ne_true (no_fuel_mark f i x) (λ e. n i NoFuelMark (record { instruction = x; at = at; so = e }))
 
 slot_well : (f : CodeFrame) → IsFaultless f → (i : ℕ) (x : Instruction) → IsAt f i x → names_bad_slot f x ≡ false
 slot_well f n i x at = false_from_ne_true (names_bad_slot f x) (λ e. n i BadSlot (inr (record { instruction = x; at = at; so = e })))
@@ -68,7 +73,7 @@ slots_well f n i x at = or_from (lacks_slots f i) (names_bad_slot f x) (false_fr
 goes_well : (f : CodeFrame) → IsFaultless f → (i : ℕ) (x : Instruction) → IsAt f i x → may_go_on f i x ≡ true
 goes_well f n i x at = may_go f i x (jump_well f n i x at) (slots_well f n i x at)
     (false_from_ne_true (bad_field f x) (λ e. n i BadField (record { instruction = x; at = at; so = e })))
-    (false_from_ne_true (bad_call f x) (λ e. n i BadCall (record { instruction = x; at = at; so = e })))
+    (false_from_ne_true (bad_call f x) (λ e. n i BadCall (record { instruction = x; at = at; so = e }))) (mark_well f n i x at)
 
 set_within_of : (f : CodeFrame) (o : Option ℕ) (k : ℕ) → option_map_or (may_set f) o true ≡ true → o ≡ Some k → (k ≢ 0) × (k < f.body.slots)
 set_within_of f None k e g = absurd (none_some g)
@@ -147,9 +152,13 @@ leads_well f kinds a n i j x s at e c =
           (λ t v. ((a.held j next.0 k y next.1 lt).0 h).each (done (effect f x) t) (step x j v at goes c)));
     }
 
-first_way : (f : CodeFrame) (j : ℕ) (s : KindsOfSlots) → Entered f 0 j s → s ≡ at_entry f
-first_way f j s begins = refl
-first_way f j s (comes h before x k lt w at so c) = absurd (omega arith)
+-- nothing leads back to the entry
+abbrev NoneLeadsBack : CodeFrame → Type 0
+NoneLeadsBack f = (i : ℕ) (x : Instruction) → IsAt f i x → ¬ (Contains (leads i x) 0)
+
+first_way : {f : CodeFrame} {j : ℕ} {s : KindsOfSlots} → NoneLeadsBack f → Way f j s → j ≡ 0 → s ≡ at_entry f
+first_way none start e = refl
+first_way none (step {i = h} x j w at so c) e = absurd (none h x at (subst (Contains (leads h x)) e c))
 
 enters_well : (f : CodeFrame) (kinds : ℕ → Option KindsOfSlots) → AreSlotKinds f kinds → AreKnownAt f kinds 0 (at_entry f)
 enters_well f kinds a =
@@ -157,14 +166,14 @@ enters_well f kinds a =
     record { known = first.0; there = first.1; held = λ k x lt h. fit_one f.image (at_entry f k) x (((a.held 0 first.0 k x first.1 lt).0 h).each (at_entry f) start) }
 
 -- two ways to the entry hold what it holds
-two_first : (f : CodeFrame) (k : ℕ) (r : Option Kind) → Two f.image (OnSomeWay f 0 k) r → r ≡ at_entry f k
-two_first f k r (o, p, (s, w, e), (t, v, g), h) =
-    let left : o ≡ at_entry f k = sym e ∙ ap (λ (z : KindsOfSlots). z k) (first_way f 0 s (entered w)) in
-    let right : p ≡ at_entry f k = sym g ∙ ap (λ (z : KindsOfSlots). z k) (first_way f 0 t (entered v)) in
+two_first : (f : CodeFrame) → NoneLeadsBack f → (k : ℕ) (r : Option Kind) → Two f.image (OnSomeWay f 0 k) r → r ≡ at_entry f k
+two_first f none k r (o, p, (s, w, e), (t, v, g), h) =
+    let left : o ≡ at_entry f k = sym e ∙ ap (λ (z : KindsOfSlots). z k) (first_way none w refl) in
+    let right : p ≡ at_entry f k = sym g ∙ ap (λ (z : KindsOfSlots). z k) (first_way none v refl) in
     sym h ∙ ap (λ z. both_hold f.image z p) left ∙ ap (both_hold f.image (at_entry f k)) right ∙ both_self f.image (at_entry f k)
 
-entered_well : (f : CodeFrame) (kinds : ℕ → Option KindsOfSlots) → AreSlotKinds f kinds → (s : KindsOfSlots) (k : ℕ) → kinds 0 ≡ Some s → k < f.body.slots → s k ≡ at_entry f k
-entered_well f kinds a s k e lt = let h = kinds_row f kinds a 0 s e in h.same k lt ∙ two_first f k (held_at h.row k) (h.agrees.good.two k lt)
+entered_well : (f : CodeFrame) (kinds : ℕ → Option KindsOfSlots) → AreSlotKinds f kinds → NoneLeadsBack f → (s : KindsOfSlots) (k : ℕ) → kinds 0 ≡ Some s → k < f.body.slots → s k ≡ at_entry f k
+entered_well f kinds a none s k e lt = let h = kinds_row f kinds a 0 s e in h.same k lt ∙ two_first f none k (held_at h.row k) (h.agrees.good.two k lt)
 
 never_ends : (f : CodeFrame) → IsFaultless f → ¬ (IsReached f (length f.body.instructions))
 never_ends f n way = n (length f.body.instructions) FallsOff (refl, way)
@@ -176,11 +185,26 @@ stays_well f kinds a n i s e =
     let other : i ≢ length f.body.instructions = λ g. never_ends f n (subst (IsReached f) g way) in
     at_within f i (omega arith)
 
-ahead_well : (f : CodeFrame) → IsFaultless f → (i j : ℕ) (x : Instruction) → IsAt f i x → Contains (leads i x) j → (i < j) × (j ≤ length f.body.instructions)
+unit_there : (o : Option Instruction) → option_map_or is_unit o false ≡ true → o ≡ Some is.Unit
+unit_there None e = absurd (true≢false (sym e))
+unit_there (Some is.Unit) e = refl
+unit_there (Some x) e = absurd (true≢false (sym e))
+
+ahead_or_unit : (f : CodeFrame) (i t : ℕ) → is_fuelled f i t ≡ true → (i < t) ⊎ IsAt f t is.Unit
+ahead_or_unit f i t e = elim (or_cases (nat_lt i t) (option_map_or is_unit (slice_get f.body.instructions t) false) e) [
+  | inl lt ↦ inl (ltb-true i t lt)
+  | inr h ↦ inr (unit_there (slice_get f.body.instructions t) h)
+]
+
+ahead_well : (f : CodeFrame) → IsFaultless f → (i j : ℕ) (x : Instruction) → IsAt f i x → Contains (leads i x) j → (j ≤ length f.body.instructions) × ((i < j) ⊎ IsAt f j is.Unit)
 ahead_well f n i j x at c =
-    let h = leads_ahead f i x j (slice_get_within f.body.instructions i x at) (jump_well f n i x at) c in
-    let lt : j < length f.body.instructions + 1 = h.1 in
-    (h.0, omega arith)
+    let lt : j < length f.body.instructions + 1 = leads_within f i x j (slice_get_within f.body.instructions i x at) (jump_well f n i x at) c in (
+      omega arith,
+      elim (next_or_target i x j c) [
+        | inl same ↦ let next : i + 1 ≡ j = same in inl (omega arith)
+        | inr h ↦ ahead_or_unit f i j (each_passes (is_fuelled f i) (targets x) j (not-false (list_all (is_fuelled f i) (targets x)) (mark_well f n i x at)) h)
+      ],
+    )
 
 keeps_kinds : (f : CodeFrame) (kinds : ℕ → Option KindsOfSlots) → AreSlotKinds f kinds → IsFaultless f → KeepsKinds f kinds
 keeps_kinds f kinds a n = record {

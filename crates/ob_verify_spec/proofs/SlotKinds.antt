@@ -1,6 +1,5 @@
 -- Each body has slot kinds, and no others: those by the rows of the pass.
-use Rattle.std.proofs.Common.{◌≡◌, ◌↔◌, ℕ, zero, suc, ◌+◌, ◌<◌, ◌≤◌, length, Option, Some, None, option_map, refl, sym, ap, ◌∙◌, subst, arith, inl, inr}
-use Rattle.std.proofs.lemmas.Bool.{cases_lt}
+use Rattle.std.proofs.Common.{◌≡◌, ◌↔◌, ℕ, ◌+◌, ◌<◌, ◌≤◌, length, Option, Some, None, option_map, refl, sym, ap, ◌∙◌, subst, arith, inl, inr}
 use Rattle.std.proofs.lemmas.Option.{slice_get_within, slice_get_cases}
 use Rattle.ob_table.specs.declared.seen.Kind.{Kind}
 use Rattle.ob_code.specs.declared.instruction.Instruction.{Instruction}
@@ -9,12 +8,13 @@ use Rattle.ob_verify_spec.specs.Frames.{CodeFrame}
 use Rattle.ob_verify_spec.specs.Instructions.{KindsOfSlots}
 use Rattle.ob_verify_spec.specs.Ways.{IsAt, Way, start, step, IsFaultless}
 use Rattle.ob_verify_spec.specs.Verified.{HoldsOnAllWays, IsKnown, AreSlotKinds, IsVerifiedBody}
-use Rattle.ob_verify_spec.specs.Passing.{held_at, KindRow, KindRows, first_rows, passed, first_fault}
+use Rattle.ob_verify_spec.specs.Passing.{held_at, KindRow, known_rows, first_fault}
 use Rattle.ob_verify_spec.proofs.Cells.{some_same, none_some}
 use Rattle.ob_verify_spec.proofs.Meeting.{HoldsOne, Two, both_least, belongs_back}
 use Rattle.ob_verify_spec.proofs.Rows.{OnSomeWay}
-use Rattle.ob_verify_spec.proofs.Naming.{goes_jump, leads_ahead}
-use Rattle.ob_verify_spec.proofs.Pass.{Known, known_first, known_next, Agrees, AgreesAt, agrees_at}
+use Rattle.ob_verify_spec.proofs.Naming.{goes_jump, leads_within}
+use Rattle.ob_verify_spec.proofs.Pass.{rows_at, Agrees, AgreesAt, agrees_at}
+use Rattle.ob_verify_spec.proofs.Passes.{rows_known}
 use Rattle.ob_verify_spec.proofs.Verdict.{none_found}
 
 -- a place within the body has an instruction
@@ -24,27 +24,15 @@ at_within f i lt = elim (slice_get_cases f.body.instructions i).1 [
   | inr w ↦ let le : length f.body.instructions ≤ i = w.0 in absurd (omega arith)
 ]
 
--- the rows when the pass comes to a place
-rows_at : (f : CodeFrame) (i : ℕ) → i ≤ length f.body.instructions → (t : KindRows) × Known f i t
-rows_at f zero le = (first_rows f, known_first f)
-rows_at f (suc i) le =
-    let before = rows_at f i (omega arith) in
-    let here = at_within f i (omega arith) in
-    (passed f i here.0 before.0, subst (λ z. Known f z (passed f i here.0 before.0)) (omega arith) (known_next f i before.0 here.0 before.1 here.1))
-
 -- each way leads to a place of the body, or its end
 pub reached_within : (f : CodeFrame) (i : ℕ) (s : KindsOfSlots) → Way f i s → i ≤ length f.body.instructions
 reached_within f i s start = omega arith
 reached_within f i s (step {i = h} x j w at so c) =
-    let a = leads_ahead f h x j (slice_get_within f.body.instructions h x at) (goes_jump f h x so) c in
-    let lt : j < length f.body.instructions + 1 = a.1 in omega arith
+    let lt : j < length f.body.instructions + 1 = leads_within f h x j (slice_get_within f.body.instructions h x at) (goes_jump f h x so) c in omega arith
 
 -- the row of each place, or none
 pub row_at : (f : CodeFrame) (i : ℕ) → (o : Option KindRow) × AgreesAt f i o
-row_at f i = elim (cases_lt (length f.body.instructions) i) [
-  | inl lt ↦ (None, λ way. let le : i ≤ length f.body.instructions = reached_within f i way.0 way.1 in omega arith)
-  | inr le ↦ let h = rows_at f i le in (held_at h.0 i, agrees_at f i h.0 h.1)
-]
+row_at f i = (held_at (rows_at f (known_rows f) i) i, agrees_at f i (known_rows f) (rows_known f))
 
 abbrev slots_of : Option KindRow → Option KindsOfSlots
 slots_of o = option_map (λ r. held_at r) o

@@ -1,30 +1,14 @@
 -- The first fault that the pass finds is the first of the conditions.
-use Rattle.std.proofs.Common.{◌≡◌, ◌≢◌, ℕ, suc, ◌+◌, ◌<◌, ◌≤◌, List, [], ◌∷◌, length, Option, Some, None, slice_get, sym, ap, ◌∙◌, subst, arith, add-zero, ◌⊎◌, inl, inr}
+use Rattle.std.proofs.Common.{◌≡◌, ◌≢◌, ℕ, ◌+◌, ◌<◌, ◌≤◌, List, [], ◌∷◌, length, Option, Some, None, sym, subst, arith, ◌⊎◌, inl, inr}
 use Rattle.std.proofs.lemmas.Bool.Decides.{eqb_tells}
 use Rattle.ob_code.specs.declared.instruction.Instruction.{Instruction}
 use Rattle.ob_verify_spec.specs.declared.CodeFault.{CodeFault}
 use Rattle.ob_verify_spec.specs.Frames.{CodeFrame}
-use Rattle.ob_verify_spec.specs.Ways.{IsAt, Holds, number_of, IsFaultless, IsFirstFault}
-use Rattle.ob_verify_spec.specs.Passing.{held_at, KindRows, first_rows, passed, fault_at, fault_at_end, FaultAt, found, first_fault_from, first_fault}
-use Rattle.ob_verify_spec.proofs.Pass.{Known, known_first, known_next, agrees_at}
+use Rattle.ob_verify_spec.specs.Ways.{Holds, number_of, IsFaultless, IsFirstFault}
+use Rattle.ob_verify_spec.specs.Passing.{held_at, KindRows, passed, fault_at, fault_at_end, FaultAt, found, first_fault_from, known_rows, first_fault}
+use Rattle.ob_verify_spec.proofs.Pass.{Rest, whole, rest_next, rest_at, rows_at, next_at, AreKnown, agrees_at}
+use Rattle.ob_verify_spec.proofs.Passes.{rows_known}
 use Rattle.ob_verify_spec.proofs.Faults.{Tells, tells, tells_end, none_past_end}
-
--- these instructions stand from a place on, up to the end
-pub record Rest (f : CodeFrame) (i : ℕ) (xs : List Instruction) : Type 0 where
-  pub same : (k : ℕ) → slice_get f.body.instructions (k + i) ≡ slice_get xs k
-  pub long : i + length xs ≡ length f.body.instructions
-
-pub whole : (f : CodeFrame) → Rest f 0 f.body.instructions
-whole f = record { same = λ k. ap (slice_get f.body.instructions) (add-zero k); long = omega arith }
-
-pub rest_next : (f : CodeFrame) (i : ℕ) (x : Instruction) (xs : List Instruction) → Rest f i (x ∷ xs) → Rest f (i + 1) xs
-rest_next f i x xs h = record {
-  same = λ k. let e : k + (i + 1) ≡ suc k + i = omega arith in ap (slice_get f.body.instructions) e ∙ h.same (suc k);
-  long = let e : i + length (x ∷ xs) ≡ length f.body.instructions = h.long in omega arith;
-}
-
-pub rest_at : (f : CodeFrame) (i : ℕ) (x : Instruction) (xs : List Instruction) → Rest f i (x ∷ xs) → IsAt f i x
-rest_at f i x xs h = let e : i ≡ 0 + i = omega arith in ap (slice_get f.body.instructions) e ∙ h.same 0
 
 -- what the first fault from a place on tells
 pub record FirstFrom (f : CodeFrame) (low i : ℕ) (fault : CodeFault) : Type 0 where
@@ -48,17 +32,20 @@ found_tells f i None (Some x) w r = record {
   first = λ j other le lt. elim (here_or_past i j le) [ inl e ↦ subst (λ z. ¬ (Holds f z other)) (sym e) (w other) | inr g ↦ r.first j other g lt ];
 }
 
-first_tells : (f : CodeFrame) (i : ℕ) (xs : List Instruction) (t : KindRows) → Known f i t → Rest f i xs → TellsFrom f i (first_fault_from f i xs t)
-first_tells f i [] t known h =
+first_tells : (f : CodeFrame) (t : KindRows) (i : ℕ) (xs : List Instruction) → AreKnown f t → Rest f i xs → TellsFrom f i (first_fault_from f i xs (rows_at f t i))
+first_tells f t i [] known h =
     let e : i + 0 ≡ length f.body.instructions = h.long in
-    found_tells f i (fault_at_end f i (held_at t i)) None (tells_end f i (held_at t i) (agrees_at f i t known) (omega arith)) (λ j fault le. none_past_end f j (omega arith) fault)
-first_tells f i (x ∷ xs) t known h =
+    found_tells f i (fault_at_end f i (held_at (rows_at f t i) i)) None (tells_end f i (held_at (rows_at f t i) i) (agrees_at f i t known) (omega arith))
+    (λ j fault le. none_past_end f j (omega arith) fault)
+first_tells f t i (x ∷ xs) known h =
     let at = rest_at f i x xs h in
-    found_tells f i (fault_at f i x (held_at t i)) (first_fault_from f (i + 1) xs (passed f i x t)) (tells f i x (held_at t i) (agrees_at f i t known) at)
-    (first_tells f (i + 1) xs (passed f i x t) (known_next f i t x known at) (rest_next f i x xs h))
+    let rest : TellsFrom f (i + 1) (first_fault_from f (i + 1) xs (passed f i x (rows_at f t i))) =
+    subst (λ z. TellsFrom f (i + 1) (first_fault_from f (i + 1) xs z)) (next_at f t i x at) (first_tells f t (i + 1) xs known (rest_next f i x xs h)) in
+    found_tells f i (fault_at f i x (held_at (rows_at f t i) i)) (first_fault_from f (i + 1) xs (passed f i x (rows_at f t i)))
+    (tells f i x (held_at (rows_at f t i) i) (agrees_at f i t known) at) rest
 
 all_tells : (f : CodeFrame) → TellsFrom f 0 (first_fault f)
-all_tells f = first_tells f 0 f.body.instructions (first_rows f) (known_first f) (whole f)
+all_tells f = first_tells f (known_rows f) 0 f.body.instructions (rows_known f) (whole f)
 
 -- none is found
 pub none_found : (f : CodeFrame) → first_fault f ≡ None → IsFaultless f

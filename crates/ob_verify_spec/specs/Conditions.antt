@@ -15,15 +15,15 @@ use Rattle.ob_verify_spec.specs.Kinds.{same_kind, implements_number}
 use Rattle.ob_verify_spec.specs.Frames.{CodeFrame, kinds_of_params, kind_of_result}
 use Rattle.ob_verify_spec.specs.Instructions.{reads, slot_set, slot_of_result, fields_named, targets}
 
--- A bad jump: a target isn't ahead, or isn't in the body. (With loops, a target behind will do where it is a `unit`.)
+-- A bad jump: a target isn't in the body.
 
--- whether a place is ahead, and in the body
-abbrev pub is_ahead : CodeFrame → ℕ → ℕ → Bool
-is_ahead f i t = nat_lt i t && nat_lt t (length f.body.instructions)
+-- whether a place is in the body
+abbrev pub is_within : CodeFrame → ℕ → Bool
+is_within f t = nat_lt t (length f.body.instructions)
 
 -- whether an instruction has a bad jump
-abbrev pub bad_jump : CodeFrame → ℕ → Instruction → Bool
-bad_jump f i x = not (list_all (is_ahead f i) (targets x))
+abbrev pub bad_jump : CodeFrame → Instruction → Bool
+bad_jump f x = not (list_all (is_within f) (targets x))
 
 -- A bad slot: one that isn't below the body's number is named, or that of `this` is set; or, at the first instruction, the body
 -- has fewer slots than `this` and its parameters take.
@@ -107,6 +107,21 @@ bad_call f is.Ret = is_some f.body.result
 bad_call f (is.RetValue a) = not (is_some f.body.result)
 bad_call f x = false
 
+-- No fuel mark: a target behind, which the instruction's own place counts as, is no `unit`. So each turn of a loop takes a unit.
+
+-- whether an instruction is a `unit`
+abbrev pub is_unit : Instruction → Bool
+is_unit is.Unit = true
+is_unit x = false
+
+-- whether a place is ahead, or a `unit` stands there
+abbrev pub is_fuelled : CodeFrame → ℕ → ℕ → Bool
+is_fuelled f i t = nat_lt i t || option_map_or is_unit (slice_get f.body.instructions t) false
+
+-- whether an instruction leads behind without a fuel mark
+abbrev pub no_fuel_mark : CodeFrame → ℕ → Instruction → Bool
+no_fuel_mark f i x = not (list_all (is_fuelled f i) (targets x))
+
 -- whether none of these conditions holds, so that ways go on after the instruction
 abbrev pub may_go_on : CodeFrame → ℕ → Instruction → Bool
-may_go_on f i x = not (bad_jump f i x) && not (bad_slot f i x) && not (bad_field f x) && not (bad_call f x)
+may_go_on f i x = not (bad_jump f x) && not (bad_slot f i x) && not (bad_field f x) && not (bad_call f x) && not (no_fuel_mark f i x)

@@ -3,11 +3,11 @@ use Rattle.std.specs.Prelude.{◌≡◌, ℕ, ◌<◌, ◌∷◌, length, Some, 
 use Rattle.ob_table.specs.declared.seen.Kind.TheVariants as kind
 use Rattle.ob_code.specs.declared.instruction.Instruction.{Instruction}
 use Rattle.ob_verify_spec.specs.declared.CodeFault.{CodeFault}
-use Rattle.ob_verify_spec.specs.declared.CodeFault.TheVariants.{BadJump, BadSlot, KindMismatch, BadField, BadCall, FallsOff}
+use Rattle.ob_verify_spec.specs.declared.CodeFault.TheVariants.{BadJump, BadSlot, KindMismatch, BadField, BadCall, FallsOff, NoFuelMark}
 use Rattle.ob_verify_spec.specs.Kinds.{both_hold}
 use Rattle.ob_verify_spec.specs.Frames.{CodeFrame, kinds_of_params}
 use Rattle.ob_verify_spec.specs.Instructions.{KindsOfSlots, Need, slots_needed, meets, needs, done, effect, leads}
-use Rattle.ob_verify_spec.specs.Conditions.{bad_jump, lacks_slots, names_bad_slot, bad_field, bad_call, may_go_on}
+use Rattle.ob_verify_spec.specs.Conditions.{bad_jump, lacks_slots, names_bad_slot, bad_field, bad_call, no_fuel_mark, may_go_on}
 
 -- the instruction at a place is this one
 abbrev pub IsAt : CodeFrame → ℕ → Instruction → Type 0
@@ -49,12 +49,13 @@ pub record Mismatches (f : CodeFrame) (i : ℕ) : Type 0 where
 
 -- the condition of a fault holds at a place; an instruction that no way reaches has every condition but that on kinds
 abbrev pub Holds : CodeFrame → ℕ → CodeFault → Type 0
-Holds f i BadJump = Breaks f i (bad_jump f i)
+Holds f i BadJump = Breaks f i (bad_jump f)
 Holds f i BadSlot = (lacks_slots f i ≡ true) ⊎ Breaks f i (names_bad_slot f)
 Holds f i KindMismatch = Mismatches f i
 Holds f i BadField = Breaks f i (bad_field f)
 Holds f i BadCall = Breaks f i (bad_call f)
 Holds f i FallsOff = (i ≡ length f.body.instructions) × IsReached f i
+Holds f i NoFuelMark = Breaks f i (no_fuel_mark f i)
 
 -- the number of a fault
 abbrev pub number_of : CodeFault → ℕ
@@ -64,6 +65,7 @@ number_of KindMismatch = 513
 number_of BadField = 514
 number_of BadCall = 515
 number_of FallsOff = 516
+number_of NoFuelMark = 517
 
 -- no condition holds in a body
 abbrev pub IsFaultless : CodeFrame → Type 0

@@ -13,7 +13,7 @@ pub use laws::{
 /// What is wrong with the code of a body, at an instruction or at the end of the body.
 #[derive(Clone, Copy)]
 pub enum CodeFault {
-    /// An instruction leads to a place outside the body, or to one that isn't ahead.
+    /// An instruction leads to a place outside the body.
     BadJump,
     /// A slot that the body doesn't have is named, or that of `this` is set; or the body lacks slots for its parameters.
     BadSlot,
@@ -26,4 +26,6 @@ pub enum CodeFault {
     BadCall,
     /// A way leads to the end of the body.
     FallsOff,
+    /// An instruction leads behind, or to itself, and no `unit` stands there.
+    NoFuelMark,
 }

@@ -15,7 +15,7 @@ use Rattle.ob_table.specs.declared.contract.Param.{Param}
 use Rattle.ob_table.specs.declared.contract.Signature.{Signature}
 use Rattle.ob_table_spec.specs.Conditions.{IsClassTable, IsContract}
 use Rattle.ob_table_spec.specs.WellFormed.{StaticFrame, constructor_at}
-use Rattle.ob_silica.specs.Terms.{SilicaForm, unit_form, const_form, op_form, copy_form, move_form, new_form, call_form, call_this_form, change_form, test_form, if_form, assert_form, disown_form, drop_form, return_form, revert_form, bad_row_form, SilicaTerms, no_terms, and_term}
+use Rattle.ob_silica.specs.Terms.{SilicaForm, unit_form, const_form, op_form, copy_form, move_form, new_form, call_form, call_this_form, change_form, test_form, if_form, loop_form, assert_form, disown_form, drop_form, return_form, revert_form, bad_row_form, SilicaTerms, no_terms, and_term}
 use Rattle.ob_silica.specs.declared.place.Given.{Given}
 use Rattle.ob_silica.specs.declared.place.Operand.{Operand}
 use Rattle.ob_silica.specs.declared.place.Place.{Place}
@@ -193,6 +193,8 @@ mutual
       max-le (one_operand o) (max-le (terms_few f is low h branch nw.0 kw.0 bw.0) (terms_few f is low h other nw.1 kw.1 bw.1))
   form_few f is low h (if_form o branch other join) n k' b' nw kw bw =
       max-le (one_operand o) (max-le (terms_few f is low h branch nw.0 kw.0 bw.0) (terms_few f is low h other nw.1 kw.1 bw.1))
+  form_few f is low h (loop_form first o body end) n k' b' nw kw bw =
+      max-le (one_operand o) (max-le (terms_few f is low _ first nw.0 kw.0 bw.0) (terms_few f is low _ body nw.1 kw.1 bw.1))
   form_few f is low h (disown_form o) n k' b' nw kw bw = one_operand o
   form_few f is low h (return_form (Some o)) n k' b' nw kw bw = one_operand o
   form_few f is low h (return_form None) n k' b' nw kw bw = omega arith

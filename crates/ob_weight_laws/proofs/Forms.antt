@@ -1,6 +1,6 @@
 -- The code of a form has at most as many bytes as the form weighs.
 use Rattle.std.proofs.Common.{◌≡◌, ◌≤◌, ℕ, suc, ◌+◌, ◌*◌, Bool, true, false, List, [], ◌∷◌, ◌++◌, length, map, Option, Some, None, refl, ap, arith}
-use Rattle.std.specs.Prelude.{if◌then◌else◌}
+use Rattle.std.specs.Prelude.{not, if◌then◌else◌}
 use Rattle.std.specs.Option.{option_map_or}
 use Rattle.ob_base.specs.declared.id.ContractId.{ContractId}
 use Rattle.ob_base.specs.declared.id.FieldId.{FieldId}
@@ -15,7 +15,7 @@ use Rattle.ob_table.specs.declared.contract.ResolvedType.{ResolvedType}
 use Rattle.ob_table.specs.declared.contract.ResolvedType.TheVariants as typed
 use Rattle.ob_table.specs.declared.contract.Signature.{Signature}
 use Rattle.ob_table_spec.specs.WellFormed.{constructor_at}
-use Rattle.ob_silica.specs.Terms.{SilicaForm, unit_form, const_form, op_form, copy_form, move_form, new_form, call_form, call_this_form, change_form, test_form, if_form, assert_form, disown_form, drop_form, return_form, revert_form, bad_row_form, SilicaTerms, no_terms, and_term}
+use Rattle.ob_silica.specs.Terms.{SilicaForm, unit_form, const_form, op_form, copy_form, move_form, new_form, call_form, call_this_form, change_form, test_form, if_form, loop_form, assert_form, disown_form, drop_form, return_form, revert_form, bad_row_form, SilicaTerms, no_terms, and_term}
 use Rattle.ob_silica.specs.declared.place.Constant.{Constant}
 use Rattle.ob_silica.specs.declared.place.Constant.TheVariants as constant
 use Rattle.ob_silica.specs.declared.place.Given.{Given}
@@ -25,12 +25,12 @@ use Rattle.ob_silica.specs.declared.place.Place.TheVariants.{This, Slot, Field}
 use Rattle.ob_silica.specs.declared.term.SilicaOperator.{SilicaOperator}
 use Rattle.ob_silica.specs.declared.term.SilicaOperator.TheVariants.{Unary, Binary}
 use Rattle.ob_silica_places.specs.Parameters.{Parameter, all_parameters, parameters}
-use Rattle.ob_silica_formed.specs.Holdings.{Holdings, kind_of_operand, after_form, terms_end}
+use Rattle.ob_silica_formed.specs.Holdings.{Holdings, kind_of_operand, after_form, after_terms, at_head, terms_end}
 use Rattle.ob_code.specs.Instructions.{instruction}
 use Rattle.ob_code.specs.declared.instruction.Instruction.{Instruction}
 use Rattle.ob_code.specs.declared.instruction.Instruction.TheVariants as does
 use Rattle.ob_emit_spec.specs.Operands.{slot_read, load, slots_read, loads, values_given, share, shares}
-use Rattle.ob_emit_spec.specs.Emission.{EmissionFrame, constant_code, unary_code, binary_code, operation_code, fetch_code, share_in_field, copy_code, move_code, result_slot, shares_of_call, shares_of_new, call_code, call_this_code, new_code, given_slots, shares_of_given, change_code, jumps_over, jump_if, after_branch, choice_code, end_test, contract_referred, share_result, return_code, after_load, form_code, terms_code}
+use Rattle.ob_emit_spec.specs.Emission.{EmissionFrame, constant_code, unary_code, binary_code, operation_code, fetch_code, share_in_field, copy_code, move_code, result_slot, shares_of_call, shares_of_new, call_code, call_this_code, new_code, given_slots, shares_of_given, change_code, jumps_over, jump_if, after_branch, choice_code, end_test, contract_referred, share_result, return_code, after_load, turn_code, form_code, terms_code}
 use Rattle.ob_emit_spec.specs.Weights.{weight_of_constant, weight_of_form, weight_of_terms}
 use Rattle.ob_weight_laws.proofs.Declared.{size_of_code}
 use Rattle.ob_weight_laws.proofs.Sizes.{within_both, within_one, unit_row, int_row, bool_row, text_row, copy_row, load_row, store_row, op_row, jump_row, unless_row, test_row, end_row, change_row, new_row, call_row, self_call_row, share_row, disown_row, ret_row, ret_value_row, revert_row}
@@ -45,6 +45,9 @@ tested s b o h = omega (arith, h)
 
 chosen : (s b o : ℕ) → s ≤ 3 + (((6 + b) + 5) + o) → s ≤ 32 + (b + o)
 chosen s b o h = omega (arith, h)
+
+looped : (s w b : ℕ) → s ≤ w + (3 + ((6 + b) + 5)) → s ≤ 32 + (w + b)
+looped s w b h = omega (arith, h)
 
 -- Operands.
 
@@ -378,6 +381,23 @@ mutual
       (λ target. unless_row (slot_read f.scratch 0 o.place) target)
       (terms_within f h branch (start + 1))
       (terms_within f h other (after_branch (start + 1) first (jumps_over branch other)))))
+  form_within f h (loop_form first o body end) at =
+      let again = not (terms_end body) in
+      let a = slot_read f.scratch 0 o.place in
+      let one = terms_code f (at_head f.static first body h) first at in
+      let start = after_load f o (at + length one) in
+      let two = terms_code f (after_terms f.static first (at_head f.static first body h)) body (start + 1) in
+      let target = after_branch (start + 1) two again in
+      looped (size_of_code (form_code f h (loop_form first o body end) at)) (weight_of_terms first) (weight_of_terms body)
+      (within_both one (loads f.scratch 0 (o ∷ []) ++ turn_code a at again start two) (weight_of_terms first)
+      (3 + ((6 + weight_of_terms body) + 5)) (terms_within f (at_head f.static first body h) first at)
+      (within_both (loads f.scratch 0 (o ∷ [])) (turn_code a at again start two) 3 ((6 + weight_of_terms body) + 5)
+      (one_load f.scratch o)
+      (within_both (does.Unless a target ∷ two) (jump_if again at) (6 + weight_of_terms body) 5
+      (within_both (does.Unless a target ∷ []) two 6 (weight_of_terms body)
+      (within_one (does.Unless a target) 6 6 (unless_row a target) (omega arith))
+      (terms_within f (after_terms f.static first (at_head f.static first body h)) body (start + 1)))
+      (jump_within again at))))
   form_within f h (assert_form o perm) at = omega arith
   form_within f h (disown_form o) at =
       with_load f.scratch o (does.Disown (slot_read f.scratch 0 o.place)) 2 (disown_row (slot_read f.scratch 0 o.place))

@@ -1,6 +1,6 @@
 -- The instructions of well-formed terms have a spelling.
 use Rattle.std.proofs.Common.{◌≡◌, ◌≤◌, ◌<◌, ◌^◌, ℕ, suc, ◌+◌, Bool, true, false, List, [], ◌∷◌, ◌++◌, length, map, Option, Some, None, IsTrue, refl, ap, arith, length-append}
-use Rattle.std.specs.Prelude.{IsSome, IsSomeAnd, nat_le, max, if◌then◌else◌}
+use Rattle.std.specs.Prelude.{IsSome, IsSomeAnd, nat_le, max, not, if◌then◌else◌}
 use Rattle.std.specs.Str.{IsUtf8, is_utf8}
 use Rattle.std.specs.Option.{option_map_or}
 use Rattle.std.proofs.lemmas.Bool.{and_parts, leb-true}
@@ -27,7 +27,7 @@ use Rattle.ob_table.specs.declared.seen.Kind.TheVariants as kind
 use Rattle.ob_table_spec.specs.Conditions.{IsClassTable}
 use Rattle.ob_table_spec.specs.WellFormed.{StaticFrame, constructor_at, RefersTo}
 use Rattle.ob_silica.specs.Slots.{slots_of_place, slots_of_operand, slots_of_operands, slots_of_given, slots_of_result, slots_of_form, slots_of_terms}
-use Rattle.ob_silica.specs.Terms.{SilicaForm, unit_form, const_form, op_form, copy_form, move_form, new_form, call_form, call_this_form, change_form, test_form, if_form, assert_form, disown_form, drop_form, return_form, revert_form, bad_row_form, SilicaTerms, no_terms, and_term}
+use Rattle.ob_silica.specs.Terms.{SilicaForm, unit_form, const_form, op_form, copy_form, move_form, new_form, call_form, call_this_form, change_form, test_form, if_form, loop_form, assert_form, disown_form, drop_form, return_form, revert_form, bad_row_form, SilicaTerms, no_terms, and_term}
 use Rattle.ob_silica.specs.declared.place.Constant.{Constant}
 use Rattle.ob_silica.specs.declared.place.Constant.TheVariants as constant
 use Rattle.ob_silica.specs.declared.place.Given.{Given}
@@ -37,7 +37,7 @@ use Rattle.ob_silica.specs.declared.place.Place.TheVariants.{This, Slot, Field}
 use Rattle.ob_silica.specs.declared.term.SilicaOperator.{SilicaOperator}
 use Rattle.ob_silica.specs.declared.term.SilicaOperator.TheVariants.{Unary, Binary}
 use Rattle.ob_silica_places.specs.Parameters.{Parameter, all_parameters, parameters}
-use Rattle.ob_silica_formed.specs.Holdings.{Holdings, kind_of_operand, after_form, terms_end, EachWithin, Each as EachForm}
+use Rattle.ob_silica_formed.specs.Holdings.{Holdings, kind_of_operand, after_form, after_terms, at_head, terms_end, EachWithin, Each as EachForm}
 use Rattle.ob_silica_formed.specs.Points.{IsPlace, ArePlaces, AreFields, IsConstant, NamesWhatIsThere, HasKinds, NamesBody}
 use Rattle.ob_places_laws.proofs.Tables.{there_is, contract_is}
 use Rattle.ob_format_spec.specs.Combinators.{Each}
@@ -45,7 +45,7 @@ use Rattle.ob_code.specs.Instructions.{instruction}
 use Rattle.ob_code.specs.declared.instruction.Instruction.{Instruction}
 use Rattle.ob_code.specs.declared.instruction.Instruction.TheVariants as does
 use Rattle.ob_emit_spec.specs.Operands.{slot_read, load, slots_read, loads, values_given, share, shares}
-use Rattle.ob_emit_spec.specs.Emission.{EmissionFrame, constant_code, unary_code, binary_code, operation_code, fetch_code, share_in_field, copy_code, move_code, result_slot, shares_of_call, shares_of_new, call_code, call_this_code, new_code, given_slots, shares_of_given, change_code, jumps_over, jump_if, after_branch, choice_code, end_test, contract_referred, share_result, return_code, after_load, form_code, terms_code}
+use Rattle.ob_emit_spec.specs.Emission.{EmissionFrame, constant_code, unary_code, binary_code, operation_code, fetch_code, share_in_field, copy_code, move_code, result_slot, shares_of_call, shares_of_new, call_code, call_this_code, new_code, given_slots, shares_of_given, change_code, jumps_over, jump_if, after_branch, choice_code, end_test, contract_referred, share_result, return_code, after_load, turn_code, form_code, terms_code}
 use Rattle.ob_emit_spec.specs.Weights.{most_weight, weight_of_form, weight_of_terms}
 use Rattle.ob_weight_laws.specs.Lines.{FormLinesFit, LinesFit}
 use Rattle.ob_weight_laws.proofs.Declared.{size_of_code}
@@ -403,6 +403,29 @@ places at start second wb wo lb lo a b c d e = record {
   whole = omega (arith, a, b, c, e);
 }
 
+-- where the parts of a loop stand
+record HasTurns (at start wf wb lf lb : ℕ) : Type 0 where
+  first : at + wf ≤ most_weight
+  body : (start + 1) + wb ≤ most_weight
+  whole : start + 2 + lb ≤ most_weight
+
+turns : (at start wf wb lf lb : ℕ) → start ≤ at + lf + 1 → lf ≤ wf → lb ≤ wb → at + (32 + (wf + wb)) ≤ most_weight
+    → HasTurns at start wf wb lf lb
+turns at start wf wb lf lb a b c e = record {
+  first = omega (arith, e);
+  body = omega (arith, a, b, e);
+  whole = omega (arith, a, b, c, e);
+}
+
+-- what is behind the operand of a loop
+turn_fits : (a start : ℕ) (again : Bool) (at : ℕ) (body : List Instruction) → IsByte a → AllFit body → start < 2 ^ 32
+    → at + 2 + length body ≤ most_weight → AllFit (turn_code a start again at body)
+turn_fits a start again at body byte hb begins low =
+    let p = after_low (at + 1) body again in (
+      unless_fits a (after_branch (at + 1) body again) byte (omega (arith, p, low)),
+      both_fit body (jump_if again start) hb (jump_if_fits again start begins),
+    )
+
 -- what is asked of a form at a place
 record IsPut (f : EmissionFrame) (h : Holdings) (form : SilicaForm) (at : ℕ) : Type 0 where
   numbers : NamesWhatIsThere f.static h form
@@ -505,6 +528,27 @@ mutual
       (terms_fit f room h branch (start + 1) nw.0 kw.0 bw.0 two.0 p.lines.0 at'.branch)
       (terms_fit f room h other next nw.1 kw.1 bw.1 two.1 p.lines.1 at'.other)
       at'.whole)
+  form_fits f room h (loop_form first o body end) at p nw kw bw =
+      let low = two_low (slots_of_terms first) (max (slots_of_operand o) (slots_of_terms body)) f.scratch p.slots in
+      let two = two_low (slots_of_operand o) (slots_of_terms body) f.scratch low.1 in
+      let head = at_head f.static first body h in
+      let one = terms_code f head first at in
+      let start = after_load f o (at + length one) in
+      let inside = terms_code f (after_terms f.static first head) body (start + 1) in
+      let a = read_byte f room 0 o.place (omega arith) two.0 in
+      let wf = terms_within f head first at in
+      let cf = code_counted one in
+      let wb = terms_within f (after_terms f.static first head) body (start + 1) in
+      let cb = code_counted inside in
+      let at' = turns at start (weight_of_terms first) (weight_of_terms body) (length one) (length inside)
+      (after_one f o (at + length one)) (omega (arith, wf, cf)) (omega (arith, wb, cb)) p.place in
+      both_fit one (loads f.scratch 0 (o ∷ []) ++ turn_code (slot_read f.scratch 0 o.place) at (not (terms_end body)) start inside)
+      (terms_fit f room head first at nw.0 kw.0 bw.0 low.0 p.lines.0 at'.first)
+      (both_fit (loads f.scratch 0 (o ∷ [])) (turn_code (slot_read f.scratch 0 o.place) at (not (terms_end body)) start inside)
+      (one_load_fits f room o p.numbers)
+      (turn_fits (slot_read f.scratch 0 o.place) at (not (terms_end body)) start inside a
+      (terms_fit f room (after_terms f.static first head) body (start + 1) nw.1 kw.1 bw.1 two.1 p.lines.1 at'.body)
+      (let w = p.place in omega (arith, w)) at'.whole))
   form_fits f room h (assert_form o perm) at p nw kw bw = tt
   form_fits f room h (disown_form o) at p nw kw bw =
       with_slot_read f room o (does.Disown (slot_read f.scratch 0 o.place)) p.numbers

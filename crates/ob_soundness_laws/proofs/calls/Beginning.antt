@@ -11,11 +11,11 @@ use Rattle.ob_table.specs.Tables.{contract_at, signature_at}
 use Rattle.ob_table.specs.declared.contract.Contract.{Contract}
 use Rattle.ob_table.specs.declared.contract.Signature.{Signature}
 use Rattle.ob_table_spec.specs.WellFormed.{StaticFrame, frame_of}
-use Rattle.ob_silica.specs.Terms.{SilicaForm, test_form, if_form, SilicaTerms, no_terms, and_term, SilicaBody}
+use Rattle.ob_silica.specs.Terms.{SilicaForm, test_form, if_form, loop_form, SilicaTerms, no_terms, and_term, SilicaBody}
 use Rattle.ob_silica.specs.Slots.{slots_of_terms}
 use Rattle.ob_silica_steps.specs.Configurations.{SilicaProgram, is_terms_of, terms_at}
-use Rattle.ob_silica_formed.specs.Holdings.{Holdings, held_at_start, terms_end, after_form, after_terms, EachWithin, Each}
-use Rattle.ob_silica_formed.specs.Points.{NamesWhatIsThere, HasKinds, TakesResult, LeavesParams, LosesNoReference, NamesBody, ReturnsResult}
+use Rattle.ob_silica_formed.specs.Holdings.{Holdings, held_at_start, terms_end, after_form, after_terms, at_head, EachWithin, Each}
+use Rattle.ob_silica_formed.specs.Points.{NamesWhatIsThere, HasKinds, TakesResult, LeavesParams, LosesNoReference, NamesBody, ReturnsResult, TakesTurns}
 use Rattle.ob_silica_formed.specs.WellFormedTerms.{AreWellFormed}
 use Rattle.ob_flow_spec.specs.Contexts.{BodyFrame, Context, this_known, beginning}
 use Rattle.ob_flow_spec.specs.Deriving.{derive_all}
@@ -32,27 +32,31 @@ mutual
       → Each HasKinds f h terms
       → Each TakesResult f h terms → Each LeavesParams f h terms → Each LosesNoReference f h terms
       → Each NamesBody f h terms
-      → Each ReturnsResult f h terms → Each IsWellFormedForm f h terms
-  each_formed f h no_terms n k t p l b r = tt
-  each_formed f h (and_term form span rest) n k t p l b r = (
-    record { numbers = n.0; kinds = k.0; results = t.0; params = p.0; references = l.0; bodies = b.0; returns = r.0 },
-    within_formed f h form n.1 k.1 t.1 p.1 l.1 b.1 r.1,
-    each_formed f (after_form f form h) rest n.2 k.2 t.2 p.2 l.2 b.2 r.2,
+      → Each ReturnsResult f h terms → Each TakesTurns f h terms → Each IsWellFormedForm f h terms
+  each_formed f h no_terms n k t p l b r w = tt
+  each_formed f h (and_term form span rest) n k t p l b r w = (
+    record { numbers = n.0; kinds = k.0; results = t.0; params = p.0; references = l.0; bodies = b.0; returns = r.0; turns = w.0 },
+    within_formed f h form n.1 k.1 t.1 p.1 l.1 b.1 r.1 w.1,
+    each_formed f (after_form f form h) rest n.2 k.2 t.2 p.2 l.2 b.2 r.2 w.2,
   )
 
   within_formed : (f : StaticFrame) (h : Holdings) (form : SilicaForm) → EachWithin NamesWhatIsThere f h form
       → EachWithin HasKinds f h form → EachWithin TakesResult f h form → EachWithin LeavesParams f h form
       → EachWithin LosesNoReference f h form → EachWithin NamesBody f h form → EachWithin ReturnsResult f h form
-      → EachWithin IsWellFormedForm f h form
-  within_formed f h (test_form place state branch other join) n k t p l b r = (
-    each_formed f h branch n.0 k.0 t.0 p.0 l.0 b.0 r.0,
-    each_formed f h other n.1 k.1 t.1 p.1 l.1 b.1 r.1,
+      → EachWithin TakesTurns f h form → EachWithin IsWellFormedForm f h form
+  within_formed f h (test_form place state branch other join) n k t p l b r w = (
+    each_formed f h branch n.0 k.0 t.0 p.0 l.0 b.0 r.0 w.0,
+    each_formed f h other n.1 k.1 t.1 p.1 l.1 b.1 r.1 w.1,
   )
-  within_formed f h (if_form a branch other join) n k t p l b r = (
-    each_formed f h branch n.0 k.0 t.0 p.0 l.0 b.0 r.0,
-    each_formed f h other n.1 k.1 t.1 p.1 l.1 b.1 r.1,
+  within_formed f h (if_form a branch other join) n k t p l b r w = (
+    each_formed f h branch n.0 k.0 t.0 p.0 l.0 b.0 r.0 w.0,
+    each_formed f h other n.1 k.1 t.1 p.1 l.1 b.1 r.1 w.1,
   )
-  within_formed f h form n k t p l b r = tt
+  within_formed f h (loop_form first a body end) n k t p l b r w = (
+    each_formed f (at_head f first body h) first n.0 k.0 t.0 p.0 l.0 b.0 r.0 w.0,
+    each_formed f (after_terms f first (at_head f first body h)) body n.1 k.1 t.1 p.1 l.1 b.1 r.1 w.1,
+  )
+  within_formed f h form n k t p l b r w = tt
 
 -- Terms of a body that are found.
 
@@ -125,7 +129,7 @@ body_begins program body own s is ec es found = record {
   remains = record {
     formed = record {
       forms = each_formed (frame_of program.table body.contract own s) (held_at_start body.contract s.params) body.terms
-          formed.numbers.forms formed.kinds formed.results formed.params formed.references formed.bodies formed.returns;
+          formed.numbers.forms formed.kinds formed.results formed.params formed.references formed.bodies formed.returns formed.turns;
       slots = max_second (length s.params + 1) (slots_of_terms body.terms) body.slots formed.numbers.slots;
     };
     itself = ((this_known frame).permission, refl);

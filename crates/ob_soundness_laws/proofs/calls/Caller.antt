@@ -10,7 +10,7 @@ use Rattle.ob_heap_spec.specs.Worlds.{World}
 use Rattle.ob_silica.specs.Terms.{SilicaTerms}
 use Rattle.ob_silica_places.specs.Places.{Location, slot, field, this}
 use Rattle.ob_silica_steps.specs.Cells.{permission_in}
-use Rattle.ob_silica_steps.specs.Configurations.{SilicaFrame, by_this, by_new, Loan, Ends, plain_end, test_end, lock_end, Rest, Configuration}
+use Rattle.ob_silica_steps.specs.Configurations.{SilicaFrame, by_this, by_new, Loan, Ends, plain_end, test_end, lock_end, loop_end, Rest, Configuration}
 use Rattle.ob_silica_steps.specs.Here.{Here, here, self_of}
 use Rattle.ob_silica_steps.specs.Binding.{Bound}
 use Rattle.ob_silica_formed.specs.Holdings.{Holdings, held as held_as}
@@ -54,6 +54,7 @@ module _ (b : BodyFrame) (h : Here) (w : World) (same : w.objects ≡ h.world.ob
   open_alike plain_end a = a
   open_alike (test_end p) a = (a.0, test_alike p (self_of h.slots) a.1, shared_alike (self_of h.slots) a.2)
   open_alike (lock_end p n) a = (a.0, test_alike p n a.1, shared_alike n a.2)
+  open_alike (loop_end first x body end) a = a
 
   pub opens_alike : (outer : List Rest) → AreOpen b h outer → AreOpen b (record h { world = w }) outer
   opens_alike [] a = tt

@@ -10,7 +10,7 @@ use Rattle.ob_table_spec.specs.WellFormed.{kind_of_resolved}
 use Rattle.ob_silica_places.specs.Places.{Location, slot, field, same_location}
 use Rattle.ob_silica_places.specs.Parameters.{Parameter}
 use Rattle.ob_silica_places.specs.Converting.{converted}
-use Rattle.ob_silica_steps.specs.Configurations.{SilicaFrame, Loan, Ends, plain_end, test_end, lock_end, Rest, Configuration}
+use Rattle.ob_silica_steps.specs.Configurations.{SilicaFrame, Loan, Ends, plain_end, test_end, lock_end, loop_end, Rest, Configuration}
 use Rattle.ob_silica_steps.specs.Here.{Here}
 use Rattle.ob_silica_steps.specs.Binding.{if_slot, slot_loans}
 use Rattle.ob_flow_spec.specs.Contexts.{Context, is_field, tests_field, permission_on}
@@ -30,11 +30,13 @@ before_parts : (ends : Ends) (ps : List Location) → tests_field (tested_before
 before_parts plain_end ps e = tt
 before_parts (test_end p) ps e = (or_parts (is_field p) (tests_field ps) e).0
 before_parts (lock_end p n) ps e = (or_parts (is_field p) (tests_field ps) e).0
+before_parts (loop_end first x body end) ps e = tt
 
 before_rest : (ends : Ends) (ps : List Location) → tests_field (tested_before ends ps) ≡ false → tests_field ps ≡ false
 before_rest plain_end ps e = e
 before_rest (test_end p) ps e = (or_parts (is_field p) (tests_field ps) e).1
 before_rest (lock_end p n) ps e = (or_parts (is_field p) (tests_field ps) e).1
+before_rest (loop_end first x body end) ps e = e
 
 pub test_no_field : (outer : List Rest) → tests_field (tested_places outer) ≡ false → TestNoField outer
 test_no_field [] e = tt

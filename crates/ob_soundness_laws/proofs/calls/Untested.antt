@@ -13,7 +13,7 @@ use Rattle.ob_heap_spec.specs.Objects.{Object}
 use Rattle.ob_silica.specs.Slots.{slots_of_result}
 use Rattle.ob_silica_places.specs.Places.{Location, slot, same_location}
 use Rattle.ob_silica_steps.specs.Cells.{Cell}
-use Rattle.ob_silica_steps.specs.Configurations.{Ends, plain_end, test_end, lock_end, Rest, Waiting, Configuration}
+use Rattle.ob_silica_steps.specs.Configurations.{Ends, plain_end, test_end, lock_end, loop_end, Rest, Waiting, Configuration}
 use Rattle.ob_silica_steps.specs.Here.{Here, here, self_of, read}
 use Rattle.ob_silica_steps.specs.Binding.{Bound}
 use Rattle.ob_flow_spec.specs.Contexts.{BodyFrame, Context, known_as, is_tested}
@@ -68,6 +68,7 @@ refers_before b h (test_end p) ps q o more e =
     ⊎_elim (test_refers b h p q (self_of h.slots) o.1) more (or_cases (same_location q p) (is_tested ps q) e)
 refers_before b h (lock_end p n) ps q o more e =
     ⊎_elim (test_refers b h p q n o.1) more (or_cases (same_location q p) (is_tested ps q) e)
+refers_before b h (loop_end first x body end) ps q o more e = more e
 
 tested_refers : (b : BodyFrame) (h : Here) (outer : List Rest) (q : Location) → AreOpen b h outer
     → is_tested (tested_places outer) q ≡ true → Refers b h q

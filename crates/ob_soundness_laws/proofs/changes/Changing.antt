@@ -18,7 +18,7 @@ use Rattle.ob_silica.specs.Terms.{SilicaTerms, change_form, and_term}
 use Rattle.ob_silica.specs.declared.place.Given.{Given}
 use Rattle.ob_silica_places.specs.Places.{Location, field, same_location}
 use Rattle.ob_silica_steps.specs.Cells.{Cell}
-use Rattle.ob_silica_steps.specs.Configurations.{SilicaProgram, Ends, plain_end, test_end, lock_end, Rest, runs, Configuration, abort_step, stuck}
+use Rattle.ob_silica_steps.specs.Configurations.{SilicaProgram, Ends, plain_end, test_end, lock_end, loop_end, Rest, runs, Configuration, abort_step, stuck}
 use Rattle.ob_silica_steps.specs.Here.{Here, here, self_of, if_there}
 use Rattle.ob_silica_steps.specs.Changing.{all_there, fill_all, is_locked_out, change_with, change_step}
 use Rattle.ob_silica_steps.specs.Steps.{act}
@@ -56,6 +56,7 @@ inside_before b h (test_end q) ps p o more e = ⊎_elim
 inside_before b h (lock_end q n) ps p o more e = ⊎_elim
     (λ same. ⊎_elim (λ i. subst (IsPlaceIn b) (sym i) o.1.inside) (λ i. absurd (both_ways _ i same)) (place_is p q))
     more (or_cases (same_location p q) (is_tested ps p) e)
+inside_before b h (loop_end first x body end) ps p o more e = more e
 
 tested_inside : (b : BodyFrame) (h : Here) (outer : List Rest) (p : Location) → AreOpen b h outer
     → is_tested (tested_places outer) p ≡ true → IsPlaceIn b p

@@ -2,7 +2,7 @@
 use Rattle.std.proofs.Common.{◌≡◌, ◌≢◌, ℕ, zero, suc, ◌+◌, ◌<◌, ◌≤◌, nat_eq, List, [], ◌∷◌, Option, Some, slice_get, refl, ap, ◌∙◌, subst, arith, ⊎_elim}
 use Rattle.std.proofs.lemmas.Option.{none-some, same_Some}
 use Rattle.std.proofs.lemmas.Bool.Decides.{eqb_tells}
-use Rattle.ob_silica_steps.specs.Configurations.{SlotCells, How, by_receiver, by_this, by_new, Ends, plain_end, test_end, lock_end, Rest, Waiting, Configuration}
+use Rattle.ob_silica_steps.specs.Configurations.{SlotCells, How, by_receiver, by_this, by_new, Ends, plain_end, test_end, lock_end, loop_end, Rest, Waiting, Configuration}
 use Rattle.ob_silica_steps.specs.Cells.{Cell, object_in}
 use Rattle.ob_heap_spec.specs.Values.{reference}
 use Rattle.ob_silica_steps.specs.Here.{self_of}
@@ -161,6 +161,7 @@ tests_none (r ∷ outer) = omega (arith, go r.ends, tests_none outer)
     go plain_end = refl
     go (test_end p) = refl
     go (lock_end p m) = refl
+    go (loop_end first x body end) = refl
 
 pub tests_other : (n : ℕ) (slots : SlotCells) (outer : List Rest) → self_of slots ≢ n → tests_in n slots outer ≡ 0
 tests_other n slots outer other = ap (λ m. tests_around m outer) (one_other (self_of slots) n other) ∙ tests_none outer

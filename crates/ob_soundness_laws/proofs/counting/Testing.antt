@@ -8,7 +8,7 @@ use Rattle.ob_heap_spec.specs.Marks.{without_first}
 use Rattle.ob_silica.specs.Terms.{SilicaTerms}
 use Rattle.ob_silica_places.specs.Places.{Location}
 use Rattle.ob_silica_steps.specs.Cells.{Cell}
-use Rattle.ob_silica_steps.specs.Configurations.{SlotCells, Ends, plain_end, test_end, lock_end, Rest}
+use Rattle.ob_silica_steps.specs.Configurations.{SlotCells, Ends, plain_end, test_end, lock_end, loop_end, Rest}
 use Rattle.ob_silica_steps.specs.Here.{Here, self_of, set_permission}
 use Rattle.ob_silica_steps.specs.Testing.{end_branch}
 use Rattle.ob_coherent_spec.specs.Counting.{one_if, any}
@@ -26,6 +26,7 @@ abbrev pub tested_at : ℕ → SlotCells → Ends → ℕ
 tested_at n slots plain_end = 0
 tested_at n slots (test_end p) = one_if (nat_eq (self_of slots) n)
 tested_at n slots (lock_end p m) = one_if (nat_eq m n)
+tested_at n slots (loop_end first x body end) = 0
 
 pub tests_of_more : (n : ℕ) (slots : SlotCells) (r : Rest) (outer : List Rest)
     → tests_of n slots (r ∷ outer) ≡ tested_at n slots r.ends + tests_of n slots outer
@@ -37,6 +38,7 @@ tests_of_more n slots r outer = go r.ends
     go plain_end = omega arith
     go (test_end p) = omega arith
     go (lock_end p m) = omega arith
+    go (loop_end first x body end) = omega arith
 
 pub tests_of_same : (n : ℕ) (slots others : SlotCells) (outer : List Rest) → self_of others ≡ self_of slots
     → tests_of n others outer ≡ tests_of n slots outer
@@ -47,6 +49,7 @@ pub tested_same : (n : ℕ) (slots others : SlotCells) (e : Ends) → self_of ot
 tested_same n slots others plain_end self = refl
 tested_same n slots others (test_end p) self = ap (λ m. one_if (nat_eq m n)) self
 tested_same n slots others (lock_end p m) self = refl
+tested_same n slots others (loop_end first x body end) self = refl
 
 -- Places under test.
 
@@ -62,6 +65,7 @@ abbrev pub EndsAs : Bool → Ends → Here → Type 0
 EndsAs owner plain_end h = ⊤
 EndsAs owner (test_end p) h = (x : HasAt p (self_of h.slots) h) × (owns x.cell.note.permission ≡ owner)
 EndsAs owner (lock_end p n) h = (x : HasAt p n h) × (owns x.cell.note.permission ≡ owner)
+EndsAs owner (loop_end first x body end) h = ⊤
 
 refers_other : (m n : ℕ) → m ≢ n → reference m ≢ reference n
 refers_other m n other e = other (go e)
@@ -107,17 +111,20 @@ module _ (h : Here) (there : self_of h.slots < length h.world.objects) where
   end_self plain_end = refl
   end_self (test_end p) = self_permission p shared h
   end_self (lock_end p n) = self_permission p shared h
+  end_self (loop_end first x body end) = refl
 
   pub end_owners : (e : Ends) → EndsAs true e h → (n : ℕ) → in_here owns n (end_branch e h) + tested_at n h.slots e
       ≡ in_here owns n h
   end_owners plain_end owner n = omega arith
   end_owners (test_end p) owner n = shared_again p (self_of h.slots) owner.0 owner.1 n
   end_owners (lock_end p m) owner n = shared_again p m owner.0 owner.1 n
+  end_owners (loop_end first x body end) owner n = omega arith
 
   pub end_refers : (e : Ends) → EndsAs true e h → (n : ℕ) → in_here any n (end_branch e h) ≡ in_here any n h
   end_refers plain_end owner n = refl
   end_refers (test_end p) owner n = permission_refers p shared h owner.0.low there owner.0.cell owner.0.found n
   end_refers (lock_end p m) owner n = permission_refers p shared h owner.0.low there owner.0.cell owner.0.found n
+  end_refers (loop_end first x body end) owner n = refl
 
   -- owners and open tests go together
   pub end_balanced : (r : Rest) (outer : List Rest) → EndsAs true r.ends h → (n : ℕ)

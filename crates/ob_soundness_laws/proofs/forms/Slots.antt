@@ -16,7 +16,7 @@ use Rattle.ob_silica_formed.specs.Holdings.{Holdings, held, with_slot}
 use Rattle.ob_silica_places.specs.Known.{Known, at}
 use Rattle.ob_silica_places.specs.Places.{Location, slot, same_location}
 use Rattle.ob_silica_steps.specs.Cells.{Cell}
-use Rattle.ob_silica_steps.specs.Configurations.{SlotCells, Ends, plain_end, test_end, lock_end, Rest, runs, Configuration}
+use Rattle.ob_silica_steps.specs.Configurations.{SlotCells, Ends, plain_end, test_end, lock_end, loop_end, Rest, runs, Configuration}
 use Rattle.ob_silica_steps.specs.Here.{Here, here, self_of, read, set_slot}
 use Rattle.ob_flow_spec.specs.Contexts.{BodyFrame, Context, put, permission_on, is_tested, is_asset, is_owned_asset}
 use Rattle.ob_coherent_spec.specs.Counting.{Counted, any, in_cell}
@@ -75,6 +75,7 @@ refers_before b h (test_end p) ps q o more e = ⊎_elim (test_refers b h p q (se
     (or_cases (same_location q p) (is_tested ps q) e)
 refers_before b h (lock_end p n) ps q o more e = ⊎_elim (test_refers b h p q n o.1) more
     (or_cases (same_location q p) (is_tested ps q) e)
+refers_before b h (loop_end first x body end) ps q o more e = more e
 
 pub tested_refers : (b : BodyFrame) (h : Here) (outer : List Rest) (q : Location) → AreOpen b h outer
     → is_tested (tested_places outer) q ≡ true → Refers b h q

@@ -19,7 +19,7 @@ use Rattle.ob_silica_places.specs.Known.{Known}
 use Rattle.ob_silica_places.specs.Places.{Location, slot, field}
 use Rattle.ob_silica_places.specs.Parameters.{parameter_of, all_parameters}
 use Rattle.ob_silica_steps.specs.Cells.{Cell}
-use Rattle.ob_silica_steps.specs.Configurations.{SlotCells, How, by_receiver, by_this, by_new, SilicaFrame, Ends, plain_end, test_end, lock_end, Rest, Loan, Waiting, Configuration}
+use Rattle.ob_silica_steps.specs.Configurations.{SlotCells, How, by_receiver, by_this, by_new, SilicaFrame, Ends, plain_end, test_end, lock_end, loop_end, Rest, Loan, Waiting, Configuration}
 use Rattle.ob_silica_steps.specs.Here.{self_of, read, field_value}
 use Rattle.ob_flow_spec.specs.Contexts.{BodyFrame, available, Context, is_field}
 use Rattle.ob_coherent_spec.specs.Counting.{nth_object, field_cell, in_cell, in_slots, in_waiting, owners}
@@ -250,6 +250,7 @@ module _ (table : ClassTable) (i : ℕ) (stays : ℕ → Type 0) (N M : ℕ → 
   ends_near b h plain_end same below far a = tt
   ends_near b h (test_end p) same below far a = (a.0, open_near b h p _ same below far a.1, near.shared _ a.2)
   ends_near b h (lock_end p n) same below far a = (a.0, open_near b h p n same below far a.1, near.shared n a.2)
+  ends_near b h (loop_end first x body end) same below far a = tt
 
   pub opens_near : (b : BodyFrame) (h : Waiting) (outer : List Rest) → b.table ≡ table
       → self_of h.frame.slots < length c.world.objects

@@ -14,7 +14,7 @@ use Rattle.ob_silica_places.specs.Known.{Known}
 use Rattle.ob_silica_places.specs.Places.{Location, slot, field, this, same_location}
 use Rattle.ob_silica_places.specs.Parameters.{Parameter, parameter_of, parameters, all_parameters}
 use Rattle.ob_silica_steps.specs.Cells.{Cell, permission_in}
-use Rattle.ob_silica_steps.specs.Configurations.{SilicaFrame, by_new, Ends, plain_end, test_end, lock_end, Rest}
+use Rattle.ob_silica_steps.specs.Configurations.{SilicaFrame, by_new, Ends, plain_end, test_end, lock_end, loop_end, Rest}
 use Rattle.ob_silica_steps.specs.Here.{Here, self_of, read}
 use Rattle.ob_flow_spec.specs.Contexts.{BodyFrame, Context, put, available, permission_at, permission_on, is_tested}
 use Rattle.ob_flow_spec.specs.Joining.{same_mode}
@@ -222,12 +222,14 @@ module _ (b : BodyFrame) (h after : Here) (same_this : self_of after.slots ≡ s
     ap (λ i. (nth_object after.world.objects i).shared) same_this ∙ marks_stay (self_of h.slots) a.2,
   )
   open_kept (lock_end p n) kept a = (a.0, test_kept p n n refl (kept p (inr (n, refl))) a.1, marks_stay n a.2)
+  open_kept (loop_end first x body end) kept a = a
 
   later : (ends : Ends) (ps : List Location) (q : Location) → is_tested ps q ≡ true
       → is_tested (tested_before ends ps) q ≡ true
   later plain_end ps q e = e
   later (test_end p) ps q e = or_right (same_location q p) (is_tested ps q) e
   later (lock_end p n) ps q e = or_right (same_location q p) (is_tested ps q) e
+  later (loop_end first x body end) ps q e = e
 
   -- tests stay open where `this` and marks stay
   pub opens_kept_by : (outer : List Rest) → OpensKept b.table outer h after → AreOpen b h outer → AreOpen b after outer

@@ -7,7 +7,7 @@ use Rattle.ob_base.specs.declared.id.StateId.{StateId}
 use Rattle.ob_perm.specs.Permissions.{Permission, owned, shared, unowned}
 use Rattle.ob_table.specs.declared.seen.Kind.{Kind}
 use Rattle.ob_table.specs.declared.seen.Kind.TheVariants.{Int, Bool as BoolKind, Text, Reference}
-use Rattle.ob_silica.specs.Terms.{SilicaForm, unit_form, const_form, op_form, copy_form, move_form, new_form, call_form, call_this_form, change_form, test_form, if_form, assert_form, disown_form, drop_form, return_form, revert_form, bad_row_form, SilicaTerms, no_terms, and_term}
+use Rattle.ob_silica.specs.Terms.{SilicaForm, unit_form, const_form, op_form, copy_form, move_form, new_form, call_form, call_this_form, change_form, test_form, if_form, loop_form, assert_form, disown_form, drop_form, return_form, revert_form, bad_row_form, SilicaTerms, no_terms, and_term}
 use Rattle.ob_silica.specs.declared.place.Operand.{Operand}
 use Rattle.ob_silica.specs.Slots.{slots_of_operand, slots_of_form, slots_of_terms}
 use Rattle.ob_silica_places.specs.Places.{Location, located}
@@ -21,7 +21,7 @@ use Rattle.ob_flow_laws.specs.Joining.{LeavesBoth}
 use Rattle.ob_flow_laws.specs.Testing.{EndsFirstBranch}
 use Rattle.ob_flow_laws.proofs.Deriving.{passes, passes_all}
 use Rattle.ob_coherent_spec.specs.Runs.{tested_places}
-use Rattle.ob_coherent_spec.specs.Remaining.{static_of, HoldsToo, HoldToo, KnowsThis, Leads, at_end, StillOwns, GoOn, Remains}
+use Rattle.ob_coherent_spec.specs.Remaining.{static_of, HoldsToo, HoldToo, KnowsThis, Leads, at_end, StillOwns, MayTurn, GoOn, Remains}
 use Rattle.ob_soundness_laws.proofs.remaining.Joins.{leads_first, leads_second, leads_self}
 use Rattle.ob_soundness_laws.proofs.remaining.Knowing.{KnowsIf, terms_know, knows_tested, knows_other, knows_ended}
 use Rattle.ob_soundness_laws.proofs.remaining.Remaining.{rest_remains}
@@ -86,6 +86,7 @@ mutual
   form_leaves_nothing b ts (disown_form o) at g left e p = absurd (cc)
   form_leaves_nothing b ts (drop_form k) at g left e p = absurd (cc)
   form_leaves_nothing b ts bad_row_form at g left e p = absurd p
+  form_leaves_nothing b ts (loop_form first a body end) at g left e p = absurd (cc)
 
   pub leave_nothing : (b : BodyFrame) (ts : TestedPlaces) (terms : SilicaTerms) (g : Context) (left : Option Context)
       → terms_end terms ≡ true → derive_all b ts terms g ≡ Ok left → left ≡ None
@@ -98,7 +99,7 @@ mutual
 
 -- Holdings after two branches.
 
-holds_self : (x : SlotContent) → HoldsToo x x
+pub holds_self : (x : SlotContent) → HoldsToo x x
 holds_self x = record { kind = λ kind e. e; refers = λ e. e }
 
 common_first : (x y : Option Kind) (kind : Kind) → common_kind x y ≡ Some kind → x ≡ Some kind
@@ -170,20 +171,22 @@ reached_goes_on b ts terms g j d = by_end (terms_end terms) refl
 abbrev pub EndsIn : BodyFrame → Context → Ends → Option Context → Type 0
 EndsIn b g ends mid = StillOwns g ends × (j : Context) × (mid ≡ Some j) × Leads b (at_end g ends) j × KnowsThis b j
 
-goes_after : (b : BodyFrame) (h h1 : Holdings) (g g1 : Context) (form : SilicaForm) (span : Span) (rest : SilicaTerms) (ends : Ends) (outer : List Rest) (mid : Option Context)
+pub goes_after : (b : BodyFrame) (h h1 : Holdings) (g g1 : Context) (form : SilicaForm) (span : Span) (rest : SilicaTerms) (ends : Ends) (outer : List Rest) (mid : Option Context)
     → Remains b h g (and_term form span rest) outer → derive b (tested_places outer) form span g ≡ Ok mid
     → HoldToo h1 (after_form (static_of b) form h) → EndsIn b g1 ends mid
+    → MayTurn b (tested_places outer) (λ left i. GoOn b left i outer) rest ends g1 h1
     → GoOn b (Some g1) h1 (record { terms = rest; ends = ends } ∷ outer)
-goes_after b h h1 g g1 form span rest ends outer mid r d too e =
+goes_after b h h1 g g1 form span rest ends outer mid r d too e turn =
     let s = rest_remains b h g e.1 form span rest outer r (subst (λ z. derive b (tested_places outer) form span g ≡ Ok z) e.2 d) e.4 in
-    (e.0, e.1, after_form (static_of b) form h, s.left, e.3, s.itself, too, s.formed, s.derived, s.after)
+    (e.0, turn, (e.1, after_form (static_of b) form h, s.left, e.3, s.itself, too, s.formed, s.derived, s.after))
 
 goes_if : (b : BodyFrame) (h h1 : Holdings) (g : Context) (left : Option Context) (form : SilicaForm) (span : Span) (rest : SilicaTerms) (ends : Ends) (outer : List Rest) (mid : Option Context)
     → Remains b h g (and_term form span rest) outer → derive b (tested_places outer) form span g ≡ Ok mid
     → ((g1 : Context) → left ≡ Some g1 → HoldToo h1 (after_form (static_of b) form h)) → ((g1 : Context) → left ≡ Some g1 → EndsIn b g1 ends mid)
+    → ((g1 : Context) → MayTurn b (tested_places outer) (λ left i. GoOn b left i outer) rest ends g1 h1)
     → GoOn b left h1 (record { terms = rest; ends = ends } ∷ outer)
-goes_if b h h1 g None form span rest ends outer mid r d too e = tt
-goes_if b h h1 g (Some g1) form span rest ends outer mid r d too e = goes_after b h h1 g g1 form span rest ends outer mid r d (too g1 refl) (e g1 refl)
+goes_if b h h1 g None form span rest ends outer mid r d too e turn = tt
+goes_if b h h1 g (Some g1) form span rest ends outer mid r d too e turn = goes_after b h h1 g g1 form span rest ends outer mid r d (too g1 refl) (e g1 refl) (turn g1)
 
 known_of : (b : BodyFrame) (x : Option Context) (g : Context) → x ≡ Some g → KnowsIf b x → KnowsThis b g
 known_of b x g e y = subst (KnowsIf b) e y
@@ -226,7 +229,8 @@ module _ (b : BodyFrame) (h : Holdings) (g : Context) (a : Operand) (branch othe
         (λ g1 e. let known = terms_know b (tested_places outer) h branch g p.first r.formed.forms.1.0 p.branch_derives r.itself in
         let second = terms_know b (tested_places outer) h other g p.second r.formed.forms.1.1 p.other_derives r.itself in
         let j = joins_first b (this_left p.first) g1 p.second mid (known_of b p.first g1 e known) second (subst (λ z. LeavesBoth b (this_left p.first) z p.second mid) e p.joins) in
-        (tt, j.0, j.1, j.2, j.3));
+        (tt, j.0, j.1, j.2, j.3))
+        (λ g1. tt);
   }
 
   -- what is left in the second one
@@ -244,7 +248,8 @@ module _ (b : BodyFrame) (h : Holdings) (g : Context) (a : Operand) (branch othe
         (λ g2 e. let known = terms_know b (tested_places outer) h branch g p.first r.formed.forms.1.0 p.branch_derives r.itself in
         let second = terms_know b (tested_places outer) h other g p.second r.formed.forms.1.1 p.other_derives r.itself in
         let j = joins_second b (this_left p.first) p.first g2 mid known (known_of b p.second g2 e second) (subst (λ z. LeavesBoth b (this_left p.first) p.first z mid) e p.joins) in
-        (tt, j.0, j.1, j.2, j.3));
+        (tt, j.0, j.1, j.2, j.3))
+        (λ g1. tt);
   }
 
 -- Tests.
@@ -262,6 +267,14 @@ tested_around (owned a) p rest ends outer e = rw e refl
 tested_around shared p rest ends outer (inl e) = rw e refl
 tested_around shared p rest ends outer (inr e) = rw e.1 refl
 tested_around unowned p rest ends outer e = absurd e
+
+-- the first branch of a test is no first part of a Loop
+test_turns : (b : BodyFrame) (rest : SilicaTerms) (ends : Ends) (outer : List Rest) (w : Permission) (p : Location) → EndsWith w p ends → (g1 : Context) (h1 : Holdings)
+    → MayTurn b (tested_places outer) (λ left i. GoOn b left i outer) rest ends g1 h1
+test_turns b rest ends outer (owned a) p e g1 h1 = subst (λ x. MayTurn b (tested_places outer) (λ left i. GoOn b left i outer) rest x g1 h1) (sym e) tt
+test_turns b rest ends outer shared p (inl e) g1 h1 = subst (λ x. MayTurn b (tested_places outer) (λ left i. GoOn b left i outer) rest x g1 h1) (sym e) tt
+test_turns b rest ends outer shared p (inr e) g1 h1 = subst (λ x. MayTurn b (tested_places outer) (λ left i. GoOn b left i outer) rest x g1 h1) (sym e.1) tt
+test_turns b rest ends outer unowned p e g1 h1 = absurd e
 
 -- the context at the end of the first branch is the one that the rule leaves
 ended_so : (b : BodyFrame) (w : Permission) (o : Operand) (ends : Ends) (g1 : Context) (ended : Option Context) → EndsWith w (located o) ends
@@ -289,7 +302,8 @@ module _ (b : BodyFrame) (h : Holdings) (g : Context) (o : Operand) (s : StateId
         let second = terms_know b (tested_places outer) h other (in_other_state (counted g (located o)) s (located o) g) p.second r.formed.forms.1.1 p.other_derives (knows_other b (counted g (located o)) s (located o) g r.itself) in
         let so = ended_so b (counted g (located o)) o ends g1 p.ended w (subst (λ z. EndsFirstBranch (counted g (located o)) o z p.ended) e p.branch_ends) in
         let j = joins_first b (this_left p.first) (at_end g1 ends) p.second mid (known_of b p.ended (at_end g1 ends) so.1 ended) second (subst (λ z. LeavesBoth b (this_left p.first) z p.second mid) so.1 p.joins) in
-        (so.0, j.0, j.1, j.2, j.3));
+        (so.0, j.0, j.1, j.2, j.3))
+        (λ g1. test_turns b rest ends outer (counted g (located o)) (located o) w g1 _);
   }
 
   -- what is left in the branch where it fails
@@ -308,5 +322,6 @@ module _ (b : BodyFrame) (h : Holdings) (g : Context) (o : Operand) (s : StateId
         let ended = knows_ended b (counted g (located o)) o p.first p.ended p.branch_ends known in
         let second = terms_know b (tested_places outer) h other (in_other_state (counted g (located o)) s (located o) g) p.second r.formed.forms.1.1 p.other_derives (knows_other b (counted g (located o)) s (located o) g r.itself) in
         let j = joins_second b (this_left p.first) p.ended g2 mid ended (known_of b p.second g2 e second) (subst (λ z. LeavesBoth b (this_left p.first) p.ended z mid) e p.joins) in
-        (tt, j.0, j.1, j.2, j.3));
+        (tt, j.0, j.1, j.2, j.3))
+        (λ g1. tt);
   }

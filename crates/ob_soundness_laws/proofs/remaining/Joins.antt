@@ -105,7 +105,7 @@ record Weakens (table : ClassTable) (x j : Option Known) : Type 0 where
   pub kept : LosesNone table x j
 
 -- what agrees with a kind and a permission agrees with another permission that allows as much
-agrees_as : (k l : Kind) (p q : Permission) → k ≡ l → ((r : Permission) → Allows p r → Allows q r) → (c : Option Cell)
+pub agrees_as : (k l : Kind) (p q : Permission) → k ≡ l → ((r : Permission) → Allows p r → Allows q r) → (c : Option Cell)
     → AgreesWith (known k p) c → AgreesWith (known l q) c
 agrees_as k l p q e more None h = h
 agrees_as k l p q e more (Some c) h = (h.0 ∙ e, more c.note.permission h.1)
@@ -220,7 +220,7 @@ leads_second b under g h x y j = record {
   mode = rw (this_held b g h x y) (mode_second _ _ j.itself);
 }
 
-same_mode_self : (p : Permission) → same_mode p p ≡ true
+pub same_mode_self : (p : Permission) → same_mode p p ≡ true
 same_mode_self (owned a) = refl
 same_mode_self shared = refl
 same_mode_self unowned = refl

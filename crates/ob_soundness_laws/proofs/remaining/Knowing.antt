@@ -8,25 +8,26 @@ use Rattle.ob_table.specs.declared.contract.ResolvedType.{ResolvedType}
 use Rattle.ob_table.specs.declared.contract.ResolvedType.TheVariants.{Reference as TypedReference}
 use Rattle.ob_table.specs.declared.contract.Signature.{Signature}
 use Rattle.ob_table_spec.specs.WellFormed.{StaticFrame}
-use Rattle.ob_silica.specs.Terms.{SilicaForm, unit_form, const_form, op_form, copy_form, move_form, new_form, call_form, call_this_form, change_form, test_form, if_form, assert_form, disown_form, drop_form, return_form, revert_form, bad_row_form, SilicaTerms, no_terms, and_term}
+use Rattle.ob_silica.specs.Terms.{SilicaForm, unit_form, const_form, op_form, copy_form, move_form, new_form, call_form, call_this_form, change_form, test_form, if_form, loop_form, assert_form, disown_form, drop_form, return_form, revert_form, bad_row_form, SilicaTerms, no_terms, and_term}
 use Rattle.ob_silica.specs.declared.place.Given.{Given}
 use Rattle.ob_silica.specs.declared.place.Operand.{Operand}
 use Rattle.ob_silica.specs.declared.place.Place.TheVariants.{This, Slot, Field}
 use Rattle.ob_silica_places.specs.Known.{Known, permission_of_type}
 use Rattle.ob_silica_places.specs.Parameters.{Parameter, parameters, all_parameters}
 use Rattle.ob_silica_places.specs.Places.{Location, slot, field, this, located}
-use Rattle.ob_silica_formed.specs.Holdings.{Holdings, slot_written, after_form, EachWithin, Each}
+use Rattle.ob_silica_formed.specs.Holdings.{Holdings, slot_written, after_form, at_head, EachWithin, Each}
 use Rattle.ob_silica_formed.specs.Points.{LeavesParams}
 use Rattle.ob_flow_spec.specs.Binding.{reads_of, given_all, got_back, got_back_all, passed, with_result, wants_owner}
 use Rattle.ob_flow_spec.specs.Calling.{all_reads, reads_with_this, fields_left}
 use Rattle.ob_flow_spec.specs.Changing.{given_from, filled_all, got_all, in_state, refilled}
 use Rattle.ob_flow_spec.specs.Contexts.{BodyFrame, Context, TestedPlaces, put, now, counted, permission_at, declared_permission, known_as}
+use Rattle.ob_flow_spec.specs.Looping.{head_context}
 use Rattle.ob_flow_spec.specs.Deriving.{derive_all}
 use Rattle.ob_flow_spec.specs.Filling.{after_fill, got}
 use Rattle.ob_flow_spec.specs.Joining.{joined_context}
 use Rattle.ob_flow_spec.specs.Testing.{in_tested_state, in_other_state, tested_with, this_left}
 use Rattle.ob_flow_spec.specs.Uses.{Read, given_to}
-use Rattle.ob_flow_laws.specs.Deriving.{Passes, PassesSigned, RestDerives}
+use Rattle.ob_flow_laws.specs.Deriving.{Passes, PassesSigned, PassesTurnIf, RestDerives}
 use Rattle.ob_flow_laws.specs.Joining.{LeavesBoth}
 use Rattle.ob_flow_laws.specs.Testing.{EndsFirstBranch}
 use Rattle.ob_flow_laws.proofs.Deriving.{passes, passes_all}
@@ -128,6 +129,15 @@ knows_both b under None second left e x y = as_known b left second e y
 knows_both b under (Some g) None left e x y = as_known b left (Some g) e x
 knows_both b under (Some g) (Some h) left e x y = as_known b left (Some (joined_context g h)) e.1 (known_this_joined b g h x y)
 
+-- `this` is known at the head of a Loop
+pub knows_head : (b : BodyFrame) (g : Context) → KnowsThis b g → KnowsThis b (head_context b g)
+knows_head b g y = y
+
+knows_turn : (b : BodyFrame) (ts : TestedPlaces) (a : Operand) (body : SilicaTerms) (head : Context) (after left : Option Context)
+    → PassesTurnIf b ts a body head after left → KnowsIf b after → KnowsIf b left
+knows_turn b ts a body head None left p y = as_known b left None p tt
+knows_turn b ts a body head (Some h) left p y = as_known b left (Some h) p.leaves y
+
 -- Forms and terms.
 
 own_slot : (f : StaticFrame) (h : Holdings) (form : SilicaForm) (k : ℕ) → slot_written form ≡ Some k → LeavesParams f h form → 0 < k
@@ -175,6 +185,9 @@ mutual
   form_knows b ts h (return_form value) at g left w each p y = as_known b left None p.1 tt
   form_knows b ts h (revert_form text) at g left w each p y = as_known b left None p.1 tt
   form_knows b ts h bad_row_form at g left w each p y = absurd p
+  form_knows b ts h (loop_form first a body end) at g left w each p y =
+      knows_turn b ts a body (head_context b g) p.after left p.turn
+      (terms_know b ts (at_head (static_of b) first body h) first (head_context b g) p.after each.0 p.first_derives (knows_head b g y))
 
   pub terms_know : (b : BodyFrame) (ts : TestedPlaces) (h : Holdings) (terms : SilicaTerms) (g : Context) (left : Option Context)
       → Each IsWellFormedForm (static_of b) h terms → derive_all b ts terms g ≡ Ok left → KnowsThis b g → KnowsIf b left

@@ -12,7 +12,7 @@ use Rattle.ob_flow_spec.specs.Premises.{◌>>=◌}
 use Rattle.ob_flow_laws.specs.Deriving.{Passes}
 use Rattle.ob_flow_laws.proofs.Deriving.{passes}
 use Rattle.ob_coherent_spec.specs.Runs.{tested_places}
-use Rattle.ob_coherent_spec.specs.Remaining.{static_of, IsWellFormedForm, KnowsThis, HoldToo, Leads, at_end, StillOwns, GoOn, Remains}
+use Rattle.ob_coherent_spec.specs.Remaining.{static_of, IsWellFormedForm, KnowsThis, HoldToo, Leads, at_end, StillOwns, MayTurn, GoOn, Remains}
 
 -- Forms.
 
@@ -73,6 +73,7 @@ ends_inside b h g r = subst (λ x. GoOn b x h []) (ok_left r.left g r.derived) r
 -- what goes on after a list
 pub record GoesOn (b : BodyFrame) (h : Holdings) (g : Context) (r : Rest) (outer : List Rest) : Type 0 where
   pub owns : StillOwns g r.ends
+  pub turn : MayTurn b (tested_places outer) (λ left i. GoOn b left i outer) r.terms r.ends g h
   pub context : Context
   pub leads : Leads b (at_end g r.ends) context
   pub holdings : Holdings
@@ -86,9 +87,10 @@ list_ends b h g r outer x =
     let y : GoOn b (Some g) h (r ∷ outer) = subst (λ z. GoOn b z h (r ∷ outer)) (ok_left x.left g x.derived) x.after in
     record {
       owns = y.0;
-      context = y.1;
-      leads = y.4;
-      holdings = y.2;
-      holds = y.6;
-      remains = record { formed = y.7; itself = y.5; left = y.3; derived = y.8; after = y.9 };
+      turn = y.1;
+      context = y.2.0;
+      leads = y.2.3;
+      holdings = y.2.1;
+      holds = y.2.5;
+      remains = record { formed = y.2.6; itself = y.2.4; left = y.2.2; derived = y.2.7; after = y.2.8 };
     }

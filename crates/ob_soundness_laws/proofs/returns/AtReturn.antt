@@ -25,7 +25,7 @@ use Rattle.ob_silica_places.specs.Places.{Location, slot, field, this, same_loca
 use Rattle.ob_silica_places.specs.Parameters.{Parameter, parameter_of, all_parameters, this_parameter}
 use Rattle.ob_silica_steps.specs.Binding.{bound_cell}
 use Rattle.ob_silica_steps.specs.Cells.{Cell, cell, value_in}
-use Rattle.ob_silica_steps.specs.Configurations.{SlotCells, by_new, Ends, plain_end, test_end, lock_end, Rest, Configuration}
+use Rattle.ob_silica_steps.specs.Configurations.{SlotCells, by_new, Ends, plain_end, test_end, lock_end, loop_end, Rest, Configuration}
 use Rattle.ob_silica_steps.specs.Entering.{are_within}
 use Rattle.ob_silica_steps.specs.Here.{Here, here, self_of}
 use Rattle.ob_silica_steps.specs.Returning.{at_exit, exits_are_within}
@@ -166,6 +166,7 @@ tested_end b h r outer rest plain_end i o e = let z = rest e in omega (arith, z)
 tested_end b h r outer rest (test_end p) i o e = let z : tests_at 1 r.ends ≡ 1 = ap (tests_at 1) i in omega (arith, z)
 tested_end b h r outer rest (lock_end p n) i o e = let z = rest (tested_later p (tested_places outer) o.0 e) in omega
     (arith, z)
+tested_end b h r outer rest (loop_end first x body end) i o e = let z = rest e in omega (arith, z)
 
 tested_this : (b : BodyFrame) (h : Here) (outer : List Rest) → AreOpen b h outer → is_tested (tested_places outer) this
     ≡ true → 0 < tests_around 1 outer

@@ -3,7 +3,7 @@ use Rattle.std.proofs.Common.{◌≡◌, ◌≢◌, ℕ, ◌+◌, ◌<◌, ◌�
 use Rattle.ob_table.specs.Tables.{ClassTable}
 use Rattle.ob_heap_spec.specs.Worlds.{World}
 use Rattle.ob_silica_places.specs.Places.{Location, slot, field}
-use Rattle.ob_silica_steps.specs.Configurations.{How, by_receiver, by_this, by_new, SilicaFrame, Ends, plain_end, test_end, lock_end, Rest, Loan, Waiting, Notes, Configuration}
+use Rattle.ob_silica_steps.specs.Configurations.{How, by_receiver, by_this, by_new, SilicaFrame, Ends, plain_end, test_end, lock_end, loop_end, Rest, Loan, Waiting, Notes, Configuration}
 use Rattle.ob_silica_steps.specs.Here.{self_of, read}
 use Rattle.ob_flow_spec.specs.Contexts.{BodyFrame, Context}
 use Rattle.ob_coherent_spec.specs.Runs.{times, tests_among, entered_among}
@@ -87,6 +87,7 @@ module _ (b : BodyFrame) (notes : Notes) (w : World) (ps : List ℕ) (h : Waitin
   open_progressed plain_end a = tt
   open_progressed (test_end p) a = (a.0, test_progressed p (self_of h.frame.slots) a.1, a.2)
   open_progressed (lock_end p n) a = (a.0, test_progressed p n a.1, a.2)
+  open_progressed (loop_end first x body end) a = a
 
   pub opens_progressed : (outer : List Rest) → AreOpen b (waiting_here notes w h) outer → AreOpen b (waiting_here notes
       (with_progress w ps) h) outer

@@ -13,7 +13,7 @@ use Rattle.ob_heap_spec.specs.Marks.{without_first}
 use Rattle.ob_silica_places.specs.Known.{Known}
 use Rattle.ob_silica_places.specs.Places.{Location, slot, field, this, same_location}
 use Rattle.ob_silica_steps.specs.Cells.{Cell, noted, permission_in}
-use Rattle.ob_silica_steps.specs.Configurations.{by_new, Ends, plain_end, test_end, lock_end, Rest, leaves, Configuration}
+use Rattle.ob_silica_steps.specs.Configurations.{by_new, Ends, plain_end, test_end, lock_end, loop_end, Rest, leaves, Configuration}
 use Rattle.ob_silica_steps.specs.Here.{Here, here, self_of, set_permission}
 use Rattle.ob_silica_steps.specs.Returning.{leave_step}
 use Rattle.ob_silica_steps.specs.Testing.{end_branch}
@@ -354,8 +354,9 @@ module _ (table : ClassTable) (entry : Option ℕ) (beginning : Beginning) (t : 
 
 -- no test ends: only the list goes
 module _ (table : ClassTable) (entry : Option ℕ) (beginning : Beginning) (t : IsClassTable table) (c : Configuration)
-    (k : IsLeaving table entry beginning c) (r : Rest) (outer : List Rest) (lists : k.outer ≡ r ∷ outer) (plain : r.ends
-    ≡ plain_end) where
+    (k : IsLeaving table entry beginning c) (r : Rest) (outer : List Rest) (lists : k.outer ≡ r ∷ outer)
+    (no_tests : (n : ℕ) → tests_at n r.ends ≡ 0) (no_locks : (n : ℕ) → locks_at n r.ends ≡ 0)
+    (no_places : (ps : List Location) → tested_before r.ends ps ≡ ps) where
   abbrev e : Configuration
   e = moved_to c (here c) (leaves k.result outer)
 
@@ -369,11 +370,11 @@ module _ (table : ClassTable) (entry : Option ℕ) (beginning : Beginning) (t : 
 
   same_tests : (n : ℕ) → tests_in n c.frame.slots (around c.control) ≡ tests_in n c.frame.slots outer
   same_tests n = ap (λ l. tests_in n c.frame.slots l) around_was
-      ∙ (let z : tests_at (one_if (nat_eq (self_of c.frame.slots) n)) r.ends ≡ 0 = ap
-      (tests_at (one_if (nat_eq (self_of c.frame.slots) n))) plain in omega (arith, z))
+      ∙ (let z : tests_at (one_if (nat_eq (self_of c.frame.slots) n)) r.ends ≡ 0 = no_tests
+      (one_if (nat_eq (self_of c.frame.slots) n)) in omega (arith, z))
 
   same_locks : (n : ℕ) → locks_around n (around c.control) ≡ locks_around n outer
-  same_locks n = ap (λ l. locks_around n l) around_was ∙ (let z : locks_at n r.ends ≡ 0 = ap (locks_at n) plain in omega
+  same_locks n = ap (λ l. locks_around n l) around_was ∙ (let z : locks_at n r.ends ≡ 0 = no_locks n in omega
       (arith, z))
 
   list_keeps : KeepsWhole table entry c k.whole.parts (here c) (leaves k.result outer)
@@ -435,7 +436,7 @@ module _ (table : ClassTable) (entry : Option ℕ) (beginning : Beginning) (t : 
   }
     where
       same_places : tested_places k.outer ≡ tested_places outer
-      same_places = ap tested_places lists ∙ ap (λ x. tested_before x (tested_places outer)) plain
+      same_places = ap tested_places lists ∙ no_places (tested_places outer)
 
 -- what ends is as the frame works on then
 end_test_is : (c : Configuration) (p : Location) → record (set_permission p shared (here c)) {
@@ -492,7 +493,7 @@ leaving_steps table entry beginning t c k r outer lists = leaving (by_end r.ends
 
     by_end : (x : Ends) → r.ends ≡ x → IsLeaving table entry beginning (after_so (end_branch r.ends (here c)))
     by_end plain_end e = subst (λ y. IsLeaving table entry beginning (after_so (end_branch y (here c)))) (sym e)
-        (list_left table entry beginning t c k r outer lists e)
+        (list_left table entry beginning t c k r outer lists (λ n. ap (tests_at n) e) (λ n. ap (locks_at n) e) (λ ps. ap (λ y. tested_before y ps) e))
     by_end (test_end p) e = let o = subst (IsOpen (body_of table c.frame k.whole.parts) (here c)) e opens.0 in
         let n = subst (λ y. IsNew y outer) e opens.1 in
         let places : tested_places (r ∷ outer) ≡ p ∷ tested_places outer = ap (λ y. tested_before y (tested_places
@@ -513,3 +514,5 @@ leaving_steps table entry beginning t c k r outer lists = leaving (by_end r.ends
         (λ i. ap (λ y. locks_at i y + times i (without_first m c.world.locked)) e ∙ without_count m i c.world.locked
         (some_lock p m e)) places n
         (λ i. absurd (both_ways _ o.0 (subst (λ q. same_location p q ≡ true) i (same_place p))))))
+    by_end (loop_end first x body end) e = subst (λ y. IsLeaving table entry beginning (after_so (end_branch y (here c)))) (sym e)
+        (list_left table entry beginning t c k r outer lists (λ n. ap (tests_at n) e) (λ n. ap (locks_at n) e) (λ ps. ap (λ y. tested_before y ps) e))

@@ -24,7 +24,7 @@ use Rattle.ob_silica_places.specs.Known.{known, permission_of_type}
 use Rattle.ob_silica_places.specs.Places.{Location, slot, field, this, same_location}
 use Rattle.ob_silica_places.specs.Parameters.{Parameter, parameter_of, all_parameters}
 use Rattle.ob_silica_steps.specs.Cells.{Cell, permission_in, object_in}
-use Rattle.ob_silica_steps.specs.Configurations.{SlotCells, How, by_receiver, by_this, by_new, SilicaFrame, Ends, plain_end, test_end, lock_end, Rest, Waiting, runs, Notes, Configuration}
+use Rattle.ob_silica_steps.specs.Configurations.{SlotCells, How, by_receiver, by_this, by_new, SilicaFrame, Ends, plain_end, test_end, lock_end, loop_end, Rest, Waiting, runs, Notes, Configuration}
 use Rattle.ob_silica_steps.specs.Here.{here, self_of, field_of, field_value, read}
 use Rattle.ob_silica_steps.specs.Returning.{with_result, resumes}
 use Rattle.ob_flow_spec.specs.Contexts.{BodyFrame, available, listed_at, exit_of_field, permission_at, is_tested}
@@ -127,12 +127,14 @@ module _ (b : BodyFrame) (notes : Notes) (w : World) (ps : List ℕ) (old new : 
     where
       is_first : (p : Location) (outer : List Location) → is_tested (p ∷ outer) p ≡ true
       is_first p outer = rw (same_place p) refl
+  open_too (loop_end first x body end) outer keep a = a
 
   later : (e : Ends) (outer : List Location) (p : Location) → is_tested outer p ≡ true → is_tested (tested_before e
       outer) p ≡ true
   later plain_end outer p t = t
   later (test_end q) outer p t = or_right (same_location p q) _ t
   later (lock_end q n) outer p t = or_right (same_location p q) _ t
+  later (loop_end first x body end) outer p t = t
 
   pub opens_too : (outer : List Rest) → ((j : ℕ) → is_tested (tested_places outer) (slot j) ≡ true → new j ≡ old j)
       → AreOpen b (record { slots = old; notes = notes; world = w }) outer

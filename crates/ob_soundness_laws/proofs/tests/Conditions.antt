@@ -25,14 +25,14 @@ use Rattle.ob_soundness_laws.proofs.tests.Operands.{kind_found}
 use Rattle.ob_soundness_laws.proofs.tests.Unchanged.{remains_so, into_plain}
 
 -- what serves as a `bool` is one
-bool_serves : (table : ClassTable) (kind : Kind) → serves_as table BoolKind kind ≡ true → kind ≡ BoolKind
+pub bool_serves : (table : ClassTable) (kind : Kind) → serves_as table BoolKind kind ≡ true → kind ≡ BoolKind
 bool_serves table Int e = absurd (cc)
 bool_serves table BoolKind e = refl
 bool_serves table Text e = absurd (cc)
 bool_serves table (Reference id) e = absurd (cc)
 
 -- what follows a `bool`
-by_truth : (table : ClassTable) (objects : List Object) (v : Value) (Q : NextStep → Type 0) (x y : NextStep)
+pub by_truth : (table : ClassTable) (objects : List Object) (v : Value) (Q : NextStep → Type 0) (x y : NextStep)
     → IsOfKind table objects BoolKind v → Q x → Q y → Q (with_truth v x y)
 by_truth table objects (bool_value true) Q x y is p q = p
 by_truth table objects (bool_value false) Q x y is p q = q

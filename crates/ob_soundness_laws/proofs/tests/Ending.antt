@@ -8,7 +8,7 @@ use Rattle.ob_table_spec.specs.Conditions.{IsClassTable}
 use Rattle.ob_heap_spec.specs.Values.{reference}
 use Rattle.ob_silica_places.specs.Places.{Location}
 use Rattle.ob_silica_steps.specs.Cells.{Cell, noted}
-use Rattle.ob_silica_steps.specs.Configurations.{SlotCells, Ends, plain_end, test_end, lock_end, Rest, Control, Configuration}
+use Rattle.ob_silica_steps.specs.Configurations.{SlotCells, Ends, plain_end, test_end, lock_end, loop_end, Rest, Control, Configuration}
 use Rattle.ob_silica_steps.specs.Here.{Here, here, self_of}
 use Rattle.ob_flow_spec.specs.Contexts.{Context, now}
 use Rattle.ob_coherent_spec.specs.Counting.{nth_object, one_if, Counted, any, in_cell, in_control, in_all, owners}
@@ -38,12 +38,14 @@ pub locks_tested : (n : ℕ) (slots : SlotCells) (e : Ends) → locks_at n e ≤
 locks_tested n slots plain_end = omega arith
 locks_tested n slots (test_end p) = omega arith
 locks_tested n slots (lock_end p m) = omega arith
+locks_tested n slots (loop_end first x body end) = omega arith
 
 pub tests_tested : (n : ℕ) (slots : SlotCells) (e : Ends)
     → tests_at (one_if (nat_eq (self_of slots) n)) e ≤ tested_at n slots e
 tests_tested n slots plain_end = omega arith
 tests_tested n slots (test_end p) = omega arith
 tests_tested n slots (lock_end p m) = omega arith
+tests_tested n slots (loop_end first x body end) = omega arith
 
 module _ (table : ClassTable) (t : IsClassTable table) (entry : Option ℕ) (beginning : Beginning) (c : Configuration)
     (whole : Holds table entry beginning c) (g : Context) (sits : Sits table c.frame whole.parts (here c) g)

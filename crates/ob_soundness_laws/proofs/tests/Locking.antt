@@ -8,7 +8,7 @@ use Rattle.ob_table.specs.declared.contract.Contract.{Contract}
 use Rattle.ob_table.specs.declared.contract.Field.{Field}
 use Rattle.ob_heap_spec.specs.Objects.{is_available, has_field}
 use Rattle.ob_silica_places.specs.Places.{Location, slot, field}
-use Rattle.ob_silica_steps.specs.Configurations.{SilicaFrame, Ends, plain_end, test_end, lock_end, Rest}
+use Rattle.ob_silica_steps.specs.Configurations.{SilicaFrame, Ends, plain_end, test_end, lock_end, loop_end, Rest}
 use Rattle.ob_silica_steps.specs.Here.{Here, self_of, read}
 use Rattle.ob_flow_spec.specs.Contexts.{BodyFrame, Context, field_count}
 use Rattle.ob_coherent_spec.specs.Standing.{NeedsOwner}
@@ -43,6 +43,7 @@ end_locked : (b : BodyFrame) (h : Here) (ls : List ℕ) (e : Ends) → IsOpen b 
 end_locked b h ls plain_end a = tt
 end_locked b h ls (test_end p) a = (a.0, test_locked b h ls p (self_of h.slots) a.1, a.2)
 end_locked b h ls (lock_end p n) a = (a.0, test_locked b h ls p n a.1, a.2)
+end_locked b h ls (loop_end first x body end) a = a
 
 pub opens_locked : (b : BodyFrame) (h : Here) (ls : List ℕ) (outer : List Rest) → AreOpen b h outer
     → AreOpen b (with_locked h ls) outer

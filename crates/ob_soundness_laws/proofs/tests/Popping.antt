@@ -10,10 +10,9 @@ use Rattle.ob_heap_spec.specs.Marks.{without_first}
 use Rattle.ob_silica.specs.Terms.{SilicaTerms, no_terms}
 use Rattle.ob_silica_places.specs.Places.{Location, this, same_location}
 use Rattle.ob_silica_steps.specs.Cells.{noted, permission_in}
-use Rattle.ob_silica_steps.specs.Configurations.{SilicaProgram, by_new, Ends, plain_end, test_end, lock_end, Rest, Control, runs, Configuration}
+use Rattle.ob_silica_steps.specs.Configurations.{SilicaProgram, by_new, Ends, plain_end, test_end, lock_end, loop_end, Rest, Control, runs, Configuration}
 use Rattle.ob_silica_steps.specs.Here.{Here, here, self_of, goes_to}
-use Rattle.ob_silica_steps.specs.Testing.{end_branch}
-use Rattle.ob_silica_steps.specs.Steps.{pop_step}
+use Rattle.ob_silica_steps.specs.Steps.{pop_step, end_step}
 use Rattle.ob_flow_spec.specs.Contexts.{Context, now, permission_at}
 use Rattle.ob_coherent_spec.specs.Counting.{nth_object, one_if, Counted, in_control, owners}
 use Rattle.ob_coherent_spec.specs.Runs.{times, around, locks_at, locks_around, tests_in, open_tests}
@@ -37,6 +36,7 @@ use Rattle.ob_soundness_laws.proofs.tests.Locking.{with_locked, opens_locked, sa
 use Rattle.ob_soundness_laws.proofs.places.Handing.{sits_holding}
 use Rattle.ob_soundness_laws.proofs.tests.Permitted.{permitted, place_written, place_alike, this_after, held_after, opens_after}
 use Rattle.ob_soundness_laws.proofs.tests.Tested.{tested_found, tested_refers, tested_owner, test_not_made}
+use Rattle.ob_soundness_laws.proofs.tests.Loops.{turn_keeps}
 use Rattle.ob_soundness_laws.proofs.tests.Ending.{locks_tested, test_ends, none_left, owners_ended, references_ended}
 
 module _ (table : ClassTable) (t : IsClassTable table) (entry : Option ℕ) (beginning : Beginning) (c : Configuration)
@@ -202,7 +202,7 @@ pop_ends : (program : SilicaProgram) (entry : Option ℕ) (beginning : Beginning
     → IsOpen (body_of program.table c.frame k.whole.parts) (here c) e
     → GoesOn (body_of program.table c.frame k.whole.parts) k.holdings k.context
     (record { terms = rest; ends = e }) outer
-    → StepsSo program.table entry beginning (goes_to c (end_branch e (here c)) (runs rest outer))
+    → StepsSo program.table entry beginning (end_step program e rest outer c)
 pop_ends program entry beginning c rest plain_end outer checked k so a on =
     running (unchanged_keeps program.table entry beginning c k no_terms
     (record { terms = rest; ends = plain_end } ∷ outer) so checked.table c.world.reads rest outer
@@ -248,11 +248,13 @@ pop_ends program entry beginning c rest (lock_end p m) outer checked k so (other
     (shares_other program.table checked.table entry beginning c k rest (lock_end p m) outer so p m a on.owns marked
     (λ n. refl)
     (without_first m c.world.locked) less (λ made. other_place p other) (other_place p other))))
+pop_ends program entry beginning c rest (loop_end first x body end) outer checked k so a on =
+    turn_keeps program entry beginning c first x body end rest outer checked k so on
 
 pub pop_keeps : (program : SilicaProgram) (entry : Option ℕ) (beginning : Beginning) (c : Configuration)
     (outer : List Rest)
     → IsCheckedProgram program → (k : IsRunning program.table entry beginning c) → c.control ≡ runs no_terms outer
-    → StepsSo program.table entry beginning (pop_step outer c)
+    → StepsSo program.table entry beginning (pop_step program outer c)
 pop_keeps program entry beginning c [] checked k so =
     absurd (ends_inside (body_of program.table c.frame k.whole.parts) k.holdings k.context
     (remains_so program.table entry beginning c k no_terms [] so))

@@ -3,7 +3,7 @@ use Rattle.std.proofs.Common.{◌≡◌, ℕ, List, [], ◌∷◌, Option, refl,
 use Rattle.ob_table.specs.Tables.{ClassTable}
 use Rattle.ob_table_spec.specs.Conditions.{IsClassTable}
 use Rattle.ob_silica.specs.Terms.{SilicaTerms}
-use Rattle.ob_silica_steps.specs.Configurations.{Ends, plain_end, test_end, lock_end, Rest, Control, runs, Configuration}
+use Rattle.ob_silica_steps.specs.Configurations.{Ends, plain_end, test_end, lock_end, loop_end, Rest, Control, runs, Configuration}
 use Rattle.ob_heap_spec.specs.Worlds.{ReadItem}
 use Rattle.ob_silica_places.specs.Places.{Location, slot, field}
 use Rattle.ob_silica_steps.specs.Here.{Here, here, self_of, read}
@@ -73,6 +73,7 @@ end_read : (b : BodyFrame) (c : Configuration) (reads : List ReadItem) (e : Ends
 end_read b c reads plain_end a = tt
 end_read b c reads (test_end p) a = (a.0, test_read b c reads p (self_of c.frame.slots) a.1, a.2)
 end_read b c reads (lock_end p n) a = (a.0, test_read b c reads p n a.1, a.2)
+end_read b c reads (loop_end first x body end) a = a
 
 -- open tests stay so
 pub opens_read : (b : BodyFrame) (c : Configuration) (reads : List ReadItem) (outer : List Rest)

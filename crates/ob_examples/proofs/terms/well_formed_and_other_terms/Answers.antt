@@ -23,6 +23,7 @@ well_formed = record {
   references = (tt, tt, (tt, tt, (tt, tt, (tt, tt, (tt, tt, (tt, tt, (tt, tt, (refl, tt, (refl, tt, (refl, tt, (tt, tt, (tt, tt, (tt, tt, tt)))))))))))));
   bodies = (tt, tt, (tt, tt, (tt, tt, (tt, tt, (tt, tt, (tt, tt, (tt, tt, (tt, tt, (tt, tt, (tt, tt, (tt, tt, (tt, tt, (tt, tt, tt)))))))))))));
   returns = (tt, tt, (tt, tt, (tt, tt, (tt, tt, (tt, tt, (tt, tt, (tt, tt, (tt, tt, (tt, tt, (tt, tt, (tt, tt, (tt, tt, (refl, tt, tt)))))))))))));
+  turns = (tt, tt, (tt, tt, (tt, tt, (tt, tt, (tt, tt, (tt, tt, (tt, tt, (tt, tt, (tt, tt, (tt, tt, (tt, tt, (tt, tt, (tt, tt, tt)))))))))))));
   ends = refl;
   reached = (λ e. absurd (true≢false (sym e)), tt, (λ e. absurd (true≢false (sym e)), tt, (λ e. absurd (true≢false (sym e)), tt, (λ e. absurd (true≢false (sym e)), tt, (λ e. absurd (true≢false (sym e)), tt, (λ e. absurd (true≢false (sym e)), tt, (λ e. absurd (true≢false (sym e)), tt, (λ e. absurd (true≢false (sym e)), tt, (λ e. absurd (true≢false (sym e)), tt, (λ e. absurd (true≢false (sym e)), tt, (λ e. absurd (true≢false (sym e)), tt, (λ e. absurd (true≢false (sym e)), tt, (λ e. refl, tt, tt)))))))))))));
 }

@@ -1,7 +1,7 @@
 use Rattle.std.proofs.Common.{◌≡◌, IfOk, map, ap, sym, subst, ◌∙◌}
 use Rattle.ob_tree.specs.ExprsView.{expr_of}
-use Rattle.ob_tree.specs.StmtsView.{block_of, else_of, stmt_of, stmt_of-Test, stmt_of-If}
-use Rattle.ob_table.specs.Statements.{resolved_test, resolved_if}
+use Rattle.ob_tree.specs.StmtsView.{block_of, else_of, stmt_of, stmt_of-Test, stmt_of-If, stmt_of-While}
+use Rattle.ob_table.specs.Statements.{resolved_test, resolved_if, resolved_while}
 use Rattle.ob_table.specs.ExpressionsView.{expression_of}
 use Rattle.ob_table.specs.StatementsView.{statement_of, resolved_block_of, otherwise_of}
 use Rattle.ob_resolve_spec.specs.Kinds.{contract_of_kind}
@@ -9,7 +9,7 @@ use Rattle.ob_resolve_spec.specs.Numbers.{state_id}
 use Rattle.ob_resolve_spec.specs.Scopes.{kind_of_subject, past, after_stmt, locals_in_block, locals_in_else}
 use Rattle.ob_resolve_spec.specs.Bodies.{seen_subject, resolved_expr, resolved_stmt, block_resolved, else_resolved}
 use Rattle.ob_resolve_scope.specs.Around.{around_of}
-use Rattle.ob_resolve_bodies.proofs.BranchLemmas.{after_branches, test_made, if_made}
+use Rattle.ob_resolve_bodies.proofs.BranchLemmas.{after_branches, after_loop, test_made, if_made, while_made}
 use Rattle.ob_resolve_bodies.proofs.ResolvedLemmas.{stmts_turn, stmts_all, scope_turn}
 use Rattle.ob_resolve_bodies.proofs.ScopeLemmas.{past-past}
 use Rattle.ob_resolve_bodies.proofs.statements.+resolve_stmt.Goals as goal
@@ -90,3 +90,26 @@ resolve_stmt-returns-in-If-clause-scope t c =
     other.result (λ x e b o. statement_of x ≡ resolved_if (expression_of e) (resolved_block_of b) (otherwise_of o) w.span) c.if_with.ensures branch.ensures.scope other.ensures.scope
     (λ p q. q ∙ ap (λ u. past u n) p ∙ past-past s m n ∙ sym (ap (after_stmt a s) (ap stmt_of w.is
     ∙ stmt_of-If w.condition w.then w.otherwise w.span)))
+
+pub resolve_stmt-returns-in-While-clause-value : goal.resolve_stmt-returns-in-While-clause-value
+resolve_stmt-returns-in-While-clause-value t c =
+    let a = around_of c.args.around.now in
+    let s = c.args.scope.now in
+    let w = c.in-While in
+    let condition = c.resolve_expr-condition-in-While in
+    let body = c.resolve_block-body in
+    subst (λ x. IfOk c.while_with.result (λ y. statement_of y ≡ resolved_stmt a s x)) (sym (ap stmt_of w.is ∙ stmt_of-While w.condition w.body w.span))
+    (while_made c.while_with.result condition.result body.result (resolved_expr a s (expr_of w.condition))
+    (block_resolved a s (block_of w.body)) w.span c.while_with.ensures condition.ensures body.ensures.value)
+
+pub resolve_stmt-returns-in-While-clause-scope : goal.resolve_stmt-returns-in-While-clause-scope
+resolve_stmt-returns-in-While-clause-scope t c =
+    let a = around_of c.args.around.now in
+    let s = c.args.scope.now in
+    let w = c.in-While in
+    let body = c.resolve_block-body in
+    after_loop (body.new.scope ≡ past s (locals_in_block (block_of w.body)))
+    (body.new.scope ≡ after_stmt a s (stmt_of c.args.statement.now)) c.while_with.result
+    c.resolve_expr-condition-in-While.result body.result
+    (λ x e b. statement_of x ≡ resolved_while (expression_of e) (resolved_block_of b) w.span) c.while_with.ensures
+    body.ensures.scope (λ p. p ∙ sym (ap (after_stmt a s) (ap stmt_of w.is ∙ stmt_of-While w.condition w.body w.span)))

@@ -1,14 +1,16 @@
-use Rattle.std.proofs.Common.{◌≡◌, List, ◌∷◌, IfOk, OnOk, map, ap, sym, subst, ◌∙◌}
+use Rattle.std.proofs.Common.{◌≡◌, List, ◌∷◌, ◌++◌, IfOk, OnOk, map, ap, sym, subst, ◌∙◌}
 use Rattle.ob_tree.specs.ExprsView.{expr_of}
 use Rattle.ob_tree.specs.declared.stmt.GivenNode.{GivenNode}
 use Rattle.ob_tree.specs.Stmts.{declare_stmt, stage_stmt}
-use Rattle.ob_tree.specs.StmtsView.{local_of, block_of, else_of, given_of, stmt_of, stmt_of-Declare, stmt_of-Stage, stmt_of-Change, stmt_of-Test, stmt_of-If}
+use Rattle.ob_tree.specs.StmtsView.{local_of, block_of, else_of, given_of, stmt_of, stmt_of-Declare, stmt_of-Stage, stmt_of-Change, stmt_of-Test, stmt_of-If, stmt_of-While}
 use Rattle.ob_resolve_spec.specs.Reached.{ends, block_ends, else_ends}
 use Rattle.ob_resolve_spec.specs.Scopes.{past, after_stmt, locals_in_block, locals_in_else}
+use Rattle.ob_resolve_spec.specs.declared.kind.InferredKind.TheVariants.{Bool as a_bool}
+use Rattle.ob_resolve_spec.specs.ExpressionSites.{value_sites}
 use Rattle.ob_resolve_spec.specs.Sites.{names_state}
 use Rattle.ob_resolve_spec.specs.StatementSites.{given_sites, change_sites, block_sites, else_sites, stmt_sites}
 use Rattle.ob_resolve_scope.specs.Around.{around_of}
-use Rattle.ob_resolve_sites.specs.Noted.{noted, names_in}
+use Rattle.ob_resolve_sites.specs.Noted.{noted, noted-append, names_in}
 use Rattle.ob_resolve_statements.specs.Walked.{rest_of_row, row_kept}
 use Rattle.ob_resolve_statements.proofs.BranchLemmas.{after_both, both_end, after_one, going_on}
 use Rattle.ob_resolve_statements.proofs.StatementLemmas.{past_both, test_sites, if_sites}
@@ -99,6 +101,40 @@ walk_stmt-returns-in-If-clause-ends t c =
     ∙ stmt_of-If w.condition w.then w.otherwise w.span))
     (both_end c.both_end-in-If.result branch.result other.result (block_ends (block_of w.then))
     (else_ends (else_of w.otherwise)) c.both_end-in-If.ensures branch.ensures.ends other.ensures.ends)
+
+pub walk_stmt-returns-in-While-clause-sites : goal.walk_stmt-returns-in-While-clause-sites
+walk_stmt-returns-in-While-clause-sites t c =
+    let a = around_of c.args.around.now in
+    let s = c.args.scope.now in
+    let row = names_in c.args.row.now in
+    let w = c.in-While in
+    let body = c.walk_block-body in
+    let asked = value_sites a s a_bool (expr_of w.condition) in
+    let inside = block_sites a s (block_of w.body) in
+    subst (λ x. OnOk c.past_loop.result (body.new.least ≡ noted c.args.least.now (stmt_sites a s row x)))
+    (sym (ap stmt_of w.is ∙ stmt_of-While w.condition w.body w.span))
+    (after_one (body.new.least ≡ noted c.walk_value-in-While.new.least inside)
+    (body.new.least ≡ noted c.args.least.now (asked ++ inside)) c.past_loop.result body.result c.past_loop.ensures
+    body.ensures.sites
+    (λ p. p ∙ ap (λ l. noted l inside) c.walk_value-in-While.ensures ∙ sym (noted-append c.args.least.now asked inside)))
+
+pub walk_stmt-returns-in-While-clause-scope : goal.walk_stmt-returns-in-While-clause-scope
+walk_stmt-returns-in-While-clause-scope t c =
+    let a = around_of c.args.around.now in
+    let s = c.args.scope.now in
+    let w = c.in-While in
+    let body = c.walk_block-body in
+    let after = past s (locals_in_block (block_of w.body)) in
+    subst (λ x. OnOk c.past_loop.result (body.new.scope ≡ after_stmt a s x))
+    (sym (ap stmt_of w.is ∙ stmt_of-While w.condition w.body w.span))
+    (after_one (body.new.scope ≡ after) (body.new.scope ≡ after) c.past_loop.result body.result c.past_loop.ensures
+    body.ensures.scope (λ p. p))
+
+pub walk_stmt-returns-in-While-clause-ends : goal.walk_stmt-returns-in-While-clause-ends
+walk_stmt-returns-in-While-clause-ends t c =
+    let w = c.in-While in
+    subst (λ x. IfOk c.past_loop.result (λ b. b ≡ ends x)) (sym (ap stmt_of w.is ∙ stmt_of-While w.condition w.body w.span))
+    (going_on c.past_loop.result c.walk_block-body.result c.past_loop.ensures)
 
 pub walk_stmt-returns-in-Declare-clause-sites : goal.walk_stmt-returns-in-Declare-clause-sites
 walk_stmt-returns-in-Declare-clause-sites t c =

@@ -19,6 +19,12 @@ ResolvedStmtDuplicate::copy-returns-in_ok-condition-in-If t c =
     let otherwise = rw blocks.1 at c.copy_otherwise-in-If.ensures in
     rw (condition, then, otherwise) (sym c.in-If.is)
 
+pub ResolvedStmtDuplicate::copy-returns-in_ok-condition-in-While : goal.ResolvedStmtDuplicate::copy-returns-in_ok-condition-in-While
+ResolvedStmtDuplicate::copy-returns-in_ok-condition-in-While t c =
+    let condition = rw c.in_ok-condition-in-While.ensures.0 at c.copy-in-While.ensures in
+    let body = rw c.in_ok-condition-in-While.ensures.1 at c.copy-in-While-2.ensures in
+    rw (condition, body) (sym c.in-While.is)
+
 pub ResolvedStmtDuplicate::copy-returns-in_ok-copy-in-Declare : goal.ResolvedStmtDuplicate::copy-returns-in_ok-copy-in-Declare
 ResolvedStmtDuplicate::copy-returns-in_ok-copy-in-Declare t c = rw c.in_ok-copy-in-Declare.ensures (sym c.in-Declare.is)
 

@@ -1,9 +1,9 @@
 use Rattle.std.proofs.Common.{◌≡◌, ℕ, List, ◌++◌, Result, Ok, Err, OnOk, sym, ap, ◌∙◌, string_bytes}
 use Rattle.ob_lexer.specs.declared.token.TokenKind.{TokenKind}
 use Rattle.ob_tree_print.specs.Written.{written, written-none, written-cons, written-append}
-use Rattle.ob_tree_print.specs.StmtTokens.{tokens_of_test, tokens_of_condition, tokens_of_stmt, tokens_of_block, tokens_of_else}
+use Rattle.ob_tree_print.specs.StmtTokens.{tokens_of_test, tokens_of_condition, tokens_of_while, tokens_of_stmt, tokens_of_block, tokens_of_else}
 use Rattle.ob_tree.specs.ExprsView.{expr_of}
-use Rattle.ob_tree.specs.StmtsView.{stmt_of, block_of, else_of, stmt_of-Declare, stmt_of-Assign, stmt_of-Stage, stmt_of-Change, stmt_of-Call, stmt_of-Test, stmt_of-If, stmt_of-Return, stmt_of-Revert, stmt_of-Disown, stmt_of-Assert}
+use Rattle.ob_tree.specs.StmtsView.{stmt_of, block_of, else_of, stmt_of-Declare, stmt_of-Assign, stmt_of-Stage, stmt_of-Change, stmt_of-Call, stmt_of-Test, stmt_of-If, stmt_of-While, stmt_of-Return, stmt_of-Revert, stmt_of-Disown, stmt_of-Assert}
 use Rattle.ob_tree_print.proofs.stmt.+print_stmt.Goals as goal
 
 on_ok : {A E : Type 0} (r : Result A E) (P Q : Type 0) → (P → Q) → OnOk r P → OnOk r Q
@@ -26,6 +26,10 @@ put_stmt-returns-in_ok-put_block-in-If t c =
     let row : tokens_of_stmt (stmt_of c.args.statement.now) ≡ tokens_of_condition (expr_of c.in-If.condition) ++ (tokens_of_block (block_of c.in-If.then) ++ tokens_of_else (else_of c.in-If.otherwise)) =
     ap (λ s. tokens_of_stmt (stmt_of s)) c.in-If.is ∙ ap tokens_of_stmt (stmt_of-If c.in-If.condition c.in-If.then c.in-If.otherwise c.in-If.span) in
     on_ok c.put_else-in-If.result _ _ (λ last. three _ _ _ _ _ _ _ _ c.in_ok-put_condition-in-If.ensures c.in_ok-put_block-in-If.ensures last row) c.put_else-in-If.ensures
+
+pub put_stmt-returns-in_ok-put_while-in-While : goal.put_stmt-returns-in_ok-put_while-in-While
+put_stmt-returns-in_ok-put_while-in-While t c =
+    rw (c.in-While.is, stmt_of-While, written-append) (rw c.in_ok-put_while-in-While.ensures at c.put_block-in-While.ensures)
 
 pub put_stmt-returns-in_ok-put_part-in-Declare : goal.put_stmt-returns-in_ok-put_part-in-Declare
 put_stmt-returns-in_ok-put_part-in-Declare t c =

@@ -1,0 +1,8 @@
+use Rattle.std.proofs.Common.{ap, ◌∙◌}
+use Rattle.ob_flow_context.specs.View.{context_of}
+use Rattle.ob_flow_premises.proofs.LoopLemmas.{head_is}
+use Rattle.ob_flow_premises.proofs.looping.head_context.Goals as goal
+
+pub returns : goal.returns
+returns c = ap context_of c.of.ensures
+    ∙ head_is c.args.frame.now c.args.context.now c.in_ok-slots.slots c.in_ok-fields.fields c.in_ok-slots.ensures c.in_ok-fields.ensures
