@@ -318,9 +318,12 @@ def is_expected_at(program, text, place):
 
 
 def counts(program, text, token):
-    """Whether a token counts: with `while`, which stands nowhere, in its place that is refused, and the tokens before it are at their end."""
+    """Whether a token counts: with another in its place, which doesn't stand there, that is refused, and the tokens before it are at their end.
+    The other one is `is`, which stands nowhere but where a bound has it.
+    """
     begin, end = token.span()
-    changed = text[:begin] + b" while " + text[end:]
+    other = b" while " if token[0] == b"is" else b" is "
+    changed = text[:begin] + other + text[end:]
     is_cut = begin == TOKEN.search(text).start() or is_expected_at(program, text[:begin], place_of(text, begin))
     return is_cut and is_expected_at(program, changed, place_of(changed, begin + 1))
 

@@ -285,6 +285,10 @@ class Tables:
             self.line(at)
             self.value()
             self.branches()
+        elif word == "While":
+            self.line(at)
+            self.value()
+            self.under(lambda: self.block("body"))
         elif word == "Disown":
             self.line(at, self.seen())
         elif word == "Assert":
@@ -349,6 +353,8 @@ class Tables:
             return [self.operand(), "state", answer.number(), f"join@{answer.place()}"]
         if word == "If":
             return [self.operand(), f"join@{answer.place()}"]
+        if word == "Loop":
+            return [self.operand(), "end", answer.place()]
         if word == "Assert":
             return [self.operand(), perm(answer)]
         if word in ("Disown", "Revert"):
@@ -371,6 +377,8 @@ class Tables:
         self.line(f"{word}@{place}", *self.parts(word))
         if word in ("Test", "If"):
             self.under(lambda: self.branch("then"), lambda: self.branch("otherwise"))
+        elif word == "Loop":
+            self.under(lambda: self.branch("first"), lambda: self.branch("body"))
 
     def terms_of_body(self):
         answer = self.answer

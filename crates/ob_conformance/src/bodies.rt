@@ -202,6 +202,15 @@ fn put_stmt(statement: &ResolvedStmt, page: &mut Page) {
             put_block(then, page);
             put_otherwise(otherwise, page);
         }
+        ResolvedStmt::While {
+            condition,
+            body,
+            span,
+        } => {
+            page.begin("While", *span);
+            put_expr(condition, page);
+            put_block(body, page);
+        }
         _ => put_simple(statement, page),
     }
 }

@@ -189,6 +189,7 @@ fn word_of(form: &Form) -> &'static str {
         Form::Return { .. } => "Return",
         Form::Test { .. } => "Test",
         Form::If { .. } => "If",
+        Form::Loop { .. } => "Loop",
     }
 }
 
@@ -228,6 +229,17 @@ fn put_term(term: &Term, page: &mut Page) {
             page.place(*join);
             put_terms(then.as_slice(), page);
             put_terms(otherwise.as_slice(), page);
+        }
+        Form::Loop {
+            first,
+            a,
+            body,
+            end,
+        } => {
+            put_operand(*a, page);
+            page.place(*end);
+            put_terms(first.as_slice(), page);
+            put_terms(body.as_slice(), page);
         }
         _ => {}
     }
