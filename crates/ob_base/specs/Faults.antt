@@ -148,9 +148,6 @@ bad_transition = 419
 abbrev pub loop_changes : ℕ
 loop_changes = 420
 
-abbrev pub not_built : ℕ
-not_built = 901
-
 -- faults of words and signs
 abbrev pub lexical_faults : List (ℕ × List ℕ)
 lexical_faults =
@@ -191,14 +188,9 @@ flow_faults =
     ∷ (assert_fails, codes "AssertFails") ∷ (bad_transition, codes "BadTransition")
     ∷ (loop_changes, codes "LoopChanges") ∷ []
 
--- faults by what isn't built yet
-abbrev pub unbuilt_faults : List (ℕ × List ℕ)
-unbuilt_faults =
-    (not_built, codes "NotBuilt") ∷ []
-
 -- each fault's number and name
 abbrev pub fault_names : List (ℕ × List ℕ)
-fault_names = lexical_faults ++ syntax_faults ++ class_faults ++ generic_faults ++ flow_faults ++ unbuilt_faults
+fault_names = lexical_faults ++ syntax_faults ++ class_faults ++ generic_faults ++ flow_faults
 
 -- the name beside a number, or nothing
 abbrev pub name_beside : ℕ → List (ℕ × List ℕ) → List ℕ

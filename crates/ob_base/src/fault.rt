@@ -122,8 +122,6 @@ pub const ASSERT_FAILS: u16 = 418;
 pub const BAD_TRANSITION: u16 = 419;
 /// A loop changes what is held.
 pub const LOOP_CHANGES: u16 = 420;
-/// A part of the language that isn't built yet.
-pub const NOT_BUILT: u16 = 901;
 
 /// The name of a fault, by its number. It is empty for a number that no fault has.
 pub fn fault_name(number: u16) -> &'static str
@@ -179,7 +177,6 @@ pub fn fault_name(number: u16) -> &'static str
         ASSERT_FAILS => "AssertFails",
         BAD_TRANSITION => "BadTransition",
         LOOP_CHANGES => "LoopChanges",
-        NOT_BUILT => "NotBuilt",
         _ => "",
     }
 }

@@ -15,104 +15,29 @@ mod operator;
 mod permission;
 mod text_error;
 
-pub use bytes::put_i64;
-pub use bytes::put_text;
-pub use bytes::put_u8;
-pub use bytes::put_u32;
-pub use cause::Failed;
-pub use cause::Memory;
-pub use copy::Duplicate;
-pub use copy::both;
-pub use copy::copy_items;
-pub use copy::copy_option;
-pub use fault::ARG_COUNT;
-pub use fault::ASSERT_FAILS;
-pub use fault::ASSET_LOST;
-pub use fault::ASSET_OVERWRITTEN;
-pub use fault::ASSIGN_PARAMETER;
-pub use fault::BAD_CHARACTER;
-pub use fault::BAD_ESCAPE;
-pub use fault::BAD_EXIT;
-pub use fault::BAD_TRANSITION;
-pub use fault::BIG_NUMBER;
-pub use fault::BOUND;
-pub use fault::BRANCH_LOSES;
-pub use fault::DUPLICATE;
-pub use fault::EXIT_MISMATCH;
-pub use fault::EXPECTED;
-pub use fault::FIELD_MISMATCH;
-pub use fault::INTERFACE_MISMATCH;
-pub use fault::LIMIT;
-pub use fault::LONG_NAME;
-pub use fault::LONG_PROGRAM;
-pub use fault::LONG_STRING;
-pub use fault::LOOP_CHANGES;
-pub use fault::MISSING_RETURN;
-pub use fault::NO_STATE;
-pub use fault::NON_ASSET_OWNER;
-pub use fault::NOT_ACCESSIBLE;
-pub use fault::NOT_BUILT;
-pub use fault::NOT_FIELD;
-pub use fault::NOT_OWNING;
-pub use fault::NOT_SHARED;
-pub use fault::NOT_UTF8;
-pub use fault::OPEN_COMMENT;
-pub use fault::OPEN_STRING;
-pub use fault::PARAM_COUNT;
-pub use fault::ProgramFault;
-pub use fault::Span;
-pub use fault::TEST_TWICE;
-pub use fault::TEST_UNOWNED;
-pub use fault::THIS_DIFFERS;
-pub use fault::THIS_IN_CONSTRUCTOR;
-pub use fault::TOO_DEEP;
-pub use fault::TOO_MANY_INSTANCES;
-pub use fault::TWO_MAINS;
-pub use fault::TYPE_MISMATCH;
-pub use fault::UNDER_TEST;
-pub use fault::UNKNOWN_NAME;
-pub use fault::UNREACHABLE;
-pub use fault::UNSET;
-pub use fault::USED_TWICE;
-pub use fault::VIEW_CHANGES;
-pub use fault::WRONG_KIND;
-pub use fault::WRONG_STATE;
-pub use fault::fault_name;
-pub use fields::FieldFault;
-pub use fields::Fields;
-pub use id::ContractId;
-pub use id::FieldId;
-pub use id::ObjectId;
-pub use id::StateId;
-pub use id::TxId;
+pub use bytes::{put_i64, put_text, put_u8, put_u32};
+pub use cause::{Failed, Memory};
+pub use copy::{Duplicate, both, copy_items, copy_option};
+pub use fault::{
+    ARG_COUNT, ASSERT_FAILS, ASSET_LOST, ASSET_OVERWRITTEN, ASSIGN_PARAMETER, BAD_CHARACTER,
+    BAD_ESCAPE, BAD_EXIT, BAD_TRANSITION, BIG_NUMBER, BOUND, BRANCH_LOSES, DUPLICATE,
+    EXIT_MISMATCH, EXPECTED, FIELD_MISMATCH, INTERFACE_MISMATCH, LIMIT, LONG_NAME, LONG_PROGRAM,
+    LONG_STRING, LOOP_CHANGES, MISSING_RETURN, NO_STATE, NON_ASSET_OWNER, NOT_ACCESSIBLE,
+    NOT_FIELD, NOT_OWNING, NOT_SHARED, NOT_UTF8, OPEN_COMMENT, OPEN_STRING, PARAM_COUNT,
+    ProgramFault, Span, TEST_TWICE, TEST_UNOWNED, THIS_DIFFERS, THIS_IN_CONSTRUCTOR, TOO_DEEP,
+    TOO_MANY_INSTANCES, TWO_MAINS, TYPE_MISMATCH, UNDER_TEST, UNKNOWN_NAME, UNREACHABLE, UNSET,
+    USED_TWICE, VIEW_CHANGES, WRONG_KIND, WRONG_STATE, fault_name,
+};
+pub use fields::{FieldFault, Fields};
+pub use id::{ContractId, FieldId, ObjectId, StateId, TxId};
 pub use laws::one_field;
-pub use limits::LONGEST_LINE;
-pub use limits::LONGEST_NAME;
-pub use limits::LONGEST_PROGRAM;
-pub use limits::LONGEST_STRING;
-pub use limits::MOST_CONTRACTS;
-pub use limits::MOST_FIELDS;
-pub use limits::MOST_HANDLES;
-pub use limits::MOST_OBJECTS;
-pub use limits::MOST_OPEN;
-pub use limits::MOST_PARAMS;
-pub use limits::MOST_SLOTS;
-pub use limits::MOST_STATES;
-pub use limits::MOST_TAKEN;
-pub use limits::MOST_TRANSACTIONS;
-pub use limits::limits_are_defined;
-pub use name::Label;
-pub use name::Name;
-pub use name::NameError;
-pub use name::Text;
-pub use name::is_digit;
-pub use name::is_letter;
-pub use name::is_letter_or_digit;
+pub use limits::{
+    LONGEST_LINE, LONGEST_NAME, LONGEST_PROGRAM, LONGEST_STRING, MOST_CONTRACTS, MOST_FIELDS,
+    MOST_HANDLES, MOST_OBJECTS, MOST_OPEN, MOST_PARAMS, MOST_SLOTS, MOST_STATES, MOST_TAKEN,
+    MOST_TRANSACTIONS, limits_are_defined,
+};
+pub use name::{Label, Name, NameError, Text, is_digit, is_letter, is_letter_or_digit};
 pub use operator::Operator;
-pub use permission::Mode;
-pub use permission::NO_STATE_BIT;
-pub use permission::OTHER_STATE_BIT;
-pub use permission::Perm;
-pub use sqlite_items::Boxed;
-pub use sqlite_items::Items;
+pub use permission::{Mode, NO_STATE_BIT, OTHER_STATE_BIT, Perm};
+pub use sqlite_items::{Boxed, Items};
 pub use text_error::TextError;

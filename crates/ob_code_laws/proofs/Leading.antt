@@ -12,7 +12,7 @@ use Rattle.ob_code.specs.declared.instruction.Instruction.{Instruction}
 use Rattle.ob_code.specs.declared.instruction.Instruction.TheVariants as is
 use Rattle.ob_code.specs.Code.{is_interface, contract_code}
 use Rattle.ob_code_table.specs.Images.{instruction_of, instruction_at}
-use Rattle.ob_machine_steps.specs.Measures.{IsAheadOrUnit, LeadsAhead}
+use Rattle.ob_machine_steps.specs.Measures.{IsAheadOrUnit, LeadsAheadOrToUnit}
 use Rattle.ob_verify_spec.specs.Verified.{IsVerified}
 use Rattle.ob_verify_spec.specs.Instructions.{leads}
 use Rattle.ob_verify_spec.specs.Laws.{frame_of, HasBody}
@@ -53,7 +53,7 @@ leads_on image v contract tx place x j e c =
     ]
 
 -- in verified code each jump leads ahead, or to a `unit`
-pub leads_ahead : (image : Image) → IsVerified image → LeadsAhead image
+pub leads_ahead : (image : Image) → IsVerified image → LeadsAheadOrToUnit image
 leads_ahead image v = record {
   jumps = λ contract tx place target e. leads_on image v contract tx place (is.Jump target) target e (head target []);
   branches = λ contract tx place a target e. leads_on image v contract tx place (is.Unless a target) target e (head target ((place + 1) ∷ []));

@@ -1,6 +1,6 @@
 //! The laws of verified code.
 ghost use Rattle.ob_code_laws.specs.Keeping.{VerifiedCodeKeeps, VerifiedCodeEnds};
-ghost use Rattle.ob_code_laws.specs.Leading.{VerifiedJumpsLeadAhead};
+ghost use Rattle.ob_code_laws.specs.Leading.{VerifiedJumpsLeadAheadOrToUnit};
 ghost use Rattle.ob_code_laws.specs.Stepping.{VerifiedCodeSteps};
 
 /// Verified code that the machine runs never leaves its slots, its code or its kinds: in each configuration that is reached there is
@@ -18,6 +18,6 @@ pub fn verified_code_goes_on()
 {}
 
 /// Each jump of verified code leads ahead, or to a `unit`, so that its runs end.
-pub fn verified_jumps_lead_ahead()
-    ensures { VerifiedJumpsLeadAhead }
+pub fn verified_jumps_lead_ahead_or_to_unit()
+    ensures { VerifiedJumpsLeadAheadOrToUnit }
 {}

@@ -3,4 +3,6 @@
 
 mod laws;
 
-pub use laws::{verified_code_goes_on, verified_code_keeps_to_itself, verified_jumps_lead_ahead};
+pub use laws::{
+    verified_code_goes_on, verified_code_keeps_to_itself, verified_jumps_lead_ahead_or_to_unit,
+};

@@ -11,7 +11,7 @@ use Rattle.ob_table.specs.declared.contract.Signature.{Signature}
 use Rattle.ob_table.specs.declared.seen.Kind.{Kind}
 use Rattle.ob_table.specs.declared.seen.Kind.TheVariants.{Bool as BoolKind, Reference}
 use Rattle.ob_table_spec.specs.Conditions.{IsClassTable}
-use Rattle.ob_table_spec.specs.WellFormed.{StaticFrame, frame_of, is_reference}
+use Rattle.ob_table_spec.specs.WellFormed.{StaticFrame, is_reference}
 use Rattle.ob_silica.specs.Terms.{SilicaForm, loop_form, SilicaTerms, and_term, SilicaBody}
 use Rattle.ob_silica.specs.declared.place.Operand.{Operand}
 use Rattle.ob_silica.specs.Slots.{slots_of_terms}
@@ -22,7 +22,7 @@ use Rattle.ob_silica_steps.specs.Configurations.{SilicaProgram, terms_at, SlotCe
 use Rattle.ob_silica_formed.specs.Holdings.{SlotContent, Holdings, after_terms, Each}
 use Rattle.ob_silica_formed.specs.Points.{NamesWhatIsThere, HasKind, HasKinds, TakesResult, LeavesParams, LosesNoReference, NamesBody, ReturnsResult, TakesTurns}
 use Rattle.ob_silica_formed.specs.WellFormedTerms.{IsWellFormedTerms}
-use Rattle.ob_flow_spec.specs.Contexts.{BodyFrame, field_count, Context, TestedPlaces, now, permission_at, permission_on, is_owned_asset}
+use Rattle.ob_flow_spec.specs.Contexts.{BodyFrame, static_of, field_count, Context, TestedPlaces, now, permission_at, permission_on, is_owned_asset}
 use Rattle.ob_flow_spec.specs.Deriving.{derive_all, Derives}
 use Rattle.ob_flow_spec.specs.Joining.{same_mode}
 use Rattle.ob_flow_laws.specs.Uses.{CanUse}
@@ -67,10 +67,6 @@ body_of table f parts = record {
   signature = parts.signature;
   slots = parts.slots;
 }
-
--- the same body, as well-formed terms see it
-abbrev pub static_of : BodyFrame → StaticFrame
-static_of b = frame_of b.table b.here b.own b.signature
 
 -- Forms that are well-formed.
 

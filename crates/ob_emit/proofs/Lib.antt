@@ -1,4 +1,3 @@
-pub mod KindsLemmas
 pub mod CodeLemmas
 pub mod TermsLemmas
 pub mod ScratchLemmas

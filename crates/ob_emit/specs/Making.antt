@@ -1,7 +1,8 @@
 -- The code of terms as it is made: what there is so far is handed on, and the targets of jumps ahead are written back.
 use Rattle.std.specs.Prelude.{ℕ, Bool, true, false, not, List, [], ◌∷◌, ◌++◌, length, slice_set, if◌then◌else◌, None}
 use Rattle.ob_base.specs.declared.id.StateId.{StateId}
-use Rattle.ob_silica.specs.Terms.{SilicaForm, new_form, call_form, call_this_form, test_form, if_form, loop_form, return_form, revert_form}
+use Rattle.ob_table_spec.specs.WellFormed.{StaticFrame}
+use Rattle.ob_silica.specs.Terms.{SilicaForm, new_form, call_form, call_this_form, test_form, if_form, loop_form}
 use Rattle.ob_silica.specs.Terms.{SilicaTerms, no_terms, and_term}
 use Rattle.ob_silica.specs.declared.place.Operand.{Operand}
 use Rattle.ob_silica_formed.specs.Holdings.{kind_of_operand, terms_end}
@@ -9,7 +10,7 @@ use Rattle.ob_code.specs.declared.instruction.Instruction.{Instruction}
 use Rattle.ob_code.specs.declared.instruction.Instruction.TheVariants as instruction
 use Rattle.ob_emit_spec.specs.Operands.{slot_read, loads}
 use Rattle.ob_emit_spec.specs.Emission.{EmissionFrame, contract_referred, jump_if, new_code, call_code, call_this_code, form_code}
-use Rattle.ob_emit.specs.Kinds.{Kinds, holding, joined_kinds, kinds_after_form, kinds_after}
+use Rattle.ob_silica_kinds.specs.Kinds.{Kinds, holding, kinds_after_form, kinds_after, kinds_at_head}
 use Rattle.ob_emit.specs.declared.code.Choice.{Choice}
 use Rattle.ob_emit.specs.declared.code.Choice.TheVariants as choice
 
@@ -34,12 +35,6 @@ straight_code f (test_form o state branch other join) = []
 straight_code f (if_form o branch other join) = []
 straight_code f (loop_form first o body end) = []
 straight_code f form = form_code f (holding (λ k. None)) form 0
-
--- whether nothing is reached after a form that has no branches
-abbrev pub straight_ends : SilicaForm → Bool
-straight_ends (return_form place) = true
-straight_ends (revert_form text) = true
-straight_ends form = false
 
 -- the instruction of a choice with its target
 abbrev pub chooses : Choice → ℕ → Instruction
@@ -119,7 +114,7 @@ abbrev mutual
       choice_made (choice_of_value f o) (jumps_over_terms (terms_end branch) other)
       (λ x. terms_made f kinds branch x) (λ x. terms_made f kinds other x) (with_operand f o code)
   form_made f kinds (loop_form first o body end) code =
-      let head = joined_kinds false (terms_end body) kinds (kinds_after f.static body (kinds_after f.static first kinds)) in
+      let head = kinds_at_head f.static first body kinds in
       loop_made (choice_of_value f o) (not (terms_end body)) (λ x. with_operand f o (terms_made f head first x))
       (λ x. terms_made f (kinds_after f.static first head) body x) code
   form_made f kinds form code = code ++ form_code f (holding kinds) form (length code)
@@ -129,6 +124,11 @@ abbrev mutual
   terms_made f kinds no_terms code = code
   terms_made f kinds (and_term form span rest) code =
       terms_made f (kinds_after_form f.static form kinds) rest (form_made f kinds form code)
+
+-- the kinds after a loop; each other form changes none here
+abbrev pub kinds_after_loop : StaticFrame → SilicaForm → Kinds → Kinds
+kinds_after_loop f (loop_form first o body end) kinds = kinds_after f first (kinds_at_head f first body kinds)
+kinds_after_loop f form kinds = kinds
 
 -- the code after a loop; each other form adds none here
 abbrev pub with_loop : EmissionFrame → Kinds → SilicaForm → List Instruction → List Instruction

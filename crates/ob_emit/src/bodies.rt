@@ -11,12 +11,12 @@ use crate::declarations::{
     states_code, text_code,
 };
 use crate::frame::{EmissionFrame, is_constructor};
-use crate::kinds::Kinds;
 use crate::scratch::count_slots;
 use crate::terms::emit_terms;
 use ob_base::{ContractId, Items, Memory, TxId};
 use ob_code::{BodyCode, ContractCode, Image, Instruction};
 use ob_silica::TermBody;
+use ob_silica_kinds::Kinds;
 use ob_table::{Contract, Signature, Table};
 use std::alloc::Global;
 

@@ -3,18 +3,18 @@ ghost use Rattle.std.specs.Prelude.{◌≡◌, ◌++◌, ◌||◌, length, OnOk,
 ghost use Rattle.ob_silica.specs.TermsView.{form_of, terms_of};
 ghost use Rattle.ob_silica_formed.specs.Holdings.{form_ends, terms_end};
 ghost use Rattle.ob_emit_spec.specs.Emission.{contract_referred};
-ghost use Rattle.ob_emit.specs.Kinds.{kinds_of, kinds_after_form, kinds_after, kinds_after_loop};
+ghost use Rattle.ob_silica_kinds.specs.Kinds.{kinds_of, kinds_after_form, kinds_after};
 ghost use Rattle.ob_emit.specs.Making.{choice_of_value, choice_of_state, with_operand, jumps_over_terms, branch_ended};
-ghost use Rattle.ob_emit.specs.Making.{choice_of_form, with_operand_of, between, with_loop, form_made, terms_made};
+ghost use Rattle.ob_emit.specs.Making.{choice_of_form, with_operand_of, between, kinds_after_loop, with_loop};
+ghost use Rattle.ob_emit.specs.Making.{form_made, terms_made};
 
 use crate::code::{Choice, Code};
 use crate::frame::EmissionFrame;
-use crate::kinds::Kinds;
 use crate::operands::load;
-use crate::passing::pass_turn;
 use crate::straight::emit_straight;
 use ob_base::{ContractId, Duplicate, Memory, StateId};
 use ob_silica::{Form, Operand, Term};
+use ob_silica_kinds::{Kinds, pass_turn};
 use ob_table::Kind;
 
 // The contract or interface to which a place refers; the place of a test is known to be a reference.
@@ -54,7 +54,7 @@ fn choose_by_state(
     ensures code { OnOk result (out.new ≡ with_operand frame.now place out.old) }
 {
     let a = load(frame.scratch(), 0, place.place, out)?;
-    let contract = contract_referred(kinds.kind_at(frame, place.place));
+    let contract = contract_referred(kinds.kind_at(frame.static_frame(), place.place));
     Ok(Choice::State(a, contract, state))
 }
 
@@ -137,13 +137,14 @@ fn emit_loop(
     match form {
         Form::Loop { first, a, body, .. } => {
             let start = out.here();
-            pass_turn(out.alloc(), form, frame, kinds)?;
-            emit_terms(first.as_slice(), frame, kinds, out)?;
+            let (first, body) = (first.as_slice(), body.as_slice());
+            pass_turn(out.alloc(), first, body, frame.static_frame(), kinds)?;
+            emit_terms(first, frame, kinds, out)?;
             let choice = choose_by_value(frame, *a, out)?;
             let place = out.here();
             out.put_choice(choice)?;
             let mut inside = kinds.copy(out.alloc())?;
-            let ends = emit_terms(body.as_slice(), frame, &mut inside, out)?;
+            let ends = emit_terms(body, frame, &mut inside, out)?;
             out.put_between(choice, !ends, start, place)
         }
         _ => Ok(()),

@@ -42,7 +42,7 @@ use Rattle.ob_machine_steps.specs.Measures.{IsAheadOrUnit}
 use Rattle.ob_emit_spec.specs.Operands.{slot_read, load, slots_read, loads, values_given, share, shares}
 use Rattle.ob_emit_spec.specs.Emission.{EmissionFrame, constant_code, operation_code, fetch_code, share_in_field, copy_code, move_code, shares_of_call, shares_of_new, given_slots, shares_of_given, jumps_over, after_branch, choice_code, end_test, jump_if, turn_code, loop_code, contract_referred, share_result, return_code, after_load, choose_code, form_code, terms_code}
 use Rattle.ob_emit_spec.specs.EmittedImages.{frame_of_body, emitted_body, emitted_contract, image_of}
-use Rattle.ob_emit_laws.specs.Laws.{EmittedJumpsLeadAhead}
+use Rattle.ob_emit_laws.specs.Laws.{EmittedJumpsLeadAheadOrToUnit}
 use Rattle.ob_emit_spec.proofs.Contracts.{contract_same, emitted_at, body_same, all_at}
 
 -- where an instruction at a place of code may jump is ahead, or a `unit`
@@ -490,8 +490,8 @@ module _ (table : ClassTable) (bodies : List SilicaBody) (all : All (IsWellForme
           by_class own eo (is_interface (emitted_contract table bodies id own))
           (λ n. ap (λ c. of_contract c n) (contract_same table bodies id ∙ ap (option_map (emitted_contract table bodies id)) eo))
 
-pub jumps_lead_ahead : EmittedJumpsLeadAhead
-jumps_lead_ahead table bodies all = record {
+pub jumps_lead_ahead_or_to_unit : EmittedJumpsLeadAheadOrToUnit
+jumps_lead_ahead_or_to_unit table bodies all = record {
   jumps = λ contract tx place target e. instructions_ahead table bodies all contract tx place (instruction.Jump target) e;
   branches = λ contract tx place a target e. instructions_ahead table bodies all contract tx place (instruction.Unless a target) e;
   tests = λ contract tx place a of state target e. instructions_ahead table bodies all contract tx place

@@ -9,7 +9,7 @@ use Rattle.ob_invocation_spec.specs.Requests.{Request}
 use Rattle.ob_silica.specs.Terms.{SilicaBody}
 use Rattle.ob_silica_formed.specs.WellFormedTerms.{IsWellFormedTerms}
 use Rattle.ob_code_table.specs.ImageTables.{table_of_image}
-use Rattle.ob_machine_steps.specs.Measures.{LeadsAhead}
+use Rattle.ob_machine_steps.specs.Measures.{LeadsAheadOrToUnit}
 use Rattle.ob_emit_spec.specs.EmittedImages.{image_of}
 use Rattle.ob_emit_laws.specs.Names.{without_names}
 
@@ -26,6 +26,6 @@ InvocationsIgnoreNames =
     → invoke meaning (without_names table) content request fuel ≡ invoke meaning table content request fuel
 
 -- each jump of an emitted image leads ahead, or to the `unit` with which a turn of a loop begins, where the terms are well-formed
-abbrev pub EmittedJumpsLeadAhead : Type 0
-EmittedJumpsLeadAhead =
-    (table : ClassTable) (bodies : List SilicaBody) → All (IsWellFormedTerms table) bodies → LeadsAhead (image_of table bodies)
+abbrev pub EmittedJumpsLeadAheadOrToUnit : Type 0
+EmittedJumpsLeadAheadOrToUnit =
+    (table : ClassTable) (bodies : List SilicaBody) → All (IsWellFormedTerms table) bodies → LeadsAheadOrToUnit (image_of table bodies)

@@ -1,5 +1,5 @@
 //! The laws of emitted images.
-ghost use Rattle.ob_emit_laws.specs.Laws.{EmittedTablesAgree, InvocationsIgnoreNames, EmittedJumpsLeadAhead};
+ghost use Rattle.ob_emit_laws.specs.Laws.{EmittedTablesAgree, InvocationsIgnoreNames, EmittedJumpsLeadAheadOrToUnit};
 
 /// The class table that an emitted image gives is that of the program, but for what no image has: names of parameters, the fields
 /// that transactions list, and bodies.
@@ -14,6 +14,6 @@ pub fn invocations_ignore_names()
 
 /// Each jump of an emitted image leads ahead, or to the `unit` of a loop's next turn, so that no run of it lasts longer than its units
 /// and its longest body say.
-pub fn emitted_jumps_lead_ahead()
-    ensures { EmittedJumpsLeadAhead }
+pub fn emitted_jumps_lead_ahead_or_to_unit()
+    ensures { EmittedJumpsLeadAheadOrToUnit }
 {}

@@ -3,4 +3,6 @@
 
 mod laws;
 
-pub use laws::{emitted_jumps_lead_ahead, emitted_tables_agree, invocations_ignore_names};
+pub use laws::{
+    emitted_jumps_lead_ahead_or_to_unit, emitted_tables_agree, invocations_ignore_names,
+};

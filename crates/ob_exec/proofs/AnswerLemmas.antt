@@ -6,7 +6,7 @@ use Rattle.ob_invocation_spec.specs.Replies.{Invocation}
 use Rattle.ob_invocation_spec.specs.Requests.{Request}
 use Rattle.ob_code.specs.declared.image.Image.{Image}
 use Rattle.ob_machine_meaning.specs.Meanings.{machine_invocation}
-use Rattle.ob_machine_steps.specs.Measures.{LeadsAhead}
+use Rattle.ob_machine_steps.specs.Measures.{LeadsAheadOrToUnit}
 use Rattle.ob_request_run_laws.specs.Runs.{Run, opened, paused, answered, lost}
 use Rattle.ob_request_run_laws.specs.Slices.{slice}
 use Rattle.ob_request_run_laws.specs.Laws.{ComesTo as RunComesTo, HasEnded}
@@ -37,7 +37,7 @@ answered_by image base (answered a) i told s spent comes at k e f = record {
 }
 answered_by image base lost i told s spent comes at k e f = absurd at
 
-pub whole_answers : (image : Image) (fuel : ℕ) (base : Stored) (q : Request) (told : Answered) (s : State) (spent : Spent) → LeadsAhead image
+pub whole_answers : (image : Image) (fuel : ℕ) (base : Stored) (q : Request) (told : Answered) (s : State) (spent : Spent) → LeadsAheadOrToUnit image
     → StandsFor image base (slice image fuel (content_of base) fuel (opened q)) s → s.stage ≡ stage.Answered told → spent.taken ≡ s.taken
     → map item_of spent.reads ≡ s.reads → IsAnswer base (machine_invocation image (content_of base) q fuel) told spent
 whole_answers image fuel base q told s spent ahead k is e f =

@@ -26,7 +26,7 @@ use Rattle.ob_code_table.specs.ImageTables.{table_of_image}
 use Rattle.ob_table.specs.Tables.{ClassTable}
 use Rattle.ob_machine_meaning.specs.Meanings.{machine_invocation}
 use Rattle.ob_machine_steps.specs.Entries.{Phase, starting, running}
-use Rattle.ob_machine_steps.specs.Measures.{LeadsAhead}
+use Rattle.ob_machine_steps.specs.Measures.{LeadsAheadOrToUnit}
 use Rattle.ob_machine_steps.specs.Runs.{world_of}
 use Rattle.ob_machine_laws.specs.Laws.{SamePhase}
 use Rattle.ob_request_run_laws.specs.Locality.{onto, phase_onto}
@@ -298,7 +298,7 @@ paused_elsewhere image fuel base other who op i x reads p h s so agree at =
     all_left_of : (xs ys : List ReadItem) → AllRead xs (xs ++ ys)
     all_left_of xs ys = all_left xs ys xs (all_itself xs)
 
-stands_by : (image : Image) (fuel : ℕ) (base other : Stored) (given : List ℕ) (run : CodeRun) (r : Run) (s : Paused) → LeadsAhead image
+stands_by : (image : Image) (fuel : ℕ) (base other : Stored) (given : List ℕ) (run : CodeRun) (r : Run) (s : Paused) → LeadsAheadOrToUnit image
     → IsStoreAtRest (table_of_image image) (content_of base)
     → KeepsStoreAtRest (table_of_image image) (machine_invocation image (content_of base) (request_of run.request) fuel)
     → run_of image fuel base given run.request ≡ r
@@ -317,7 +317,7 @@ stands_by image fuel base other given run (answered a) s ahead rest keeps is so 
 stands_by image fuel base other given run lost s ahead rest keeps is so agree at = absurd at
 
 -- by what it is paused in
-stage_by : (image : Image) (fuel : ℕ) (base other : Stored) (given : List ℕ) (run : CodeRun) (t : Stage) → LeadsAhead image
+stage_by : (image : Image) (fuel : ℕ) (base other : Stored) (given : List ℕ) (run : CodeRun) (t : Stage) → LeadsAheadOrToUnit image
     → IsStoreAtRest (table_of_image image) (content_of base)
     → KeepsStoreAtRest (table_of_image image) (machine_invocation image (content_of base) (request_of run.request) fuel)
     → IsPaused t → AgreeOn run.state.reads (content_of base) (content_of other) → run.state.stage ≡ t

@@ -20,7 +20,7 @@ use Rattle.ob_code_table.specs.ImageTables.{table_of_image}
 use Rattle.ob_machine_steps.specs.Configurations.{MachineFrame, Next, goes, stops}
 use Rattle.ob_machine_steps.specs.Configurations as machine
 use Rattle.ob_machine_steps.specs.Entries.{Phase, starting, running, started, next_step}
-use Rattle.ob_machine_steps.specs.Measures.{steps_left, LeadsAhead}
+use Rattle.ob_machine_steps.specs.Measures.{steps_left, LeadsAheadOrToUnit}
 use Rattle.ob_machine_steps.specs.Outcomes.{outcome}
 use Rattle.ob_machine_steps.specs.Runs.{Stop, paused, over, after_step, after_steps, waits, pays, left_after, run_in, Slices, world_of, IsSoundIn}
 use Rattle.ob_machine_laws.specs.Laws.{IsSoundRun, SamePhase, SameStop, IsTold, AreTold, HasToldFrames}
@@ -82,7 +82,7 @@ some_stop image units p s None e h by = absurd h
 some_stop image units p s (Some t) e h by = e ∙ ap Some (sym (stops_once image by.steps (steps_left image p) units p s t by.by e))
 
 -- a slice of a sound run stops within its measure
-stops_in : (image : Image) (units : ℕ) (p : Phase) (s : Stop) → LeadsAhead image → IsSoundRun image p → Slices image units p s
+stops_in : (image : Image) (units : ℕ) (p : Phase) (s : Stop) → LeadsAheadOrToUnit image → IsSoundRun image p → Slices image units p s
     → run_in image (steps_left image p) units p ≡ Some s
 stops_in image units p s ahead sound by =
     let over = run_ends image p ahead sound in
@@ -172,7 +172,7 @@ record StopsAt (image : Image) (base : Stored) (units : ℕ) (a : Asked) (p : Ph
   runs : run_in image (steps_left image p) units p ≡ Some stop
 
 stops_at : (image : Image) (base : Stored) (who : List ℕ) (into : Option (List ℕ)) (s : Paused) (items : List ReadItem) (a : Asked) (p : Phase) (units : ℕ) (t : Stop)
-    → LeadsAhead image → IsAt image base who into s items a p → StopsSo image units (phase_of s.machine base.objects s.overlay) t → StopsAt image base units a p t
+    → LeadsAheadOrToUnit image → IsAt image base who into s items a p → StopsSo image units (phase_of s.machine base.objects s.overlay) t → StopsAt image base units a p t
 stops_at image base who into s items a p units t ahead k h =
     let on = stops_alike image units p (phase_of s.machine base.objects s.overlay) t k.phase h in
     let by = stops_in image units p on.stop ahead (at_sound image base who into s items a p k) on.by in
@@ -243,7 +243,7 @@ paused_by image base who into s items a p units m o noted taken (paused y) k h s
 paused_by image base who into s items a p units m o noted taken (over end) k h same keeps all t = absurd same
 
 pub goes_paused : (image : Image) (base : Stored) (who : List ℕ) (into : Option (List ℕ)) (s : Paused) (items : List ReadItem) (a : Asked) (p : Phase) (units : ℕ)
-    (m : Machine) (o : Changes) (noted : List ReadItem) (taken : ℕ) → LeadsAhead image → IsAt image base who into s items a p
+    (m : Machine) (o : Changes) (noted : List ReadItem) (taken : ℕ) → LeadsAheadOrToUnit image → IsAt image base who into s items a p
     → StopsSo image units (phase_of s.machine base.objects s.overlay) (stop_told m base.objects o Going) → KeepsUnread no_object s.overlay o
     → ReadSame (items ++ reads_of o) noted → taken ≡ (world_of (phase_of m base.objects o)).taken
     → StandsFor image base (sliced_at image base units a p)
@@ -283,7 +283,7 @@ aborted_by image base who into s items a p units m o noted taken cause (over (ma
     }
 
 pub goes_aborted : (image : Image) (base : Stored) (who : List ℕ) (into : Option (List ℕ)) (s : Paused) (items : List ReadItem) (a : Asked) (p : Phase) (units : ℕ)
-    (m : Machine) (o : Changes) (noted : List ReadItem) (taken : ℕ) (cause : Cause) → LeadsAhead image → IsAt image base who into s items a p
+    (m : Machine) (o : Changes) (noted : List ReadItem) (taken : ℕ) (cause : Cause) → LeadsAheadOrToUnit image → IsAt image base who into s items a p
     → StopsSo image units (phase_of s.machine base.objects s.overlay) (stop_told m base.objects o (Aborted cause))
     → ReadSame (items ++ reads_of o) noted → taken ≡ (world_of (phase_of m base.objects o)).taken
     → AbortsAt image base units a p cause taken noted
@@ -300,7 +300,7 @@ pub record FinishesAt (image : Image) (base : Stored) (units : ℕ) (a : Asked) 
   pub limits : length (laid_over base.objects o) ≤ most_objects
 
 finished_by : (image : Image) (base : Stored) (who : List ℕ) (into : Option (List ℕ)) (s : Paused) (items : List ReadItem) (a : Asked) (p : Phase) (units : ℕ)
-    (m : Machine) (o : Changes) (noted : List ReadItem) (taken : ℕ) (value : Option Value) (stop : Stop) → LeadsAhead image → IsAt image base who into s items a p
+    (m : Machine) (o : Changes) (noted : List ReadItem) (taken : ℕ) (value : Option Value) (stop : Stop) → LeadsAheadOrToUnit image → IsAt image base who into s items a p
     → sliced_at image base units a p ≡ stops_so (table_of_image image) (content_of base) a.request a.entry a.reads (Some stop)
     → run_in image (steps_left image p) units p ≡ Some stop → SameStop (Some stop) (Some (stop_told m base.objects o (Finished value)))
     → ReadSame (items ++ reads_of o) noted → taken ≡ (world_of (phase_of m base.objects o)).taken
@@ -332,7 +332,7 @@ finished_by image base who into s items a p units m o noted taken value (over (m
     }
 
 pub goes_finished : (image : Image) (base : Stored) (who : List ℕ) (into : Option (List ℕ)) (s : Paused) (items : List ReadItem) (a : Asked) (p : Phase) (units : ℕ)
-    (m : Machine) (o : Changes) (noted : List ReadItem) (taken : ℕ) (value : Option Value) → LeadsAhead image → IsAt image base who into s items a p
+    (m : Machine) (o : Changes) (noted : List ReadItem) (taken : ℕ) (value : Option Value) → LeadsAheadOrToUnit image → IsAt image base who into s items a p
     → StopsSo image units (phase_of s.machine base.objects s.overlay) (stop_told m base.objects o (Finished value))
     → ReadSame (items ++ reads_of o) noted → taken ≡ (world_of (phase_of m base.objects o)).taken
     → FinishesAt image base units a p value o taken noted

@@ -8,7 +8,7 @@ use Rattle.ob_invocation_laws.specs.Laws.{KeepsStoreAtRest}
 use Rattle.ob_code.specs.declared.image.Image.{Image}
 use Rattle.ob_code_table.specs.ImageTables.{table_of_image}
 use Rattle.ob_machine_meaning.specs.Meanings.{machine_invocation}
-use Rattle.ob_machine_steps.specs.Measures.{LeadsAhead}
+use Rattle.ob_machine_steps.specs.Measures.{LeadsAheadOrToUnit}
 use Rattle.ob_request_run_laws.specs.Runs.{opened}
 use Rattle.ob_request_run_laws.specs.Slices.{slice}
 use Rattle.ob_request_run_laws.specs.Laws.{AgreeOn}
@@ -29,7 +29,7 @@ IsPaused Over = ⊥
 abbrev pub PausedRunsStandElsewhere : Type 0
 PausedRunsStandElsewhere =
     (image : Image) (fuel : ℕ) (base other : Stored) (given : List ℕ) (run : Run)
-    → LeadsAhead image → IsStoreAtRest (table_of_image image) (content_of base)
+    → LeadsAheadOrToUnit image → IsStoreAtRest (table_of_image image) (content_of base)
     → KeepsStoreAtRest (table_of_image image) (machine_invocation image (content_of base) (request_of run.request) fuel)
     → IsPaused run.state.stage → AgreeOn run.state.reads (content_of base) (content_of other)
     → StandsFor image base (run_of image fuel base given run.request) run.state

@@ -5,7 +5,7 @@ ghost use Rattle.ob_explain_page.specs.Pages.{IsPage};
 use crate::bodies::tell_bodies;
 use crate::noting::tell_notes;
 use ob_base::{
-    EXPECTED, Memory, NOT_BUILT, NOT_OWNING, ProgramFault, TOO_MANY_INSTANCES, UNKNOWN_NAME,
+    EXPECTED, LOOP_CHANGES, Memory, NOT_OWNING, ProgramFault, TOO_MANY_INSTANCES, UNKNOWN_NAME,
 };
 use ob_explain_grammar::{explain_grammar, explain_token};
 use ob_explain_names::{explain_names, explain_too_many, explain_types};
@@ -16,13 +16,9 @@ use ob_lexer::Token;
 use ob_tree::Tree;
 use std::alloc::Global;
 
-// What stands for a loop.
-const REPEATED: &str =
-    "a transaction that calls itself takes its place, as `transaction sum(int n) returns int { if (n < 1) { return 0; } return n + sum(n - 1); }`.";
-
 // Whether a fault is of the permission rules.
 fn is_of_permissions(number: u16) -> bool {
-    number >= NOT_OWNING && number < NOT_BUILT
+    number >= NOT_OWNING && number <= LOOP_CHANGES
 }
 
 // A fault of words and signs.
@@ -108,20 +104,6 @@ fn tell_names(
     explanation.tell(page, file, text, fault, fault.span)
 }
 
-// A loop, of which no code is made.
-fn tell_loop(
-    alloc: Global,
-    page: &mut Page,
-    file: &str,
-    text: &[u8],
-    fault: ProgramFault,
-) -> Result<(), Memory> {
-    let mut told = Explanation::new(alloc);
-    told.what.put("no code is made of a `while` yet");
-    told.help.put(REPEATED);
-    told.tell(page, file, text, fault, fault.span)
-}
-
 /// Tells a person of the first fault of a program's text, which is this one, by what the stages saw of the text before it: the file,
 /// the place and the fault; what is wrong; the line of the text with a mark; and how to mend it. It has at most 20 lines of 200
 /// characters, whatever the text.
@@ -141,8 +123,6 @@ pub fn explain(
         tell_grammar(alloc, &mut page, file, text, fault, seen)?;
     } else if is_of_permissions(fault.number) {
         tell_bodies(alloc, &mut page, file, text, fault, seen)?;
-    } else if fault.number == NOT_BUILT {
-        tell_loop(alloc, &mut page, file, text, fault)?;
     } else {
         tell_names(alloc, &mut page, file, text, fault, seen)?;
     }

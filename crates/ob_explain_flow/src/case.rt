@@ -1,6 +1,8 @@
 //! What is looked at where a premise fails.
 
-use crate::holding::{declared_at, name_of_body, name_of_field, name_of_kind, put_held, say};
+use crate::holding::{
+    assigned_at, declared_at, name_of_body, name_of_field, name_of_kind, put_held, say,
+};
 use ob_base::{FieldId, MOST_STATES, Perm, ProgramFault, Span, StateId};
 use ob_explain_page::{Words, shown_at, word_of};
 use ob_flow::{Stop, Trace};
@@ -115,6 +117,14 @@ impl<'a> Case<'a> {
         match self.set_at(slot) {
             Some(at) => declared_at(self.text, at),
             None => None,
+        }
+    }
+
+    /// The name of the variable of a slot, by the statement that declares it or assigns it last.
+    pub fn name_of_variable(&self, slot: u8) -> Option<&'a str> {
+        match self.name_of_slot(slot) {
+            Some(name) => Some(name),
+            None => assigned_at(self.text, self.set_at(slot)?),
         }
     }
 

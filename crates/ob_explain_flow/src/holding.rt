@@ -177,9 +177,9 @@ fn after_word<'a>(text: &'a str, word: &str) -> &'a str {
     }
 }
 
-/// The name that the statement at a place declares: its type and the name stand before an `=`.
-pub fn declared_at(text: &[u8], at: Span) -> Option<&str> {
-    let line = shown_at(
+// The text from a place on, as far as a statement's first words may go.
+fn text_from(text: &[u8], at: Span) -> &str {
+    shown_at(
         text,
         Span {
             start: at.start,
@@ -187,11 +187,31 @@ pub fn declared_at(text: &[u8], at: Span) -> Option<&str> {
             line: at.line,
             column: at.column,
         },
-    );
+    )
+}
+
+// Whether a text begins with the sign that gives a value.
+fn gives(text: &str) -> bool {
+    text.starts_with("=") && !text.starts_with("==")
+}
+
+/// The name that the statement at a place declares: its type and the name stand before an `=`.
+pub fn declared_at(text: &[u8], at: Span) -> Option<&str> {
+    let line = text_from(text, at);
     let rest = after_word(line, front_word(line));
     let name = front_word(rest);
-    let after = after_word(rest, name);
-    if !name.is_empty() && after.starts_with("=") && !after.starts_with("==") {
+    if !name.is_empty() && gives(after_word(rest, name)) {
+        Some(name)
+    } else {
+        None
+    }
+}
+
+/// The name that the statement at a place assigns: it stands before an `=`.
+pub fn assigned_at(text: &[u8], at: Span) -> Option<&str> {
+    let line = text_from(text, at);
+    let name = front_word(line);
+    if !name.is_empty() && gives(after_word(line, name)) {
         Some(name)
     } else {
         None

@@ -10,6 +10,7 @@ mod forms;
 mod holding;
 mod known;
 mod letting;
+mod looping;
 mod own;
 mod permissions;
 mod telling;

@@ -2,7 +2,7 @@
 
 use crate::case::Case;
 use crate::holding::{name_of_body, name_of_field, put_held, put_permission, say};
-use crate::ways::{say_loss, way_of};
+use crate::ways::{beginning_of, say_loss, way_of};
 use ob_base::{FieldId, Mode, Perm, StateId, is_letter_or_digit};
 use ob_explain_page::Words;
 use ob_flow_context::kind_of;
@@ -11,7 +11,7 @@ use ob_table::Kind;
 
 // What stands behind the last `transaction` before the first statement of the body.
 fn head_of<'a>(case: &Case<'a>) -> Option<&'a str> {
-    let begin = case.body.terms.as_slice().first()?.span.start as usize;
+    let begin = beginning_of(case.body.terms.as_slice().first()?) as usize;
     let front = case.text.get(..begin)?;
     for at in (0..front.len()).rev() {
         if let Some(rest) = front.get(at..) {

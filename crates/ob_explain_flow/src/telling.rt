@@ -7,10 +7,11 @@ use crate::exits::{
 };
 use crate::fields::{explain_accessible, explain_field, explain_no_value};
 use crate::forms::explain_form;
+use crate::looping::explain_turn;
 use crate::permissions::explain_permission;
 use ob_base::{
-    ASSET_LOST, ASSET_OVERWRITTEN, BRANCH_LOSES, EXIT_MISMATCH, FIELD_MISMATCH, NOT_ACCESSIBLE,
-    NOT_OWNING, NOT_SHARED, ProgramFault, THIS_DIFFERS, UNSET, WRONG_STATE,
+    ASSET_LOST, ASSET_OVERWRITTEN, BRANCH_LOSES, EXIT_MISMATCH, FIELD_MISMATCH, LOOP_CHANGES,
+    NOT_ACCESSIBLE, NOT_OWNING, NOT_SHARED, ProgramFault, THIS_DIFFERS, UNSET, WRONG_STATE,
 };
 use ob_explain_page::Explanation;
 use ob_flow::Trace;
@@ -30,6 +31,7 @@ fn explain_case(case: &Case<'_>, told: &mut Explanation) {
         FIELD_MISMATCH => explain_field(case, told),
         UNSET => explain_no_value(case, told),
         EXIT_MISMATCH => explain_exit(case, told),
+        LOOP_CHANGES => explain_turn(case, told),
         _ => explain_form(case, told),
     }
 }

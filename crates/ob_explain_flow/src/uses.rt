@@ -192,7 +192,7 @@ fn only_use<'a>(frame: &BodyFrame<'a>, form: &Form) -> Option<Use<'a>> {
         Form::Copy { from, .. } => Some(other(*from)),
         Form::Op { a, .. } => Some(other(*a)),
         Form::Test { place, .. } => Some(other(*place)),
-        Form::If { a, .. } => Some(other(*a)),
+        Form::If { a, .. } | Form::Loop { a, .. } => Some(other(*a)),
         Form::Assert { place, .. } => Some(other(*place)),
         Form::Disown { place } => Some(Use {
             operand: *place,

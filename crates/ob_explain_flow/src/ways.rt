@@ -281,11 +281,23 @@ fn is_call_asked(case: &Case<'_>, form: &Form) -> bool {
     }
 }
 
+/// Where a term begins in the text: the place of a loop is where its block ends.
+pub fn beginning_of(term: &Term) -> u32 {
+    match &term.form {
+        Form::Loop { first, .. } => match first.as_slice().first() {
+            Some(first) => first.span.start,
+            None => term.span.start,
+        },
+        _ => term.span.start,
+    }
+}
+
 // Whether a term is the one of which the premise is asked, or stands behind it. The terms of one statement have the same place.
 fn is_past(case: &Case<'_>, term: &Term) -> bool {
     let until = case.stop.term.span;
-    if term.span.start != until.start {
-        return term.span.start > until.start;
+    let begin = beginning_of(term);
+    if begin != until.start {
+        return begin > until.start;
     }
     use_at(case.frame, &term.form, case.fault.span).is_some()
         || case.fault.span == until && is_call_asked(case, &term.form)
@@ -295,9 +307,14 @@ fn is_past(case: &Case<'_>, term: &Term) -> bool {
 fn is_inside(case: &Case<'_>, terms: &[Term], end: Span) -> bool {
     let until = case.stop.term.span.start;
     match terms.first() {
-        Some(first) => first.span.start <= until && until < end.start,
+        Some(first) => beginning_of(first) <= until && until < end.start,
         None => false,
     }
+}
+
+// Whether the premise is asked in the block of a loop, or where it ends.
+fn is_in_turn(case: &Case<'_>, body: &[Term], end: Span) -> bool {
+    is_inside(case, body, end) || case.fault.span == end
 }
 
 // Whether a branch returns or reverts.
@@ -363,6 +380,19 @@ fn follow_term<'a>(case: &Case<'a>, term: &Term, place: Place, way: Way<'a>) -> 
                 }
             };
             shared_again(way, after)
+        }
+        Form::Loop {
+            first,
+            body,
+            end,
+            ..
+        } => {
+            let turn = follow(case, first.as_slice(), place, way);
+            if is_in_turn(case, body.as_slice(), *end) {
+                follow(case, body.as_slice(), place, turn)
+            } else {
+                turn
+            }
         }
         _ => with_form(case, term, place, way),
     }

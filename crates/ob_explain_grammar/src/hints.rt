@@ -5,7 +5,7 @@ use ob_explain_page::{CALLER, EVENTS, FRACTIONS, REQUIRED, VARIABLE};
 
 /// Of loops.
 pub const LOOPS: &str =
-    "loops aren't built yet: a transaction that calls itself takes their place, as `transaction sum(int n) returns int { if (n < 1) { return 0; } return n + sum(n - 1); }`.";
+    "the one loop is `while`, as `int i = 0; while (i < n) { i = i + 1; }`: it ends by its condition, by `return` or by `revert`.";
 
 /// Of arrays.
 pub const ARRAYS: &str =

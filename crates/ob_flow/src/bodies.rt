@@ -165,9 +165,10 @@ fn check_form(
             body,
             end,
         } => {
-            let head = begin_turn(alloc, frame, context)?;
-            let flow = check_terms(first.as_slice(), frame, tested, context, alloc, trace)?;
+            let first = first.as_slice();
             let body = body.as_slice();
+            let head = begin_turn(alloc, frame, first, body, context)?;
+            let flow = check_terms(first, frame, tested, context, alloc, trace)?;
             check_turn(
                 flow, *a, body, *end, head, frame, tested, context, alloc, trace,
             )

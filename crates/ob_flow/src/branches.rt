@@ -1,6 +1,7 @@
 //! Where forms end, and what follows after branches and turns.
 ghost use Rattle.std.specs.Prelude.{◌≡◌, Some, IfOk, OnOk};
 ghost use Rattle.ob_perm.specs.Masks.{permission_of};
+ghost use Rattle.ob_silica.specs.TermsView.{terms_of};
 ghost use Rattle.ob_silica_places.specs.Places.{location_of};
 ghost use Rattle.ob_flow_spec.specs.Joining.{joined_branches};
 ghost use Rattle.ob_flow_spec.specs.Looping.{head_context, turns_back_if};
@@ -16,7 +17,7 @@ use ob_base::{Duplicate, Items, Memory, Mode, Perm, Span};
 use ob_flow_context::{BodyFrame, Context, FlowError};
 use ob_flow_premises::{head_context, turns_back};
 use ob_perm::unowned;
-use ob_silica::{Operand, Place};
+use ob_silica::{Operand, Place, Term};
 use std::alloc::Global;
 
 /// Whether the point after forms is reached.
@@ -113,16 +114,20 @@ pub(crate) fn join_branches(
     }
 }
 
-/// Goes to the head of a loop, and gives what is known there.
+/// Goes to the head of a loop with this first part and this body, and gives what is known there.
 pub(crate) fn begin_turn(
     alloc: Global,
     frame: &BodyFrame<'_>,
+    first: &[Term],
+    body: &[Term],
     context: &mut Context,
 ) -> Result<Context, Memory>
-    ensures head { IfOk result (λ head. context_of head ≡ head_context frame.now (context_of context.old)) }
-    ensures here { OnOk result (context_of context.new ≡ head_context frame.now (context_of context.old)) }
+    ensures head { IfOk result (λ head. context_of head
+        ≡ head_context frame.now (terms_of first.now) (terms_of body.now) (context_of context.old)) }
+    ensures here { OnOk result (context_of context.new
+        ≡ head_context frame.now (terms_of first.now) (terms_of body.now) (context_of context.old)) }
 {
-    let head = head_context(alloc, frame, context)?;
+    let head = head_context(alloc, frame, first, body, context)?;
     *context = head.copy(alloc)?;
     Ok(head)
 }

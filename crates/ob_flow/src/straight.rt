@@ -1,6 +1,5 @@
 //! The forms without branches and calls.
 ghost use Rattle.std.specs.Prelude.{◌≡◌, None, OnOk};
-ghost use Rattle.ob_table_spec.specs.WellFormed.{kind_of_unary, kind_of_binary};
 ghost use Rattle.ob_silica_places.specs.Known.{kind_of_constant, kind_of_operator};
 ghost use Rattle.ob_silica_places.specs.Places.{location_of, located, slot};
 ghost use Rattle.ob_perm.specs.Permissions.{unowned};
@@ -18,7 +17,8 @@ use ob_flow_context::{BodyFrame, Context, FlowError, Known, fill, got, is_tested
 use ob_flow_premises::{copies_place, disowns_place, drops_slot, moves_to_slot, operates_on};
 use ob_perm::{give, unowned};
 use ob_silica::{Constant, Operand, Place, SilicaOperator};
-use ob_table::{BinaryOperator, Kind, UnaryOperator};
+use ob_silica_kinds::{kind_of_constant, kind_of_operator};
+use ob_table::Kind;
 use std::alloc::Global;
 
 // Sets a slot to a value that is no reference.
@@ -30,44 +30,6 @@ fn put_value(context: &mut Context, slot: u8, kind: Kind) -> Result<(), Memory>
         permission: unowned(),
     };
     context.put(Place::Slot(slot), Some(known))
-}
-
-fn kind_of_constant(value: &Constant) -> Kind
-    ensures { result ≡ kind_of_constant value.now }
-{
-    match value {
-        Constant::Int(_) => Kind::Int,
-        Constant::Bool(_) => Kind::Bool,
-        Constant::Text(_) => Kind::Text,
-    }
-}
-
-fn kind_of_unary(operator: UnaryOperator) -> Kind
-    ensures { result ≡ kind_of_unary operator }
-{
-    match operator {
-        UnaryOperator::Not => Kind::Bool,
-        UnaryOperator::Negate => Kind::Int,
-    }
-}
-
-fn kind_of_binary(operator: BinaryOperator) -> Kind
-    ensures { result ≡ kind_of_binary operator }
-{
-    match operator {
-        BinaryOperator::Add | BinaryOperator::Sub | BinaryOperator::Mul => Kind::Int,
-        BinaryOperator::Div | BinaryOperator::Rem => Kind::Int,
-        _ => Kind::Bool,
-    }
-}
-
-fn kind_of_operator(operator: SilicaOperator) -> Kind
-    ensures { result ≡ kind_of_operator operator }
-{
-    match operator {
-        SilicaOperator::Unary(operator) => kind_of_unary(operator),
-        SilicaOperator::Binary(operator) => kind_of_binary(operator),
-    }
 }
 
 /// Sets a slot to a value of the text.

@@ -112,8 +112,8 @@ passes_loop : (b : BodyFrame) (ts : TestedPlaces) (first : SilicaTerms) (a : Ope
     (g : Context) (left : Option Context) → derive b ts (loop_form first a body end) at g ≡ Ok left
     → PassesLoop b ts first a body g left
 passes_loop b ts first a body end at g left e =
-    let c = bind_ok (derive_all b ts first (head_context b g)) _ left e in
-    record { after = c.0; first_derives = c.1; turn = passes_turn b ts a body end (head_context b g) c.0 left c.2 }
+    let c = bind_ok (derive_all b ts first (head_context b first body g)) _ left e in
+    record { after = c.0; first_derives = c.1; turn = passes_turn b ts a body end (head_context b first body g) c.0 left c.2 }
 
 -- a form that derives is passed
 pub passes : (b : BodyFrame) (ts : TestedPlaces) (form : SilicaForm) (at : Span) (g : Context) (left : Option Context)

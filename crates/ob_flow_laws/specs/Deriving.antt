@@ -77,8 +77,8 @@ PassesTurnIf b ts a body head (Some h) left = PassesTurn b ts a body head h left
 pub record PassesLoop (b : BodyFrame) (ts : TestedPlaces) (first : SilicaTerms) (a : Operand) (body : SilicaTerms) (g : Context)
     (left : Option Context) : Type 0 where
   pub after : Option Context
-  pub first_derives : derive_all b ts first (head_context b g) ≡ Ok after
-  pub turn : PassesTurnIf b ts a body (head_context b g) after left
+  pub first_derives : derive_all b ts first (head_context b first body g) ≡ Ok after
+  pub turn : PassesTurnIf b ts a body (head_context b first body g) after left
 
 -- a form is passed in this context: its condition holds, and this is left after it
 abbrev pub Passes : BodyFrame → TestedPlaces → SilicaForm → Span → Context → Option Context → Type 0

@@ -18,7 +18,7 @@ use Rattle.ob_table.specs.declared.contract.Param.{Param}
 use Rattle.ob_table.specs.declared.contract.Signature.{Signature}
 use Rattle.ob_table.specs.declared.seen.Kind.{Kind}
 use Rattle.ob_table.specs.declared.seen.Kind.TheVariants.{Reference}
-use Rattle.ob_table_spec.specs.WellFormed.{kind_of_resolved}
+use Rattle.ob_table_spec.specs.WellFormed.{kind_of_resolved, StaticFrame, frame_of}
 use Rattle.ob_silica_places.specs.Known.{Known, known, permission_of_type}
 use Rattle.ob_silica_places.specs.Places.{Location, slot, field, this, same_location}
 use Rattle.ob_silica_places.specs.Known.{unowned_under}
@@ -34,6 +34,10 @@ pub record BodyFrame : Type 0 where
   pub tx : TxId
   pub signature : Signature
   pub slots : ℕ
+
+-- the same body, as well-formed terms see it
+abbrev pub static_of : BodyFrame → StaticFrame
+static_of b = frame_of b.table b.here b.own b.signature
 
 -- whether it is a constructor's, which has the number 0
 abbrev pub constructs : BodyFrame → Bool

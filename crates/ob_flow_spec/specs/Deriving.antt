@@ -72,10 +72,10 @@ abbrev mutual
       >>= (λ first. derive_all b ts other h
       >>= (λ second. joined_branches b (this_left first) first second join)))
   derive b ts (loop_form first a body end) at g =
-      derive_all b ts first (head_context b g)
+      derive_all b ts first (head_context b first body g)
       >>= (λ left. if_reached left (λ h. checked (uses_place b h (read_of a)) h
       >>= (λ h. derive_all b ts body h
-      >>= (λ turned. checked (turns_back_if b (head_context b g) turned end) (Some h)))))
+      >>= (λ turned. checked (turns_back_if b (head_context b first body g) turned end) (Some h)))))
   derive b ts (assert_form o perm) at g = checked (asserts_permission b g o perm) (Some g)
   derive b ts (disown_form o) at g = checked (disowns_place b ts g o) (Some (now g (located o) unowned))
   derive b ts (drop_form k) at g = checked (drops_slot b ts g at k) (Some (put g (slot k) None))

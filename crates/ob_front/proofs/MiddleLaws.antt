@@ -42,7 +42,7 @@ none_past table (b ∷ bs) (l ∷ ls) lowered = ap (λ o. option_or o (first_slo
 abbrev fault_with : ℕ → Span → ProgramFault
 fault_with number span = record { number = number; span = span }
 
-pub same_fault : (a b : ProgramFault) → a.number ≡ b.number → a.span ≡ b.span → a ≡ b
+same_fault : (a b : ProgramFault) → a.number ≡ b.number → a.span ≡ b.span → a ≡ b
 same_fault a b e f = ap (λ k. fault_with k a.span) e ∙ ap (fault_with b.number) f
 
 pub one_slot_fault : (table : ClassTable) (a b : ProgramFault) → LacksSlots table a → LacksSlots table b → a ≡ b

@@ -1,6 +1,6 @@
 -- A loop's turn over bodies.
 use native.Mathlib.Omega.{arith}
-use Rattle.std.proofs.Common.{◌≡◌, ℕ, List, [], ◌∷◌, ◌++◌, Option, Some, None, if◌then◌else◌, Result, Ok, Err, map, refl, sym, ap, ◌∙◌, subst, length, take, drop, get_or, suc, ◌<◌, ◌≤◌, ◌+◌, add-one, drop-cons}
+use Rattle.std.proofs.Common.{◌≡◌, ℕ, List, [], ◌∷◌, ◌++◌, Option, Some, None, Result, Ok, Err, map, refl, sym, ap, ◌∙◌, subst, length, take, drop, get_or, suc, ◌<◌, ◌≤◌, ◌+◌, add-one, drop-cons}
 use Rattle.std.specs.Prelude.{All, IsOk}
 use Rattle.std.specs.Option.{option_or}
 use Rattle.std.specs.Result.{result_err}
@@ -24,8 +24,6 @@ use Rattle.ob_flow_spec.specs.Deriving.{derive_body, Derives, IsFlowFault}
 use Rattle.ob_flow_spec.specs.Numbered.{AllNameStates}
 use Rattle.ob_front.specs.Checked.{AllNumbered, first_flow_fault, FailsPremise}
 use Rattle.ob_front.proofs.MiddleLaws.{no_error}
-use Rattle.ob_lexer.specs.declared.token.Token.{Token}
-use Rattle.ob_front.specs.Loops.{is_while, first_while}
 use Rattle.ob_front.specs.Lowered.{IsLoweredTo, AreLoweredTo, first_slot_past, LacksSlots}
 
 -- what is left from a place on is the thing there, and what is left after it
@@ -73,13 +71,6 @@ lacks_here table xs i x (Fault fault) h is all left has = record {
       ∙ ap (λ r. option_or r (first_slot_past table (map resolved_body_of (drop (i + 1) xs)))) has.place;
 }
 lacks_here table xs i x Memory h is all left has = tt
-
--- Loops.
-
--- where the first `while` is among what is left from a place on
-pub while_turn : (xs : List Token) (i : ℕ) (x : Token) → i < length xs → x ≡ get_or xs i x
-    → first_while (drop i xs) ≡ (if is_while x.kind then Some x.span else first_while (drop (i + 1) xs))
-while_turn xs i x h is = ap first_while (turn xs i x h is)
 
 -- Checking.
 

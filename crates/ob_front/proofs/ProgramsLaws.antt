@@ -1,6 +1,6 @@
 -- A text is one program at most, or has one first fault.
 use native.Mathlib.Omega.{arith}
-use Rattle.std.proofs.Common.{ℕ, ◌≡◌, ◌⊎◌, inl, inr, ◌≤◌, ◌<◌, suc, List, [], ◌∷◌, Some, None, map, sym, ap, ◌∙◌, subst}
+use Rattle.std.proofs.Common.{ℕ, ◌≡◌, ◌≤◌, ◌<◌, suc, List, [], ◌∷◌, Some, None, map, sym, ap, ◌∙◌, subst}
 use Rattle.std.specs.Prelude.{All}
 use Rattle.ob_base.specs.declared.fault.ProgramFault.{ProgramFault}
 use Rattle.ob_table.specs.Tables.{ClassTable}
@@ -23,13 +23,7 @@ use Rattle.ob_base.specs.declared.text_error.TextError.TheVariants.{Fault, Memor
 use Rattle.ob_front.specs.Lowered.{AreLoweredTo, first_slot_past, LacksSlots}
 use Rattle.ob_front.specs.Checked.{AllNumbered, first_flow_fault, FailsPremise}
 use Rattle.ob_front.proofs.MiddleLaws.{some_is, one_lowering, none_past, one_slot_fault, none_fails}
-use Rattle.ob_front.specs.Programs.{HasTerms, HasTermsFault, at_table, at_slot, IsChecked, IsProgram, IsAccepted, HasTextFault, at_terms, at_while, at_premise, at_weight}
-use Rattle.ob_front.specs.Loops.{first_while, HasNoWhile, HasWhile}
-use Rattle.ob_lexer.specs.declared.lexer.Lexed.{Lexed}
-use Rattle.ob_lexer.specs.Flaws.{HasFault}
-use Rattle.ob_lexer.proofs.Readings as lexed'
-use Rattle.ob_front.specs.Stages.{at_token, at_tree}
-use Rattle.ob_front.proofs.MiddleLaws.{same_fault}
+use Rattle.ob_front.specs.Programs.{HasTerms, HasTermsFault, at_table, at_slot, IsChecked, IsProgram, IsAccepted, HasTextFault, at_terms, at_premise, at_weight}
 use Rattle.ob_front.proofs.StagesLaws.{one_table, table_or_none, one_table_fault_lem, well_formed}
 
 terms_or_slot : (text : List ℕ) (table other : ClassTable) (bodies : List SilicaBody) (fault : ProgramFault) → HasTerms text table bodies → HasTable text other → ¬ (LacksSlots other fault)
@@ -50,21 +44,6 @@ one_terms_fault text a b (at_table p) (at_slot table has q) = absurd (table_or_n
 one_terms_fault text a b (at_slot table has p) (at_table q) = absurd (table_or_none text table b has q)
 one_terms_fault text a b (at_slot table has p) (at_slot other has' q) =
     one_slot_fault other a b (subst (λ t. LacksSlots t a) (one_table text table other has has') p) q
-
--- ---- loops
-
--- a text's tokens have one first `while` at most
-while_or_none : (text : List ℕ) (fault : ProgramFault) → HasNoWhile text → ¬ (HasWhile text fault)
-while_or_none text fault none has =
-    let same = lexed'.one_reading_lem text none.lexed has.lexed none.spelled has.spelled in
-    let f : None ≡ Some fault.span = sym none.none ∙ ap (λ (l : Lexed). first_while l.tokens) same ∙ has.place in
-    cc
-
-one_while : (text : List ℕ) (a b : ProgramFault) → HasWhile text a → HasWhile text b → a ≡ b
-one_while text a b one other =
-    let same = lexed'.one_reading_lem text one.lexed other.lexed one.spelled other.spelled in
-    same_fault a b (one.number ∙ sym other.number)
-    (some_is a.span b.span (sym one.place ∙ ap (λ (l : Lexed). first_while l.tokens) same ∙ other.place))
 
 -- ---- programs
 
@@ -107,29 +86,21 @@ one_weight_fault table other bodies more a b x y =
 -- a text that is accepted has no first fault
 pub never_accepted_and_faulty_lem : (text : List ℕ) (fault : ProgramFault) → HasTextFault text fault → ¬ (IsAccepted text)
 never_accepted_and_faulty_lem text fault (at_terms has) is = terms_or_fault text is.table is.bodies fault is.is.checked.terms has
-never_accepted_and_faulty_lem text fault (at_while table bodies terms has) is = while_or_none text fault is.is.checked.no_while has
-never_accepted_and_faulty_lem text fault (at_premise table bodies terms none fails) is = checked_or_premise text is.table table is.bodies bodies fault is.is.checked terms fails
+never_accepted_and_faulty_lem text fault (at_premise table bodies terms fails) is = checked_or_premise text is.table table is.bodies bodies fault is.is.checked terms fails
 never_accepted_and_faulty_lem text fault (at_weight table bodies checked heavy) is = program_or_weight text is.table table is.bodies bodies fault is.is checked heavy
 
 -- nor has any text two
 pub one_text_fault_lem : (text : List ℕ) (a b : ProgramFault) → HasTextFault text a → HasTextFault text b → a ≡ b
 one_text_fault_lem text a b (at_terms p) (at_terms q) = one_terms_fault text a b p q
-one_text_fault_lem text a b (at_terms p) (at_while table bodies terms has) = absurd (terms_or_fault text table bodies a terms p)
-one_text_fault_lem text a b (at_while table bodies terms has) (at_terms q) = absurd (terms_or_fault text table bodies b terms q)
-one_text_fault_lem text a b (at_while table bodies terms has) (at_while other more terms' has') = one_while text a b has has'
-one_text_fault_lem text a b (at_while table bodies terms has) (at_premise other more terms' none fails) = absurd (while_or_none text a none has)
-one_text_fault_lem text a b (at_premise table bodies terms none fails) (at_while other more terms' has) = absurd (while_or_none text b none has)
-one_text_fault_lem text a b (at_while table bodies terms has) (at_weight other more checked heavy) = absurd (while_or_none text a checked.no_while has)
-one_text_fault_lem text a b (at_weight table bodies checked heavy) (at_while other more terms has) = absurd (while_or_none text b checked.no_while has)
-one_text_fault_lem text a b (at_terms p) (at_premise table bodies terms none fails) = absurd (terms_or_fault text table bodies a terms p)
-one_text_fault_lem text a b (at_premise table bodies terms none fails) (at_terms q) = absurd (terms_or_fault text table bodies b terms q)
-one_text_fault_lem text a b (at_premise table bodies terms none fails) (at_premise other more terms' none' fails') =
+one_text_fault_lem text a b (at_terms p) (at_premise table bodies terms fails) = absurd (terms_or_fault text table bodies a terms p)
+one_text_fault_lem text a b (at_premise table bodies terms fails) (at_terms q) = absurd (terms_or_fault text table bodies b terms q)
+one_text_fault_lem text a b (at_premise table bodies terms fails) (at_premise other more terms' fails') =
     some_is a b (sym fails ∙ one_terms text table other bodies more terms terms' ∙ fails')
 one_text_fault_lem text a b (at_terms p) (at_weight table bodies checked heavy) = absurd (terms_or_fault text table bodies a checked.terms p)
 one_text_fault_lem text a b (at_weight table bodies checked heavy) (at_terms q) = absurd (terms_or_fault text table bodies b checked.terms q)
-one_text_fault_lem text a b (at_premise table bodies terms none fails) (at_weight other more checked heavy) =
+one_text_fault_lem text a b (at_premise table bodies terms fails) (at_weight other more checked heavy) =
     absurd (checked_or_premise text other table more bodies a checked terms fails)
-one_text_fault_lem text a b (at_weight other more checked heavy) (at_premise table bodies terms none fails) =
+one_text_fault_lem text a b (at_weight other more checked heavy) (at_premise table bodies terms fails) =
     absurd (checked_or_premise text other table more bodies b checked terms fails)
 one_text_fault_lem text a b (at_weight table bodies checked heavy) (at_weight other more checked' heavy') =
     one_weight_fault table other bodies more a b heavy heavy'
@@ -155,22 +126,11 @@ pub terms_told : (text : List ℕ) (cause : TextError) → OnFault cause (HasTer
 terms_told text (Fault fault) has = at_terms has
 terms_told text Memory has = tt
 
--- of one that has a `while`
-while_or_flaw : (text : List ℕ) (table : ClassTable) (bodies : List SilicaBody) (fault : ProgramFault) → HasTerms text table bodies
-    → HasFault text fault ⊎ HasWhile text fault → HasTextFault text fault
-while_or_flaw text table bodies fault terms (inl flaw) = at_terms (at_table (at_tree (at_token flaw)))
-while_or_flaw text table bodies fault terms (inr has) = at_while table bodies terms has
-
-pub while_told : (text : List ℕ) (table : ClassTable) (bodies : List SilicaBody) (cause : TextError) → HasTerms text table bodies
-    → OnFault cause (λ fault. HasFault text fault ⊎ HasWhile text fault) → OnFault cause (HasTextFault text)
-while_told text table bodies (Fault fault) terms has = while_or_flaw text table bodies fault terms has
-while_told text table bodies Memory terms has = tt
-
 -- of one of whose bodies a premise fails
 pub premise_told : (text : List ℕ) (table : ClassTable) (bodies : List SilicaBody) (cause : TextError) → HasTerms text table bodies
-    → HasNoWhile text → OnFault cause (FailsPremise table bodies) → OnFault cause (HasTextFault text)
-premise_told text table bodies (Fault fault) terms none fails = at_premise table bodies terms none fails
-premise_told text table bodies Memory terms none fails = tt
+    → OnFault cause (FailsPremise table bodies) → OnFault cause (HasTextFault text)
+premise_told text table bodies (Fault fault) terms fails = at_premise table bodies terms fails
+premise_told text table bodies Memory terms fails = tt
 
 -- of one that weighs too much
 pub weight_told : (text : List ℕ) (table : ClassTable) (bodies : List SilicaBody) (cause : TextError) → IsChecked text table bodies
@@ -206,15 +166,14 @@ numbered_slice text table bodies slice terms whole =
     subst (λ bs. AllNumbered (map silica_body_of bs)) (sym whole) (all_numbered text table (map silica_body_of bodies) terms)
 
 pub slice_told : (text : List ℕ) (table : ClassTable) (bodies slice : List TermBody) (cause : TextError) → HasTerms text table (map silica_body_of bodies)
-    → HasNoWhile text → slice ≡ bodies → OnFault cause (FailsPremise table (map silica_body_of slice)) → OnFault cause (HasTextFault text)
-slice_told text table bodies slice cause terms none whole fails =
-    premise_told text table (map silica_body_of bodies) cause terms none
+    → slice ≡ bodies → OnFault cause (FailsPremise table (map silica_body_of slice)) → OnFault cause (HasTextFault text)
+slice_told text table bodies slice cause terms whole fails =
+    premise_told text table (map silica_body_of bodies) cause terms
     (subst (λ bs. OnFault cause (FailsPremise table (map silica_body_of bs))) whole fails)
 
-pub slice_derives : (text : List ℕ) (table : ClassTable) (bodies slice : List TermBody) → HasTerms text table (map silica_body_of bodies)
-    → HasNoWhile text → slice ≡ bodies → All (Derives table) (map silica_body_of slice) → IsChecked text table (map silica_body_of bodies)
-slice_derives text table bodies slice terms none whole derive = record {
+pub slice_derives : (text : List ℕ) (table : ClassTable) (bodies slice : List TermBody) → HasTerms text table (map silica_body_of bodies) → slice ≡ bodies
+    → All (Derives table) (map silica_body_of slice) → IsChecked text table (map silica_body_of bodies)
+slice_derives text table bodies slice terms whole derive = record {
   terms = terms;
-  no_while = none;
   derive = subst (λ bs. All (Derives table) (map silica_body_of bs)) whole derive;
 }

@@ -1,5 +1,4 @@
 pub mod Stages
-pub mod Loops
 pub mod Programs
 pub mod Compiled
 pub mod Lowered

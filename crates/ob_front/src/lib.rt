@@ -2,7 +2,6 @@
 #![tactic(auto)]
 
 mod checking;
-mod loops;
 mod lowering;
 mod programs;
 mod seen;

@@ -15,7 +15,6 @@ ghost use Rattle.ob_front.specs.Compiled.{IsCompiledProgram, IsSoundProgram, Has
 ghost use Rattle.ob_base.specs.TextErrors.{OnFault};
 
 use crate::checking::check_bodies;
-use crate::loops::refuse_loops;
 use crate::lowering::lower_bodies;
 use crate::seen::{AskedProgram, Seen};
 use crate::stages::{CompileError, class_table};
@@ -76,14 +75,12 @@ pub fn lowered(alloc: Global, text: &[u8], seen: &mut Seen) -> Result<LoweredPro
     Ok(LoweredProgram { table, bodies })
 }
 
-// The same, of a text without a `while`, where each body derives by the permission rules. A program of which a premise fails stays
-// in what was seen.
+// The same, where each body derives by the permission rules. A program of which a premise fails stays in what was seen.
 fn checked(alloc: Global, text: &[u8], seen: &mut Seen) -> Result<LoweredProgram, CompileError>
     ensures checked { IfOk result (λ c. IsChecked text.now c.table (map silica_body_of c.bodies)) }
     ensures fault { IfErr result (λ e. OnFault e (HasTextFault text.now)) }
 {
     let program = lowered(alloc, text, seen)?;
-    refuse_loops(alloc, text)?;
     match check_bodies(
         alloc,
         &program.table,
@@ -98,8 +95,8 @@ fn checked(alloc: Global, text: &[u8], seen: &mut Seen) -> Result<LoweredProgram
     }
 }
 
-/// The program of a text, or its first fault: one that `lowered` tells, or `NOT_BUILT` at its first `while`, or the first premise of
-/// the permission rules that fails, body by body, or `LIMIT` at the text's start where the program weighs more than it may. The program is sound: no request
+/// The program of a text, or its first fault: one that `lowered` tells, or the first premise of the permission rules that
+/// fails, body by body, or `LIMIT` at the text's start where the program weighs more than it may. The program is sound: no request
 /// of it on a store at rest goes wrong, each leaves the store at rest, and each stored asset that was never shared nor disowned has
 /// exactly one owner. Its code is sound: the machine runs each request to the end that the source meaning says. The code has a
 /// spelling, so that it may be encoded. Of a fault what the stages made before it stays in what was seen.

@@ -10,7 +10,7 @@ use Rattle.ob_rest_spec.specs.AtRest.{IsStoreAtRest}
 use Rattle.ob_invocation_spec.specs.Requests.{Request, HasLabels}
 use Rattle.ob_code.specs.declared.image.Image.{Image}
 use Rattle.ob_code_table.specs.ImageTables.{table_of_image}
-use Rattle.ob_machine_steps.specs.Measures.{LeadsAhead}
+use Rattle.ob_machine_steps.specs.Measures.{LeadsAheadOrToUnit}
 use Rattle.ob_lanes_laws.specs.UnownedLaws.{KeepsStores}
 use Rattle.ob_request_run_laws.specs.Runs.{reads_of_run}
 use Rattle.ob_wire.specs.Meanings.{request_of}
@@ -69,7 +69,7 @@ done_after n m b entries e x is number at told f = same_or n b.number (nat_eq n 
 
 -- What is kept after a commit stands for the schedule after it.
 pub commit_stands : (fits : Fits) (image : Image) (fuel : ℕ) (before after : Stored) (delta : Delta) (entries : List Entry) (lanes : List (Option Busy)) (l : State) (k : ℕ) (s : BusyLane) (b : Busy)
-    → LeadsAhead image → KeepsStores image → IsStoreAtRest (table_of_image image) (content_of before) → LeadsTo before delta (content_of after) → OfEach HasLabels (requests_of entries)
+    → LeadsAheadOrToUnit image → KeepsStores image → IsStoreAtRest (table_of_image image) (content_of before) → LeadsTo before delta (content_of after) → OfEach HasLabels (requests_of entries)
     → AreThose image fuel before entries lanes l → slice_get l.lanes k ≡ Some (Some s) → EndsAlone k l → IsBusy image fuel before entries b s
     → (committed_by fits image fuel (requests_of entries) k l).store ≡ content_of after
     → AreThose image fuel after (answered_in (Some b) entries) (lanes_after before delta k lanes) (committed_by fits image fuel (requests_of entries) k l) × NoneHasEnded (committed_by fits image fuel (requests_of entries) k l)

@@ -11,7 +11,7 @@ use Rattle.ob_rest_spec.specs.AtRest.{IsStoreAtRest}
 use Rattle.ob_invocation_spec.specs.Requests.{Request, HasLabels}
 use Rattle.ob_code.specs.declared.image.Image.{Image}
 use Rattle.ob_code_table.specs.ImageTables.{table_of_image}
-use Rattle.ob_machine_steps.specs.Measures.{LeadsAhead}
+use Rattle.ob_machine_steps.specs.Measures.{LeadsAheadOrToUnit}
 use Rattle.ob_lanes_laws.specs.UnownedLaws.{KeepsStores}
 use Rattle.ob_request_run_laws.specs.Runs.{opened, paused, answered, lost, reads_of_run}
 use Rattle.ob_request_run_laws.specs.Runs as plain
@@ -55,7 +55,7 @@ run_is fits image fuel base request (units ∷ given) =
 
 -- what it rests on: the code is sound, the store was at rest, and so it is after
 pub record Setting (image : Image) (fuel : ℕ) (before : Stored) (delta : Delta) (after : Stored) : Type 0 where
-  pub ahead : LeadsAhead image
+  pub ahead : LeadsAheadOrToUnit image
   pub keeps : KeepsStores image
   pub rest : IsStoreAtRest (table_of_image image) (content_of before)
   pub still : IsStoreAtRest (table_of_image image) (content_of after)

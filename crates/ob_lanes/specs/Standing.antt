@@ -11,7 +11,7 @@ use Rattle.ob_invocation_spec.specs.Requests.{Request, HasLabels}
 use Rattle.ob_code.specs.declared.image.Image.{Image}
 use Rattle.ob_code_table.specs.ImageTables.{table_of_image}
 use Rattle.ob_machine_meaning.specs.Meanings.{machine_invocation}
-use Rattle.ob_machine_steps.specs.Measures.{LeadsAhead}
+use Rattle.ob_machine_steps.specs.Measures.{LeadsAheadOrToUnit}
 use Rattle.ob_lanes_laws.specs.UnownedLaws.{KeepsStores}
 use Rattle.ob_request_run_laws.specs.Runs.{paused, answered, invoked_by}
 use Rattle.ob_request_run_laws.specs.Runs as plain
@@ -286,6 +286,6 @@ pub record Waits (image : Image) (fuel : ℕ) (batch : List Request) (base : Sto
 -- holds after the commit, and has just what differs, then the lanes stand for the schedule after the commit.
 abbrev pub Commits : Image → ℕ → List Request → Stored → Delta → Stored → ℕ → State → Lanes → Type 0
 Commits image fuel batch before delta after k l new =
-    (fits : Fits) → LeadsAhead image → KeepsStores image → OfEach HasLabels batch → IsStoreAtRest (table_of_image image) (content_of before)
+    (fits : Fits) → LeadsAheadOrToUnit image → KeepsStores image → OfEach HasLabels batch → IsStoreAtRest (table_of_image image) (content_of before)
     → LeadsTo before delta (content_of after) → (committed_by fits image fuel batch k l).store ≡ content_of after
     → StandFor image fuel batch after new (committed_by fits image fuel batch k l) × NoneHasEnded (committed_by fits image fuel batch k l)

@@ -19,7 +19,7 @@ use Rattle.ob_code.specs.declared.image.Image.{Image}
 use Rattle.ob_code_table.specs.ImageTables.{table_of_image}
 use Rattle.ob_machine_steps.specs.Configurations.{ended, aborted, Next, goes, stops}
 use Rattle.ob_machine_steps.specs.Entries.{Phase, starting, running, started, next_step}
-use Rattle.ob_machine_steps.specs.Measures.{longest, steps_left, LeadsAhead}
+use Rattle.ob_machine_steps.specs.Measures.{longest, steps_left, LeadsAheadOrToUnit}
 use Rattle.ob_machine_steps.specs.Runs.{Stop, over, after_step, pays, waits, left_after, run_in}
 use Rattle.ob_machine_steps.specs.Runs as steps
 use Rattle.ob_machine_laws.proofs.Measuring.{lowers}
@@ -35,14 +35,14 @@ use Rattle.ob_lanes_laws.proofs.Keeping.{differ}
 
 -- Slices of the machine.
 
-least_by : (image : Image) (n units : ℕ) (p q : Phase) (b : Bool) (r : Option Next) → LeadsAhead image → next_step image p ≡ r → (if b then Some (steps.paused p) else after_step r (run_in image n units)) ≡ Some (steps.paused q)
+least_by : (image : Image) (n units : ℕ) (p q : Phase) (b : Bool) (r : Option Next) → LeadsAheadOrToUnit image → next_step image p ≡ r → (if b then Some (steps.paused p) else after_step r (run_in image n units)) ≡ Some (steps.paused q)
     → ((x : Phase) → run_in image n units x ≡ Some (steps.paused q) → steps_left image q ≤ steps_left image x) → steps_left image q ≤ steps_left image p
 least_by image n units p q true r ahead e f ih = let s = ap (steps_left image) (paused_same f) in omega (arith, s)
 least_by image n units p q false None ahead e f ih = absurd (none_paused f)
 least_by image n units p q false (Some (goes c)) ahead e f ih = let l = lowers image p c ahead e in let i = ih (running c) f in omega (arith, l, i)
 least_by image n units p q false (Some (stops end)) ahead e f ih = absurd (over_paused f)
 
-no_farther : (image : Image) (n units : ℕ) (p q : Phase) → LeadsAhead image → run_in image n units p ≡ Some (steps.paused q) → steps_left image q ≤ steps_left image p
+no_farther : (image : Image) (n units : ℕ) (p q : Phase) → LeadsAheadOrToUnit image → run_in image n units p ≡ Some (steps.paused q) → steps_left image q ≤ steps_left image p
 no_farther image zero units p q ahead f = absurd (none_paused f)
 no_farther image (suc n) units p q ahead f =
     least_by image n (left_after (pays image p) units) p q (waits image units p) (next_step image p) ahead refl f (λ x g. no_farther image n (left_after (pays image p) units) x q ahead g)
@@ -55,12 +55,12 @@ never_waits image units p u = ap (λ b. pays image p && b) (differ units 0 (λ e
     none true = refl
     none false = refl
 
-nearer_by : (image : Image) (n units : ℕ) (p q : Phase) (r : Option Next) → LeadsAhead image → next_step image p ≡ r → after_step r (run_in image n units) ≡ Some (steps.paused q) → steps_left image q < steps_left image p
+nearer_by : (image : Image) (n units : ℕ) (p q : Phase) (r : Option Next) → LeadsAheadOrToUnit image → next_step image p ≡ r → after_step r (run_in image n units) ≡ Some (steps.paused q) → steps_left image q < steps_left image p
 nearer_by image n units p q None ahead e f = absurd (none_paused f)
 nearer_by image n units p q (Some (goes c)) ahead e f = let l = lowers image p c ahead e in let i = no_farther image n units (running c) q ahead f in omega (arith, l, i)
 nearer_by image n units p q (Some (stops end)) ahead e f = absurd (over_paused f)
 
-comes_nearer : (image : Image) (n units : ℕ) (p q : Phase) → LeadsAhead image → 0 < units → run_in image n units p ≡ Some (steps.paused q) → steps_left image q < steps_left image p
+comes_nearer : (image : Image) (n units : ℕ) (p q : Phase) → LeadsAheadOrToUnit image → 0 < units → run_in image n units p ≡ Some (steps.paused q) → steps_left image q < steps_left image p
 comes_nearer image zero units p q ahead u f = absurd (none_paused f)
 comes_nearer image (suc n) units p q ahead u f =
     nearer_by image n (left_after (pays image p) units) p q (next_step image p) ahead refl
@@ -84,7 +84,7 @@ stops_nearer image fuel most table c q e reads (Some (steps.paused p)) h = λ f.
 stops_nearer image fuel most table c q e reads (Some (over (ended result w))) h = λ f. absurd (true≢false f)
 stops_nearer image fuel most table c q e reads (Some (over (aborted cause s))) h = λ f. absurd (true≢false f)
 
-sliced_nearer : (image : Image) (fuel : ℕ) (c : Content) (units : ℕ) (q : Request) (e : Entry) (reads : List ReadItem) (p : Phase) → LeadsAhead image → 0 < units → IsNearer image fuel (steps_left image p) (sliced image c units q e reads p)
+sliced_nearer : (image : Image) (fuel : ℕ) (c : Content) (units : ℕ) (q : Request) (e : Entry) (reads : List ReadItem) (p : Phase) → LeadsAheadOrToUnit image → 0 < units → IsNearer image fuel (steps_left image p) (sliced image c units q e reads p)
 sliced_nearer image fuel c units q e reads p ahead u =
     stops_nearer image fuel (steps_left image p) (table_of_image image) c q e reads (run_in image (steps_left image p) units p) (λ x f. comes_nearer image (steps_left image p) units p x ahead u f)
 
@@ -103,13 +103,13 @@ unless_nearer image fuel most cs f h = refused_nearer image fuel most (refusal_o
 abbrev all_steps : Image → ℕ → ℕ
 all_steps image fuel = suc (suc (fuel * longest image))
 
-tested_nearer : (image : Image) (fuel : ℕ) (c : Content) (units : ℕ) (q : Request) (e : Entry) (reads : List ReadItem) (o : Option HandleUse) → LeadsAhead image → 0 < units → IsNearer image fuel (all_steps image fuel) (after_entry_test image fuel c units q e reads o)
+tested_nearer : (image : Image) (fuel : ℕ) (c : Content) (units : ℕ) (q : Request) (e : Entry) (reads : List ReadItem) (o : Option HandleUse) → LeadsAheadOrToUnit image → 0 < units → IsNearer image fuel (all_steps image fuel) (after_entry_test image fuel c units q e reads o)
 tested_nearer image fuel c units q e reads (Some v) ahead u = λ g. absurd (true≢false g)
 tested_nearer image fuel c units q e reads None ahead u = thing_nearer image fuel (all_steps image fuel) (entered image c e) _ (λ m.
     subst (λ n. IsNearer image fuel (all_steps image n) (sliced image c units q e reads (started image m c.objects fuel))) (entry_fuel image m c.objects fuel)
     (sliced_nearer image fuel c units q e reads (started image m c.objects fuel) ahead u))
 
-begins_nearer : (image : Image) (fuel : ℕ) (c : Content) (units : ℕ) (q : Request) (cs : List Check) (o : Option Entry) → LeadsAhead image → 0 < units → IsNearer image fuel (all_steps image fuel) (begins image fuel c units q cs o)
+begins_nearer : (image : Image) (fuel : ℕ) (c : Content) (units : ℕ) (q : Request) (cs : List Check) (o : Option Entry) → LeadsAheadOrToUnit image → 0 < units → IsNearer image fuel (all_steps image fuel) (begins image fuel c units q cs o)
 begins_nearer image fuel c units q cs o ahead u = unless_nearer image fuel (all_steps image fuel) cs _ (thing_nearer image fuel (all_steps image fuel) o (enters image fuel c units q (reads_of cs)) (λ e.
     tested_nearer image fuel c units q e (reads_of cs) (first_outside_use (table_of_image image) c e) ahead u))
 
@@ -117,7 +117,7 @@ owner_nearer : (image : Image) (fuel : ℕ) (c : Content) (reads : List ReadItem
 owner_nearer image fuel c reads None = λ g. absurd (true≢false g)
 owner_nearer image fuel c reads (Some r) = thing_nearer image fuel (all_steps image fuel) (shown_place (table_of_image image) c.objects r.place) _ (λ place g. absurd (true≢false g))
 
-opens_nearer : (image : Image) (fuel : ℕ) (c : Content) (units : ℕ) (q : Request) (operation : Operation) → LeadsAhead image → 0 < units → IsNearer image fuel (all_steps image fuel) (opens image fuel c units q operation)
+opens_nearer : (image : Image) (fuel : ℕ) (c : Content) (units : ℕ) (q : Request) (operation : Operation) → LeadsAheadOrToUnit image → 0 < units → IsNearer image fuel (all_steps image fuel) (opens image fuel c units q operation)
 opens_nearer image fuel c units q (new_request r) ahead u = begins_nearer image fuel c units q (new_checks (table_of_image image) c q.who r) (entry_of_new (table_of_image image) q.who r) ahead u
 opens_nearer image fuel c units q (call_request r) ahead u = begins_nearer image fuel c units q (call_checks (table_of_image image) c q.who r) (entry_of_call (table_of_image image) c q.who r) ahead u
 opens_nearer image fuel c units q (disown_request on) ahead u = unless_nearer image fuel (all_steps image fuel) (handle_check c (handle_name q.who on) ∷ []) _ (thing_nearer image fuel (all_steps image fuel) (handle_at c (handle_name q.who on)) _ (λ h g. absurd (true≢false g)))
@@ -127,7 +127,7 @@ opens_nearer image fuel c units q (see_request on) ahead u = unless_nearer image
 opens_nearer image fuel c units q (owner_request on) ahead u = unless_nearer image fuel (all_steps image fuel) (handle_check c (handle_name q.who on) ∷ []) _ (thing_nearer image fuel (all_steps image fuel) (handle_at c (handle_name q.who on)) _ (λ h.
     owner_nearer image fuel c (reads_of (handle_check c (handle_name q.who on) ∷ [])) (owner_of (table_of_image image) c h.object)))
 
-slice_nearer : (image : Image) (fuel : ℕ) (c : Content) (units : ℕ) (r : Run) → LeadsAhead image → 0 < units → has_ended r ≡ false → IsNearer image fuel (steps_of_run image fuel r) (slice image fuel c units r)
+slice_nearer : (image : Image) (fuel : ℕ) (c : Content) (units : ℕ) (r : Run) → LeadsAheadOrToUnit image → 0 < units → has_ended r ≡ false → IsNearer image fuel (steps_of_run image fuel r) (slice image fuel c units r)
 slice_nearer image fuel c units (opened q) ahead u f = opens_nearer image fuel c units q q.operation ahead u
 slice_nearer image fuel c units (paused q reads p h) ahead u f = thing_nearer image fuel (steps_left image p) (entry_of (table_of_image image) c q.who q.operation) _ (λ e.
     subst (λ n. IsNearer image fuel n (sliced image c units q e reads (phase_onto (laid_over c.objects h) p))) (steps_onto image (laid_over c.objects h) p)
@@ -139,7 +139,7 @@ opening_most : (image : Image) (fuel : ℕ) → all_steps image fuel ≤ all_ste
 opening_most image fuel = omega arith
 
 -- how far the runs of requests are from their end, where jumps lead ahead
-pub request_distances : {S L : Type 0} (stores : Stores S L) (image : Image) (fuel : ℕ) → LeadsAhead image → Distances (request_rules stores image fuel)
+pub request_distances : {S L : Type 0} (stores : Stores S L) (image : Image) (fuel : ℕ) → LeadsAheadOrToUnit image → Distances (request_rules stores image fuel)
 request_distances stores image fuel ahead = record {
   left = steps_of_run image fuel;
   most = all_steps image fuel;
@@ -148,6 +148,6 @@ request_distances stores image fuel ahead = record {
 }
 
 -- the most that a run of a request is from its end
-pub request_most : {S L : Type 0} (stores : Stores S L) (image : Image) (fuel : ℕ) (ahead : LeadsAhead image) → (request_distances stores image fuel ahead).most ≡ suc (suc (fuel * longest image))
+pub request_most : {S L : Type 0} (stores : Stores S L) (image : Image) (fuel : ℕ) (ahead : LeadsAheadOrToUnit image) → (request_distances stores image fuel ahead).most ≡ suc (suc (fuel * longest image))
 unfolding request_distances
 request_most stores image fuel ahead = refl

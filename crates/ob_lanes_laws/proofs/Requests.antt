@@ -11,7 +11,7 @@ use Rattle.ob_invocation_laws.specs.Laws.{KeepsStoreAtRest}
 use Rattle.ob_code.specs.declared.image.Image.{Image}
 use Rattle.ob_code_table.specs.ImageTables.{table_of_image}
 use Rattle.ob_machine_meaning.specs.Meanings.{machine_invocation}
-use Rattle.ob_machine_steps.specs.Measures.{LeadsAhead}
+use Rattle.ob_machine_steps.specs.Measures.{LeadsAheadOrToUnit}
 use Rattle.ob_lanes_laws.specs.UnownedLaws.{KeepsStores, LeavesUnowned}
 use Rattle.ob_lanes_laws.proofs.Unowned.{unowned_stay_so}
 use Rattle.ob_request_run_laws.specs.Runs.{Answer, Run, opened, paused, answered, lost, reads_of_run, content_after, invoked_by}
@@ -63,7 +63,7 @@ answer_by_run stores image fuel s q (paused p reads x h) keeps comes over = absu
 answer_by_run stores image fuel s q (answered a) keeps comes over = record { it = a; is = refl; comes = comes }
 answer_by_run stores image fuel s q lost keeps comes over = absurd (subst (KeepsStoreAtRest (table_of_image image)) comes keeps)
 
-answer_of : {S L : Type 0} (stores : Stores S L) (image : Image) (fuel : ℕ) (s : S) (q : Request) (r : Run) → LeadsAhead image → KeepsStores image → IsAtRestIn stores image s → HasLabels q → IsEnded (request_rules stores image fuel) s q r
+answer_of : {S L : Type 0} (stores : Stores S L) (image : Image) (fuel : ℕ) (s : S) (q : Request) (r : Run) → LeadsAheadOrToUnit image → KeepsStores image → IsAtRestIn stores image s → HasLabels q → IsEnded (request_rules stores image fuel) s q r
     → IsAnswerOf stores image fuel s q r
 answer_of stores image fuel s q r ahead keeps rest labels ended =
     answer_by_run stores image fuel s q r (keeps (stores.content_of s) q fuel rest labels)
@@ -117,7 +117,7 @@ owns_alike stores image fuel s t p who (see_request on) keeps rest labels l = tt
 
 -- The rules.
 
-still_same : {S L : Type 0} (stores : Stores S L) (image : Image) (fuel : ℕ) (s t : S) (p q : Request) (given : List ℕ) → LeadsAhead image → KeepsStores image → IsAtRestIn stores image s → HasLabels p → HasLabels q → Leaves stores image fuel s t p
+still_same : {S L : Type 0} (stores : Stores S L) (image : Image) (fuel : ℕ) (s t : S) (p q : Request) (given : List ℕ) → LeadsAheadOrToUnit image → KeepsStores image → IsAtRestIn stores image s → HasLabels p → HasLabels q → Leaves stores image fuel s t p
     → conflicts (table_of_image image) (stores.content_of s) (stores.content_of t) (reads_of_run (run_of (request_rules stores image fuel) s given q)) ≡ false
     → run_of (request_rules stores image fuel) t given q ≡ run_of (request_rules stores image fuel) s given q
 still_same stores image fuel s t p q given ahead keeps rest labels asked l fresh =
@@ -130,7 +130,7 @@ still_same stores image fuel s t p q given ahead keeps rest labels asked l fresh
     (owns_alike stores image fuel s t p q.who q.operation keeps rest labels l)
     ∙ sym (run_is stores image fuel s given q)
 
-pub requests_fit : {S L : Type 0} (stores : Stores S L) (image : Image) (fuel : ℕ) → LeadsAhead image → KeepsStores image → Fits (request_rules stores image fuel) (IsAtRestIn stores image) HasLabels (IsInvoked stores image fuel)
+pub requests_fit : {S L : Type 0} (stores : Stores S L) (image : Image) (fuel : ℕ) → LeadsAheadOrToUnit image → KeepsStores image → Fits (request_rules stores image fuel) (IsAtRestIn stores image) HasLabels (IsInvoked stores image fuel)
 requests_fit stores image fuel ahead keeps = record {
   local = λ s p q r given rest labels asked ended fresh.
       still_same stores image fuel s (commit stores s r) p q given ahead keeps rest labels asked (leaves stores image fuel s p r (answer_of stores image fuel s p r ahead keeps rest labels ended)) fresh;
@@ -139,13 +139,13 @@ requests_fit stores image fuel ahead keeps = record {
   fit = λ s q r rest labels ended. rests stores image fuel s (commit stores s r) q keeps rest labels (leaves stores image fuel s q r (answer_of stores image fuel s q r ahead keeps rest labels ended));
 }
 
-pub requests_are_serializable : {S L : Type 0} (stores : Stores S L) (image : Image) (fuel : ℕ) (batch : List Request) (s : S) (count : ℕ) (events : List Event) → LeadsAhead image → KeepsStores image → OfEach HasLabels batch → IsAtRestIn stores image s
+pub requests_are_serializable : {S L : Type 0} (stores : Stores S L) (image : Image) (fuel : ℕ) (batch : List Request) (s : S) (count : ℕ) (events : List Event) → LeadsAheadOrToUnit image → KeepsStores image → OfEach HasLabels batch → IsAtRestIn stores image s
     → IsSerializable (request_rules stores image fuel) (IsInvoked stores image fuel) batch s (after_events (request_rules stores image fuel) batch (idle s count) events)
     × IsAtRestIn stores image (after_events (request_rules stores image fuel) batch (idle s count) events).store
 requests_are_serializable stores image fuel batch s count events ahead keeps labels rest =
     events_serializable (request_rules stores image fuel) (IsAtRestIn stores image) HasLabels (IsInvoked stores image fuel) batch s count events (requests_fit stores image fuel ahead keeps) labels rest
 
-pub request_batches_end : {S L : Type 0} (stores : Stores S L) (image : Image) (fuel : ℕ) (batch : List Request) (units count : ℕ) (s : S) → LeadsAhead image → KeepsStores image → OfEach HasLabels batch → IsAtRestIn stores image s → 0 < units → 0 < count
+pub request_batches_end : {S L : Type 0} (stores : Stores S L) (image : Image) (fuel : ℕ) (batch : List Request) (units count : ℕ) (s : S) → LeadsAheadOrToUnit image → KeepsStores image → OfEach HasLabels batch → IsAtRestIn stores image s → 0 < units → 0 < count
     → (turns : ℕ) × IsAnsweredIn (request_rules stores image fuel) (IsInvoked stores image fuel) batch units count s turns × IsAtRestIn stores image (after_turns (request_rules stores image fuel) batch units count s turns).lanes.store
 request_batches_end stores image fuel batch units count s ahead keeps labels rest u c =
     let d = request_distances stores image fuel ahead in

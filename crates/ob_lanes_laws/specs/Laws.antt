@@ -7,7 +7,7 @@ use Rattle.ob_rest_spec.specs.AtRest.{IsStoreAtRest}
 use Rattle.ob_invocation_spec.specs.Requests.{Request, HasLabels}
 use Rattle.ob_code.specs.declared.image.Image.{Image}
 use Rattle.ob_code_table.specs.ImageTables.{table_of_image}
-use Rattle.ob_machine_steps.specs.Measures.{LeadsAhead}
+use Rattle.ob_machine_steps.specs.Measures.{LeadsAheadOrToUnit}
 use Rattle.ob_lanes_laws.specs.UnownedLaws.{KeepsStores}
 use Rattle.ob_request_run_laws.specs.Runs.{Run}
 use Rattle.ob_request_run_laws.specs.Laws.{AgreeOn}
@@ -86,7 +86,7 @@ after_request_events stores image fuel batch s count events =
 abbrev pub RequestsAreSerializable : Type 0 → Type 0 → Type 0
 RequestsAreSerializable S L =
     (stores : Stores S L) (image : Image) (fuel : ℕ) (batch : List Request) (s : S) (count : ℕ) (events : List Event)
-    → LeadsAhead image → KeepsStores image → OfEach HasLabels batch → IsAtRestIn stores image s
+    → LeadsAheadOrToUnit image → KeepsStores image → OfEach HasLabels batch → IsAtRestIn stores image s
     → IsSerializable (request_rules stores image fuel) (IsInvoked stores image fuel) batch s (after_request_events stores image fuel batch s count events)
     × IsAtRestIn stores image (after_request_events stores image fuel batch s count events).store
 
@@ -94,6 +94,6 @@ RequestsAreSerializable S L =
 abbrev pub RequestBatchesEnd : Type 0 → Type 0 → Type 0
 RequestBatchesEnd S L =
     (stores : Stores S L) (image : Image) (fuel : ℕ) (batch : List Request) (units count : ℕ) (s : S)
-    → LeadsAhead image → KeepsStores image → OfEach HasLabels batch → IsAtRestIn stores image s → 0 < units → 0 < count
+    → LeadsAheadOrToUnit image → KeepsStores image → OfEach HasLabels batch → IsAtRestIn stores image s → 0 < units → 0 < count
     → (turns : ℕ) × IsAnsweredIn (request_rules stores image fuel) (IsInvoked stores image fuel) batch units count s turns
     × IsAtRestIn stores image (after_turns (request_rules stores image fuel) batch units count s turns).lanes.store

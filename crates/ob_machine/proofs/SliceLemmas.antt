@@ -14,7 +14,7 @@ use Rattle.ob_machine_laws.specs.Laws.{SameConfiguration, SamePhase, SameEnd, Sa
 use Rattle.ob_machine_laws.proofs.SameReads.{same_steps}
 use Rattle.ob_machine_laws.proofs.Slicing.{steps_on}
 use Rattle.ob_machine_laws.proofs.Measuring.{lowers}
-use Rattle.ob_machine_steps.specs.Measures.{LeadsAhead}
+use Rattle.ob_machine_steps.specs.Measures.{LeadsAheadOrToUnit}
 use Rattle.ob_heap.specs.declared.object.Object.{Object}
 use Rattle.ob_heap.specs.Overlays.{Changes}
 use Rattle.ob_machine.specs.Phases.{phase_at, phase_of, HasBegun}
@@ -178,7 +178,7 @@ next_to (Some (goes a)) c s = record { to = a; is = refl; same = s }
 next_to (Some (stops x)) c s = absurd s
 
 -- each step lowers the measure
-pub lower : (image : Image) (q : Phase) (c : Configuration) → LeadsAhead image → SameNext (next_step image q) (Some (goes c)) → steps_left image (running c) < steps_left image q
+pub lower : (image : Image) (q : Phase) (c : Configuration) → LeadsAheadOrToUnit image → SameNext (next_step image q) (Some (goes c)) → steps_left image (running c) < steps_left image q
 lower image q c ahead f =
     let step : GoesTo (next_step image q) c = next_to (next_step image q) c f in
     let e : steps_left image (running c) ≡ steps_left image (running step.to) =
@@ -226,7 +226,7 @@ pub goes_turn : (image : Image) (units left rest : ℕ) (start q : Phase) (m : M
 goes_turn image units left rest start q m base o a t =
     subst (At image units rest start) (sym (begun_at m base o t.3)) (goes_at image units left rest start q (shown m.run base o) a t.0 t.1 t.2)
 
-pub lower_turn : (image : Image) (left rest : ℕ) (q : Phase) (m : Machine) (base : List Object) (o : Changes) → LeadsAhead image
+pub lower_turn : (image : Image) (left rest : ℕ) (q : Phase) (m : Machine) (base : List Object) (o : Changes) → LeadsAheadOrToUnit image
     → TurnsSo image left q (Made Going rest) m base o → steps_left image (phase_of m base o) < steps_left image q
 lower_turn image left rest q m base o ahead t =
     subst (λ p. steps_left image p < steps_left image q) (sym (begun_at m base o t.3)) (lower image q (shown m.run base o) ahead t.2)

@@ -11,7 +11,7 @@ use Rattle.ob_heap.specs.declared.object.Object.{Object}
 use Rattle.ob_heap.specs.Overlays.{Changes}
 use Rattle.ob_machine_steps.specs.Configurations.{Configuration, Next, goes, ended, aborted}
 use Rattle.ob_machine_steps.specs.Entries.{Phase, running, next_step}
-use Rattle.ob_machine_steps.specs.Measures.{steps_left, LeadsAhead}
+use Rattle.ob_machine_steps.specs.Measures.{steps_left, LeadsAheadOrToUnit}
 use Rattle.ob_machine_steps.specs.Runs.{Stop, paused, over, waits, pays, left_after}
 use Rattle.ob_machine_laws.specs.Laws.{SameNext}
 use Rattle.ob_machine.specs.Phases.{phase_of, HasBegun}
@@ -57,7 +57,7 @@ stretch_begins image units c instructions body = record { on = λ found h. h; le
 at_or_below : (m n k : ℕ) → m < n → n ≤ k → m ≤ k
 at_or_below m n k h g = omega (arith, h, g)
 
-pub strode : (image : Image) (units left rest : ℕ) (start c d : Configuration) (instructions : List Instruction) (r : Result (Option ℕ) Off) (x : Option ℕ) → LeadsAhead image
+pub strode : (image : Image) (units left rest : ℕ) (start c d : Configuration) (instructions : List Instruction) (r : Result (Option ℕ) Off) (x : Option ℕ) → LeadsAheadOrToUnit image
     → Stretched image units left start c instructions → Strides r image left c d → r ≡ Ok x → x ≡ Some rest → Stretched image units rest start d instructions
 strode image units left rest start c d instructions r x ahead s t e f =
     let h = subst (λ y. Strides (Ok y) image left c d) f (subst (λ y. Strides y image left c d) e t) in
@@ -68,7 +68,7 @@ strode image units left rest start c d instructions r x ahead s t e f =
       body = subst (λ k. AreInstructionsOf image d.top.contract k instructions) (sym h.3.1) (subst (λ k. AreInstructionsOf image k c.top.tx instructions) (sym h.3.0) s.body);
     }
 
-pub strode_less : (image : Image) (left rest : ℕ) (c d : Configuration) (r : Result (Option ℕ) Off) (x : Option ℕ) → LeadsAhead image
+pub strode_less : (image : Image) (left rest : ℕ) (c d : Configuration) (r : Result (Option ℕ) Off) (x : Option ℕ) → LeadsAheadOrToUnit image
     → Strides r image left c d → r ≡ Ok x → x ≡ Some rest → steps_left image (running d) < steps_left image (running c)
 strode_less image left rest c d r x ahead t e f =
     let h = subst (λ y. Strides (Ok y) image left c d) f (subst (λ y. Strides y image left c d) e t) in
@@ -93,7 +93,7 @@ stretch_stops image units left start c d instructions r off s t e = by off (subs
 below : (m n k : ℕ) → m < n → n ≤ k → m < k
 below m n k h g = omega (arith, h, g)
 
-pub turned : (image : Image) (units left : ℕ) (start q : Phase) (r : Result Turn Off) (m : Machine) (base : List Object) (o : Changes) → LeadsAhead image
+pub turned : (image : Image) (units left : ℕ) (start q : Phase) (r : Result Turn Off) (m : Machine) (base : List Object) (o : Changes) → LeadsAheadOrToUnit image
     → LeadsOn image units start left q → steps_left image q ≤ steps_left image start → Tries r image left q m base o → Turns r image units start m base o
 turned image units left start q (Ok Waits) m base o ahead on less t =
     on (Some (paused (phase_of m base o))) (waits_at image left left q q (phase_of m base o) (at_start image left q) t.0 t.1)
@@ -110,12 +110,12 @@ turned image units left start q (Ok (Made (Aborted cause) rest)) m base o ahead 
 turned image units left start q (Err NoStep) m base o ahead on less t = on None (stuck_at image left left q q (at_start image left q) t.0 t.1)
 turned image units left start q (Err Memory) m base o ahead on less t = tt
 
-pub turned_first : (image : Image) (left : ℕ) (p : Phase) (r : Result Turn Off) (m : Machine) (base : List Object) (o : Changes) → LeadsAhead image
+pub turned_first : (image : Image) (left : ℕ) (p : Phase) (r : Result Turn Off) (m : Machine) (base : List Object) (o : Changes) → LeadsAheadOrToUnit image
     → Tries r image left p m base o → Turns r image left p m base o
 turned_first image left p r m base o ahead t = turned image left left p p r m base o ahead (λ found h. h) (omega arith) t
 
 pub turned_later : (image : Image) (units left : ℕ) (c d : Configuration) (p q : Phase) (s : Result ℕ Off) (r : Result Turn Off) (m : Machine) (base : List Object) (o : Changes)
-    → LeadsAhead image → p ≡ running c → q ≡ running d → Stretches s image units c d → s ≡ Ok left → Tries r image left q m base o → Turns r image units p m base o
+    → LeadsAheadOrToUnit image → p ≡ running c → q ≡ running d → Stretches s image units c d → s ≡ Ok left → Tries r image left q m base o → Turns r image units p m base o
 turned_later image units left c d p q s r m base o ahead e f h g t =
     let k = subst (λ x. Stretches x image units c d) g h in
     subst (λ x. Turns r image units x m base o) (sym e)

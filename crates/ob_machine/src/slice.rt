@@ -7,7 +7,7 @@ ghost use Rattle.ob_machine.specs.Phases.{phase_of, HasBegun};
 ghost use Rattle.ob_machine.specs.Slicing.{Pays, Tries, StopsSo, ComesTo, stop_told};
 ghost use Rattle.ob_machine.specs.Stretching.{Turns};
 ghost use Rattle.ob_machine.specs.Unread.{Leaves, TurnLeaves};
-ghost use Rattle.ob_machine_steps.specs.Measures.{LeadsAhead};
+ghost use Rattle.ob_machine_steps.specs.Measures.{LeadsAheadOrToUnit};
 
 use crate::machine::Machine;
 use crate::progress::Progress;
@@ -95,7 +95,7 @@ impl Machine {
         overlay: &mut Overlay,
         left: u32,
     ) -> Result<Turn, Off>
-        requires { LeadsAhead code.now }
+        requires { LeadsAheadOrToUnit code.now }
         ensures told { Turns result code.now left (phase_of self.old base.now.objects overlay.old) self.new base.now.objects overlay.new }
         ensures unread { HasToldFrames (phase_of self.old base.now.objects overlay.old) → IfOk result (λ turn. TurnLeaves turn overlay.old overlay.new (phase_of self.new base.now.objects overlay.new)) }
     {

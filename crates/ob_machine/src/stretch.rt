@@ -6,7 +6,7 @@ ghost use Rattle.ob_heap.specs.declared.object.Object.{Object};
 ghost use Rattle.ob_machine_laws.specs.Laws.{HasToldFrames};
 ghost use Rattle.ob_machine_steps.specs.Changing.{store_step};
 ghost use Rattle.ob_machine_steps.specs.Entries.{running};
-ghost use Rattle.ob_machine_steps.specs.Measures.{LeadsAhead};
+ghost use Rattle.ob_machine_steps.specs.Measures.{LeadsAheadOrToUnit};
 ghost use Rattle.ob_machine_steps.specs.Parts.{sets, goes_to};
 ghost use Rattle.ob_machine_steps.specs.Steps.{act};
 ghost use Rattle.ob_machine_steps.specs.Straight.{unit_step, copy_step, load_step, op_step, unless_step};
@@ -223,7 +223,7 @@ impl Run {
         overlay: &mut Overlay,
         units: u32,
     ) -> Result<u32, Off>
-        requires { LeadsAhead code.now }
+        requires { LeadsAheadOrToUnit code.now }
         ensures told { Stretches result code.now units (shown self.old base.now.objects overlay.old) (shown self.new base.now.objects overlay.new) }
         ensures unread { HasToldFrames (running (shown self.old base.now.objects overlay.old)) → OnOk result (KeepsUnread no_object overlay.old overlay.new × HasToldFrames (running (shown self.new base.now.objects overlay.new))) }
     {

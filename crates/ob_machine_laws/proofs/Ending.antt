@@ -6,7 +6,7 @@ use Rattle.ob_code.specs.declared.image.Image.{Image}
 use Rattle.ob_machine_steps.specs.Configurations.{End, Next, goes, stops}
 use Rattle.ob_machine_steps.specs.Entries.{MachineEntry, Phase, starting, running, next_step, HasStep}
 use Rattle.ob_machine_steps.specs.Runs.{Stop, paused, over, after_step, after_steps, GoesNoFurther, pays, waits, left_after, run_in, Slices}
-use Rattle.ob_machine_steps.specs.Measures.{longest, rest, rests, steps_left, LeadsAhead}
+use Rattle.ob_machine_steps.specs.Measures.{longest, rest, rests, steps_left, LeadsAheadOrToUnit}
 use Rattle.ob_machine_steps.specs.Outcomes.{outcome_of, outcome_at, outcome}
 use Rattle.ob_machine_laws.specs.Laws.{IsSoundRun, IsOverAfter}
 use Rattle.ob_machine_laws.proofs.Measuring.{lowers}
@@ -36,22 +36,22 @@ step_left image (running c) = some_steps ((rest image c.top + rests image c.belo
 
 -- No further.
 
-no_further_by : (image : Image) (p : Phase) (m : ℕ) (r : Option Next) → LeadsAhead image → next_step image p ≡ r → steps_left image p < suc m
+no_further_by : (image : Image) (p : Phase) (m : ℕ) (r : Option Next) → LeadsAheadOrToUnit image → next_step image p ≡ r → steps_left image p < suc m
     → ((q : Phase) → steps_left image q < m → GoesNoFurther (after_steps image m q)) → GoesNoFurther (after_step r (after_steps image m))
 no_further_by image p m None ahead e h ih = tt
 no_further_by image p m (Some (goes c)) ahead e h ih = ih (running c) (let less : steps_left image (running c) < steps_left image p = lowers image p c ahead e in omega (arith, h, less))
 no_further_by image p m (Some (stops end)) ahead e h ih = tt
 
-no_further_at : (n : ℕ) (image : Image) (p : Phase) → LeadsAhead image → steps_left image p < n → GoesNoFurther (after_steps image n p)
+no_further_at : (n : ℕ) (image : Image) (p : Phase) → LeadsAheadOrToUnit image → steps_left image p < n → GoesNoFurther (after_steps image n p)
 no_further_at zero image p ahead h = absurd (omega (arith, h))
 no_further_at (suc m) image p ahead h = no_further_by image p m (next_step image p) ahead refl h (λ q k. no_further_at m image q ahead k)
 
-pub no_further : (image : Image) (p : Phase) (n : ℕ) → LeadsAhead image → steps_left image p < n → GoesNoFurther (after_steps image n p)
+pub no_further : (image : Image) (p : Phase) (n : ℕ) → LeadsAheadOrToUnit image → steps_left image p < n → GoesNoFurther (after_steps image n p)
 no_further image p n ahead h = no_further_at n image p ahead h
 
 -- A run that is over at some time is over within its measure.
 
-over_by : (image : Image) (k : ℕ) (p : Phase) (end : End) (r : Option Next) (m : ℕ) → LeadsAhead image → next_step image p ≡ r
+over_by : (image : Image) (k : ℕ) (p : Phase) (end : End) (r : Option Next) (m : ℕ) → LeadsAheadOrToUnit image → next_step image p ≡ r
     → after_step r (after_steps image k) ≡ Some (over end) → steps_left image p ≤ m
     → ((q : Phase) (l : ℕ) → after_steps image k q ≡ Some (over end) → steps_left image q ≤ l → after_steps image l q ≡ Some (over end)) → after_steps image m p ≡ Some (over end)
 over_by image k p end None m ahead e f h ih = absurd (none_over f)
@@ -61,13 +61,13 @@ over_by image k p end (Some (goes c)) (suc m) ahead e f h ih =
 over_by image k p end (Some (stops x)) zero ahead e f h ih = absurd (let some : 0 < steps_left image p = step_left image p in omega (arith, h, some))
 over_by image k p end (Some (stops x)) (suc m) ahead e f h ih = rw e f
 
-pub over_in : (image : Image) (k : ℕ) (p : Phase) (end : End) (m : ℕ) → LeadsAhead image → after_steps image k p ≡ Some (over end) → steps_left image p ≤ m → after_steps image m p ≡ Some (over end)
+pub over_in : (image : Image) (k : ℕ) (p : Phase) (end : End) (m : ℕ) → LeadsAheadOrToUnit image → after_steps image k p ≡ Some (over end) → steps_left image p ≤ m → after_steps image m p ≡ Some (over end)
 over_in image zero p end m ahead f h = absurd (paused_over f)
 over_in image (suc k) p end m ahead f h = over_by image k p end (next_step image p) m ahead refl f h (λ q l g j. over_in image k q end l ahead g j)
 
 -- Runs that always have a next step.
 
-sound_by : (image : Image) (p : Phase) (m : ℕ) (r : Option Next) → LeadsAhead image → IsSoundRun image p → next_step image p ≡ r → steps_left image p ≤ suc m
+sound_by : (image : Image) (p : Phase) (m : ℕ) (r : Option Next) → LeadsAheadOrToUnit image → IsSoundRun image p → next_step image p ≡ r → steps_left image p ≤ suc m
     → ((q : Phase) → IsSoundRun image q → steps_left image q ≤ m → IsOverAfter image m q) → IsOverAfter image (suc m) p
 sound_by image p m None ahead sound e h ih = absurd (none_has image p e (sound.at 0 p refl))
 sound_by image p m (Some (goes c)) ahead sound e h ih =
@@ -76,17 +76,17 @@ sound_by image p m (Some (goes c)) ahead sound e h ih =
     record { end = later.end; by = rw e later.by }
 sound_by image p m (Some (stops end)) ahead sound e h ih = record { end = end; by = rw e refl }
 
-sound_over : (n : ℕ) (image : Image) (p : Phase) → LeadsAhead image → IsSoundRun image p → steps_left image p ≤ n → IsOverAfter image n p
+sound_over : (n : ℕ) (image : Image) (p : Phase) → LeadsAheadOrToUnit image → IsSoundRun image p → steps_left image p ≤ n → IsOverAfter image n p
 sound_over zero image p ahead sound h = absurd (let some : 0 < steps_left image p = step_left image p in omega (arith, h, some))
 sound_over (suc m) image p ahead sound h = sound_by image p m (next_step image p) ahead sound refl h (λ q s k. sound_over m image q ahead s k)
 
-pub run_ends : (image : Image) (p : Phase) → LeadsAhead image → IsSoundRun image p → IsOverAfter image (steps_left image p) p
+pub run_ends : (image : Image) (p : Phase) → LeadsAheadOrToUnit image → IsSoundRun image p → IsOverAfter image (steps_left image p) p
 run_ends image p ahead sound = sound_over (steps_left image p) image p ahead sound (omega arith)
 
 entry_sums : (f m : ℕ) → 0 < m → suc (suc (f * m)) ≤ suc (suc f) * m
 entry_sums f m h = grind arith
 
-pub entry_ends : (image : Image) (e : MachineEntry) (w : World) → LeadsAhead image → 0 < longest image → IsSoundRun image (starting e w) → IsOverAfter image (suc (suc w.fuel) * longest image) (starting e w)
+pub entry_ends : (image : Image) (e : MachineEntry) (w : World) → LeadsAheadOrToUnit image → 0 < longest image → IsSoundRun image (starting e w) → IsOverAfter image (suc (suc w.fuel) * longest image) (starting e w)
 entry_ends image e w ahead some sound = sound_over (suc (suc w.fuel) * longest image) image (starting e w) ahead sound (entry_sums w.fuel (longest image) some)
 
 -- Slices that stop with the run.
@@ -104,5 +104,5 @@ slice_over image zero units p end f = absurd (none_over f)
 slice_over image (suc k) units p end f =
     slice_by image k (left_after (pays image p) units) p end (waits image units p) (next_step image p) refl f (λ q g. slice_over image k (left_after (pays image p) units) q end g)
 
-pub slices_end : (image : Image) (units : ℕ) (p : Phase) (end : End) → LeadsAhead image → Slices image units p (over end) → outcome image p ≡ outcome_of end
+pub slices_end : (image : Image) (units : ℕ) (p : Phase) (end : End) → LeadsAheadOrToUnit image → Slices image units p (over end) → outcome image p ≡ outcome_of end
 slices_end image units p end ahead s = ap outcome_at (over_in image s.steps p end (steps_left image p) ahead (slice_over image s.steps units p end s.by) (omega arith))

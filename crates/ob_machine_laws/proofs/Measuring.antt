@@ -31,7 +31,7 @@ use Rattle.ob_machine_steps.specs.Calling.{Caller, caller, begun, calls_object, 
 use Rattle.ob_machine_steps.specs.Returning.{with_result, world_left, resumes, returns}
 use Rattle.ob_machine_steps.specs.Steps.{act, next_instruction}
 use Rattle.ob_machine_steps.specs.Entries.{MachineEntry, Phase, starting, running, nobody, enters, next_step}
-use Rattle.ob_machine_steps.specs.Measures.{length_of, longest_body, longest_of, longest, left_of_round, rest, rests, steps_most, steps_left, IsAheadOrUnit, LeadsAhead}
+use Rattle.ob_machine_steps.specs.Measures.{length_of, longest_body, longest_of, longest, left_of_round, rest, rests, steps_most, steps_left, IsAheadOrUnit, LeadsAheadOrToUnit}
 use Rattle.ob_machine_laws.proofs.Fetching.{none_is_some, instruction_in_body}
 use Rattle.ob_machine_laws.proofs.Fuel.{read_fuel, edit_fuel, shared_fuel, disowned_fuel, lock_fuel, unlock_fuel, left_fuel}
 
@@ -242,7 +242,7 @@ marks_below image c mark a k same =
 
 -- Instructions.
 
-act_below : (image : Image) (i : Instruction) (c : Configuration) → LeadsAhead image → next_instruction image c ≡ Some i → IsBefore image i c.top → Below image (steps_most image c) (act image i c)
+act_below : (image : Image) (i : Instruction) (c : Configuration) → LeadsAheadOrToUnit image → next_instruction image c ≡ Some i → IsBefore image i c.top → Below image (steps_most image c) (act image i c)
 act_below image ins.Unit c ahead e k = unit_step_below image c k.0
 act_below image (ins.Int to z) c ahead e k = sets_below image c to _ k
 act_below image (ins.Bool to b) c ahead e k = sets_below image c to _ k
@@ -277,7 +277,7 @@ pub within_body : (b : Option BodyCode) (place : ℕ) (i : Instruction) → (b >
 within_body None place i e = absurd (none_is_some e)
 within_body (Some b) place i e = slice_get_within b.instructions place i e
 
-step_below : (image : Image) (c : Configuration) (i : Option Instruction) → LeadsAhead image → next_instruction image c ≡ i → Below image (steps_most image c) (i >>= λ x. act image x c)
+step_below : (image : Image) (c : Configuration) (i : Option Instruction) → LeadsAheadOrToUnit image → next_instruction image c ≡ i → Below image (steps_most image c) (i >>= λ x. act image x c)
 step_below image c None ahead e = tt
 step_below image c (Some i) ahead e =
     let contract = c.top.contract in
@@ -295,9 +295,9 @@ enters_below image e None n w h = made_below image n nobody e.contract (Some e.t
 enters_below image e (Some this) n w h = object_below image n nobody e.contract e.tx this e.args w h
 
 -- the next step leaves fewer
-pub next_below : (image : Image) (p : Phase) → LeadsAhead image → Below image (steps_left image p) (next_step image p)
+pub next_below : (image : Image) (p : Phase) → LeadsAheadOrToUnit image → Below image (steps_left image p) (next_step image p)
 next_below image (starting e w) ahead = unit_below image _ w _ (λ v u. enters_below image e e.receiver _ v (start_sums (longest image) v.fuel w.fuel u))
 next_below image (running c) ahead = step_below image c (next_instruction image c) ahead refl
 
-pub lowers : (image : Image) (p : Phase) (d : Configuration) → LeadsAhead image → next_step image p ≡ Some (goes d) → steps_left image (running d) < steps_left image p
+pub lowers : (image : Image) (p : Phase) (d : Configuration) → LeadsAheadOrToUnit image → next_step image p ≡ Some (goes d) → steps_left image (running d) < steps_left image p
 lowers image p d ahead e = subst (Below image (steps_left image p)) e (next_below image p ahead)

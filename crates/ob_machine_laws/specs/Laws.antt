@@ -17,7 +17,7 @@ use Rattle.ob_code_table.specs.ImageTables.{contract_of_code, table_of_image}
 use Rattle.ob_machine_steps.specs.Configurations.{MachineFrame, Configuration, End, ended, aborted, Next, goes, stops}
 use Rattle.ob_machine_steps.specs.Entries.{MachineEntry, Phase, entry_world, starting, running, next_step, HasStep}
 use Rattle.ob_machine_steps.specs.Runs.{Stop, paused, over, after_steps, GoesNoFurther, world_of, run_in, Slices, IsSoundIn}
-use Rattle.ob_machine_steps.specs.Measures.{longest, steps_left, LeadsAhead}
+use Rattle.ob_machine_steps.specs.Measures.{longest, steps_left, LeadsAheadOrToUnit}
 use Rattle.ob_machine_steps.specs.Outcomes.{outcome_of, outcome}
 
 -- Slices.
@@ -32,7 +32,7 @@ SlicesAddUp =
 abbrev pub SlicesEndAsRuns : Type 0
 SlicesEndAsRuns =
     (image : Image) (units : ℕ) (p : Phase) (end : End)
-    → LeadsAhead image → Slices image units p (over end) → outcome image p ≡ outcome_of end
+    → LeadsAheadOrToUnit image → Slices image units p (over end) → outcome image p ≡ outcome_of end
 
 -- A slice of as many units as the run has left never waits for one.
 abbrev pub WholeSlicesEnd : Type 0
@@ -44,13 +44,13 @@ WholeSlicesEnd = (image : Image) (units : ℕ) (p q : Phase) → (world_of p).fu
 abbrev pub StepsLowerTheMeasure : Type 0
 StepsLowerTheMeasure =
     (image : Image) (p : Phase) (d : Configuration)
-    → LeadsAhead image → next_step image p ≡ Some (goes d) → steps_left image (running d) < steps_left image p
+    → LeadsAheadOrToUnit image → next_step image p ≡ Some (goes d) → steps_left image (running d) < steps_left image p
 
 -- After more steps than the measure a run goes no further.
 abbrev pub RunsGoNoFurther : Type 0
 RunsGoNoFurther =
     (image : Image) (p : Phase) (n : ℕ)
-    → LeadsAhead image → steps_left image p < n → GoesNoFurther (after_steps image n p)
+    → LeadsAheadOrToUnit image → steps_left image p < n → GoesNoFurther (after_steps image n p)
 
 -- Wherever a run is paused it has a next step.
 pub record IsSoundRun (image : Image) (p : Phase) : Type 0 where
@@ -63,13 +63,13 @@ pub record IsOverAfter (image : Image) (n : ℕ) (p : Phase) : Type 0 where
 
 -- A run that has a next step wherever it is, is over after at most as many steps as its measure says.
 abbrev pub RunsEnd : Type 0
-RunsEnd = (image : Image) (p : Phase) → LeadsAhead image → IsSoundRun image p → IsOverAfter image (steps_left image p) p
+RunsEnd = (image : Image) (p : Phase) → LeadsAheadOrToUnit image → IsSoundRun image p → IsOverAfter image (steps_left image p) p
 
 -- Such a run from an entry is over after at most two more than its units times the instructions of the longest body, where some
 -- body has an instruction.
 abbrev pub EntriesEnd : Type 0
 EntriesEnd =
-    (image : Image) (e : MachineEntry) (w : World) → LeadsAhead image → 0 < longest image
+    (image : Image) (e : MachineEntry) (w : World) → LeadsAheadOrToUnit image → 0 < longest image
     → IsSoundRun image (starting e w) → IsOverAfter image (suc (suc w.fuel) * longest image) (starting e w)
 
 -- What was read before.

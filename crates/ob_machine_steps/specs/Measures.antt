@@ -64,7 +64,7 @@ IsAheadOrUnit image contract tx place target =
     (place < target) ⊎ (instruction_at image contract tx target ≡ Some instruction.Unit)
 
 -- Each jump of an image leads ahead, or to a `unit`.
-pub record LeadsAhead (image : Image) : Type 0 where
+pub record LeadsAheadOrToUnit (image : Image) : Type 0 where
   pub jumps : (contract : ContractId) (tx : TxId) (place target : ℕ)
       → instruction_at image contract tx place ≡ Some (instruction.Jump target) → IsAheadOrUnit image contract tx place target
   pub branches : (contract : ContractId) (tx : TxId) (place a target : ℕ)

@@ -35,7 +35,7 @@ use Rattle.ob_machine_steps.specs.Configurations.{ended, aborted}
 use Rattle.ob_machine_steps.specs.Entries.{MachineEntry, Phase, started}
 use Rattle.ob_code_table.specs.ImageTables.{table_of_image}
 use Rattle.ob_machine_meaning.specs.Meanings.{machine_invocation}
-use Rattle.ob_machine_steps.specs.Measures.{steps_left, LeadsAhead}
+use Rattle.ob_machine_steps.specs.Measures.{steps_left, LeadsAheadOrToUnit}
 use Rattle.ob_machine_steps.specs.Runs.{Stop, over, run_in, after_steps, world_of}
 use Rattle.ob_machine_steps.specs.Runs as steps
 use Rattle.ob_request_run_laws.specs.Locality.{phase_onto}
@@ -370,10 +370,10 @@ slice_read image fuel c q units (paused r reads p l) so h =
 slice_read image fuel c q units (answered a) so h = h
 slice_read image fuel c q units lost so h = h
 
-slices_read : (image : Image) (fuel : ℕ) (c : Content) (q : Request) (units : List ℕ) (r : Run) → LeadsAhead image → IsSoFar image fuel c q (machine_invocation image c q fuel) r → HasReadChanges r → HasReadChanges (slices image fuel c units r)
+slices_read : (image : Image) (fuel : ℕ) (c : Content) (q : Request) (units : List ℕ) (r : Run) → LeadsAheadOrToUnit image → IsSoFar image fuel c q (machine_invocation image c q fuel) r → HasReadChanges r → HasReadChanges (slices image fuel c units r)
 slices_read image fuel c q [] r ahead so h = h
 slices_read image fuel c q (u ∷ units) r ahead so h =
     slices_read image fuel c q units (slice image fuel c u r) ahead (slice_so image fuel c q (machine_invocation image c q fuel) u r ahead so) (slice_read image fuel c q u r so h)
 
-pub requests_read_changes : (image : Image) (fuel : ℕ) (c : Content) (q : Request) (units : List ℕ) → LeadsAhead image → HasReadChanges (slices image fuel c units (opened q))
+pub requests_read_changes : (image : Image) (fuel : ℕ) (c : Content) (q : Request) (units : List ℕ) → LeadsAheadOrToUnit image → HasReadChanges (slices image fuel c units (opened q))
 requests_read_changes image fuel c q units ahead = slices_read image fuel c q units (opened q) ahead (refl, refl) tt

@@ -36,7 +36,7 @@ use Rattle.ob_machine_steps.specs.Entries.{MachineEntry, Phase, starting, starte
 use Rattle.ob_code_table.specs.ImageTables.{table_of_image}
 use Rattle.ob_machine_meaning.specs.Meanings.{machine_meaning, machine_invocation, entry_of_request}
 use Rattle.ob_machine_steps.specs.Outcomes.{outcome}
-use Rattle.ob_machine_steps.specs.Measures.{steps_left, LeadsAhead}
+use Rattle.ob_machine_steps.specs.Measures.{steps_left, LeadsAheadOrToUnit}
 use Rattle.ob_machine_steps.specs.Runs.{Stop, over, run_in, after_steps}
 use Rattle.ob_machine_steps.specs.Runs as steps
 use Rattle.ob_request_run_laws.specs.LocalityLaws.{setting}
@@ -102,7 +102,7 @@ entered_same : (image : Image) (c d : Content) (e : Entry) → IsEntryFound c d 
 entered_same image c d e found = ap (λ args. option_map (λ (tx : TxId). record (entry_of_request c e) { tx = tx; args = args }) (body_number image e.receiver e.contract e.tx)) (values_same c d e found)
 
 -- what is put in the end is there, since the content is at rest then
-pub ends_there : (image : Image) (fuel : ℕ) (c : Content) (e : Entry) (reads : List ReadItem) (m : MachineEntry) (n units : ℕ) (p : Phase) (k : ℕ) → LeadsAhead image
+pub ends_there : (image : Image) (fuel : ℕ) (c : Content) (e : Entry) (reads : List ReadItem) (m : MachineEntry) (n units : ℕ) (p : Phase) (k : ℕ) → LeadsAheadOrToUnit image
     → after_steps image k (started image m c.objects fuel) ≡ Some (steps.paused p) → KeepsStoreAtRest (table_of_image image) (invocation.ended (table_of_image image) c e reads (outcome image (started image m c.objects fuel)))
     → IsEntryOn (IsBelow (length c.objects)) c e → (o : Option Stop) → run_in image n units p ≡ o → PutsThere c e o
 ends_there image fuel c e reads m n units p k ahead reached keeps on None h = tt
@@ -121,7 +121,7 @@ ends_there image fuel c e reads m n units p k ahead reached keeps on (Some (over
 
 -- A run begins.
 
-entered_local : (image : Image) (fuel : ℕ) (items : List ReadItem) (c d : Content) (units : ℕ) (q : Request) (e : Entry) (reads : List ReadItem) → LeadsAhead image → AgreeOn items c d → IsEntryFound c d e → IsEntryOn (IsBelow (length c.objects)) c e
+entered_local : (image : Image) (fuel : ℕ) (items : List ReadItem) (c d : Content) (units : ℕ) (q : Request) (e : Entry) (reads : List ReadItem) → LeadsAheadOrToUnit image → AgreeOn items c d → IsEntryFound c d e → IsEntryOn (IsBelow (length c.objects)) c e
     → KeepsStoreAtRest (table_of_image image) (invocation.ended (table_of_image image) c e reads (run_entry (machine_meaning image) c fuel e)) → (o : Option MachineEntry) → entered image c e ≡ o
     → SameRun items (with_thing o (λ m. sliced image c units q e reads (started image m c.objects fuel))) (with_thing o (λ m. sliced image d units q e reads (started image m d.objects fuel)))
 entered_local image fuel items c d units q e reads ahead a found on keeps None h right all = absurd (right tt)
@@ -137,7 +137,7 @@ outside_run table n reads x =
     let state = option_and_then (λ (o : Object). o.state) x in
     unchanged (reply.aborted (by_state n state) ((x >>= λ (o : Object). contract_at table o.contract) >>= λ (k : Contract). state >>= state_name k)) 0 reads
 
-tested_local : (image : Image) (fuel : ℕ) (items : List ReadItem) (c d : Content) (units : ℕ) (q : Request) (e : Entry) (reads : List ReadItem) → LeadsAhead image → AgreeOn items c d → IsEntryFound c d e → IsEntryOn (IsBelow (length c.objects)) c e
+tested_local : (image : Image) (fuel : ℕ) (items : List ReadItem) (c d : Content) (units : ℕ) (q : Request) (e : Entry) (reads : List ReadItem) → LeadsAheadOrToUnit image → AgreeOn items c d → IsEntryFound c d e → IsEntryOn (IsBelow (length c.objects)) c e
     → (o : Option HandleUse) → first_outside_use (table_of_image image) c e ≡ o → KeepsStoreAtRest (table_of_image image) (invocation.after_entry_test (machine_meaning image) (table_of_image image) c fuel e reads o)
     → SameRun items (after_entry_test image fuel c units q e reads o) (after_entry_test image fuel d units q e reads o)
 tested_local image fuel items c d units q e reads ahead a found on (Some u) h keeps right all = ap (outside_run (table_of_image image) u.handle.object reads) (outside_found (table_of_image image) c d e u found h)
@@ -145,7 +145,7 @@ tested_local image fuel items c d units q e reads ahead a found on None h keeps 
     ap (λ o. with_thing o (λ m. sliced image d units q e reads (started image m d.objects fuel))) (entered_same image c d e found)
     ∙ entered_local image fuel items c d units q e reads ahead a found on keeps (entered image c e) refl right all
 
-enters_local : (image : Image) (fuel : ℕ) (items : List ReadItem) (c d : Content) (units : ℕ) (q : Request) (e : Entry) (reads : List ReadItem) → LeadsAhead image → AgreeOn items c d → IsEntryFound c d e → IsEntryOn (IsBelow (length c.objects)) c e
+enters_local : (image : Image) (fuel : ℕ) (items : List ReadItem) (c d : Content) (units : ℕ) (q : Request) (e : Entry) (reads : List ReadItem) → LeadsAheadOrToUnit image → AgreeOn items c d → IsEntryFound c d e → IsEntryOn (IsBelow (length c.objects)) c e
     → KeepsStoreAtRest (table_of_image image) (enter_entry (machine_meaning image) (table_of_image image) c fuel reads e) → SameRun items (enters image fuel c units q reads e) (enters image fuel d units q reads e)
 enters_local image fuel items c d units q e reads ahead a found on keeps right all =
     ap (after_entry_test image fuel d units q e reads) (outside_use_same (table_of_image image) c d e found)
@@ -170,7 +170,7 @@ keeps_found : {A : Type 0} (table : ClassTable) (o : Option A) (go : A → Invoc
 keeps_found table None go a e h = absurd (none_is_some e)
 keeps_found table (Some b) go a e h = subst (λ x. KeepsStoreAtRest table (go x)) (some_is b a e) h
 
-begins_local : (image : Image) (fuel : ℕ) (items : List ReadItem) (c d : Content) (units : ℕ) (q : Request) (cs ds : List Check) (o : Option Entry) → LeadsAhead image → AgreeOn items c d → EachSame items cs ds
+begins_local : (image : Image) (fuel : ℕ) (items : List ReadItem) (c d : Content) (units : ℕ) (q : Request) (cs ds : List Check) (o : Option Entry) → LeadsAheadOrToUnit image → AgreeOn items c d → EachSame items cs ds
     → (refusal_of cs ≡ None → AllRead (reads_of cs) items → (e : Entry) → o ≡ Some e → IsEntryFound c d e) → ((e : Entry) → o ≡ Some e → IsEntryOn (IsBelow (length c.objects)) c e)
     → KeepsStoreAtRest (table_of_image image) (checks.unless_refused c cs (λ reads. with_found o (enter_entry (machine_meaning image) (table_of_image image) c fuel reads)))
     → SameRun items (begins image fuel c units q cs o) (begins image fuel d units q ds o)
@@ -279,7 +279,7 @@ owner_same items table c d h r a before after there none (Some p) e right all =
 
 -- Each kind of request.
 
-call_local : (image : Image) (fuel : ℕ) (items : List ReadItem) (c d : Content) (units : ℕ) (who : List ℕ) (r : CallRequest) → LeadsAhead image → IsStoreAtRest (table_of_image image) c
+call_local : (image : Image) (fuel : ℕ) (items : List ReadItem) (c d : Content) (units : ℕ) (who : List ℕ) (r : CallRequest) → LeadsAheadOrToUnit image → IsStoreAtRest (table_of_image image) c
     → KeepsStoreAtRest (table_of_image image) (machine_invocation image c (record { who = who; operation = call_request r }) fuel) → AgreeOn items c d
     → SameRun items (opens image fuel c units (record { who = who; operation = call_request r }) (call_request r)) (opens image fuel d units (record { who = who; operation = call_request r }) (call_request r))
 call_local image fuel items c d units who r ahead rest keeps a right all =
@@ -292,7 +292,7 @@ call_local image fuel items c d units who r ahead rest keeps a right all =
     ∙ begins_local image fuel items c d units q cs (call_checks table d who r) (entry_of_call table c who r) ahead a (call_checks_same items table c d who r a) (λ passed had e is. call_entry_found items table c d who r e a passed had is)
     (λ e is. call_on (IsBelow (length c.objects)) table c who r e (handles_below table c rest) is) keeps right all
 
-pub opens_local : (image : Image) (fuel : ℕ) (items : List ReadItem) (c d : Content) (units : ℕ) (who : List ℕ) (operation : Operation) → LeadsAhead image → IsStoreAtRest (table_of_image image) c
+pub opens_local : (image : Image) (fuel : ℕ) (items : List ReadItem) (c d : Content) (units : ℕ) (who : List ℕ) (operation : Operation) → LeadsAheadOrToUnit image → IsStoreAtRest (table_of_image image) c
     → KeepsStoreAtRest (table_of_image image) (machine_invocation image c (record { who = who; operation = operation }) fuel) → AgreeOn items c d → OwnsAlike (table_of_image image) c d who operation
     → SameRun items (opens image fuel c units (record { who = who; operation = operation }) operation) (opens image fuel d units (record { who = who; operation = operation }) operation)
 opens_local image fuel items c d units who (new_request r) ahead rest keeps a owns =

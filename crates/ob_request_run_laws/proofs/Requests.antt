@@ -11,7 +11,7 @@ use Rattle.ob_code.specs.declared.image.Image.{Image}
 use Rattle.ob_machine_steps.specs.Entries.{Phase}
 use Rattle.ob_code_table.specs.ImageTables.{table_of_image}
 use Rattle.ob_machine_meaning.specs.Meanings.{machine_invocation}
-use Rattle.ob_machine_steps.specs.Measures.{steps_left, LeadsAhead}
+use Rattle.ob_machine_steps.specs.Measures.{steps_left, LeadsAheadOrToUnit}
 use Rattle.ob_machine_steps.specs.Runs.{Stop, run_in, world_of}
 use Rattle.ob_request_run_laws.specs.LocalityLaws.{setting}
 use Rattle.ob_request_run_laws.specs.Locality.{Setting, Alike, phase_onto, reads_of_stop, IsGoodPhase}
@@ -58,7 +58,7 @@ asked_by image items c d who (owner_request on) reads e rest a asked all = absur
 
 -- A run goes on.
 
-paused_local : (image : Image) (fuel : ℕ) (items : List ReadItem) (c d : Content) (units : ℕ) (q : Request) (i : Invocation) (reads : List ReadItem) (p : Phase) (h : Held) → LeadsAhead image → IsStoreAtRest (table_of_image image) c
+paused_local : (image : Image) (fuel : ℕ) (items : List ReadItem) (c d : Content) (units : ℕ) (q : Request) (i : Invocation) (reads : List ReadItem) (p : Phase) (h : Held) → LeadsAheadOrToUnit image → IsStoreAtRest (table_of_image image) c
     → KeepsStoreAtRest (table_of_image image) i → AgreeOn items c d → (x : IsPause image fuel c q i q reads p h) → AllRead reads items
     → SameRun items (sliced image c units q x.entry reads (phase_onto (laid_over c.objects h) p)) (slice image fuel d units (paused q reads p h))
 paused_local image fuel items c d units q i reads p h ahead rest keeps a x read right all =
@@ -106,7 +106,7 @@ slice_grows image fuel c q i units (answered a) h right = all_read_self a.reads
 slice_grows image fuel c q i units lost h right = all_read_self []
 
 -- one slice
-slice_local : (image : Image) (fuel : ℕ) (items : List ReadItem) (c d : Content) (q : Request) (units : ℕ) (r : Run) → LeadsAhead image → IsStoreAtRest (table_of_image image) c → KeepsStoreAtRest (table_of_image image) (machine_invocation image c q fuel)
+slice_local : (image : Image) (fuel : ℕ) (items : List ReadItem) (c d : Content) (q : Request) (units : ℕ) (r : Run) → LeadsAheadOrToUnit image → IsStoreAtRest (table_of_image image) c → KeepsStoreAtRest (table_of_image image) (machine_invocation image c q fuel)
     → AgreeOn items c d → OwnsAlike (table_of_image image) c d q.who q.operation → IsSoFar image fuel c q (machine_invocation image c q fuel) r → SameRun items (slice image fuel c units r) (slice image fuel d units r)
 slice_local image fuel items c d q units (opened r) ahead rest keeps a owns h =
     subst (λ y. SameRun items (slice image fuel c units (opened y)) (slice image fuel d units (opened y))) (sym h.0) (opens_local image fuel items c d units q.who q.operation ahead rest keeps a owns)
@@ -131,7 +131,7 @@ lost_stays image fuel c (u ∷ units) (paused q reads p l) h = absurd h
 lost_stays image fuel c (u ∷ units) (answered a) h = absurd h
 lost_stays image fuel c (u ∷ units) lost h = lost_stays image fuel c units lost h
 
-slices_grow : (image : Image) (fuel : ℕ) (c : Content) (q : Request) (i : Invocation) (units : List ℕ) (r : Run) → LeadsAhead image → IsSoFar image fuel c q i r → Grows (reads_of_run r) (slices image fuel c units r)
+slices_grow : (image : Image) (fuel : ℕ) (c : Content) (q : Request) (i : Invocation) (units : List ℕ) (r : Run) → LeadsAheadOrToUnit image → IsSoFar image fuel c q i r → Grows (reads_of_run r) (slices image fuel c units r)
 slices_grow image fuel c q i [] r ahead h right = all_read_self (reads_of_run r)
 slices_grow image fuel c q i (u ∷ units) r ahead h right =
     let next = slice image fuel c u r in
@@ -146,7 +146,7 @@ agree_less a b c d h g = record {
   full = λ k. g.full (h _ k);
 }
 
-slices_local : (image : Image) (fuel : ℕ) (c d : Content) (q : Request) (units : List ℕ) (r : Run) → LeadsAhead image → IsStoreAtRest (table_of_image image) c → KeepsStoreAtRest (table_of_image image) (machine_invocation image c q fuel)
+slices_local : (image : Image) (fuel : ℕ) (c d : Content) (q : Request) (units : List ℕ) (r : Run) → LeadsAheadOrToUnit image → IsStoreAtRest (table_of_image image) c → KeepsStoreAtRest (table_of_image image) (machine_invocation image c q fuel)
     → AgreeOn (reads_of_run (slices image fuel c units r)) c d → OwnsAlike (table_of_image image) c d q.who q.operation → IsSoFar image fuel c q (machine_invocation image c q fuel) r → ¬ (IsLost (slices image fuel c units r))
     → slices image fuel d units r ≡ slices image fuel c units r
 slices_local image fuel c d q [] r ahead rest keeps a owns h right = refl
@@ -163,7 +163,7 @@ not_lost image fuel c q i (paused x reads p y) keeps h l = l
 not_lost image fuel c q i (answered a) keeps h l = l
 not_lost image fuel c q i lost keeps h l = subst (KeepsStoreAtRest (table_of_image image)) h keeps
 
-pub requests_are_local : (image : Image) (fuel : ℕ) (c d : Content) (q : Request) (units : List ℕ) → LeadsAhead image → IsStoreAtRest (table_of_image image) c
+pub requests_are_local : (image : Image) (fuel : ℕ) (c d : Content) (q : Request) (units : List ℕ) → LeadsAheadOrToUnit image → IsStoreAtRest (table_of_image image) c
     → KeepsStoreAtRest (table_of_image image) (machine_invocation image c q fuel) → AgreeOn (reads_of_run (slices image fuel c units (opened q))) c d → OwnsAlike (table_of_image image) c d q.who q.operation
     → slices image fuel d units (opened q) ≡ slices image fuel c units (opened q)
 requests_are_local image fuel c d q units ahead rest keeps a owns =

@@ -27,7 +27,7 @@ use Rattle.ob_code_table.specs.Images.{constructor_of}
 use Rattle.ob_code_table.specs.ImageTables.{table_of_image}
 use Rattle.ob_machine_meaning.specs.Meanings.{machine_meaning, machine_invocation, entry_of_request}
 use Rattle.ob_machine_steps.specs.Outcomes.{outcome_of, outcome_at, outcome, entry_outcome, entry_of_constructor}
-use Rattle.ob_machine_steps.specs.Measures.{steps_left, LeadsAhead}
+use Rattle.ob_machine_steps.specs.Measures.{steps_left, LeadsAheadOrToUnit}
 use Rattle.ob_machine_steps.specs.Runs.{Stop, over, after_steps, run_in, world_of}
 use Rattle.ob_machine_steps.specs.Runs as steps
 use Rattle.ob_machine_laws.proofs.Ending.{over_in}
@@ -95,11 +95,11 @@ end_so : (image : Image) (fuel : ℕ) (c : Content) (q : Request) (e : Entry) (m
 end_so image fuel c q e m reads k (machine.ended result w) h = put_is c _ (puts_after c e result) w reads (ended_stands image m c.objects fuel k result w h)
 end_so image fuel c q e m reads k (machine.aborted cause s) h = unchanged_is c _ s.taken (s.reads ++ reads)
 
-pub outcome_is : (image : Image) (p : Phase) (k : ℕ) (x : End) → LeadsAhead image → after_steps image k p ≡ Some (over x) → outcome image p ≡ outcome_of x
+pub outcome_is : (image : Image) (p : Phase) (k : ℕ) (x : End) → LeadsAheadOrToUnit image → after_steps image k p ≡ Some (over x) → outcome image p ≡ outcome_of x
 outcome_is image p k x ahead h = ap outcome_at (over_in image k p x (steps_left image p) ahead h (let e : steps_left image p ≤ steps_left image p = omega arith in e))
 
 -- without a place to stop within its measure a run goes wrong
-none_wrong : (image : Image) (s p : Phase) (k units : ℕ) → LeadsAhead image → after_steps image k s ≡ Some (steps.paused p) → run_in image (steps_left image p) units p ≡ None → (o : Option Stop) → after_steps image (steps_left image s) s ≡ o
+none_wrong : (image : Image) (s p : Phase) (k units : ℕ) → LeadsAheadOrToUnit image → after_steps image k s ≡ Some (steps.paused p) → run_in image (steps_left image p) units p ≡ None → (o : Option Stop) → after_steps image (steps_left image s) s ≡ o
     → outcome_at o ≡ wrong
 none_wrong image s p k units ahead h none None e = refl
 none_wrong image s p k units ahead h none (Some (steps.paused q)) e = refl
@@ -109,7 +109,7 @@ none_wrong image s p k units ahead h none (Some (over x)) e =
 
 -- A slice.
 
-sliced_so : (image : Image) (fuel : ℕ) (c : Content) (q : Request) (units : ℕ) (i : Invocation) (e : Entry) (m : MachineEntry) (reads : List ReadItem) (k : ℕ) (p : Phase) → LeadsAhead image
+sliced_so : (image : Image) (fuel : ℕ) (c : Content) (q : Request) (units : ℕ) (i : Invocation) (e : Entry) (m : MachineEntry) (reads : List ReadItem) (k : ℕ) (p : Phase) → LeadsAheadOrToUnit image
     → IsAsked image c q reads e → i ≡ ended (table_of_image image) c e reads (outcome image (started image m c.objects fuel))
     → after_steps image k (started image m c.objects fuel) ≡ Some (steps.paused p) → (o : Option Stop) → run_in image (steps_left image p) units p ≡ o → IsSoFar image fuel c q i (stops_so (table_of_image image) c q e reads o)
 sliced_so image fuel c q units i e m reads k p ahead asked is h None none =
@@ -172,18 +172,18 @@ runs_none image c fuel e None h = by (constructor_of image e.contract) h
     by (Some tx) g = absurd (some_is_none g)
 runs_none image c fuel e (Some u) h = absurd (some_is_none h)
 
-entered_so : (image : Image) (fuel : ℕ) (c : Content) (q : Request) (units : ℕ) (e : Entry) (reads : List ReadItem) → LeadsAhead image → IsAsked image c q reads e → (o : Option MachineEntry) → entered image c e ≡ o
+entered_so : (image : Image) (fuel : ℕ) (c : Content) (q : Request) (units : ℕ) (e : Entry) (reads : List ReadItem) → LeadsAheadOrToUnit image → IsAsked image c q reads e → (o : Option MachineEntry) → entered image c e ≡ o
     → IsSoFar image fuel c q (ended (table_of_image image) c e reads (run_entry (machine_meaning image) c fuel e)) (with_thing o (λ m. sliced image c units q e reads (started image m c.objects fuel)))
 entered_so image fuel c q units e reads ahead asked None h = ap (ended (table_of_image image) c e reads) (runs_none image c fuel e e.receiver h)
 entered_so image fuel c q units e reads ahead asked (Some m) h =
     sliced_so image fuel c q units _ e m reads 0 (started image m c.objects fuel) ahead asked (ap (ended (table_of_image image) c e reads) (runs_on image c fuel e e.receiver m h)) refl _ refl
 
-tested_so : (image : Image) (fuel : ℕ) (c : Content) (q : Request) (units : ℕ) (e : Entry) (reads : List ReadItem) → LeadsAhead image → IsAsked image c q reads e → (o : Option HandleUse)
+tested_so : (image : Image) (fuel : ℕ) (c : Content) (q : Request) (units : ℕ) (e : Entry) (reads : List ReadItem) → LeadsAheadOrToUnit image → IsAsked image c q reads e → (o : Option HandleUse)
     → IsSoFar image fuel c q (after_entry_test (machine_meaning image) (table_of_image image) c fuel e reads o) (run.after_entry_test image fuel c units q e reads o)
 tested_so image fuel c q units e reads ahead asked None = entered_so image fuel c q units e reads ahead asked (entered image c e) refl
 tested_so image fuel c q units e reads ahead asked (Some u) = unchanged_is c _ 0 reads
 
-begins_so : (image : Image) (fuel : ℕ) (c : Content) (q : Request) (units : ℕ) (checks : List Check) (o : Option Entry) → LeadsAhead image → checks_of (table_of_image image) c q.who q.operation ≡ checks
+begins_so : (image : Image) (fuel : ℕ) (c : Content) (q : Request) (units : ℕ) (checks : List Check) (o : Option Entry) → LeadsAheadOrToUnit image → checks_of (table_of_image image) c q.who q.operation ≡ checks
     → entry_of (table_of_image image) c q.who q.operation ≡ o
     → IsSoFar image fuel c q (unless_refused c checks (λ reads. with_found o (enter_entry (machine_meaning image) (table_of_image image) c fuel reads))) (begins image fuel c units q checks o)
 begins_so image fuel c q units checks o ahead all found = unless_so image fuel c q checks _ _ (λ passed. with_so image fuel c q o _ _ (λ e is.
@@ -197,7 +197,7 @@ owner_so : (image : Image) (fuel : ℕ) (c : Content) (q : Request) (reads : Lis
 owner_so image fuel c q reads None = unchanged_is c _ 0 reads
 owner_so image fuel c q reads (Some r) = with_so image fuel c q (shown_place (table_of_image image) c.objects r.place) _ _ (λ place is. unchanged_is c _ 0 (place_item r.place ∷ reads))
 
-opens_so : (image : Image) (fuel : ℕ) (c : Content) (who : List ℕ) (operation : Operation) (units : ℕ) → LeadsAhead image
+opens_so : (image : Image) (fuel : ℕ) (c : Content) (who : List ℕ) (operation : Operation) (units : ℕ) → LeadsAheadOrToUnit image
     → IsSoFar image fuel c (record { who = who; operation = operation }) (machine_invocation image c (record { who = who; operation = operation }) fuel) (opens image fuel c units (record { who = who; operation = operation }) operation)
 opens_so image fuel c who (new_request r) units ahead =
     begins_so image fuel c (record { who = who; operation = new_request r }) units (new_checks (table_of_image image) c who r) (entry_of_new (table_of_image image) who r) ahead refl refl
@@ -221,7 +221,7 @@ opens_so image fuel c who (owner_request on) units ahead =
 
 -- Slices one after another.
 
-goes_on_so : (image : Image) (fuel : ℕ) (c : Content) (q : Request) (units : ℕ) (i : Invocation) (reads : List ReadItem) (p : Phase) (h : Held) → LeadsAhead image → (a : IsPause image fuel c q i q reads p h) → (o : Option Entry)
+goes_on_so : (image : Image) (fuel : ℕ) (c : Content) (q : Request) (units : ℕ) (i : Invocation) (reads : List ReadItem) (p : Phase) (h : Held) → LeadsAheadOrToUnit image → (a : IsPause image fuel c q i q reads p h) → (o : Option Entry)
     → entry_of (table_of_image image) c q.who q.operation ≡ o → IsSoFar image fuel c q i (with_thing o (λ e. sliced image c units q e reads (phase_onto (laid_over c.objects h) p)))
 goes_on_so image fuel c q units i reads p h ahead a None found = absurd (none_is_some (sym found ∙ a.asked.found))
 goes_on_so image fuel c q units i reads p h ahead a (Some e) found =
@@ -229,7 +229,7 @@ goes_on_so image fuel c q units i reads p h ahead a (Some e) found =
     sliced_so image fuel c q units i e a.start reads a.number (phase_onto (laid_over c.objects h) p) ahead (subst (IsAsked image c q reads) same a.asked)
     (a.is ∙ ap (λ x. ended (table_of_image image) c x reads (outcome image (started image a.start c.objects fuel))) same) a.reaches _ refl
 
-pub slice_so : (image : Image) (fuel : ℕ) (c : Content) (q : Request) (i : Invocation) (units : ℕ) (r : Run) → LeadsAhead image → IsSoFar image fuel c q i r → IsSoFar image fuel c q i (slice image fuel c units r)
+pub slice_so : (image : Image) (fuel : ℕ) (c : Content) (q : Request) (i : Invocation) (units : ℕ) (r : Run) → LeadsAheadOrToUnit image → IsSoFar image fuel c q i r → IsSoFar image fuel c q i (slice image fuel c units r)
 slice_so image fuel c q i units (opened r) ahead h =
     subst (λ x. IsSoFar image fuel c q i (opens image fuel c units x x.operation)) (sym h.0) (subst (λ j. IsSoFar image fuel c q j (opens image fuel c units q q.operation)) (sym h.1) (opens_so image fuel c q.who q.operation units ahead))
 slice_so image fuel c q i units (paused r reads p l) ahead h =
@@ -238,7 +238,7 @@ slice_so image fuel c q i units (paused r reads p l) ahead h =
 slice_so image fuel c q i units (answered a) ahead h = h
 slice_so image fuel c q i units lost ahead h = h
 
-pub slices_so : (image : Image) (fuel : ℕ) (c : Content) (q : Request) (i : Invocation) (units : List ℕ) (r : Run) → LeadsAhead image → IsSoFar image fuel c q i r → IsSoFar image fuel c q i (slices image fuel c units r)
+pub slices_so : (image : Image) (fuel : ℕ) (c : Content) (q : Request) (i : Invocation) (units : List ℕ) (r : Run) → LeadsAheadOrToUnit image → IsSoFar image fuel c q i r → IsSoFar image fuel c q i (slices image fuel c units r)
 slices_so image fuel c q i [] r ahead h = h
 slices_so image fuel c q i (u ∷ units) r ahead h = slices_so image fuel c q i units (slice image fuel c u r) ahead (slice_so image fuel c q i u r ahead h)
 
@@ -248,5 +248,5 @@ comes_to image fuel c q i (paused r reads p l) h = tt
 comes_to image fuel c q i (answered a) h = h
 comes_to image fuel c q i lost h = h
 
-pub slices_come_to : (image : Image) (fuel : ℕ) (c : Content) (q : Request) (units : List ℕ) → LeadsAhead image → ComesTo c (machine_invocation image c q fuel) (slices image fuel c units (opened q))
+pub slices_come_to : (image : Image) (fuel : ℕ) (c : Content) (q : Request) (units : List ℕ) → LeadsAheadOrToUnit image → ComesTo c (machine_invocation image c q fuel) (slices image fuel c units (opened q))
 slices_come_to image fuel c q units ahead = comes_to image fuel c q _ (slices image fuel c units (opened q)) (slices_so image fuel c q _ units (opened q) ahead (refl, refl))

@@ -13,7 +13,7 @@ use Rattle.ob_invocation_spec.specs.Replies.{Invocation, invoked, goes_wrong}
 use Rattle.ob_invocation_spec.specs.Requests.{Operation, owner_request, Request}
 use Rattle.ob_invocation_laws.specs.Laws.{KeepsStoreAtRest}
 use Rattle.ob_code.specs.declared.image.Image.{Image}
-use Rattle.ob_machine_steps.specs.Measures.{LeadsAhead}
+use Rattle.ob_machine_steps.specs.Measures.{LeadsAheadOrToUnit}
 use Rattle.ob_machine_meaning.specs.Meanings.{machine_invocation}
 use Rattle.ob_code_table.specs.ImageTables.{table_of_image}
 use Rattle.ob_machine_steps.specs.Runs.{world_of}
@@ -33,7 +33,7 @@ ComesTo c i lost = i ≡ goes_wrong
 -- its units and its reads. It is lost only where that goes wrong.
 abbrev pub SlicesComeToTheInvocation : Type 0
 SlicesComeToTheInvocation =
-    (image : Image) (fuel : ℕ) (c : Content) (q : Request) (units : List ℕ) → LeadsAhead image
+    (image : Image) (fuel : ℕ) (c : Content) (q : Request) (units : List ℕ) → LeadsAheadOrToUnit image
     → ComesTo c (machine_invocation image c q fuel) (slices image fuel c units (opened q))
 
 -- a run has ended: it has been answered, or is lost
@@ -70,7 +70,7 @@ OwnsAlike table c d who operation = ⊤
 abbrev pub RequestsAreLocal : Type 0
 RequestsAreLocal =
     (image : Image) (fuel : ℕ) (c d : Content) (q : Request) (units : List ℕ)
-    → LeadsAhead image → IsStoreAtRest (table_of_image image) c → KeepsStoreAtRest (table_of_image image) (machine_invocation image c q fuel)
+    → LeadsAheadOrToUnit image → IsStoreAtRest (table_of_image image) c → KeepsStoreAtRest (table_of_image image) (machine_invocation image c q fuel)
     → AgreeOn (reads_of_run (slices image fuel c units (opened q))) c d → OwnsAlike (table_of_image image) c d q.who q.operation
     → slices image fuel d units (opened q) ≡ slices image fuel c units (opened q)
 
@@ -94,7 +94,7 @@ HasReadChanges lost = ⊤
 -- So has each run of a request on one content, in any slices.
 abbrev pub RequestsReadChanges : Type 0
 RequestsReadChanges =
-    (image : Image) (fuel : ℕ) (c : Content) (q : Request) (units : List ℕ) → LeadsAhead image
+    (image : Image) (fuel : ℕ) (c : Content) (q : Request) (units : List ℕ) → LeadsAheadOrToUnit image
     → HasReadChanges (slices image fuel c units (opened q))
 
 -- What differs between a content and one after a request is among these items: objects of the first, the next number, handles.

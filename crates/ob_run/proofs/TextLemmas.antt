@@ -8,7 +8,7 @@ use Rattle.ob_table.specs.Tables.{ClassTable}
 use Rattle.ob_silica.specs.Terms.{SilicaBody}
 use Rattle.ob_lexer.specs.Flaws.{HasFault, too_long, no_utf8, flawed}
 use Rattle.ob_front.specs.Stages.{at_token, at_row, HasTableFault, at_tree, at_type, at_site}
-use Rattle.ob_front.specs.Programs.{HasTermsFault, at_table, at_slot, IsProgram, HasTextFault, at_terms, at_while, at_premise, at_weight}
+use Rattle.ob_front.specs.Programs.{HasTermsFault, at_table, at_slot, IsProgram, HasTextFault, at_terms, at_premise, at_weight}
 use Rattle.ob_serve.specs.Served.{Devices, IsToldAs}
 use Rattle.ob_serve.specs.declared.serving.Served.{Served}
 use Rattle.ob_serve.specs.declared.serving.Served.TheVariants as ended
@@ -43,8 +43,7 @@ module _ (content : List ℕ) (long : longest_program < length (take most_read c
 
   too_long_text : (fault : ProgramFault) → HasTextFault (take most_read content) fault → HasTextFault content fault
   too_long_text fault (at_terms has) = at_terms (too_long_terms fault has)
-  too_long_text fault (at_while table bodies terms has) = absurd (long_and_short (take most_read content) long has.spelled.short)
-  too_long_text fault (at_premise table bodies terms none fails) = absurd (long_and_short (take most_read content) long terms.has.resolved.is.of.spelled.short)
+  too_long_text fault (at_premise table bodies terms fails) = absurd (long_and_short (take most_read content) long terms.has.resolved.is.of.spelled.short)
   too_long_text fault (at_weight table bodies checked heavy) = absurd (long_and_short (take most_read content) long checked.terms.has.resolved.is.of.spelled.short)
 
   too_long_refusal : (bytes : List ℕ) → IsRefusal (take most_read content) bytes → IsRefusal content bytes

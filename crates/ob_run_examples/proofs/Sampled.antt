@@ -1,6 +1,6 @@
 -- The tests of the vending machine's text, computed.
 use Rattle.std.proofs.Common.{ℕ, ◌≡◌, nat_le, true, length, refl}
-use Rattle.std.specs.Prelude.{flat_map, is_none}
+use Rattle.std.specs.Prelude.{flat_map}
 use Rattle.std.specs.Str.{is_utf8, chars}
 use Rattle.ob_base.specs.Limits.{most_slots, longest_program, most_open}
 use Rattle.ob_perm.specs.Masks.{states_of}
@@ -13,7 +13,6 @@ use Rattle.ob_format_spec.specs.Texts.{text}
 use Rattle.ob_code.specs.Images.{mode, permission, reference, type_code, reference_param, param, result_type, field, body, contract, image}
 use Rattle.ob_emit_spec.specs.Weights.{most_weight, weight}
 use Rattle.ob_store_spec.specs.Settling.{is_empty}
-use Rattle.ob_front.specs.Loops.{first_while}
 use Rattle.ob_run.specs.VendingMachine.{vending_machine}
 use Rattle.ob_run_examples.proofs.Lexing.{reading}
 use Rattle.ob_run_examples.proofs.Testing.{tokens, tree, table, bodies, is_read, are_plain, are_lowered, do_derive, Passes}
@@ -55,10 +54,6 @@ lowered : are_lowered (table many vending_machine) (table many vending_machine).
 unfolding tokens tree table most_slots states_max states_of word_of all_refs all_unary all_branches
 lowered = refl
 
-no_while : is_none (first_while (tokens many vending_machine)) ≡ true
-unfolding tokens word_of
-no_while = refl
-
 derive : do_derive (table many vending_machine) (bodies many vending_machine) ≡ true
 unfolding tokens tree table bodies most_slots states_max states_of word_of all_refs all_unary all_branches
 derive = refl
@@ -68,4 +63,4 @@ unfolding tokens tree table bodies most_slots states_max states_of word_of all_r
 light = refl
 
 pub passes : Passes many vending_machine
-passes = record { short = short; utf8 = utf8; to_end = to_end; read = read; plain = plain; unapplied = unapplied; clean = clean; lowered = lowered; no_while = no_while; derive = derive; light = light }
+passes = record { short = short; utf8 = utf8; to_end = to_end; read = read; plain = plain; unapplied = unapplied; clean = clean; lowered = lowered; derive = derive; light = light }

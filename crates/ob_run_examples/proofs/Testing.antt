@@ -6,7 +6,6 @@ use Rattle.std.proofs.lemmas.Bool.{true≢false, and_parts, leb-true}
 use Rattle.std.proofs.lemmas.List.Elements.{All-cons}
 use Rattle.std.proofs.lemmas.Str.{IsUtf8-from_is_utf8}
 use Rattle.ob_base.specs.Limits.{longest_program, most_open}
-use Rattle.ob_lexer.specs.Lexis.{HasTokens}
 use Rattle.ob_lexer.specs.declared.token.Token.{Token}
 use Rattle.ob_tree.specs.Members.{Contract}
 use Rattle.ob_parser_spec.specs.AllReaders.{all_programs}
@@ -28,7 +27,6 @@ use Rattle.ob_flow_spec.specs.Deriving.{derive_body, Derives}
 use Rattle.ob_emit_spec.specs.Weights.{most_weight, weight}
 use Rattle.ob_front.specs.Lowered.{AreLoweredTo}
 use Rattle.ob_front.specs.Stages.{HasTable}
-use Rattle.ob_front.specs.Loops.{first_while, HasNoWhile}
 use Rattle.ob_front.specs.Programs.{IsProgram, IsAccepted}
 use Rattle.ob_run_examples.proofs.Lexing.{reading, lexed, has_tokens}
 
@@ -148,14 +146,10 @@ pub record Passes (n : ℕ) (text : List ℕ) : Type 0 where
   pub unapplied : is_empty (flat_map arguments_in_contract (tree n text)) ≡ true
   pub clean : is_empty (faults_of (tree n text)) ≡ true
   pub lowered : are_lowered (table n text) (table n text).bodies ≡ true
-  pub no_while : is_none (first_while (tokens n text)) ≡ true
   pub derive : do_derive (table n text) (bodies n text) ≡ true
   pub light : nat_le (weight (table n text) (bodies n text)) most_weight ≡ true
 
 module _ (n : ℕ) (text : List ℕ) (passes : Passes n text) where
-  spelled : HasTokens text (lexed n text)
-  spelled = has_tokens n text (leb-true (length text) longest_program passes.short) (IsUtf8-from_is_utf8 text passes.utf8) (nothing (reading n text).rest passes.to_end)
-
   has_tree : HasTree (tokens n text) (tree n text)
   unfolding tree
   has_tree = tree_there (tokens n text) (tree n text) (all_read (all_programs most_open (tokens n text)) passes.read)
@@ -175,7 +169,7 @@ module _ (n : ℕ) (text : List ℕ) (passes : Passes n text) where
         tree = tree n text;
         of = record {
           lexed = lexed n text;
-          spelled = spelled;
+          spelled = has_tokens n text (leb-true (length text) longest_program passes.short) (IsUtf8-from_is_utf8 text passes.utf8) (nothing (reading n text).rest passes.to_end);
           parsed = has_tree;
         };
         right = no_type_fault (tree n text) has_no_generics;
@@ -186,16 +180,11 @@ module _ (n : ℕ) (text : List ℕ) (passes : Passes n text) where
     is = refl;
   }
 
-  has_no_while : HasNoWhile text
-  unfolding tokens
-  has_no_while = record { lexed = lexed n text; spelled = spelled; none = has_none (first_while (tokens n text)) passes.no_while }
-
   pub is_program : IsProgram text (table n text) (bodies n text)
   unfolding bodies
   is_program = record {
     checked = record {
       terms = record { has = has_table; lowered = all_lowered (table n text) (table n text).bodies passes.lowered };
-      no_while = has_no_while;
       derive = all_derive (table n text) (bodies n text) passes.derive;
     };
     light = leb-true (weight (table n text) (bodies n text)) most_weight passes.light;

@@ -19,7 +19,7 @@ use Rattle.ob_invocation_spec.specs.Requests as asked
 use Rattle.ob_invocation_spec.specs.Requests.{HasLabels}
 use Rattle.ob_lanes_laws.specs.Laws.{OfEach}
 use Rattle.ob_lanes_laws.proofs.Keeping.{idle_lane}
-use Rattle.ob_machine_steps.specs.Measures.{LeadsAhead}
+use Rattle.ob_machine_steps.specs.Measures.{LeadsAheadOrToUnit}
 use Rattle.ob_sound_code.specs.SoundCode.{IsSoundImage}
 use Rattle.ob_lanes_laws.specs.Requests.{has_ended}
 use Rattle.ob_lanes_laws.specs.Schedule.{Busy, Done, Lanes, is_done, idle, step, commit}
@@ -98,7 +98,7 @@ lanes_there code limits batch base old new was stands =
     idle_lanes n = replicate n None
 
 -- what a batch needs to be answered
-pub can_be_answered : (code : Image) (limits : Limits) (area : Option ℕ) (start : StoreState) (requests : List Request) → LeadsAhead code → IsSoundImage code → OfEach HasLabels (map request_of requests)
+pub can_be_answered : (code : Image) (limits : Limits) (area : Option ℕ) (start : StoreState) (requests : List Request) → LeadsAheadOrToUnit code → IsSoundImage code → OfEach HasLabels (map request_of requests)
     → IsStoreAtRest (table_of_image code) start.content → AreLimits limits → CanBeAnswered (batch_on code limits area start requests)
 can_be_answered code limits area start requests ahead sound labels rests are =
     record { ahead = ahead; sound = sound; labels = labels; at_rest = rests; lanes = are.lanes; slice = are.slice }

@@ -16,7 +16,7 @@ use Rattle.ob_exec.specs.declared.runs.Ended.TheVariants.{Yes}
 use Rattle.ob_lanes.specs.Standing.{State, StandFor, NoneHasEnded, LaneTells, requests_kept}
 use Rattle.ob_lanes.specs.Standing as of_lanes
 use Rattle.ob_lanes.specs.declared.lanes.Lanes.{Lanes}
-use Rattle.ob_machine_steps.specs.Measures.{LeadsAhead}
+use Rattle.ob_machine_steps.specs.Measures.{LeadsAheadOrToUnit}
 use Rattle.ob_request_run_laws.specs.Runs.{Run}
 use Rattle.ob_rest_spec.specs.AtRest.{IsStoreAtRest}
 use Rattle.ob_sound_code.specs.SoundCode.{IsSoundImage}
@@ -74,7 +74,7 @@ turns_of b = enough_turns b.code b.limits (length (asked_in b))
 -- It can be answered: the code is sound, its jumps lead ahead or to a `unit`, the names in the requests are labels, the store is at
 -- rest, there is a lane, and a slice has a unit.
 pub record CanBeAnswered (b : BatchOn) : Type 0 where
-  pub ahead : LeadsAhead b.code
+  pub ahead : LeadsAheadOrToUnit b.code
   pub sound : IsSoundImage b.code
   pub labels : OfEach HasLabels (asked_in b)
   pub at_rest : IsStoreAtRest (table_of_image b.code) b.start.content

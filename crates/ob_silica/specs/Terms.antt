@@ -57,19 +57,6 @@ then_terms (and_term form span rest) others = and_term form span (then_terms res
 abbrev pub one_term : SilicaForm → Span → SilicaTerms
 one_term form span = and_term form span no_terms
 
-abbrev mutual
-  -- a form is no Loop, and none is in its branches
-  pub HasNoLoopWithin : SilicaForm → Type 0
-  HasNoLoopWithin (test_form place state branch other join) = HasNoLoop branch × HasNoLoop other
-  HasNoLoopWithin (if_form a branch other join) = HasNoLoop branch × HasNoLoop other
-  HasNoLoopWithin (loop_form first a body end) = ⊥
-  HasNoLoopWithin form = ⊤
-
-  -- none of these terms is a Loop, and none is in their branches
-  pub HasNoLoop : SilicaTerms → Type 0
-  HasNoLoop no_terms = ⊤
-  HasNoLoop (and_term form span rest) = HasNoLoopWithin form × HasNoLoop rest
-
 -- the body of a transaction or a constructor as terms, with the number of its slots and the place of its closing brace
 pub record SilicaBody : Type 0 where
   pub contract : ContractId

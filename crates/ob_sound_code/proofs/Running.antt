@@ -4,7 +4,7 @@ use Rattle.std.specs.Prelude.{IsTrue, is_some}
 use Rattle.ob_code.specs.declared.image.Image.{Image}
 use Rattle.ob_machine_steps.specs.Configurations.{Configuration, Next, goes, stops, End}
 use Rattle.ob_machine_steps.specs.Entries.{Phase, running, next_step, HasStep}
-use Rattle.ob_machine_steps.specs.Measures.{LeadsAhead, steps_left}
+use Rattle.ob_machine_steps.specs.Measures.{LeadsAheadOrToUnit, steps_left}
 use Rattle.ob_machine_steps.specs.Outcomes.{outcome, outcome_at, outcome_of}
 use Rattle.ob_machine_steps.specs.Runs.{paused, over, after_step, after_steps}
 use Rattle.ob_machine_laws.specs.Laws.{IsSoundRun}
@@ -56,7 +56,7 @@ one_end image (suc n) zero p x y e f = absurd cc
 one_end image (suc n) (suc m) p x y e f = ends_on image n m x y (next_step image p) (λ c g h. one_end image n m (running c) x y g h) e f
 
 -- what a run comes to that is over after some steps
-pub outcome_is : (image : Image) (n : ℕ) (p : Phase) (end : End) → LeadsAhead image → after_steps image n p ≡ Some (over end)
+pub outcome_is : (image : Image) (n : ℕ) (p : Phase) (end : End) → LeadsAheadOrToUnit image → after_steps image n p ≡ Some (over end)
     → outcome image p ≡ outcome_of end
 outcome_is image n p end ahead e =
     let last = run_ends image p ahead (over_is_sound image n p end e) in

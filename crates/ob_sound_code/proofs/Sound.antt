@@ -40,7 +40,7 @@ use Rattle.ob_code_table.specs.Images.{constructor_of}
 use Rattle.ob_base.specs.declared.id.TxId.{TxId}
 use Rattle.ob_heap_spec.specs.Objects.{Object}
 use Rattle.ob_silica_steps.specs.Starting.{first_notes}
-use Rattle.ob_machine_steps.specs.Measures.{LeadsAhead}
+use Rattle.ob_machine_steps.specs.Measures.{LeadsAheadOrToUnit}
 use Rattle.ob_machine_meaning.specs.Meanings.{machine_meaning, entry_of_request}
 use Rattle.ob_machine_meaning.specs.Laws.{HasItsBody}
 use Rattle.ob_machine_meaning.proofs.Requests.{requests_run}
@@ -51,7 +51,7 @@ use Rattle.ob_silica_steps.specs.Calling.{constructor_id}
 use Rattle.ob_emit_correct.proofs.Agreeing.{constructor_found}
 use Rattle.ob_emit_correct.specs.Law.{code_of, EndsAlike}
 use Rattle.ob_emit_correct.proofs.Running.{calls_end, news_end}
-use Rattle.ob_emit_laws.proofs.Ahead.{jumps_lead_ahead}
+use Rattle.ob_emit_laws.proofs.Ahead.{jumps_lead_ahead_or_to_unit}
 use Rattle.ob_sound_code.specs.SoundCode.{SameInvocation}
 use Rattle.ob_sound_code.proofs.Meanings.{SameOutcome, invocations_alike}
 use Rattle.ob_sound_code.proofs.Running.{over_is_sound, outcome_is}
@@ -81,7 +81,7 @@ ends_sound image p (gives result w) (n, v, e, s) = over_is_sound image n p _ e
 ends_sound image p (aborts cause s) (n, t, e, s1) = over_is_sound image n p _ e
 ends_sound image p wrong h = absurd h
 
-comes_to : (image : Image) (p : Phase) (source : RunOutcome (Option Value)) → LeadsAhead image → EndsAsSource image p source
+comes_to : (image : Image) (p : Phase) (source : RunOutcome (Option Value)) → LeadsAheadOrToUnit image → EndsAsSource image p source
     → SameOutcome source (outcome image p)
 comes_to image p (gives result w) ahead (n, v, e, s) =
     subst (λ o. SameOutcome (gives result w) o) (sym (outcome_is image n p _ ahead e)) (refl, s)
@@ -158,8 +158,8 @@ module _ (program : SilicaProgram) (checked : IsCheckedProgram program) where
   abbrev image : Image
   image = code_of program
 
-  pub ahead : LeadsAhead (code_of program)
-  ahead = jumps_lead_ahead program.table program.bodies (λ k d lt. (checked.bodies k d lt).well_formed)
+  pub ahead : LeadsAheadOrToUnit (code_of program)
+  ahead = jumps_lead_ahead_or_to_unit program.table program.bodies (λ k d lt. (checked.bodies k d lt).well_formed)
 
   module _ (content : Content) (fuel : ℕ) (e : Entry) (rests : IsStoreAtRest program.table content) (entered : IsEntered program.table content e) where
     -- where the machine is at the start

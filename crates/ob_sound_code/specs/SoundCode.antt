@@ -17,7 +17,7 @@ use Rattle.ob_coherent_spec.specs.Remaining.{IsCheckedBody, IsCheckedProgram}
 use Rattle.ob_soundness_laws.specs.Requests.{IsEntered}
 use Rattle.ob_code.specs.declared.image.Image.{Image}
 use Rattle.ob_machine_steps.specs.Entries.{started}
-use Rattle.ob_machine_steps.specs.Measures.{LeadsAhead}
+use Rattle.ob_machine_steps.specs.Measures.{LeadsAheadOrToUnit}
 use Rattle.ob_code_table.specs.ImageTables.{table_of_image}
 use Rattle.ob_machine_meaning.specs.Meanings.{machine_invocation, entry_of_request}
 use Rattle.ob_machine_laws.specs.Laws.{IsSoundRun}
@@ -60,7 +60,7 @@ pub record IsSoundCode (program : SilicaProgram) (image : Image) : Type 0 where
   pub by_table : IsSoundBy program.table image
   pub source : GoesAsItsSource program image
   -- each of its jumps leads ahead, or to a `unit`
-  pub ahead : LeadsAhead image
+  pub ahead : LeadsAheadOrToUnit image
 
 -- The image of a class table that meets the conditions and of terms, one for each constructor and transaction, that are well-formed
 -- and derive, is sound. Nothing is asked of a source: neither bodies nor a meaning.

@@ -37,7 +37,7 @@ use Rattle.ob_silica_steps.specs.Calling.{entered_with}
 use Rattle.ob_silica_steps.specs.Entering.{this_cell, calls_object}
 use Rattle.ob_silica_steps.specs.Steps.{act}
 use Rattle.ob_silica_formed.specs.Holdings.{held as held_as, after_form, kind_of_result, with_slot_if}
-use Rattle.ob_flow_spec.specs.Contexts.{BodyFrame, Context}
+use Rattle.ob_flow_spec.specs.Contexts.{BodyFrame, Context, static_of}
 use Rattle.ob_flow_spec.specs.Uses.{Read, kind_known}
 use Rattle.ob_flow_spec.specs.Binding.{wants_owner, reads_of, given_all, passed}
 use Rattle.ob_flow_spec.specs.Calling.{all_reads, after_call}
@@ -55,7 +55,7 @@ use Rattle.ob_soundness_laws.proofs.remaining.Remaining.{IsFirst, first_formed, 
 use Rattle.ob_coherent_spec.specs.Counting.{nth_object, owners, any, in_slots}
 use Rattle.ob_coherent_spec.specs.Runs.{times, constructions, tested_places}
 use Rattle.ob_coherent_spec.specs.Standing.{IsOfKind, Stands, NeedsOwner}
-use Rattle.ob_coherent_spec.specs.Remaining.{IsCheckedProgram, BodyParts, body_of, static_of, IsWellFormedForm, Remains, IsPlaceIn}
+use Rattle.ob_coherent_spec.specs.Remaining.{IsCheckedProgram, BodyParts, body_of, IsWellFormedForm, Remains, IsPlaceIn}
 use Rattle.ob_coherent_spec.specs.Waiting.{has_lent, Serves, AreLoans, gives_back_as, AwaitsResult, is_settled, is_result, Lends, tests_of, waiting_here, Waits, is_lent}
 use Rattle.ob_coherent_spec.specs.Coherent.{Beginning, IsRunning, running, StepsSo}
 use Rattle.ob_soundness_laws.proofs.tests.Operands.{place_inside}

@@ -19,11 +19,11 @@ use Rattle.ob_silica_steps.specs.Configurations.{Configuration}
 use Rattle.ob_silica_steps.specs.Here.{here}
 use Rattle.ob_silica_formed.specs.Holdings.{kind_of_operand}
 use Rattle.ob_silica_formed.specs.Points.{ArePlaces, HasKind, ArePassed}
-use Rattle.ob_flow_spec.specs.Contexts.{Context}
+use Rattle.ob_flow_spec.specs.Contexts.{Context, static_of}
 use Rattle.ob_flow_spec.specs.Uses.{Read, kind_known}
 use Rattle.ob_flow_spec.specs.Binding.{wants_owner, reads_of}
 use Rattle.ob_places_laws.proofs.Tables.{there_is}
-use Rattle.ob_coherent_spec.specs.Remaining.{BodyParts, body_of, static_of}
+use Rattle.ob_coherent_spec.specs.Remaining.{BodyParts, body_of}
 use Rattle.ob_coherent_spec.specs.Waiting.{has_lent}
 use Rattle.ob_coherent_spec.specs.Coherent.{Beginning, IsRunning}
 use Rattle.ob_soundness_laws.proofs.tests.Operands.{place_inside, kind_found}

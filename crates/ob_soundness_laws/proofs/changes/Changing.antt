@@ -23,13 +23,13 @@ use Rattle.ob_silica_steps.specs.Here.{Here, here, self_of, if_there}
 use Rattle.ob_silica_steps.specs.Changing.{all_there, fill_all, is_locked_out, change_with, change_step}
 use Rattle.ob_silica_steps.specs.Steps.{act}
 use Rattle.ob_silica_formed.specs.Points.{AreFields, AreServed, HasKind}
-use Rattle.ob_flow_spec.specs.Contexts.{BodyFrame, Context, available, maybe_there, owns_asset, TestedPlaces, is_tested}
+use Rattle.ob_flow_spec.specs.Contexts.{BodyFrame, Context, available, maybe_there, owns_asset, TestedPlaces, is_tested, static_of}
 use Rattle.ob_flow_spec.specs.Changing.{filled_all, refilled, after_change}
 use Rattle.ob_flow_laws.specs.Changing.{CanChange}
 use Rattle.ob_places_laws.proofs.Tables.{there_is, if_there_so}
 use Rattle.ob_coherent_spec.specs.Counting.{Counted, any, fields_counted}
 use Rattle.ob_coherent_spec.specs.Runs.{tested_places, tested_before}
-use Rattle.ob_coherent_spec.specs.Remaining.{IsCheckedProgram, IsWellFormedForm, IsPlaceIn, KnowsThis, Remains, body_of, static_of}
+use Rattle.ob_coherent_spec.specs.Remaining.{IsCheckedProgram, IsWellFormedForm, IsPlaceIn, KnowsThis, Remains, body_of}
 use Rattle.ob_coherent_spec.specs.OpenTests.{IsOpen, AreOpen}
 use Rattle.ob_coherent_spec.specs.Coherent.{Beginning, IsRunning, StepsSo}
 use Rattle.ob_soundness_laws.proofs.counting.Sums.{sum_zero}

@@ -27,13 +27,13 @@ use Rattle.ob_silica_steps.specs.Here.{Here, here, self_of, field_of, set_field}
 use Rattle.ob_silica_steps.specs.Straight.{available_field}
 use Rattle.ob_silica_steps.specs.Steps.{act}
 use Rattle.ob_silica_formed.specs.Points.{HasKind}
-use Rattle.ob_flow_spec.specs.Contexts.{BodyFrame, Context, put, type_of_field, is_tested}
+use Rattle.ob_flow_spec.specs.Contexts.{BodyFrame, Context, put, type_of_field, is_tested, static_of}
 use Rattle.ob_places_laws.proofs.Tables.{there_is, if_there_so}
 use Rattle.ob_coherent_spec.specs.Counting.{Counted, any, in_cell}
 use Rattle.ob_coherent_spec.specs.Runs.{tested_places}
 use Rattle.ob_coherent_spec.specs.Standing.{Stands, IsOfKind, NeedsOwner}
 use Rattle.ob_coherent_spec.specs.Saying.{SaysOf, own_object}
-use Rattle.ob_coherent_spec.specs.Remaining.{IsCheckedProgram, body_of, static_of, IsPlaceIn, Remains}
+use Rattle.ob_coherent_spec.specs.Remaining.{IsCheckedProgram, body_of, IsPlaceIn, Remains}
 use Rattle.ob_coherent_spec.specs.Coherent.{Beginning, IsRunning, IsCoherent, StepsSo}
 use Rattle.ob_soundness_laws.proofs.counting.Cells.{cell_other}
 use Rattle.ob_soundness_laws.proofs.counting.Low.{place_low}

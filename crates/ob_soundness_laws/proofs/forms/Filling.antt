@@ -26,7 +26,7 @@ use Rattle.ob_silica_steps.specs.Getting.{got_from}
 use Rattle.ob_silica_steps.specs.Here.{Here, here, set_field, hand, counted as counts_as}
 use Rattle.ob_silica_steps.specs.Steps.{act}
 use Rattle.ob_silica_formed.specs.Points.{HasKind}
-use Rattle.ob_flow_spec.specs.Contexts.{BodyFrame, Context, TestedPlaces, put, type_of_field, permission_at, counted, available, is_owned_asset, is_tested}
+use Rattle.ob_flow_spec.specs.Contexts.{BodyFrame, Context, TestedPlaces, put, type_of_field, permission_at, counted, available, is_owned_asset, is_tested, static_of}
 use Rattle.ob_flow_spec.specs.Uses.{after_give, said_for_type}
 use Rattle.ob_flow_laws.specs.Uses.{CanUse}
 use Rattle.ob_flow_laws.specs.Filling.{CanFillAs}
@@ -38,7 +38,7 @@ use Rattle.ob_coherent_spec.specs.Counting.{nth_object, any, in_cell, owners}
 use Rattle.ob_coherent_spec.specs.Runs.{tested_places}
 use Rattle.ob_coherent_spec.specs.Standing.{Stands, RefersToShared, NeedsOwner}
 use Rattle.ob_coherent_spec.specs.Saying.{SaysOf, own_object}
-use Rattle.ob_coherent_spec.specs.Remaining.{IsCheckedProgram, body_of, static_of, IsPlaceIn, Remains}
+use Rattle.ob_coherent_spec.specs.Remaining.{IsCheckedProgram, body_of, IsPlaceIn, Remains}
 use Rattle.ob_coherent_spec.specs.Coherent.{Beginning, IsRunning, IsCoherent, StepsSo}
 use Rattle.ob_soundness_laws.proofs.counting.Cells.{cell_other, cell_counted}
 use Rattle.ob_soundness_laws.proofs.counting.Permitting.{hand_counts, hand_refers}

@@ -32,7 +32,7 @@ use Rattle.ob_silica_steps.specs.Straight.{operate, with_operated, with_text}
 use Rattle.ob_silica_steps.specs.Steps.{act}
 use Rattle.ob_silica_formed.specs.Holdings.{held, with_slot, kind_of_operand, after_form}
 use Rattle.ob_silica_formed.specs.Points.{IsConstant, HasKind, HaveOperands}
-use Rattle.ob_flow_spec.specs.Contexts.{BodyFrame, Context, put}
+use Rattle.ob_flow_spec.specs.Contexts.{BodyFrame, Context, put, static_of}
 use Rattle.ob_flow_spec.specs.Deriving.{derive}
 use Rattle.ob_flow_spec.specs.Uses.{kind_known}
 use Rattle.ob_places_laws.proofs.Tables.{there_is}
@@ -40,7 +40,7 @@ use Rattle.ob_flow_laws.specs.Uses.{CanRead}
 use Rattle.ob_coherent_spec.specs.Runs.{tested_places}
 use Rattle.ob_coherent_spec.specs.Standing.{Stands, IsOfKind, NeedsOwner}
 use Rattle.ob_coherent_spec.specs.Saying.{SaysOf}
-use Rattle.ob_coherent_spec.specs.Remaining.{IsCheckedProgram, HoldsSo, body_of, static_of, IsWellFormedForm, Remains}
+use Rattle.ob_coherent_spec.specs.Remaining.{IsCheckedProgram, HoldsSo, body_of, IsWellFormedForm, Remains}
 use Rattle.ob_coherent_spec.specs.Coherent.{Beginning, IsRunning, IsCoherent, running, StepsSo}
 use Rattle.ob_soundness_laws.specs.frames.Steps.{moved}
 use Rattle.ob_soundness_laws.specs.places.Placed.{Found, Stays, cell_at}

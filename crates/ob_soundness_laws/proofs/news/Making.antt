@@ -36,7 +36,7 @@ use Rattle.ob_silica_steps.specs.Entering.{are_within, enters, new_cell, entered
 use Rattle.ob_silica_steps.specs.Steps.{act}
 use Rattle.ob_silica_formed.specs.Holdings.{held as held_as, after_form}
 use Rattle.ob_silica_formed.specs.Points.{ArePassed}
-use Rattle.ob_flow_spec.specs.Contexts.{BodyFrame, Context}
+use Rattle.ob_flow_spec.specs.Contexts.{BodyFrame, Context, static_of}
 use Rattle.ob_flow_spec.specs.Binding.{reads_of, given_all, passed}
 use Rattle.ob_flow_spec.specs.Calling.{after_new}
 use Rattle.ob_flow_spec.specs.Deriving.{derive, constructor}
@@ -49,7 +49,7 @@ use Rattle.ob_soundness_laws.proofs.remaining.Remaining.{IsFirst, first_formed, 
 use Rattle.ob_coherent_spec.specs.Counting.{in_cell, in_handles, owners}
 use Rattle.ob_coherent_spec.specs.Runs.{times, tested_places}
 use Rattle.ob_coherent_spec.specs.Standing.{NeedsOwner}
-use Rattle.ob_coherent_spec.specs.Remaining.{IsCheckedProgram, BodyParts, body_of, static_of, IsWellFormedForm, Remains}
+use Rattle.ob_coherent_spec.specs.Remaining.{IsCheckedProgram, BodyParts, body_of, IsWellFormedForm, Remains}
 use Rattle.ob_coherent_spec.specs.Waiting.{has_lent, is_lent, AreLoans, gives_back_as, AwaitsResult, is_settled, is_result, Lends, tests_of, waiting_here, Waits}
 use Rattle.ob_coherent_spec.specs.Coherent.{Beginning, IsRunning, running, StepsSo}
 use Rattle.ob_soundness_laws.proofs.tests.Unchanged.{remains_so}

@@ -37,7 +37,7 @@ use Rattle.ob_silica_steps.specs.Entering.{are_within, calls_this}
 use Rattle.ob_silica_steps.specs.Steps.{act}
 use Rattle.ob_silica_formed.specs.Holdings.{held as held_as, held_at_start, after_form, kind_of_result, with_slot_if}
 use Rattle.ob_silica_formed.specs.Points.{ArePassed}
-use Rattle.ob_flow_spec.specs.Contexts.{BodyFrame, Context, constructs, available, field_count, entry_of_field, exit_of_field, type_of_field, possible_under, permission_at, maybe_there, field_known, beginning as beginning_context}
+use Rattle.ob_flow_spec.specs.Contexts.{BodyFrame, Context, constructs, available, field_count, entry_of_field, exit_of_field, type_of_field, possible_under, permission_at, maybe_there, field_known, beginning as beginning_context, static_of}
 use Rattle.ob_flow_spec.specs.Joining.{same_mode}
 use Rattle.ob_flow_spec.specs.Binding.{reads_of, given_all, passed, with_result}
 use Rattle.ob_flow_spec.specs.Calling.{reads_with_this, fields_left, after_call_on_this}
@@ -56,7 +56,7 @@ use Rattle.ob_coherent_spec.specs.Counting.{nth_object, field_cell, owners}
 use Rattle.ob_coherent_spec.specs.Runs.{times, entries, constructions, tested_places}
 use Rattle.ob_coherent_spec.specs.Standing.{HasItsState, NeedsOwner}
 use Rattle.ob_coherent_spec.specs.Saying.{SaysOf, own_object, own_cell}
-use Rattle.ob_coherent_spec.specs.Remaining.{IsCheckedProgram, BodyParts, body_of, static_of, IsWellFormedForm, Remains}
+use Rattle.ob_coherent_spec.specs.Remaining.{IsCheckedProgram, BodyParts, body_of, IsWellFormedForm, Remains}
 use Rattle.ob_coherent_spec.specs.Waiting.{IsFrame, SharesThis, has_lent, AreLoans, gives_back_as, AwaitsResult, FieldsComeBack, is_lent, is_settled, is_result, Lends, tests_of, waiting_here, Waits}
 use Rattle.ob_coherent_spec.specs.Coherent.{Beginning, Holds, IsRunning, running, StepsSo}
 use Rattle.ob_soundness_laws.proofs.frames.Near.{EachSelf, each_self}

@@ -13,7 +13,7 @@ use Rattle.ob_silica.specs.Slots.{slots_of_operand, slots_of_form, slots_of_term
 use Rattle.ob_silica_places.specs.Places.{Location, located}
 use Rattle.ob_silica_steps.specs.Configurations.{Ends, plain_end, test_end, lock_end, Rest}
 use Rattle.ob_silica_formed.specs.Holdings.{SlotContent, Holdings, kinds_equal, common_kind, either_way, joined, after_form, after_terms, form_ends, terms_end}
-use Rattle.ob_flow_spec.specs.Contexts.{BodyFrame, Context, TestedPlaces, counted}
+use Rattle.ob_flow_spec.specs.Contexts.{BodyFrame, Context, TestedPlaces, counted, static_of}
 use Rattle.ob_flow_spec.specs.Deriving.{derive, derive_all}
 use Rattle.ob_flow_spec.specs.Testing.{in_tested_state, in_other_state, tested_with, this_left}
 use Rattle.ob_flow_laws.specs.Deriving.{Passes, PassesTest, PassesIf, RestDerives}
@@ -21,7 +21,7 @@ use Rattle.ob_flow_laws.specs.Joining.{LeavesBoth}
 use Rattle.ob_flow_laws.specs.Testing.{EndsFirstBranch}
 use Rattle.ob_flow_laws.proofs.Deriving.{passes, passes_all}
 use Rattle.ob_coherent_spec.specs.Runs.{tested_places}
-use Rattle.ob_coherent_spec.specs.Remaining.{static_of, HoldsToo, HoldToo, KnowsThis, Leads, at_end, StillOwns, MayTurn, GoOn, Remains}
+use Rattle.ob_coherent_spec.specs.Remaining.{HoldsToo, HoldToo, KnowsThis, Leads, at_end, StillOwns, MayTurn, GoOn, Remains}
 use Rattle.ob_soundness_laws.proofs.remaining.Joins.{leads_first, leads_second, leads_self}
 use Rattle.ob_soundness_laws.proofs.remaining.Knowing.{KnowsIf, terms_know, knows_tested, knows_other, knows_ended}
 use Rattle.ob_soundness_laws.proofs.remaining.Remaining.{rest_remains}

@@ -20,7 +20,7 @@ use Rattle.ob_silica_formed.specs.Points.{LeavesParams}
 use Rattle.ob_flow_spec.specs.Binding.{reads_of, given_all, got_back, got_back_all, passed, with_result, wants_owner}
 use Rattle.ob_flow_spec.specs.Calling.{all_reads, reads_with_this, fields_left}
 use Rattle.ob_flow_spec.specs.Changing.{given_from, filled_all, got_all, in_state, refilled}
-use Rattle.ob_flow_spec.specs.Contexts.{BodyFrame, Context, TestedPlaces, put, now, counted, permission_at, declared_permission, known_as}
+use Rattle.ob_flow_spec.specs.Contexts.{BodyFrame, Context, TestedPlaces, put, now, counted, permission_at, declared_permission, known_as, static_of}
 use Rattle.ob_flow_spec.specs.Looping.{head_context}
 use Rattle.ob_flow_spec.specs.Deriving.{derive_all}
 use Rattle.ob_flow_spec.specs.Filling.{after_fill, got}
@@ -31,7 +31,7 @@ use Rattle.ob_flow_laws.specs.Deriving.{Passes, PassesSigned, PassesTurnIf, Rest
 use Rattle.ob_flow_laws.specs.Joining.{LeavesBoth}
 use Rattle.ob_flow_laws.specs.Testing.{EndsFirstBranch}
 use Rattle.ob_flow_laws.proofs.Deriving.{passes, passes_all}
-use Rattle.ob_coherent_spec.specs.Remaining.{static_of, IsWellFormedForm, KnowsThis}
+use Rattle.ob_coherent_spec.specs.Remaining.{IsWellFormedForm, KnowsThis}
 use Rattle.ob_soundness_laws.proofs.remaining.Joins.{known_this_joined}
 
 -- Places that are written.
@@ -130,8 +130,8 @@ knows_both b under (Some g) None left e x y = as_known b left (Some g) e x
 knows_both b under (Some g) (Some h) left e x y = as_known b left (Some (joined_context g h)) e.1 (known_this_joined b g h x y)
 
 -- `this` is known at the head of a Loop
-pub knows_head : (b : BodyFrame) (g : Context) → KnowsThis b g → KnowsThis b (head_context b g)
-knows_head b g y = y
+pub knows_head : (b : BodyFrame) (first body : SilicaTerms) (g : Context) → KnowsThis b g → KnowsThis b (head_context b first body g)
+knows_head b first body g y = y
 
 knows_turn : (b : BodyFrame) (ts : TestedPlaces) (a : Operand) (body : SilicaTerms) (head : Context) (after left : Option Context)
     → PassesTurnIf b ts a body head after left → KnowsIf b after → KnowsIf b left
@@ -186,8 +186,8 @@ mutual
   form_knows b ts h (revert_form text) at g left w each p y = as_known b left None p.1 tt
   form_knows b ts h bad_row_form at g left w each p y = absurd p
   form_knows b ts h (loop_form first a body end) at g left w each p y =
-      knows_turn b ts a body (head_context b g) p.after left p.turn
-      (terms_know b ts (at_head (static_of b) first body h) first (head_context b g) p.after each.0 p.first_derives (knows_head b g y))
+      knows_turn b ts a body (head_context b first body g) p.after left p.turn
+      (terms_know b ts (at_head (static_of b) first body h) first (head_context b first body g) p.after each.0 p.first_derives (knows_head b first body g y))
 
   pub terms_know : (b : BodyFrame) (ts : TestedPlaces) (h : Holdings) (terms : SilicaTerms) (g : Context) (left : Option Context)
       → Each IsWellFormedForm (static_of b) h terms → derive_all b ts terms g ≡ Ok left → KnowsThis b g → KnowsIf b left

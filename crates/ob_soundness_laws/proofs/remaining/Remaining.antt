@@ -6,13 +6,13 @@ use Rattle.ob_silica.specs.Terms.{SilicaForm, SilicaTerms, no_terms, and_term}
 use Rattle.ob_silica.specs.Slots.{slots_of_form, slots_of_terms}
 use Rattle.ob_silica_steps.specs.Configurations.{Rest}
 use Rattle.ob_silica_formed.specs.Holdings.{Holdings, after_form}
-use Rattle.ob_flow_spec.specs.Contexts.{BodyFrame, Context}
+use Rattle.ob_flow_spec.specs.Contexts.{BodyFrame, Context, static_of}
 use Rattle.ob_flow_spec.specs.Deriving.{Derived, derive, derive_all, if_reached}
 use Rattle.ob_flow_spec.specs.Premises.{◌>>=◌}
 use Rattle.ob_flow_laws.specs.Deriving.{Passes}
 use Rattle.ob_flow_laws.proofs.Deriving.{passes}
 use Rattle.ob_coherent_spec.specs.Runs.{tested_places}
-use Rattle.ob_coherent_spec.specs.Remaining.{static_of, IsWellFormedForm, KnowsThis, HoldToo, Leads, at_end, StillOwns, MayTurn, GoOn, Remains}
+use Rattle.ob_coherent_spec.specs.Remaining.{IsWellFormedForm, KnowsThis, HoldToo, Leads, at_end, StillOwns, MayTurn, GoOn, Remains}
 
 -- Forms.
 

@@ -36,7 +36,7 @@ use Rattle.ob_silica_steps.specs.Here.{counted as counts_as}
 use Rattle.ob_silica_steps.specs.Returning.{exits_are_within, leaves_with, gives_none, gives_result}
 use Rattle.ob_silica_steps.specs.Steps.{act}
 use Rattle.ob_silica_formed.specs.Points.{IsReturnedAs, NamesWhatIsThere}
-use Rattle.ob_flow_spec.specs.Contexts.{BodyFrame, available, Context, with_permission, permission_on, permission_at, is_set, is_held_as, is_owned_asset, is_tested, possible_under, exit_of_field}
+use Rattle.ob_flow_spec.specs.Contexts.{BodyFrame, available, Context, with_permission, permission_on, permission_at, is_set, is_held_as, is_owned_asset, is_tested, possible_under, exit_of_field, static_of}
 use Rattle.ob_flow_spec.specs.Returning.{value_returned, tests_ended}
 use Rattle.ob_flow_spec.specs.Uses.{after_give}
 use Rattle.ob_flow_laws.specs.Laws.{MeetsExit, MeetsExits}
@@ -52,7 +52,7 @@ use Rattle.ob_coherent_spec.specs.Counting.{nth_object, Counted, any, in_control
 use Rattle.ob_coherent_spec.specs.Runs.{around, constructing_at, constructing_among, tested_places}
 use Rattle.ob_coherent_spec.specs.Standing.{IsObjectInRun, NeedsOwner, HasItsState}
 use Rattle.ob_coherent_spec.specs.Saying.{Agrees, own_cell, AgreesWith}
-use Rattle.ob_coherent_spec.specs.Remaining.{BodyParts, IsCheckedProgram, body_of, static_of, IsPlaceIn, Remains}
+use Rattle.ob_coherent_spec.specs.Remaining.{BodyParts, IsCheckedProgram, body_of, IsPlaceIn, Remains}
 use Rattle.ob_coherent_spec.specs.OpenTests.{AreOpen}
 use Rattle.ob_coherent_spec.specs.Waiting.{gives_back_by}
 use Rattle.ob_coherent_spec.specs.Coherent.{Beginning, IsGivenBack, LeavesSo, IsRunning, IsLeaving, leaving, StepsSo}

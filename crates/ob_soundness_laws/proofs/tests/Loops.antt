@@ -11,9 +11,10 @@ use Rattle.ob_silica_steps.specs.Straight.{with_truth}
 use Rattle.ob_silica_steps.specs.Steps.{act, end_step}
 use Rattle.ob_silica_formed.specs.Holdings.{after_terms, at_head, terms_end}
 use Rattle.ob_flow_spec.specs.Looping.{head_context}
+use Rattle.ob_flow_spec.specs.Contexts.{static_of}
 use Rattle.ob_coherent_spec.specs.Standing.{IsOfKind}
 use Rattle.ob_coherent_spec.specs.Saying.{every}
-use Rattle.ob_coherent_spec.specs.Remaining.{IsCheckedProgram, body_of, static_of}
+use Rattle.ob_coherent_spec.specs.Remaining.{IsCheckedProgram, body_of}
 use Rattle.ob_coherent_spec.specs.Coherent.{Beginning, IsRunning, running, StepsSo}
 use Rattle.ob_places_laws.proofs.Tables.{there_is}
 use Rattle.ob_soundness_laws.proofs.places.Handing.{sits_holding}
@@ -40,9 +41,9 @@ loop_keeps program entry beginning c first a body end span rest outer checked k 
     running (unchanged_keeps program.table entry beginning c k (and_term (loop_form first a body end) span rest) outer so checked.table
     c.world.reads first (record { terms = rest; ends = loop_end first a body end } ∷ outer)
     (tt, tt, opens_so program.table entry beginning c k (and_term (loop_form first a body end) span rest) outer so)
-    (record { locks = λ n. omega arith; tests = λ n. omega arith }) (head_context b k.context)
-    (sits_leads program.table checked.table c.frame k.whole.parts (here c) k.context (head_context b k.context)
-    (sits_holding program.table entry beginning c k) (leads_head b k.context))
+    (record { locks = λ n. omega arith; tests = λ n. omega arith }) (head_context b first body k.context)
+    (sits_leads program.table checked.table c.frame k.whole.parts (here c) k.context (head_context b first body k.context)
+    (sits_holding program.table entry beginning c k) (leads_head b first body k.context))
     (at_head (static_of b) first body k.holdings)
     (held_too k.holdings (at_head (static_of b) first body k.holdings) c.frame.slots every
     (holds_joined_first false (terms_end body) k.holdings (after_terms (static_of b) body (after_terms (static_of b) first k.holdings)) refl) k.held)

@@ -18,8 +18,8 @@ use Rattle.ob_silica_steps.specs.Configurations.{Configuration}
 use Rattle.ob_silica_steps.specs.Here.{here, self_of}
 use Rattle.ob_silica_formed.specs.Holdings.{kind_of_place}
 use Rattle.ob_silica_formed.specs.Points.{IsPlace}
-use Rattle.ob_flow_spec.specs.Contexts.{BodyFrame}
-use Rattle.ob_coherent_spec.specs.Remaining.{body_of, static_of, IsPlaceIn}
+use Rattle.ob_flow_spec.specs.Contexts.{BodyFrame, static_of}
+use Rattle.ob_coherent_spec.specs.Remaining.{body_of, IsPlaceIn}
 use Rattle.ob_coherent_spec.specs.Coherent.{Beginning, IsRunning}
 use Rattle.ob_soundness_laws.specs.places.Placed.{cell_at}
 use Rattle.ob_soundness_laws.proofs.places.Reading.{kind_in_run}

@@ -27,7 +27,7 @@ use Rattle.ob_silica_steps.specs.Here.{here, self_of, if_there}
 use Rattle.ob_silica_steps.specs.Changing.{is_locked_out}
 use Rattle.ob_silica_steps.specs.Testing.{StateTest, tells, test_shared_this, test_this_as, test_this, test_shared, test_other, test_object, is_in as is_in_one, reads_object}
 use Rattle.ob_silica_steps.specs.Steps.{act}
-use Rattle.ob_flow_spec.specs.Contexts.{BodyFrame, Context, now, counted, permission_on, permission_at}
+use Rattle.ob_flow_spec.specs.Contexts.{BodyFrame, Context, now, counted, permission_on, permission_at, static_of}
 use Rattle.ob_flow_spec.specs.Joining.{same_mode}
 use Rattle.ob_flow_spec.specs.Testing.{in_tested_state, in_other_state}
 use Rattle.ob_places_laws.specs.Serving.{AreAmong, Allows, AllowsState}
@@ -39,7 +39,7 @@ use Rattle.ob_places_laws.proofs.SeenStates.{tested_in, tested_out}
 use Rattle.ob_coherent_spec.specs.Counting.{nth_object, one_if, in_cell, owners}
 use Rattle.ob_coherent_spec.specs.Runs.{times, around}
 use Rattle.ob_coherent_spec.specs.Standing.{Stands, IsOfKind, RefersToShared, is_in, RefersToIn, NeedsOwner}
-use Rattle.ob_coherent_spec.specs.Remaining.{IsCheckedProgram, body_of, static_of, IsWellFormedForm, IsPlaceIn, Remains}
+use Rattle.ob_coherent_spec.specs.Remaining.{IsCheckedProgram, body_of, IsWellFormedForm, IsPlaceIn, Remains}
 use Rattle.ob_coherent_spec.specs.OpenTests.{IsTestOf}
 use Rattle.ob_coherent_spec.specs.Waiting.{SharesThis}
 use Rattle.ob_coherent_spec.specs.Coherent.{Beginning, IsRunning, running, StepsSo}

@@ -1,5 +1,6 @@
-use Rattle.ob_emit.specs.Kinds.{kinds_of}
-use Rattle.ob_emit.proofs.TermsLemmas.{ends_turn, kinds_turn, code_turn, kinds_done}
+use Rattle.ob_silica_kinds.specs.Kinds.{kinds_of}
+use Rattle.ob_silica_kinds.proofs.TermsLemmas.{ends_turn, kinds_turn, kinds_done}
+use Rattle.ob_emit.proofs.TermsLemmas.{code_turn}
 use Rattle.ob_emit.proofs.terms.+emit.Goals as goal
 
 pub emit_terms-loop-term-preserved : goal.emit_terms-loop-term-preserved

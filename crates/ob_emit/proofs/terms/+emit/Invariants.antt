@@ -2,7 +2,7 @@ use Rattle.std.proofs.Common.{◌≡◌, drop}
 use Rattle.std.specs.Prelude.{◌||◌}
 use Rattle.ob_silica.specs.TermsView.{terms_of}
 use Rattle.ob_silica_formed.specs.Holdings.{terms_end}
-use Rattle.ob_emit.specs.Kinds.{kinds_of, kinds_after}
+use Rattle.ob_silica_kinds.specs.Kinds.{kinds_of, kinds_after}
 use Rattle.ob_emit.specs.Making.{terms_made}
 use Rattle.ob_emit.proofs.terms.+emit.Given as goal
 

@@ -1,6 +1,6 @@
 use Rattle.std.proofs.Common.{Some, None, sym, subst}
 use Rattle.ob_code_laws.proofs.Leading.{leads_ahead}
-use Rattle.ob_machine_steps.specs.Measures.{LeadsAhead}
+use Rattle.ob_machine_steps.specs.Measures.{LeadsAheadOrToUnit}
 use Rattle.ob_machine_steps.specs.Runs.{paused}
 use Rattle.ob_machine.specs.Phases.{phase_of}
 use Rattle.ob_machine.specs.Slicing.{StopsSo, IsStuckIn, stop_told}
@@ -17,7 +17,7 @@ pub steps-init : goal.steps-init
 steps-init c = record { comes = λ found h. h; unread = λ known. (unread_itself no_object c.args.overlay.now, known) }
 
 pub turn-requires : goal.turn-requires
-turn-requires c = subst LeadsAhead (sym c.image-image.ensures.image) (leads_ahead c.args.code.now c.image-image.ensures.verified)
+turn-requires c = subst LeadsAheadOrToUnit (sym c.image-image.ensures.image) (leads_ahead c.args.code.now c.image-image.ensures.verified)
 
 pub returns-in-Ok-Waits-clause-comes : goal.returns-in-Ok-Waits-clause-comes
 returns-in-Ok-Waits-clause-comes c =

@@ -1,6 +1,0 @@
--- By what the verifier says of each jump.
-use Rattle.ob_code_laws.proofs.Leading.{leads_ahead}
-use Rattle.ob_code_laws.proofs.laws.verified_jumps_lead_ahead.Goals as goal
-
-pub returns : goal.returns
-returns c = leads_ahead

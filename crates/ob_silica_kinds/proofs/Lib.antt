@@ -1,0 +1,3 @@
+pub mod KindsLemmas
+pub mod HeldLemmas
+pub mod TermsLemmas
