@@ -2,6 +2,7 @@
 ghost use Rattle.std.specs.Prelude.{◌≤◌, ◌^◌};
 
 use crate::area::serve_on;
+use crate::lanes::lanes_on;
 use crate::owners::owners_on;
 use crate::page::Page;
 use crate::question::Question;
@@ -189,6 +190,12 @@ impl Desk {
         slices_on(self.alloc, asked, &mut self.disk, self.area, page);
     }
 
+    // Runs batches in lanes upon the store on the disk.
+    fn run_lanes(&mut self, asked: &mut Question<'_>, page: &mut Page) {
+        self.journal = None;
+        lanes_on(self.alloc, asked, &mut self.disk, self.area, page);
+    }
+
     // Puts owners in the store on the disk, after lines.
     fn put_owners(&mut self, asked: &mut Question<'_>, page: &mut Page) {
         self.journal = None;
@@ -207,6 +214,7 @@ impl Desk {
             "move" => self.move_to(asked, page),
             "serve" => self.serve(asked, page),
             "slices" => self.run_sliced(asked, page),
+            "lanes" => self.run_lanes(asked, page),
             "owners" => self.put_owners(asked, page),
             "show" => page.bytes(self.disk.bytes()),
             "faults" => page.number(self.disk.faults()),

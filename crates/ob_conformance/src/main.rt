@@ -12,6 +12,7 @@ mod bodies;
 mod desk;
 mod front;
 mod image;
+mod lanes;
 mod owners;
 mod page;
 mod question;
