@@ -446,6 +446,10 @@ class Shelf(Room):
         string = b"\2" + size.to_bytes(4, "big") + size * b"a"
         self.put_record(questions.record_of([number.to_bytes(4, "big") + b"\0\0\0\0\xff\0" + string for number in range(count)], []))
 
+    def lose(self, count):
+        """A record with so many objects of the first contract, which has no field and no state; all of them are disowned."""
+        self.put_record(questions.record_of([number.to_bytes(4, "big") + b"\0\0\0\0\xff\2" for number in range(count)], []))
+
     def serve(self, lines):
         """A run over the store, of these lines of the input: `2 to 5`, `none`, or all."""
         first, _, last = lines.partition(b" to ")
@@ -480,6 +484,8 @@ class Shelf(Room):
             return self.edit(old, new)
         if word == b"hold":
             return self.hold(int(rest))
+        if word == b"lose":
+            return self.lose(int(rest))
         if word == b"fill":
             return self.fill(*map(int, rest.split(b" of ")))
         if word in (b"disk", b"put", b"second"):

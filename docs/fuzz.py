@@ -1,10 +1,10 @@
 #!/usr/bin/env python3
 """Hands the program what nobody meant, and looks how it takes it.
 
-  python3 docs/fuzz.py [--inputs N] [--seed N] [--program PROGRAM]
+  python3 docs/fuzz.py [--inputs N] [--seconds N] [--seed N] [--program PROGRAM]
 
-It makes N inputs (1,000, if none are asked for) from the sample programs, their lines and a store, drawn at random and changed at random, and
-hands them to PROGRAM (the one that the gate has left, if none is named):
+It makes N inputs (1,000, if none are asked for), or as many as it comes to in so many seconds, from the sample programs, their lines and a
+store, drawn at random and changed at random, and hands them to PROGRAM (the one that the gate has left, if none is named):
 
 - texts, to `check`: the status is 0 with the line `accepted`, or 1 with one line of a fault;
 - lines, many to a run of `serve` over a store: the status is 0, each line that isn't blank has as many replies as it has requests, and after each
@@ -12,9 +12,9 @@ hands them to PROGRAM (the one that the gate has left, if none is named):
 - stores, to `serve` without a line: the status is 0, or 6 with one line of a refusal, and then no byte of the store has changed; `audit` ends alike;
 - words of the command line: the status is one of the table, and without a command it is 2.
 
-In all of them it is an error where the program ends by a signal, goes on for more than 10 seconds, or ends with a status that the table of exit
+In all of them it is an error where the program ends by a signal, takes more than 10 seconds of a processor, or ends with a status that the table of exit
 statuses doesn't have. It tells the first error with the seed and the number of the input, writes the input to standard error, and ends with status
-1; else it tells how many inputs of each sort there were.
+1; else it tells how many inputs of each sort there were, and so it does with status 1 where it is stopped by a signal.
 """
 import argparse
 import collections
@@ -22,17 +22,20 @@ import json
 import os
 import random
 import re
+import resource
+import signal
 import subprocess
 import sys
 import tempfile
+import time
 
 TOP = os.path.dirname(os.path.dirname(os.path.abspath(__file__)))
 PROGRAM = os.path.join(TOP, "crates", "obsidian", "out", "obsidian")
 SAMPLES = os.path.join(TOP, "crates", "ob_conformance", "data")
 MACHINE = os.path.join(TOP, "crates", "obsidian", "data", "vending_machine.obs")
 LINES = os.path.join(TOP, "crates", "obsidian", "stdin")
-# The statuses of the table, and after how many seconds a run is cut.
-STATUSES, PATIENCE = range(10), 10
+# The statuses of the table, after how many seconds of a processor a run is cut, and after how many of the clock.
+STATUSES, PATIENCE, LATE = range(10), 10, 300
 # How many lines a run of `serve` is handed, and how many bytes of a store are changed at most: those of its header and records.
 TOGETHER, CHANGES = 200, 8
 # How often texts, runs of lines, stores and words are drawn.
@@ -70,6 +73,11 @@ def changed(draw, text, most=6):
     return bytes(parts)
 
 
+def limit_time():
+    """Ends this process by a signal when it has taken so long."""
+    resource.setrlimit(resource.RLIMIT_CPU, (PATIENCE, PATIENCE))
+
+
 def requests_of(line):
     """How many replies a line has."""
     try:
@@ -94,9 +102,9 @@ class Fuzzing:
     def run(self, *words, given=b""):
         """The status of a run, and its output."""
         try:
-            done = subprocess.run([self.program, *words], cwd=self.folder, input=given, capture_output=True, timeout=PATIENCE)
+            done = subprocess.run([self.program, *words], cwd=self.folder, input=given, capture_output=True, timeout=LATE, preexec_fn=limit_time)
         except subprocess.TimeoutExpired:
-            raise Wrong(f"{words[:1]} went on for more than {PATIENCE} seconds") from None
+            raise Wrong(f"{words[:1]} went on for more than {LATE} seconds") from None
         if done.returncode not in STATUSES:
             raise Wrong(f"{words[:1]} ended with {done.returncode}")
         return done.returncode, done.stdout
@@ -166,9 +174,9 @@ class Fuzzing:
             return repr(words).encode(), f"without a command the status is {status}"
         return repr(words).encode(), None
 
-    def go(self, inputs):
-        """So many inputs; or what was wrong with one of them."""
-        while sum(self.counts.values()) < inputs:
+    def go(self, inputs, late):
+        """So many inputs, or as many as there is time for; or what was wrong with one of them."""
+        while sum(self.counts.values()) < inputs and time.monotonic() < late:
             (name, one, count), = self.draw.choices((("texts", self.fuzz_text, 1), ("lines", self.fuzz_lines, TOGETHER),
                                                      ("stores", self.fuzz_store, 1), ("words", self.fuzz_words, 1)), SHARES)
             try:
@@ -183,19 +191,31 @@ class Fuzzing:
                 self.begin_store()
         return None
 
+    def told(self):
+        return f"{sum(self.counts.values())} inputs: " + ", ".join(f"{count} {name}" for name, count in sorted(self.counts.items()))
+
+
+def stop(number, frame):
+    raise KeyboardInterrupt
+
 
 def main():
     words = argparse.ArgumentParser(description=__doc__.splitlines()[0])
     words.add_argument("--inputs", type=int, default=1000)
+    words.add_argument("--seconds", type=float, default=float("inf"))
     words.add_argument("--seed", type=int, default=1)
     words.add_argument("--program", default=PROGRAM)
     asked = words.parse_args()
+    signal.signal(signal.SIGTERM, stop)
     with tempfile.TemporaryDirectory() as folder:
         fuzzing = Fuzzing(os.path.abspath(asked.program), folder, asked.seed)
-        wrong = fuzzing.go(asked.inputs)
+        try:
+            wrong = fuzzing.go(asked.inputs, time.monotonic() + asked.seconds)
+        except KeyboardInterrupt:
+            sys.exit(f"fuzz.py: seed {asked.seed}: stopped behind {fuzzing.told()}")
     if wrong:
         sys.exit(f"fuzz.py: seed {asked.seed}: {wrong}")
-    print("fuzz.py: " + ", ".join(f"{count} {name}" for name, count in sorted(fuzzing.counts.items())))
+    print(f"fuzz.py: {fuzzing.told()}")
 
 
 if __name__ == "__main__":

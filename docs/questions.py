@@ -9,6 +9,7 @@ import images
 # The room of an output, and the size of an area, where none is named.
 AMPLE = 1 << 30
 AREA = 1 << 26
+NEWLINE = b"\n"
 # How many calls fail, where all from one on do: more than a run of a case has.
 LATER = 100
 # How many units of fuel a run of code has that doesn't say it, and a request.
@@ -613,6 +614,9 @@ class Options:
         self.words = case.part(b"options").split()
         self.given = dict(zip(self.words[::2], self.words[1::2]))
 
+    def lanes(self):
+        return int(self.given.get(b"--lanes", LIMITS[b"--lanes"]))
+
     def numbers(self):
         """The units of fuel of a request, how many lanes there are, and the units of a slice."""
         return " ".join(str(int(self.given.get(word, default))) for word, default in LIMITS.items())
@@ -922,6 +926,60 @@ def sliced(case):
     return answer.end(b"".join(ways_shown(answer) for _ in lines))
 
 
+# ---- batches in lanes
+
+def lanes_read(answer, count):
+    """How many units the run of each lane has taken; `none` where it has none."""
+    return [answer.word() for _ in range(count)]
+
+
+def turn_shown(reply, before, after):
+    """What a turn comes to: the reply that it writes, and each lane whose run is another one behind it, or has taken more."""
+    changed = [f"{lane}:{now}" for lane, (was, now) in enumerate(zip(before, after)) if was != now]
+    return " ".join([*([reply.decode().rstrip("\n")] if reply else []), *changed]) or "-"
+
+
+def batch_turns(answer, count):
+    """The turns of a batch, one after another, and how often a run was opened."""
+    turns, opened, before = [], 0, ["none"] * count
+    while answer.next_is("turn"):
+        lane, reply, after = len(turns) % count, answer.bytes(), lanes_read(answer, count)
+        # A commit has each other run opened again that isn't there any more; the one that ended was opened once at least.
+        opened += sum(now == "none" != was for at, (was, now) in enumerate(zip(before, after)) if at != lane) + bool(reply)
+        turns.append(turn_shown(reply, before, after))
+        before = after
+    return "; ".join([*turns, f"openings {opened}"])
+
+
+def store_held(case, options):
+    """The steps by which a disk holds a store whose only record has an object of the first contract, disowned, and so many Unowned handles."""
+    count = int(case.part(b"hold"))
+    _, _, shown = yield from asked_steps([f"area {AREA}", f"serve {told(case.part(b'text'))} {options.numbers()} -", "show"])
+    return [f"write 0 {told(shown.bytes()[:-1] + record_held(count))}"]
+
+
+def lines_of_lanes(case):
+    """The lines of the input: each array alone, and those between together."""
+    found = []
+    for line in lines_of(case.part(b"input")):
+        if not line.startswith(b"[") and found and not found[-1].startswith(b"["):
+            found[-1] += line
+        else:
+            found.append(line.rstrip(NEWLINE) if line.startswith(b"[") else line)
+    return found
+
+
+def in_lanes(case):
+    options = Options(case)
+    held = (yield from store_held(case, options)) if case.part(b"hold") else []
+    asked = " ".join(["lanes", told(case.part(b"text")), options.numbers(), *map(told, lines_of_lanes(case))])
+    answers = yield from asked_steps([f"area {int(case.part(b'size') or AREA)}", *held, asked])
+    answer, batches = answers[-1], []
+    while answer.next_is("batch"):
+        batches.append(batch_turns(answer, options.lanes()) + "\n")
+    return answer.end("".join(batches).encode())
+
+
 # ---- owners
 
 def owner_shown(answer):
@@ -1146,6 +1204,7 @@ KINDS = {
     b"area": (b"runs", b"answer", (b"text", b"options"), area),
     b"spoiled": (b"value", b"answer", (b"text", b"size", b"input", b"ask"), spoiled),
     b"slices": (b"input", b"output", (b"text", b"fuel"), sliced),
+    b"lanes": (b"input", b"output", (b"text", b"options", b"size", b"hold"), in_lanes),
     b"owners": (b"input", b"output", (b"text",), owners),
     b"request": (b"text", b"answer", (), request),
     b"reply": (b"text", b"answer", (), reply),
