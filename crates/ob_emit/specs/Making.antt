@@ -29,7 +29,7 @@ entering_code f (call_form k receiver contract tx args) = call_code f k receiver
 entering_code f (call_this_form k tx args) = call_this_code f k tx args
 entering_code f form = []
 
--- The code of a form that has no branches and is no loop, for which neither kinds nor the place count; of one that has or is, none.
+-- The code of a form that has no branches and is no loop, for which neither kinds nor the place count; each other form has none.
 abbrev pub straight_code : EmissionFrame → SilicaForm → List Instruction
 straight_code f (test_form o state branch other join) = []
 straight_code f (if_form o branch other join) = []
@@ -55,8 +55,7 @@ abbrev pub branch_ended : Choice → Bool → List Instruction
 branch_ended (choice.Value a) ends = []
 branch_ended (choice.State a contract state) ends = test_ended ends
 
--- Behind the first branch, or the body of a loop: the jump, if there is one, with this target for now, and the target of the choice,
--- whose place this is.
+-- After the first branch of the choice at `start`, or after the body of a loop: a jump to `to`, if it jumps, and the choice's target.
 abbrev pub between : Choice → Bool → ℕ → ℕ → List Instruction → List Instruction
 between c jumps to start code = slice_set (code ++ jump_if jumps to) start (chooses c (length (code ++ jump_if jumps to)))
 

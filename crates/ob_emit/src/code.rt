@@ -121,7 +121,7 @@ impl Code {
         Ok(())
     }
 
-    /// Behind the first branch of a choice that stands at this place, or the body of a loop: a jump to a place, if there is one.
+    /// After the first branch of the choice at `start`, or after the body of a loop: a jump to `to`, if it jumps, and the choice's target.
     pub fn put_between(
         &mut self,
         choice: Choice,

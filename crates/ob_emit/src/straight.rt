@@ -44,7 +44,7 @@ fn put_entering(form: &Form, frame: &EmissionFrame<'_>, out: &mut Code) -> Resul
     }
 }
 
-// The code of a form that has no branches and is no loop; one that has or is has none here.
+// The code of a form that has no branches and is no loop; each other form has none here.
 #[tactic(auto, using(ob_silica::specs::TermsView::term_views, crate::proofs::CodeLemmas::codes))]
 fn put_straight(form: &Form, frame: &EmissionFrame<'_>, out: &mut Code) -> Result<(), Memory>
     ensures { OnOk result (out.new ≡ out.old ++ straight_code frame.now (form_of form.now)) }
@@ -78,7 +78,7 @@ fn put_straight(form: &Form, frame: &EmissionFrame<'_>, out: &mut Code) -> Resul
     }
 }
 
-/// A form that has no branches and is no loop: its code, and what `pass_straight` says. One that has or is changes nothing.
+/// A form that has no branches and is no loop: its code, and what `pass_straight` says. Each other form changes nothing.
 pub fn emit_straight(
     form: &Form,
     frame: &EmissionFrame<'_>,

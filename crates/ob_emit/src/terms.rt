@@ -14,7 +14,7 @@ use crate::operands::load;
 use crate::straight::emit_straight;
 use ob_base::{ContractId, Duplicate, Memory, StateId};
 use ob_silica::{Form, Operand, Term};
-use ob_silica_kinds::{Kinds, pass_turn};
+use ob_silica_kinds::{Kinds, go_to_head};
 use ob_table::Kind;
 
 // The contract or interface to which a place refers; the place of a test is known to be a reference.
@@ -138,7 +138,7 @@ fn emit_loop(
         Form::Loop { first, a, body, .. } => {
             let start = out.here();
             let (first, body) = (first.as_slice(), body.as_slice());
-            pass_turn(out.alloc(), first, body, frame.static_frame(), kinds)?;
+            go_to_head(out.alloc(), first, body, frame.static_frame(), kinds)?;
             emit_terms(first, frame, kinds, out)?;
             let choice = choose_by_value(frame, *a, out)?;
             let place = out.here();

@@ -132,7 +132,8 @@ pub(crate) fn begin_turn(
     Ok(head)
 }
 
-/// Ends a turn of a loop, where this is known; it must be as at the head.
+/// Ends a turn of a loop that has led to `turned`: that has to be as at the head. Where it isn't, the context is the head, which the
+/// explanation compares with `turned`.
 #[tactic(auto, using(crate::proofs::OutcomeLemmas::outcomes))]
 pub(crate) fn end_turn(
     frame: &BodyFrame<'_>,

@@ -18,7 +18,7 @@ use ob_base::{FieldId, Items, LOOP_CHANGES, Memory, Span};
 use ob_flow_context::{BodyFrame, Context, FlowError, Known, must};
 use ob_perm::matches;
 use ob_silica::{Place, Term};
-use ob_silica_kinds::{Kinds, StaticFrame, pass_turn};
+use ob_silica_kinds::{Kinds, StaticFrame, go_to_head};
 use ob_table::Kind;
 use std::alloc::Global;
 
@@ -75,7 +75,7 @@ fn kinds_at_head(
 {
     let slots = all_kinds(alloc, context.slots())?;
     let mut kinds = Kinds::of(slots);
-    pass_turn(alloc, first, body, &static_of(frame), &mut kinds)?;
+    go_to_head(alloc, first, body, &static_of(frame), &mut kinds)?;
     Ok(kinds)
 }
 
@@ -195,7 +195,7 @@ fn place_turns(
     must(LOOP_CHANGES, end, same)
 }
 
-// Each slot is.
+// Each slot is at the end of a turn as at the head.
 #[tactic(auto, using(ob_flow_context::proofs::PremiseLemmas::for_each))]
 fn slots_turn(
     frame: &BodyFrame<'_>,
@@ -212,7 +212,7 @@ fn slots_turn(
     Ok(())
 }
 
-// Each field is.
+// Each field is at the end of a turn as at the head.
 #[tactic(auto, using(ob_flow_context::proofs::PremiseLemmas::for_each))]
 fn fields_turn(
     frame: &BodyFrame<'_>,

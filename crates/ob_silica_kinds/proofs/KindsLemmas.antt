@@ -1,17 +1,18 @@
 -- The kinds of a list of slots.
-use Rattle.std.proofs.Common.{◌≡◌, ℕ, zero, suc, ◌+◌, ◌<◌, List, [], ◌∷◌, ◌++◌, length, drop, get_or, Option, Some, None, Bool, true, false, nat_eq, refl, sym, ap, ◌∙◌, arith, add-one, drop-cons}
+use Rattle.std.proofs.Common.{◌≡◌, ℕ, zero, suc, ◌+◌, ◌<◌, ◌≤◌, List, [], ◌∷◌, ◌++◌, length, drop, get_or, Option, Some, None, Bool, true, false, nat_eq, refl, sym, ap, ◌∙◌, arith, add-one, drop-cons, append_assoc}
 use Rattle.std.specs.Prelude.{slice_get, slice_set, if◌then◌else◌}
 use Rattle.std.specs.Option.{option_flatten}
+use Rattle.std.proofs.Math.ListN.{drop_of_length-le}
 use Rattle.std.proofs.Math.Path.{fun_ext}
-use Rattle.std.proofs.lemmas.Bool.{eqb-true}
+use Rattle.std.proofs.lemmas.Bool.{eqb-true, eq-eqb}
 use Rattle.std.proofs.Math.Dec.{eqb-suc-zero, eqb-zero-suc, eqb-suc-suc}
 use Rattle.ob_base.specs.declared.id.ContractId.{ContractId}
 use Rattle.ob_table.specs.declared.contract.Param.{Param}
 use Rattle.ob_table.specs.declared.seen.Kind.{Kind}
-use Rattle.ob_table.specs.declared.seen.Kind.TheVariants.{Reference}
+use Rattle.ob_table.specs.declared.seen.Kind.TheVariants.{Int, Bool as BoolKind, Text, Reference}
 use Rattle.ob_table_spec.specs.WellFormed.{kind_of_resolved}
 use Rattle.ob_silica_places.specs.Known.{at}
-use Rattle.ob_silica_formed.specs.Holdings.{common_kind, held, held_at_start, params_held}
+use Rattle.ob_silica_formed.specs.Holdings.{kinds_equal, common_kind, held, held_at_start, params_held}
 use Rattle.ob_silica_kinds.specs.Kinds.{Kinds, kinds_of, kinds_held, param_kinds, first_kinds, common_list, common_kinds}
 
 pub kind_some : (ks : List (Option Kind)) (n : ℕ) (k : Option Kind) → slice_get ks n ≡ Some k → kinds_of ks n ≡ k
@@ -48,9 +49,32 @@ pub kinds_of-set : (ks : List (Option Kind)) (k : ℕ) (x : Option Kind) → k <
 unfolding kinds_of
 kinds_of-set ks k x h = fun_ext (λ n. changed ks k x h n)
 
+none_either : (b : Bool) → ◌≡◌ {A = Option Kind} None (if b then None else None)
+none_either true = refl
+none_either false = refl
+
+past : (ks : List (Option Kind)) (k : ℕ) → length ks ≤ k → (n : ℕ)
+    → option_flatten (slice_get ks n) ≡ (if nat_eq n k then None else option_flatten (slice_get ks n))
+past [] k h n = none_either (nat_eq n k)
+past (y ∷ ks) zero h n = absurd (omega arith)
+past (y ∷ ks) (suc k) h zero = sym (ap (λ b. if b then None else y) (eqb-zero-suc k))
+past (y ∷ ks) (suc k) h (suc n) = past ks k (omega arith) n
+    ∙ sym (ap (λ b. if b then None else option_flatten (slice_get ks n)) (eqb-suc-suc n k))
+
+-- of a slot past the end nothing is known
+pub kinds_of-past : (ks : List (Option Kind)) (k : ℕ) → length ks ≤ k → kinds_of ks ≡ at (kinds_of ks) k None
+unfolding kinds_of
+kinds_of-past ks k h = fun_ext (λ n. past ks k h n)
+
 pub ruleset knowing = (kind_some, kind_none, kinds_of-grown, kinds_of-set)
 
 -- Two ways.
+
+pub kinds_self : (a : Kind) → kinds_equal a a ≡ true
+kinds_self Int = refl
+kinds_self BoolKind = refl
+kinds_self Text = refl
+kinds_self (Reference c) = eq-eqb c.0 c.0 refl
 
 -- one slot more
 pub common_list-step : (ks : List (Option Kind)) (b : Kinds) (i : ℕ) → i < length ks
@@ -58,6 +82,27 @@ pub common_list-step : (ks : List (Option Kind)) (b : Kinds) (i : ℕ) → i < l
 common_list-step ks b i h =
     ap (λ l. common_list l b i) (drop-cons ks i None h)
     ∙ sym (ap (λ j. common_kind (get_or ks i None) (b i) ∷ common_list (drop j ks) b (i + 1)) (add-one i))
+
+listed : (ks : List (Option Kind)) (i : ℕ) → i < length ks → get_or ks i None ≡ option_flatten (slice_get ks i)
+listed [] i h = absurd (omega arith)
+listed (k ∷ ks) zero h = refl
+listed (k ∷ ks) (suc i) h = listed ks i (omega arith)
+
+-- one slot more, by its kind
+pub slot_kept : (ks : List (Option Kind)) (b : Kinds) (i : ℕ) (done new whole : List (Option Kind)) (k : Option Kind) → i < length ks
+    → new ≡ done ++ k ∷ [] → k ≡ common_kind (kinds_of ks i) (b i) → done ++ common_list (drop i ks) b i ≡ whole
+    → new ++ common_list (drop (i + 1) ks) b (i + 1) ≡ whole
+unfolding kinds_of
+slot_kept ks b i done new whole k h pushed is e =
+    ap (λ l. l ++ common_list (drop (i + 1) ks) b (i + 1)) pushed
+    ∙ append_assoc done (k ∷ []) (common_list (drop (i + 1) ks) b (i + 1))
+    ∙ ap (λ z. done ++ z ∷ common_list (drop (i + 1) ks) b (i + 1)) (is ∙ ap (λ z. common_kind z (b i)) (sym (listed ks i h)))
+    ∙ sym (ap (λ l. done ++ l) (common_list-step ks b i h))
+    ∙ e
+
+-- no slot is left
+pub common_list_end : (ks : List (Option Kind)) (b : Kinds) (i : ℕ) → length ks ≤ i → common_list (drop i ks) b i ≡ []
+common_list_end ks b i h = ap (λ l. common_list l b i) (drop_of_length-le ks h)
 
 common_slot : (ks : List (Option Kind)) (b : Kinds) (n j : ℕ)
     → option_flatten (slice_get (common_list ks b n) j) ≡ common_kind (option_flatten (slice_get ks j)) (b (n + j))

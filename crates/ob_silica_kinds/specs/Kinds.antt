@@ -1,6 +1,6 @@
 -- The kinds of the values in slots, as far as they are known where a form stands (this project's own).
 use Rattle.std.specs.Prelude.{ℕ, ◌+◌, Bool, true, false, List, [], ◌∷◌, map, Option, Some, None, slice_get}
-use Rattle.std.specs.Option.{option_flatten}
+use Rattle.std.specs.Option.{option_flatten, option_map_or}
 use Rattle.ob_base.specs.declared.id.ContractId.{ContractId}
 use Rattle.ob_table.specs.declared.contract.Param.{Param}
 use Rattle.ob_table.specs.declared.seen.Kind.{Kind}
@@ -8,7 +8,7 @@ use Rattle.ob_table.specs.declared.seen.Kind.TheVariants.{Reference}
 use Rattle.ob_table_spec.specs.WellFormed.{StaticFrame, kind_of_resolved}
 use Rattle.ob_silica.specs.Terms.{SilicaForm, test_form, if_form, loop_form, return_form, revert_form, SilicaTerms, no_terms, and_term}
 use Rattle.ob_silica_places.specs.Known.{at}
-use Rattle.ob_silica_formed.specs.Holdings.{Holdings, held, slot_written, kind_written, terms_end, common_kind}
+use Rattle.ob_silica_formed.specs.Holdings.{Holdings, held, slot_written, kind_written, terms_end, kinds_equal, common_kind}
 
 -- the kind of each slot's value, where it is known
 abbrev pub Kinds : Type 0
@@ -33,6 +33,14 @@ holding kinds = λ k. held (kinds k)
 -- the kinds of what slots hold
 abbrev pub kinds_held : Holdings → Kinds
 kinds_held h = λ k. (h k).kind
+
+-- slots of which nothing is known
+abbrev pub nothing_held : Holdings
+nothing_held = λ k. held None
+
+-- whether a value is of a kind, as far as its own is known
+abbrev pub has_kind : Kind → Option Kind → Bool
+has_kind kind known = option_map_or (λ x. kinds_equal kind x) known false
 
 -- the same kinds, but for a slot if there is one
 abbrev pub with_kind : Option ℕ → Option Kind → Kinds → Kinds
@@ -73,6 +81,10 @@ abbrev mutual
 -- the kinds at the head of a loop with this first part and this body: those before it and after one turn
 abbrev pub kinds_at_head : StaticFrame → SilicaTerms → SilicaTerms → Kinds → Kinds
 kinds_at_head f first body kinds = joined_kinds false (terms_end body) kinds (kinds_after f body (kinds_after f first kinds))
+
+-- the kinds after one turn of such a loop
+abbrev pub kinds_turned : StaticFrame → SilicaTerms → SilicaTerms → Kinds → Kinds
+kinds_turned f first body kinds = kinds_after f body (kinds_after f first kinds)
 
 -- whether nothing is reached after a form that has no branches
 abbrev pub straight_ends : SilicaForm → Bool

@@ -3,9 +3,11 @@ ghost use Rattle.std.specs.Prelude.{◌≡◌};
 ghost use Rattle.std.specs.Option.{option_copied};
 ghost use Rattle.ob_table.specs.Tables.{field_at, signature_of};
 ghost use Rattle.ob_table_spec.specs.WellFormed.{frame_of, kind_of_resolved};
-ghost use Rattle.ob_silica_formed.specs.Holdings.{kind_of_result};
+ghost use Rattle.ob_silica_formed.specs.Holdings.{kind_of_place, kind_of_result};
+ghost use Rattle.ob_silica_kinds.specs.Kinds.{nothing_held};
 
 use ob_base::{ContractId, FieldId, TxId};
+use ob_silica::Place;
 use ob_table::{Contract, Field, Kind, ResolvedType, Signature, Table};
 use std::marker::Model;
 
@@ -80,6 +82,20 @@ impl<'a> StaticFrame<'a> {
         ensures { option_copied result ≡ field_at self.now.own id }
     {
         self.own.field(id)
+    }
+
+    /// The kind of the value at a place, if it is known; that of a slot isn't.
+    pub fn kind_at(&self, place: Place) -> Option<Kind>
+        ensures { result ≡ kind_of_place self.now nothing_held place }
+    {
+        match place {
+            Place::This => Some(Kind::Reference(self.here())),
+            Place::Slot(_) => None,
+            Place::Field(id) => match self.field(id) {
+                Some(field) => Some(kind_of_resolved(field.of)),
+                None => None,
+            },
+        }
     }
 
     /// The constructor or transaction of this number, of the contract or interface of a number.

@@ -2,7 +2,7 @@
 ghost use Rattle.std.specs.Prelude.{◌≡◌, ◌≤◌, length, OnOk, IfOk};
 ghost use Rattle.ob_silica_places.specs.Known.{kind_of_constant, kind_of_operator};
 ghost use Rattle.ob_silica_formed.specs.Holdings.{kind_of_place, common_kind, kinds_equal, held_at_start};
-ghost use Rattle.ob_silica_kinds.specs.Kinds.{kinds_of, kinds_held, holding, with_kind, first_kinds, common_list, joined_kinds};
+ghost use Rattle.ob_silica_kinds.specs.Kinds.{kinds_of, has_kind, kinds_held, holding, with_kind, first_kinds, common_list, joined_kinds};
 
 use crate::frame::{StaticFrame, kind_of_resolved};
 use ob_base::{ContractId, Duplicate, Items, Memory};
@@ -37,9 +37,19 @@ fn common_kind(a: Option<Kind>, b: Option<Kind>) -> Option<Kind>
     }
 }
 
-// The kind of a slot of a list.
+/// Whether a value is of a kind, where this is known of its own.
+pub(crate) fn has_kind(kind: Kind, known: Option<Kind>) -> bool
+    ensures { result ≡ has_kind kind known }
+{
+    match known {
+        Some(known) => kinds_equal(kind, known),
+        None => false,
+    }
+}
+
+/// The kind of a slot of a list.
 #[tactic(auto, using(crate::proofs::KindsLemmas::knowing))]
-fn kind_in(slots: &Items<Option<Kind>>, slot: usize) -> Option<Kind>
+pub(crate) fn kind_in(slots: &Items<Option<Kind>>, slot: usize) -> Option<Kind>
     ensures { result ≡ kinds_of slots.now slot }
 {
     match slots.get(slot) {
@@ -140,6 +150,13 @@ impl Kinds {
         Ok(Kinds { slots })
     }
 
+    /// The kinds of the values in slots, by number.
+    pub(crate) fn slots(&self) -> &Items<Option<Kind>>
+        ensures { result.now ≡ self.now.slots }
+    {
+        &self.slots
+    }
+
     /// The kind of the value in a slot, if it is known.
     pub fn kind_of_slot(&self, slot: usize) -> Option<Kind>
         ensures { result ≡ kinds_of self.now.slots slot }
@@ -152,12 +169,8 @@ impl Kinds {
         ensures { result ≡ kind_of_place frame.now (holding (kinds_of self.now.slots)) place }
     {
         match place {
-            Place::This => Some(Kind::Reference(frame.here())),
             Place::Slot(slot) => self.kind_of_slot(usize::from(slot)),
-            Place::Field(id) => match frame.field(id) {
-                Some(field) => Some(kind_of_resolved(field.of)),
-                None => None,
-            },
+            Place::This | Place::Field(_) => frame.kind_at(place),
         }
     }
 

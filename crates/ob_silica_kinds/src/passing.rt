@@ -4,7 +4,9 @@ ghost use Rattle.ob_silica.specs.TermsView.{form_of, terms_of};
 ghost use Rattle.ob_silica_formed.specs.Holdings.{form_ends, terms_end};
 ghost use Rattle.ob_silica_kinds.specs.Kinds.{kinds_of, joined_kinds, kinds_after_form, kinds_after, kinds_at_head};
 
+use crate::ends::terms_end;
 use crate::frame::StaticFrame;
+use crate::heads::ask_slots;
 use crate::kinds::Kinds;
 use crate::straight::pass_straight;
 use ob_base::{Duplicate, Memory};
@@ -111,9 +113,8 @@ fn pass_terms(
     Ok(ends)
 }
 
-/// What is known at the head of a loop with this first part and this body, from what is known before it: what is so then and after
-/// one turn.
-pub fn pass_turn(
+// The kinds at the head of a loop, by passing a turn.
+fn pass_head(
     alloc: Global,
     first: &[Term],
     body: &[Term],
@@ -126,4 +127,44 @@ pub fn pass_turn(
     let mut turn = kinds.copy(alloc)?;
     pass_terms(alloc, first, frame, &mut turn)?;
     join_turn(alloc, body, frame, kinds, turn)
+}
+
+// The same, where the body doesn't end: asked slot by slot, which is cheaper in loops within loops, or else by passing a turn.
+#[tactic(auto, using(crate::proofs::KindsLemmas::kinds_of_common))]
+fn find_head(
+    alloc: Global,
+    first: &[Term],
+    body: &[Term],
+    frame: &StaticFrame<'_>,
+    kinds: &mut Kinds,
+) -> Result<(), Memory>
+    requires { terms_end (terms_of body.now) ≡ false }
+    ensures { OnOk result (kinds_of kinds.new.slots
+        ≡ kinds_at_head frame.now (terms_of first.now) (terms_of body.now) (kinds_of kinds.old.slots)) }
+{
+    match ask_slots(alloc, first, body, frame, kinds.slots())? {
+        Some(slots) => {
+            *kinds = Kinds::of(slots);
+            Ok(())
+        }
+        None => pass_head(alloc, first, body, frame, kinds),
+    }
+}
+
+/// Turns the kinds before a loop with this first part and this body into those at its head: what is so before it and after one turn.
+pub fn go_to_head(
+    alloc: Global,
+    first: &[Term],
+    body: &[Term],
+    frame: &StaticFrame<'_>,
+    kinds: &mut Kinds,
+) -> Result<(), Memory>
+    ensures { OnOk result (kinds_of kinds.new.slots
+        ≡ kinds_at_head frame.now (terms_of first.now) (terms_of body.now) (kinds_of kinds.old.slots)) }
+{
+    if terms_end(body) {
+        Ok(())
+    } else {
+        find_head(alloc, first, body, frame, kinds)
+    }
 }

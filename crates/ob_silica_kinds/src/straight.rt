@@ -2,7 +2,7 @@
 ghost use Rattle.std.specs.Prelude.{◌≡◌, OnOk, IfOk};
 ghost use Rattle.ob_silica.specs.TermsView.{form_of};
 ghost use Rattle.ob_silica_formed.specs.Holdings.{slot_of_place, slot_written, kind_written};
-ghost use Rattle.ob_silica_kinds.specs.Kinds.{kinds_of, holding, with_kind, straight_ends};
+ghost use Rattle.ob_silica_kinds.specs.Kinds.{kinds_of, holding, nothing_held, with_kind, straight_ends};
 
 use crate::frame::StaticFrame;
 use crate::kinds::{Kinds, kind_of_constant, kind_of_operator};
@@ -21,9 +21,9 @@ fn slot_of_place(place: Place) -> Option<u8>
     }
 }
 
-// The slot that a form sets or ends, if there is one.
+/// The slot that a form sets or ends, if there is one.
 #[tactic(auto, using(ob_silica::specs::TermsView::term_views))]
-fn slot_written(form: &Form) -> Option<u8>
+pub(crate) fn slot_written(form: &Form) -> Option<u8>
     ensures { result ≡ slot_written (form_of form.now) }
 {
     match form {
@@ -37,20 +37,31 @@ fn slot_written(form: &Form) -> Option<u8>
     }
 }
 
+/// The kind of what a form leaves in that slot, if it is known where nothing is known of slots.
+#[tactic(auto, using(ob_silica::specs::TermsView::term_views))]
+pub(crate) fn kind_made(form: &Form, frame: &StaticFrame<'_>) -> Option<Kind>
+    ensures { result ≡ kind_written frame.now nothing_held (form_of form.now) }
+{
+    match form {
+        Form::Const { value, .. } => Some(kind_of_constant(value)),
+        Form::Op { operator, .. } => Some(kind_of_operator(*operator)),
+        Form::Copy { from, .. } => frame.kind_at(from.place),
+        Form::Move { contract, .. } => contract.map(Kind::Reference),
+        Form::New { contract, .. } => Some(Kind::Reference(*contract)),
+        Form::Call { contract, tx, .. } => frame.kind_of_result(*contract, *tx),
+        Form::CallThis { tx, .. } => frame.kind_of_result(frame.here(), *tx),
+        _ => None,
+    }
+}
+
 // The kind of what a form leaves in that slot, if it is known.
 #[tactic(auto, using(ob_silica::specs::TermsView::term_views))]
 fn kind_written(form: &Form, frame: &StaticFrame<'_>, kinds: &Kinds) -> Option<Kind>
     ensures { result ≡ kind_written frame.now (holding (kinds_of kinds.now.slots)) (form_of form.now) }
 {
     match form {
-        Form::Const { value, .. } => Some(kind_of_constant(value)),
-        Form::Op { operator, .. } => Some(kind_of_operator(*operator)),
         Form::Copy { from, .. } => kinds.kind_at(frame, from.place),
-        Form::Move { contract, .. } => contract.map(Kind::Reference),
-        Form::New { contract, .. } => Some(Kind::Reference(*contract)),
-        Form::Call { contract, tx, .. } => frame.kind_of_result(*contract, *tx),
-        Form::CallThis { tx, .. } => frame.kind_of_result(frame.here(), *tx),
-        _ => None,
+        _ => kind_made(form, frame),
     }
 }
 
