@@ -1,5 +1,7 @@
 -- A run with a slice of all its units is the answer.
-use Rattle.std.proofs.Common.{◌≡◌, ℕ, [], ◌∷◌, map, sym, subst, ◌∙◌, arith, List, None}
+use Rattle.std.proofs.Common.{◌≡◌, ℕ, [], ◌∷◌, map, refl, sym, subst, ◌∙◌, arith, List, Option, Some, None, Result, Ok, Err}
+use Rattle.std.specs.Prelude.{IsSome, IfOk}
+use Rattle.ob_base.specs.declared.cause.Memory.{Memory}
 use Rattle.ob_heap.specs.Contents.{Stored, content_of}
 use Rattle.ob_heap_spec.specs.Worlds.{ReadItem, ReadSame}
 use Rattle.ob_invocation_spec.specs.Replies.{Invocation}
@@ -16,8 +18,9 @@ use Rattle.ob_exec_handles.specs.Coming.{ComesTo}
 use Rattle.ob_exec_handles.specs.Spending.{item_of, SpendsSo}
 use Rattle.ob_exec_handles.specs.declared.answered.Answered.{Answered}
 use Rattle.ob_exec_handles.specs.declared.spent.Spent.{Spent}
-use Rattle.ob_exec.specs.Pausing.{StandsAt, StandsFor, LeadsBy}
+use Rattle.ob_exec.specs.Pausing.{StandsAt, StandsFor, LeadsBy, SliceLeads}
 use Rattle.ob_exec.specs.declared.stage.Paused.{Paused}
+use Rattle.ob_exec.specs.declared.stage.SliceEnd.{SliceEnd}
 use Rattle.ob_exec.specs.declared.stage.Stage.{Stage}
 use Rattle.ob_exec.specs.declared.stage.Stage.TheVariants as stage
 use Rattle.ob_exec.specs.declared.stage.State.{State}
@@ -60,6 +63,25 @@ pub whole_never_goes_on : (image : Image) (fuel : ℕ) (base : Stored) (q : Requ
     → LeadsBy image base (slice image fuel (content_of base) fuel (opened q)) None items taken s → ⊥
 whole_never_goes_on image fuel base q items taken s k =
     never_on image base (slice image fuel (content_of base) fuel (opened q)) items taken s (whole_slices_end image fuel (content_of base) q fuel (omega arith)) k
+
+always_by : (image : Image) (fuel : ℕ) (base : Stored) (q : Request) (o : Option Answered) (items : List ReadItem) (taken : ℕ) (s : Stage)
+    → LeadsBy image base (slice image fuel (content_of base) fuel (opened q)) o items taken s → IsSome o
+always_by image fuel base q None items taken s k = absurd (whole_never_goes_on image fuel base q items taken s k)
+always_by image fuel base q (Some told) items taken s k = refl
+
+-- so it is answered
+pub always_ends : (image : Image) (fuel : ℕ) (base : Stored) (q : Request) (result : Result SliceEnd Memory) (s : Stage)
+    → IfOk result (λ end. SliceLeads image base (slice image fuel (content_of base) fuel (opened q)) end s) → IfOk result (λ end. IsSome end.answered)
+always_ends image fuel base q (Ok end) s k = always_by image fuel base q end.answered end.reads end.taken s k
+always_ends image fuel base q (Err m) s k = tt
+
+pub told_so : (image : Image) (fuel : ℕ) (base : Stored) (q : Request) (result : Result SliceEnd Memory) (s : Stage) (told : Answered) (spent : Spent)
+    → LeadsAheadOrToUnit image → IfOk result (λ end. SliceLeads image base (slice image fuel (content_of base) fuel (opened q)) end s)
+    → result ≡ Ok (record { answered = Some told; reads = map item_of spent.reads; taken = spent.taken })
+    → IsAnswer base (machine_invocation image (content_of base) q fuel) told spent
+told_so image fuel base q result s told spent ahead k is =
+    whole_answers image fuel base q told (record { stage = stage.Answered told; reads = map item_of spent.reads; taken = spent.taken }) spent ahead
+    (subst (λ r. IfOk r (λ end. SliceLeads image base (slice image fuel (content_of base) fuel (opened q)) end s)) is k) refl refl refl
 
 -- where a run goes on it stands in its stage
 pub stands_on : (image : Image) (base : Stored) (r : Run) (items : List ReadItem) (taken : ℕ) (s : Stage) → LeadsBy image base r None items taken s

@@ -1,11 +1,14 @@
 -- How the code begins the run of a request.
-use Rattle.std.proofs.Common.{◌≡◌, ℕ, List, ◌++◌, map, Option, Some, None, refl, sym, ap, subst, ◌∙◌}
-use Rattle.std.specs.Prelude.{option_map, find, IsSome}
+use Rattle.std.proofs.Common.{◌≡◌, ℕ, Bool, false, List, ◌++◌, map, Option, Some, None, Result, Ok, Err, refl, sym, ap, subst, ◌∙◌, true≢false}
+use Rattle.std.specs.Prelude.{option_map, find, IsSome, IfOk}
+use Rattle.std.specs.Option.{is_none}
+use Rattle.ob_base.specs.declared.cause.Memory.{Memory}
 use Rattle.ob_base.specs.declared.id.TxId.{TxId}
 use Rattle.ob_verify_spec.proofs.Cells.{none_some, some_same}
 use Rattle.ob_heap_spec.specs.Contents.{Content}
 use Rattle.ob_heap_spec.specs.Worlds.{ReadItem}
 use Rattle.ob_heap.specs.Contents.{Stored, content_of}
+use Rattle.ob_heap.specs.Overlays.{Changes, no_changes, KeepsUnread, no_object}
 use Rattle.ob_heap.specs.declared.delta.Delta.{Delta}
 use Rattle.ob_invocation_spec.specs.Checks.{Check, refusal_of}
 use Rattle.ob_invocation_spec.specs.Checks as invocation
@@ -24,6 +27,7 @@ use Rattle.ob_machine_steps.specs.Runs.{world_of}
 use Rattle.ob_machine_laws.specs.Laws.{SamePhase}
 use Rattle.ob_machine.specs.Phases.{phase_of}
 use Rattle.ob_machine.specs.Shown.{cause_of}
+use Rattle.ob_machine.specs.declared.machine.Machine.{Machine}
 use Rattle.ob_machine.specs.declared.progress.Cause.{Cause}
 use Rattle.ob_request_run_laws.specs.Runs.{Run, opened, paused, answered, lost, unchanged}
 use Rattle.ob_request_run_laws.specs.Slices.{with_thing, sliced, entered, refused_or}
@@ -35,16 +39,20 @@ use Rattle.ob_wire.specs.declared.reply.Answer.{Answer}
 use Rattle.ob_wire.specs.declared.reply.Answer.TheVariants.{Refused}
 use Rattle.ob_exec_entries.specs.Entering.{use_of, machine_entry}
 use Rattle.ob_exec_entries.specs.declared.entered.Entered.{Entered}
+use Rattle.ob_exec_handles.specs.declared.answered.Answered.{Answered}
 use Rattle.ob_exec_handles.specs.Coming.{ComesTo, LeadsTo, IsInLimits}
 use Rattle.ob_exec_handles.specs.Spending.{item_of, SpendsSo}
 use Rattle.ob_exec_handles.specs.declared.spent.Spent.{Spent}
 use Rattle.ob_exec_handles.proofs.SpendingLemmas.{all_itself, all_on, all_right}
 use Rattle.ob_exec.specs.Bodies.{body_number}
 use Rattle.ob_exec.specs.Going.{Asked, Enters, IsBegun, IsAt, passed, tested, sliced_at}
-use Rattle.ob_exec.specs.Pausing.{StandsFor}
+use Rattle.ob_exec.specs.Pausing.{StandsFor, LeadsBy, SliceLeads}
 use Rattle.ob_exec.specs.Standing.{running, ComesBy}
 use Rattle.ob_exec.specs.declared.stage.Paused.{Paused}
+use Rattle.ob_exec.specs.declared.stage.SliceEnd.{SliceEnd}
+use Rattle.ob_exec.specs.declared.stage.Stage.{Stage}
 use Rattle.ob_exec.specs.declared.stage.Stage.TheVariants as stage
+use Rattle.ob_exec.proofs.GoingLemmas.{still_unread, none_changed}
 use Rattle.ob_exec.proofs.RunLemmas.{runs_some, comes_of_end, none_found}
 use Rattle.ob_exec.proofs.StartLemmas.{with_number}
 
@@ -68,6 +76,22 @@ pub enters_some : (image : Image) (fuel : ℕ) (base : Stored) (who : List ℕ) 
 enters_some image fuel base who into entered items a k none =
     runs_some image (content_of base) a.fuel who into entered (running image (content_of base) a.fuel a.reads a.entry)
     (comes_by image fuel base who into entered items a k) (enters_running image fuel base who into entered items a k none)
+
+-- the code is before the first unit of what is entered
+pub begun_so : (image : Image) (base : Stored) (fuel : ℕ) (entered : Entered) (tx : TxId) (m : Machine) (o : Changes)
+    → body_number image (machine_entry entered).receiver entered.contract entered.tx ≡ Some tx
+    → SamePhase (started image (with_number tx (machine_entry entered)) (content_of base).objects fuel) (phase_of m base.objects o)
+    → KeepsUnread no_object no_changes o
+    → IsBegun image base fuel entered (record { machine = m; overlay = o; uses = entered.uses; given = entered.given })
+begun_so image base fuel entered tx m o is same keeps = record {
+  start = with_number tx (machine_entry entered);
+  number = is;
+  same = refl;
+  phase = same;
+  uses = refl;
+  given = refl;
+  unread = still_unread no_changes o none_changed keeps;
+}
 
 -- before its first unit the code is where the plain run is
 pub begun_at : (image : Image) (fuel : ℕ) (base : Stored) (who : List ℕ) (into : Option (List ℕ)) (entered : Entered) (items : List ReadItem) (a : Asked) (s : Paused)
@@ -102,6 +126,18 @@ begun_at image fuel base who into entered items a s k none b =
       within = all_on items a.reads ((world_of (started image b.start c.objects a.fuel)).reads ++ a.reads) k.noted.1
           (all_right (world_of (started image b.start c.objects a.fuel)).reads a.reads a.reads (all_itself a.reads));
     }
+
+ends_by : (image : Image) (base : Stored) (r : Run) (o : Option Answered) (items : List ReadItem) (taken : ℕ) (s t : Stage) → is_none o ≡ false
+    → LeadsBy image base r o items taken s → LeadsBy image base r o items taken t
+ends_by image base r None items taken s t e h = absurd (true≢false e)
+ends_by image base r (Some told) items taken s t e h = h
+
+-- where a slice has ended a run it says nothing of the stage
+pub ends_anyhow : (image : Image) (base : Stored) (r : Run) (result : Result SliceEnd Memory) (goes : Bool) (s t : Stage)
+    → IfOk result (λ end. goes ≡ is_none end.answered) → goes ≡ false
+    → IfOk result (λ end. SliceLeads image base r end s) → IfOk result (λ end. SliceLeads image base r end t)
+ends_anyhow image base r (Ok end) goes s t is f h = ends_by image base r end.answered end.reads end.taken s t (sym is ∙ f) h
+ends_anyhow image base r (Err m) goes s t is f h = tt
 
 -- what the machine enters
 entered_on : (image : Image) (c : Content) (e : Entry) (tx : TxId) (receiver : Option HandleUse)

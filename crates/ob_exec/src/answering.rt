@@ -1,5 +1,5 @@
 //! The answer to a request.
-ghost use Rattle.std.specs.Prelude.{◌≡◌, ℕ, Some, IfOk};
+ghost use Rattle.std.specs.Prelude.{◌≡◌, ℕ, Some, Ok, map, IsSome, IfOk};
 ghost use Rattle.ob_heap.specs.Contents.{content_of};
 ghost use Rattle.ob_code_table.specs.ImageTables.{table_of_image};
 ghost use Rattle.ob_machine_meaning.specs.Meanings.{machine_invocation};
@@ -7,7 +7,7 @@ ghost use Rattle.ob_wire.specs.Meanings.{request_of};
 ghost use Rattle.ob_owners.specs.Spots.{owner_place};
 ghost use Rattle.ob_exec_entries.specs.Naming.{IsNamesOf};
 ghost use Rattle.ob_exec_handles.specs.Coming.{ComesTo, IsInLimits};
-ghost use Rattle.ob_exec_handles.specs.Spending.{SpendsSo};
+ghost use Rattle.ob_exec_handles.specs.Spending.{item_of, SpendsSo};
 
 use crate::opening::open;
 use crate::stage::{SliceEnd, Stage};
@@ -28,6 +28,32 @@ pub fn reply_to(request: &Request, answer: Answer) -> Reply
     Reply {
         id: Some(request.id),
         answer,
+    }
+}
+
+// What is told of a request whose run has ended.
+fn told(request: &Request, end: Result<SliceEnd, Memory>) -> Result<(Reply, Delta, Spent), Memory>
+    requires { IfOk end (λ end. IsSome end.answered) }
+    ensures id { IfOk result (λ a. a.0.id ≡ Some request.now.id) }
+    ensures told { IfOk result (λ a. end ≡ Ok (record {
+      answered = Some (record { answer = a.0.answer; delta = a.1 });
+      reads = map item_of a.2.reads;
+      taken = a.2.taken;
+    })) }
+{
+    let SliceEnd {
+        answered,
+        reads,
+        taken,
+    } = end?;
+    match answered {
+        Some(answered) => {
+            let Answered { answer, delta } = answered;
+            let reply = reply_to(request, answer);
+            let reads = reads.into_items();
+            Ok((reply, delta, Spent { taken, reads }))
+        }
+        None => unreachable!(),
     }
 }
 
@@ -62,19 +88,6 @@ pub fn answer<I: Index>(
         &mut stage,
         fuel,
         fuel,
-    )?;
-    let SliceEnd {
-        answered,
-        reads,
-        taken,
-    } = end;
-    match answered {
-        Some(answered) => {
-            let Answered { answer, delta } = answered;
-            let reply = reply_to(request, answer);
-            let reads = reads.into_items();
-            Ok((reply, delta, Spent { taken, reads }))
-        }
-        None => unreachable!(),
-    }
+    );
+    told(request, end)
 }

@@ -1,5 +1,6 @@
 //! The first slice of a request's run.
-ghost use Rattle.std.specs.Prelude.{◌≡◌, ℕ, None, map, IsSome, IfOk};
+ghost use Rattle.std.specs.Prelude.{◌≡◌, ℕ, None, map, IfOk};
+ghost use Rattle.std.specs.Option.{is_none};
 ghost use Rattle.ob_code.specs.declared.image.Image.{Image as Code};
 ghost use Rattle.ob_code_table.specs.ImageTables.{table_of_image};
 ghost use Rattle.ob_heap.specs.Contents.{Stored, content_of};
@@ -12,15 +13,12 @@ ghost use Rattle.ob_request_run_laws.specs.Slices.{slice};
 ghost use Rattle.ob_request_run_laws.specs.Laws.{ComesTo as RunComesTo, HasEnded};
 ghost use Rattle.ob_wire.specs.Meanings.{argument_meant, operation_of};
 ghost use Rattle.ob_owners.specs.Spots.{owner_place};
-ghost use Rattle.ob_exec_entries.specs.Entering.{machine_entry};
 ghost use Rattle.ob_exec_entries.specs.Naming.{IsNamesOf};
 ghost use Rattle.ob_exec_handles.specs.Coming.{ComesTo, IsInLimits};
 ghost use Rattle.ob_exec_handles.specs.Spending.{SpendsSo};
-ghost use Rattle.ob_exec.specs.Bodies.{body_number};
-ghost use Rattle.ob_exec.specs.Going.{Asked, Enters, IsBegun, passed, tested};
+ghost use Rattle.ob_exec.specs.Going.{Asked, Enters, passed, tested};
 ghost use Rattle.ob_exec.specs.Pausing.{SliceLeads};
 ghost use Rattle.ob_exec.specs.declared.stage.Stage.{Stage as StagePlain};
-ghost use Rattle.ob_exec.specs.declared.stage.Stage.TheVariants.{Paused as PausedStage};
 
 use crate::bodies::body_number;
 use crate::invoked::{Invoked, refused_with};
@@ -39,16 +37,33 @@ use ob_verify::Verified;
 use ob_wire::{Arg, Op};
 use std::alloc::Global;
 
-// The run of what is entered, before its first unit.
-fn begin(
+// Whether a run goes on from where its slice has ended.
+fn goes_on(end: &Result<SliceEnd, Memory>) -> bool
+    ensures { IfOk end.now (λ end. result ≡ is_none end.answered) }
+{
+    match end {
+        Ok(end) => end.answered.is_none(),
+        Err(_) => false,
+    }
+}
+
+// What is entered has passed its entry test. Where its run goes on, it is put into the stage.
+fn run(
     alloc: Global,
     code: &Verified,
     content: &Content,
+    who: &Label,
+    into: &Option<Label>,
     entered: Entered,
+    reads: Reads,
+    stage: &mut Stage,
     fuel: u32,
-) -> Result<Paused, Memory>
-    requires { IsSome (body_number code.now (machine_entry entered).receiver entered.contract entered.tx) }
-    ensures { IfOk result (IsBegun code.now content.now fuel entered) }
+    units: u32,
+) -> Result<SliceEnd, Memory>
+    requires { (a : Asked) × Enters code.now fuel content.now who.now into.now entered reads a × (first_outside_use (table_of_image code.now) (content_of content.now) a.entry ≡ None) }
+    ensures { (a : Asked) → Enters code.now fuel content.now who.now into.now entered reads a
+        → first_outside_use (table_of_image code.now) (content_of content.now) a.entry ≡ None
+        → IfOk result (λ end. SliceLeads code.now content.now (passed code.now content.now units a) end stage.new) }
 {
     let Entered {
         receiver,
@@ -68,48 +83,18 @@ fn begin(
     };
     let mut overlay = Overlay::new(alloc);
     let machine = Machine::enter(alloc, code, content, &mut overlay, entry, fuel)?;
-    Ok(Paused {
+    let mut paused = Paused {
         machine,
         overlay,
         uses,
         given,
-    })
-}
-
-// Where a run goes on, it is put into the stage.
-fn keep(stage: &mut Stage, paused: Paused, end: SliceEnd) -> SliceEnd
-    ensures { (image : Code) (base : Stored) (r : PlainRun) → SliceLeads image base r end (PausedStage paused) → SliceLeads image base r result stage.new }
-{
-    match &end.answered {
-        None => {
-            *stage = Stage::Paused(paused);
-            end
-        }
-        Some(_) => end,
+    };
+    let end = go_on(alloc, code, content, who, into, &mut paused, reads, units);
+    if goes_on(&end) {
+        *stage = Stage::Paused(paused);
+        return end;
     }
-}
-
-// What is entered has passed its entry test.
-fn run(
-    alloc: Global,
-    code: &Verified,
-    content: &Content,
-    who: &Label,
-    into: &Option<Label>,
-    entered: Entered,
-    reads: Reads,
-    stage: &mut Stage,
-    fuel: u32,
-    units: u32,
-) -> Result<SliceEnd, Memory>
-    requires { (a : Asked) × Enters code.now fuel content.now who.now into.now entered reads a × (first_outside_use (table_of_image code.now) (content_of content.now) a.entry ≡ None) }
-    ensures { (a : Asked) → Enters code.now fuel content.now who.now into.now entered reads a
-        → first_outside_use (table_of_image code.now) (content_of content.now) a.entry ≡ None
-        → IfOk result (λ end. SliceLeads code.now content.now (passed code.now content.now units a) end stage.new) }
-{
-    let mut paused = begin(alloc, code, content, entered, fuel)?;
-    let end = go_on(alloc, code, content, who, into, &mut paused, reads, units)?;
-    Ok(keep(stage, paused, end))
+    end
 }
 
 // What is entered: it aborts where a use finds its object outside the declared states, and else it runs. The checks of the request have

@@ -4,7 +4,7 @@ use Rattle.ob_heap.specs.Contents.{content_of}
 use Rattle.ob_code_laws.proofs.Leading.{leads_ahead}
 use Rattle.ob_machine.specs.Phases.{phase_of}
 use Rattle.ob_machine.specs.Slicing.{StopsSo, stop_told}
-use Rattle.ob_exec.specs.Pausing.{StandsFor, SliceLeads}
+use Rattle.ob_exec.specs.Pausing.{SliceLeads}
 use Rattle.ob_exec.specs.Putting.{AllStand}
 use Rattle.ob_exec.specs.declared.stage.Stage.TheVariants.{Paused}
 use Rattle.ob_exec.proofs.GoingLemmas.{at_goes, at_told, goes_paused, goes_aborted, goes_finished}
