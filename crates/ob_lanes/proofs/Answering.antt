@@ -1,5 +1,5 @@
 -- What a turn answers.
-use Rattle.std.proofs.Common.{◌≡◌, ℕ, zero, suc, ◌+◌, ◌<◌, Bool, true, false, ◌&&◌, List, [], ◌∷◌, length, Option, Some, None, refl, sym, ap, ◌∙◌, subst, arith, true≢false}
+use Rattle.std.proofs.Common.{◌≡◌, ℕ, zero, suc, ◌+◌, ◌<◌, Bool, true, false, ◌&&◌, List, [], ◌∷◌, length, Option, Some, None, refl, sym, ap, ◌∙◌, subst, arith}
 use Rattle.std.proofs.lemmas.Bool.{ltb-true}
 use Rattle.std.proofs.lemmas.Bool.Decides.{Decides-eqb}
 use Rattle.std.specs.Prelude.{ℤ, nat_eq, nat_lt, slice_get, if◌then◌else◌}
@@ -18,12 +18,12 @@ use Rattle.ob_lanes_laws.specs.Requests.{has_ended}
 use Rattle.ob_lanes_laws.specs.Turns.{first_start, started, turned, next_lane, is_answered, are_done_from}
 use Rattle.ob_lanes_laws.proofs.Keeping.{none_is_some, some_same, differ}
 use Rattle.ob_lanes.specs.Starting.{are_all_done}
-use Rattle.ob_lanes.specs.Standing.{Fits, rules_on, BusyLane, State, IsBusy, IsLane, requests_of, AreThose, StandFor, NoneHasEnded, EndsAlone, OthersGoOn, Tells, LaneTells, HadTurn, CanTurn, Told, Answers, Turned}
+use Rattle.ob_lanes.specs.Standing.{Fits, rules_on, BusyLane, State, IsLane, requests_of, AreThose, NoneHasEnded, EndsAlone, OthersGoOn, Tells, LaneTells, HadTurn, CanTurn, Told, Answers, Turned}
 use Rattle.ob_lanes.specs.declared.entry.Busy.{Busy}
 use Rattle.ob_lanes.specs.declared.entry.Entry.{Entry}
 use Rattle.ob_lanes.specs.declared.lanes.Lanes.{Lanes}
 use Rattle.ob_lanes.specs.declared.lanes.Turn.{Turn}
-use Rattle.ob_lanes.specs.declared.lanes.Turn.TheVariants.{Commit, Going, Done}
+use Rattle.ob_lanes.specs.declared.lanes.Turn.TheVariants.{Going, Done}
 use Rattle.ob_lanes.proofs.Standing.{Pair, beyond, within, pair_at, pair_length, set_length}
 
 -- Whose run has ended.

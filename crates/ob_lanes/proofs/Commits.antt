@@ -1,9 +1,8 @@
 -- The lanes stand for the schedule after a commit.
-use Rattle.std.proofs.Common.{◌≡◌, ℕ, ◌<◌, Bool, true, false, ◌||◌, List, [], ◌∷◌, map, length, Option, Some, None, refl, sym, ap, ◌∙◌, subst}
+use Rattle.std.proofs.Common.{◌≡◌, ℕ, ◌<◌, Bool, true, false, ◌||◌, List, map, length, Option, Some, None, sym, ap, ◌∙◌, subst}
 use Rattle.std.specs.Prelude.{nat_eq, slice_get, slice_set, option_map, if◌then◌else◌}
 use Rattle.std.specs.Option.{unwrap_or}
 use Rattle.std.proofs.lemmas.List.{length-map}
-use Rattle.ob_heap_spec.specs.Contents.{Content}
 use Rattle.ob_heap.specs.Contents.{Stored, content_of}
 use Rattle.ob_heap.specs.declared.delta.Delta.{Delta}
 use Rattle.ob_rest_spec.specs.AtRest.{IsStoreAtRest}
@@ -20,13 +19,12 @@ use Rattle.ob_lanes_laws.specs.Schedule as schedule
 use Rattle.ob_lanes_laws.specs.Serial.{IsEnded}
 use Rattle.ob_exec_handles.specs.Coming.{LeadsTo}
 use Rattle.ob_lanes_laws.specs.Conflicts.{conflicts}
-use Rattle.ob_lanes_laws.specs.Requests.{has_ended}
 use Rattle.ob_lanes_laws.specs.Laws.{OfEach}
 use Rattle.ob_lanes_laws.proofs.Keeping.{none_is_some, some_same, differ}
 use Rattle.ob_lanes_laws.proofs.Requests.{requests_fit}
 use Rattle.ob_lanes_laws.specs.Turns.{next_lane}
 use Rattle.ob_lanes.specs.Committing.{reopened, lane_at, answered_in, lanes_after}
-use Rattle.ob_lanes.specs.Standing.{Fits, contents, rules_on, BusyLane, State, given_run, IsBusy, IsLane, AreLanes, requests_of, AreThose, NoneHasEnded, EndsAlone, committed_by, StandFor, Waits, Commits}
+use Rattle.ob_lanes.specs.Standing.{Fits, contents, rules_on, BusyLane, State, given_run, IsBusy, IsLane, AreLanes, requests_of, AreThose, NoneHasEnded, EndsAlone, committed_by, Waits, Commits}
 use Rattle.ob_lanes.specs.declared.lanes.Lanes.{Lanes}
 use Rattle.ob_lanes.specs.declared.entry.Busy.{Busy}
 use Rattle.ob_lanes.specs.declared.entry.Entry.{Entry}

@@ -1,25 +1,23 @@
 -- The code's commit is the schedule's.
-use Rattle.std.proofs.Common.{◌≡◌, ℕ, zero, suc, ◌<◌, Bool, true, false, ◌||◌, List, [], ◌∷◌, ◌++◌, map, length, Option, Some, None, inl, inr, ◌⊎◌, refl, sym, ap, ◌∙◌, subst, arith, true≢false}
-use Rattle.std.specs.Prelude.{nat_eq, slice_get, slice_set, slice_index_or, if◌then◌else◌}
-use Rattle.std.specs.Option.{unwrap_or, option_map_or}
-use Rattle.std.specs.List.{list_any}
+use Rattle.std.proofs.Common.{◌≡◌, ℕ, zero, suc, Bool, true, false, List, [], ◌∷◌, map, Option, Some, None, inl, inr, ◌⊎◌, refl, sym, ap, ◌∙◌, subst, true≢false}
+use Rattle.std.specs.Prelude.{slice_get, slice_set, if◌then◌else◌}
+use Rattle.std.specs.Option.{option_map_or}
 use Rattle.ob_heap_spec.specs.Contents.{Content}
-use Rattle.ob_heap_spec.specs.Worlds.{ReadItem, ReadSame}
 use Rattle.ob_heap.specs.Contents.{Stored, content_of}
 use Rattle.ob_heap.specs.declared.delta.Delta.{Delta}
 use Rattle.ob_rest_spec.specs.AtRest.{IsStoreAtRest}
-use Rattle.ob_invocation_spec.specs.Requests.{Request, HasLabels}
+use Rattle.ob_invocation_spec.specs.Requests.{HasLabels}
 use Rattle.ob_code.specs.declared.image.Image.{Image}
 use Rattle.ob_code_table.specs.ImageTables.{table_of_image}
 use Rattle.ob_machine_steps.specs.Measures.{LeadsAheadOrToUnit}
 use Rattle.ob_lanes_laws.specs.UnownedLaws.{KeepsStores}
 use Rattle.ob_request_run_laws.specs.Runs.{opened, paused, answered, lost, reads_of_run}
 use Rattle.ob_request_run_laws.specs.Runs as plain
-use Rattle.ob_request_run_laws.specs.Slices.{slice, slices}
+use Rattle.ob_request_run_laws.specs.Slices.{slice}
 use Rattle.ob_wire.specs.Meanings.{request_of}
 use Rattle.ob_wire.specs.declared.request.Request as wire
 use Rattle.ob_exec.specs.Laws.{IsPaused}
-use Rattle.ob_exec.specs.Pausing.{StandsFor, StandsAt, run_of}
+use Rattle.ob_exec.specs.Pausing.{StandsFor, StandsAt}
 use Rattle.ob_exec.specs.declared.stage.Stage.{Stage}
 use Rattle.ob_exec.specs.declared.stage.Stage.TheVariants as stage
 use Rattle.ob_exec.specs.declared.runs.Run.{Run}
@@ -27,20 +25,17 @@ use Rattle.ob_exec.proofs.CallerLemmas.{slices_then}
 use Rattle.ob_exec.proofs.ElsewhereLemmas.{stand_elsewhere}
 use Rattle.ob_lanes_laws.specs.Schedule.{is_done, after_commit, commits, commit, step}
 use Rattle.ob_lanes_laws.specs.Schedule as schedule
-use Rattle.ob_lanes_laws.specs.Serial.{IsEnded}
 use Rattle.ob_exec_handles.specs.Coming.{LeadsTo}
 use Rattle.ob_lanes_laws.specs.Conflicts.{conflicts}
 use Rattle.ob_lanes_laws.specs.Requests.{has_ended}
-use Rattle.ob_lanes_laws.specs.Laws.{OfEach}
 use Rattle.ob_lanes_laws.proofs.Keeping.{none_is_some, some_same, set_cases, map_cases, differ}
-use Rattle.ob_lanes_laws.proofs.Requests.{requests_fit}
-use Rattle.ob_lanes.specs.Committing.{is_changed, is_stale, reopened, lane_at, answered_in, lanes_after}
-use Rattle.ob_lanes.specs.Standing.{Fits, contents, rules_on, BusyLane, State, in_order, given_run, IsAsFar, Holds, IsBusy, IsLane, AreLanes, requests_of, AreThose, NoneHasEnded, EndsAlone, committed_by}
+use Rattle.ob_lanes.specs.Committing.{is_stale, reopened, answered_in}
+use Rattle.ob_lanes.specs.Standing.{Fits, rules_on, BusyLane, State, in_order, given_run, IsAsFar, Holds, IsBusy, IsLane, AreLanes, requests_of, EndsAlone}
 use Rattle.ob_lanes.specs.declared.entry.Busy.{Busy}
 use Rattle.ob_lanes.specs.declared.entry.Entry.{Entry}
-use Rattle.ob_lanes.proofs.Standing.{Pair, beyond, within, pair_at, pair_set, set_get, set_length, index_get, get_map, entry_of}
-use Rattle.ob_lanes.proofs.Answering.{same_or, eq_itself}
-use Rattle.ob_lanes.proofs.Changing.{changes_agree, agree_unchanged, stale_same}
+use Rattle.ob_lanes.proofs.Standing.{set_get}
+use Rattle.ob_lanes.proofs.Answering.{same_or}
+use Rattle.ob_lanes.proofs.Changing.{changes_agree, stale_same}
 
 -- The schedule's runs are the code's.
 

@@ -5,9 +5,9 @@ use Rattle.ob_heap.specs.Contents.{Stored, content_of}
 use Rattle.ob_code.specs.declared.image.Image.{Image}
 use Rattle.ob_wire.specs.Meanings.{request_of}
 use Rattle.ob_wire.specs.declared.request.Request as wire
-use Rattle.ob_lanes_laws.specs.Schedule.{idle, is_done}
+use Rattle.ob_lanes_laws.specs.Schedule.{idle}
 use Rattle.ob_lanes_laws.proofs.Keeping.{none_is_some, some_same}
-use Rattle.ob_lanes.specs.Standing.{BusyLane, State, IsLane, AreLanes, requests_of, AreThose, StandFor, AreIdle, waiting}
+use Rattle.ob_lanes.specs.Standing.{AreLanes, requests_of, StandFor, waiting}
 use Rattle.ob_lanes.specs.declared.entry.Busy.{Busy}
 use Rattle.ob_lanes.specs.declared.entry.Entry.{Entry}
 use Rattle.ob_lanes.specs.declared.lanes.Lanes.{Lanes}
@@ -45,17 +45,6 @@ idle_stands image fuel base batch count l entries lanes next some slice = record
   next = subst (λ n. n < length l.lanes.items) (sym next) (subst (λ ls. 0 < length ls) (sym lanes) (subst (λ n. 0 < n) (sym (idle_length count)) some));
   slice = slice;
 }
-
--- lanes of which none is busy
-pub none_busy : (image : Image) (fuel : ℕ) (base : Stored) (entries : List Entry) (bs : List (Option Busy)) (ss : List (Option BusyLane)) → AreLanes image fuel base entries bs ss → ((k : ℕ) (b : BusyLane) → ¬ (slice_get ss k ≡ Some (Some b)))
-    → bs ≡ replicate (length bs) None
-none_busy image fuel base entries [] [] h idle = refl
-none_busy image fuel base entries [] (s ∷ ss) h idle = absurd h
-none_busy image fuel base entries (b ∷ bs) [] h idle = absurd h
-none_busy image fuel base entries (None ∷ bs) (None ∷ ss) h idle = ap (λ ls. None ∷ ls) (none_busy image fuel base entries bs ss h.1 (λ k b e. idle (suc k) b e))
-none_busy image fuel base entries (None ∷ bs) (Some s ∷ ss) h idle = absurd h.0
-none_busy image fuel base entries (Some b ∷ bs) (None ∷ ss) h idle = absurd h.0
-none_busy image fuel base entries (Some b ∷ bs) (Some s ∷ ss) h idle = absurd (idle 0 s refl)
 
 -- The requests of a batch, one by one.
 

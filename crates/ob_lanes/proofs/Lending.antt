@@ -1,9 +1,8 @@
 -- What is lent of a lane.
-use Rattle.std.proofs.Common.{◌≡◌, ℕ, List, Option, Some, None, refl, sym, ap, ◌∙◌, subst}
+use Rattle.std.proofs.Common.{ℕ, List, Option, Some, None, refl, sym, ap, ◌∙◌, subst}
 use Rattle.std.specs.Prelude.{slice_get}
 use Rattle.ob_heap.specs.Contents.{Stored}
 use Rattle.ob_code.specs.declared.image.Image.{Image}
-use Rattle.ob_exec.specs.declared.runs.Run.{Run}
 use Rattle.ob_lanes_laws.proofs.Keeping.{some_same}
 use Rattle.ob_lanes.specs.Standing.{BusyLane, State, Holds, IsLane, AreThose, Lends, run_of_lane, run_at}
 use Rattle.ob_lanes.specs.declared.entry.Busy.{Busy}

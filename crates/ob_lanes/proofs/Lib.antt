@@ -11,3 +11,6 @@ pub mod Lending
 pub mod Commits
 pub mod Seen
 pub mod CallerLemmas
+pub mod ReadersLemmas
+pub mod ListLemmas
+pub mod StaleLemmas

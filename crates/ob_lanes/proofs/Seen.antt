@@ -4,14 +4,12 @@ use Rattle.std.specs.Prelude.{nat_eq, slice_get, slice_set, Result, Ok, Err, ifâ
 use Rattle.ob_heap_spec.specs.Contents.{Content}
 use Rattle.ob_invocation_spec.specs.Requests.{Request}
 use Rattle.ob_code.specs.declared.image.Image.{Image}
-use Rattle.ob_code_table.specs.ImageTables.{table_of_image}
 use Rattle.ob_request_run_laws.specs.Runs.{Run, opened, paused, answered, lost, content_after}
-use Rattle.ob_request_run_laws.specs.Slices.{slice}
 use Rattle.ob_lanes_laws.specs.Schedule.{Busy, Lanes, is_done, is_held, are_earlier_done, may_start, sliced, with_lane, starts, runs, after_commit, committed, commits}
 use Rattle.ob_lanes_laws.specs.Schedule as schedule
 use Rattle.ob_lanes_laws.specs.Requests.{Stores, Answer, store_by, has_ended, commit, request_rules}
 use Rattle.ob_lanes_laws.specs.Turns.{first_start, started, turned}
-use Rattle.ob_lanes.specs.Standing.{Fits, settled, contents, rules_on, BusyLane, State, committed_by}
+use Rattle.ob_lanes.specs.Standing.{Fits, settled, contents, rules_on, BusyLane, State}
 use Rattle.ob_lanes.specs.Seen.{IsSeenAs, TurnsAreSeen, CommitsAreSeen}
 
 module _ {S L : Type 0} (stores : Stores S L) (fits : Fits) (image : Image) (fuel : â„•) where

@@ -1,5 +1,5 @@
 -- A lane's run goes on for a slice.
-use Rattle.std.proofs.Common.{◌≡◌, ℕ, true, false, List, [], ◌∷◌, ◌++◌, Option, Some, None, refl, sym, ap, subst, ◌∙◌, true≢false}
+use Rattle.std.proofs.Common.{◌≡◌, ℕ, true, false, List, [], ◌∷◌, Option, Some, None, sym, ap, subst, ◌∙◌, true≢false}
 use Rattle.std.specs.Prelude.{ℤ, Result, Ok, Err, IfOk, is_some}
 use Rattle.ob_heap.specs.Contents.{Stored, content_of}
 use Rattle.ob_code.specs.declared.image.Image.{Image}
@@ -18,7 +18,7 @@ use Rattle.ob_exec.specs.declared.runs.Ended.TheVariants.{Yes, Going}
 use Rattle.ob_exec.proofs.CallerLemmas.{slices_then}
 use Rattle.ob_exec.proofs.FirstLemmas.{first_may_be_empty}
 use Rattle.ob_lanes_laws.specs.Requests.{has_ended}
-use Rattle.ob_lanes.specs.Standing.{in_order, given_run, IsAsFar, Holds, GoesOn, IsReady, AreReady, Tells, Leads}
+use Rattle.ob_lanes.specs.Standing.{in_order, given_run, IsAsFar, GoesOn, IsReady, AreReady, Tells, Leads}
 
 -- one more slice
 pub one_more : (image : Image) (fuel : ℕ) (base : Stored) (request : Request) (units : ℕ) (given : List ℕ)

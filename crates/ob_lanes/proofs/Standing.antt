@@ -1,8 +1,8 @@
 -- The code's turn makes the events of the schedule.
-use Rattle.std.proofs.Common.{◌≡◌, ℕ, zero, suc, ◌+◌, ◌<◌, ◌⊎◌, inl, inr, Bool, true, false, not, ◌&&◌, ◌||◌, List, [], ◌∷◌, map, length, Option, Some, None, refl, sym, ap, ◌∙◌, subst, arith, true≢false}
-use Rattle.std.specs.Prelude.{nat_eq, bytes_eq, slice_get, slice_set, slice_index_or, option_map, is_some, if◌then◌else◌}
+use Rattle.std.proofs.Common.{◌≡◌, ℕ, zero, suc, ◌+◌, ◌<◌, ◌⊎◌, inl, inr, Bool, true, false, not, ◌&&◌, ◌||◌, List, [], ◌∷◌, map, length, Option, Some, None, refl, sym, ap, ◌∙◌, subst, arith}
+use Rattle.std.specs.Prelude.{nat_eq, bytes_eq, slice_get, slice_set, slice_index_or, option_map, if◌then◌else◌}
 use Rattle.std.specs.Option.{unwrap_or}
-use Rattle.ob_heap.specs.Contents.{Stored, content_of}
+use Rattle.ob_heap.specs.Contents.{Stored}
 use Rattle.ob_invocation_spec.specs.Requests.{Request}
 use Rattle.ob_code.specs.declared.image.Image.{Image}
 use Rattle.ob_request_run_laws.specs.Runs as plain
@@ -14,10 +14,9 @@ use Rattle.ob_lanes_laws.specs.Requests.{has_ended}
 use Rattle.ob_lanes_laws.specs.Turns.{first_start, started, turned}
 use Rattle.ob_lanes_laws.proofs.Keeping.{none_is_some, some_same, set_cases}
 use Rattle.ob_lanes.specs.Starting.{is_held, are_earlier_done, may_start, first_from, opened_busy, begun_with, begun}
-use Rattle.ob_lanes.specs.Standing.{Fits, rules_on, BusyLane, State, given_run, IsBusy, IsLane, AreLanes, requests_of, AreThose, NoneHasEnded, OthersGoOn, is_going, MayRun, lane_ran, Ran, LaneTells, HadTurn}
+use Rattle.ob_lanes.specs.Standing.{Fits, rules_on, BusyLane, State, IsBusy, IsLane, AreLanes, requests_of, AreThose, NoneHasEnded, OthersGoOn, is_going, MayRun, Ran, LaneTells, HadTurn}
 use Rattle.ob_lanes.specs.declared.entry.Busy.{Busy}
 use Rattle.ob_lanes.specs.declared.entry.Entry.{Entry}
-use Rattle.ob_lanes.proofs.SliceLemmas.{one_more}
 
 -- Lists.
 

@@ -1,5 +1,5 @@
 -- A lane runs for a slice.
-use Rattle.std.proofs.Common.{◌≡◌, ℕ, zero, suc, ◌<◌, true, false, not, List, [], ◌∷◌, length, Option, Some, None, refl, sym, ap, ◌∙◌, subst, arith}
+use Rattle.std.proofs.Common.{◌≡◌, ℕ, zero, suc, ◌<◌, true, List, [], ◌∷◌, length, Option, Some, None, refl, sym, ap, ◌∙◌, subst, arith}
 use Rattle.std.specs.Prelude.{slice_get, slice_set, slice_index_or, option_map, Result, Ok, Err, IfOk}
 use Rattle.ob_heap.specs.Contents.{Stored, content_of}
 use Rattle.ob_code.specs.declared.image.Image.{Image}
@@ -11,7 +11,7 @@ use Rattle.ob_exec.specs.declared.runs.Ended.{Ended}
 use Rattle.ob_exec.specs.declared.runs.Ended.TheVariants as ended
 use Rattle.ob_lanes_laws.specs.Requests.{has_ended}
 use Rattle.ob_lanes_laws.proofs.Keeping.{none_is_some, some_same, not_true}
-use Rattle.ob_lanes.specs.Standing.{Fits, BusyLane, State, given_run, Holds, GoesOn, Tells, Leads, IsBusy, IsLane, AreInLimits, LaneTells, requests_of, AreThose, NoneHasEnded, MayRun, lane_ran, Ran, HadTurn}
+use Rattle.ob_lanes.specs.Standing.{Fits, BusyLane, State, given_run, Holds, GoesOn, Tells, Leads, AreInLimits, requests_of, AreThose, NoneHasEnded, MayRun, Ran, HadTurn}
 use Rattle.ob_lanes.specs.declared.entry.Busy.{Busy}
 use Rattle.ob_lanes.specs.declared.entry.Entry.{Entry}
 use Rattle.ob_lanes.proofs.SliceLemmas.{one_more}
@@ -77,7 +77,7 @@ found_there (y ∷ ys) zero x d e = some_same y x e
 found_there (y ∷ ys) (suc n) x d e = found_there ys n x d e
 
 -- what a list has within its length, whatever stands for the rest
-index_any : {A : Type 0} (xs : List A) (k : ℕ) (d e : A) → k < length xs → slice_index_or xs k d ≡ slice_index_or xs k e
+pub index_any : {A : Type 0} (xs : List A) (k : ℕ) (d e : A) → k < length xs → slice_index_or xs k d ≡ slice_index_or xs k e
 index_any [] k d e h = absurd (omega (arith, h))
 index_any (x ∷ xs) zero d e h = refl
 index_any (x ∷ xs) (suc k) d e h = index_any xs k d e (omega (arith, h))

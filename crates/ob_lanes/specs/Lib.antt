@@ -2,3 +2,4 @@ pub mod Starting
 pub mod Committing
 pub mod Standing
 pub mod Seen
+pub mod Readers

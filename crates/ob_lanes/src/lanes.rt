@@ -1,5 +1,5 @@
 //! Lanes of a batch.
-ghost use Rattle.std.specs.Prelude.{◌≡◌, ℕ, ◌<◌, ◌≤◌, List, [], length, map, replicate, slice_get, Some, None, IfOk, OnOk};
+ghost use Rattle.std.specs.Prelude.{◌≡◌, ℕ, ◌<◌, ◌≤◌, List, [], length, map, slice_get, Some, IfOk, OnOk};
 ghost use Rattle.std.specs.Option.{option_copied};
 ghost use Rattle.ob_base.specs.Limits.{most_handles};
 ghost use Rattle.ob_code.specs.declared.image.Image.{Image as Code};
@@ -16,8 +16,8 @@ ghost use Rattle.ob_lanes.specs.Standing.{State, StandFor, CanTurn, Turned, Told
 
 use crate::entry::{Busy, Entry};
 use crate::going::Going;
+use crate::listed::Listed;
 use crate::starting::are_all_done;
-use crate::turning::{commit_lane, turn_lane};
 use ob_base::{Items, Memory};
 use ob_exec::{Ended, Run};
 use ob_exec_entries::Names;
@@ -36,7 +36,7 @@ pub struct Lanes {
     // The lane whose turn is next; or whose commit is waited for.
     next: usize,
     entries: Vec<Entry>,
-    lanes: Vec<Option<Busy>>,
+    lanes: Listed,
 }
 
 /// What a turn comes to.
@@ -56,17 +56,6 @@ fn after_lane(lane: usize, count: usize) -> usize
     ensures { result ≡ next_lane count lane }
 {
     if lane + 1 < count { lane + 1 } else { 0 }
-}
-
-// So many idle lanes.
-fn idle_lanes(alloc: Global, count: u8) -> Result<Vec<Option<Busy>>, Memory>
-    ensures { IfOk result (λ lanes. lanes.items ≡ replicate count None) }
-{
-    let mut lanes = Vec::new(alloc);
-    for _lane in 0..count {
-        lanes.push(None)?;
-    }
-    Ok(lanes)
 }
 
 // The requests of a batch, none of which is answered.
@@ -122,7 +111,7 @@ impl Lanes {
             slice,
             next: 0,
             entries: Vec::new(alloc),
-            lanes: idle_lanes(alloc, lanes)?,
+            lanes: Listed::new(alloc, lanes as usize)?,
         })
     }
 
@@ -141,7 +130,10 @@ impl Lanes {
         ensures slice { OnOk result (self.new.slice ≡ self.old.slice) }
         ensures count { OnOk result (length self.new.lanes.items ≡ length self.old.lanes.items) }
     {
-        self.entries = entries_of(alloc, batch)?;
+        let entries = entries_of(alloc, batch)?;
+        let lanes = Listed::new(alloc, self.lanes.len())?;
+        self.entries = entries;
+        self.lanes = lanes;
         self.next = 0;
         Ok(())
     }
@@ -192,14 +184,13 @@ impl Lanes {
     {
         let lane = self.next;
         let units = self.slice;
-        let told = turn_lane(
+        let told = self.lanes.turn(
             alloc,
             code,
             names,
             content,
             index,
             &self.entries,
-            &mut self.lanes,
             lane,
             fuel,
             units,
@@ -221,7 +212,7 @@ impl Lanes {
         ensures count { length self.new.lanes.items ≡ length self.old.lanes.items }
     {
         let lane = self.next;
-        commit_lane(before, delta, &mut self.lanes, lane, &mut self.entries);
+        self.lanes.commit(before, delta, lane, &mut self.entries);
         self.next = after_lane(lane, self.lanes.len());
     }
 
@@ -232,7 +223,7 @@ impl Lanes {
         ensures lends { (image : Code) (fuel : ℕ) (batch : List Asked) (base : Stored) (l : State) → StandFor image fuel batch base self.now l
             → Lends image fuel base self.now.entries.items (slice_get l.lanes lane) (option_copied result) }
     {
-        match at(&self.lanes, lane as usize) {
+        match at(self.lanes.get(), lane as usize) {
             Some(lane) => lent_lane(lane),
             None => None,
         }

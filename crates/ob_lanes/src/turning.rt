@@ -1,5 +1,5 @@
 //! The turn of a lane, up to its commit.
-ghost use Rattle.std.specs.Prelude.{◌≡◌, ℕ, ◌<◌, ◌≤◌, List, length, Option, Some, None, IfOk};
+ghost use Rattle.std.specs.Prelude.{◌≡◌, ℕ, ◌<◌, ◌≤◌, [], length, map, slice_set, slice_index_or, Option, Some, None, IfOk, OnOk};
 ghost use Rattle.ob_code_table.specs.ImageTables.{table_of_image};
 ghost use Rattle.ob_heap.specs.Contents.{content_of};
 ghost use Rattle.ob_owners.specs.Spots.{owner_place};
@@ -7,9 +7,12 @@ ghost use Rattle.ob_exec_entries.specs.Naming.{IsNamesOf};
 ghost use Rattle.ob_heap.specs.Deltas.{IsDelta};
 ghost use Rattle.ob_base.specs.Limits.{most_handles};
 ghost use Rattle.ob_lanes.specs.Committing.{answered_in, lane_at, lanes_after};
-ghost use Rattle.ob_lanes.specs.Standing.{State, BusyLane, IsLane, AreInLimits, AreThose, NoneHasEnded, HadTurn, MayRun, Ran, requests_of};
+ghost use Rattle.ob_lanes.specs.Readers.{items_read, objects_of, objects_read};
+ghost use Rattle.ob_lanes.specs.Standing.{State, BusyLane, AreInLimits, AreThose, NoneHasEnded, HadTurn, MayRun, Ran, requests_of};
 
 use crate::entry::{Busy, Entry};
+use crate::going::Going;
+use crate::readers::Readers;
 use crate::slicing::slice;
 use crate::stale::reopen;
 use crate::starting::begin;
@@ -81,8 +84,8 @@ fn run_lane<I: Index>(
     }
 }
 
-/// A turn of a lane, up to its commit.
-pub fn turn_lane<I: Index>(
+// A turn of a lane, up to its commit.
+fn turn_lane<I: Index>(
     alloc: Global,
     code: &Verified,
     names: &Names,
@@ -99,8 +102,9 @@ pub fn turn_lane<I: Index>(
     requires right { AreInLimits code.now fuel content.now (requests_of entries.now) }
     requires lane { lane < length lanes.old }
     requires those { (l : State) × AreThose code.now fuel content.now entries.now lanes.old l × NoneHasEnded l }
-    ensures { (l : State) → AreThose code.now fuel content.now entries.now lanes.old l → NoneHasEnded l
+    ensures had { (l : State) → AreThose code.now fuel content.now entries.now lanes.old l → NoneHasEnded l
         → IfOk result (HadTurn code.now fuel content.now entries.now units lane l lanes.new) }
+    ensures stay { lanes.new ≡ slice_set lanes.old lane (lane_at lanes.new lane) }
 {
     begin(entries, lanes, lane);
     run_lane(
@@ -116,6 +120,106 @@ pub fn turn_lane<I: Index>(
     )
 }
 
+// Notes which objects the run of a lane has read.
+fn enter_run(run: &Option<Going>, readers: &mut Readers, lane: usize) -> Result<(), Memory>
+    requires lane { lane < length readers.old }
+    ensures ok { OnOk result (readers.new ≡ slice_set readers.old lane (objects_of (items_read run.now))) }
+    ensures stay { readers.new ≡ slice_set readers.old lane (slice_index_or readers.new lane []) }
+{
+    match run {
+        Some(run) => readers.enter(lane, run.get().reads()),
+        None => {
+            readers.clear(lane);
+            Ok(())
+        }
+    }
+}
+
+// The same of a lane, which may be idle.
+fn enter_lane(busy: &Option<Busy>, readers: &mut Readers, lane: usize) -> Result<(), Memory>
+    requires lane { lane < length readers.old }
+    ensures ok { OnOk result (readers.new ≡ slice_set readers.old lane (objects_read busy.now)) }
+    ensures stay { readers.new ≡ slice_set readers.old lane (slice_index_or readers.new lane []) }
+{
+    match busy {
+        Some(busy) => enter_run(&busy.run, readers, lane),
+        None => {
+            readers.clear(lane);
+            Ok(())
+        }
+    }
+}
+
+// A turn of a lane, up to its commit, after which it is noted what its run has read.
+fn turn_entered<I: Index>(
+    alloc: Global,
+    code: &Verified,
+    names: &Names,
+    content: &Content,
+    index: &I,
+    entries: &[Entry],
+    lanes: &mut [Option<Busy>],
+    readers: &mut Readers,
+    lane: usize,
+    fuel: u32,
+    units: u32,
+) -> Result<Ended, Memory>
+    requires names { IsNamesOf names.now code.now }
+    requires index { (n : ℕ) → I.owner index.now n ≡ owner_place (table_of_image code.now) (content_of content.now) n }
+    requires right { AreInLimits code.now fuel content.now (requests_of entries.now) }
+    requires lane { lane < length lanes.old }
+    requires those { (l : State) × AreThose code.now fuel content.now entries.now lanes.old l × NoneHasEnded l }
+    requires entered { readers.old ≡ map objects_read lanes.old }
+    ensures had { (l : State) → AreThose code.now fuel content.now entries.now lanes.old l → NoneHasEnded l
+        → IfOk result (HadTurn code.now fuel content.now entries.now units lane l lanes.new) }
+    ensures entered { OnOk result (readers.new ≡ map objects_read lanes.new) }
+    ensures stay { lanes.new ≡ slice_set lanes.old lane (lane_at lanes.new lane) }
+    ensures readers { readers.new ≡ slice_set readers.old lane (slice_index_or readers.new lane []) }
+{
+    let told = turn_lane(
+        alloc, code, names, content, index, entries, lanes, lane, fuel, units,
+    )?;
+    enter_lane(&lanes[lane], readers, lane)?;
+    Ok(told)
+}
+
+/// A turn of a lane, up to its commit. The readers are those of the lanes, before and after. Where memory runs out, the lane is idle.
+pub fn turn_listed<I: Index>(
+    alloc: Global,
+    code: &Verified,
+    names: &Names,
+    content: &Content,
+    index: &I,
+    entries: &[Entry],
+    lanes: &mut [Option<Busy>],
+    readers: &mut Readers,
+    lane: usize,
+    fuel: u32,
+    units: u32,
+) -> Result<Ended, Memory>
+    requires names { IsNamesOf names.now code.now }
+    requires index { (n : ℕ) → I.owner index.now n ≡ owner_place (table_of_image code.now) (content_of content.now) n }
+    requires right { AreInLimits code.now fuel content.now (requests_of entries.now) }
+    requires lane { lane < length lanes.old }
+    requires those { (l : State) × AreThose code.now fuel content.now entries.now lanes.old l × NoneHasEnded l }
+    requires entered { readers.old ≡ map objects_read lanes.old }
+    ensures had { (l : State) → AreThose code.now fuel content.now entries.now lanes.old l → NoneHasEnded l
+        → IfOk result (HadTurn code.now fuel content.now entries.now units lane l lanes.new) }
+    ensures entered { readers.new ≡ map objects_read lanes.new }
+{
+    let turned = turn_entered(
+        alloc, code, names, content, index, entries, lanes, readers, lane, fuel, units,
+    );
+    match turned {
+        Ok(told) => Ok(told),
+        Err(Memory) => {
+            lanes[lane] = None;
+            readers.clear(lane);
+            Err(Memory)
+        }
+    }
+}
+
 // The request of a lane is answered, and the lane is idle.
 fn answer_lane(lane: &mut Option<Busy>, entries: &mut [Entry])
     ensures idle { lane.new ≡ None }
@@ -128,20 +232,36 @@ fn answer_lane(lane: &mut Option<Busy>, entries: &mut [Entry])
     }
 }
 
-/// The request of a lane is answered, and each other lane whose run is stale opens its request again. It takes no memory.
+// The same of one lane among all.
+fn answer_at(lanes: &mut [Option<Busy>], readers: &mut Readers, lane: usize, entries: &mut [Entry])
+    requires lane { lane < length lanes.old }
+    requires entered { readers.old ≡ map objects_read lanes.old }
+    ensures lanes { lanes.new ≡ slice_set lanes.old lane None }
+    ensures entered { readers.new ≡ map objects_read lanes.new }
+    ensures entries { entries.new ≡ answered_in (lane_at lanes.old lane) entries.old }
+{
+    answer_lane(&mut lanes[lane], entries);
+    readers.clear(lane);
+}
+
+/// The request of a lane is answered, and each other lane whose run is stale opens its request again. The readers are those of the lanes,
+/// before and after. It takes no memory.
 pub fn commit_lane(
     before: &Content,
     delta: &Delta,
     lanes: &mut [Option<Busy>],
+    readers: &mut Readers,
     lane: usize,
     entries: &mut [Entry],
 )
     requires few { length before.now.handles ≤ most_handles }
     requires delta { IsDelta before.now delta.now }
     requires lane { lane < length lanes.old }
+    requires entered { readers.old ≡ map objects_read lanes.old }
     ensures lanes { lanes.new ≡ lanes_after before.now delta.now lane lanes.old }
+    ensures entered { readers.new ≡ map objects_read lanes.new }
     ensures entries { entries.new ≡ answered_in (lane_at lanes.old lane) entries.old }
 {
-    answer_lane(&mut lanes[lane], entries);
-    reopen(before, delta, lanes);
+    answer_at(lanes, readers, lane, entries);
+    reopen(before, delta, lanes, readers);
 }

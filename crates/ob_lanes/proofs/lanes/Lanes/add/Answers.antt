@@ -1,6 +1,6 @@
-use Rattle.std.proofs.Common.{◌≡◌, ℕ, ◌<◌, length, map, refl, ap, ◌∙◌, arith}
+use Rattle.std.proofs.Common.{◌<◌, None, length, map, replicate, refl, ap, ◌∙◌, arith}
 use Rattle.ob_lanes.specs.declared.entry.Entry.{Entry}
-use Rattle.ob_lanes.proofs.Idle.{idle_stands, none_busy, kept_waiting}
+use Rattle.ob_lanes.proofs.Idle.{idle_stands, kept_waiting}
 use Rattle.ob_lanes.proofs.lanes.Lanes.add.Goals as goal
 
 pub returns-clause-stand : goal.returns-clause-stand
@@ -8,8 +8,7 @@ returns-clause-stand c = λ image fuel base.
     let i = c.requires.idle in
     let less = i.5.next in
     let some : 0 < length c.args.self.now.lanes.items = omega (arith, less) in
-    idle_stands image fuel base c.args.batch (length c.args.self.now.lanes.items) _ c.in_ok-self.ensures
-    (none_busy i.0 i.1 i.3 c.args.self.now.entries.items c.args.self.now.lanes.items i.4.lanes i.5.state.each i.6) refl some i.5.slice
+    idle_stands image fuel base c.args.batch (length c.args.self.now.lanes.items) _ c.in_ok-entries.ensures (c.in_ok-lanes.ensures ∙ ap (λ n. replicate n None) c.len.ensures) refl some i.5.slice
 
 pub returns-clause-requests : goal.returns-clause-requests
-returns-clause-requests c = ap (map (λ (e : Entry). e.request)) c.in_ok-self.ensures ∙ kept_waiting c.args.batch
+returns-clause-requests c = ap (map (λ (e : Entry). e.request)) c.in_ok-entries.ensures ∙ kept_waiting c.args.batch

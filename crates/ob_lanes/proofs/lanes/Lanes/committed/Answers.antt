@@ -2,7 +2,7 @@ use Rattle.std.proofs.Common.{◌≡◌, length, map, refl, ap, ◌∙◌, rules
 use Rattle.std.specs.Vec.{with_items}
 use Rattle.std.proofs.lemmas.List.{with_items_is, places}
 use Rattle.ob_lanes_laws.specs.Turns.{next_lane}
-use Rattle.ob_lanes.specs.Committing.{lane_at, answered_in, lanes_after}
+use Rattle.ob_lanes.specs.Committing.{lane_at, answered_in}
 use Rattle.ob_lanes.specs.declared.entry.Entry.{Entry}
 use Rattle.ob_lanes.proofs.Committing.{answered_kept}
 use Rattle.ob_lanes.proofs.Commits.{commits_so}
@@ -13,19 +13,15 @@ returns-clause-stand c = λ image fuel batch l after w.
     let old = c.args.self.now in
     let before = c.args.before.now in
     let delta = c.args.delta.now in
-    let ls : c.deref_mut.result.now ≡ old.lanes.items = search rules in
-    let es : c.deref_mut-2.result.now ≡ old.entries.items = search rules in
+    let es : c.deref_mut.result.now ≡ old.entries.items = search rules in
     let next : c.after_lane-self.result ≡ next_lane (length old.lanes.items) old.next = search rules in
-    let lanes : (with_items old.lanes c.commit_lane.new.lanes).items ≡ c.commit_lane.new.lanes = with_items_is old.lanes c.commit_lane.new.lanes (search (rules, places)) in
-    let entries : (with_items old.entries c.commit_lane.new.entries).items ≡ c.commit_lane.new.entries = with_items_is old.entries c.commit_lane.new.entries (search (rules, places)) in
-    commits_so image fuel batch before delta after old (record { slice = old.slice; next = c.after_lane-self.result; entries = with_items old.entries c.commit_lane.new.entries; lanes = with_items old.lanes c.commit_lane.new.lanes }) l w (lanes ∙ c.commit_lane.ensures.lanes ∙ ap (lanes_after before delta old.next) ls)
-    (entries ∙ c.commit_lane.ensures.entries ∙ ap (λ x. answered_in (lane_at x old.next) c.deref_mut-2.result.now) ls ∙ ap (answered_in (lane_at old.lanes.items old.next)) es)
-    next refl
+    let entries : (with_items old.entries c.commit.new.entries).items ≡ c.commit.new.entries = with_items_is old.entries c.commit.new.entries (search (rules, places)) in
+    commits_so image fuel batch before delta after old (record { slice = old.slice; next = c.after_lane-self.result; entries = with_items old.entries c.commit.new.entries; lanes = c.commit.new.self }) l w c.commit.ensures.lanes
+    (entries ∙ c.commit.ensures.entries ∙ ap (answered_in (lane_at old.lanes.items old.next)) es) next refl
 
 pub returns-clause-requests : goal.returns-clause-requests
 returns-clause-requests c =
     let old = c.args.self.now in
-    let es : c.deref_mut-2.result.now ≡ old.entries.items = search rules in
-    let entries : (with_items old.entries c.commit_lane.new.entries).items ≡ c.commit_lane.new.entries = with_items_is old.entries c.commit_lane.new.entries (search (rules, places)) in
-    ap (map (λ (e : Entry). e.request)) (entries ∙ c.commit_lane.ensures.entries ∙ ap (answered_in (lane_at c.deref_mut.result.now old.next)) es)
-    ∙ answered_kept (lane_at c.deref_mut.result.now old.next) old.entries.items
+    let es : c.deref_mut.result.now ≡ old.entries.items = search rules in
+    let entries : (with_items old.entries c.commit.new.entries).items ≡ c.commit.new.entries = with_items_is old.entries c.commit.new.entries (search (rules, places)) in
+    ap (map (λ (e : Entry). e.request)) (entries ∙ c.commit.ensures.entries ∙ ap (answered_in (lane_at old.lanes.items old.next)) es) ∙ answered_kept (lane_at old.lanes.items old.next) old.entries.items
